@@ -1,0 +1,4 @@
+pub mod Heads
+pub mod Trees
+pub mod Variances
+pub mod Meaning

@@ -1,0 +1,13 @@
+-- Variances, and how they compose.
+use Rattle.relation_terms.specs.declared.terms.enums.Variance.{Variance}
+use Rattle.relation_terms.specs.declared.terms.enums.Variance.TheVariants.{Covariant, Contravariant, Invariant, Bivariant}
+
+-- The variance of a part at variance `w` of what stands at variance `v`.
+abbrev pub xform : Variance → Variance → Variance
+xform Covariant w = w
+xform Contravariant Covariant = Contravariant
+xform Contravariant Contravariant = Covariant
+xform Contravariant Invariant = Invariant
+xform Contravariant Bivariant = Bivariant
+xform Invariant w = Invariant
+xform Bivariant w = Bivariant

@@ -1,0 +1,25 @@
+//! The numbers of universes and variables, each of a type of its own.
+
+/// The number of a universe. A universe can name the placeholders of universes up to its own.
+#[derive(Clone, Copy, PartialEq, Eq, PartialOrd, Ord, Hash, Debug)]
+pub struct UniverseIndex(pub usize);
+
+/// The number of a type variable.
+#[derive(Clone, Copy, PartialEq, Eq, PartialOrd, Ord, Hash, Debug)]
+pub struct TyVid(pub usize);
+
+/// The number of an integer variable.
+#[derive(Clone, Copy, PartialEq, Eq, PartialOrd, Ord, Hash, Debug)]
+pub struct IntVid(pub usize);
+
+/// The number of a float variable.
+#[derive(Clone, Copy, PartialEq, Eq, PartialOrd, Ord, Hash, Debug)]
+pub struct FloatVid(pub usize);
+
+/// The number of a constant variable.
+#[derive(Clone, Copy, PartialEq, Eq, PartialOrd, Ord, Hash, Debug)]
+pub struct ConstVid(pub usize);
+
+/// The number of a region variable.
+#[derive(Clone, Copy, PartialEq, Eq, PartialOrd, Ord, Hash, Debug)]
+pub struct RegionVid(pub usize);
