@@ -1,0 +1,3 @@
+pub mod Relation
+pub mod Stores
+pub mod Steps

@@ -1,0 +1,2 @@
+//! Relating terms.
+#![tactic(auto)]
