@@ -1,6 +1,6 @@
 -- What replacing leaves does.
 use Rattle.std.proofs.Common.{◌≡◌, ◌≢◌, ◌⊎◌, ℕ, zero, suc, ◌+◌, ◌<◌, ◌≤◌, refl, sym, ap, ap₂, ◌∙◌, arith, inl, inr, subst, List, [], ◌∷◌, map, nat_eq, cond, Bool, true, false, ne_eqb, le_of_eq}
-use Rattle.relation_terms.specs.Heads.{Sort, BoundKind, VarKind, Leaf, atom, variable, bound, placeholder, Head}
+use Rattle.relation_terms.specs.Heads.{Sort, BoundKind, VarKind, Leaf, atom, variable, bound, placeholder, unknown, Head}
 use Rattle.relation_terms.specs.Trees.{Tree, leaf, node, bind, nil, cons, replace, Assign, assigned, apply, tree_at, put, inst, size, Leaves, Occurs}
 use Rattle.type_relations.specs.Relation.{IsGround, StaysWithin}
 
@@ -67,6 +67,7 @@ inst_within ts d (leaf (variable k n)) h = refl
 inst_within ts d (leaf (bound k e i)) h = put_within ts d k e i h
 inst_within ts d (leaf (placeholder k u n)) h = refl
 inst_within ts d (leaf (atom x)) h = refl
+inst_within ts d (leaf unknown) h = refl
 inst_within ts d (node k t) h = ap (node k) (inst_within ts d t h)
 inst_within ts d (bind ks t) h = ap (bind ks) (inst_within ts (suc d) t h)
 inst_within ts d nil h = refl
@@ -78,6 +79,7 @@ StaysWithin-mono d e (leaf (bound k i n)) h p = omega arith
 StaysWithin-mono d e (leaf (variable k n)) h p = tt
 StaysWithin-mono d e (leaf (placeholder k u n)) h p = tt
 StaysWithin-mono d e (leaf (atom x)) h p = tt
+StaysWithin-mono d e (leaf unknown) h p = tt
 StaysWithin-mono d e (node k t) h p = StaysWithin-mono d e t h p
 StaysWithin-mono d e (bind ks t) h p = StaysWithin-mono (suc d) (suc e) t (omega arith) p
 StaysWithin-mono d e nil h p = tt
@@ -102,6 +104,7 @@ apply-put s ts d (variable k n) h = sym (inst_within (map (apply s) ts) d (s k n
 apply-put s ts d (bound k e i) h = apply-cond s (nat_eq e d) _ _ _ _ (apply-tree_at s ts i (leaf (bound k e i))) refl
 apply-put s ts d (placeholder k u n) h = refl
 apply-put s ts d (atom x) h = refl
+apply-put s ts d unknown h = refl
 
 -- Assigning goes through putting trees for bound variables.
 pub apply-inst : (s : Assign) (ts : List Tree) (d : ℕ) (t : Tree) → Leaves (StaysIn s) t → apply s (inst ts d t) ≡ inst (map (apply s) ts) d (apply s t)
@@ -128,3 +131,55 @@ occurs_check s k n (bind ks t) h q e = let i = occurs_size s k n t h in let j = 
 occurs_check s k n nil h q e = absurd h
 occurs_check s k n (cons t u) (inl h) q e = let i = occurs_size s k n t h in let j = ap size e in omega arith
 occurs_check s k n (cons t u) (inr h) q e = let i = occurs_size s k n u h in let j = ap size e in omega arith
+
+-- What holds of every leaf holds of a tree's.
+pub all_leaves : (P : Leaf → Type 0) → ((l : Leaf) → P l) → (t : Tree) → Leaves P t
+all_leaves P f (leaf l) = f l
+all_leaves P f (node h t) = all_leaves P f t
+all_leaves P f (bind ks t) = all_leaves P f t
+all_leaves P f nil = tt
+all_leaves P f (cons t u) = (all_leaves P f t, all_leaves P f u)
+
+-- Assigning twice is assigning what is assigned.
+assigned_twice : (f g : Assign) (l : Leaf) → apply f (assigned g l) ≡ assigned (λ k n. apply f (g k n)) l
+assigned_twice f g (variable k n) = refl
+assigned_twice f g (bound k d i) = refl
+assigned_twice f g (placeholder k u n) = refl
+assigned_twice f g (atom x) = refl
+assigned_twice f g unknown = refl
+
+pub apply-apply : (f g : Assign) (t : Tree) → apply f (apply g t) ≡ apply (λ k n. apply f (g k n)) t
+apply-apply f g t = replace-replace (assigned f) (assigned g) t ∙ replace_alike _ _ t (all_leaves _ (assigned_twice f g) t)
+
+-- Assignments that are alike give alike values.
+alike_leaf : (f g : Assign) → ((k : VarKind) (n : ℕ) → f k n ≡ g k n) → (l : Leaf) → assigned f l ≡ assigned g l
+alike_leaf f g h (variable k n) = h k n
+alike_leaf f g h l = refl
+
+pub apply_alike : (f g : Assign) (t : Tree) → ((k : VarKind) (n : ℕ) → f k n ≡ g k n) → apply f t ≡ apply g t
+apply_alike f g t h = replace_alike _ _ t (all_leaves _ (alike_leaf f g h) t)
+
+-- An assignment that leaves a tree's variables as they are leaves the tree.
+pub IsOwn : Assign → Leaf → Type 0
+IsOwn s (variable k n) = s k n ≡ leaf (variable k n)
+IsOwn s l = Unit {0}
+
+pub own_leaf : (s : Assign) (l : Leaf) → IsOwn s l → assigned s l ≡ leaf l
+unfolding IsOwn
+own_leaf s (variable k n) h = h
+own_leaf s l h = refl
+
+pub own_if : (s : Assign) (k : VarKind) (n : ℕ) → s k n ≡ leaf (variable k n) → IsOwn s (variable k n)
+unfolding IsOwn
+own_if s k n h = h
+
+pub own_other : (s : Assign) (l : Leaf) → ((k : VarKind) (n : ℕ) → l ≡ variable k n → s k n ≡ leaf (variable k n)) → IsOwn s l
+unfolding IsOwn
+own_other s (variable k n) h = h k n refl
+own_other s (bound k d i) h = tt
+own_other s (placeholder k u n) h = tt
+own_other s (atom x) h = tt
+own_other s unknown h = tt
+
+pub apply_own : (s : Assign) (t : Tree) → Leaves (IsOwn s) t → apply s t ≡ t
+apply_own s t h = replace_alike (assigned s) leaf t (Leaves_map _ _ (own_leaf s) t h) ∙ replace_leaf t

@@ -180,7 +180,10 @@ IsGround unknown = ⊥
 -- No variable bound further out than the tree's own binders, `depth` of them being passed already.
 abbrev pub StaysWithin : ℕ → Tree → Type 0
 StaysWithin depth (leaf (bound k d i)) = d < depth
-StaysWithin depth (leaf l) = Unit {0}
+StaysWithin depth (leaf (variable k n)) = Unit {0}
+StaysWithin depth (leaf (placeholder k u n)) = Unit {0}
+StaysWithin depth (leaf (atom x)) = Unit {0}
+StaysWithin depth (leaf unknown) = Unit {0}
 StaysWithin depth (node h ts) = StaysWithin depth ts
 StaysWithin depth (bind ks t) = StaysWithin (suc depth) t
 StaysWithin depth nil = Unit {0}
