@@ -1,1 +1,3 @@
 pub mod Trees
+pub mod Related
+pub mod SmallTerms

@@ -5,3 +5,4 @@ pub mod FirstOrder
 pub mod Steps
 pub mod Outcomes
 pub mod Headline
+pub mod SmallTerms

@@ -1,2 +1,4 @@
 //! Relating terms.
 #![tactic(auto)]
+
+pub mod laws;
