@@ -1,3 +1,4 @@
 pub mod Relation
 pub mod Stores
 pub mod Steps
+pub mod Measures
