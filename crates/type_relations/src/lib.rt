@@ -1,2 +1,4 @@
-//! Relating terms.
+//! Relating terms in an inference context.
 #![tactic(auto)]
+
+pub mod relate;
