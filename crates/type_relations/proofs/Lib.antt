@@ -1,3 +1,10 @@
 pub mod Trees
 pub mod Related
 pub mod SmallTerms
+pub mod Only
+pub mod Resolved
+pub mod Standing
+pub mod Tallies
+pub mod Written
+pub mod Growing
+pub mod Going

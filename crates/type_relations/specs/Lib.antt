@@ -6,3 +6,4 @@ pub mod Steps
 pub mod Outcomes
 pub mod Headline
 pub mod SmallTerms
+pub mod Measures

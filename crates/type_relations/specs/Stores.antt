@@ -126,15 +126,31 @@ abbrev pub rounds_for : ℕ → ℕ
 rounds_for zero = 0
 rounds_for (suc n) = suc (rounds_for n + rounds_for n)
 
--- How many entries have a term.
-abbrev pub taken : List Entry → ℕ
-taken [] = 0
-taken (unbound ∷ es) = taken es
-taken (same_as m ∷ es) = suc (taken es)
-taken (bound_to t ∷ es) = suc (taken es)
+-- Whether an entry has a term, and whether it is one that a variable was bound to, as numbers.
+abbrev pub counts_term : Entry → ℕ
+counts_term unbound = 0
+counts_term (same_as m) = 1
+counts_term (bound_to t) = 1
 
+abbrev pub counts_bound : Entry → ℕ
+counts_bound unbound = 0
+counts_bound (same_as m) = 0
+counts_bound (bound_to t) = 1
+
+-- The sum over the entries of a list, and over those of a store.
+abbrev pub tally : (Entry → ℕ) → List Entry → ℕ
+tally f [] = 0
+tally f (e ∷ es) = f e + tally f es
+
+abbrev pub all_tally : (Entry → ℕ) → Store → ℕ
+all_tally f st = tally f (st.entries type_var) + (tally f (st.entries int_var) + (tally f (st.entries float_var) + (tally f (st.entries const_var) + tally f (st.entries region_var))))
+
+-- How many entries have a term, and how many variables are bound to one.
 abbrev pub all_taken : Store → ℕ
-all_taken st = taken (st.entries type_var) + (taken (st.entries int_var) + (taken (st.entries float_var) + (taken (st.entries const_var) + taken (st.entries region_var))))
+all_taken st = all_tally counts_term st
+
+abbrev pub all_bound : Store → ℕ
+all_bound st = all_tally counts_bound st
 
 -- What each variable comes to.
 unfoldable pub resolved : Store → Assign

@@ -1,0 +1,116 @@
+-- What an interner knows stays as it is while it grows.
+use Rattle.std.proofs.Common.{◌≡◌, IsTrue, true, ◌&&◌, List, [], ◌∷◌, IsSome, refl, ap, ap₂, sym, ◌∙◌, subst}
+use Rattle.std.proofs.lemmas.Bool.{and_parts}
+use Rattle.relation_terms.specs.Heads.{early_region, slice, tuple, ref, atom}
+use Rattle.relation_terms.specs.Trees.{Tree, leaf, node, nil, cons, known, list_tree}
+use Rattle.relation_terms.specs.Meaning.{Meaning, Extends, kind_tree, region_tree, arg_tree}
+use Rattle.relation_terms.specs.declared.terms.keys.TyKey.{TyKey}
+use Rattle.relation_terms.specs.declared.terms.keys.RegionKey.{RegionKey}
+use Rattle.relation_terms.specs.declared.terms.keys.TysKey.{TysKey}
+use Rattle.relation_terms.specs.declared.terms.keys.ParamEnvKey.{ParamEnvKey}
+use Rattle.relation_terms.specs.declared.terms.ty_kind.TyKind.{TyKind}
+use Rattle.relation_terms.specs.declared.terms.ty_kind.TyKind.TheVariants.{Bool, Char, Int, Uint, Slice, Tuple, Ref, Infer}
+use Rattle.relation_terms.specs.declared.terms.region_kind.RegionKind.{RegionKind}
+use Rattle.relation_terms.specs.declared.terms.region_kind.RegionKind.TheVariants.{ReStatic, ReEarlyParam, ReVar}
+use Rattle.relation_terms.specs.declared.terms.generic_arg.GenericArgKind.{GenericArgKind}
+use Rattle.relation_terms.specs.declared.terms.generic_arg.GenericArgKind.TheVariants.{Lifetime, Ty, Const}
+
+-- Of equal trees both are known or neither.
+pub knows_as : (t u : Tree) → u ≡ t → IsTrue (known t) → IsTrue (known u)
+knows_as t u e k = subst (λ x. IsTrue (known x)) (sym e) k
+
+pub stays_same : {Key Id Name : Type 0} (m : Meaning Key Id Name) → Extends m m
+stays_same m = record {
+  ty = λ k h. refl;
+  region = λ k h. refl;
+  const_ = λ k h. refl;
+  args = λ k h. refl;
+  tys = λ k h. refl;
+  pat = λ k h. refl;
+  valtree = λ k h. refl;
+  branches = λ k h. refl;
+  alternatives = λ k h. refl;
+  existential_predicates = λ k h. refl;
+  bound_vars = λ k h. refl;
+  predicate = λ k h. refl;
+  clause = λ k h. refl;
+  param_env = λ k h. refl;
+  id = λ k. refl;
+  name = λ k. refl;
+}
+
+-- A step and the steps after it, at one key.
+on : {K : Type 0} (f g h : K → Tree) (k : K) → (IsTrue (known (f k)) → g k ≡ f k) → (IsTrue (known (g k)) → h k ≡ g k) →
+    IsTrue (known (f k)) → h k ≡ f k
+on f g h k e d i = d (knows_as (f k) (g k) (e i) i) ∙ e i
+
+module _ {Key Id Name : Type 0} {m n o : Meaning Key Id Name} where
+  pub extends_on : Extends m n → Extends n o → Extends m o
+  extends_on e f = record {
+    ty = λ k. on m.ty n.ty o.ty k (e.ty k) (f.ty k);
+    region = λ k. on m.region n.region o.region k (e.region k) (f.region k);
+    const_ = λ k. on m.const_ n.const_ o.const_ k (e.const_ k) (f.const_ k);
+    args = λ k. on m.args n.args o.args k (e.args k) (f.args k);
+    tys = λ k. on m.tys n.tys o.tys k (e.tys k) (f.tys k);
+    pat = λ k. on m.pat n.pat o.pat k (e.pat k) (f.pat k);
+    valtree = λ k. on m.valtree n.valtree o.valtree k (e.valtree k) (f.valtree k);
+    branches = λ k. on m.branches n.branches o.branches k (e.branches k) (f.branches k);
+    alternatives = λ k. on m.alternatives n.alternatives o.alternatives k (e.alternatives k) (f.alternatives k);
+    existential_predicates = λ k.
+        on m.existential_predicates n.existential_predicates o.existential_predicates k
+        (e.existential_predicates k) (f.existential_predicates k);
+    bound_vars = λ k h. f.bound_vars k (subst (λ x. IsSome x) (sym (e.bound_vars k h)) h) ∙ e.bound_vars k h;
+    predicate = λ k. on m.predicate n.predicate o.predicate k (e.predicate k) (f.predicate k);
+    clause = λ k. on m.clause n.clause o.clause k (e.clause k) (f.clause k);
+    param_env = λ k. on m.param_env n.param_env o.param_env k (e.param_env k) (f.param_env k);
+    id = λ d. f.id d ∙ e.id d;
+    name = λ s. f.name s ∙ e.name s;
+  }
+
+-- What is known stays known.
+module _ {Key Id Name : Type 0} {m n : Meaning Key Id Name} (e : Extends m n) where
+  pub knows_ty : (k : TyKey Key) → IsTrue (known (m.ty k)) → IsTrue (known (n.ty k))
+  knows_ty k h = knows_as (m.ty k) (n.ty k) (e.ty k h) h
+
+  pub knows_region : (k : RegionKey Key) → IsTrue (known (m.region k)) → IsTrue (known (n.region k))
+  knows_region k h = knows_as (m.region k) (n.region k) (e.region k h) h
+
+  pub knows_tys : (k : TysKey Key) → IsTrue (known (m.tys k)) → IsTrue (known (n.tys k))
+  knows_tys k h = knows_as (m.tys k) (n.tys k) (e.tys k h) h
+
+  pub knows_param_env : (k : ParamEnvKey Key) → IsTrue (known (m.param_env k)) → IsTrue (known (n.param_env k))
+  knows_param_env k h = knows_as (m.param_env k) (n.param_env k) (e.param_env k h) h
+
+-- A list of known elements keeps its tree.
+pub stays_list : {A : Type 0} (f g : A → Tree) (xs : List A) → ((x : A) → IsTrue (known (f x)) → g x ≡ f x) →
+    IsTrue (known (list_tree f xs)) → list_tree g xs ≡ list_tree f xs
+stays_list f g [] s k = refl
+stays_list f g (x ∷ xs) s k =
+    let p = and_parts (known (f x)) (known (list_tree f xs)) k in
+    ap₂ (λ y z. cons y z) (s x p.0) (stays_list f g xs s p.1)
+
+-- A known form keeps its tree.
+module _ {Key Id Name : Type 0} {m n : Meaning Key Id Name} (e : Extends m n) where
+  pub stays_arg : (a : GenericArgKind Key) → IsTrue (known (arg_tree m a)) → arg_tree n a ≡ arg_tree m a
+  stays_arg (Lifetime r) k = e.region r k
+  stays_arg (Ty t) k = e.ty t k
+  stays_arg (Const c) k = e.const_ c k
+
+  pub stays_kind : (a : TyKind Key) → IsTrue (known (kind_tree m a)) → kind_tree n a ≡ kind_tree m a
+  stays_kind Bool k = refl
+  stays_kind Char k = refl
+  stays_kind (Int w) k = refl
+  stays_kind (Uint w) k = refl
+  stays_kind (Slice t) k =
+      ap (λ x. node slice (cons x nil)) (e.ty t (and_parts (known (m.ty t)) true k).0)
+  stays_kind (Tuple ts) k = ap (λ x. node tuple x) (e.tys ts k)
+  stays_kind (Ref r t u) k =
+      let p = and_parts (known (m.region r)) (known (m.ty t) && true) k in
+      let q = and_parts (known (m.ty t)) true p.1 in
+      ap₂ (λ x y. node (ref u) (cons x (cons y nil))) (e.region r p.0) (e.ty t q.0)
+  stays_kind (Infer i) k = refl
+
+  pub stays_region : (a : RegionKind Name) → IsTrue (known (region_tree m a)) → region_tree n a ≡ region_tree m a
+  stays_region ReStatic k = refl
+  stays_region (ReEarlyParam p) k = ap (λ x. leaf (atom (early_region p.index x))) (e.name p.name)
+  stays_region (ReVar v) k = refl

@@ -1,0 +1,4 @@
+//! What relations are written with, beside the terms themselves.
+#![tactic(auto)]
+
+pub mod error;

@@ -1,0 +1,3 @@
+//! Relations on terms.
+
+pub mod solver_relating;

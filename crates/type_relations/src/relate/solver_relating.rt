@@ -1,0 +1,64 @@
+//! The relation that a solver asks of its inference context.
+ghost use Rattle.std.specs.Prelude.{◌≡◌, ◌+◌, IsTrue};
+ghost use Rattle.relation_terms.specs.Trees.{known};
+ghost use Rattle.relation_terms.specs.Meaning.{Meaning, Extends};
+ghost use Rattle.type_relations.specs.Relation.{Items};
+ghost use Rattle.type_relations.specs.Stores.{Store, IsTermIn, IsSound, all_bound};
+ghost use Rattle.type_relations.specs.Steps.{IsLater};
+
+use relation_terms::terms::{Goal, Interner, Keys, ParamEnv, Predicate, Span, Ty, Variance};
+use relation_tools::error::RelateFault;
+
+/// The goals that relating answers, or why it stopped.
+pub type RelateGoals<I> =
+    Result<Vec<Goal<<I as Keys>::Key, Predicate<I>>>, RelateFault<<I as Keys>::Key>>;
+
+/// An inference context that relates terms.
+pub trait RelateExt {
+    /// The interner of the context's terms.
+    type Interner: Interner;
+
+    // The interner as it stands.
+    ghost interner: { Self → Self.Interner };
+
+    // What the context has recorded.
+    ghost store: { Self → Store };
+
+    // The declared variances of items.
+    ghost items: { Self → Items };
+
+    // The context's own invariant, which each of its calls keeps.
+    ghost is_lawful: { Self → Type 0 };
+
+    /// Relates two types at a variance, and answers the goals under which they are related.
+    ///
+    /// Both types and the environment are the interner's, and the variables in them are the context's. The variance is
+    /// `Invariant` for now.
+    ///
+    /// Answers `Unrelated` where the types do not relate, `Budget` where a variable had to be bound and no
+    /// instantiation was left, and `Memory` where a growth was refused. Also after an error all that was recorded
+    /// stands; more may have been recorded on the way, and each variable that was newly bound to a term has taken one
+    /// instantiation.
+    fn relate(
+        &mut self,
+        param_env: ParamEnv<Self::Interner>,
+        lhs: Ty<Self::Interner>,
+        variance: Variance,
+        rhs: Ty<Self::Interner>,
+        span: Span<Self::Interner>,
+    ) -> RelateGoals<Self::Interner>
+        requires lawful { is_lawful self.old }
+        requires invariantly { variance ≡ Variance.Invariant }
+        requires env_known { IsTrue (known ((Self.Interner.meaning (interner self.old)).param_env param_env)) }
+        requires lhs_known { IsTrue (known ((Self.Interner.meaning (interner self.old)).ty lhs)) }
+        requires rhs_known { IsTrue (known ((Self.Interner.meaning (interner self.old)).ty rhs)) }
+        requires lhs_in { IsTermIn (store self.old) ((Self.Interner.meaning (interner self.old)).ty lhs) }
+        requires rhs_in { IsTermIn (store self.old) ((Self.Interner.meaning (interner self.old)).ty rhs) }
+        ensures lawful { is_lawful self.new }
+        ensures grown { Extends (Self.Interner.meaning (interner self.old)) (Self.Interner.meaning (interner self.new)) }
+        ensures later { IsLater (store self.old) (store self.new) }
+        ensures budget { (store self.old).budget + all_bound (store self.old) ≡ (store self.new).budget + all_bound (store self.new) };
+
+    // The store of a lawful context is sound.
+    ghost sound: { (c : Self) → is_lawful c → IsSound (store c) };
+}
