@@ -8,4 +8,5 @@ pub mod Standing
 pub mod Tallies
 pub mod Written
 pub mod Growing
+pub mod Composing
 pub mod Going

@@ -6,4 +6,5 @@ pub mod Steps
 pub mod Outcomes
 pub mod Headline
 pub mod SmallTerms
+pub mod StepLaws
 pub mod Measures
