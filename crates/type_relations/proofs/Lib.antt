@@ -9,4 +9,5 @@ pub mod Tallies
 pub mod Written
 pub mod Growing
 pub mod Composing
+pub mod Opening
 pub mod Going
