@@ -8,6 +8,7 @@ pub mod Standing
 pub mod Tallies
 pub mod Written
 pub mod Growing
+pub mod Erased
 pub mod Composing
 pub mod Opening
 pub mod Going

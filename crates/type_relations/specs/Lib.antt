@@ -7,4 +7,5 @@ pub mod Outcomes
 pub mod Headline
 pub mod SmallTerms
 pub mod StepLaws
+pub mod ErasureLaws
 pub mod Measures
