@@ -12,3 +12,5 @@ pub mod Erased
 pub mod Composing
 pub mod Opening
 pub mod Going
+pub mod Equating
+pub mod Empty

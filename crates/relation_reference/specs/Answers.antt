@@ -1,0 +1,57 @@
+-- What calls over a context show.
+use Rattle.std.specs.Prelude.{◌≡◌, ℕ, ◌<◌, ◌≤◌, Result, Ok, Err, Option, Some, None}
+use Rattle.relation_terms.specs.Heads.{type_var, variable, tuple}
+use Rattle.relation_terms.specs.Trees.{Tree, leaf, Assign, apply, Leaves, Occurs, nth}
+use Rattle.relation_terms.specs.declared.terms.enums.Variance.TheVariants.{Invariant}
+use Rattle.relation_tools.specs.declared.error.RelateFault.{RelateFault}
+use Rattle.relation_tools.specs.declared.error.RelateFault.TheVariants.{Memory, Budget, Unrelated}
+use Rattle.type_relations.specs.Relation.{Items, Interpretation, Rel, at, parts}
+use Rattle.type_relations.specs.Stores.{Store, same_as, entry_of, bound_term, Satisfies}
+use Rattle.relation_reference.specs.Tables.{IsFormed}
+
+-- From a variable the entries lead to another of the same class.
+pub data LeadsTo (st : Store) : ℕ → ℕ → Type 0 where
+  here : {n m : ℕ} → n ≡ m → LeadsTo st n m
+  next : {n p m : ℕ} → entry_of st type_var n ≡ same_as p → LeadsTo st p m → LeadsTo st n m
+
+-- No entry leads on.
+abbrev pub IsRoot : Store → ℕ → Type 0
+IsRoot st n = (p : ℕ) → entry_of st type_var n ≡ same_as p → ⊥
+
+-- What resolving a type shallowly comes to: a variable that has no term, or a type that is no variable.
+pub data IsShallow (st : Store) (t : Tree) : Type 0 where
+  root : (n : ℕ) → t ≡ leaf (variable type_var n) → bound_term st type_var n ≡ None → IsShallow st t
+  formed : IsFormed t → IsShallow st t
+
+-- Two terms were made one: what satisfies the store after relates them, and what made them one tree satisfies it.
+pub record Unites (before after : Store) (a b : Tree) : Type 0 where
+  pub relates : (c : Items) (e : Tree) (w : Interpretation) (s : Assign) → Satisfies w after s → Rel c w e (at Invariant) (apply s a) (apply s b)
+  pub keeps : (w : Interpretation) (s : Assign) → Satisfies w before s → apply s a ≡ apply s b → Satisfies w after s
+
+-- The same of two lists of a tuple's parts.
+pub record UnitesAll (before after : Store) (a b : Tree) : Type 0 where
+  pub relates : (c : Items) (e : Tree) (w : Interpretation) (s : Assign) → Satisfies w after s → Rel c w e (parts tuple 0 Invariant) (apply s a) (apply s b)
+  pub keeps : (w : Interpretation) (s : Assign) → Satisfies w before s → apply s a ≡ apply s b → Satisfies w after s
+
+-- The first places of two lists were made one.
+pub record IsFront (before after : Store) (i : ℕ) (a b : Tree) : Type 0 where
+  pub relates : (c : Items) (e : Tree) (w : Interpretation) (s : Assign) (j : ℕ) → j < i → Satisfies w after s → Rel c w e (at Invariant) (apply s (nth j a)) (apply s (nth j b))
+  pub keeps : (w : Interpretation) (s : Assign) → Satisfies w before s → apply s a ≡ apply s b → Satisfies w after s
+
+-- No satisfying assignment makes the terms one tree.
+abbrev pub Apart : Store → Tree → Tree → Type 0
+Apart st a b = (w : Interpretation) (s : Assign) → Satisfies w st s → apply s a ≡ apply s b → ⊥
+
+-- What relating two terms answers; nothing is claimed where memory ran out, and no instantiation is left where the
+-- budget did.
+abbrev pub Answered : {X K : Type 0} → Store → Store → Tree → Tree → Result X (RelateFault K) → Type 0
+Answered before after a b (Ok x) = Unites before after a b
+Answered before after a b (Err (Unrelated e)) = Apart before a b
+Answered before after a b (Err Budget) = after.budget ≡ 0
+Answered before after a b (Err Memory) = Unit {0}
+
+abbrev pub AnsweredAll : {X K : Type 0} → Store → Store → Tree → Tree → Result X (RelateFault K) → Type 0
+AnsweredAll before after a b (Ok x) = UnitesAll before after a b
+AnsweredAll before after a b (Err (Unrelated e)) = Apart before a b
+AnsweredAll before after a b (Err Budget) = after.budget ≡ 0
+AnsweredAll before after a b (Err Memory) = Unit {0}

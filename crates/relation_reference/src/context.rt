@@ -1,0 +1,9 @@
+//! An inference context over plain tables, and relating in it.
+
+mod inner;
+mod relating;
+mod resolving;
+mod variables;
+
+pub use inner::{InferCtxtInner, TypeVariable, TypeVariableValue};
+pub use variables::RefCtxt;
