@@ -74,10 +74,10 @@ goals_both middle after first others l p q = All-append (GoalInContext after) fi
 pub values_still : (st : Store) (s s' : Assign) (a b : Tree) → AgreeOn st s s' → InContext st a → InContext st b → apply s a ≡ apply s b → apply s' a ≡ apply s' b
 values_still st s s' a b h i j p = sym (same_value st s s' a h i) ∙ p ∙ same_value st s s' b h j
 
-heads_one : {a b xs ys : Tree} → cons a xs ≡ cons b ys → a ≡ b
+pub heads_one : {a b xs ys : Tree} → cons a xs ≡ cons b ys → a ≡ b
 heads_one e = cc
 
-tails_one : {a b xs ys : Tree} → cons a xs ≡ cons b ys → xs ≡ ys
+pub tails_one : {a b xs ys : Tree} → cons a xs ≡ cons b ys → xs ≡ ys
 tails_one e = cc
 
 pub parts_compose : PartsCompose
@@ -136,7 +136,7 @@ front_begins c e h v st earlier xs ys = record {
 pub parts_one : (s : Assign) (i : ℕ) (xs ys : Tree) → IsList xs → IsList ys → apply s xs ≡ apply s ys → apply s (nth i xs) ≡ apply s (nth i ys)
 parts_one s i xs ys l m q = apply-nth s i xs l ∙ ap (nth i) q ∙ sym (apply-nth s i ys m)
 
-below_or : (i j : ℕ) → j < suc i → (j < i) ⊎ (j ≡ i)
+pub below_or : (i j : ℕ) → j < suc i → (j < i) ⊎ (j ≡ i)
 below_or i j h = go (dec_lt j i)
   where
     go : Dec (j < i) → (j < i) ⊎ (j ≡ i)

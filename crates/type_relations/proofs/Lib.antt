@@ -11,6 +11,8 @@ pub mod Growing
 pub mod Erased
 pub mod Composing
 pub mod Opening
+pub mod Exactness
 pub mod Going
 pub mod Equating
 pub mod Empty
+pub mod StoreCalls

@@ -151,7 +151,7 @@ scope_made : (st : Store) (u : ℕ) (l : Leaf) → IsInScope st u l → IsMadeLe
 scope_made st u (variable k n) i = i.0
 scope_made st u (bound k d n) i = tt
 scope_made st u (placeholder k v n) i = tt
-scope_made st u (atom x) i = tt
+scope_made st u (atom x) i = i
 scope_made st u unknown i = i
 
 pub in_context : (st : Store) (u : ℕ) (t : Tree) → Leaves (IsInScope st u) t → InContext st t

@@ -8,4 +8,5 @@ pub mod Headline
 pub mod SmallTerms
 pub mod StepLaws
 pub mod ErasureLaws
+pub mod StoreLaws
 pub mod Measures
