@@ -33,6 +33,14 @@ same_erased st s s' (bind ks t) h i = ap (bind []) (same_erased st s s' t h i)
 same_erased st s s' nil h i = refl
 same_erased st s s' (cons t u) h i = ap₂ cons (same_erased st s s' t h i.0) (same_erased st s s' u h i.1)
 
+pub erased_alike : (s s' : Assign) (t : Tree) → ((k : VarKind) (n : ℕ) → erase (s k n) ≡ erase (s' k n)) → erase (apply s t) ≡ erase (apply s' t)
+erased_alike s s' (leaf (variable k n)) h = h k n
+erased_alike s s' (leaf l) h = refl
+erased_alike s s' (node a t) h = ap (λ z. node a (kept_parts a z)) (erased_alike s s' t h)
+erased_alike s s' (bind ks t) h = ap (bind []) (erased_alike s s' t h)
+erased_alike s s' nil h = refl
+erased_alike s s' (cons t u) h = ap₂ cons (erased_alike s s' t h) (erased_alike s s' u h)
+
 pub unifies_still : (st : Store) (s s' : Assign) (a b : Tree) → AgreeErased st s s' → InContext st a → InContext st b → Unifies s a b → Unifies s' a b
 unifies_still st s s' a b h i j p = sym (same_erased st s s' a h i) ∙ p ∙ same_erased st s s' b h j
 

@@ -147,7 +147,7 @@ unfolding InContext
 same_value st s s' t h i = replace_alike (assigned s) (assigned s') t (Leaves_map (IsMadeLeaf st) _ (agree_leaf st s s' h) t i)
 
 -- What is in a universe's scope is in context.
-scope_made : (st : Store) (u : ℕ) (l : Leaf) → IsInScope st u l → IsMadeLeaf st l
+pub scope_made : (st : Store) (u : ℕ) (l : Leaf) → IsInScope st u l → IsMadeLeaf st l
 scope_made st u (variable k n) i = i.0
 scope_made st u (bound k d n) i = tt
 scope_made st u (placeholder k v n) i = tt
