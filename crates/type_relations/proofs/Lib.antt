@@ -16,3 +16,4 @@ pub mod Going
 pub mod Equating
 pub mod Empty
 pub mod StoreCalls
+pub mod Assigning

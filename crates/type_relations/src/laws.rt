@@ -2,6 +2,10 @@
 //! the law.
 
 ghost use Rattle.type_relations.specs.SmallTerms.{IsReflexive, AnythingAtBivariance, ErrorsAreRelated, ParametersByIndex, ValuesByTheirTrees, ReferencesByRegions, MutablePointeesAreFixed, InputsTurnRound, BivariantArguments, UnlikeHeadsAreUnrelated, UnlikeAtomsAreUnrelated, AtomsAreNoForms, FormsByParts, OthersWithThemselvesAlone, AnyIsStatic, StaticIsNotAny, PlaceholderIsNotAny, OneRegionIsNotTwo, AnyIsNotInvariantlyStatic};
+ghost use Rattle.type_relations.specs.StepLaws.{AssigningTwice, InstantiatingAssigns, OccursCheck, CyclesDoNotUnify, ValuesAreNamable, RelatesLater, RelatesUnderMore, PartsCompose, NoPartsRelate, FormsRelate, StepsCompose, InstantiatingSteps, OpeningSteps, OneRoundRelates, TwoRoundsRelate, UnusedBindersRelate, FrontBegins, FrontGoesOn, FrontEnds, ExactsCompose, ExactStepsCompose, InstantiatingIsExactStep, ExactFrontGoesOn, ExactFrontEnds, ExactKeepsUnifiers};
+ghost use Rattle.type_relations.specs.ErasureLaws.{ErasureAssigns, FormsUnifyByParts, TypesOfValuesUnify, ListsUnifyByItems, UnlikeFormsDoNotUnify, ErasedOccursCheck, InvariantTermsAreAlike};
+ghost use Rattle.type_relations.specs.StoreLaws.{EquatingStaysSound, EquatingIsExact, BindingStaysSound, BindingIsExact, NumbersStaySound, NumbersAreExact, MakingStaysSound, MadeIsUnconstrained, ConstrainingIsExact, NothingIsSeen, ResolvedResolves};
+ghost use Rattle.type_relations.specs.Stores.{BindingsAreMet};
 
 /// What holds of all terms, and of errors and parameters.
 pub fn all_terms()
@@ -36,4 +40,72 @@ pub fn bound_regions()
     ensures placeholder_is_not_any { PlaceholderIsNotAny }
     ensures one_is_not_two { OneRegionIsNotTwo }
     ensures not_invariantly { AnyIsNotInvariantlyStatic }
+{}
+
+/// Assigning values and putting them for the variables of binders.
+pub fn assigning()
+    ensures twice { AssigningTwice }
+    ensures instantiating { InstantiatingAssigns }
+    ensures occurs { OccursCheck }
+    ensures cycles { CyclesDoNotUnify }
+    ensures namable { ValuesAreNamable }
+{}
+
+/// Erasure and unification.
+pub fn erasing()
+    ensures assigns { ErasureAssigns }
+    ensures forms { FormsUnifyByParts }
+    ensures types_of_values { TypesOfValuesUnify }
+    ensures lists { ListsUnifyByItems }
+    ensures unlike { UnlikeFormsDoNotUnify }
+    ensures occurs { ErasedOccursCheck }
+    ensures alike { InvariantTermsAreAlike }
+{}
+
+/// Instantiating a variable and opening binders are steps, after which what is left is related.
+pub fn steps()
+    ensures compose { StepsCompose }
+    ensures instantiating { InstantiatingSteps }
+    ensures opening { OpeningSteps }
+    ensures one_round { OneRoundRelates }
+    ensures two_rounds { TwoRoundsRelate }
+    ensures unused { UnusedBindersRelate }
+    ensures exact_compose { ExactStepsCompose }
+    ensures exact_instantiating { InstantiatingIsExactStep }
+{}
+
+/// Outcomes over the parts of forms, one after another or in a loop; and what was shown stays shown.
+pub fn outcomes()
+    ensures later { RelatesLater }
+    ensures under_more { RelatesUnderMore }
+    ensures no_parts { NoPartsRelate }
+    ensures parts { PartsCompose }
+    ensures forms { FormsRelate }
+    ensures begins { FrontBegins }
+    ensures goes_on { FrontGoesOn }
+    ensures ends { FrontEnds }
+{}
+
+/// The same of what is exact up to erasure.
+pub fn exactness()
+    ensures parts { ExactsCompose }
+    ensures goes_on { ExactFrontGoesOn }
+    ensures ends { ExactFrontEnds }
+    ensures unifiers { ExactKeepsUnifiers }
+{}
+
+/// What a store's calls do to the assignments that satisfy it, and that it stays sound.
+pub fn stores()
+    ensures met { BindingsAreMet }
+    ensures equating { EquatingIsExact }
+    ensures equated { EquatingStaysSound }
+    ensures binding { BindingIsExact }
+    ensures bound { BindingStaysSound }
+    ensures numbers { NumbersAreExact }
+    ensures numbered { NumbersStaySound }
+    ensures making { MadeIsUnconstrained }
+    ensures made { MakingStaysSound }
+    ensures constraining { ConstrainingIsExact }
+    ensures nothing { NothingIsSeen }
+    ensures resolving { ResolvedResolves }
 {}
