@@ -17,3 +17,4 @@ pub mod Equating
 pub mod Empty
 pub mod StoreCalls
 pub mod Assigning
+pub mod RegionTerms

@@ -190,7 +190,7 @@ admitted_region : (s : Sort) → Admits region_sort s → s ≡ region_sort
 admitted_region region_sort h = refl
 admitted_region s h = absurd h
 
-term_region : (t : Tree) → IsTerm region_sort t → sort_of t ≡ region_sort
+pub term_region : (t : Tree) → IsTerm region_sort t → sort_of t ≡ region_sort
 term_region (leaf l) h = admitted_region (leaf_sort l) h
 term_region (node h ts) i = admitted_region (head_sort h) i.0
 term_region t h = absurd h

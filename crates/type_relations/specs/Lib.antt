@@ -9,4 +9,5 @@ pub mod SmallTerms
 pub mod StepLaws
 pub mod ErasureLaws
 pub mod StoreLaws
+pub mod RegionTerms
 pub mod Measures

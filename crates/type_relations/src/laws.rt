@@ -6,6 +6,7 @@ ghost use Rattle.type_relations.specs.StepLaws.{AssigningTwice, InstantiatingAss
 ghost use Rattle.type_relations.specs.ErasureLaws.{ErasureAssigns, FormsUnifyByParts, TypesOfValuesUnify, ListsUnifyByItems, UnlikeFormsDoNotUnify, ErasedOccursCheck, InvariantTermsAreAlike};
 ghost use Rattle.type_relations.specs.StoreLaws.{EquatingStaysSound, EquatingIsExact, BindingStaysSound, BindingIsExact, NumbersStaySound, NumbersAreExact, MakingStaysSound, MadeIsUnconstrained, ConstrainingIsExact, NothingIsSeen, ResolvedResolves};
 ghost use Rattle.type_relations.specs.Stores.{BindingsAreMet};
+ghost use Rattle.type_relations.specs.RegionTerms.{RelatedTermsAgree, RelatedIffAgree};
 
 /// What holds of all terms, and of errors and parameters.
 pub fn all_terms()
@@ -108,4 +109,10 @@ pub fn stores()
     ensures constraining { ConstrainingIsExact }
     ensures nothing { NothingIsSeen }
     ensures resolving { ResolvedResolves }
+{}
+
+/// Terms that are first-order but for binders of regions, where all regions outlive each other.
+pub fn region_terms()
+    ensures agree { RelatedTermsAgree }
+    ensures just_where { RelatedIffAgree }
 {}
