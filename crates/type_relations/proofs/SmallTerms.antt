@@ -5,12 +5,13 @@ use Rattle.relation_terms.specs.declared.terms.enums.Variance.TheVariants.{Covar
 use Rattle.relation_terms.specs.declared.terms.enums.Mutability.TheVariants.{Not, Mut}
 use Rattle.relation_terms.specs.declared.terms.enums.Safety.TheVariants.{Safe}
 use Rattle.relation_terms.specs.declared.terms.enums.ExternAbi.TheVariants.{Rust}
-use Rattle.relation_terms.specs.Heads.{Sort, Admits, leaf_sort, head_sort, region_sort, type_param, const_param, uint_type, bool_type, Leaf, atom, bound, placeholder, Head, adt, ref, tuple, fn_ptr, signature, inputs, value, value_type, BoundKind}
+use Rattle.relation_terms.specs.Heads.{Sort, Admits, leaf_sort, head_sort, region_sort, type_param, const_param, uint_type, bool_type, host_effect, subtype, region_outlives, type_outlives, projection, const_has_type, well_formed, const_evaluatable, coerce, normalizes_to, alias_relate, environment, trait_clause, Leaf, atom, bound, placeholder, Head, adt, ref, tuple, fn_ptr, signature, inputs, value, value_type, BoundKind}
 use Rattle.relation_terms.specs.Trees.{Tree, leaf, node, bind, nil, cons, inst, IsList, IsTerm}
 use Rattle.relation_terms.specs.declared.terms.enums.UintTy.TheVariants.{U8}
+use Rattle.relation_terms.specs.declared.terms.enums.PredicatePolarity.{PredicatePolarity}
 use Rattle.relation_terms.specs.Variances.{xform}
-use Rattle.type_relations.specs.Relation.{Items, Interpretation, parts, second_opened, first_opened, Rel, at, same, anything, regions, atoms, forms, no_parts, next_part, covariant_binders, open_second, open_first, Outlives, itself, sort_of, RegionRule, plain_atom, error_left, error_right, alias_types, equal_consts, contravariant_binders, invariant_binders, Avoids}
-use Rattle.type_relations.specs.SmallTerms.{u8, bool, static, named, ref_to, mut_ref_to, value_of, adt_of, fn_of, fn_of_ref, a_region, bound_region, region_placeholder, fn_of_any, IsReflexive, AnythingAtBivariance, ErrorsAreRelated, ParametersByIndex, ValuesByTheirTrees, ReferencesByRegions, MutablePointeesAreFixed, InputsTurnRound, BivariantArguments, UnlikeHeadsAreUnrelated, UnlikeAtomsAreUnrelated, AtomsAreNoForms, FormsByParts, OthersWithThemselvesAlone, AnyIsStatic, StaticIsNotAny, PlaceholderIsNotAny, OneRegionIsNotTwo, AnyIsNotInvariantlyStatic}
+use Rattle.type_relations.specs.Relation.{Items, Interpretation, parts, second_opened, first_opened, Rel, at, same, anything, regions, atoms, forms, no_parts, next_part, covariant_binders, open_second, open_first, Outlives, itself, sort_of, RegionRule, IsRelatedHead, plain_atom, error_left, error_right, alias_types, equal_consts, contravariant_binders, invariant_binders, Avoids}
+use Rattle.type_relations.specs.SmallTerms.{u8, bool, static, named, ref_to, mut_ref_to, value_of, adt_of, fn_of, fn_of_ref, a_region, bound_region, region_placeholder, fn_of_any, IsReflexive, AnythingAtBivariance, ErrorsAreRelated, ParametersByIndex, ValuesByTheirTrees, ReferencesByRegions, MutablePointeesAreFixed, InputsTurnRound, BivariantArguments, UnlikeHeadsAreUnrelated, UnlikeAtomsAreUnrelated, AtomsAreNoForms, FormsByParts, IsPredicateSort, PredicatesWithThemselvesAlone, AnyIsStatic, StaticIsNotAny, PlaceholderIsNotAny, OneRegionIsNotTwo, AnyIsNotInvariantlyStatic}
 use Rattle.type_relations.proofs.Related.{region_of, heads_inverted, forms_inverted, others_inverted, atoms_inverted, covariant_opened, invariant_opened, no_form_left, no_form_right}
 
 pub is_reflexive : IsReflexive
@@ -75,7 +76,7 @@ refs_forth Invariant p q r = forms tt refl (next_part (regions p q r) (next_part
 refs_forth Bivariant p q r = anything refl
 
 pub references_by_regions : ReferencesByRegions
-references_by_regions c w e v a b t p q = (refs_back v p q, refs_forth v p q)
+references_by_regions c w e a b t p q = ((refs_back Covariant p q, refs_forth Covariant p q), (refs_back Contravariant p q, refs_forth Contravariant p q), (refs_back Invariant p q, refs_forth Invariant p q))
 
 pointee : {c : Items} {w : Interpretation} {e x t u : Tree} → Rel c w e (parts (ref Mut) 0 Covariant) (cons x (cons t nil)) (cons x (cons u nil)) → Rel c w e (at Invariant) t u
 pointee (next_part _ (next_part r _)) = r
@@ -165,8 +166,24 @@ atoms_are_no_forms c w e v x h ts n i r = (no_form_left n i r, no_form_right n i
 pub forms_by_parts : FormsByParts
 forms_by_parts c w e v h k xs ys n i rh rk l = (forms_inverted n rh rk l, λ r. forms i r.0 r.1)
 
-pub others_with_themselves_alone : OthersWithThemselvesAlone
-others_with_themselves_alone c w e v h k xs ys n i r = others_inverted n i r
+no_relation : (h : Head) → IsPredicateSort (head_sort h) → ((p : PredicatePolarity) → h ≢ trait_clause p) → IsRelatedHead h → ⊥
+no_relation (trait_clause p) s n i = n p refl
+no_relation (host_effect x) s n i = i
+no_relation (subtype x) s n i = i
+no_relation region_outlives s n i = i
+no_relation type_outlives s n i = i
+no_relation projection s n i = i
+no_relation const_has_type s n i = i
+no_relation well_formed s n i = i
+no_relation const_evaluatable s n i = i
+no_relation coerce s n i = i
+no_relation normalizes_to s n i = i
+no_relation (alias_relate d) s n i = i
+no_relation environment s n i = i
+no_relation h s n i = s
+
+pub predicates_with_themselves_alone : PredicatesWithThemselvesAlone
+predicates_with_themselves_alone c w e v h k xs ys n s t r = others_inverted n (no_relation h s t) r
 
 pub any_is_static : AnyIsStatic
 any_is_static c w e = forms tt refl (next_part (covariant_binders refl (open_second (static ∷ []) [] ((tt, tt, tt), tt) tt (same refl))) no_parts)

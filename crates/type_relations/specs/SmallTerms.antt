@@ -1,15 +1,16 @@
 -- What the relation says of small terms and of forms.
 use Rattle.std.specs.Prelude.{◌≡◌, ◌≢◌, ◌⊎◌, ◌↔◌, ℕ, List, [], ◌∷◌, false}
 use Rattle.relation_terms.specs.declared.terms.enums.Variance.{Variance}
-use Rattle.relation_terms.specs.declared.terms.enums.Variance.TheVariants.{Covariant, Invariant, Bivariant}
+use Rattle.relation_terms.specs.declared.terms.enums.Variance.TheVariants.{Covariant, Contravariant, Invariant, Bivariant}
 use Rattle.relation_terms.specs.declared.terms.enums.Mutability.{Mutability}
 use Rattle.relation_terms.specs.declared.terms.enums.Mutability.TheVariants.{Not, Mut}
+use Rattle.relation_terms.specs.declared.terms.enums.PredicatePolarity.{PredicatePolarity}
 use Rattle.relation_terms.specs.declared.terms.enums.UintTy.TheVariants.{U8}
 use Rattle.relation_terms.specs.declared.terms.enums.Safety.TheVariants.{Safe}
 use Rattle.relation_terms.specs.declared.terms.enums.ExternAbi.TheVariants.{Rust}
-use Rattle.relation_terms.specs.Heads.{region_sort, region_kind, BoundKind, bound_kind, Atom, atom_sort, bool_type, uint_type, type_param, const_param, static_region, early_region, Head, adt, tuple, ref, fn_ptr, signature, inputs, value, value_type, Leaf, bound, placeholder, atom}
+use Rattle.relation_terms.specs.Heads.{Sort, region_sort, clause_sort, predicate_sort, environment_sort, head_sort, trait_clause, region_kind, BoundKind, bound_kind, Atom, atom_sort, bool_type, uint_type, type_param, const_param, static_region, early_region, Head, adt, tuple, ref, fn_ptr, signature, inputs, value, value_type, Leaf, bound, placeholder, atom}
 use Rattle.relation_terms.specs.Trees.{Tree, leaf, node, bind, nil, cons, IsList}
-use Rattle.type_relations.specs.Relation.{Items, Interpretation, Rel, at, parts, plain, plain_atom, sort_of, IsError, IsErrorAtom, IsAliasHead, IsRelatedHead, RegionRule, Outlives}
+use Rattle.type_relations.specs.Relation.{Items, Interpretation, Rel, at, parts, plain, plain_atom, sort_of, IsError, IsErrorAtom, IsAliasHead, IsRelatedHead, Outlives}
 
 abbrev pub u8 : Tree
 u8 = leaf (atom (uint_type U8))
@@ -78,9 +79,11 @@ ParametersByIndex = (c : Items) (w : Interpretation) (e : Tree) (v : Variance) (
 abbrev pub ValuesByTheirTrees : Type 0
 ValuesByTheirTrees = (c : Items) (w : Interpretation) (e : Tree) (v : Variance) (ty ty' t t' : Tree) → Rel c w e (at v) (value_of ty t) (value_of ty' t') ↔ Rel c w e (at v) t t'
 
--- Shared references to one type are related just as their regions are.
+-- Shared references to one type are related just as their regions are: covariantly where the first outlives the
+-- second, contravariantly the other way round, invariantly where both hold.
 abbrev pub ReferencesByRegions : Type 0
-ReferencesByRegions = (c : Items) (w : Interpretation) (e : Tree) (v : Variance) (a b t : Tree) → sort_of a ≡ region_sort → sort_of b ≡ region_sort → Rel c w e (at v) (ref_to a t) (ref_to b t) ↔ RegionRule w v a b
+ReferencesByRegions = (c : Items) (w : Interpretation) (e a b t : Tree) → sort_of a ≡ region_sort → sort_of b ≡ region_sort →
+    (Rel c w e (at Covariant) (ref_to a t) (ref_to b t) ↔ Outlives w a b) × (Rel c w e (at Contravariant) (ref_to a t) (ref_to b t) ↔ Outlives w b a) × (Rel c w e (at Invariant) (ref_to a t) (ref_to b t) ↔ Outlives w a b × Outlives w b a)
 
 -- `&'x mut &'a u8` is `&'x mut &'b u8` just where 'a and 'b outlive each other.
 abbrev pub MutablePointeesAreFixed : Type 0
@@ -117,9 +120,15 @@ abbrev pub FormsByParts : Type 0
 FormsByParts = (c : Items) (w : Interpretation) (e : Tree) (v : Variance) (h k : Head) (xs ys : Tree) → v ≢ Bivariant → IsRelatedHead h → IsRigidHead h → IsRigidHead k → IsList xs →
     Rel c w e (at v) (node h xs) (node k ys) ↔ (plain h ≡ plain k) × Rel c w e (parts h 0 v) xs ys
 
--- The other forms are related with themselves alone.
-abbrev pub OthersWithThemselvesAlone : Type 0
-OthersWithThemselvesAlone = (c : Items) (w : Interpretation) (e : Tree) (v : Variance) (h k : Head) (xs ys : Tree) → v ≢ Bivariant → (IsRelatedHead h → ⊥) → Rel c w e (at v) (node h xs) (node k ys) → node h xs ≡ node k ys
+-- A predicate or an environment, but for trait predicates, is related with itself alone.
+abbrev pub IsPredicateSort : Sort → Type 0
+IsPredicateSort clause_sort = Unit {0}
+IsPredicateSort predicate_sort = Unit {0}
+IsPredicateSort environment_sort = Unit {0}
+IsPredicateSort s = ⊥
+
+abbrev pub PredicatesWithThemselvesAlone : Type 0
+PredicatesWithThemselvesAlone = (c : Items) (w : Interpretation) (e : Tree) (v : Variance) (h k : Head) (xs ys : Tree) → v ≢ Bivariant → IsPredicateSort (head_sort h) → ((p : PredicatePolarity) → h ≢ trait_clause p) → Rel c w e (at v) (node h xs) (node k ys) → node h xs ≡ node k ys
 
 -- A function of all references is one of static references.
 abbrev pub AnyIsStatic : Type 0
