@@ -1,0 +1,4 @@
+pub mod Forms
+pub mod Nodes
+pub mod Places
+pub mod Laws
