@@ -1,6 +1,8 @@
 -- A table and one more node.
 use Rattle.std.proofs.Common.{ℕ, ◌+◌, ◌<◌, ◌≡◌, ◌⊎◌, inl, inr, IsTrue, Bool, true, false, List, [], ◌∷◌, ◌++◌, length, get_or, if◌then◌else◌, refl, ap, sym, ◌∙◌, subst, arith, length-append}
 use Rattle.std.proofs.lemmas.Bool.{false≢true, cases_lt}
+use Rattle.std.proofs.lemmas.List.{get_or_append_left}
+use Rattle.std.proofs.Math.Seq.{get_or-append_seam}
 use Rattle.relation_terms.specs.Trees.{Tree, leaf, known}
 use Rattle.relation_terms.specs.Heads.{unknown}
 use Rattle.relation_terms.specs.Meaning.{Meaning, Extends}
@@ -17,8 +19,9 @@ use Rattle.relation_reference.specs.declared.interner.keys.SymbolId.{SymbolId}
 use Rattle.relation_reference.specs.declared.interner.node.Node.{Node}
 use Rattle.relation_reference.specs.declared.interner.node.Node.TheVariants.{ParamEnv}
 use Rattle.relation_reference.specs.Forms.{Form, ty_form, region_form, tys_form, environment_form, form_of}
-use Rattle.relation_reference.specs.Nodes.{Entry, no_entry, ty_entry, region_entry, tys_entry, environment_entry, as_ty, as_region, as_tys, as_environment, meaning_of, entry_at, entry_of, entries, table_meaning, known_entry, AllKnown, AllDistinct, KnowsNone}
-use Rattle.relation_reference.specs.Places.{get_append, get_last, length_entries, known_in, of_ty, of_region, of_tys, of_environment}
+use Rattle.relation_reference.specs.Nodes.{Entry, no_entry, ty_entry, region_entry, tys_entry, environment_entry, as_ty, as_region, as_tys, as_environment, meaning_of, entry_at, entry_of, entries, table_meaning, known_entry, AllKnown, AllDistinct}
+use Rattle.relation_reference.specs.Empty.{KnowsNone}
+use Rattle.relation_reference.specs.Places.{length_entries, known_in, of_ty, of_region, of_tys, of_environment}
 use Rattle.relation_reference.specs.Laws.{injective}
 use Rattle.relation_reference.proofs.Table.{entries_snoc, extends_node, at_now}
 
@@ -42,13 +45,13 @@ module _ (ns : List Node) (n : Node) where
   keeps_entry : (i : ℕ) → i < length ns → get_or (entries (ns ++ n ∷ [])) i no_entry ≡ get_or (entries ns) i no_entry
   keeps_entry i h =
     let l = length_entries [] ns in
-    rw (entries_snoc [] ns n) (get_append (entries ns) (entry_of (table_meaning ns) n ∷ []) i (omega (arith, l)))
+    rw (entries_snoc [] ns n) (get_or_append_left (entries ns) (entry_of (table_meaning ns) n ∷ []) no_entry i (omega (arith, l)))
 
   new_entry : get_or (entries (ns ++ n ∷ [])) (length ns) no_entry ≡ entry_of (table_meaning ns) n
   new_entry =
     let l = length_entries [] ns in
     let z : length ns ≡ length (entries ns) = omega (arith, l) in
-    rw (entries_snoc [] ns n, z) (get_last (entries ns) (entry_of (table_meaning ns) n))
+    rw (entries_snoc [] ns n, z) (get_or-append_seam (entries ns) (entry_of (table_meaning ns) n) [] no_entry)
 
   pub new_at : (ms : List Node) (k : ℕ) → ms ≡ ns ++ n ∷ [] → k ≡ length ns →
       get_or (entries ms) k no_entry ≡ entry_of (table_meaning ns) n
@@ -157,5 +160,7 @@ module _ (ns : List Node) (t : Tree) where
 pub none_known : (ns : List Node) → ns ≡ [] → KnowsNone (table_meaning ns)
 unfolding meaning_of
 none_known ns e = subst (λ x. KnowsNone (table_meaning x)) (sym e) (record {
-  ty = λ k. refl; region = λ k. refl; tys = λ k. refl; param_env = λ k. refl;
+  ty = λ k. refl; region = λ k. refl; const_ = λ k. refl; args = λ k. refl; tys = λ k. refl; pat = λ k. refl;
+  valtree = λ k. refl; branches = λ k. refl; alternatives = λ k. refl; existential_predicates = λ k. refl;
+  bound_vars = λ k. refl; predicate = λ k. refl; clause = λ k. refl; param_env = λ k. refl;
 })

@@ -1,6 +1,8 @@
 -- A table's entries, and what its keys read.
-use Rattle.std.proofs.Common.{ℕ, zero, suc, ◌+◌, ◌<◌, ◌≡◌, IsTrue, true, false, List, [], ◌∷◌, ◌++◌, length, get_or, refl, ap, sym, ◌∙◌, subst, arith, length-append}
-use Rattle.std.proofs.lemmas.Bool.{false≢true}
+use Rattle.std.proofs.Common.{ℕ, zero, suc, ◌+◌, ◌<◌, ◌≡◌, IsTrue, true, false, List, [], ◌∷◌, ◌++◌, length, get_or, inl, inr, refl, ap, sym, ◌∙◌, subst, arith, length-append}
+use Rattle.std.proofs.lemmas.Bool.{false≢true, cases_lt}
+use Rattle.std.proofs.lemmas.List.{get_or_append_left, get_or_past}
+use Rattle.std.proofs.Math.Seq.{get_or-append_seam}
 use Rattle.relation_terms.specs.Heads.{unknown}
 use Rattle.relation_terms.specs.Trees.{Tree, leaf, known, list_tree}
 use Rattle.relation_terms.specs.Meaning.{Meaning, Extends, kind_tree, region_tree}
@@ -17,16 +19,16 @@ use Rattle.relation_reference.specs.declared.interner.node.Node.{Node}
 use Rattle.relation_reference.specs.declared.interner.node.Node.TheVariants.{Ty, Region, Tys}
 use Rattle.relation_reference.specs.Forms.{Form, ty_form, region_form, tys_form, environment_form, form_of}
 use Rattle.relation_reference.specs.Nodes.{Entry, no_entry, ty_entry, region_entry, tys_entry, environment_entry, as_ty, as_region, as_tys, as_environment, meaning_of, entry_at, entry_of, entries_from, entries, table_meaning, known_entry, AllKnown}
-use Rattle.relation_reference.specs.Places.{place, Place, inside, outside, get_append, get_last, length_entries, known_in, of_ty, of_region, of_tys, of_environment}
+use Rattle.relation_reference.specs.Places.{length_entries, known_in}
 use Rattle.std.specs.declared.vec.Vec.{Vec}
 use Rattle.std.specs.declared.alloc.Global.{Global}
 
 -- What reads as known is kept by more entries.
 keeps : (read : Entry → Tree) → known (read no_entry) ≡ false → (es fs : List Entry) (i : ℕ) →
     IsTrue (known (read (get_or es i no_entry))) → read (get_or (es ++ fs) i no_entry) ≡ read (get_or es i no_entry)
-keeps read none es fs i k = elim (place es i) [
-    inside h ↦ ap read (get_append es fs i h)
-  | outside h ↦ absurd (false≢true (sym none ∙ subst (λ e. IsTrue (known (read e))) h k)) ]
+keeps read none es fs i k = elim (cases_lt i (length es)) [
+    inl h ↦ ap read (get_or_append_left es fs no_entry i h)
+  | inr h ↦ absurd (false≢true (sym none ∙ subst (λ e. IsTrue (known (read e))) (get_or_past es i no_entry h) k)) ]
 
 extends_append : (es fs : List Entry) → Extends (meaning_of es) (meaning_of (es ++ fs))
 unfolding meaning_of
@@ -68,7 +70,7 @@ keep_from es [] j h = refl
 keep_from es (n ∷ ns) j h =
   let e = entry_of (meaning_of es) n in
   let l = length-append es (e ∷ []) in
-  keep_from (es ++ e ∷ []) ns j (omega (arith, l)) ∙ get_append es (e ∷ []) j h
+  keep_from (es ++ e ∷ []) ns j (omega (arith, l)) ∙ get_or_append_left es (e ∷ []) no_entry j h
 
 -- The entries that a node's entry was made from.
 record At (es : List Entry) (ns : List Node) (i : ℕ) (d : Node) : Type 0 where
@@ -85,7 +87,7 @@ node_at es (n ∷ ns) zero d h =
   record {
     before = es;
     older = extends_from es (n ∷ ns);
-    entry = rw z (keep_from (es ++ e ∷ []) ns (length es) (omega (arith, l)) ∙ get_last es e);
+    entry = rw z (keep_from (es ++ e ∷ []) ns (length es) (omega (arith, l)) ∙ get_or-append_seam es e [] no_entry);
   }
 node_at es (n ∷ ns) (suc i) d h =
   let e = entry_of (meaning_of es) n in

@@ -2,6 +2,8 @@
 -- of one tree are one key.
 use Rattle.std.proofs.Common.{ℕ, ◌+◌, ◌<◌, ◌≡◌, ◌↔◌, IsTrue, List, [], ◌∷◌, ◌++◌, length, get_or, eqb, refl, ap, sym, ◌∙◌, subst, arith, length-append, inl, inr}
 use Rattle.std.proofs.lemmas.Bool.{false≢true, eqb-true, eq-eqb, cases_lt}
+use Rattle.std.proofs.lemmas.List.{get_or_append_left, get_or_past}
+use Rattle.std.proofs.Math.Seq.{get_or-append_seam}
 use Rattle.relation_terms.specs.Heads.{type_sort, region_sort, environment_sort}
 use Rattle.relation_terms.specs.Trees.{Tree, known, IsTerm, AreTerms}
 use Rattle.relation_terms.specs.Meaning.{Meaning}
@@ -17,7 +19,7 @@ use Rattle.relation_reference.specs.declared.interner.keys.SymbolId.{SymbolId}
 use Rattle.relation_reference.specs.declared.interner.node.Node.{Node}
 use Rattle.relation_reference.specs.Forms.{Form, ty_form, region_form, tys_form, environment_form, form_of}
 use Rattle.relation_reference.specs.Nodes.{Entry, no_entry, ty_entry, region_entry, tys_entry, environment_entry, as_ty, as_region, as_tys, as_environment, meaning_of, entry_at, entry_of, entries_from, entries, table_meaning, known_entry, AllDistinct}
-use Rattle.relation_reference.specs.Places.{known_in, of_ty, of_region, of_tys, of_environment, get_append, get_last, Place, inside, outside, place}
+use Rattle.relation_reference.specs.Places.{known_in, of_ty, of_region, of_tys, of_environment}
 
 -- The tree of an entry is a term of the entry's sort.
 abbrev IsSorted : Entry → Type 0
@@ -42,7 +44,8 @@ sorted_tys : (e : Entry) → IsSorted e → IsTrue (known (as_tys e)) → AreTer
 sorted_tys (tys_entry t) s k = s k
 sorted_tys _ s k = absurd (false≢true k)
 
-sorted_environment : (e : Entry) → IsSorted e → IsTrue (known (as_environment e)) → IsTerm environment_sort (as_environment e)
+sorted_environment : (e : Entry) → IsSorted e → IsTrue (known (as_environment e)) →
+    IsTerm environment_sort (as_environment e)
 sorted_environment (environment_entry t) s k = s k
 sorted_environment _ s k = absurd (false≢true k)
 
@@ -61,14 +64,14 @@ entry_sorted m s (tys_form ts) = list_sorted type_sort m.ty s.ty ts
 entry_sorted m s environment_form = λ k. environment_sorted
 
 one_more : (es : List Entry) (e : Entry) → AllSorted es → IsSorted e → AllSorted (es ++ e ∷ [])
-one_more es e s h = λ i. elim (place (es ++ e ∷ []) i) [
-    inside p ↦ elim (cases_lt i (length es)) [
-        inl q ↦ subst IsSorted (sym (get_append es (e ∷ []) i q)) (s i)
+one_more es e s h = λ i. elim (cases_lt i (length (es ++ e ∷ []))) [
+    inl p ↦ elim (cases_lt i (length es)) [
+        inl q ↦ subst IsSorted (sym (get_or_append_left es (e ∷ []) no_entry i q)) (s i)
       | inr q ↦
           let l = length-append es (e ∷ []) in
           let z : i ≡ length es = omega (arith, l) in
-          subst IsSorted (sym (ap (λ j. get_or (es ++ e ∷ []) j no_entry) z ∙ get_last es e)) h ]
-  | outside p ↦ subst IsSorted (sym p) tt ]
+          subst IsSorted (sym (ap (λ j. get_or (es ++ e ∷ []) j no_entry) z ∙ get_or-append_seam es e [] no_entry)) h ]
+  | inr p ↦ subst IsSorted (sym (get_or_past (es ++ e ∷ []) i no_entry p)) tt ]
 
 sorted_from : (es : List Entry) (ns : List Node) → AllSorted es → AllSorted (entries_from es ns)
 sorted_from es [] s = s
@@ -80,20 +83,25 @@ all_sorted : (ns : List Node) → AllSorted (entries ns)
 all_sorted ns = sorted_from [] ns (λ i. tt)
 
 module _ (ns : List Node) where
-  pub is_ty_law : (k : TyKey NodeKey) → IsTrue (known ((table_meaning ns).ty k)) → IsTerm type_sort ((table_meaning ns).ty k)
+  pub is_ty_law : (k : TyKey NodeKey) → IsTrue (known ((table_meaning ns).ty k)) →
+      IsTerm type_sort ((table_meaning ns).ty k)
   is_ty_law = (sorted (entries ns) (all_sorted ns)).ty
 
-  pub is_region_law : (k : RegionKey NodeKey) → IsTrue (known ((table_meaning ns).region k)) → IsTerm region_sort ((table_meaning ns).region k)
+  pub is_region_law : (k : RegionKey NodeKey) → IsTrue (known ((table_meaning ns).region k)) →
+      IsTerm region_sort ((table_meaning ns).region k)
   is_region_law = (sorted (entries ns) (all_sorted ns)).region
 
-  pub are_tys_law : (k : TysKey NodeKey) → IsTrue (known ((table_meaning ns).tys k)) → AreTerms type_sort ((table_meaning ns).tys k)
+  pub are_tys_law : (k : TysKey NodeKey) → IsTrue (known ((table_meaning ns).tys k)) →
+      AreTerms type_sort ((table_meaning ns).tys k)
   are_tys_law = (sorted (entries ns) (all_sorted ns)).tys
 
-  pub is_param_env_law : (k : ParamEnvKey NodeKey) → IsTrue (known ((table_meaning ns).param_env k)) → IsTerm environment_sort ((table_meaning ns).param_env k)
+  pub is_param_env_law : (k : ParamEnvKey NodeKey) → IsTrue (known ((table_meaning ns).param_env k)) →
+      IsTerm environment_sort ((table_meaning ns).param_env k)
   unfolding meaning_of
   is_param_env_law k h = sorted_environment (get_or (entries ns) (k.0).0 no_entry) (all_sorted ns (k.0).0) h
 
-  pub same_name_law : (x y : SymbolId) → (IsTrue (eqb x.0 y.0) ↔ ((table_meaning ns).name x ≡ (table_meaning ns).name y))
+  pub same_name_law : (x y : SymbolId) →
+      (IsTrue (eqb x.0 y.0) ↔ ((table_meaning ns).name x ≡ (table_meaning ns).name y))
   unfolding meaning_of
   same_name_law x y = (λ h. eqb-true x.0 y.0 h, λ e. eq-eqb x.0 y.0 e)
 
@@ -116,19 +124,23 @@ module _ (ns : List Node) (d : AllDistinct ns) where
     same_place ns d i j (made u) (sure u ∙ l)
       (exact (get_or (entries ns) i no_entry) k ∙ ap made e) (exact (get_or (entries ns) j no_entry) l)
 
-  once_ty : (k l : TyKey NodeKey) → IsTrue (known ((table_meaning ns).ty k)) → (table_meaning ns).ty k ≡ (table_meaning ns).ty l → (k.0).0 ≡ (l.0).0
+  once_ty : (k l : TyKey NodeKey) → IsTrue (known ((table_meaning ns).ty k)) →
+      (table_meaning ns).ty k ≡ (table_meaning ns).ty l → (k.0).0 ≡ (l.0).0
   unfolding meaning_of
   once_ty k l = once as_ty ty_entry (λ t. refl) of_ty (k.0).0 (l.0).0
 
-  once_region : (k l : RegionKey NodeKey) → IsTrue (known ((table_meaning ns).region k)) → (table_meaning ns).region k ≡ (table_meaning ns).region l → (k.0).0 ≡ (l.0).0
+  once_region : (k l : RegionKey NodeKey) → IsTrue (known ((table_meaning ns).region k)) →
+      (table_meaning ns).region k ≡ (table_meaning ns).region l → (k.0).0 ≡ (l.0).0
   unfolding meaning_of
   once_region k l = once as_region region_entry (λ t. refl) of_region (k.0).0 (l.0).0
 
-  once_tys : (k l : TysKey NodeKey) → IsTrue (known ((table_meaning ns).tys k)) → (table_meaning ns).tys k ≡ (table_meaning ns).tys l → (k.0).0 ≡ (l.0).0
+  once_tys : (k l : TysKey NodeKey) → IsTrue (known ((table_meaning ns).tys k)) →
+      (table_meaning ns).tys k ≡ (table_meaning ns).tys l → (k.0).0 ≡ (l.0).0
   unfolding meaning_of
   once_tys k l = once as_tys tys_entry (λ t. refl) of_tys (k.0).0 (l.0).0
 
-  once_environment : (k l : ParamEnvKey NodeKey) → IsTrue (known ((table_meaning ns).param_env k)) → (table_meaning ns).param_env k ≡ (table_meaning ns).param_env l → (k.0).0 ≡ (l.0).0
+  once_environment : (k l : ParamEnvKey NodeKey) → IsTrue (known ((table_meaning ns).param_env k)) →
+      (table_meaning ns).param_env k ≡ (table_meaning ns).param_env l → (k.0).0 ≡ (l.0).0
   unfolding meaning_of
   once_environment k l = once as_environment environment_entry (λ t. refl) of_environment (k.0).0 (l.0).0
 
@@ -141,22 +153,30 @@ module _ (ns : List Node) (d : AllDistinct ns) where
     name = λ x y e. ap (λ n. record { 0 = n }) e;
   }
 
-  pub same_ty_law : (k l : TyKey NodeKey) → IsTrue (known ((table_meaning ns).ty k)) → IsTrue (known ((table_meaning ns).ty l)) → (IsTrue (eqb (k.0).0 (l.0).0) ↔ ((table_meaning ns).ty k ≡ (table_meaning ns).ty l))
+  pub same_ty_law : (k l : TyKey NodeKey) → IsTrue (known ((table_meaning ns).ty k)) →
+      IsTrue (known ((table_meaning ns).ty l)) →
+      (IsTrue (eqb (k.0).0 (l.0).0) ↔ ((table_meaning ns).ty k ≡ (table_meaning ns).ty l))
   same_ty_law k l h _ =
     (λ e. ap (λ n. (table_meaning ns).ty (record { 0 = record { 0 = n } })) (eqb-true (k.0).0 (l.0).0 e),
      λ e. eq-eqb _ _ (once_ty k l h e))
 
-  pub same_region_law : (k l : RegionKey NodeKey) → IsTrue (known ((table_meaning ns).region k)) → IsTrue (known ((table_meaning ns).region l)) → (IsTrue (eqb (k.0).0 (l.0).0) ↔ ((table_meaning ns).region k ≡ (table_meaning ns).region l))
+  pub same_region_law : (k l : RegionKey NodeKey) → IsTrue (known ((table_meaning ns).region k)) →
+      IsTrue (known ((table_meaning ns).region l)) →
+      (IsTrue (eqb (k.0).0 (l.0).0) ↔ ((table_meaning ns).region k ≡ (table_meaning ns).region l))
   same_region_law k l h _ =
     (λ e. ap (λ n. (table_meaning ns).region (record { 0 = record { 0 = n } })) (eqb-true (k.0).0 (l.0).0 e),
      λ e. eq-eqb _ _ (once_region k l h e))
 
-  pub same_tys_law : (k l : TysKey NodeKey) → IsTrue (known ((table_meaning ns).tys k)) → IsTrue (known ((table_meaning ns).tys l)) → (IsTrue (eqb (k.0).0 (l.0).0) ↔ ((table_meaning ns).tys k ≡ (table_meaning ns).tys l))
+  pub same_tys_law : (k l : TysKey NodeKey) → IsTrue (known ((table_meaning ns).tys k)) →
+      IsTrue (known ((table_meaning ns).tys l)) →
+      (IsTrue (eqb (k.0).0 (l.0).0) ↔ ((table_meaning ns).tys k ≡ (table_meaning ns).tys l))
   same_tys_law k l h _ =
     (λ e. ap (λ n. (table_meaning ns).tys (record { 0 = record { 0 = n } })) (eqb-true (k.0).0 (l.0).0 e),
      λ e. eq-eqb _ _ (once_tys k l h e))
 
-  pub same_param_env_law : (k l : ParamEnvKey NodeKey) → IsTrue (known ((table_meaning ns).param_env k)) → IsTrue (known ((table_meaning ns).param_env l)) → (IsTrue (eqb (k.0).0 (l.0).0) ↔ ((table_meaning ns).param_env k ≡ (table_meaning ns).param_env l))
+  pub same_param_env_law : (k l : ParamEnvKey NodeKey) → IsTrue (known ((table_meaning ns).param_env k)) →
+      IsTrue (known ((table_meaning ns).param_env l)) →
+      (IsTrue (eqb (k.0).0 (l.0).0) ↔ ((table_meaning ns).param_env k ≡ (table_meaning ns).param_env l))
   same_param_env_law k l h _ =
     (λ e. ap (λ n. (table_meaning ns).param_env (record { 0 = record { 0 = n } })) (eqb-true (k.0).0 (l.0).0 e),
      λ e. eq-eqb _ _ (once_environment k l h e))

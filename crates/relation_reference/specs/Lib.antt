@@ -1,4 +1,5 @@
 pub mod Forms
 pub mod Nodes
+pub mod Empty
 pub mod Places
 pub mod Laws

@@ -94,10 +94,3 @@ AllKnown ns = (i : ℕ) → i < length ns → IsTrue (known_entry (slice_index_o
 abbrev pub AllDistinct : List Node → Type 0
 AllDistinct ns = (i j : ℕ) → i < length ns → j < length ns →
     slice_index_or (entries ns) i no_entry ≡ slice_index_or (entries ns) j no_entry → i ≡ j
-
--- No key is known.
-pub record KnowsNone {Key Id Name : Type 0} (m : Meaning Key Id Name) : Type 0 where
-  pub ty : (k : TyKey Key) → m.ty k ≡ leaf unknown
-  pub region : (k : RegionKey Key) → m.region k ≡ leaf unknown
-  pub tys : (k : TysKey Key) → m.tys k ≡ leaf unknown
-  pub param_env : (k : ParamEnvKey Key) → m.param_env k ≡ leaf unknown

@@ -1,28 +1,10 @@
 -- Where the entries of a table stand.
-use Rattle.std.proofs.Common.{ℕ, zero, suc, ◌+◌, ◌<◌, ◌≡◌, IsTrue, List, [], ◌∷◌, ◌++◌, length, get_or, refl, subst, arith, length-append}
-use Rattle.std.proofs.lemmas.Bool.{false≢true}
+use Rattle.std.proofs.Common.{ℕ, ◌+◌, ◌<◌, ◌≡◌, IsTrue, List, [], ◌∷◌, ◌++◌, length, get_or, inl, inr, refl, subst, arith, length-append}
+use Rattle.std.proofs.lemmas.Bool.{false≢true, cases_lt}
+use Rattle.std.proofs.lemmas.List.{get_or_past}
 use Rattle.relation_terms.specs.Trees.{known}
 use Rattle.relation_reference.specs.declared.interner.node.Node.{Node}
 use Rattle.relation_reference.specs.Nodes.{Entry, no_entry, ty_entry, region_entry, tys_entry, environment_entry, as_ty, as_region, as_tys, as_environment, meaning_of, entry_of, entries_from, entries, known_entry}
-
--- What a place of a table has: an entry, or none.
-pub data Place (es : List Entry) (i : ℕ) : Type 0 where
-  inside : i < length es → Place es i
-  outside : get_or es i no_entry ≡ no_entry → Place es i
-
-pub place : (es : List Entry) (i : ℕ) → Place es i
-place [] i = outside refl
-place (e ∷ es) zero = inside (omega arith)
-place (e ∷ es) (suc i) = elim (place es i) [ inside h ↦ inside (omega arith) | outside h ↦ outside h ]
-
-pub get_append : (es fs : List Entry) (i : ℕ) → i < length es → get_or (es ++ fs) i no_entry ≡ get_or es i no_entry
-get_append [] fs i h = absurd (omega arith)
-get_append (e ∷ es) fs zero h = refl
-get_append (e ∷ es) fs (suc i) h = get_append es fs i (omega arith)
-
-pub get_last : (es : List Entry) (e : Entry) → get_or (es ++ e ∷ []) (length es) no_entry ≡ e
-get_last [] e = refl
-get_last (x ∷ es) e = get_last es e
 
 pub length_entries : (es : List Entry) (ns : List Node) → length (entries_from es ns) ≡ length es + length ns
 length_entries es [] = omega arith
@@ -33,9 +15,9 @@ length_entries es (n ∷ ns) =
 
 -- What is known stands in the table.
 pub known_in : (ns : List Node) (i : ℕ) → IsTrue (known_entry (get_or (entries ns) i no_entry)) → i < length ns
-known_in ns i k = elim (place (entries ns) i) [
-    inside p ↦ let l = length_entries [] ns in omega (arith, l)
-  | outside p ↦ absurd (false≢true (subst (λ e. IsTrue (known_entry e)) p k)) ]
+known_in ns i k = elim (cases_lt i (length (entries ns))) [
+    inl h ↦ let l = length_entries [] ns in omega (arith, l)
+  | inr h ↦ absurd (false≢true (subst (λ e. IsTrue (known_entry e)) (get_or_past (entries ns) i no_entry h) k)) ]
 
 -- An entry that reads as known, at a sort, is one of that sort.
 pub of_ty : (e : Entry) → IsTrue (known (as_ty e)) → e ≡ ty_entry (as_ty e)

@@ -1,6 +1,7 @@
 //! An interner whose keys are the numbers of nodes.
 ghost use Rattle.std.specs.Prelude.{◌≡◌, ℕ, IsTrue, IfOk, IsOk, OnErr, ◌++◌, ◌∷◌, [], ◌⊎◌, slice_index_or};
-ghost use Rattle.relation_reference.specs.Nodes.{AllKnown, AllDistinct, KnowsNone, entries, entry_of, known_entry, no_entry, table_meaning};
+ghost use Rattle.relation_reference.specs.Empty.{KnowsNone};
+ghost use Rattle.relation_reference.specs.Nodes.{AllKnown, AllDistinct, entries, entry_of, known_entry, no_entry, table_meaning};
 
 mod keys;
 mod node;
@@ -19,16 +20,16 @@ use std::alloc::Global;
 #[derive(Drop)]
 pub struct RefInterner {
     alloc: Global,
-    /// What the keys stand for, by their numbers.
-    pub nodes: Vec<Node>,
-    pub ghost known_all: { AllKnown nodes.items },
-    pub ghost distinct: { AllDistinct nodes.items },
+    // What the keys stand for, by their numbers.
+    nodes: Vec<Node>,
+    ghost known_all: { AllKnown nodes.items },
+    ghost distinct: { AllDistinct nodes.items },
 }
 
 impl RefInterner {
     /// An interner that knows no key. This takes no memory.
     pub fn new(alloc: Global) -> RefInterner
-        ensures { KnowsNone (table_meaning result.nodes.items) }
+        ensures { KnowsNone (⟦<RefInterner as Interner>⟧.meaning result) }
     {
         RefInterner {
             alloc,
