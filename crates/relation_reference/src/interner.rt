@@ -113,23 +113,23 @@ impl Interner for RefInterner {
     }
 
     fn mk_ty(&mut self, kind: TyForm<Self>) -> Result<Ty<Self>, OutOfMemory>
-        requires { IsTrue (known (kind_tree (table_meaning self.old.nodes.items) kind)) }
-        ensures grown { Extends (table_meaning self.old.nodes.items) (table_meaning self.new.nodes.items) }
-        ensures sure { IfOk result (λ k. IsTrue (known ((table_meaning self.new.nodes.items).ty k))) }
-        ensures made { IfOk result (λ k. (table_meaning self.new.nodes.items).ty k ≡ kind_tree (table_meaning self.old.nodes.items) kind) }
-        ensures refused { OnErr result (table_meaning self.new.nodes.items ≡ table_meaning self.old.nodes.items) }
-        ensures there { (k : TyKey NodeKey) → (table_meaning self.old.nodes.items).ty k ≡ kind_tree (table_meaning self.old.nodes.items) kind → IsOk result × (table_meaning self.new.nodes.items ≡ table_meaning self.old.nodes.items) }
+        requires { IsTrue (known (kind_tree (⟦<RefInterner as Interner>⟧.meaning self.old) kind)) }
+        ensures grown { Extends (⟦<RefInterner as Interner>⟧.meaning self.old) (⟦<RefInterner as Interner>⟧.meaning self.new) }
+        ensures sure { IfOk result (λ k. IsTrue (known ((⟦<RefInterner as Interner>⟧.meaning self.new).ty k))) }
+        ensures made { IfOk result (λ k. (⟦<RefInterner as Interner>⟧.meaning self.new).ty k ≡ kind_tree (⟦<RefInterner as Interner>⟧.meaning self.old) kind) }
+        ensures refused { OnErr result (⟦<RefInterner as Interner>⟧.meaning self.new ≡ ⟦<RefInterner as Interner>⟧.meaning self.old) }
+        ensures there { (k : TyKey NodeKey) → (⟦<RefInterner as Interner>⟧.meaning self.old).ty k ≡ kind_tree (⟦<RefInterner as Interner>⟧.meaning self.old) kind → IsOk result × (⟦<RefInterner as Interner>⟧.meaning self.new ≡ ⟦<RefInterner as Interner>⟧.meaning self.old) }
     {
         let number = self.add(Node::Ty(kind))?;
         Ok(TyKey(number))
     }
 
     fn mk_region(&mut self, kind: RegionForm<Self>) -> Result<Region<Self>, OutOfMemory>
-        ensures grown { Extends (table_meaning self.old.nodes.items) (table_meaning self.new.nodes.items) }
-        ensures sure { IfOk result (λ k. IsTrue (known ((table_meaning self.new.nodes.items).region k))) }
-        ensures made { IfOk result (λ k. (table_meaning self.new.nodes.items).region k ≡ region_tree (table_meaning self.old.nodes.items) kind) }
-        ensures refused { OnErr result (table_meaning self.new.nodes.items ≡ table_meaning self.old.nodes.items) }
-        ensures there { (k : RegionKey NodeKey) → (table_meaning self.old.nodes.items).region k ≡ region_tree (table_meaning self.old.nodes.items) kind → IsOk result × (table_meaning self.new.nodes.items ≡ table_meaning self.old.nodes.items) }
+        ensures grown { Extends (⟦<RefInterner as Interner>⟧.meaning self.old) (⟦<RefInterner as Interner>⟧.meaning self.new) }
+        ensures sure { IfOk result (λ k. IsTrue (known ((⟦<RefInterner as Interner>⟧.meaning self.new).region k))) }
+        ensures made { IfOk result (λ k. (⟦<RefInterner as Interner>⟧.meaning self.new).region k ≡ region_tree (⟦<RefInterner as Interner>⟧.meaning self.old) kind) }
+        ensures refused { OnErr result (⟦<RefInterner as Interner>⟧.meaning self.new ≡ ⟦<RefInterner as Interner>⟧.meaning self.old) }
+        ensures there { (k : RegionKey NodeKey) → (⟦<RefInterner as Interner>⟧.meaning self.old).region k ≡ region_tree (⟦<RefInterner as Interner>⟧.meaning self.old) kind → IsOk result × (⟦<RefInterner as Interner>⟧.meaning self.new ≡ ⟦<RefInterner as Interner>⟧.meaning self.old) }
     {
         let number = self.add(Node::Region(kind))?;
         Ok(RegionKey(number))
@@ -142,11 +142,11 @@ impl Interner for RefInterner {
     }
 
     fn empty_param_env(&mut self) -> Result<ParamEnv<Self>, OutOfMemory>
-        ensures grown { Extends (table_meaning self.old.nodes.items) (table_meaning self.new.nodes.items) }
-        ensures sure { IfOk result (λ k. IsTrue (known ((table_meaning self.new.nodes.items).param_env k))) }
-        ensures made { IfOk result (λ k. (table_meaning self.new.nodes.items).param_env k ≡ node environment nil) }
-        ensures refused { OnErr result (table_meaning self.new.nodes.items ≡ table_meaning self.old.nodes.items) }
-        ensures there { (k : ParamEnvKey NodeKey) → (table_meaning self.old.nodes.items).param_env k ≡ node environment nil → IsOk result × (table_meaning self.new.nodes.items ≡ table_meaning self.old.nodes.items) }
+        ensures grown { Extends (⟦<RefInterner as Interner>⟧.meaning self.old) (⟦<RefInterner as Interner>⟧.meaning self.new) }
+        ensures sure { IfOk result (λ k. IsTrue (known ((⟦<RefInterner as Interner>⟧.meaning self.new).param_env k))) }
+        ensures made { IfOk result (λ k. (⟦<RefInterner as Interner>⟧.meaning self.new).param_env k ≡ node environment nil) }
+        ensures refused { OnErr result (⟦<RefInterner as Interner>⟧.meaning self.new ≡ ⟦<RefInterner as Interner>⟧.meaning self.old) }
+        ensures there { (k : ParamEnvKey NodeKey) → (⟦<RefInterner as Interner>⟧.meaning self.old).param_env k ≡ node environment nil → IsOk result × (⟦<RefInterner as Interner>⟧.meaning self.new ≡ ⟦<RefInterner as Interner>⟧.meaning self.old) }
     {
         let number = self.add(Node::ParamEnv)?;
         Ok(ParamEnvKey(number))
