@@ -104,12 +104,12 @@ kind_same (Uint i) (Uint j) h = ap (λ k. Uint k) (uint_same i j h)
 kind_same (Slice t) (Slice u) h = ap (λ k. Slice k) (ty_same t u h)
 kind_same (Tuple ts) (Tuple us) h = ap (λ k. Tuple k) (tys_key_same ts us h)
 kind_same (Ref r t a) (Ref s u b) h =
-  let p = and_parts (eqb (r.0).0 (s.0).0) (ty_eq t u && mut_eq a b) h in
-  let q = and_parts (ty_eq t u) (mut_eq a b) p.1 in
-  let one = region_key_same r s p.0 in
-  let other = ty_same t u q.0 in
-  let third = mut_same a b q.1 in
-  cc
+    let p = and_parts (eqb (r.0).0 (s.0).0) (ty_eq t u && mut_eq a b) h in
+    let q = and_parts (ty_eq t u) (mut_eq a b) p.1 in
+    let one = region_key_same r s p.0 in
+    let other = ty_same t u q.0 in
+    let third = mut_same a b q.1 in
+    cc
 kind_same (Infer (TyVar v)) (Infer (TyVar w)) h = ap (λ n. Infer (TyVar (record { 0 = n }))) (eqb-true v.0 w.0 h)
 kind_same _ _ h = absurd (false≢true h)
 
@@ -121,15 +121,15 @@ kind_self (Uint i) = uint_self i
 kind_self (Slice t) = eqb_self (t.0).0
 kind_self (Tuple ts) = eqb_self (ts.0).0
 kind_self (Ref r t a) =
-  and_from (eqb (r.0).0 (r.0).0) (ty_eq t t && mut_eq a a) (eqb_self (r.0).0)
+    and_from (eqb (r.0).0 (r.0).0) (ty_eq t t && mut_eq a a) (eqb_self (r.0).0)
     (and_from (ty_eq t t) (mut_eq a a) (eqb_self (t.0).0) (mut_self a))
 kind_self (Infer (TyVar v)) = eqb_self v.0
 
 region_same : (f g : RegionKind SymbolId) → IsTrue (node_eq (Region f) (Region g)) → f ≡ g
 region_same ReStatic ReStatic h = refl
 region_same (ReEarlyParam p) (ReEarlyParam q) h =
-  let s = and_parts (eqb p.index q.index) (eqb (p.name).0 (q.name).0) h in
-  ap₂ (λ i n. ReEarlyParam (record { index = i; name = record { 0 = n } }))
+    let s = and_parts (eqb p.index q.index) (eqb (p.name).0 (q.name).0) h in
+    ap₂ (λ i n. ReEarlyParam (record { index = i; name = record { 0 = n } }))
     (eqb-true p.index q.index s.0) (eqb-true (p.name).0 (q.name).0 s.1)
 region_same (ReVar v) (ReVar w) h = ap (λ n. ReVar (record { 0 = n })) (eqb-true v.0 w.0 h)
 region_same _ _ h = absurd (false≢true h)
@@ -137,14 +137,14 @@ region_same _ _ h = absurd (false≢true h)
 region_self : (f : RegionKind SymbolId) → IsTrue (node_eq (Region f) (Region f))
 region_self ReStatic = refl
 region_self (ReEarlyParam p) =
-  and_from (eqb p.index p.index) (eqb (p.name).0 (p.name).0) (eqb_self p.index) (eqb_self (p.name).0)
+    and_from (eqb p.index p.index) (eqb (p.name).0 (p.name).0) (eqb_self p.index) (eqb_self (p.name).0)
 region_self (ReVar v) = eqb_self v.0
 
 tys_same : (xs ys : List (TyKey NodeKey)) → IsTrue (pointwise ty_eq xs ys) → xs ≡ ys
 tys_same [] [] h = refl
 tys_same (x ∷ xs) (y ∷ ys) h =
-  let p = and_parts (ty_eq x y) (pointwise ty_eq xs ys) h in
-  ap₂ (λ z zs. z ∷ zs) (ty_same x y p.0) (tys_same xs ys p.1)
+    let p = and_parts (ty_eq x y) (pointwise ty_eq xs ys) h in
+    ap₂ (λ z zs. z ∷ zs) (ty_same x y p.0) (tys_same xs ys p.1)
 tys_same _ _ h = absurd (false≢true h)
 
 tys_self : (xs : List (TyKey NodeKey)) → IsTrue (pointwise ty_eq xs xs)
@@ -173,9 +173,9 @@ types_in_form d _ = d
 node_self : (a b : Node) → form_of a ≡ form_of b → IsTrue (node_eq a b)
 node_self (Ty f) (Ty g) e = subst (λ x. IsTrue (node_eq (Ty f) (Ty x))) (ap (kind_in f) e) (kind_self f)
 node_self (Region f) (Region g) e =
-  subst (λ x. IsTrue (node_eq (Region f) (Region x))) (ap (region_in_form f) e) (region_self f)
+    subst (λ x. IsTrue (node_eq (Region f) (Region x))) (ap (region_in_form f) e) (region_self f)
 node_self (Tys v) (Tys w) e =
-  subst (λ x. IsTrue (pointwise ty_eq v.items x)) (ap (types_in_form v.items) e) (tys_self v.items)
+    subst (λ x. IsTrue (pointwise ty_eq v.items x)) (ap (types_in_form v.items) e) (tys_self v.items)
 node_self ParamEnv ParamEnv e = refl
 node_self _ _ e = absurd (cc)
 

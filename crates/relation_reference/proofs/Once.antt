@@ -44,14 +44,14 @@ form_once m j f g k e = absurd (cc)
 module _ (ns : List Node) (n : Node) where
   keeps_entry : (i : ℕ) → i < length ns → get_or (entries (ns ++ n ∷ [])) i no_entry ≡ get_or (entries ns) i no_entry
   keeps_entry i h =
-    let l = length_entries [] ns in
-    rw (entries_snoc [] ns n) (get_or_append_left (entries ns) (entry_of (table_meaning ns) n ∷ []) no_entry i (omega (arith, l)))
+      let l = length_entries [] ns in
+      rw (entries_snoc [] ns n) (get_or_append_left (entries ns) (entry_of (table_meaning ns) n ∷ []) no_entry i (omega (arith, l)))
 
   new_entry : get_or (entries (ns ++ n ∷ [])) (length ns) no_entry ≡ entry_of (table_meaning ns) n
   new_entry =
-    let l = length_entries [] ns in
-    let z : length ns ≡ length (entries ns) = omega (arith, l) in
-    rw (entries_snoc [] ns n, z) (get_or-append_seam (entries ns) (entry_of (table_meaning ns) n) [] no_entry)
+      let l = length_entries [] ns in
+      let z : length ns ≡ length (entries ns) = omega (arith, l) in
+      rw (entries_snoc [] ns n, z) (get_or-append_seam (entries ns) (entry_of (table_meaning ns) n) [] no_entry)
 
   pub new_at : (ms : List Node) (k : ℕ) → ms ≡ ns ++ n ∷ [] → k ≡ length ns →
       get_or (entries ms) k no_entry ≡ entry_of (table_meaning ns) n
@@ -60,38 +60,43 @@ module _ (ns : List Node) (n : Node) where
   -- The last place or an earlier one.
   last_or : (i : ℕ) → i < length (ns ++ n ∷ []) → (i < length ns) ⊎ (i ≡ length ns)
   last_or i h = elim (cases_lt i (length ns)) [
-      inl p ↦ inl p
-    | inr p ↦ inr (let l = length-append ns (n ∷ []) in omega (arith, l)) ]
+    | inl p ↦ inl p
+    | inr p ↦ inr (let l = length-append ns (n ∷ []) in omega (arith, l))
+  ]
 
   all_known : AllKnown ns → IsTrue (known_entry (entry_of (table_meaning ns) n)) → AllKnown (ns ++ n ∷ [])
   all_known a k = λ i h. elim (last_or i h) [
-      inl p ↦ subst (λ x. IsTrue (known_entry x)) (sym (keeps_entry i p)) (a i p)
+    | inl p ↦ subst (λ x. IsTrue (known_entry x)) (sym (keeps_entry i p)) (a i p)
     | inr p ↦
         subst (λ j. IsTrue (known_entry (get_or (entries (ns ++ n ∷ [])) j no_entry))) (sym p)
-          (subst (λ x. IsTrue (known_entry x)) (sym new_entry) k) ]
+        (subst (λ x. IsTrue (known_entry x)) (sym new_entry) k)
+  ]
 
   -- A node of a form that none has is at no place.
   pub fresh : AllDistinct ns → IsTrue (known_entry (entry_of (table_meaning ns) n)) →
       ((k : ℕ) (d : Node) → k < length ns → form_of (get_or ns k d) ≡ form_of n → ⊥) →
       (i : ℕ) → get_or (entries ns) i no_entry ≡ entry_of (table_meaning ns) n → ⊥
   fresh d k u i e =
-    let h : IsTrue (known_entry (get_or (entries ns) i no_entry)) = subst (λ x. IsTrue (known_entry x)) (sym e) k in
-    let l : i < length ns = known_in ns i h in
-    let a = at_now ns i n l h in
-    u i n l (form_once (table_meaning ns) (injective ns d) (form_of (get_or ns i n)) (form_of n)
+      let h : IsTrue (known_entry (get_or (entries ns) i no_entry)) = subst (λ x. IsTrue (known_entry x)) (sym e) k in
+      let l : i < length ns = known_in ns i h in
+      let a = at_now ns i n l h in
+      u i n l (form_once (table_meaning ns) (injective ns d) (form_of (get_or ns i n)) (form_of n)
       (subst (λ x. IsTrue (known_entry x)) a h) (sym a ∙ e))
 
   all_distinct : AllDistinct ns → IsTrue (known_entry (entry_of (table_meaning ns) n)) →
       ((k : ℕ) (d : Node) → k < length ns → form_of (get_or ns k d) ≡ form_of n → ⊥) → AllDistinct (ns ++ n ∷ [])
   all_distinct d k u = λ i j h l e.
-    let at : ℕ → Entry = λ x. get_or (entries (ns ++ n ∷ [])) x no_entry in
-    elim (last_or i h) [
-      inl p ↦ elim (last_or j l) [
-          inl q ↦ d i j p q (sym (keeps_entry i p) ∙ e ∙ keeps_entry j q)
-        | inr q ↦ absurd (fresh d k u i (sym (keeps_entry i p) ∙ e ∙ ap at q ∙ new_entry)) ]
-    | inr p ↦ elim (last_or j l) [
-          inl q ↦ absurd (fresh d k u j (sym (keeps_entry j q) ∙ sym e ∙ ap at p ∙ new_entry))
-        | inr q ↦ p ∙ sym q ] ]
+      let at : ℕ → Entry = λ x. get_or (entries (ns ++ n ∷ [])) x no_entry in
+      elim (last_or i h) [
+        | inl p ↦ elim (last_or j l) [
+          | inl q ↦ d i j p q (sym (keeps_entry i p) ∙ e ∙ keeps_entry j q)
+          | inr q ↦ absurd (fresh d k u i (sym (keeps_entry i p) ∙ e ∙ ap at q ∙ new_entry))
+        ]
+        | inr p ↦ elim (last_or j l) [
+          | inl q ↦ absurd (fresh d k u j (sym (keeps_entry j q) ∙ sym e ∙ ap at p ∙ new_entry))
+          | inr q ↦ p ∙ sym q
+        ]
+      ]
 
   -- What a push leaves, which may have been refused.
   pub known_if : (b : Bool) → AllKnown ns → IsTrue (known_entry (entry_of (table_meaning ns) n)) →
@@ -160,7 +165,18 @@ module _ (ns : List Node) (t : Tree) where
 pub none_known : (ns : List Node) → ns ≡ [] → KnowsNone (table_meaning ns)
 unfolding meaning_of
 none_known ns e = subst (λ x. KnowsNone (table_meaning x)) (sym e) (record {
-  ty = λ k. refl; region = λ k. refl; const_ = λ k. refl; args = λ k. refl; tys = λ k. refl; pat = λ k. refl;
-  valtree = λ k. refl; branches = λ k. refl; alternatives = λ k. refl; existential_predicates = λ k. refl;
-  bound_vars = λ k. refl; predicate = λ k. refl; clause = λ k. refl; param_env = λ k. refl;
+  ty = λ k. refl;
+  region = λ k. refl;
+  const_ = λ k. refl;
+  args = λ k. refl;
+  tys = λ k. refl;
+  pat = λ k. refl;
+  valtree = λ k. refl;
+  branches = λ k. refl;
+  alternatives = λ k. refl;
+  existential_predicates = λ k. refl;
+  bound_vars = λ k. refl;
+  predicate = λ k. refl;
+  clause = λ k. refl;
+  param_env = λ k. refl;
 })

@@ -27,8 +27,9 @@ use Rattle.std.specs.declared.alloc.Global.{Global}
 keeps : (read : Entry → Tree) → known (read no_entry) ≡ false → (es fs : List Entry) (i : ℕ) →
     IsTrue (known (read (get_or es i no_entry))) → read (get_or (es ++ fs) i no_entry) ≡ read (get_or es i no_entry)
 keeps read none es fs i k = elim (cases_lt i (length es)) [
-    inl h ↦ ap read (get_or_append_left es fs no_entry i h)
-  | inr h ↦ absurd (false≢true (sym none ∙ subst (λ e. IsTrue (known (read e))) (get_or_past es i no_entry h) k)) ]
+  | inl h ↦ ap read (get_or_append_left es fs no_entry i h)
+  | inr h ↦ absurd (false≢true (sym none ∙ subst (λ e. IsTrue (known (read e))) (get_or_past es i no_entry h) k))
+]
 
 extends_append : (es fs : List Entry) → Extends (meaning_of es) (meaning_of (es ++ fs))
 unfolding meaning_of
@@ -59,7 +60,7 @@ entries_snoc es (m ∷ ns) n = entries_snoc (es ++ entry_of (meaning_of es) m �
 extends_from : (es : List Entry) (ns : List Node) → Extends (meaning_of es) (meaning_of (entries_from es ns))
 extends_from es [] = stays_same (meaning_of es)
 extends_from es (n ∷ ns) =
-  extends_on (extends_append es (entry_of (meaning_of es) n ∷ [])) (extends_from (es ++ entry_of (meaning_of es) n ∷ []) ns)
+    extends_on (extends_append es (entry_of (meaning_of es) n ∷ [])) (extends_from (es ++ entry_of (meaning_of es) n ∷ []) ns)
 
 pub extends_node : (ns : List Node) (n : Node) → Extends (table_meaning ns) (table_meaning (ns ++ n ∷ []))
 extends_node ns n = rw (entries_snoc [] ns n) (extends_append (entries ns) (entry_of (table_meaning ns) n ∷ []))
@@ -68,9 +69,9 @@ keep_from : (es : List Entry) (ns : List Node) (j : ℕ) → j < length es →
     get_or (entries_from es ns) j no_entry ≡ get_or es j no_entry
 keep_from es [] j h = refl
 keep_from es (n ∷ ns) j h =
-  let e = entry_of (meaning_of es) n in
-  let l = length-append es (e ∷ []) in
-  keep_from (es ++ e ∷ []) ns j (omega (arith, l)) ∙ get_or_append_left es (e ∷ []) no_entry j h
+    let e = entry_of (meaning_of es) n in
+    let l = length-append es (e ∷ []) in
+    keep_from (es ++ e ∷ []) ns j (omega (arith, l)) ∙ get_or_append_left es (e ∷ []) no_entry j h
 
 -- The entries that a node's entry was made from.
 record At (es : List Entry) (ns : List Node) (i : ℕ) (d : Node) : Type 0 where
@@ -81,20 +82,20 @@ record At (es : List Entry) (ns : List Node) (i : ℕ) (d : Node) : Type 0 where
 node_at : (es : List Entry) (ns : List Node) (i : ℕ) (d : Node) → i < length ns → At es ns i d
 node_at es [] i d h = absurd (omega arith)
 node_at es (n ∷ ns) zero d h =
-  let e = entry_of (meaning_of es) n in
-  let l = length-append es (e ∷ []) in
-  let z : length es + 0 ≡ length es = omega arith in
-  record {
-    before = es;
-    older = extends_from es (n ∷ ns);
-    entry = rw z (keep_from (es ++ e ∷ []) ns (length es) (omega (arith, l)) ∙ get_or-append_seam es e [] no_entry);
-  }
+    let e = entry_of (meaning_of es) n in
+    let l = length-append es (e ∷ []) in
+    let z : length es + 0 ≡ length es = omega arith in
+    record {
+      before = es;
+      older = extends_from es (n ∷ ns);
+      entry = rw z (keep_from (es ++ e ∷ []) ns (length es) (omega (arith, l)) ∙ get_or-append_seam es e [] no_entry);
+    }
 node_at es (n ∷ ns) (suc i) d h =
-  let e = entry_of (meaning_of es) n in
-  let l = length-append es (e ∷ []) in
-  let r = node_at (es ++ e ∷ []) ns i d (omega arith) in
-  let z : length es + suc i ≡ length (es ++ e ∷ []) + i = omega (arith, l) in
-  record { before = r.before; older = r.older; entry = rw z r.entry }
+    let e = entry_of (meaning_of es) n in
+    let l = length-append es (e ∷ []) in
+    let r = node_at (es ++ e ∷ []) ns i d (omega arith) in
+    let z : length es + suc i ≡ length (es ++ e ∷ []) + i = omega (arith, l) in
+    record { before = r.before; older = r.older; entry = rw z r.entry }
 
 stays_entry : {m n : Meaning NodeKey ItemId SymbolId} → Extends m n → (x : Form) →
     IsTrue (known_entry (entry_at m x)) → entry_at n x ≡ entry_at m x
@@ -108,11 +109,11 @@ pub at_now : (ns : List Node) (i : ℕ) (d : Node) → i < length ns →
     IsTrue (known_entry (get_or (entries ns) i no_entry)) →
     get_or (entries ns) i no_entry ≡ entry_of (table_meaning ns) (get_or ns i d)
 at_now ns i d h k =
-  let a = node_at [] ns i d h in
-  let z : 0 + i ≡ i = omega arith in
-  let p : get_or (entries ns) i no_entry ≡ entry_of (meaning_of a.before) (get_or ns i d) =
+    let a = node_at [] ns i d h in
+    let z : 0 + i ≡ i = omega arith in
+    let p : get_or (entries ns) i no_entry ≡ entry_of (meaning_of a.before) (get_or ns i d) =
     subst (λ j. get_or (entries ns) j no_entry ≡ entry_of (meaning_of a.before) (get_or ns i d)) z a.entry in
-  p ∙ sym (stays_entry a.older (form_of (get_or ns i d)) (subst (λ e. IsTrue (known_entry e)) p k))
+    p ∙ sym (stays_entry a.older (form_of (get_or ns i d)) (subst (λ e. IsTrue (known_entry e)) p k))
 
 -- What a key of a sort reads, at any sort whose known entries are known.
 module _ (read : Entry → Tree) (sure : (e : Entry) → IsTrue (known (read e)) → IsTrue (known_entry e))
@@ -125,8 +126,8 @@ module _ (read : Entry → Tree) (sure : (e : Entry) → IsTrue (known (read e))
 
   read_not : (n d : Node) → get_or ns i d ≡ n → ((m : Meaning NodeKey ItemId SymbolId) → known (read (entry_of m n)) ≡ false) → ⊥
   read_not n d e wrong =
-    let p = read_now d ∙ ap (λ x. read (entry_of (table_meaning ns) x)) e in
-    false≢true (sym (wrong (table_meaning ns)) ∙ subst (λ t. IsTrue (known t)) p h)
+      let p = read_now d ∙ ap (λ x. read (entry_of (table_meaning ns) x)) e in
+      false≢true (sym (wrong (table_meaning ns)) ∙ subst (λ t. IsTrue (known t)) p h)
 
 sure_ty : (e : Entry) → IsTrue (known (as_ty e)) → IsTrue (known_entry e)
 sure_ty (ty_entry t) k = k
@@ -164,7 +165,7 @@ module _ (ns : List Node) (k : RegionKey NodeKey) where
       IsTrue (known ((table_meaning ns).region k)) → (table_meaning ns).region k ≡ region_tree (table_meaning ns) f
   unfolding meaning_of
   region_read f d e h =
-    read_now as_region sure_region ns (k.0).0 h d ∙ ap (λ n. as_region (entry_of (table_meaning ns) n)) e
+      read_now as_region sure_region ns (k.0).0 h d ∙ ap (λ n. as_region (entry_of (table_meaning ns) n)) e
 
   pub region_not : (n d : Node) → get_or ns (k.0).0 d ≡ n → IsTrue (known ((table_meaning ns).region k)) →
       ((m : Meaning NodeKey ItemId SymbolId) → known (as_region (entry_of m n)) ≡ false) → ⊥

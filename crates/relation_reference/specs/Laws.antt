@@ -65,18 +65,20 @@ entry_sorted m s environment_form = λ k. environment_sorted
 
 one_more : (es : List Entry) (e : Entry) → AllSorted es → IsSorted e → AllSorted (es ++ e ∷ [])
 one_more es e s h = λ i. elim (cases_lt i (length (es ++ e ∷ []))) [
-    inl p ↦ elim (cases_lt i (length es)) [
-        inl q ↦ subst IsSorted (sym (get_or_append_left es (e ∷ []) no_entry i q)) (s i)
-      | inr q ↦
-          let l = length-append es (e ∷ []) in
-          let z : i ≡ length es = omega (arith, l) in
-          subst IsSorted (sym (ap (λ j. get_or (es ++ e ∷ []) j no_entry) z ∙ get_or-append_seam es e [] no_entry)) h ]
-  | inr p ↦ subst IsSorted (sym (get_or_past (es ++ e ∷ []) i no_entry p)) tt ]
+  | inl p ↦ elim (cases_lt i (length es)) [
+    | inl q ↦ subst IsSorted (sym (get_or_append_left es (e ∷ []) no_entry i q)) (s i)
+    | inr q ↦
+        let l = length-append es (e ∷ []) in
+        let z : i ≡ length es = omega (arith, l) in
+        subst IsSorted (sym (ap (λ j. get_or (es ++ e ∷ []) j no_entry) z ∙ get_or-append_seam es e [] no_entry)) h
+  ]
+  | inr p ↦ subst IsSorted (sym (get_or_past (es ++ e ∷ []) i no_entry p)) tt
+]
 
 sorted_from : (es : List Entry) (ns : List Node) → AllSorted es → AllSorted (entries_from es ns)
 sorted_from es [] s = s
 sorted_from es (n ∷ ns) s =
-  sorted_from (es ++ entry_of (meaning_of es) n ∷ []) ns
+    sorted_from (es ++ entry_of (meaning_of es) n ∷ []) ns
     (one_more es (entry_of (meaning_of es) n) s (entry_sorted (meaning_of es) (sorted es s) (form_of n)))
 
 all_sorted : (ns : List Node) → AllSorted (entries ns)
@@ -109,7 +111,7 @@ module _ (ns : List Node) where
 same_place : (ns : List Node) → AllDistinct ns → (i j : ℕ) (e : Entry) → IsTrue (known_entry e) →
     get_or (entries ns) i no_entry ≡ e → get_or (entries ns) j no_entry ≡ e → i ≡ j
 same_place ns d i j e k p q =
-  d i j (known_in ns i (subst (λ x. IsTrue (known_entry x)) (sym p) k))
+    d i j (known_in ns i (subst (λ x. IsTrue (known_entry x)) (sym p) k))
     (known_in ns j (subst (λ x. IsTrue (known_entry x)) (sym q) k)) (p ∙ sym q)
 
 module _ (ns : List Node) (d : AllDistinct ns) where
@@ -119,9 +121,9 @@ module _ (ns : List Node) (d : AllDistinct ns) where
       IsTrue (known (read (get_or (entries ns) i no_entry))) →
       read (get_or (entries ns) i no_entry) ≡ read (get_or (entries ns) j no_entry) → i ≡ j
   once read made sure exact i j k e =
-    let u = read (get_or (entries ns) j no_entry) in
-    let l : IsTrue (known u) = subst (λ x. IsTrue (known x)) e k in
-    same_place ns d i j (made u) (sure u ∙ l)
+      let u = read (get_or (entries ns) j no_entry) in
+      let l : IsTrue (known u) = subst (λ x. IsTrue (known x)) e k in
+      same_place ns d i j (made u) (sure u ∙ l)
       (exact (get_or (entries ns) i no_entry) k ∙ ap made e) (exact (get_or (entries ns) j no_entry) l)
 
   once_ty : (k l : TyKey NodeKey) → IsTrue (known ((table_meaning ns).ty k)) →
@@ -156,27 +158,31 @@ module _ (ns : List Node) (d : AllDistinct ns) where
   pub same_ty_law : (k l : TyKey NodeKey) → IsTrue (known ((table_meaning ns).ty k)) →
       IsTrue (known ((table_meaning ns).ty l)) →
       (IsTrue (eqb (k.0).0 (l.0).0) ↔ ((table_meaning ns).ty k ≡ (table_meaning ns).ty l))
-  same_ty_law k l h _ =
-    (λ e. ap (λ n. (table_meaning ns).ty (record { 0 = record { 0 = n } })) (eqb-true (k.0).0 (l.0).0 e),
-     λ e. eq-eqb _ _ (once_ty k l h e))
+  same_ty_law k l h _ = (
+    λ e. ap (λ n. (table_meaning ns).ty (record { 0 = record { 0 = n } })) (eqb-true (k.0).0 (l.0).0 e),
+    λ e. eq-eqb _ _ (once_ty k l h e),
+  )
 
   pub same_region_law : (k l : RegionKey NodeKey) → IsTrue (known ((table_meaning ns).region k)) →
       IsTrue (known ((table_meaning ns).region l)) →
       (IsTrue (eqb (k.0).0 (l.0).0) ↔ ((table_meaning ns).region k ≡ (table_meaning ns).region l))
-  same_region_law k l h _ =
-    (λ e. ap (λ n. (table_meaning ns).region (record { 0 = record { 0 = n } })) (eqb-true (k.0).0 (l.0).0 e),
-     λ e. eq-eqb _ _ (once_region k l h e))
+  same_region_law k l h _ = (
+    λ e. ap (λ n. (table_meaning ns).region (record { 0 = record { 0 = n } })) (eqb-true (k.0).0 (l.0).0 e),
+    λ e. eq-eqb _ _ (once_region k l h e),
+  )
 
   pub same_tys_law : (k l : TysKey NodeKey) → IsTrue (known ((table_meaning ns).tys k)) →
       IsTrue (known ((table_meaning ns).tys l)) →
       (IsTrue (eqb (k.0).0 (l.0).0) ↔ ((table_meaning ns).tys k ≡ (table_meaning ns).tys l))
-  same_tys_law k l h _ =
-    (λ e. ap (λ n. (table_meaning ns).tys (record { 0 = record { 0 = n } })) (eqb-true (k.0).0 (l.0).0 e),
-     λ e. eq-eqb _ _ (once_tys k l h e))
+  same_tys_law k l h _ = (
+    λ e. ap (λ n. (table_meaning ns).tys (record { 0 = record { 0 = n } })) (eqb-true (k.0).0 (l.0).0 e),
+    λ e. eq-eqb _ _ (once_tys k l h e),
+  )
 
   pub same_param_env_law : (k l : ParamEnvKey NodeKey) → IsTrue (known ((table_meaning ns).param_env k)) →
       IsTrue (known ((table_meaning ns).param_env l)) →
       (IsTrue (eqb (k.0).0 (l.0).0) ↔ ((table_meaning ns).param_env k ≡ (table_meaning ns).param_env l))
-  same_param_env_law k l h _ =
-    (λ e. ap (λ n. (table_meaning ns).param_env (record { 0 = record { 0 = n } })) (eqb-true (k.0).0 (l.0).0 e),
-     λ e. eq-eqb _ _ (once_environment k l h e))
+  same_param_env_law k l h _ = (
+    λ e. ap (λ n. (table_meaning ns).param_env (record { 0 = record { 0 = n } })) (eqb-true (k.0).0 (l.0).0 e),
+    λ e. eq-eqb _ _ (once_environment k l h e),
+  )

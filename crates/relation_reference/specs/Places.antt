@@ -9,15 +9,16 @@ use Rattle.relation_reference.specs.Nodes.{Entry, no_entry, ty_entry, region_ent
 pub length_entries : (es : List Entry) (ns : List Node) → length (entries_from es ns) ≡ length es + length ns
 length_entries es [] = omega arith
 length_entries es (n ∷ ns) =
-  let h = length_entries (es ++ entry_of (meaning_of es) n ∷ []) ns in
-  let g = length-append es (entry_of (meaning_of es) n ∷ []) in
-  omega (arith, h, g)
+    let h = length_entries (es ++ entry_of (meaning_of es) n ∷ []) ns in
+    let g = length-append es (entry_of (meaning_of es) n ∷ []) in
+    omega (arith, h, g)
 
 -- What is known stands in the table.
 pub known_in : (ns : List Node) (i : ℕ) → IsTrue (known_entry (get_or (entries ns) i no_entry)) → i < length ns
 known_in ns i k = elim (cases_lt i (length (entries ns))) [
-    inl h ↦ let l = length_entries [] ns in omega (arith, l)
-  | inr h ↦ absurd (false≢true (subst (λ e. IsTrue (known_entry e)) (get_or_past (entries ns) i no_entry h) k)) ]
+  | inl h ↦ let l = length_entries [] ns in omega (arith, l)
+  | inr h ↦ absurd (false≢true (subst (λ e. IsTrue (known_entry e)) (get_or_past (entries ns) i no_entry h) k))
+]
 
 -- An entry that reads as known, at a sort, is one of that sort.
 pub of_ty : (e : Entry) → IsTrue (known (as_ty e)) → e ≡ ty_entry (as_ty e)

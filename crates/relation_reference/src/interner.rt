@@ -8,11 +8,10 @@ mod node;
 
 pub use keys::{ItemId, NoSpan, NodeKey, SymbolId};
 pub use node::Node;
-
 use node::{copied, place};
 use relation_terms::terms::{
-    Dup, Interner, Keys, OutOfMemory, ParamEnv, ParamEnvKey, Region, RegionForm, RegionKey, Span, Ty,
-    TyForm, TyKey, Tys, TysKey,
+    Dup, Interner, Keys, OutOfMemory, ParamEnv, ParamEnvKey, Region, RegionForm, RegionKey, Span,
+    Ty, TyForm, TyKey, Tys, TysKey,
 };
 use std::alloc::Global;
 
@@ -57,8 +56,11 @@ impl RefInterner {
 
 impl Keys for RefInterner {
     type Key = NodeKey;
+
     type Id = ItemId;
+
     type Name = SymbolId;
+
     type Span = NoSpan;
 }
 
@@ -141,13 +143,7 @@ impl Interner for RefInterner {
         Ok(TysKey(number))
     }
 
-    fn empty_param_env(&mut self) -> Result<ParamEnv<Self>, OutOfMemory>
-        ensures grown { Extends (⟦<RefInterner as Interner>⟧.meaning self.old) (⟦<RefInterner as Interner>⟧.meaning self.new) }
-        ensures sure { IfOk result (λ k. IsTrue (known ((⟦<RefInterner as Interner>⟧.meaning self.new).param_env k))) }
-        ensures made { IfOk result (λ k. (⟦<RefInterner as Interner>⟧.meaning self.new).param_env k ≡ node environment nil) }
-        ensures refused { OnErr result (⟦<RefInterner as Interner>⟧.meaning self.new ≡ ⟦<RefInterner as Interner>⟧.meaning self.old) }
-        ensures there { (k : ParamEnvKey NodeKey) → (⟦<RefInterner as Interner>⟧.meaning self.old).param_env k ≡ node environment nil → IsOk result × (⟦<RefInterner as Interner>⟧.meaning self.new ≡ ⟦<RefInterner as Interner>⟧.meaning self.old) }
-    {
+    fn empty_param_env(&mut self) -> Result<ParamEnv<Self>, OutOfMemory> {
         let number = self.add(Node::ParamEnv)?;
         Ok(ParamEnvKey(number))
     }
@@ -169,4 +165,77 @@ impl Interner for RefInterner {
     ghost are_tys = { λ a. are_tys_law a.nodes.items };
 
     ghost is_param_env = { λ a. is_param_env_law a.nodes.items };
+}
+
+#[cfg(test)]
+mod tests {
+    use super::*;
+    use relation_terms::terms::{
+        EarlyParamRegion, InferTy, IntTy, Mutability, RegionKind, RegionVid, TyKind, TyVid, UintTy,
+    };
+    use std::test::Fail;
+
+    fn slice_reads_back<I: Interner>(cx: &mut I) -> Result<bool, OutOfMemory> {
+        let boolean = cx.mk_ty(TyKind::Bool)?;
+        let read = cx.ty_kind(&boolean) == TyKind::Bool;
+        let slice = cx.mk_ty(TyKind::Slice(boolean.dup()))?;
+        Ok(read && cx.ty_kind(&slice) == TyKind::Slice(boolean))
+    }
+
+    fn tuple_reads_back<I: Interner>(cx: &mut I) -> Result<bool, OutOfMemory> {
+        let int = cx.mk_ty(TyKind::Int(IntTy::I32))?;
+        let mut members = Vec::new(cx.alloc());
+        members.push(int.dup())?;
+        let list = cx.mk_type_list(&members)?;
+        let read = cx.tys(&list).len() == 1 && cx.tys(&list)[0] == int;
+        let tuple = cx.mk_ty(TyKind::Tuple(list.dup()))?;
+        Ok(read && cx.ty_kind(&tuple) == TyKind::Tuple(list))
+    }
+
+    #[tactic(auto, using(relation_terms::proofs::Stays::knows_ty))]
+    fn reference_reads_back<I: Interner>(cx: &mut I, name: I::Name) -> Result<bool, OutOfMemory> {
+        let pointee = cx.mk_ty(TyKind::Infer(InferTy::TyVar(TyVid(3))))?;
+        let parameter = EarlyParamRegion { index: 1, name };
+        let region = cx.mk_region(RegionKind::ReEarlyParam(parameter.dup()))?;
+        let read = cx.region_kind(&region) == RegionKind::ReEarlyParam(parameter);
+        let kind = TyKind::Ref(region, pointee, Mutability::Mut);
+        let reference = cx.mk_ty(kind.dup())?;
+        Ok(read && cx.ty_kind(&reference) == kind)
+    }
+
+    fn one_key_each<I: Interner>(cx: &mut I) -> Result<bool, OutOfMemory> {
+        let first = cx.mk_ty(TyKind::Uint(UintTy::U8))?;
+        let again = cx.mk_ty(TyKind::Uint(UintTy::U8))?;
+        let other = cx.mk_ty(TyKind::Char)?;
+        let members = Vec::new(cx.alloc());
+        let none = cx.mk_type_list(&members)?;
+        let none_again = cx.mk_type_list(&members)?;
+        let region = cx.mk_region(RegionKind::ReStatic)?;
+        let region_again = cx.mk_region(RegionKind::ReStatic)?;
+        let variable = cx.mk_region(RegionKind::ReVar(RegionVid(0)))?;
+        let environment = cx.empty_param_env()?;
+        let environment_again = cx.empty_param_env()?;
+        let same = first == again && none == none_again && region == region_again;
+        Ok(same && environment == environment_again && first != other && region != variable)
+    }
+
+    #[test]
+    fn reads_back_what_it_made(rt: HostRuntime) -> Result<(), Fail> {
+        let mut cx = RefInterner::new(rt.alloc());
+        assert!(rt; slice_reads_back(&mut cx)?);
+        assert!(rt; tuple_reads_back(&mut cx)?);
+        assert!(rt; reference_reads_back(&mut cx, SymbolId(7))?);
+        assert!(rt; cx.dummy_span() == NoSpan);
+        Ok(())
+    }
+
+    #[test]
+    fn gives_one_key_to_what_is_made_twice(rt: HostRuntime) -> Result<(), Fail> {
+        let mut cx = RefInterner::new(rt.alloc());
+        assert!(rt; one_key_each(&mut cx)?);
+        let nodes = cx.nodes.len();
+        assert!(rt; one_key_each(&mut cx)?);
+        assert!(rt; cx.nodes.len() == nodes);
+        Ok(())
+    }
 }

@@ -40,11 +40,9 @@ fn same(left: &Node, right: &Node) -> bool
 
 // Where a node of this one's form stands among the nodes.
 pub fn place(nodes: &[Node], node: &Node) -> Option<usize>
-    ensures {
-        MatchOption result
-            ((k : ℕ) (d : Node) → k < length nodes.now → form_of (slice_index_or nodes.now k d) ≢ form_of node.now)
-            (λ i. (i < length nodes.now) × ((d : Node) → form_of (slice_index_or nodes.now i d) ≡ form_of node.now))
-    }
+    ensures { MatchOption result
+        ((k : ℕ) (d : Node) → k < length nodes.now → form_of (slice_index_or nodes.now k d) ≢ form_of node.now)
+        (λ i. (i < length nodes.now) × ((d : Node) → form_of (slice_index_or nodes.now i d) ≡ form_of node.now)) }
 {
     for (index, other) in nodes.iter().enumerate() {
         if same(other, node) {

@@ -18,34 +18,34 @@ one_at xs ns n i e u = subst (λ ys. (i < length ys) × ((d : Node) → form_of 
 
 pub invariant_of-self : goal.invariant_of-self
 invariant_of-self c =
-  let ns = c.args.self.now.nodes.items in
-  let u = none_at c.deref.result.now ns c.args.node c.deref.ensures.value c.in_default.ensures in
-  record {
-    known_all =
-      subst AllKnown (sym c.push.ensures.items) (known_if ns c.args.node (is_ok c.push.result) c.args.self.now.known_all c.requires);
-    distinct =
-      subst AllDistinct (sym c.push.ensures.items) (distinct_if ns c.args.node (is_ok c.push.result) c.args.self.now.distinct c.requires u);
-  }
+    let ns = c.args.self.now.nodes.items in
+    let u = none_at c.deref.result.now ns c.args.node c.deref.ensures.value c.in_default.ensures in
+    record {
+      known_all =
+          subst AllKnown (sym c.push.ensures.items) (known_if ns c.args.node (is_ok c.push.result) c.args.self.now.known_all c.requires);
+      distinct =
+          subst AllDistinct (sym c.push.ensures.items) (distinct_if ns c.args.node (is_ok c.push.result) c.args.self.now.distinct c.requires u);
+    }
 
 pub returns-in-Some-clause-number : goal.returns-in-Some-clause-number
 returns-in-Some-clause-number c =
-  let ns = c.args.self.now.nodes.items in
-  let u = one_at c.deref.result.now ns c.args.node c.in-Some.number c.deref.ensures.value c.in-Some.ensures in
-  found ns c.args.node c.args.self.now.known_all c.in-Some.number u.0 u.1
+    let ns = c.args.self.now.nodes.items in
+    let u = one_at c.deref.result.now ns c.args.node c.in-Some.number c.deref.ensures.value c.in-Some.ensures in
+    found ns c.args.node c.args.self.now.known_all c.in-Some.number u.0 u.1
 
 pub returns-clause-number : goal.returns-clause-number
 returns-clause-number c =
-  new_at c.args.self.now.nodes.items c.args.node c.push.new.self.items c.len-number.result c.in_ok-push.ensures.items
+    new_at c.args.self.now.nodes.items c.args.node c.push.new.self.items c.len-number.result c.in_ok-push.ensures.items
     (c.len-number.ensures ∙ sym c.deref.ensures.len ∙ ap length c.deref.ensures.value)
 
 pub returns-clause-there : goal.returns-clause-there
 returns-clause-there c =
-  let ns = c.args.self.now.nodes.items in
-  let u = none_at c.deref.result.now ns c.args.node c.deref.ensures.value c.in_default.ensures in
-  λ k e. absurd (fresh ns c.args.node c.args.self.now.distinct c.requires u k e)
+    let ns = c.args.self.now.nodes.items in
+    let u = none_at c.deref.result.now ns c.args.node c.deref.ensures.value c.in_default.ensures in
+    λ k e. absurd (fresh ns c.args.node c.args.self.now.distinct c.requires u k e)
 
 pub returns-in_err-push-clause-unrefused : goal.returns-in_err-push-clause-unrefused
 returns-in_err-push-clause-unrefused c =
-  let ns = c.args.self.now.nodes.items in
-  let u = none_at c.deref.result.now ns c.args.node c.deref.ensures.value c.in_default.ensures in
-  λ k e. absurd (fresh ns c.args.node c.args.self.now.distinct c.requires u k e)
+    let ns = c.args.self.now.nodes.items in
+    let u = none_at c.deref.result.now ns c.args.node c.deref.ensures.value c.in_default.ensures in
+    λ k e. absurd (fresh ns c.args.node c.args.self.now.distinct c.requires u k e)

@@ -13,17 +13,17 @@ returns-clause-grown c = grows c.args.self.now.nodes.items (Region c.args.kind) 
 
 pub returns-clause-made : goal.returns-clause-made
 returns-clause-made c =
-  region_of c.add.new.self.nodes.items (region_entry (region_tree (table_meaning c.args.self.now.nodes.items) c.args.kind)) (record { 0 = c.in_ok-number.number }) c.in_ok-number.ensures.number
+    region_of c.add.new.self.nodes.items (region_entry (region_tree (table_meaning c.args.self.now.nodes.items) c.args.kind)) (record { 0 = c.in_ok-number.number }) c.in_ok-number.ensures.number
 
 pub returns-clause-sure : goal.returns-clause-sure
 returns-clause-sure c = subst (λ t. IsTrue (known t)) (sym (returns-clause-made c)) (region_known (table_meaning c.args.self.now.nodes.items) c.args.kind)
 
 pub returns-clause-there : goal.returns-clause-there
 returns-clause-there c = λ k e.
-  let at = region_stands c.args.self.now.nodes.items (region_tree (table_meaning c.args.self.now.nodes.items) c.args.kind) k e (region_known (table_meaning c.args.self.now.nodes.items) c.args.kind) in
-  (refl, ap table_meaning (c.in_ok-number.ensures.there (k.0).0 at))
+    let at = region_stands c.args.self.now.nodes.items (region_tree (table_meaning c.args.self.now.nodes.items) c.args.kind) k e (region_known (table_meaning c.args.self.now.nodes.items) c.args.kind) in
+    (refl, ap table_meaning (c.in_ok-number.ensures.there (k.0).0 at))
 
 pub returns-in_err-number-clause-there : goal.returns-in_err-number-clause-there
 returns-in_err-number-clause-there c = λ k e.
-  let at = region_stands c.args.self.now.nodes.items (region_tree (table_meaning c.args.self.now.nodes.items) c.args.kind) k e (region_known (table_meaning c.args.self.now.nodes.items) c.args.kind) in
-  absurd (false≢true (c.in_err-number.ensures.unrefused (k.0).0 at))
+    let at = region_stands c.args.self.now.nodes.items (region_tree (table_meaning c.args.self.now.nodes.items) c.args.kind) k e (region_known (table_meaning c.args.self.now.nodes.items) c.args.kind) in
+    absurd (false≢true (c.in_err-number.ensures.unrefused (k.0).0 at))
