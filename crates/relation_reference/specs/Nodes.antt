@@ -90,3 +90,7 @@ AllKnown ns = (i : ℕ) → i < length ns → IsTrue (known_entry (slice_index_o
 abbrev pub AllDistinct : List Node → Type 0
 AllDistinct ns = (i j : ℕ) → i < length ns → j < length ns →
     slice_index_or (entries ns) i no_entry ≡ slice_index_or (entries ns) j no_entry → i ≡ j
+
+-- The entry stands at a place of the table.
+abbrev pub StandsAt : List Node → ℕ → Entry → Type 0
+StandsAt ns i e = slice_index_or (entries ns) i no_entry ≡ e
