@@ -13,7 +13,7 @@ use Rattle.type_relations.specs.StoreLaws.{EquatingStaysSound, EquatingIsExact, 
 use Rattle.type_relations.proofs.Trees.{Leaves_map, Leaves-replace, apply-apply}
 use Rattle.type_relations.proofs.Values.{same_value, scope_made}
 use Rattle.type_relations.proofs.Resolved.{resolved_same, resolved_meets, resolved_value, resolved_twice, HasTerm, is_free, is_bound, has_term, resolve_free, resolve_bound}
-use Rattle.type_relations.proofs.Standing.{stands_apply, within_apply, term_context, term_within, itself_stands, later_constraint, later_term}
+use Rattle.type_relations.proofs.Standing.{stands_apply, within_apply, term_context, term_within, itself_stands, later_constraint, later_term, term_scope, scope_namable}
 use Rattle.type_relations.proofs.Growing.{same_terms, old_or_new, made_sound, universes_stand, constraint_sound, constraint_is_later, constraint_holds, constraint_keeps}
 use Rattle.type_relations.proofs.Written.{is_later, equal, keeps, sound_after}
 use Rattle.type_relations.proofs.Equating.{equating_lowers, equated_sound, equated_later, equated_value, equated_keeps, bound_sound}
@@ -88,7 +88,7 @@ number_no_region k t h p = h
 
 atom_in : (st : Store) (x : Atom) → IsValueAtom x → IsTermIn st (leaf (atom x))
 unfolding IsTermIn InContext
-atom_in st x h = (h, tt)
+atom_in st x h = (h, tt, tt)
 
 pub numbers_stay_sound : NumbersStaySound
 numbers_stay_sound before after k n t q g = sound_after before after k n (bound_to t) t q.writes refl g absent (number_no_region k t q.fits) (number_stands k t q.fits)
@@ -189,14 +189,14 @@ module _ (before after : Store) (b : ChangesNothing before after) (g : IsSound b
   changed_sound : IsSound after
   changed_sound = record {
     settles = λ j m. subst (Leaves (IsFree after)) (resolved_stand j m) (Leaves_map (IsFree before) (IsFree after) free_stands (resolved before j m) (g.settles j m));
-    bindings = λ j m t e. let p = g.bindings j m t (terms_stand j m ∙ e) in record { made = made_stand j m p.made; is_in = later_term before after made_stand t p.is_in; stands = p.stands };
+    bindings = λ j m t e. let p = g.bindings j m t (terms_stand j m ∙ e) in record { made = made_stand j m p.made; is_in = later_term before after made_stand b.universe_stands t p.is_in; stands = p.stands };
     in_scope = λ j m p. subst₂ (λ v r. Leaves (IsInScope after v) r) (universe_stands j m) (resolved_stand j m)
         (Leaves_map (IsInScope before (universe_of before j m)) _ (scope_stands (universe_of before j m)) (resolved before j m) (g.in_scope j m (subst (λ es. m < length es) (b.same_entries j) p)));
     falls = λ j m i e. g.falls j m i (ap (λ es. get_or es m unbound) (sym (b.same_entries j)) ∙ e);
     regions_unbound = λ m. ap (λ es. get_or es m unbound) (b.same_entries region_var) ∙ g.regions_unbound m;
     one_universe_each = λ j. ap length (b.same_universes j) ∙ g.one_universe_each j ∙ ap length (sym (b.same_entries j));
     below_current = λ j m. subst (λ z. z ≤ after.universe) (universe_stands j m) (le_trans (g.below_current j m) b.universe_stands);
-    constraints_in = subst (All (ConstraintIn after)) (sym b.same_constraints) (λ i d p. later_constraint before after made_stand _ (g.constraints_in i d p));
+    constraints_in = subst (All (ConstraintIn after)) (sym b.same_constraints) (λ i d p. later_constraint before after made_stand b.universe_stands _ (g.constraints_in i d p));
   }
 
 pub nothing_is_seen : NothingIsSeen
@@ -252,7 +252,8 @@ module _ (st : Store) (g : IsSound st) where
 
   resolved_in : (t : Tree) → IsTermIn st t → IsTermIn st (apply (resolved st) t)
   unfolding IsTermIn InContext
-  resolved_in t h = (Leaves-replace (IsMadeLeaf st) (assigned (resolved st)) t (Leaves_map (IsMadeLeaf st) _ in_leaf t h.0), within_apply (resolved st) 0 t resolved_within h.1)
+  resolved_in t h = (Leaves-replace (IsMadeLeaf st) (assigned (resolved st)) t (Leaves_map (IsMadeLeaf st) _ in_leaf t h.0), within_apply (resolved st) 0 t resolved_within h.1,
+      Leaves_map (IsInScope st st.universe) (IsNamable st.universe) (scope_namable st st.universe) (apply (resolved st) t) (term_scope st g t h))
 
 pub resolved_resolves : ResolvedResolves
 resolved_resolves st t g = record {
