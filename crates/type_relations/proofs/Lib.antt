@@ -18,3 +18,4 @@ pub mod Empty
 pub mod StoreCalls
 pub mod Assigning
 pub mod RegionTerms
+pub mod Deciding

@@ -9,6 +9,7 @@ use Rattle.type_relations.specs.Relation.{Items, Interpretation, parts, second_o
 use Rattle.type_relations.specs.FirstOrder.{IsFirstOrderAtom}
 use Rattle.type_relations.specs.Stores.{IsNamable}
 use Rattle.type_relations.specs.RegionTerms.{IsRegionTermHead, IsRegionTermLeaf, BindsRegions, IsRegionTerm, Agree, RelatedTermsAgree, RelatedIffAgree}
+use Rattle.type_relations.specs.Decided.{plain_leaf}
 use Rattle.type_relations.proofs.Erased.{erase_region, erase_plain, no_error_atom}
 use Rattle.type_relations.proofs.Related.{no_region_head}
 use Rattle.type_relations.proofs.SmallTerms.{term_region}
@@ -338,11 +339,6 @@ erase_sort (placeholder (bound_kind k m) u n) = kinded_sort k _ refl
 erase_sort (atom x) = erase_atom_sort x
 erase_sort unknown = refl
 
--- A leaf without a parameter's name.
-abbrev plain_leaf : Leaf → Leaf
-plain_leaf (atom x) = atom (plain_atom x)
-plain_leaf l = l
-
 kinded_plain : (k : Kind) (l : Leaf) → (kind_sort k ≡ region_sort → ⊥) → erase_kinded k l ≡ l
 kinded_plain region_kind l n = absurd (n refl)
 kinded_plain k l n = refl
@@ -361,7 +357,7 @@ leaf_plain (placeholder (bound_kind k m) u i) n = kinded_plain k _ n
 leaf_plain (atom x) n = ap atom (atom_plain x n)
 leaf_plain unknown n = refl
 
-plain_related : (c : Items) (w : Interpretation) (e : Tree) (v : Variance) (l m : Leaf) → plain_leaf l ≡ plain_leaf m → Rel c w e (at v) (leaf l) (leaf m)
+pub plain_related : (c : Items) (w : Interpretation) (e : Tree) (v : Variance) (l m : Leaf) → plain_leaf l ≡ plain_leaf m → Rel c w e (at v) (leaf l) (leaf m)
 plain_related c w e v (atom x) (atom y) p = atoms (atom_path p)
   where
     atom_path : {y z : Atom} → atom y ≡ atom z → y ≡ z

@@ -11,3 +11,4 @@ pub mod ErasureLaws
 pub mod StoreLaws
 pub mod RegionTerms
 pub mod Measures
+pub mod Decided
