@@ -100,9 +100,8 @@ fn sort_of_leaf(leaf: SmallLeaf) -> SmallSort
         SmallLeaf::Static | SmallLeaf::EarlyRegion(_, _) | SmallLeaf::RegionPlaceholder(_, _) => {
             SmallSort::Region
         }
-        SmallLeaf::ConstError
-        | SmallLeaf::ConstParam(_, _)
-        | SmallLeaf::ConstPlaceholder(_, _) => SmallSort::Const,
+        SmallLeaf::ConstError | SmallLeaf::ConstParam(_, _) | SmallLeaf::ConstPlaceholder(_, _) =>
+            SmallSort::Const,
         SmallLeaf::ValueLeaf(_, _) => SmallSort::Value,
         SmallLeaf::NotNull => SmallSort::Pattern,
         _ => SmallSort::Type,
@@ -167,7 +166,10 @@ fn leads(pairs: &[(SmallLeaf, SmallLeaf)], a: SmallLeaf, b: SmallLeaf) -> bool
     match pairs.split_first() {
         None => same_leaf(a, b),
         Some((pair, rest)) => {
-            either(leads(rest, a, b), both(leads(rest, a, pair.0), leads(rest, pair.1, b)))
+            either(
+                leads(rest, a, b),
+                both(leads(rest, a, pair.0), leads(rest, pair.1, b)),
+            )
         }
     }
 }
@@ -216,7 +218,10 @@ fn leaves_related(
 fn error_related(error: SmallLeaf, head: SmallHead) -> bool
     ensures { result ≡ true ↔ IsError (leaf (leaf_of error)) × (leaf_sort (leaf_of error) ≡ head_sort (head_of head)) }
 {
-    both(is_error(error), same_sort(sort_of_leaf(error), sort_of_head(head)))
+    both(
+        is_error(error),
+        same_sort(sort_of_leaf(error), sort_of_head(head)),
+    )
 }
 
 // The variance of the part at a place of a form that stands at a variance.
@@ -325,9 +330,351 @@ fn parts_related(
             let u = part_variance(declared, head, i, v);
             let first = related(all, pairs, declared, u, x, y);
             let i = next_place(declared, i);
-            both(first, parts_related(all, pairs, declared, head, i, v, xs, ys))
+            both(
+                first,
+                parts_related(all, pairs, declared, head, i, v, xs, ys),
+            )
         }
         (SmallParts::End, SmallParts::Next(_, _)) => false,
         (SmallParts::Next(_, _), SmallParts::End) => false,
+    }
+}
+
+#[cfg(test)]
+mod tests {
+    use super::*;
+    use relation_terms::terms::OutOfMemory;
+    use std::alloc::Global;
+    use std::test::Fail;
+
+    type Made = Result<SmallTerm, OutOfMemory>;
+
+    // The regions 'a, 'b and 'c, of which 'a outlives 'b.
+    const A: SmallLeaf = SmallLeaf::EarlyRegion(0, 0);
+
+    const B: SmallLeaf = SmallLeaf::EarlyRegion(1, 0);
+
+    const C: SmallLeaf = SmallLeaf::EarlyRegion(2, 0);
+
+    const U8: SmallLeaf = SmallLeaf::Uint(UintTy::U8);
+
+    fn none(alloc: Global, head: SmallHead) -> Made {
+        Ok(SmallTerm::Form(head, Box::new(alloc, SmallParts::End)?))
+    }
+
+    fn one(alloc: Global, head: SmallHead, part: SmallTerm) -> Made {
+        let end = Box::new(alloc, SmallParts::End)?;
+        let part = Box::new(alloc, part)?;
+        Ok(SmallTerm::Form(head, Box::new(alloc, SmallParts::Next(part, end))?))
+    }
+
+    fn two(alloc: Global, head: SmallHead, first: SmallTerm, second: SmallTerm) -> Made {
+        let end = Box::new(alloc, SmallParts::End)?;
+        let second = Box::new(alloc, second)?;
+        let rest = Box::new(alloc, SmallParts::Next(second, end))?;
+        let first = Box::new(alloc, first)?;
+        Ok(SmallTerm::Form(head, Box::new(alloc, SmallParts::Next(first, rest))?))
+    }
+
+    // A reference to `u8`, shared or not.
+    fn reference(alloc: Global, region: SmallLeaf, mutability: Mutability) -> Made {
+        two(
+            alloc,
+            SmallHead::Ref(mutability),
+            SmallTerm::Simple(region),
+            SmallTerm::Simple(U8),
+        )
+    }
+
+    fn shared(alloc: Global, region: SmallLeaf) -> Made {
+        reference(alloc, region, Mutability::Not)
+    }
+
+    // A constant of a type with a value tree without parts.
+    fn value(alloc: Global, ty: SmallLeaf, bits: u128) -> Made {
+        let ty = one(alloc, SmallHead::ValueType, SmallTerm::Simple(ty))?;
+        two(
+            alloc,
+            SmallHead::Value,
+            ty,
+            SmallTerm::Simple(SmallLeaf::ValueLeaf(bits, 1)),
+        )
+    }
+
+    // Whether the two are related at covariance, contravariance and invariance.
+    fn each(declared: &[Variance], a: &SmallTerm, b: &SmallTerm) -> (bool, bool, bool) {
+        let pairs = [(A, B)];
+        (
+            related(false, &pairs, declared, Variance::Covariant, a, b),
+            related(false, &pairs, declared, Variance::Contravariant, a, b),
+            related(false, &pairs, declared, Variance::Invariant, a, b),
+        )
+    }
+
+    fn leaves(a: SmallLeaf, b: SmallLeaf) -> (bool, bool, bool) {
+        each(&[], &SmallTerm::Simple(a), &SmallTerm::Simple(b))
+    }
+
+    const ALWAYS: (bool, bool, bool) = (true, true, true);
+
+    const NEVER: (bool, bool, bool) = (false, false, false);
+
+    const FORTH: (bool, bool, bool) = (true, false, false);
+
+    const BACK: (bool, bool, bool) = (false, true, false);
+
+    #[test]
+    fn terms_without_parts(rt: HostRuntime) {
+        for (a, b, want) in [
+            (SmallLeaf::Bool, SmallLeaf::Bool, ALWAYS),
+            (SmallLeaf::Bool, SmallLeaf::Char, NEVER),
+            (SmallLeaf::Str, SmallLeaf::Str, ALWAYS),
+            (SmallLeaf::Str, SmallLeaf::Never, NEVER),
+            (SmallLeaf::Int(IntTy::I8), SmallLeaf::Int(IntTy::I8), ALWAYS),
+            (SmallLeaf::Int(IntTy::I8), SmallLeaf::Int(IntTy::I16), NEVER),
+            (U8, U8, ALWAYS),
+            (U8, SmallLeaf::Int(IntTy::I8), NEVER),
+            (
+                SmallLeaf::Float(FloatTy::F32),
+                SmallLeaf::Float(FloatTy::F32),
+                ALWAYS,
+            ),
+            (
+                SmallLeaf::Float(FloatTy::F32),
+                SmallLeaf::Float(FloatTy::F64),
+                NEVER,
+            ),
+            (SmallLeaf::Foreign(1), SmallLeaf::Foreign(1), ALWAYS),
+            (SmallLeaf::Foreign(1), SmallLeaf::Foreign(2), NEVER),
+            (
+                SmallLeaf::TypeParam(0, 1),
+                SmallLeaf::TypeParam(0, 2),
+                ALWAYS,
+            ),
+            (
+                SmallLeaf::TypeParam(0, 1),
+                SmallLeaf::TypeParam(1, 1),
+                NEVER,
+            ),
+            (
+                SmallLeaf::ConstParam(0, 1),
+                SmallLeaf::ConstParam(0, 2),
+                ALWAYS,
+            ),
+            (
+                SmallLeaf::ConstParam(0, 1),
+                SmallLeaf::ConstParam(1, 1),
+                NEVER,
+            ),
+            (
+                SmallLeaf::TypePlaceholder(1, 0),
+                SmallLeaf::TypePlaceholder(1, 0),
+                ALWAYS,
+            ),
+            (
+                SmallLeaf::TypePlaceholder(1, 0),
+                SmallLeaf::TypePlaceholder(2, 0),
+                NEVER,
+            ),
+            (
+                SmallLeaf::ConstPlaceholder(1, 0),
+                SmallLeaf::ConstPlaceholder(1, 0),
+                ALWAYS,
+            ),
+            (
+                SmallLeaf::ConstPlaceholder(1, 0),
+                SmallLeaf::ConstPlaceholder(1, 1),
+                NEVER,
+            ),
+            (SmallLeaf::TypeError, U8, ALWAYS),
+            (U8, SmallLeaf::TypeError, ALWAYS),
+            (SmallLeaf::TypeError, A, NEVER),
+            (SmallLeaf::ConstError, SmallLeaf::ConstParam(0, 0), ALWAYS),
+            (SmallLeaf::ConstError, U8, NEVER),
+            (SmallLeaf::NotNull, SmallLeaf::NotNull, ALWAYS),
+        ] {
+            assert!(rt; leaves(a, b) == want);
+        }
+    }
+
+    #[test]
+    fn regions_by_what_outlives_what(rt: HostRuntime) {
+        for (a, b, want) in [
+            (A, A, ALWAYS),
+            (A, B, FORTH),
+            (B, A, BACK),
+            (A, C, NEVER),
+            (SmallLeaf::Static, SmallLeaf::Static, ALWAYS),
+            (SmallLeaf::Static, A, NEVER),
+            (
+                SmallLeaf::RegionPlaceholder(1, 0),
+                SmallLeaf::RegionPlaceholder(1, 0),
+                ALWAYS,
+            ),
+            (
+                SmallLeaf::RegionPlaceholder(1, 0),
+                SmallLeaf::RegionPlaceholder(1, 1),
+                NEVER,
+            ),
+        ] {
+            assert!(rt; leaves(a, b) == want);
+        }
+        let a = SmallTerm::Simple(A);
+        let c = SmallTerm::Simple(C);
+        assert!(rt; related(true, &[], &[], Variance::Invariant, &a, &c));
+        let through = [(A, B), (B, C)];
+        assert!(rt; related(false, &through, &[], Variance::Covariant, &a, &c));
+        assert!(rt; !related(false, &through, &[], Variance::Covariant, &c, &a));
+    }
+
+    #[test]
+    fn pointers_and_lists(rt: HostRuntime) -> Result<(), Fail> {
+        let alloc = rt.alloc();
+        assert!(rt; each(&[], &shared(alloc, A)?, &shared(alloc, B)?) == FORTH);
+        assert!(rt;
+            each(
+                &[],
+                &shared(alloc, A)?,
+                &reference(alloc, A, Mutability::Mut)?
+            ) == NEVER
+        );
+        let fixed = SmallHead::Ref(Mutability::Mut);
+        let x = two(alloc, fixed, SmallTerm::Simple(C), shared(alloc, A)?)?;
+        let y = two(alloc, fixed, SmallTerm::Simple(C), shared(alloc, B)?)?;
+        assert!(rt; each(&[], &x, &y) == NEVER);
+        assert!(rt; each(&[], &x, &x) == ALWAYS);
+        for (head, want) in [
+            (SmallHead::RawPtr(Mutability::Not), FORTH),
+            (SmallHead::RawPtr(Mutability::Mut), NEVER),
+            (SmallHead::Slice, FORTH),
+            (SmallHead::Tuple, FORTH),
+        ] {
+            let a = one(alloc, head, shared(alloc, A)?)?;
+            let b = one(alloc, head, shared(alloc, B)?)?;
+            assert!(rt; each(&[], &a, &b) == want);
+            assert!(rt; each(&[], &a, &a) == ALWAYS);
+        }
+        let pair = two(
+            alloc,
+            SmallHead::Tuple,
+            shared(alloc, A)?,
+            shared(alloc, A)?,
+        )?;
+        let turned = two(
+            alloc,
+            SmallHead::Tuple,
+            shared(alloc, B)?,
+            shared(alloc, A)?,
+        )?;
+        let short = one(alloc, SmallHead::Tuple, shared(alloc, A)?)?;
+        let unit = none(alloc, SmallHead::Tuple)?;
+        assert!(rt; each(&[], &pair, &turned) == FORTH);
+        assert!(rt; each(&[], &pair, &short) == NEVER);
+        assert!(rt; each(&[], &unit, &unit) == ALWAYS);
+        assert!(rt; each(&[], &unit, &SmallTerm::Simple(U8)) == NEVER);
+        assert!(rt; each(&[], &unit, &SmallTerm::Simple(SmallLeaf::TypeError)) == ALWAYS);
+        Ok(())
+    }
+
+    #[test]
+    fn declared_and_fixed_arguments(rt: HostRuntime) -> Result<(), Fail> {
+        let alloc = rt.alloc();
+        for (declared, want) in [
+            (Variance::Covariant, FORTH),
+            (Variance::Contravariant, BACK),
+            (Variance::Invariant, NEVER),
+            (Variance::Bivariant, (true, true, false)),
+        ] {
+            for head in [SmallHead::Adt(1), SmallHead::FnDef(1)] {
+                let a = one(alloc, head, shared(alloc, A)?)?;
+                let b = one(alloc, head, shared(alloc, B)?)?;
+                assert!(rt; each(&[declared], &a, &b) == want);
+                assert!(rt; each(&[declared], &a, &a) == ALWAYS);
+            }
+        }
+        let first = one(alloc, SmallHead::Adt(1), shared(alloc, A)?)?;
+        let second = one(alloc, SmallHead::Adt(2), shared(alloc, A)?)?;
+        assert!(rt; each(&[Variance::Covariant], &first, &second) == NEVER);
+        for head in [
+            SmallHead::Closure(1),
+            SmallHead::CoroutineClosure(1),
+            SmallHead::Coroutine(1),
+            SmallHead::CoroutineWitness(1),
+            SmallHead::Expression(1),
+        ] {
+            let a = one(alloc, head, shared(alloc, A)?)?;
+            let b = one(alloc, head, shared(alloc, B)?)?;
+            assert!(rt; each(&[Variance::Covariant], &a, &b) == NEVER);
+            assert!(rt; each(&[Variance::Covariant], &a, &a) == ALWAYS);
+        }
+        Ok(())
+    }
+
+    #[test]
+    fn constants_and_patterns(rt: HostRuntime) -> Result<(), Fail> {
+        let alloc = rt.alloc();
+        assert!(rt;
+            each(
+                &[],
+                &value(alloc, U8, 1)?,
+                &value(alloc, SmallLeaf::Bool, 1)?
+            ) == ALWAYS
+        );
+        assert!(rt; each(&[], &value(alloc, U8, 1)?, &value(alloc, U8, 2)?) == NEVER);
+        let branch = one(alloc, SmallHead::ValueBranch, value(alloc, U8, 1)?)?;
+        let like = one(
+            alloc,
+            SmallHead::ValueBranch,
+            value(alloc, SmallLeaf::Char, 1)?,
+        )?;
+        let unlike = one(alloc, SmallHead::ValueBranch, value(alloc, U8, 2)?)?;
+        assert!(rt; each(&[], &branch, &like) == ALWAYS);
+        assert!(rt; each(&[], &branch, &unlike) == NEVER);
+        let array = two(
+            alloc,
+            SmallHead::Array,
+            shared(alloc, A)?,
+            value(alloc, U8, 2)?,
+        )?;
+        let less = two(
+            alloc,
+            SmallHead::Array,
+            shared(alloc, B)?,
+            value(alloc, U8, 2)?,
+        )?;
+        let longer = two(
+            alloc,
+            SmallHead::Array,
+            shared(alloc, A)?,
+            value(alloc, U8, 3)?,
+        )?;
+        assert!(rt; each(&[], &array, &less) == FORTH);
+        assert!(rt; each(&[], &array, &longer) == NEVER);
+        let range = two(
+            alloc,
+            SmallHead::RangePattern,
+            value(alloc, U8, 1)?,
+            value(alloc, U8, 2)?,
+        )?;
+        let other = two(
+            alloc,
+            SmallHead::RangePattern,
+            value(alloc, U8, 1)?,
+            value(alloc, U8, 3)?,
+        )?;
+        assert!(rt; each(&[], &range, &range) == ALWAYS);
+        assert!(rt; each(&[], &range, &other) == NEVER);
+        let choice = one(
+            alloc,
+            SmallHead::OrPattern,
+            SmallTerm::Simple(SmallLeaf::NotNull),
+        )?;
+        assert!(rt; each(&[], &choice, &choice) == ALWAYS);
+        assert!(rt; each(&[], &choice, &SmallTerm::Simple(SmallLeaf::NotNull)) == NEVER);
+        let covers = two(alloc, SmallHead::PatternType, shared(alloc, A)?, range)?;
+        let under = two(alloc, SmallHead::PatternType, shared(alloc, B)?, other)?;
+        assert!(rt; each(&[], &covers, &covers) == ALWAYS);
+        assert!(rt; each(&[], &covers, &under) == NEVER);
+        Ok(())
     }
 }
