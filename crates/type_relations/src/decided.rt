@@ -349,6 +349,9 @@ mod tests {
 
     type Made = Result<SmallTerm, OutOfMemory>;
 
+    // The answers at covariance, contravariance and invariance.
+    type Each = Result<(bool, bool, bool), OutOfMemory>;
+
     // The regions 'a, 'b and 'c, of which 'a outlives 'b.
     const A: SmallLeaf = SmallLeaf::EarlyRegion(0, 0);
 
@@ -357,6 +360,10 @@ mod tests {
     const C: SmallLeaf = SmallLeaf::EarlyRegion(2, 0);
 
     const U8: SmallLeaf = SmallLeaf::Uint(UintTy::U8);
+
+    fn simple(leaf: SmallLeaf) -> Made {
+        Ok(SmallTerm::Simple(leaf))
+    }
 
     fn none(alloc: Global, head: SmallHead) -> Made {
         Ok(SmallTerm::Form(head, Box::new(alloc, SmallParts::End)?))
@@ -527,52 +534,98 @@ mod tests {
         assert!(rt; !related(false, &through, &[], Variance::Covariant, &c, &a));
     }
 
+    // Two forms with one part each, and with two.
+    fn ones(
+        alloc: Global,
+        declared: &[Variance],
+        heads: (SmallHead, SmallHead),
+        x: Made,
+        y: Made,
+    ) -> Each {
+        let a = one(alloc, heads.0, x?)?;
+        let b = one(alloc, heads.1, y?)?;
+        Ok(each(declared, &a, &b))
+    }
+
+    fn twos(alloc: Global, head: SmallHead, x: (Made, Made), y: (Made, Made)) -> Each {
+        let a = two(alloc, head, x.0?, x.1?)?;
+        let b = two(alloc, head, y.0?, y.1?)?;
+        Ok(each(&[], &a, &b))
+    }
+
+    fn pair(x: Made, y: Made) -> Each {
+        let a = x?;
+        let b = y?;
+        Ok(each(&[], &a, &b))
+    }
+
+    // Forms of one head over `&'a u8` and `&'b u8`.
+    fn varying(alloc: Global, declared: &[Variance], head: SmallHead) -> Each {
+        ones(
+            alloc,
+            declared,
+            (head, head),
+            shared(alloc, A),
+            shared(alloc, B),
+        )
+    }
+
+    fn equal(alloc: Global, declared: &[Variance], head: SmallHead) -> Each {
+        ones(
+            alloc,
+            declared,
+            (head, head),
+            shared(alloc, A),
+            shared(alloc, A),
+        )
+    }
+
     #[test]
-    fn pointers_and_lists(rt: HostRuntime) -> Result<(), Fail> {
+    fn pointers_and_slices(rt: HostRuntime) -> Result<(), Fail> {
         let alloc = rt.alloc();
-        assert!(rt; each(&[], &shared(alloc, A)?, &shared(alloc, B)?) == FORTH);
-        assert!(rt;
-            each(
-                &[],
-                &shared(alloc, A)?,
-                &reference(alloc, A, Mutability::Mut)?
-            ) == NEVER
-        );
-        let fixed = SmallHead::Ref(Mutability::Mut);
-        let x = two(alloc, fixed, SmallTerm::Simple(C), shared(alloc, A)?)?;
-        let y = two(alloc, fixed, SmallTerm::Simple(C), shared(alloc, B)?)?;
-        assert!(rt; each(&[], &x, &y) == NEVER);
-        assert!(rt; each(&[], &x, &x) == ALWAYS);
         for (head, want) in [
             (SmallHead::RawPtr(Mutability::Not), FORTH),
             (SmallHead::RawPtr(Mutability::Mut), NEVER),
             (SmallHead::Slice, FORTH),
             (SmallHead::Tuple, FORTH),
         ] {
-            let a = one(alloc, head, shared(alloc, A)?)?;
-            let b = one(alloc, head, shared(alloc, B)?)?;
-            assert!(rt; each(&[], &a, &b) == want);
-            assert!(rt; each(&[], &a, &a) == ALWAYS);
+            assert!(rt; varying(alloc, &[], head)? == want);
+            assert!(rt; equal(alloc, &[], head)? == ALWAYS);
         }
-        let pair = two(
-            alloc,
-            SmallHead::Tuple,
-            shared(alloc, A)?,
-            shared(alloc, A)?,
-        )?;
-        let turned = two(
-            alloc,
-            SmallHead::Tuple,
-            shared(alloc, B)?,
-            shared(alloc, A)?,
-        )?;
-        let short = one(alloc, SmallHead::Tuple, shared(alloc, A)?)?;
-        let unit = none(alloc, SmallHead::Tuple)?;
-        assert!(rt; each(&[], &pair, &turned) == FORTH);
-        assert!(rt; each(&[], &pair, &short) == NEVER);
-        assert!(rt; each(&[], &unit, &unit) == ALWAYS);
-        assert!(rt; each(&[], &unit, &SmallTerm::Simple(U8)) == NEVER);
-        assert!(rt; each(&[], &unit, &SmallTerm::Simple(SmallLeaf::TypeError)) == ALWAYS);
+        let pointers = (
+            SmallHead::RawPtr(Mutability::Not),
+            SmallHead::RawPtr(Mutability::Mut),
+        );
+        assert!(rt; ones(alloc, &[], pointers, shared(alloc, A), shared(alloc, A))? == NEVER);
+        Ok(())
+    }
+
+    #[test]
+    fn references(rt: HostRuntime) -> Result<(), Fail> {
+        let alloc = rt.alloc();
+        assert!(rt; pair(shared(alloc, A), shared(alloc, B))? == FORTH);
+        assert!(rt; pair(shared(alloc, B), shared(alloc, A))? == BACK);
+        assert!(rt; pair(shared(alloc, A), reference(alloc, A, Mutability::Mut))? == NEVER);
+        let fixed = SmallHead::Ref(Mutability::Mut);
+        let long = (simple(C), shared(alloc, A));
+        assert!(rt; twos(alloc, fixed, long, (simple(C), shared(alloc, B)))? == NEVER);
+        let long = (simple(C), shared(alloc, A));
+        assert!(rt; twos(alloc, fixed, long, (simple(C), shared(alloc, A)))? == ALWAYS);
+        Ok(())
+    }
+
+    #[test]
+    fn tuples(rt: HostRuntime) -> Result<(), Fail> {
+        let alloc = rt.alloc();
+        let tuple = SmallHead::Tuple;
+        let longer = (shared(alloc, A), shared(alloc, A));
+        assert!(rt; twos(alloc, tuple, longer, (shared(alloc, B), shared(alloc, A)))? == FORTH);
+        let short = one(alloc, tuple, shared(alloc, A)?);
+        let long = two(alloc, tuple, shared(alloc, A)?, shared(alloc, A)?);
+        assert!(rt; pair(short, long)? == NEVER);
+        assert!(rt; pair(none(alloc, tuple), none(alloc, tuple))? == ALWAYS);
+        assert!(rt; pair(none(alloc, tuple), simple(U8))? == NEVER);
+        assert!(rt; pair(none(alloc, tuple), simple(SmallLeaf::TypeError))? == ALWAYS);
         Ok(())
     }
 
@@ -586,15 +639,10 @@ mod tests {
             (Variance::Bivariant, (true, true, false)),
         ] {
             for head in [SmallHead::Adt(1), SmallHead::FnDef(1)] {
-                let a = one(alloc, head, shared(alloc, A)?)?;
-                let b = one(alloc, head, shared(alloc, B)?)?;
-                assert!(rt; each(&[declared], &a, &b) == want);
-                assert!(rt; each(&[declared], &a, &a) == ALWAYS);
+                assert!(rt; varying(alloc, &[declared], head)? == want);
+                assert!(rt; equal(alloc, &[declared], head)? == ALWAYS);
             }
         }
-        let first = one(alloc, SmallHead::Adt(1), shared(alloc, A)?)?;
-        let second = one(alloc, SmallHead::Adt(2), shared(alloc, A)?)?;
-        assert!(rt; each(&[Variance::Covariant], &first, &second) == NEVER);
         for head in [
             SmallHead::Closure(1),
             SmallHead::CoroutineClosure(1),
@@ -602,79 +650,72 @@ mod tests {
             SmallHead::CoroutineWitness(1),
             SmallHead::Expression(1),
         ] {
-            let a = one(alloc, head, shared(alloc, A)?)?;
-            let b = one(alloc, head, shared(alloc, B)?)?;
-            assert!(rt; each(&[Variance::Covariant], &a, &b) == NEVER);
-            assert!(rt; each(&[Variance::Covariant], &a, &a) == ALWAYS);
+            assert!(rt; varying(alloc, &[Variance::Covariant], head)? == NEVER);
+            assert!(rt; equal(alloc, &[Variance::Covariant], head)? == ALWAYS);
         }
+        let items = (SmallHead::Adt(1), SmallHead::Adt(2));
+        assert!(rt; ones(alloc, &[], items, shared(alloc, A), shared(alloc, A))? == NEVER);
         Ok(())
     }
 
     #[test]
-    fn constants_and_patterns(rt: HostRuntime) -> Result<(), Fail> {
+    fn values_and_arrays(rt: HostRuntime) -> Result<(), Fail> {
         let alloc = rt.alloc();
+        let array = SmallHead::Array;
+        assert!(rt; pair(value(alloc, U8, 1), value(alloc, SmallLeaf::Bool, 1))? == ALWAYS);
+        assert!(rt; pair(value(alloc, U8, 1), value(alloc, U8, 2))? == NEVER);
+        let branches = (SmallHead::ValueBranch, SmallHead::ValueBranch);
+        let one = value(alloc, U8, 1);
+        assert!(rt; ones(alloc, &[], branches, one, value(alloc, SmallLeaf::Char, 1))? == ALWAYS);
+        let one = value(alloc, U8, 1);
+        assert!(rt; ones(alloc, &[], branches, one, value(alloc, U8, 2))? == NEVER);
+        let long = (shared(alloc, A), value(alloc, U8, 2));
+        assert!(rt; twos(alloc, array, long, (shared(alloc, B), value(alloc, U8, 2)))? == FORTH);
+        let long = (shared(alloc, A), value(alloc, U8, 2));
+        assert!(rt; twos(alloc, array, long, (shared(alloc, A), value(alloc, U8, 3)))? == NEVER);
+        Ok(())
+    }
+
+    #[test]
+    fn patterns(rt: HostRuntime) -> Result<(), Fail> {
+        let alloc = rt.alloc();
+        let range = SmallHead::RangePattern;
+        let pattern = SmallHead::PatternType;
+        let from = (value(alloc, U8, 1), value(alloc, U8, 2));
         assert!(rt;
-            each(
-                &[],
-                &value(alloc, U8, 1)?,
-                &value(alloc, SmallLeaf::Bool, 1)?
-            ) == ALWAYS
+            twos(
+                alloc,
+                range,
+                from,
+                (value(alloc, U8, 1), value(alloc, U8, 2))
+            )? == ALWAYS
         );
-        assert!(rt; each(&[], &value(alloc, U8, 1)?, &value(alloc, U8, 2)?) == NEVER);
-        let branch = one(alloc, SmallHead::ValueBranch, value(alloc, U8, 1)?)?;
-        let like = one(
-            alloc,
-            SmallHead::ValueBranch,
-            value(alloc, SmallLeaf::Char, 1)?,
-        )?;
-        let unlike = one(alloc, SmallHead::ValueBranch, value(alloc, U8, 2)?)?;
-        assert!(rt; each(&[], &branch, &like) == ALWAYS);
-        assert!(rt; each(&[], &branch, &unlike) == NEVER);
-        let array = two(
-            alloc,
-            SmallHead::Array,
-            shared(alloc, A)?,
-            value(alloc, U8, 2)?,
-        )?;
-        let less = two(
-            alloc,
-            SmallHead::Array,
-            shared(alloc, B)?,
-            value(alloc, U8, 2)?,
-        )?;
-        let longer = two(
-            alloc,
-            SmallHead::Array,
-            shared(alloc, A)?,
-            value(alloc, U8, 3)?,
-        )?;
-        assert!(rt; each(&[], &array, &less) == FORTH);
-        assert!(rt; each(&[], &array, &longer) == NEVER);
-        let range = two(
-            alloc,
-            SmallHead::RangePattern,
-            value(alloc, U8, 1)?,
-            value(alloc, U8, 2)?,
-        )?;
-        let other = two(
-            alloc,
-            SmallHead::RangePattern,
-            value(alloc, U8, 1)?,
-            value(alloc, U8, 3)?,
-        )?;
-        assert!(rt; each(&[], &range, &range) == ALWAYS);
-        assert!(rt; each(&[], &range, &other) == NEVER);
-        let choice = one(
-            alloc,
-            SmallHead::OrPattern,
-            SmallTerm::Simple(SmallLeaf::NotNull),
-        )?;
-        assert!(rt; each(&[], &choice, &choice) == ALWAYS);
-        assert!(rt; each(&[], &choice, &SmallTerm::Simple(SmallLeaf::NotNull)) == NEVER);
-        let covers = two(alloc, SmallHead::PatternType, shared(alloc, A)?, range)?;
-        let under = two(alloc, SmallHead::PatternType, shared(alloc, B)?, other)?;
-        assert!(rt; each(&[], &covers, &covers) == ALWAYS);
-        assert!(rt; each(&[], &covers, &under) == NEVER);
+        let from = (value(alloc, U8, 1), value(alloc, U8, 2));
+        assert!(rt;
+            twos(
+                alloc,
+                range,
+                from,
+                (value(alloc, U8, 1), value(alloc, U8, 3))
+            )? == NEVER
+        );
+        let choices = (SmallHead::OrPattern, SmallHead::OrPattern);
+        let not_null = simple(SmallLeaf::NotNull);
+        assert!(rt; ones(alloc, &[], choices, not_null, simple(SmallLeaf::NotNull))? == ALWAYS);
+        assert!(rt;
+            ones(
+                alloc,
+                &[],
+                choices,
+                simple(SmallLeaf::NotNull),
+                none(alloc, range)
+            )? == NEVER
+        );
+        let long = (shared(alloc, A), simple(SmallLeaf::NotNull));
+        let short = (shared(alloc, B), simple(SmallLeaf::NotNull));
+        assert!(rt; twos(alloc, pattern, long, short)? == FORTH);
+        let long = (shared(alloc, A), simple(SmallLeaf::NotNull));
+        assert!(rt; twos(alloc, pattern, long, (shared(alloc, A), none(alloc, range)))? == NEVER);
         Ok(())
     }
 }
