@@ -30,7 +30,7 @@ entry_past [] = refl
 entry_past (e ∷ es) = entry_past es
 
 module _ (before after : Store) (k : VarKind) (n u : ℕ) (b : MakesVariable before after k n u) where
-  same_entries : (j : VarKind) (m : ℕ) → entry_of after j m ≡ entry_of before j m
+  pub same_entries : (j : VarKind) (m : ℕ) → entry_of after j m ≡ entry_of before j m
   same_entries j m = go (VarKind_discrete j k)
     where
       go : Dec (j ≡ k) → entry_of after j m ≡ entry_of before j m

@@ -1,20 +1,20 @@
 -- Which assignments each call of a store keeps, and that a sound store stays sound.
-use Rattle.std.proofs.Common.{◌≡◌, ◌⊎◌, ℕ, zero, suc, ◌<◌, ◌≤◌, refl, sym, ap, ◌∙◌, arith, inl, inr, subst, subst₂, List, [], ◌∷◌, ◌++◌, length, get_or, All, le_trans, le_of_eq}
-use Rattle.relation_terms.specs.Heads.{VarKind, type_var, int_var, float_var, const_var, region_var, Leaf, Atom, bool_type, int_type, uint_type, float_type, static_region, const_param, variable, bound, placeholder, atom, unknown}
+use Rattle.std.proofs.Common.{◌≡◌, ◌⊎◌, ℕ, zero, suc, ◌<◌, ◌≤◌, refl, sym, ap, ◌∙◌, arith, inl, inr, subst, subst₂, List, [], ◌∷◌, ◌++◌, length, map, get_or, All, le_trans, le_of_eq}
+use Rattle.relation_terms.specs.Heads.{VarKind, type_var, int_var, float_var, const_var, region_var, var_sort, Leaf, Atom, bool_type, int_type, uint_type, float_type, static_region, const_param, variable, bound, placeholder, atom, unknown}
 use Rattle.relation_terms.specs.declared.terms.enums.IntTy.TheVariants.{I32}
 use Rattle.relation_terms.specs.declared.terms.enums.FloatTy.TheVariants.{F32}
-use Rattle.relation_terms.specs.Trees.{Tree, leaf, Assign, assigned, apply, Leaves, Occurs}
+use Rattle.relation_terms.specs.Trees.{Tree, leaf, Assign, assigned, apply, Leaves, Occurs, IsTerm}
 use Rattle.relation_terms.specs.Erasure.{erase}
-use Rattle.type_relations.specs.Relation.{Outlives, IsValueAtom, IsGround, StaysWithin}
-use Rattle.type_relations.specs.Stores.{Store, unbound, bound_to, entry_term, bound_term, universe_of, IsMade, IsMadeLeaf, IsFree, IsInScope, InContext, IsTermIn, IsNamable, IsAssignment, MayStandFor, MeetsBindings, IsSound, Constraint, ConstraintIn, ConstraintHolds, BindingsAreMet, IsIntegerAtom, IsFloatAtom, resolve, resolved, outlives_constraint, equal_constraint, counts_term}
+use Rattle.type_relations.specs.Relation.{Interpretation, FitKinds, Outlives, IsValueAtom, IsGround, StaysWithin}
+use Rattle.type_relations.specs.Stores.{Store, unbound, bound_to, entry_term, bound_term, universe_of, IsMade, IsMadeLeaf, IsFree, IsInScope, InContext, IsTermIn, IsNamable, IsAssignment, MayStandFor, MeetsBindings, Satisfies, IsSound, Constraint, ConstraintIn, ConstraintHolds, BindingsAreMet, IsIntegerAtom, IsFloatAtom, resolve, resolved, outlives_constraint, equal_constraint, counts_term}
 use Rattle.type_relations.specs.FirstOrder.{Unifies, MeetsErased}
-use Rattle.type_relations.specs.Steps.{IsLater, AgreeOn, ChangesNothing, IsNumberFor}
-use Rattle.type_relations.specs.StoreLaws.{EquatingStaysSound, EquatingIsExact, BindingStaysSound, BindingIsExact, NumbersStaySound, NumbersAreExact, MakingStaysSound, MadeIsUnconstrained, ConstrainingIsExact, NothingIsSeen, ResolvedResolves}
+use Rattle.type_relations.specs.Steps.{IsLater, AgreeOn, Extends, AllNamable, ChangesNothing, IsNumberFor}
+use Rattle.type_relations.specs.StoreLaws.{EquatingStaysSound, EquatingIsExact, BindingStaysSound, BindingIsExact, NumbersStaySound, NumbersAreExact, MakingStaysSound, MadeIsUnconstrained, ConstrainingIsExact, NothingIsSeen, ResolvedResolves, MakingOneMakes}
 use Rattle.type_relations.proofs.Trees.{Leaves_map, Leaves-replace, apply-apply}
 use Rattle.type_relations.proofs.Values.{same_value, scope_made}
 use Rattle.type_relations.proofs.Resolved.{resolved_same, resolved_meets, resolved_value, resolved_twice, HasTerm, is_free, is_bound, has_term, resolve_free, resolve_bound}
 use Rattle.type_relations.proofs.Standing.{stands_apply, within_apply, term_context, term_within, itself_stands, later_constraint, later_term, term_scope, scope_namable}
-use Rattle.type_relations.proofs.Growing.{same_terms, old_or_new, made_sound, universes_stand, constraint_sound, constraint_is_later, constraint_holds, constraint_keeps}
+use Rattle.type_relations.proofs.Growing.{same_entries, same_terms, old_or_new, made_sound, made_is_later, new_made, universes_stand, constraint_sound, constraint_is_later, constraint_holds, constraint_keeps}
 use Rattle.type_relations.proofs.Written.{is_later, equal, keeps, sound_after}
 use Rattle.type_relations.proofs.Equating.{equating_lowers, equated_sound, equated_later, equated_value, equated_keeps, bound_sound}
 use Rattle.type_relations.proofs.Opening.{satisfies_still, satisfied_then}
@@ -151,6 +151,37 @@ made_is_unconstrained before after k n u q g w s t sat stands ground within name
 
     regions : All (ConstraintHolds w z) after.constraints
     regions = subst (All (ConstraintHolds w z)) (sym q.same_constraints) (All_map₂ (ConstraintIn before) (ConstraintHolds w s) (ConstraintHolds w z) constraint before.constraints g.constraints_in sat.regions)
+
+stands_value : (v : VarKind) (t : Tree) → (v ≡ int_var → ⊥) → (v ≡ float_var → ⊥) → IsTerm (var_sort v) t → MayStandFor v t
+stands_value type_var t i f h = h
+stands_value const_var t i f h = h
+stands_value region_var t i f h = h
+stands_value int_var t i f h = absurd (i refl)
+stands_value float_var t i f h = absurd (f refl)
+
+pub making_one_makes : MakingOneMakes
+making_one_makes before after k v n u q g s i f = record {
+  later = made_is_later before after v n u q g;
+  are_new = ((v, n, refl, s, not_before, new_made before after v n u q, new_universe), tt, tt);
+  same_entries = same_entries before after v n u q;
+  same_universes = universes_stand before after v n u q g;
+  same_constraints = q.same_constraints;
+  same_universe = q.same_universe;
+  same_budget = q.same_budget;
+  unconstrained = one;
+}
+  where
+    not_before : IsMade before v n → ⊥
+    not_before m = let d = q.number in omega arith
+
+    new_universe : universe_of after v n ≡ u
+    new_universe = ap (λ us. get_or us n 0) q.universes_grow ∙ ap (λ m. get_or (before.universes v ++ u ∷ []) m 0) (q.number ∙ sym (g.one_universe_each v)) ∙ get_or_past (before.universes v) u
+
+    one : (w : Interpretation) (z : Assign) (values : List Tree) → Satisfies w before z → FitKinds (k ∷ []) values → AllNamable u values → Extends before z (λ y. Satisfies w after y × (map (apply y) (leaf (variable v n) ∷ []) ≡ values))
+    one w z [] sat fit names = absurd fit
+    one w z (t ∷ []) sat fit names = let a = made_is_unconstrained before after v n u q g w z t sat (stands_value v t i f (subst (λ x. IsTerm x t) (sym s) fit.0.0)) fit.0.1 fit.0.2 names.0 in
+        (a.0, a.1, (a.2.0, ap (λ y. y ∷ []) a.2.1))
+    one w z (t ∷ y ∷ ts) sat fit names = absurd fit.1
 
 pub constraining_is_exact : ConstrainingIsExact
 constraining_is_exact before after q b = (
