@@ -283,8 +283,11 @@ module _ (st : Store) (g : IsSound st) where
 
   resolved_in : (t : Tree) → IsTermIn st t → IsTermIn st (apply (resolved st) t)
   unfolding IsTermIn InContext
-  resolved_in t h = (Leaves-replace (IsMadeLeaf st) (assigned (resolved st)) t (Leaves_map (IsMadeLeaf st) _ in_leaf t h.0), within_apply (resolved st) 0 t resolved_within h.1,
-      Leaves_map (IsInScope st st.universe) (IsNamable st.universe) (scope_namable st st.universe) (apply (resolved st) t) (term_scope st g t h))
+  resolved_in t h = (
+    Leaves-replace (IsMadeLeaf st) (assigned (resolved st)) t (Leaves_map (IsMadeLeaf st) _ in_leaf t h.0),
+    within_apply (resolved st) 0 t resolved_within h.1,
+    Leaves_map (IsInScope st st.universe) (IsNamable st.universe) (scope_namable st st.universe) (apply (resolved st) t) (term_scope st g t h),
+  )
 
 pub resolved_resolves : ResolvedResolves
 resolved_resolves st t g = record {

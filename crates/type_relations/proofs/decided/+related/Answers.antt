@@ -1,4 +1,4 @@
-use Rattle.std.proofs.Common.{◌≡◌, ◌↔◌, ◌∙◌, ℕ, suc, min, max, length, sym, refl, subst, subst₂, true, arith}
+use Rattle.std.proofs.Common.{◌≡◌, ◌↔◌, ◌∙◌, suc, sym, refl, subst, subst₂, true, arith}
 use Rattle.type_relations.specs.Relation.{Rel, at, parts, part_at, anything, no_parts}
 use Rattle.type_relations.specs.Decided.{small_tree, small_parts, all_declare, head_of, leaf_of}
 use Rattle.type_relations.proofs.Deciding.{iff_through, iff_both, error_left_iff, error_right_iff, forms_iff, parts_iff, place, small_list}

@@ -1,4 +1,4 @@
-use Rattle.std.proofs.Common.{◌≡◌, ◌↔◌, sym, refl}
+use Rattle.std.proofs.Common.{refl}
 use Rattle.type_relations.specs.Decided.{leaf_of}
 use Rattle.type_relations.proofs.Deciding.{iff_through, iff_both, iff_either, leaves_iff, sorts_iff, leaves_related_iff}
 use Rattle.type_relations.proofs.decided.leaves_related.Goals as goal
