@@ -1,2 +1,7 @@
+pub mod Forms
+pub mod Nodes
+pub mod Empty
+pub mod Places
+pub mod Laws
 pub mod Tables
 pub mod Answers

@@ -2,3 +2,4 @@
 #![tactic(auto)]
 
 pub mod context;
+pub mod interner;

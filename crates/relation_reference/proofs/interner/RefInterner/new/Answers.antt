@@ -1,0 +1,5 @@
+use Rattle.relation_reference.proofs.Once.{none_known}
+use Rattle.relation_reference.proofs.interner.RefInterner.new.Goals as goal
+
+pub returns : goal.returns
+returns c = none_known c.new.result.items c.new.ensures.items

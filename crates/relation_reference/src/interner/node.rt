@@ -1,0 +1,53 @@
+//! Nodes, and how one is found among others.
+ghost use Rattle.std.specs.Prelude.{◌≡◌, ◌≢◌, ◌<◌, ◌↔◌, ℕ, IsTrue, IfOk, MatchOption, length, slice_index_or};
+ghost use Rattle.relation_reference.specs.Forms.{form_of};
+ghost use Rattle.relation_reference.specs.declared.interner.node.Node.{Node};
+
+use crate::interner::{NodeKey, SymbolId};
+use relation_terms::terms::{Dup, OutOfMemory, RegionKind, TyKey, TyKind};
+use std::alloc::Global;
+
+/// What one key stands for.
+#[derive(PartialEq, Eq, Debug, Drop)]
+pub enum Node {
+    /// A type, by its outermost form.
+    Ty(TyKind<NodeKey>),
+    /// A region.
+    Region(RegionKind<SymbolId>),
+    /// A list of types.
+    Tys(Vec<TyKey<NodeKey>>),
+    /// The environment without clauses.
+    ParamEnv,
+}
+
+// The same values, in memory of their own.
+pub fn copied<T: Dup + Drop>(alloc: Global, values: &[T]) -> Result<Vec<T>, OutOfMemory>
+    ensures { IfOk result (λ v. v.items ≡ values.now) }
+{
+    let mut copies = Vec::new(alloc);
+    for value in values {
+        copies.push(value.dup())?;
+    }
+    Ok(copies)
+}
+
+// Whether the nodes are of one form.
+fn same(left: &Node, right: &Node) -> bool
+    ensures { IsTrue result ↔ (form_of left.now ≡ form_of right.now) }
+{
+    left == right
+}
+
+// Where a node of this one's form stands among the nodes.
+pub fn place(nodes: &[Node], node: &Node) -> Option<usize>
+    ensures { MatchOption result
+        ((k : ℕ) (d : Node) → k < length nodes.now → form_of (slice_index_or nodes.now k d) ≢ form_of node.now)
+        (λ i. (i < length nodes.now) × ((d : Node) → form_of (slice_index_or nodes.now i d) ≡ form_of node.now)) }
+{
+    for (index, other) in nodes.iter().enumerate() {
+        if same(other, node) {
+            return Some(index);
+        }
+    }
+    None
+}
