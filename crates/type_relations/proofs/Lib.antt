@@ -6,3 +6,5 @@ pub mod Tallies
 pub mod Written
 pub mod Growing
 pub mod Going
+pub mod Equating
+pub mod Empty
