@@ -1,4 +1,11 @@
 //! A row's questions: contexts, and the pairs of types that are related in each.
+ghost use Rattle.std.specs.Prelude.{◌≡◌, IsTrue, IfOk, IfErr};
+ghost use Rattle.relation_terms.specs.Trees.{known};
+ghost use Rattle.relation_terms.specs.Meaning.{Extends};
+ghost use Rattle.relation_tools.specs.Faults.{KnowsFault};
+ghost use Rattle.type_relations.specs.Stores.{IsTermIn};
+ghost use Rattle.type_relations.specs.Steps.{IsLater};
+ghost use Rattle.relation_reference.specs.Tables.{store_of, IsLawful};
 
 use crate::printing::write_answer;
 use crate::written::{BuildFault, Parameter, Written, build};
@@ -20,10 +27,10 @@ pub struct Question {
 }
 
 // Makes the variables of a question.
-fn make_variables<I: Interner>(
-    ctx: &mut RefCtxt<I>,
-    question: &Question,
-) -> Result<(), OutOfMemory> {
+fn make_variables<I: Interner>(ctx: &mut RefCtxt<I>, question: &Question) -> Result<(), OutOfMemory>
+    requires { IsLawful (I.meaning ctx.old.interner) ctx.old.inner }
+    ensures { IsLawful (I.meaning ctx.new.interner) ctx.new.inner }
+{
     for _ in 0..question.type_variables {
         let _ = ctx.next_ty_infer()?;
     }
@@ -38,7 +45,15 @@ fn build_pair<I: Interner>(
     ctx: &mut RefCtxt<I>,
     parameters: &[Parameter<I::Name>],
     pair: &(Written, Written),
-) -> Result<(ParamEnv<I>, Ty<I>, Ty<I>), BuildFault> {
+) -> Result<(ParamEnv<I>, Ty<I>, Ty<I>), BuildFault>
+    requires { IsLawful (I.meaning ctx.old.interner) ctx.old.inner }
+    ensures lawful { IsLawful (I.meaning ctx.new.interner) ctx.new.inner }
+    ensures env_known { IfOk result (λ p. IsTrue (known ((I.meaning ctx.new.interner).param_env p.0))) }
+    ensures lhs_known { IfOk result (λ p. IsTrue (known ((I.meaning ctx.new.interner).ty p.1))) }
+    ensures rhs_known { IfOk result (λ p. IsTrue (known ((I.meaning ctx.new.interner).ty p.2))) }
+    ensures lhs_in { IfOk result (λ p. IsTermIn (store_of (I.meaning ctx.new.interner) ctx.new.inner) ((I.meaning ctx.new.interner).ty p.1)) }
+    ensures rhs_in { IfOk result (λ p. IsTermIn (store_of (I.meaning ctx.new.interner) ctx.new.inner) ((I.meaning ctx.new.interner).ty p.2)) }
+{
     let param_env = ctx.interner.empty_param_env()?;
     let lhs = build(ctx, parameters, &pair.0)?;
     let rhs = build(ctx, parameters, &pair.1)?;
@@ -52,7 +67,17 @@ fn relate<C: RelateExt>(
     lhs: Ty<C::Interner>,
     rhs: Ty<C::Interner>,
     span: Span<C::Interner>,
-) -> RelateGoals<C::Interner> {
+) -> RelateGoals<C::Interner>
+    requires lawful { C.is_lawful ctx.old }
+    requires env_known { IsTrue (known ((C.Interner.meaning (C.interner ctx.old)).param_env param_env)) }
+    requires lhs_known { IsTrue (known ((C.Interner.meaning (C.interner ctx.old)).ty lhs)) }
+    requires rhs_known { IsTrue (known ((C.Interner.meaning (C.interner ctx.old)).ty rhs)) }
+    requires lhs_in { IsTermIn (C.store ctx.old) ((C.Interner.meaning (C.interner ctx.old)).ty lhs) }
+    requires rhs_in { IsTermIn (C.store ctx.old) ((C.Interner.meaning (C.interner ctx.old)).ty rhs) }
+    ensures lawful { C.is_lawful ctx.new }
+    ensures later { IsLater (C.store ctx.old) (C.store ctx.new) }
+    ensures why_known { IfErr result (λ e. KnowsFault (C.Interner.meaning (C.interner ctx.new)) e) }
+{
     ctx.relate(param_env, lhs, Variance::Invariant, rhs, span)
 }
 
@@ -62,7 +87,10 @@ fn ask_pair<I: Interner, W: Write>(
     parameters: &[Parameter<I::Name>],
     pair: &(Written, Written),
     out: &mut W,
-) -> fmt::Result {
+) -> fmt::Result
+    requires { IsLawful (I.meaning ctx.old.interner) ctx.old.inner }
+    ensures { IsLawful (I.meaning ctx.new.interner) ctx.new.inner }
+{
     match build_pair(ctx, parameters, pair) {
         Err(BuildFault::Memory) => out.write_str("memory"),
         Err(BuildFault::Missing) => out.write_str("missing"),

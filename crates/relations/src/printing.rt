@@ -1,10 +1,15 @@
 //! How terms and answers print.
+ghost use Rattle.std.specs.Prelude.{◌<◌, IsTrue, IfSome, IfErr, length};
+ghost use Rattle.relation_terms.specs.Trees.{known};
+ghost use Rattle.relation_tools.specs.Faults.{KnowsError, KnowsFault};
+ghost use Rattle.type_relations.specs.Stores.{ConstraintIn};
+ghost use Rattle.relation_reference.specs.Tables.{store_of, constraint_of, IsLawful};
 
 use crate::written::Parameter;
 use relation_reference::context::{RefCtxt, TypeVariableValue};
 use relation_terms::predicate::RegionConstraint;
 use relation_terms::terms::{
-    GenericArgKind, InferTy, IntTy, Interner, Mutability, Region, RegionKind, Ty, TyKind, Tys,
+    Dup, GenericArgKind, InferTy, IntTy, Interner, Mutability, Region, RegionKind, Ty, TyKind, Tys,
     UintTy,
 };
 use relation_tools::error::{RelateFault, TypeError, TypeErrorOf};
@@ -41,7 +46,9 @@ pub fn write_region<I: Interner, W: Write>(
     parameters: &[Parameter<I::Name>],
     region: &Region<I>,
     out: &mut W,
-) -> fmt::Result {
+) -> fmt::Result
+    requires { IsTrue (known ((I.meaning cx.now).region region.now)) }
+{
     match cx.region_kind(region) {
         RegionKind::ReStatic => out.write_str("'static"),
         RegionKind::ReVar(variable) => {
@@ -66,7 +73,9 @@ pub fn write_ty<I: Interner, W: Write>(
     parameters: &[Parameter<I::Name>],
     ty: &Ty<I>,
     out: &mut W,
-) -> fmt::Result {
+) -> fmt::Result
+    requires { IsTrue (known ((I.meaning cx.now).ty ty.now)) }
+{
     match cx.ty_kind(ty) {
         TyKind::Bool => out.write_str("bool"),
         TyKind::Char => out.write_str("char"),
@@ -101,7 +110,9 @@ fn write_tuple<I: Interner, W: Write>(
     parameters: &[Parameter<I::Name>],
     members: &Tys<I>,
     out: &mut W,
-) -> fmt::Result {
+) -> fmt::Result
+    requires { IsTrue (known ((I.meaning cx.now).tys members.now)) }
+{
     let types = cx.tys(members);
     out.write_str("(")?;
     for (place, ty) in types.iter().enumerate() {
@@ -122,7 +133,9 @@ pub fn write_error<I: Interner, W: Write>(
     parameters: &[Parameter<I::Name>],
     error: &TypeErrorOf<I>,
     out: &mut W,
-) -> fmt::Result {
+) -> fmt::Result
+    requires { KnowsError (I.meaning cx.now) error.now }
+{
     match error {
         TypeError::Mutability => out.write_str("Mutability"),
         TypeError::TupleSize(sizes) => {
@@ -147,11 +160,14 @@ pub fn write_error<I: Interner, W: Write>(
 
 // Writes a constraint on regions. No constant has a form yet.
 fn write_constraint<I: Interner, W: Write>(
-    cx: &I,
+    ctx: &RefCtxt<I>,
     parameters: &[Parameter<I::Name>],
     constraint: &RegionConstraint<I::Key>,
     out: &mut W,
-) -> fmt::Result {
+) -> fmt::Result
+    requires { ConstraintIn (store_of (I.meaning ctx.now.interner) ctx.now.inner) (constraint_of (I.meaning ctx.now.interner) constraint.now) }
+{
+    let cx = &ctx.interner;
     match constraint {
         RegionConstraint::Eq(equal) => {
             write_region(cx, parameters, &equal.0, out)?;
@@ -175,11 +191,13 @@ fn write_constraints<I: Interner, W: Write>(
     ctx: &RefCtxt<I>,
     parameters: &[Parameter<I::Name>],
     out: &mut W,
-) -> fmt::Result {
+) -> fmt::Result
+    requires { IsLawful (I.meaning ctx.now.interner) ctx.now.inner }
+{
     let mut before = "; regions=[";
     for constraint in ctx.region_constraints() {
         out.write_str(before)?;
-        write_constraint(&ctx.interner, parameters, constraint, out)?;
+        write_constraint(ctx, parameters, constraint, out)?;
         before = ", ";
     }
     if ctx.region_constraints().is_empty() {
@@ -188,19 +206,33 @@ fn write_constraints<I: Interner, W: Write>(
     out.write_str("]")
 }
 
-// Writes the type variables of a context that are bound to a type, if any: the roots, and none that is the same as
-// another.
+// The type that a root is bound to, or none, also where the variable is the same as another.
+fn bound_to<I: Interner>(ctx: &RefCtxt<I>, number: usize) -> Option<Ty<I>>
+    requires lawful { IsLawful (I.meaning ctx.now.interner) ctx.now.inner }
+    requires made { number < length ctx.now.inner.types.items }
+    ensures { IfSome result (λ t. IsTrue (known ((I.meaning ctx.now.interner).ty t))) }
+{
+    match &ctx.inner.types[number].value {
+        TypeVariableValue::Known(ty) => Some(ty.dup()),
+        TypeVariableValue::Unknown => None,
+        TypeVariableValue::SameAs(_) => None,
+    }
+}
+
+// Writes the roots that are bound to a type, if any, each with its type.
 fn write_bound<I: Interner, W: Write>(
     ctx: &RefCtxt<I>,
     parameters: &[Parameter<I::Name>],
     out: &mut W,
-) -> fmt::Result {
+) -> fmt::Result
+    requires { IsLawful (I.meaning ctx.now.interner) ctx.now.inner }
+{
     let mut before = "; bound=[";
     let mut after = "";
-    for (number, variable) in ctx.inner.types.iter().enumerate() {
-        if let TypeVariableValue::Known(ty) = &variable.value {
+    for number in 0..ctx.inner.types.len() {
+        if let Some(ty) = bound_to(ctx, number) {
             write!(out, "{before}?{number}=")?;
-            write_ty(&ctx.interner, parameters, ty, out)?;
+            write_ty(&ctx.interner, parameters, &ty, out)?;
             before = ", ";
             after = "]";
         }
@@ -214,7 +246,10 @@ pub fn write_answer<I: Interner, W: Write>(
     parameters: &[Parameter<I::Name>],
     answer: &RelateGoals<I>,
     out: &mut W,
-) -> fmt::Result {
+) -> fmt::Result
+    requires lawful { IsLawful (I.meaning ctx.now.interner) ctx.now.inner }
+    requires why_known { IfErr answer.now (λ e. KnowsFault (I.meaning ctx.now.interner) e) }
+{
     match answer {
         Ok(_) => out.write_str("ok")?,
         Err(RelateFault::Memory) => out.write_str("memory")?,
