@@ -1,5 +1,5 @@
 -- `==` takes nodes for one exactly where they are of one form.
-use Rattle.std.proofs.Common.{ℕ, ◌≡◌, ◌↔◌, IsTrue, Bool, true, false, ◌&&◌, List, [], ◌∷◌, eqb, refl, ap, ap₂, sym, ◌∙◌, subst}
+use Rattle.std.proofs.Common.{ℕ, ◌≡◌, ◌↔◌, IsTrue, Bool, ◌&&◌, List, [], ◌∷◌, eqb, refl, ap, ap₂, subst}
 use Rattle.std.proofs.lemmas.Bool.{false≢true, eqb-true, eq-eqb, and_parts, and_from}
 use Rattle.relation_terms.specs.declared.terms.keys.TyKey.{TyKey}
 use Rattle.relation_terms.specs.declared.terms.keys.RegionKey.{RegionKey}
@@ -19,7 +19,7 @@ use Rattle.relation_reference.specs.declared.interner.keys.NodeKey.{NodeKey}
 use Rattle.relation_reference.specs.declared.interner.keys.SymbolId.{SymbolId}
 use Rattle.relation_reference.specs.declared.interner.node.Node.{Node}
 use Rattle.relation_reference.specs.declared.interner.node.Node.TheVariants.{Ty, Region, Tys, ParamEnv}
-use Rattle.relation_reference.specs.Forms.{Form, ty_form, region_form, tys_form, environment_form, form_of}
+use Rattle.relation_reference.specs.Forms.{Form, ty_form, region_form, tys_form, form_of}
 use Rattle.relation_reference.specs.contracts.interner.node.NodePartialEq.TheImpl as node_impl
 use Rattle.relation_terms.specs.contracts.terms.enums.IntTyPartialEq.TheImpl as int_impl
 use Rattle.relation_terms.specs.contracts.terms.enums.UintTyPartialEq.TheImpl as uint_impl

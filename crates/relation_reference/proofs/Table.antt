@@ -1,10 +1,9 @@
 -- A table's entries, and what its keys read.
-use Rattle.std.proofs.Common.{ℕ, zero, suc, ◌+◌, ◌<◌, ◌≡◌, IsTrue, true, false, List, [], ◌∷◌, ◌++◌, length, get_or, inl, inr, refl, ap, sym, ◌∙◌, subst, arith, length-append}
+use Rattle.std.proofs.Common.{ℕ, zero, suc, ◌+◌, ◌<◌, ◌≡◌, IsTrue, false, List, [], ◌∷◌, ◌++◌, length, get_or, inl, inr, refl, ap, sym, ◌∙◌, subst, arith, length-append}
 use Rattle.std.proofs.lemmas.Bool.{false≢true, cases_lt}
 use Rattle.std.proofs.lemmas.List.{get_or_append_left, get_or_past}
 use Rattle.std.proofs.Math.Seq.{get_or-append_seam}
-use Rattle.relation_terms.specs.Heads.{unknown}
-use Rattle.relation_terms.specs.Trees.{Tree, leaf, known, list_tree}
+use Rattle.relation_terms.specs.Trees.{Tree, known, list_tree}
 use Rattle.relation_terms.specs.Meaning.{Meaning, Extends, kind_tree, region_tree}
 use Rattle.relation_terms.proofs.Stays.{stays_same, extends_on, stays_kind, stays_region, stays_list}
 use Rattle.relation_terms.specs.declared.terms.keys.TyKey.{TyKey}
@@ -18,8 +17,8 @@ use Rattle.relation_reference.specs.declared.interner.keys.SymbolId.{SymbolId}
 use Rattle.relation_reference.specs.declared.interner.node.Node.{Node}
 use Rattle.relation_reference.specs.declared.interner.node.Node.TheVariants.{Ty, Region, Tys}
 use Rattle.relation_reference.specs.Forms.{Form, ty_form, region_form, tys_form, environment_form, form_of}
-use Rattle.relation_reference.specs.Nodes.{Entry, no_entry, ty_entry, region_entry, tys_entry, environment_entry, as_ty, as_region, as_tys, as_environment, meaning_of, entry_at, entry_of, entries_from, entries, table_meaning, known_entry, AllKnown}
-use Rattle.relation_reference.specs.Places.{length_entries, known_in}
+use Rattle.relation_reference.specs.Nodes.{Entry, no_entry, ty_entry, region_entry, tys_entry, as_ty, as_region, as_tys, as_environment, meaning_of, entry_at, entry_of, entries_from, entries, table_meaning, known_entry}
+use Rattle.relation_reference.specs.Places.{known_in}
 use Rattle.std.specs.declared.vec.Vec.{Vec}
 use Rattle.std.specs.declared.alloc.Global.{Global}
 

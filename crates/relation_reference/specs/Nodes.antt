@@ -1,12 +1,8 @@
 -- What the numbers of a table's nodes mean.
-use Rattle.std.specs.Prelude.{ℕ, ◌≡◌, ◌<◌, Bool, true, false, IsTrue, length, List, [], ◌∷◌, ◌++◌, slice_index_or, Option, None}
+use Rattle.std.specs.Prelude.{ℕ, ◌≡◌, ◌<◌, Bool, false, IsTrue, length, List, [], ◌∷◌, ◌++◌, slice_index_or, None}
 use Rattle.relation_terms.specs.Heads.{environment, unknown}
 use Rattle.relation_terms.specs.Trees.{Tree, leaf, node, nil, known, list_tree}
 use Rattle.relation_terms.specs.Meaning.{Meaning, kind_tree, region_tree}
-use Rattle.relation_terms.specs.declared.terms.keys.TyKey.{TyKey}
-use Rattle.relation_terms.specs.declared.terms.keys.RegionKey.{RegionKey}
-use Rattle.relation_terms.specs.declared.terms.keys.TysKey.{TysKey}
-use Rattle.relation_terms.specs.declared.terms.keys.ParamEnvKey.{ParamEnvKey}
 use Rattle.relation_reference.specs.declared.interner.keys.NodeKey.{NodeKey}
 use Rattle.relation_reference.specs.declared.interner.keys.ItemId.{ItemId}
 use Rattle.relation_reference.specs.declared.interner.keys.SymbolId.{SymbolId}
@@ -94,3 +90,7 @@ AllKnown ns = (i : ℕ) → i < length ns → IsTrue (known_entry (slice_index_o
 abbrev pub AllDistinct : List Node → Type 0
 AllDistinct ns = (i j : ℕ) → i < length ns → j < length ns →
     slice_index_or (entries ns) i no_entry ≡ slice_index_or (entries ns) j no_entry → i ≡ j
+
+-- The entry stands at a place of the table.
+abbrev pub StandsAt : List Node → ℕ → Entry → Type 0
+StandsAt ns i e = slice_index_or (entries ns) i no_entry ≡ e

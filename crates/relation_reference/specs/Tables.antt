@@ -5,7 +5,7 @@ use Rattle.relation_terms.specs.Trees.{Tree, leaf, node, nil}
 use Rattle.relation_terms.specs.Meaning.{Meaning, arg_tree}
 use Rattle.relation_terms.specs.declared.predicate.RegionConstraint.{RegionConstraint}
 use Rattle.relation_terms.specs.declared.predicate.RegionConstraint.TheVariants.{Outlives, Eq}
-use Rattle.type_relations.specs.Stores.{Store, Entry, unbound, same_as, bound_to, Constraint, outlives_constraint, equal_constraint, IsSound}
+use Rattle.type_relations.specs.Stores.{Store, Entry, entry_of, unbound, same_as, bound_to, Constraint, outlives_constraint, equal_constraint, IsSound}
 use Rattle.relation_reference.specs.declared.context.inner.TypeVariableValue.{TypeVariableValue}
 use Rattle.relation_reference.specs.declared.context.inner.TypeVariableValue.TheVariants.{Unknown, SameAs, Known}
 use Rattle.relation_reference.specs.declared.context.inner.TypeVariable.{TypeVariable}
@@ -48,16 +48,10 @@ module _ {Key Id Name : Type 0} (m : Meaning Key Id Name) where
     budget = x.budget;
   }
 
-  -- A variable that is bound to a type is bound to one that is no variable.
-  abbrev pub IsFormedValue : TypeVariableValue Key → Type 0
-  IsFormedValue Unknown = Unit {0}
-  IsFormedValue (SameAs v) = Unit {0}
-  IsFormedValue (Known t) = IsFormed (m.ty t)
-
   -- The invariant of a context: its store is sound; the key beside each variable is the variable's; what variables are
   -- bound to is no variable; and there is no universe yet but the first.
   pub record IsLawful (x : InferCtxtInner Key) : Type 0 where
     pub sound : IsSound (store_of x)
     pub keyed : (n : ℕ) → n < length x.types.items → get_or (map (λ v. m.ty v.key) x.types.items) n nil ≡ leaf (variable type_var n)
-    pub formed : All (λ v. IsFormedValue v.value) x.types.items
+    pub formed : (n : ℕ) (t : Tree) → entry_of (store_of x) type_var n ≡ bound_to t → IsFormed t
     pub first_universe : (x.universe).0 ≡ 0

@@ -1,7 +1,7 @@
 //! An interner whose keys are the numbers of nodes.
 ghost use Rattle.std.specs.Prelude.{◌≡◌, ℕ, IsTrue, IfOk, IsOk, OnErr, ◌++◌, ◌∷◌, [], ◌⊎◌, slice_index_or};
 ghost use Rattle.relation_reference.specs.Empty.{KnowsNone};
-ghost use Rattle.relation_reference.specs.Nodes.{AllKnown, AllDistinct, entries, entry_of, known_entry, no_entry, table_meaning};
+ghost use Rattle.relation_reference.specs.Nodes.{AllKnown, AllDistinct, entries, entry_of, known_entry, table_meaning, StandsAt};
 
 mod keys;
 mod node;
@@ -39,11 +39,11 @@ impl RefInterner {
     // The key of the node, which is put at the end where it is new.
     fn add(&mut self, node: Node) -> Result<NodeKey, OutOfMemory>
         requires { IsTrue (known_entry (entry_of (table_meaning self.old.nodes.items) node)) }
-        ensures number { IfOk result (λ k. slice_index_or (entries self.new.nodes.items) k.0 no_entry ≡ entry_of (table_meaning self.old.nodes.items) node) }
+        ensures number { IfOk result (λ k. StandsAt self.new.nodes.items k.0 (entry_of (table_meaning self.old.nodes.items) node)) }
         ensures added { (self.new.nodes.items ≡ self.old.nodes.items) ⊎ (self.new.nodes.items ≡ self.old.nodes.items ++ node ∷ []) }
         ensures refused { OnErr result (self.new.nodes.items ≡ self.old.nodes.items) }
-        ensures there { (k : ℕ) → slice_index_or (entries self.old.nodes.items) k no_entry ≡ entry_of (table_meaning self.old.nodes.items) node → self.new.nodes.items ≡ self.old.nodes.items }
-        ensures unrefused { (k : ℕ) → slice_index_or (entries self.old.nodes.items) k no_entry ≡ entry_of (table_meaning self.old.nodes.items) node → IsOk result }
+        ensures there { (k : ℕ) → StandsAt self.old.nodes.items k (entry_of (table_meaning self.old.nodes.items) node) →
+            IsOk result × (self.new.nodes.items ≡ self.old.nodes.items) }
     {
         if let Some(number) = place(&self.nodes, &node) {
             return Ok(NodeKey(number));
@@ -115,12 +115,14 @@ impl Interner for RefInterner {
     }
 
     fn mk_ty(&mut self, kind: TyForm<Self>) -> Result<Ty<Self>, OutOfMemory>
-        requires { IsTrue (known (kind_tree (⟦<RefInterner as Interner>⟧.meaning self.old) kind)) }
+        requires { let m = ⟦<RefInterner as Interner>⟧.meaning self.old in IsTrue (known (kind_tree m kind)) }
         ensures grown { Extends (⟦<RefInterner as Interner>⟧.meaning self.old) (⟦<RefInterner as Interner>⟧.meaning self.new) }
         ensures sure { IfOk result (λ k. IsTrue (known ((⟦<RefInterner as Interner>⟧.meaning self.new).ty k))) }
-        ensures made { IfOk result (λ k. (⟦<RefInterner as Interner>⟧.meaning self.new).ty k ≡ kind_tree (⟦<RefInterner as Interner>⟧.meaning self.old) kind) }
+        ensures made { let m = ⟦<RefInterner as Interner>⟧.meaning self.old in
+            IfOk result (λ k. (⟦<RefInterner as Interner>⟧.meaning self.new).ty k ≡ kind_tree m kind) }
         ensures refused { OnErr result (⟦<RefInterner as Interner>⟧.meaning self.new ≡ ⟦<RefInterner as Interner>⟧.meaning self.old) }
-        ensures there { (k : TyKey NodeKey) → (⟦<RefInterner as Interner>⟧.meaning self.old).ty k ≡ kind_tree (⟦<RefInterner as Interner>⟧.meaning self.old) kind → IsOk result × (⟦<RefInterner as Interner>⟧.meaning self.new ≡ ⟦<RefInterner as Interner>⟧.meaning self.old) }
+        ensures there { let m = ⟦<RefInterner as Interner>⟧.meaning self.old in
+            (k : TyKey NodeKey) → m.ty k ≡ kind_tree m kind → IsOk result × (⟦<RefInterner as Interner>⟧.meaning self.new ≡ m) }
     {
         let number = self.add(Node::Ty(kind))?;
         Ok(TyKey(number))
@@ -129,9 +131,11 @@ impl Interner for RefInterner {
     fn mk_region(&mut self, kind: RegionForm<Self>) -> Result<Region<Self>, OutOfMemory>
         ensures grown { Extends (⟦<RefInterner as Interner>⟧.meaning self.old) (⟦<RefInterner as Interner>⟧.meaning self.new) }
         ensures sure { IfOk result (λ k. IsTrue (known ((⟦<RefInterner as Interner>⟧.meaning self.new).region k))) }
-        ensures made { IfOk result (λ k. (⟦<RefInterner as Interner>⟧.meaning self.new).region k ≡ region_tree (⟦<RefInterner as Interner>⟧.meaning self.old) kind) }
+        ensures made { let m = ⟦<RefInterner as Interner>⟧.meaning self.old in
+            IfOk result (λ k. (⟦<RefInterner as Interner>⟧.meaning self.new).region k ≡ region_tree m kind) }
         ensures refused { OnErr result (⟦<RefInterner as Interner>⟧.meaning self.new ≡ ⟦<RefInterner as Interner>⟧.meaning self.old) }
-        ensures there { (k : RegionKey NodeKey) → (⟦<RefInterner as Interner>⟧.meaning self.old).region k ≡ region_tree (⟦<RefInterner as Interner>⟧.meaning self.old) kind → IsOk result × (⟦<RefInterner as Interner>⟧.meaning self.new ≡ ⟦<RefInterner as Interner>⟧.meaning self.old) }
+        ensures there { let m = ⟦<RefInterner as Interner>⟧.meaning self.old in
+            (k : RegionKey NodeKey) → m.region k ≡ region_tree m kind → IsOk result × (⟦<RefInterner as Interner>⟧.meaning self.new ≡ m) }
     {
         let number = self.add(Node::Region(kind))?;
         Ok(RegionKey(number))

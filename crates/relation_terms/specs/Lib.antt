@@ -2,3 +2,4 @@ pub mod Heads
 pub mod Trees
 pub mod Variances
 pub mod Meaning
+pub mod Erasure

@@ -68,6 +68,7 @@ pub fn write_region<I: Interner, W: Write>(
 
 /// Writes a type.
 #[cycle(write_ty)]
+#[tactic(auto, using(crate::proofs::Parts::size_part, crate::proofs::Parts::known_part))]
 pub fn write_ty<I: Interner, W: Write>(
     cx: &I,
     parameters: &[Parameter<I::Name>],
@@ -105,6 +106,7 @@ pub fn write_ty<I: Interner, W: Write>(
 
 // Writes a tuple: a lone member has a comma behind it.
 #[cycle(write_ty)]
+#[tactic(auto, using(crate::proofs::Parts::size_part, crate::proofs::Parts::known_part))]
 fn write_tuple<I: Interner, W: Write>(
     cx: &I,
     parameters: &[Parameter<I::Name>],

@@ -1,5 +1,5 @@
 //! Types as rows write them, and how they are built.
-ghost use Rattle.std.specs.Prelude.{◌≡◌, IsTrue, IfOk};
+ghost use Rattle.std.specs.Prelude.{◌≡◌, ◌<◌, IsTrue, IfOk, length};
 ghost use Rattle.relation_terms.specs.Trees.{known, list_tree};
 ghost use Rattle.relation_terms.specs.Meaning.{Extends, kind_tree, region_tree};
 ghost use Rattle.type_relations.specs.Stores.{IsTermIn};
@@ -147,6 +147,16 @@ fn build_region<I: Interner>(
     }
 }
 
+// A type variable of the context.
+fn variable<I: Interner>(ctx: &RefCtxt<I>, number: usize) -> Ty<I>
+    requires lawful { IsLawful (I.meaning ctx.now.interner) ctx.now.inner }
+    requires made { number < length ctx.now.inner.types.items }
+    ensures sure { IsTrue (known ((I.meaning ctx.now.interner).ty result)) }
+    ensures is_in { IsTermIn (store_of (I.meaning ctx.now.interner) ctx.now.inner) ((I.meaning ctx.now.interner).ty result) }
+{
+    ctx.inner.types[number].key.dup()
+}
+
 /// The type that is written, over the variables of a context.
 #[cycle(build)]
 pub fn build<I: Interner>(
@@ -165,10 +175,12 @@ pub fn build<I: Interner>(
         Written::Bool => make_ty(ctx, TyKind::Bool),
         Written::Char => make_ty(ctx, TyKind::Char),
         Written::Uint(width) => make_ty(ctx, TyKind::Uint(*width)),
-        Written::Variable(number) => match ctx.inner.types.get(*number) {
-            Some(variable) => Ok(variable.key.dup()),
-            None => Err(BuildFault::Missing),
-        },
+        Written::Variable(number) => {
+            if *number >= ctx.inner.types.len() {
+                return Err(BuildFault::Missing);
+            }
+            Ok(variable(ctx, *number))
+        }
         Written::Slice(element) => {
             let element = build(ctx, parameters, element)?;
             make_ty(ctx, TyKind::Slice(element))

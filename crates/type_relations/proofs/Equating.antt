@@ -110,7 +110,7 @@ module _ (before after : Store) (k : VarKind) (n : ℕ) (t : Tree) (q : BindsTo 
   scope_leaf u (variable j m) h = (made_after before after k n (bound_to t) t q.writes refl j m h.0, subst (λ z. z ≤ u) (sym (q.same_universes j m)) h.1)
   scope_leaf u (placeholder j v m) h = h
   scope_leaf u (bound j d m) h = tt
-  scope_leaf u (atom a) h = tt
+  scope_leaf u (atom a) h = h
   scope_leaf u unknown h = absurd h
 
   bound_in_scope : Leaves (IsInScope after (universe_of before k n)) (apply (resolved before) t)

@@ -37,7 +37,7 @@ module _ (before after : Store) (k : VarKind) (n u : ℕ) (b : MakesVariable bef
       go (yes e) = subst (λ i. entry_of after i m ≡ entry_of before i m) (sym e) (ap (λ es. get_or es m unbound) b.entries_grow ∙ entry_push (before.entries k) m)
       go (no o) = ap (λ es. get_or es m unbound) (b.other_entries j o)
 
-  same_terms : (j : VarKind) (m : ℕ) → bound_term before j m ≡ bound_term after j m
+  pub same_terms : (j : VarKind) (m : ℕ) → bound_term before j m ≡ bound_term after j m
   same_terms j m = ap (entry_term j) (sym (same_entries j m))
 
   one_more : length (after.entries k) ≡ suc (length (before.entries k))
@@ -54,7 +54,7 @@ module _ (before after : Store) (k : VarKind) (n u : ℕ) (b : MakesVariable bef
   new_made = omega (arith, one_more, b.number)
 
   -- A variable of the later store is an earlier one or the new one.
-  old_or_new : (j : VarKind) (m : ℕ) → IsMade after j m → IsMade before j m ⊎ ((j ≡ k) × (m ≡ n))
+  pub old_or_new : (j : VarKind) (m : ℕ) → IsMade after j m → IsMade before j m ⊎ ((j ≡ k) × (m ≡ n))
   old_or_new j m h = go (VarKind_discrete j k)
     where
       at : (e : j ≡ k) → Dec (m ≡ n) → IsMade before j m ⊎ ((j ≡ k) × (m ≡ n))
@@ -99,7 +99,7 @@ module _ (before after : Store) (k : VarKind) (n u : ℕ) (b : MakesVariable bef
     scope_leaf v (variable j m) h = (made_later j m h.0, subst (λ z. z ≤ v) (sym (universes_stand j m h.0)) h.1)
     scope_leaf v (bound j d m) h = tt
     scope_leaf v (placeholder j w m) h = h
-    scope_leaf v (atom x) h = tt
+    scope_leaf v (atom x) h = h
     scope_leaf v unknown h = absurd h
 
     scopes : (j : VarKind) (m : ℕ) → IsMade after j m → Leaves (IsInScope after (universe_of after j m)) (resolved after j m)
@@ -191,7 +191,7 @@ module _ (before after : Store) (q : Constraint) (b : AddsConstraint before afte
   scope_leaf' v (variable j m) h = (constraint_made j m h.0, subst (λ z. z ≤ v) (same_universe_of j m) h.1)
   scope_leaf' v (bound j d m) h = tt
   scope_leaf' v (placeholder j w m) h = h
-  scope_leaf' v (atom x) h = tt
+  scope_leaf' v (atom x) h = h
   scope_leaf' v unknown h = absurd h
 
   free_leaf' : (l : Leaf) → IsFree before l → IsFree after l

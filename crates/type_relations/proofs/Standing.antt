@@ -139,7 +139,7 @@ pub scope_mono : (st : Store) (u v : ℕ) → u ≤ v → (l : Leaf) → IsInSco
 scope_mono st u v h (variable k n) i = (i.0, le_trans i.1 h)
 scope_mono st u v h (bound k d n) i = tt
 scope_mono st u v h (placeholder k x n) i = omega arith
-scope_mono st u v h (atom x) i = tt
+scope_mono st u v h (atom x) i = i
 scope_mono st u v h unknown i = absurd i
 
 -- What is in scope stays so after replacing variables by terms in their scopes.
@@ -147,7 +147,7 @@ pub scope_leaf : (st : Store) (s : Assign) (u : ℕ) → ((k : VarKind) (n : ℕ
 scope_leaf st s u h (variable k n) i = Leaves_map _ _ (scope_mono st (universe_of st k n) u i.1) (s k n) (h k n i.0)
 scope_leaf st s u h (bound k d n) i = tt
 scope_leaf st s u h (placeholder k v n) i = i
-scope_leaf st s u h (atom x) i = tt
+scope_leaf st s u h (atom x) i = i
 scope_leaf st s u h unknown i = absurd i
 
 pub scope_apply : (st : Store) (s : Assign) (u : ℕ) (t : Tree) → ((k : VarKind) (n : ℕ) → IsMade st k n → Leaves (IsInScope st (universe_of st k n)) (s k n)) → Leaves (IsInScope st u) t → Leaves (IsInScope st u) (apply s t)
@@ -162,7 +162,7 @@ made_leaf : (before after : Store) → ((k : VarKind) (n : ℕ) → IsMade befor
 made_leaf before after g (variable k n) h = g k n h
 made_leaf before after g (bound k d i) h = tt
 made_leaf before after g (placeholder k u n) h = tt
-made_leaf before after g (atom x) h = tt
+made_leaf before after g (atom x) h = h
 made_leaf before after g unknown h = absurd h
 
 pub later_context : (before after : Store) → ((k : VarKind) (n : ℕ) → IsMade before k n → IsMade after k n) → (t : Tree) → InContext before t → InContext after t

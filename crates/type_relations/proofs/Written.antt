@@ -214,7 +214,7 @@ module _ (before after : Store) (k : VarKind) (n : ℕ) (x : Entry) (t : Tree) (
           go (inr o) = subst (Leaves (IsInScope after u)) (sym (only_other k n target j i o)) (made_after j i h.0, le_trans (smaller j i) h.1)
       scope_leaf u (bound j d i) h = tt
       scope_leaf u (placeholder j v i) h = h
-      scope_leaf u (atom y) h = tt
+      scope_leaf u (atom y) h = h
       scope_leaf u unknown h = absurd h
 
       scope_tree : (u : ℕ) (v : Tree) → Leaves (IsInScope before u) v → Leaves (IsInScope after u) (apply single v)

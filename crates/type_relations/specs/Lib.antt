@@ -1,4 +1,13 @@
 pub mod Relation
 pub mod Stores
+pub mod Goals
+pub mod FirstOrder
 pub mod Steps
+pub mod Outcomes
+pub mod Headline
+pub mod SmallTerms
+pub mod StepLaws
+pub mod ErasureLaws
+pub mod StoreLaws
+pub mod RegionTerms
 pub mod Measures

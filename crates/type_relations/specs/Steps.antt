@@ -1,8 +1,13 @@
 -- What each call of a lawful context does to what is recorded.
-use Rattle.std.specs.Prelude.{◌≡◌, ℕ, suc, ◌<◌, ◌≤◌, min, List, [], ◌∷◌, ◌++◌, length}
-use Rattle.relation_terms.specs.Heads.{VarKind}
-use Rattle.relation_terms.specs.Trees.{Tree}
-use Rattle.type_relations.specs.Stores.{Store, Entry, unbound, same_as, bound_to, entry_of, universe_of, IsMade, OnlyShrinks, Constraint}
+use Rattle.std.specs.Prelude.{◌≡◌, ◌⊎◌, ℕ, suc, ◌<◌, ◌≤◌, min, List, [], ◌∷◌, ◌++◌, map, length}
+use Rattle.relation_terms.specs.declared.terms.enums.Variance.{Variance}
+use Rattle.relation_terms.specs.declared.terms.enums.Variance.TheVariants.{Invariant}
+use Rattle.relation_terms.specs.Heads.{BoundKind, bound_sort, VarKind, int_var, float_var, var_sort, Head, Leaf, variable, placeholder, atom}
+use Rattle.relation_terms.specs.Trees.{Tree, leaf, node, bind, cons, Assign, apply, inst, Leaves}
+use Rattle.relation_terms.specs.Erasure.{erase}
+use Rattle.type_relations.specs.Relation.{Interpretation, sort_of, StaysWithin, FitKinds, AvoidsAll}
+use Rattle.type_relations.specs.Stores.{Store, Entry, unbound, same_as, bound_to, entry_of, universe_of, IsMade, IsNamable, IsSound, IsIntegerAtom, IsFloatAtom, IsTermIn, Satisfies, OnlyShrinks, Constraint, resolved}
+use Rattle.type_relations.specs.FirstOrder.{IsFirstOrder, IsFirstOrderStore, IsRegionLeaf, Unifies, IsErasedSolution}
 
 -- A later state: entries stand, though an unbound variable may have got one; constraints stand, and others may stand
 -- behind them; the current universe is not lower; and only satisfying assignments were lost.
@@ -62,3 +67,155 @@ pub record AddsConstraint (before after : Store) (q : Constraint) : Type 0 where
   pub same_universe : after.universe ≡ before.universe
   pub same_taint : after.tainted ≡ before.tainted
   pub same_budget : after.budget ≡ before.budget
+
+-- The entries, the variables' universes, the constraints and the budget stand: what a new universe, a mark that two
+-- variables are related, a type that is to outlive a region, or the taint changes is seen by no assignment.
+pub record ChangesNothing (before after : Store) : Type 0 where
+  pub same_entries : (k : VarKind) → after.entries k ≡ before.entries k
+  pub same_universes : (k : VarKind) → after.universes k ≡ before.universes k
+  pub same_constraints : after.constraints ≡ before.constraints
+  pub universe_stands : before.universe ≤ after.universe
+  pub same_budget : after.budget ≡ before.budget
+
+-- A number variable was bound to a type of its kind, for nothing of the budget.
+abbrev pub IsNumberFor : VarKind → Tree → Type 0
+IsNumberFor int_var (leaf (atom x)) = IsIntegerAtom x
+IsNumberFor float_var (leaf (atom x)) = IsFloatAtom x
+IsNumberFor k t = ⊥
+
+pub record InstantiatesNumber (before after : Store) (k : VarKind) (n : ℕ) (t : Tree) : Type 0 where
+  pub writes : WritesEntry before after k n (bound_to t)
+  pub fits : IsNumberFor k t
+  pub same_universes : (j : VarKind) (i : ℕ) → universe_of after j i ≡ universe_of before j i
+  pub same_budget : after.budget ≡ before.budget
+
+-- A term was resolved: what it comes to, and so its value under each assignment that meets the bindings, stands.
+pub record Resolves (st : Store) (t answer : Tree) : Type 0 where
+  pub is_in : IsTermIn st t → IsTermIn st answer
+  pub same_resolved : apply (resolved st) answer ≡ apply (resolved st) t
+  pub same_value : (w : Interpretation) (s : Assign) → Satisfies w st s → apply s answer ≡ apply s t
+  pub same_erased : (s : Assign) → IsErasedSolution st s → Unifies s answer t
+
+-- No variable that has a term.
+abbrev pub IsShallow : Store → Tree → Type 0
+IsShallow st (leaf (variable k n)) = entry_of st k n ≡ unbound
+IsShallow st t = Unit {0}
+
+-- The two assignments agree on the variables of a store, wholly or up to erasure.
+abbrev pub AgreeOn : Store → Assign → Assign → Type 0
+AgreeOn st s s' = (k : VarKind) (n : ℕ) → IsMade st k n → s k n ≡ s' k n
+
+abbrev pub AgreeErased : Store → Assign → Assign → Type 0
+AgreeErased st s s' = (k : VarKind) (n : ℕ) → IsMade st k n → erase (s k n) ≡ erase (s' k n)
+
+-- What a property of later assignments says of an earlier one: some extension to the new variables has it.
+abbrev pub Extends : Store → Assign → (Assign → Type 0) → Type 0
+Extends before s P = (s' : Assign) × AgreeOn before s s' × P s'
+
+-- The same up to erasure. Where two variables of different universes are made equal, the one of the larger universe
+-- may have named regions that the other can't.
+abbrev pub ExtendsErased : Store → Assign → (Assign → Type 0) → Type 0
+ExtendsErased before s P = (s' : Assign) × AgreeErased before s s' × P s'
+
+-- A list of values all of which a universe can name.
+abbrev pub AllNamable : ℕ → List Tree → Type 0
+AllNamable u [] = Unit {0}
+AllNamable u (t ∷ ts) = Leaves (IsNamable u) t × AllNamable u ts
+
+-- Pairwise different variables that were not there before, of a universe, for the variables of a binder.
+abbrev pub AreNewVariables : Store → Store → ℕ → List BoundKind → List Tree → Type 0
+AreNewVariables before after u [] [] = Unit {0}
+AreNewVariables before after u (k ∷ ks) (x ∷ xs) = ((v : VarKind) × (n : ℕ) × (x ≡ leaf (variable v n)) × (var_sort v ≡ bound_sort k) × (IsMade before v n → ⊥) × IsMade after v n × (universe_of after v n ≡ u)) × AvoidsAll x xs × AreNewVariables before after u ks xs
+AreNewVariables before after u [] (x ∷ xs) = ⊥
+AreNewVariables before after u (k ∷ ks) [] = ⊥
+
+-- New variables were made for the variables of a binder, in a universe. Nothing is recorded of them, so they may stand
+-- for whatever the universe can name.
+pub record Makes (before after : Store) (u : ℕ) (ks : List BoundKind) (variables : List Tree) : Type 0 where
+  pub later : IsLater before after
+  pub are_new : AreNewVariables before after u ks variables
+  pub same_entries : (k : VarKind) (n : ℕ) → entry_of after k n ≡ entry_of before k n
+  pub same_universes : (k : VarKind) (n : ℕ) → IsMade before k n → universe_of after k n ≡ universe_of before k n
+  pub same_constraints : after.constraints ≡ before.constraints
+  pub same_universe : after.universe ≡ before.universe
+  pub same_budget : after.budget ≡ before.budget
+  pub unconstrained : (w : Interpretation) (s : Assign) (values : List Tree) → Satisfies w before s → FitKinds ks values → AllNamable u values → Extends before s (λ s'. Satisfies w after s' × (map (apply s') variables ≡ values))
+
+-- Pairwise different placeholders of a universe for the variables of a binder.
+abbrev pub ArePlaceholders : ℕ → List BoundKind → List Tree → Type 0
+ArePlaceholders u [] [] = Unit {0}
+ArePlaceholders u (k ∷ ks) (p ∷ ps) = ((n : ℕ) × (p ≡ leaf (placeholder k u n))) × AvoidsAll p ps × ArePlaceholders u ks ps
+ArePlaceholders u [] (p ∷ ps) = ⊥
+ArePlaceholders u (k ∷ ks) [] = ⊥
+
+-- A binder was opened with new variables of the current universe.
+pub record InstantiatesBinder (before after : Store) (ks : List BoundKind) (body opened : Tree) : Type 0 where
+  pub variables : List Tree
+  pub makes : Makes before after before.universe ks variables
+  pub body_is : opened ≡ inst variables 0 body
+
+-- A binder was opened with placeholders of a universe above all earlier ones, which is the current one from then on.
+pub record EntersUniverse (before after : Store) (ks : List BoundKind) (body opened : Tree) : Type 0 where
+  pub placeholders : List Tree
+  pub are_placeholders : ArePlaceholders after.universe ks placeholders
+  pub above : before.universe < after.universe
+  pub body_is : opened ≡ inst placeholders 0 body
+
+-- Or its body uses none of its variables and is answered as it is; no universe is made.
+pub record LeavesBody (before after : Store) (body opened : Tree) : Type 0 where
+  pub unused : StaysWithin 0 body
+  pub body_is : opened ≡ body
+  pub same_universe : after.universe ≡ before.universe
+
+pub record EntersForall (before after : Store) (ks : List BoundKind) (body opened : Tree) : Type 0 where
+  pub changes_nothing : ChangesNothing before after
+  pub opens : LeavesBody before after body opened ⊎ ((StaysWithin 0 body → ⊥) × EntersUniverse before after ks body opened)
+
+-- A tree with some places replaced by new variables of their sort.
+pub data IsGeneralised (before after : Store) : Tree → Tree → Type 0 where
+  kept : {t u : Tree} → t ≡ u → IsGeneralised before after t u
+  replaced : {t u : Tree} (k : VarKind) (n : ℕ) → u ≡ leaf (variable k n) → (IsMade before k n → ⊥) → IsMade after k n → sort_of t ≡ var_sort k → IsGeneralised before after t u
+  in_form : {h : Head} {ts us : Tree} → IsGeneralised before after ts us → IsGeneralised before after (node h ts) (node h us)
+  in_binder : {ks : List BoundKind} {t u : Tree} → IsGeneralised before after t u → IsGeneralised before after (bind ks t) (bind ks u)
+  in_list : {t u ts us : Tree} → IsGeneralised before after t u → IsGeneralised before after ts us → IsGeneralised before after (cons t ts) (cons u us)
+
+-- No part of a term but its regions is beyond what a universe can name.
+abbrev pub IsNamedBy : Store → ℕ → Leaf → Type 0
+IsNamedBy st u (variable k n) = IsRegionLeaf (variable k n) ⊎ (universe_of st k n ≤ u)
+IsNamedBy st u (placeholder k v n) = IsRegionLeaf (placeholder k v n) ⊎ (v ≤ u)
+IsNamedBy st u l = Unit {0}
+
+-- An unbound variable was bound, at a variance, to what a term comes to with some places replaced by new variables,
+-- for one of the budget. Each earlier assignment that gave the variable the term's value extends to the new variables.
+-- At invariance, where all is first-order and the variable can name the term's types and constants, only regions are
+-- replaced.
+pub record Instantiates (before after : Store) (v : Variance) (k : VarKind) (n : ℕ) (source term : Tree) : Type 0 where
+  pub later : IsLater before after
+  pub made : IsMade before k n
+  pub was_unbound : entry_of before k n ≡ unbound
+  pub now_bound : entry_of after k n ≡ bound_to term
+  pub others_stand : (j : VarKind) (i : ℕ) → (j ≡ k → i ≡ n → ⊥) → entry_of after j i ≡ entry_of before j i
+  pub same_universes : (j : VarKind) (i : ℕ) → IsMade before j i → universe_of after j i ≡ universe_of before j i
+  pub same_constraints : after.constraints ≡ before.constraints
+  pub same_universe : after.universe ≡ before.universe
+  pub same_taint : after.tainted ≡ before.tainted
+  pub one_spent : before.budget ≡ suc after.budget
+  pub term_in : IsTermIn after term
+  pub generalised : IsGeneralised before after (apply (resolved before) source) term
+  pub stays_sound : IsSound before → IsSound after
+  pub keeps : (w : Interpretation) (s : Assign) → Satisfies w before s → s k n ≡ apply s source → Extends before s (λ s'. Satisfies w after s')
+  pub keeps_erased : (s : Assign) → IsErasedSolution before s → Unifies s (leaf (variable k n)) source → ExtendsErased before s (IsErasedSolution after)
+  pub regions_alone : v ≡ Invariant → IsFirstOrder source → IsFirstOrderStore before → Leaves (IsNamedBy before (universe_of before k n)) (apply (resolved before) source) → erase term ≡ erase (apply (resolved before) source)
+
+-- Or nothing was bound, and no earlier assignment gave the variable the term's value: nor up to erasure, at invariance
+-- where all is first-order. Variables that were made on the way stay unbound.
+pub record RefusesToInstantiate (before after : Store) (v : Variance) (k : VarKind) (n : ℕ) (source : Tree) : Type 0 where
+  pub later : IsLater before after
+  pub same_entries : (j : VarKind) (i : ℕ) → entry_of after j i ≡ entry_of before j i
+  pub same_constraints : after.constraints ≡ before.constraints
+  pub same_universe : after.universe ≡ before.universe
+  pub same_taint : after.tainted ≡ before.tainted
+  pub same_budget : after.budget ≡ before.budget
+  pub stays_sound : IsSound before → IsSound after
+  pub apart : (w : Interpretation) (s : Assign) → Satisfies w before s → s k n ≡ apply s source → ⊥
+  pub apart_erased : v ≡ Invariant → IsFirstOrder source → IsFirstOrderStore before → (s : Assign) → IsErasedSolution before s → Unifies s (leaf (variable k n)) source → ⊥

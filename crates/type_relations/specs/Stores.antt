@@ -2,7 +2,7 @@
 use Rattle.std.specs.Prelude.{◌≡◌, ℕ, zero, suc, ◌+◌, ◌<◌, ◌≤◌, Bool, List, [], ◌∷◌, Option, Some, None, All, length, get_or}
 use Rattle.relation_terms.specs.Heads.{Sort, region_sort, type_sort, const_sort, BoundKind, bound_sort, VarKind, type_var, int_var, float_var, const_var, region_var, var_sort, Atom, int_type, uint_type, float_type, Leaf, variable, bound, placeholder, atom, unknown}
 use Rattle.relation_terms.specs.Trees.{Tree, leaf, node, bind, nil, cons, Assign, apply, Leaves, size, IsTerm}
-use Rattle.type_relations.specs.Relation.{Interpretation, Outlives, IsGround, StaysWithin, AvoidsAll}
+use Rattle.type_relations.specs.Relation.{Interpretation, Outlives, IsValueAtom, IsGround, StaysWithin, AvoidsAll}
 
 -- A constraint on regions: the first outlives the second, or both outlive each other.
 pub data Constraint : Type 0 where
@@ -160,23 +160,23 @@ resolved st = resolve (rounds_for (all_taken st)) st
 unfoldable pub weight : Store → Tree → ℕ
 weight st t = size (apply (resolved st) t)
 
--- Each variable of a term is the context's.
+-- Each variable of a term is the context's, and nothing in it stands for one or is unknown.
 abbrev pub IsMadeLeaf : Store → Leaf → Type 0
 IsMadeLeaf st (variable k n) = IsMade st k n
 IsMadeLeaf st (bound k d i) = Unit {0}
 IsMadeLeaf st (placeholder k u n) = Unit {0}
-IsMadeLeaf st (atom x) = Unit {0}
+IsMadeLeaf st (atom x) = IsValueAtom x
 IsMadeLeaf st unknown = ⊥
 
 unfoldable pub InContext : Store → Tree → Type 0
 InContext st t = Leaves (IsMadeLeaf st) t
 
--- A variable of a term is the context's, and no part names what universe `u` can't.
+-- The same, and no part names what universe `u` can't.
 abbrev pub IsInScope : Store → ℕ → Leaf → Type 0
 IsInScope st u (variable k n) = IsMade st k n × (universe_of st k n ≤ u)
 IsInScope st u (bound k d i) = Unit {0}
 IsInScope st u (placeholder k v n) = v ≤ u
-IsInScope st u (atom x) = Unit {0}
+IsInScope st u (atom x) = IsValueAtom x
 IsInScope st u unknown = ⊥
 
 -- A term over the context's variables, with no escaping bound variable.

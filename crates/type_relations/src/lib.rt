@@ -1,4 +1,5 @@
 //! Relating terms in an inference context.
 #![tactic(auto)]
 
+pub mod laws;
 pub mod relate;

@@ -1,26 +1,30 @@
-//! The context: making, reading and equating variables.
-ghost use Rattle.std.specs.Prelude.{◌≡◌, ◌≢◌, ℕ, ◌+◌, ◌<◌, ◌≤◌, IsTrue, IfOk, OnErr, IfSome, IfNone, length, ◌∷◌, [], min, max, map, slice_set, ◌++◌};
-ghost use Rattle.relation_terms.specs.Heads.{type_var, region_var, variable};
+//! The context, and reading what it has recorded.
+ghost use Rattle.std.specs.Prelude.{◌≡◌, ℕ, ◌<◌, IsTrue, IfSome, IfNone, length, []};
+ghost use Rattle.relation_terms.specs.Heads.{type_var, variable};
 ghost use Rattle.relation_terms.specs.Trees.{leaf, Assign, known, apply};
-ghost use Rattle.relation_terms.specs.Meaning.{Extends};
-ghost use Rattle.type_relations.specs.Stores.{unbound, entry_of, bound_to, MeetsBindings, IsTermIn, IsRegionIn, equal_constraint};
-ghost use Rattle.type_relations.specs.Steps.{Equates, MakesVariable, AddsConstraint, IsLater};
-ghost use Rattle.type_relations.specs.Measures.{Goes};
+ghost use Rattle.relation_terms.specs.Meaning.{infer_tree};
+ghost use Rattle.type_relations.specs.Stores.{unbound, entry_of, bound_to, MeetsBindings, IsTermIn};
 ghost use Rattle.relation_reference.specs.Tables.{store_of, IsLawful, entry_of_value};
-ghost use Rattle.relation_reference.specs.Answers.{LeadsTo, IsRoot, IsShallow, Unites};
+ghost use Rattle.relation_reference.specs.Answers.{LeadsTo, IsRoot, IsShallow};
 
-use crate::context::{InferCtxtInner, TypeVariable, TypeVariableValue};
-use relation_terms::predicate::{RegionConstraint, RegionEqPredicate};
-use relation_terms::terms::{
-    Dup, InferTy, Interner, OutOfMemory, Region, RegionKind, RegionVid, Ty, TyKey, TyKind, TyVid,
-    UniverseIndex,
-};
+use crate::context::{InferCtxtInner, TypeVariableValue};
+use relation_terms::predicate::RegionConstraint;
+use relation_terms::terms::{Dup, InferTy, Interner, Ty, TyKind, TyVid, UniverseIndex};
 
 /// An inference context: an interner, and what is recorded of variables and regions.
 #[derive(Drop)]
 pub struct RefCtxt<I: Interner> {
     pub interner: I,
     pub inner: InferCtxtInner<I::Key>,
+}
+
+// The number of a type variable.
+pub(crate) fn ty_vid(infer: InferTy) -> TyVid
+    ensures { infer_tree infer ≡ leaf (variable type_var result.0) }
+{
+    match infer {
+        InferTy::TyVar(vid) => vid,
+    }
 }
 
 impl<I: Interner> RefCtxt<I> {
@@ -61,7 +65,7 @@ impl<I: Interner> RefCtxt<I> {
     }
 
     // What is recorded of a variable.
-    fn probe(&self, v: usize) -> TypeVariableValue<I::Key>
+    pub(crate) fn probe(&self, v: usize) -> TypeVariableValue<I::Key>
         requires { v < length self.now.inner.types.items }
         ensures { entry_of_value (I.meaning self.now.interner) result ≡ entry_of (store_of (I.meaning self.now.interner) self.now.inner) type_var v }
     {
@@ -115,31 +119,14 @@ impl<I: Interner> RefCtxt<I> {
         ensures same_value { (s : Assign) → MeetsBindings (store_of (I.meaning self.now.interner) self.now.inner) s → apply s ((I.meaning self.now.interner).ty ty.now) ≡ apply s ((I.meaning self.now.interner).ty result) }
         ensures shallow { IsShallow (store_of (I.meaning self.now.interner) self.now.inner) ((I.meaning self.now.interner).ty result) }
     {
-        let TyKind::Infer(InferTy::TyVar(var)) = self.interner.ty_kind(ty) else {
+        let TyKind::Infer(variable) = self.interner.ty_kind(ty) else {
             return ty.dup();
         };
-        let root = self.root_ty_var(var);
+        let root = self.root_ty_var(ty_vid(variable));
         match self.probe(root.0) {
             TypeVariableValue::Known(bound) => bound,
             TypeVariableValue::Unknown => self.inner.types[root.0].key.dup(),
             TypeVariableValue::SameAs(_) => unreachable!(),
         }
-    }
-
-    // Writes what is recorded of a variable, and its universe.
-    fn record(&mut self, v: usize, value: TypeVariableValue<I::Key>, universe: UniverseIndex)
-        requires { v < length self.old.inner.types.items }
-        ensures interner { self.new.interner ≡ self.old.interner }
-        ensures keys { map (λ t. t.key) self.new.inner.types.items ≡ map (λ t. t.key) self.old.inner.types.items }
-        ensures values { map (λ t. t.value) self.new.inner.types.items ≡ slice_set (map (λ t. t.value) self.old.inner.types.items) v value }
-        ensures universes { map (λ t. t.universe) self.new.inner.types.items ≡ slice_set (map (λ t. t.universe) self.old.inner.types.items) v universe }
-        ensures regions { self.new.inner.regions.items ≡ self.old.inner.regions.items }
-        ensures constraints { self.new.inner.constraints.items ≡ self.old.inner.constraints.items }
-        ensures universe { self.new.inner.universe ≡ self.old.inner.universe }
-        ensures budget { self.new.inner.budget ≡ self.old.inner.budget }
-    {
-        let entry = &mut self.inner.types[v];
-        entry.value = value;
-        entry.universe = universe;
     }
 }

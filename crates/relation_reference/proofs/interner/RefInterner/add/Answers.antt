@@ -44,8 +44,8 @@ returns-clause-there c =
     let u = none_at c.deref.result.now ns c.args.node c.deref.ensures.value c.in_default.ensures in
     λ k e. absurd (fresh ns c.args.node c.args.self.now.distinct c.requires u k e)
 
-pub returns-in_err-push-clause-unrefused : goal.returns-in_err-push-clause-unrefused
-returns-in_err-push-clause-unrefused c =
+pub returns-in_err-push-clause-there : goal.returns-in_err-push-clause-there
+returns-in_err-push-clause-there c =
     let ns = c.args.self.now.nodes.items in
     let u = none_at c.deref.result.now ns c.args.node c.deref.ensures.value c.in_default.ensures in
     λ k e. absurd (fresh ns c.args.node c.args.self.now.distinct c.requires u k e)

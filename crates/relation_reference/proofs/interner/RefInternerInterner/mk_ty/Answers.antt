@@ -20,9 +20,9 @@ returns-clause-sure c = subst (λ t. IsTrue (known t)) (sym (returns-clause-made
 pub returns-clause-there : goal.returns-clause-there
 returns-clause-there c = λ k e.
     let at = ty_stands c.args.self.now.nodes.items (kind_tree (table_meaning c.args.self.now.nodes.items) c.args.kind) k e c.requires in
-    (refl, ap table_meaning (c.in_ok-number.ensures.there (k.0).0 at))
+    (refl, ap table_meaning (c.in_ok-number.ensures.there (k.0).0 at).1)
 
 pub returns-in_err-number-clause-there : goal.returns-in_err-number-clause-there
 returns-in_err-number-clause-there c = λ k e.
     let at = ty_stands c.args.self.now.nodes.items (kind_tree (table_meaning c.args.self.now.nodes.items) c.args.kind) k e c.requires in
-    absurd (false≢true (c.in_err-number.ensures.unrefused (k.0).0 at))
+    absurd (false≢true (c.in_err-number.ensures.there (k.0).0 at).0)

@@ -25,4 +25,4 @@ returns-clause-there c = λ k e.
     let v = c.in_ok-list.list in
     let same : list_tree read v.items ≡ list_tree read c.args.tys.now = ap (λ xs. list_tree read xs) c.in_ok-list.ensures in
     let sure : IsTrue (known (list_tree read v.items)) = subst (λ t. IsTrue (known t)) (sym same) c.requires in
-    ap table_meaning (c.in_ok-number.ensures.there (k.0).0 (tys_stand c.args.self.now.nodes.items (list_tree read v.items) k (e ∙ sym same) sure))
+    ap table_meaning (c.in_ok-number.ensures.there (k.0).0 (tys_stand c.args.self.now.nodes.items (list_tree read v.items) k (e ∙ sym same) sure)).1

@@ -1,22 +1,14 @@
-use Rattle.std.proofs.Common.{rules, ◌≡◌, ◌≢◌, ℕ, ◌+◌, ◌<◌, ◌≤◌, IsTrue, IfOk, OnErr, IfSome, IfNone, length, ◌∷◌, [], min, max, map, slice_set, ◌++◌, ◌-◌, ◌*◌, ◌/◌, ◌%◌, Bool, true, false, nat_eq, nat_lt, List, slice_index_or, bit_and, bit_or, Fits, w8, w32, w64, Bor, MutBor}
-use Rattle.relation_terms.specs.Heads.{type_var, region_var, variable}
-use Rattle.relation_terms.specs.Trees.{leaf, Assign, known, apply}
-use Rattle.relation_terms.specs.Meaning.{Extends}
-use Rattle.type_relations.specs.Stores.{unbound, entry_of, bound_to, MeetsBindings, IsTermIn, IsRegionIn, equal_constraint}
-use Rattle.type_relations.specs.Steps.{Equates, MakesVariable, AddsConstraint, IsLater}
-use Rattle.type_relations.specs.Measures.{Goes}
-use Rattle.relation_reference.specs.Tables.{store_of, IsLawful, entry_of_value}
-use Rattle.relation_reference.specs.Answers.{LeadsTo, IsRoot, IsShallow, Unites}
+use Rattle.std.proofs.Common.{refl, ap}
+use Rattle.std.proofs.lemmas.List.{map-set, get_or_read}
+use Rattle.std.proofs.Math.Seq.{map-set_same}
 use Rattle.relation_reference.proofs.context.variables.RefCtxt.record.Goals as goal
 
--- src/context/variables.rt:130:5
 pub returns-clause-keys : goal.returns-clause-keys
-returns-clause-keys g c = ?
+returns-clause-keys g c =
+    map-set_same (λ t. t.key) c.args.self.now.inner.types.items c.args.v _ c.index_mut-entry.result.now (ap (λ t. t.key) c.index_mut-entry.ensures.value)
 
--- src/context/variables.rt:130:5
 pub returns-clause-values : goal.returns-clause-values
-returns-clause-values g c = ?
+returns-clause-values g c = map-set (λ t. t.value) c.args.self.now.inner.types.items c.args.v _
 
--- src/context/variables.rt:130:5
 pub returns-clause-universes : goal.returns-clause-universes
-returns-clause-universes g c = ?
+returns-clause-universes g c = map-set (λ t. t.universe) c.args.self.now.inner.types.items c.args.v _

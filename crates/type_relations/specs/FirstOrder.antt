@@ -1,0 +1,98 @@
+-- First-order terms and stores, and unification.
+use Rattle.std.specs.Prelude.{◌≡◌, ℕ, Some}
+use Rattle.relation_terms.specs.Heads.{region_sort, leaf_sort, Kind, region_kind, bound_kind, VarKind, type_var, const_var, Atom, type_error, const_error, fresh_type, fresh_int, fresh_float, fresh_const, not_null_pattern, unstable_feature, ambiguous, Head, adt, fn_def, closure, coroutine_closure, coroutine, coroutine_witness, array, slice, tuple, raw_ptr, ref, signature, inputs, value, value_type, value_branch, arguments, existential_trait, existential_projection, trait_ref, trait_clause, Leaf, variable, bound, placeholder, atom, unknown}
+use Rattle.relation_terms.specs.Trees.{Tree, leaf, node, bind, nil, cons, Assign, apply, Leaves, IsList}
+use Rattle.relation_terms.specs.Erasure.{erase}
+use Rattle.type_relations.specs.Stores.{Store, bound_term, IsAssignment}
+
+-- No error, nothing that stands for a variable, no pattern and no predicate.
+abbrev pub IsFirstOrderAtom : Atom → Type 0
+IsFirstOrderAtom type_error = ⊥
+IsFirstOrderAtom const_error = ⊥
+IsFirstOrderAtom (fresh_type n) = ⊥
+IsFirstOrderAtom (fresh_int n) = ⊥
+IsFirstOrderAtom (fresh_float n) = ⊥
+IsFirstOrderAtom (fresh_const n) = ⊥
+IsFirstOrderAtom not_null_pattern = ⊥
+IsFirstOrderAtom (unstable_feature d) = ⊥
+IsFirstOrderAtom ambiguous = ⊥
+IsFirstOrderAtom x = Unit {0}
+
+-- No bound variable.
+abbrev pub IsFirstOrderLeaf : Leaf → Type 0
+IsFirstOrderLeaf (variable k n) = Unit {0}
+IsFirstOrderLeaf (bound k d i) = ⊥
+IsFirstOrderLeaf (placeholder k u n) = Unit {0}
+IsFirstOrderLeaf (atom x) = IsFirstOrderAtom x
+IsFirstOrderLeaf unknown = ⊥
+
+-- No alias, binder or pattern type; of the constants' forms values alone.
+abbrev pub IsFirstOrderHead : Head → Type 0
+IsFirstOrderHead (adt d) = Unit {0}
+IsFirstOrderHead (fn_def d) = Unit {0}
+IsFirstOrderHead (closure d) = Unit {0}
+IsFirstOrderHead (coroutine_closure d) = Unit {0}
+IsFirstOrderHead (coroutine d) = Unit {0}
+IsFirstOrderHead (coroutine_witness d) = Unit {0}
+IsFirstOrderHead array = Unit {0}
+IsFirstOrderHead slice = Unit {0}
+IsFirstOrderHead tuple = Unit {0}
+IsFirstOrderHead (raw_ptr m) = Unit {0}
+IsFirstOrderHead (ref m) = Unit {0}
+IsFirstOrderHead (signature v s x) = Unit {0}
+IsFirstOrderHead inputs = Unit {0}
+IsFirstOrderHead value = Unit {0}
+IsFirstOrderHead value_type = Unit {0}
+IsFirstOrderHead value_branch = Unit {0}
+IsFirstOrderHead arguments = Unit {0}
+IsFirstOrderHead (existential_trait d) = Unit {0}
+IsFirstOrderHead (existential_projection d) = Unit {0}
+IsFirstOrderHead (trait_ref d) = Unit {0}
+IsFirstOrderHead (trait_clause p) = Unit {0}
+IsFirstOrderHead h = ⊥
+
+abbrev pub IsRegionKind : Kind → Type 0
+IsRegionKind region_kind = Unit {0}
+IsRegionKind k = ⊥
+
+-- No variable and no placeholder of a type or a constant.
+abbrev pub IsClosedLeaf : Leaf → Type 0
+IsClosedLeaf (variable type_var n) = ⊥
+IsClosedLeaf (variable const_var n) = ⊥
+IsClosedLeaf (variable k n) = Unit {0}
+IsClosedLeaf (bound k d i) = Unit {0}
+IsClosedLeaf (placeholder (bound_kind k m) u n) = IsRegionKind k
+IsClosedLeaf (atom x) = Unit {0}
+IsClosedLeaf unknown = ⊥
+
+-- The type of a value is closed.
+abbrev pub IsTypeClosed : Head → Tree → Type 0
+IsTypeClosed value_type ts = Leaves IsClosedLeaf ts
+IsTypeClosed h ts = Unit {0}
+
+abbrev pub IsFirstOrder : Tree → Type 0
+IsFirstOrder (leaf l) = IsFirstOrderLeaf l
+IsFirstOrder (node h ts) = IsFirstOrderHead h × IsList ts × IsTypeClosed h ts × IsFirstOrder ts
+IsFirstOrder (bind ks t) = ⊥
+IsFirstOrder nil = Unit {0}
+IsFirstOrder (cons t ts) = IsFirstOrder t × IsFirstOrder ts
+
+-- Each binding of the store is first-order.
+abbrev pub IsFirstOrderStore : Store → Type 0
+IsFirstOrderStore st = (k : VarKind) (n : ℕ) (t : Tree) → bound_term st k n ≡ Some t → IsFirstOrder t
+
+-- The assignment makes the two terms one tree but for what erasure takes away.
+abbrev pub Unifies : Assign → Tree → Tree → Type 0
+Unifies s a b = erase (apply s a) ≡ erase (apply s b)
+
+-- The assignment meets a store's bindings but for what erasure takes away.
+abbrev pub MeetsErased : Store → Assign → Type 0
+MeetsErased st s = (k : VarKind) (n : ℕ) (t : Tree) → bound_term st k n ≡ Some t → Unifies s (leaf (variable k n)) t
+
+-- An assignment that satisfies a store's bindings up to erasure. Its constraints on regions are not asked.
+abbrev pub IsErasedSolution : Store → Assign → Type 0
+IsErasedSolution st s = IsAssignment st s × MeetsErased st s
+
+-- A region's variable, bound variable, placeholder or name.
+abbrev pub IsRegionLeaf : Leaf → Type 0
+IsRegionLeaf l = leaf_sort l ≡ region_sort

@@ -1,0 +1,84 @@
+-- Registered goals, what they ask of an assignment, and when they hold.
+use Rattle.std.specs.Prelude.{◌≡◌, Bool, List, [], All}
+use Rattle.relation_terms.specs.declared.terms.enums.AliasRelationDirection.{AliasRelationDirection}
+use Rattle.relation_terms.specs.declared.terms.enums.AliasRelationDirection.TheVariants.{Equate, Subtype}
+use Rattle.relation_terms.specs.declared.terms.enums.Variance.{Variance}
+use Rattle.relation_terms.specs.declared.terms.enums.Variance.TheVariants.{Covariant}
+use Rattle.relation_terms.specs.Heads.{ambiguous, subtype, well_formed, alias_relate, atom}
+use Rattle.relation_terms.specs.Trees.{Tree, leaf, node, bind, nil, cons, Assign, apply}
+use Rattle.type_relations.specs.Relation.{Items, Interpretation, IsEqualPair, IsOrderedPair, Rel, at}
+use Rattle.type_relations.specs.Stores.{Store, Satisfies, InContext}
+
+-- A registered goal: a predicate, whole, in the environment in which it is to hold.
+pub record Goal : Type 0 where
+  pub environment : Tree
+  pub predicate : Tree
+
+abbrev pub goal_of : Tree → Tree → Goal
+goal_of e p = record { environment = e; predicate = p }
+
+-- The predicates that relating registers. Each stands under a binder of no variables.
+abbrev pub subtype_predicate : Bool → Tree → Tree → Tree
+subtype_predicate a_is_expected a b = bind [] (node (subtype a_is_expected) (cons a (cons b nil)))
+
+abbrev pub alias_relate_predicate : AliasRelationDirection → Tree → Tree → Tree
+alias_relate_predicate d a b = bind [] (node (alias_relate d) (cons a (cons b nil)))
+
+abbrev pub well_formed_predicate : Tree → Tree
+well_formed_predicate t = bind [] (node well_formed (cons t nil))
+
+abbrev pub ambiguous_predicate : Tree
+ambiguous_predicate = bind [] (leaf (atom ambiguous))
+
+-- What a predicate asks: that the first of two terms is a subtype of the second; that two terms, one of them an
+-- alias, are one, or the first a subtype of the second; what is never so; or nothing that relating speaks of.
+pub data Asked : Type 0 where
+  asks_subtype : Tree → Tree → Asked
+  asks_alias : AliasRelationDirection → Tree → Tree → Asked
+  asks_too_much : Asked
+  asks_nothing : Asked
+
+abbrev pub asked : Tree → Asked
+asked (bind [] (node (subtype x) (cons a (cons b nil)))) = asks_subtype a b
+asked (bind [] (node (alias_relate d) (cons a (cons b nil)))) = asks_alias d a b
+asked (bind [] (leaf (atom ambiguous))) = asks_too_much
+asked p = asks_nothing
+
+-- When what is asked is so, in an environment. That a type is well formed is left open, and so asked of no assignment.
+abbrev pub IsSo : Items → Interpretation → Assign → Tree → Asked → Type 0
+IsSo c w s e (asks_subtype a b) = Rel c w e (at Covariant) (apply s a) (apply s b)
+IsSo c w s e (asks_alias Subtype a b) = IsOrderedPair w e (apply s a) (apply s b)
+IsSo c w s e (asks_alias Equate a b) = IsEqualPair w e (apply s a) (apply s b)
+IsSo c w s e asks_too_much = ⊥
+IsSo c w s e asks_nothing = Unit {0}
+
+abbrev pub Holds : Items → Interpretation → Assign → Goal → Type 0
+Holds c w s g = IsSo c w s g.environment (asked g.predicate)
+
+-- Each variable of a goal's predicate is the context's.
+abbrev pub GoalInContext : Store → Goal → Type 0
+GoalInContext st g = InContext st g.predicate
+
+-- Both sides of a subtype or alias goal are one tree.
+abbrev pub HasOneTree : Assign → Asked → Type 0
+HasOneTree s (asks_subtype a b) = apply s a ≡ apply s b
+HasOneTree s (asks_alias d a b) = apply s a ≡ apply s b
+HasOneTree s asks_too_much = Unit {0}
+HasOneTree s asks_nothing = Unit {0}
+
+abbrev pub MakesOneTree : Assign → Goal → Type 0
+MakesOneTree s g = HasOneTree s (asked g.predicate)
+
+-- Neither a subtype nor an alias goal.
+abbrev pub AsksNoPair : Asked → Type 0
+AsksNoPair (asks_subtype a b) = ⊥
+AsksNoPair (asks_alias d a b) = ⊥
+AsksNoPair asks_too_much = Unit {0}
+AsksNoPair asks_nothing = Unit {0}
+
+abbrev pub IsQuiet : Goal → Type 0
+IsQuiet g = AsksNoPair (asked g.predicate)
+
+-- Each assignment that satisfies the store and makes the goals true puts the terms into the relation.
+abbrev pub Relates : Items → Store → List Goal → Tree → Variance → Tree → Tree → Type 0
+Relates c st goals e v a b = (w : Interpretation) (s : Assign) → Satisfies w st s → All (Holds c w s) goals → Rel c w e (at v) (apply s a) (apply s b)

@@ -1,0 +1,118 @@
+//! Laws of the definitions that this crate's contracts are said in. Each function does nothing, and its contract is
+//! the law.
+
+ghost use Rattle.type_relations.specs.SmallTerms.{IsReflexive, AnythingAtBivariance, ErrorsAreRelated, ParametersByIndex, ValuesByTheirTrees, ReferencesByRegions, MutablePointeesAreFixed, InputsTurnRound, BivariantArguments, UnlikeHeadsAreUnrelated, UnlikeAtomsAreUnrelated, AtomsAreNoForms, FormsByParts, PredicatesWithThemselvesAlone, AnyIsStatic, StaticIsNotAny, PlaceholderIsNotAny, OneRegionIsNotTwo, AnyIsNotInvariantlyStatic};
+ghost use Rattle.type_relations.specs.StepLaws.{AssigningTwice, InstantiatingAssigns, OccursCheck, CyclesDoNotUnify, ValuesAreNamable, RelatesLater, RelatesUnderMore, PartsCompose, NoPartsRelate, FormsRelate, StepsCompose, InstantiatingSteps, OpeningSteps, OneRoundRelates, TwoRoundsRelate, UnusedBindersRelate, FrontBegins, FrontGoesOn, FrontEnds, ExactsCompose, ExactStepsCompose, InstantiatingIsExactStep, ExactFrontGoesOn, ExactFrontEnds, ExactKeepsUnifiers};
+ghost use Rattle.type_relations.specs.ErasureLaws.{ErasureAssigns, FormsUnifyByParts, TypesOfValuesUnify, ListsUnifyByItems, UnlikeFormsDoNotUnify, ErasedOccursCheck, InvariantTermsAreAlike};
+ghost use Rattle.type_relations.specs.StoreLaws.{EquatingStaysSound, EquatingIsExact, BindingStaysSound, BindingIsExact, NumbersStaySound, NumbersAreExact, MakingStaysSound, MadeIsUnconstrained, ConstrainingIsExact, NothingIsSeen, ResolvedResolves};
+ghost use Rattle.type_relations.specs.Stores.{BindingsAreMet};
+ghost use Rattle.type_relations.specs.RegionTerms.{RelatedTermsAgree, RelatedIffAgree};
+
+/// What holds of all terms, and of errors and parameters.
+pub fn all_terms()
+    ensures reflexive { IsReflexive }
+    ensures bivariance { AnythingAtBivariance }
+    ensures errors { ErrorsAreRelated }
+    ensures parameters { ParametersByIndex }
+    ensures values { ValuesByTheirTrees }
+{}
+
+/// What relates references, functions and arguments at a variance.
+pub fn varying_parts()
+    ensures references { ReferencesByRegions }
+    ensures mutable { MutablePointeesAreFixed }
+    ensures inputs { InputsTurnRound }
+    ensures bivariant { BivariantArguments }
+{}
+
+/// Which forms are related, and by what.
+pub fn forms()
+    ensures unlike_heads { UnlikeHeadsAreUnrelated }
+    ensures unlike_atoms { UnlikeAtomsAreUnrelated }
+    ensures no_forms { AtomsAreNoForms }
+    ensures by_parts { FormsByParts }
+    ensures predicates { PredicatesWithThemselvesAlone }
+{}
+
+/// Function pointers with binders, told apart as the binder rule tells them apart.
+pub fn bound_regions()
+    ensures any_is_static { AnyIsStatic }
+    ensures static_is_not_any { StaticIsNotAny }
+    ensures placeholder_is_not_any { PlaceholderIsNotAny }
+    ensures one_is_not_two { OneRegionIsNotTwo }
+    ensures not_invariantly { AnyIsNotInvariantlyStatic }
+{}
+
+/// Assigning values and putting them for the variables of binders.
+pub fn assigning()
+    ensures twice { AssigningTwice }
+    ensures instantiating { InstantiatingAssigns }
+    ensures occurs { OccursCheck }
+    ensures cycles { CyclesDoNotUnify }
+    ensures namable { ValuesAreNamable }
+{}
+
+/// Erasure and unification.
+pub fn erasing()
+    ensures assigns { ErasureAssigns }
+    ensures forms { FormsUnifyByParts }
+    ensures types_of_values { TypesOfValuesUnify }
+    ensures lists { ListsUnifyByItems }
+    ensures unlike { UnlikeFormsDoNotUnify }
+    ensures occurs { ErasedOccursCheck }
+    ensures alike { InvariantTermsAreAlike }
+{}
+
+/// Instantiating a variable and opening binders are steps, after which what is left is related.
+pub fn steps()
+    ensures compose { StepsCompose }
+    ensures instantiating { InstantiatingSteps }
+    ensures opening { OpeningSteps }
+    ensures one_round { OneRoundRelates }
+    ensures two_rounds { TwoRoundsRelate }
+    ensures unused { UnusedBindersRelate }
+    ensures exact_compose { ExactStepsCompose }
+    ensures exact_instantiating { InstantiatingIsExactStep }
+{}
+
+/// Outcomes over the parts of forms, one after another or in a loop; and what was shown stays shown.
+pub fn outcomes()
+    ensures later { RelatesLater }
+    ensures under_more { RelatesUnderMore }
+    ensures no_parts { NoPartsRelate }
+    ensures parts { PartsCompose }
+    ensures forms { FormsRelate }
+    ensures begins { FrontBegins }
+    ensures goes_on { FrontGoesOn }
+    ensures ends { FrontEnds }
+{}
+
+/// The same of what is exact up to erasure.
+pub fn exactness()
+    ensures parts { ExactsCompose }
+    ensures goes_on { ExactFrontGoesOn }
+    ensures ends { ExactFrontEnds }
+    ensures unifiers { ExactKeepsUnifiers }
+{}
+
+/// What a store's calls do to the assignments that satisfy it, and that it stays sound.
+pub fn stores()
+    ensures met { BindingsAreMet }
+    ensures equating { EquatingIsExact }
+    ensures equated { EquatingStaysSound }
+    ensures binding { BindingIsExact }
+    ensures bound { BindingStaysSound }
+    ensures numbers { NumbersAreExact }
+    ensures numbered { NumbersStaySound }
+    ensures making { MadeIsUnconstrained }
+    ensures made { MakingStaysSound }
+    ensures constraining { ConstrainingIsExact }
+    ensures nothing { NothingIsSeen }
+    ensures resolving { ResolvedResolves }
+{}
+
+/// Terms that are first-order but for binders of regions, where all regions outlive each other.
+pub fn region_terms()
+    ensures agree { RelatedTermsAgree }
+    ensures just_where { RelatedIffAgree }
+{}
