@@ -1,17 +1,18 @@
 -- Forms over terms of a context are terms of the context, also once its interner has grown.
-use Rattle.std.proofs.Common.{◌≡◌, ℕ, ◌<◌, IsTrue, ◌&&◌, List, [], ◌∷◌, ◌++◌, refl, sym, ap, ◌∙◌, subst, length, get_or}
+use Rattle.std.proofs.Common.{◌≡◌, ℕ, ◌<◌, IsTrue, ◌&&◌, List, [], ◌∷◌, ◌++◌, refl, sym, ap, ◌∙◌, subst, length, map, get_or}
 use Rattle.std.proofs.lemmas.Bool.{and_parts}
-use Rattle.std.proofs.lemmas.List.{length-map}
+use Rattle.std.proofs.lemmas.List.{length-map, get_or-map}
 use Rattle.relation_terms.specs.Heads.{VarKind, region_var, type_var, Head, Atom, variable, atom}
 use Rattle.relation_terms.specs.Trees.{Tree, leaf, node, nil, cons, known, list_tree}
 use Rattle.relation_terms.specs.Meaning.{Meaning, Extends}
 use Rattle.relation_terms.specs.declared.terms.keys.TyKey.{TyKey}
 use Rattle.relation_terms.proofs.Stays.{knows_as, knows_ty, stays_list}
-use Rattle.type_relations.specs.Stores.{Store, IsMade, IsTermIn, InContext}
+use Rattle.type_relations.specs.Stores.{Store, IsMade, IsTermIn, InContext, IsRegionIn, ConstraintIn}
+use Rattle.relation_terms.specs.declared.predicate.RegionConstraint.{RegionConstraint}
 use Rattle.relation_reference.specs.declared.context.inner.TypeVariable.{TypeVariable}
 use Rattle.relation_reference.specs.declared.context.inner.TypeVariableValue.TheVariants.{Known}
 use Rattle.relation_reference.specs.declared.context.inner.InferCtxtInner.{InferCtxtInner}
-use Rattle.relation_reference.specs.Tables.{store_of, IsLawful, entry_of_value}
+use Rattle.relation_reference.specs.Tables.{store_of, IsLawful, entry_of_value, constraint_of}
 use Rattle.relation_reference.proofs.Grows.{term_grows, both, known_of_term, known_bound, entry_at}
 use Rattle.relation_reference.proofs.Reading.{key_of, root_in, root_known}
 
@@ -101,3 +102,18 @@ module _ {Key Id Name : Type 0} {m n : Meaning Key Id Name} (e : Extends m n) (x
   next_in ts us t q h i k =
       subst (λ zs. IsTermIn (store_of n y) (list_tree n.ty zs)) (sym q)
       (snoc_in (store_of n y) n.ty ts t (made_in (list_tree m.ty ts) (list_tree n.ty ts) i (stays_list m.ty n.ty ts e.ty h)) k)
+
+-- A recorded constraint is on terms of the context.
+pub constraint_at : {Key Id Name : Type 0} (m : Meaning Key Id Name) (x : InferCtxtInner Key) → IsLawful m x → (i : ℕ) (q : RegionConstraint Key) → i < length x.constraints.items → q ≡ get_or x.constraints.items i q → ConstraintIn (store_of m x) (constraint_of m q)
+constraint_at m x l i q h e =
+    let f = constraint_of m in
+    let at : i < length (map f x.constraints.items) = subst (λ z. i < z) (sym (length-map x.constraints.items f)) h in
+    subst (ConstraintIn (store_of m x)) (get_or-map f x.constraints.items i q (f q) h ∙ ap f (sym e))
+    (l.sound.constraints_in i (f q) at)
+
+pub region_known : (st : Store) (t : Tree) → IsRegionIn st t → IsTrue (known t)
+region_known st t h = known_of_term st t h.1
+
+-- The same of an equal list.
+pub list_as_in : {A : Type 0} (st : Store) (f : A → Tree) (xs ys : List A) → ys ≡ xs → IsTermIn st (list_tree f xs) → IsTermIn st (list_tree f ys)
+list_as_in st f xs ys e h = subst (λ zs. IsTermIn st (list_tree f zs)) (sym e) h

@@ -113,15 +113,17 @@ pub fn ask<I: Interner + Drop, W: Write>(
     if make_variables(&mut ctx, question).is_err() {
         return out.write_str("memory");
     }
-    let mut before = "";
+    let mut any = false;
     for pair in question.pairs {
-        out.write_str(before)?;
+        if any {
+            out.write_str(" | ")?;
+        }
         ask_pair(&mut ctx, parameters, pair, out)?;
         if question.budget.is_some() {
             let left = ctx.budget_left();
             write!(out, "; left={left}")?;
         }
-        before = " | ";
+        any = true;
     }
     Ok(())
 }

@@ -196,16 +196,13 @@ fn write_constraints<I: Interner, W: Write>(
 ) -> fmt::Result
     requires { IsLawful (I.meaning ctx.now.interner) ctx.now.inner }
 {
-    let mut before = "; regions=[";
+    let mut any = false;
     for constraint in ctx.region_constraints() {
-        out.write_str(before)?;
+        out.write_str(if any { ", " } else { "; regions=[" })?;
         write_constraint(ctx, parameters, constraint, out)?;
-        before = ", ";
+        any = true;
     }
-    if ctx.region_constraints().is_empty() {
-        return Ok(());
-    }
-    out.write_str("]")
+    if any { out.write_str("]") } else { Ok(()) }
 }
 
 // The type that a root is bound to, or none, also where the variable is the same as another.
@@ -229,17 +226,16 @@ fn write_bound<I: Interner, W: Write>(
 ) -> fmt::Result
     requires { IsLawful (I.meaning ctx.now.interner) ctx.now.inner }
 {
-    let mut before = "; bound=[";
-    let mut after = "";
+    let mut any = false;
     for number in 0..ctx.inner.types.len() {
         if let Some(ty) = bound_to(ctx, number) {
-            write!(out, "{before}?{number}=")?;
+            out.write_str(if any { ", " } else { "; bound=[" })?;
+            write!(out, "?{number}=")?;
             write_ty(&ctx.interner, parameters, &ty, out)?;
-            before = ", ";
-            after = "]";
+            any = true;
         }
     }
-    out.write_str(after)
+    if any { out.write_str("]") } else { Ok(()) }
 }
 
 /// Writes what a relation answered, and then what its context has recorded.

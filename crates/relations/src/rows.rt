@@ -90,11 +90,11 @@ const ROWS: [Row; 4] = [
 // The answers to all questions, each after ` | ` but the first.
 fn answers(alloc: Global, questions: &[Question]) -> Result<String, fmt::Error> {
     let mut text = String::new(alloc);
-    let mut before = "";
     for question in questions {
-        text.write_str(before)?;
+        if !text.is_empty() {
+            text.write_str(" | ")?;
+        }
         ask(RefInterner::new(alloc), &PARAMETERS, question, &mut text)?;
-        before = " | ";
     }
     Ok(text)
 }
