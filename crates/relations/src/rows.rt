@@ -1,4 +1,5 @@
 //! The rows, their stored answers, and the program's runs.
+ghost use Rattle.std.specs.Prelude.{◌≡◌, ◌<◌, ◌≤◌, IfSome, length};
 
 use crate::asking::{Question, ask};
 use crate::written::{Parameter, Written};
@@ -114,33 +115,54 @@ fn print<O: io::Write>(alloc: Global, row: &Row, out: &mut O) -> io::Result<bool
     }
 }
 
-/// Runs one row or all, and answers the status.
+// Prints rows. The status is 1 if an answer is not the stored one or a write failed.
+fn print_all<O: io::Write>(alloc: Global, rows: &[Row], out: &mut O) -> u8
+    ensures { result ≤ 1 }
+{
+    let mut status = 0;
+    for row in rows {
+        match print(alloc, row, out) {
+            Ok(true) => {}
+            _ => status = 1,
+        }
+    }
+    status
+}
+
+// The place of a row.
+fn place_of(name: &str) -> Option<usize>
+    ensures { IfSome result (λ place. place < 4) }
+{
+    for (place, row) in ROWS.iter().enumerate() {
+        if row.name == name {
+            return Some(place);
+        }
+    }
+    None
+}
+
+/// Runs one row or all, and answers the status: 2 where the words name no row, 1 where an answer is not the stored
+/// one or a write failed.
 pub fn run<O: io::Write, E: io::Write>(
     alloc: Global,
     words: &[String],
     out: &mut O,
     err: &mut E,
-) -> u8 {
+) -> u8
+    ensures all { length words.now ≡ 0 → result ≤ 1 }
+    ensures usage { 1 < length words.now → result ≡ 2 }
+    ensures known { result ≤ 2 }
+{
     if words.len() > 1 {
         let _ = writeln!(err, "usage: relations [name]");
         return 2;
     }
-    let mut status = 0;
-    let mut found = false;
-    for row in &ROWS {
-        if words.is_empty() || words[0].as_str() == row.name {
-            found = true;
-            match print(alloc, row, out) {
-                Ok(true) => {}
-                _ => status = 1,
-            }
-        }
-    }
-    if !found {
-        if let Some(name) = words.first() {
-            let _ = writeln!(err, "unknown row: {name}");
-        }
+    let Some(name) = words.first() else {
+        return print_all(alloc, &ROWS, out);
+    };
+    let Some(place) = place_of(name.as_str()) else {
+        let _ = writeln!(err, "unknown row: {name}");
         return 2;
-    }
-    status
+    };
+    print_all(alloc, &ROWS[place..place + 1], out)
 }
