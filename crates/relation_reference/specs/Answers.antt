@@ -6,7 +6,10 @@ use Rattle.relation_terms.specs.declared.terms.enums.Variance.TheVariants.{Invar
 use Rattle.relation_tools.specs.declared.error.RelateFault.{RelateFault}
 use Rattle.relation_tools.specs.declared.error.RelateFault.TheVariants.{Memory, Budget, Unrelated}
 use Rattle.type_relations.specs.Relation.{Items, Interpretation, Rel, at, parts}
-use Rattle.type_relations.specs.Stores.{Store, same_as, entry_of, bound_term, Satisfies}
+use Rattle.relation_terms.specs.Meaning.{Meaning}
+use Rattle.relation_terms.specs.declared.terms.keys.TyKey.{TyKey}
+use Rattle.type_relations.specs.Stores.{Store, same_as, entry_of, bound_term, resolved, Satisfies}
+use Rattle.type_relations.specs.Steps.{BindsTo}
 use Rattle.relation_reference.specs.Tables.{IsFormed}
 
 -- From a variable the entries lead to another of the same class.
@@ -41,6 +44,14 @@ pub record IsFront (before after : Store) (i : ℕ) (a b : Tree) : Type 0 where
 -- No satisfying assignment makes the terms one tree.
 abbrev pub Apart : Store → Tree → Tree → Type 0
 Apart st a b = (w : Interpretation) (s : Assign) → Satisfies w st s → apply s a ≡ apply s b → ⊥
+
+-- What binding a root to a type answers: it is bound to what the type comes to; or nothing is bound, since the root
+-- stands there below a form, or no instantiation is left, or memory ran out.
+abbrev pub Instantiated : {Key Id Name : Type 0} → Meaning Key Id Name → Store → Store → ℕ → Tree → Result (TyKey Key) (RelateFault Key) → Type 0
+Instantiated m before after n t (Ok k) = (m.ty k ≡ apply (resolved before) t) × BindsTo before after type_var n (m.ty k) × (Occurs type_var n (apply (resolved before) t) → ⊥)
+Instantiated m before after n t (Err (Unrelated e)) = Occurs type_var n (apply (resolved before) t) × (after ≡ before)
+Instantiated m before after n t (Err Budget) = (before.budget ≡ 0) × (after ≡ before)
+Instantiated m before after n t (Err Memory) = after ≡ before
 
 -- What relating two terms answers; nothing is claimed where memory ran out, and no instantiation is left where the
 -- budget did.

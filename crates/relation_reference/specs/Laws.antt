@@ -1,6 +1,6 @@
 -- What holds of the keys of a table: each reads a term of its sort, and in a table in which nothing stands twice keys
 -- of one tree are one key.
-use Rattle.std.proofs.Common.{ℕ, ◌≡◌, ◌↔◌, IsTrue, List, [], ◌∷◌, ◌++◌, length, get_or, eqb, refl, ap, sym, ◌∙◌, subst, arith, length-append, inl, inr}
+use Rattle.std.proofs.Common.{ℕ, ◌≡◌, ◌↔◌, IsTrue, List, [], ◌∷◌, ◌++◌, length, get_or, eqb, refl, ap, sym, ◌∙◌, subst, inl, inr}
 use Rattle.std.proofs.lemmas.Bool.{false≢true, eqb-true, eq-eqb, cases_lt}
 use Rattle.std.proofs.lemmas.List.{get_or_append_left, get_or_past}
 use Rattle.std.proofs.Math.Seq.{get_or-append_seam}
@@ -9,6 +9,7 @@ use Rattle.relation_terms.specs.Trees.{Tree, known, IsTerm, AreTerms}
 use Rattle.relation_terms.specs.Meaning.{Meaning}
 use Rattle.relation_terms.proofs.Sorted.{Sorted, kind_sorted, region_sorted, list_sorted, environment_sorted}
 use Rattle.relation_terms.proofs.Once.{Injective}
+use Rattle.relation_terms.proofs.Lists.{last_place}
 use Rattle.relation_terms.specs.declared.terms.keys.TyKey.{TyKey}
 use Rattle.relation_terms.specs.declared.terms.keys.RegionKey.{RegionKey}
 use Rattle.relation_terms.specs.declared.terms.keys.TysKey.{TysKey}
@@ -68,8 +69,7 @@ one_more es e s h = λ i. elim (cases_lt i (length (es ++ e ∷ []))) [
   | inl p ↦ elim (cases_lt i (length es)) [
     | inl q ↦ subst IsSorted (sym (get_or_append_left es (e ∷ []) no_entry i q)) (s i)
     | inr q ↦
-        let l = length-append es (e ∷ []) in
-        let z : i ≡ length es = omega (arith, l) in
+        let z = last_place es e i p q in
         subst IsSorted (sym (ap (λ j. get_or (es ++ e ∷ []) j no_entry) z ∙ get_or-append_seam es e [] no_entry)) h
   ]
   | inr p ↦ subst IsSorted (sym (get_or_past (es ++ e ∷ []) i no_entry p)) tt

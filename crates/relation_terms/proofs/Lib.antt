@@ -1,3 +1,4 @@
 pub mod Stays
 pub mod Once
 pub mod Sorted
+pub mod Lists

@@ -1,8 +1,8 @@
 -- The tree of a known form is a term of its sort, where those of known keys are.
-use Rattle.std.proofs.Common.{ℕ, ◌≡◌, IsTrue, true, ◌&&◌, List, [], ◌∷◌, refl}
+use Rattle.std.proofs.Common.{IsTrue, true, ◌&&◌, List, [], ◌∷◌, refl}
 use Rattle.std.proofs.lemmas.Bool.{and_parts}
 use Rattle.relation_terms.specs.Heads.{Sort, type_sort, region_sort, environment_sort, environment}
-use Rattle.relation_terms.specs.Trees.{Tree, node, nil, cons, known, list_tree, IsTerm, AreTerms}
+use Rattle.relation_terms.specs.Trees.{Tree, node, nil, known, list_tree, IsTerm, AreTerms}
 use Rattle.relation_terms.specs.Meaning.{Meaning, kind_tree, region_tree}
 use Rattle.relation_terms.specs.declared.terms.keys.TyKey.{TyKey}
 use Rattle.relation_terms.specs.declared.terms.keys.RegionKey.{RegionKey}
@@ -23,8 +23,8 @@ pub list_sorted : {A : Type 0} (s : Sort) (f : A → Tree) → ((x : A) → IsTr
     (xs : List A) → IsTrue (known (list_tree f xs)) → AreTerms s (list_tree f xs)
 list_sorted s f h [] k = tt
 list_sorted s f h (x ∷ xs) k =
-  let p = and_parts (known (f x)) (known (list_tree f xs)) k in
-  (h x p.0, list_sorted s f h xs p.1)
+    let p = and_parts (known (f x)) (known (list_tree f xs)) k in
+    (h x p.0, list_sorted s f h xs p.1)
 
 pub environment_sorted : IsTerm environment_sort (node environment nil)
 environment_sorted = (tt, tt)
@@ -49,7 +49,7 @@ module _ {Key Id Name : Type 0} (m : Meaning Key Id Name) where
   kind_sorted s (Slice t) k = (tt, (s.ty t (and_parts (known (m.ty t)) true k).0, tt))
   kind_sorted s (Tuple ts) k = (tt, s.tys ts k)
   kind_sorted s (Ref r t u) k =
-    let p = and_parts (known (m.region r)) (known (m.ty t) && true) k in
-    let q = and_parts (known (m.ty t)) true p.1 in
-    (tt, (s.region r p.0, (s.ty t q.0, tt)))
+      let p = and_parts (known (m.region r)) (known (m.ty t) && true) k in
+      let q = and_parts (known (m.ty t)) true p.1 in
+      (tt, (s.region r p.0, (s.ty t q.0, tt)))
   kind_sorted s (Infer (TyVar v)) k = tt

@@ -1,17 +1,17 @@
 -- Calls in a row compose.
-use Rattle.std.proofs.Common.{◌≡◌, ◌≢◌, ◌⊎◌, ◌↔◌, ℕ, zero, suc, ◌<◌, ◌+◌, refl, sym, ap, ap₂, ◌∙◌, arith, inl, inr, subst, subst₂, List, [], ◌∷◌, ◌++◌, All}
+use Rattle.std.proofs.Common.{◌≡◌, ◌⊎◌, ℕ, suc, ◌<◌, ◌+◌, refl, sym, ap, ◌∙◌, arith, inl, inr, subst, subst₂, List, [], ◌++◌, All}
 use Rattle.std.proofs.lemmas.List.Elements.{All-nil, All-append}
 use native.Mathlib.Decide.{dec_lt}
-use Rattle.relation_terms.specs.Heads.{BoundKind, VarKind, Head, subtype, alias_relate, ambiguous, Leaf, atom}
-use Rattle.relation_terms.specs.Trees.{Tree, leaf, node, bind, nil, cons, Assign, assigned, apply, Leaves, IsList, count, nth}
+use Rattle.relation_terms.specs.Heads.{Head, subtype, alias_relate, ambiguous, atom}
+use Rattle.relation_terms.specs.Trees.{Tree, leaf, node, bind, nil, cons, Assign, apply, IsList, count, nth}
 use Rattle.relation_terms.specs.declared.terms.enums.Variance.{Variance}
-use Rattle.type_relations.specs.Relation.{Items, Interpretation, Way, parts, at, part_at, second_opened, first_opened, Rel, forms, no_parts, next_part}
-use Rattle.type_relations.specs.Stores.{Store, IsMade, Satisfies, OnlyShrinks, InContext, IsMadeLeaf}
-use Rattle.type_relations.specs.Goals.{Goal, goal_of, Asked, asks_subtype, asks_alias, asks_too_much, asks_nothing, asked, Holds, GoalInContext, HasOneTree, MakesOneTree, Relates}
+use Rattle.type_relations.specs.Relation.{Items, Interpretation, parts, at, part_at, Rel, forms, no_parts, next_part}
+use Rattle.type_relations.specs.Stores.{Store, Satisfies, InContext}
+use Rattle.type_relations.specs.Goals.{Goal, Asked, asks_subtype, asks_alias, asks_too_much, asks_nothing, asked, Holds, GoalInContext, HasOneTree, MakesOneTree}
 use Rattle.type_relations.specs.Steps.{IsLater, AgreeOn, Extends}
-use Rattle.type_relations.specs.Outcomes.{AreOne, Outcome, StepsTo, NeverOne, Front}
+use Rattle.type_relations.specs.Outcomes.{AreOne, Outcome, Front}
 use Rattle.type_relations.specs.StepLaws.{RelatesLater, RelatesUnderMore, PartsCompose, NoPartsRelate, FormsRelate, StepsCompose, FrontBegins, FrontGoesOn, FrontEnds}
-use Rattle.type_relations.proofs.Values.{same_value, apply-nth, apply-count, apply-list, nth_in}
+use Rattle.type_relations.proofs.Values.{same_value, apply-nth, apply-count, apply-list}
 use Rattle.type_relations.proofs.Standing.{later_context}
 use Rattle.type_relations.proofs.Growing.{All_front, All_back}
 use Rattle.type_relations.proofs.Going.{later_itself, later_through}

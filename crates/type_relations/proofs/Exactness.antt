@@ -1,23 +1,21 @@
 -- What is exact up to erasure.
-use Rattle.std.proofs.Common.{◌≡◌, ◌≢◌, ◌⊎◌, ◌↔◌, ℕ, zero, suc, ◌<◌, ◌≤◌, min, refl, sym, ap, ap₂, ◌∙◌, arith, inl, inr, subst, subst₂, Some, None, Option, le_of_eq, List, [], ◌∷◌}
+use Rattle.std.proofs.Common.{◌≡◌, ◌⊎◌, ◌↔◌, ℕ, zero, suc, ◌<◌, ◌≤◌, min, refl, sym, ap, ap₂, ◌∙◌, arith, inl, inr, subst, subst₂, Some, None, []}
 use native.Mathlib.Decide.{dec_le}
-use Rattle.relation_terms.specs.declared.terms.enums.Variance.{Variance}
-use Rattle.relation_terms.specs.Heads.{VarKind, region_var, Leaf, variable, bound, placeholder, atom, unknown}
+use Rattle.relation_terms.specs.Heads.{VarKind, Leaf, variable}
 use Rattle.relation_terms.specs.Trees.{Tree, leaf, node, bind, nil, cons, Assign, assigned, apply, Leaves, IsList, count, nth}
 use Rattle.relation_terms.specs.Erasure.{erase, kept_parts}
 use Rattle.type_relations.specs.Relation.{IsGround, StaysWithin}
-use Rattle.type_relations.specs.Stores.{Store, Entry, same_as, bound_to, entry_term, bound_term, universe_of, IsMade, IsMadeLeaf, InContext, IsTermIn, IsNamable, IsAssignment, MayStandFor, IsSound}
+use Rattle.type_relations.specs.Stores.{Store, Entry, same_as, entry_term, bound_term, universe_of, IsMade, IsMadeLeaf, InContext, IsNamable, IsAssignment, MayStandFor, IsSound}
 use Rattle.type_relations.specs.FirstOrder.{Unifies, MeetsErased, IsErasedSolution}
-use Rattle.type_relations.specs.Steps.{IsLater, AgreeErased, ExtendsErased, WritesEntry, Equates, Instantiates}
-use Rattle.type_relations.specs.Outcomes.{Exact, ExactStep, NoUnifier, ExactFront}
-use Rattle.type_relations.specs.Headline.{KeepsUnifiers}
+use Rattle.type_relations.specs.Steps.{IsLater, AgreeErased, ExtendsErased, WritesEntry, Equates}
+use Rattle.type_relations.specs.Outcomes.{Exact, ExactFront}
 use Rattle.type_relations.specs.StepLaws.{ExactsCompose, ExactStepsCompose, InstantiatingIsExactStep, ExactFrontGoesOn, ExactFrontEnds, ExactKeepsUnifiers}
 use Rattle.type_relations.proofs.Trees.{Leaves_map}
 use Rattle.type_relations.proofs.Only.{which}
-use Rattle.type_relations.proofs.Values.{apply-nth, nth_in}
-use Rattle.type_relations.proofs.Standing.{namable_mono, later_context, term_context}
+use Rattle.type_relations.proofs.Values.{apply-nth}
+use Rattle.type_relations.proofs.Standing.{namable_mono, term_context}
 use Rattle.type_relations.proofs.Written.{unbound_before, now_bound, others, made_after, made_before}
-use Rattle.type_relations.proofs.Going.{later_itself, later_through}
+use Rattle.type_relations.proofs.Going.{later_through}
 use Rattle.type_relations.proofs.Composing.{below_or, heads_one, tails_one}
 
 -- Assignments that agree up to erasure give a term of the context one erased value.
@@ -125,9 +123,10 @@ exact_front_ends before after xs ys lx ly n f = record {
 
 -- Instantiating is an exact step.
 pub instantiating_is_exact_step : InstantiatingIsExactStep
-instantiating_is_exact_step u before after k n source term inc ins f =
-    (record { later = f.later; shrinks = λ s sol q. (earlier s sol, value s sol ∙ q); keeps = λ s sol q. go s q (f.keeps_erased s sol q) },
-    record { later = f.later; shrinks = λ s sol q. (earlier s sol, q ∙ sym (value s sol)); keeps = λ s sol q. turned s (go s (sym q) (f.keeps_erased s sol (sym q))) })
+instantiating_is_exact_step u before after k n source term inc ins f = (
+  record { later = f.later; shrinks = λ s sol q. (earlier s sol, value s sol ∙ q); keeps = λ s sol q. go s q (f.keeps_erased s sol q) },
+  record { later = f.later; shrinks = λ s sol q. (earlier s sol, q ∙ sym (value s sol)); keeps = λ s sol q. turned s (go s (sym q) (f.keeps_erased s sol (sym q))) },
+)
   where
     value : (s : Assign) → IsErasedSolution after s → Unifies s (leaf (variable k n)) term
     value s sol = sol.1 k n term (ap (entry_term k) f.now_bound)
@@ -136,9 +135,10 @@ instantiating_is_exact_step u before after k n source term inc ins f =
     unlike j i t e p q = let z : bound_term before j i ≡ bound_term before k n = ap₂ (bound_term before) p q in let o : bound_term before k n ≡ None = ap (entry_term k) f.was_unbound in cc (z, e, o)
 
     earlier : (s : Assign) → IsErasedSolution after s → IsErasedSolution before s
-    earlier s sol =
-        (λ j i m. let a = sol.0 j i (f.later.grows j i m) in (a.0, a.1, a.2, subst (λ z. Leaves (IsNamable z) (s j i)) (f.same_universes j i m) a.3),
-        λ j i t e. sol.1 j i t (ap (entry_term j) (f.others_stand j i (unlike j i t e)) ∙ e))
+    earlier s sol = (
+      λ j i m. let a = sol.0 j i (f.later.grows j i m) in (a.0, a.1, a.2, subst (λ z. Leaves (IsNamable z) (s j i)) (f.same_universes j i m) a.3),
+      λ j i t e. sol.1 j i t (ap (entry_term j) (f.others_stand j i (unlike j i t e)) ∙ e),
+    )
 
     go : (s : Assign) → Unifies s (leaf (variable k n)) source → ExtendsErased before s (IsErasedSolution after) → ExtendsErased before s (λ z. IsErasedSolution after z × Unifies z term source)
     go s q one = (one.0, one.1, (one.2, sym (value one.0 one.2) ∙ sym (one.1 k n f.made) ∙ q ∙ same_erased before s one.0 source one.1 ins))

@@ -135,13 +135,13 @@ module _ (before after : Store) (k : VarKind) (n u : ℕ) (b : MakesVariable bef
     pub made_sound : u ≤ before.universe → IsSound after
     made_sound low = record {
       settles = λ j m. subst (Leaves (IsFree after)) (resolved_still j m) (Leaves_map (IsFree before) (IsFree after) free_leaf (resolved before j m) (g.settles j m));
-      bindings = λ j m t e. let h = g.bindings j m t (same_terms j m ∙ e) in record { made = made_later j m h.made; is_in = later_term before after made_later t h.is_in; stands = h.stands };
+      bindings = λ j m t e. let h = g.bindings j m t (same_terms j m ∙ e) in record { made = made_later j m h.made; is_in = later_term before after made_later (omega (arith, b.same_universe)) t h.is_in; stands = h.stands };
       in_scope = scopes;
       falls = λ j m i e. g.falls j m i (sym (same_entries j m) ∙ e);
       regions_unbound = λ m. same_entries region_var m ∙ g.regions_unbound m;
       one_universe_each = as_many;
       below_current = λ j m. subst (λ z. universe_of after j m ≤ z) (sym b.same_universe) (below low j m);
-      constraints_in = subst (All (ConstraintIn after)) (sym b.same_constraints) (λ i d h. later_constraint before after made_later _ (g.constraints_in i d h));
+      constraints_in = subst (All (ConstraintIn after)) (sym b.same_constraints) (λ i d h. later_constraint before after made_later (omega (arith, b.same_universe)) _ (g.constraints_in i d h));
     }
 
     pub made_is_later : IsLater before after
@@ -204,7 +204,7 @@ module _ (before after : Store) (q : Constraint) (b : AddsConstraint before afte
   pub constraint_sound : IsSound before → ConstraintIn before q → IsSound after
   constraint_sound g h = record {
     settles = λ j m. subst (Leaves (IsFree after)) (constraint_resolved j m) (Leaves_map (IsFree before) (IsFree after) free_leaf' (resolved before j m) (g.settles j m));
-    bindings = λ j m t e. let p = g.bindings j m t (same_terms' j m ∙ e) in record { made = constraint_made j m p.made; is_in = later_term before after constraint_made t p.is_in; stands = p.stands };
+    bindings = λ j m t e. let p = g.bindings j m t (same_terms' j m ∙ e) in record { made = constraint_made j m p.made; is_in = later_term before after constraint_made (omega (arith, b.same_universe)) t p.is_in; stands = p.stands };
     in_scope = λ j m p. subst₂ (λ v r. Leaves (IsInScope after v) r) (same_universe_of j m) (constraint_resolved j m)
         (Leaves_map (IsInScope before (universe_of before j m)) _ (scope_leaf' (universe_of before j m)) (resolved before j m) (g.in_scope j m (subst (λ es. m < length es) (b.same_entries j) p)));
     falls = λ j m i e. g.falls j m i (ap (λ es. get_or es m unbound) (sym (b.same_entries j)) ∙ e);
@@ -212,8 +212,8 @@ module _ (before after : Store) (q : Constraint) (b : AddsConstraint before afte
     one_universe_each = λ j. ap length (b.same_universes j) ∙ g.one_universe_each j ∙ ap length (sym (b.same_entries j));
     below_current = λ j m. subst₂ (λ z y. z ≤ y) (same_universe_of j m) (sym b.same_universe) (g.below_current j m);
     constraints_in = subst (All (ConstraintIn after)) (sym b.one_more)
-        (All-append (ConstraintIn after) before.constraints (q ∷ []) (λ i d p. later_constraint before after constraint_made _ (g.constraints_in i d p))
-            (All-cons (ConstraintIn after) q [] (later_constraint before after constraint_made q h) (All-nil (ConstraintIn after))));
+        (All-append (ConstraintIn after) before.constraints (q ∷ []) (λ i d p. later_constraint before after constraint_made (omega (arith, b.same_universe)) _ (g.constraints_in i d p))
+            (All-cons (ConstraintIn after) q [] (later_constraint before after constraint_made (omega (arith, b.same_universe)) q h) (All-nil (ConstraintIn after))));
   }
 
   pub constraint_is_later : IsLater before after

@@ -1,21 +1,20 @@
 -- Instantiating variables and opening binders, as steps.
-use Rattle.std.proofs.Common.{◌≡◌, ◌≢◌, ◌⊎◌, ◌↔◌, ℕ, zero, suc, ◌<◌, ◌≤◌, ◌+◌, refl, sym, ap, ap₂, ◌∙◌, arith, inl, inr, subst, subst₂, List, [], ◌∷◌, ◌++◌, map, All, Some, length, get_or}
+use Rattle.std.proofs.Common.{◌≡◌, ◌≢◌, ◌⊎◌, ℕ, suc, ◌<◌, refl, sym, ap, ap₂, ◌∙◌, arith, inl, inr, subst, subst₂, List, [], ◌++◌, map, All, length, get_or}
 use Rattle.std.proofs.lemmas.List.Elements.{All-nil}
 use Rattle.std.proofs.lemmas.List.{append-nil}
-use Rattle.relation_terms.specs.Heads.{BoundKind, VarKind, Leaf, variable}
-use Rattle.relation_terms.specs.Trees.{Tree, leaf, node, bind, nil, cons, Assign, apply, inst, Leaves}
+use Rattle.relation_terms.specs.Heads.{BoundKind, VarKind}
+use Rattle.relation_terms.specs.Trees.{Tree, bind, Assign, apply, inst, Leaves}
 use Rattle.relation_terms.specs.declared.terms.enums.Variance.{Variance}
 use Rattle.relation_terms.specs.declared.terms.enums.Variance.TheVariants.{Covariant, Contravariant, Invariant, Bivariant}
 use Rattle.type_relations.specs.Relation.{Items, Interpretation, at, second_opened, first_opened, Rel, covariant_binders, contravariant_binders, invariant_binders, open_second, open_first, FitKinds, Fresh, StaysWithin}
-use Rattle.type_relations.specs.Stores.{Store, unbound, entry_term, bound_term, universe_of, IsMade, IsAssignment, IsInScope, IsNamable, MeetsBindings, Satisfies, InContext, ConstraintHolds}
-use Rattle.type_relations.specs.Goals.{Goal, Holds, GoalInContext, MakesOneTree}
-use Rattle.type_relations.specs.Steps.{IsLater, AgreeOn, Extends, AllNamable, ArePlaceholders, ChangesNothing, EntersForall, LeavesBody, EntersUniverse, InstantiatesBinder, Makes, Instantiates}
-use Rattle.type_relations.specs.Outcomes.{Outcome, StepsTo}
+use Rattle.type_relations.specs.Stores.{Store, unbound, entry_term, bound_term, universe_of, IsMade, IsAssignment, IsInScope, IsNamable, MeetsBindings, Satisfies, ConstraintHolds}
+use Rattle.type_relations.specs.Goals.{Holds, GoalInContext, MakesOneTree}
+use Rattle.type_relations.specs.Steps.{IsLater, AgreeOn, Extends, AllNamable, ArePlaceholders, ChangesNothing, EntersForall, LeavesBody, EntersUniverse, InstantiatesBinder, Instantiates}
+use Rattle.type_relations.specs.Outcomes.{StepsTo}
 use Rattle.type_relations.specs.StepLaws.{InstantiatingSteps, OpeningSteps, OneRoundRelates, TwoRoundsRelate, UnusedBindersRelate}
-use Rattle.type_relations.proofs.Trees.{Leaves_map, apply-inst, inst_within, StaysIn}
+use Rattle.type_relations.proofs.Trees.{apply-inst, inst_within, StaysIn}
 use Rattle.type_relations.proofs.Values.{value_namable, stays_in, stays_apply, variables_fit, fresh_later, placeholders_stay, placeholders_fit, placeholders_namable, some_values, some_values_fit, some_values_namable, some_placeholders, some_are_placeholders, same_value, in_context}
-use Rattle.type_relations.proofs.Standing.{namable_mono}
-use Rattle.type_relations.proofs.Going.{later_itself, later_through}
+use Rattle.type_relations.proofs.Going.{later_through}
 use Rattle.type_relations.proofs.Composing.{extends_through, goals_both, first_goals, all_goals, values_still}
 
 -- A variable that was instantiated has its term's value.
@@ -23,13 +22,20 @@ pub instantiated_value : (before after : Store) (u : Variance) (k : VarKind) (n 
 instantiated_value before after u k n source term f s h = h k n term (ap (entry_term k) f.now_bound)
 
 pub instantiating_steps : InstantiatingSteps
-instantiating_steps c e v u before after earlier k n source term ins f =
-    (record { later = f.later; goals_in = All-nil (GoalInContext after);
-      relates = λ w s sat all r. subst (λ z. Rel c w e (at v) z (apply s source)) (sym (value s sat.bindings)) r;
-      keeps = λ w s sat q. let one = f.keeps w s sat q in (one.0, one.1, (one.2, All-nil (MakesOneTree one.0), equal w s one.0 q one.1 one.2)) },
-    record { later = f.later; goals_in = All-nil (GoalInContext after);
-      relates = λ w s sat all r. subst (λ z. Rel c w e (at v) (apply s source) z) (sym (value s sat.bindings)) r;
-      keeps = λ w s sat q. let one = f.keeps w s sat (sym q) in (one.0, one.1, (one.2, All-nil (MakesOneTree one.0), sym (equal w s one.0 (sym q) one.1 one.2))) })
+instantiating_steps c e v u before after earlier k n source term ins f = (
+  record {
+    later = f.later;
+    goals_in = All-nil (GoalInContext after);
+    relates = λ w s sat all r. subst (λ z. Rel c w e (at v) z (apply s source)) (sym (value s sat.bindings)) r;
+    keeps = λ w s sat q. let one = f.keeps w s sat q in (one.0, one.1, (one.2, All-nil (MakesOneTree one.0), equal w s one.0 q one.1 one.2));
+  },
+  record {
+    later = f.later;
+    goals_in = All-nil (GoalInContext after);
+    relates = λ w s sat all r. subst (λ z. Rel c w e (at v) (apply s source) z) (sym (value s sat.bindings)) r;
+    keeps = λ w s sat q. let one = f.keeps w s sat (sym q) in (one.0, one.1, (one.2, All-nil (MakesOneTree one.0), sym (equal w s one.0 (sym q) one.1 one.2)));
+  },
+)
   where
     value : (s : Assign) → MeetsBindings after s → s k n ≡ apply s term
     value s h = instantiated_value before after u k n source term f s h
@@ -135,7 +141,6 @@ is_entered before middle ls b b' h = go h.opens
 -- One side entered, the other's variables made.
 module _ (before middle after : Store) (ks ls : List BoundKind) (a b a' b' : Tree) (ina : Leaves (IsInScope before before.universe) a) (inb : Leaves (IsInScope before before.universe) b)
     (enters : EntersForall before middle ls b b') (makes : InstantiatesBinder middle after ks a a') where
-
   entered : IsEntered before middle ls b b'
   entered = is_entered before middle ls b b' enters
 
@@ -204,9 +209,10 @@ binder_bodies : {ks ls : List BoundKind} {a b : Tree} → bind ks a ≡ bind ls 
 binder_bodies e = cc
 
 pub one_round_relates : OneRoundRelates
-one_round_relates c e before after earlier added ks ls a b =
-    (λ f. record { later = f.later; goals_in = f.goals_in; relates = λ w s sat all. covariant_binders refl (f.relates w s sat all); keeps = λ w s sat q. f.keeps w s sat (binder_kinds q, binder_bodies q) },
-    λ f. record { later = f.later; goals_in = f.goals_in; relates = λ w s sat all. contravariant_binders refl (f.relates w s sat all); keeps = λ w s sat q. f.keeps w s sat (binder_kinds q, binder_bodies q) })
+one_round_relates c e before after earlier added ks ls a b = (
+  λ f. record { later = f.later; goals_in = f.goals_in; relates = λ w s sat all. covariant_binders refl (f.relates w s sat all); keeps = λ w s sat q. f.keeps w s sat (binder_kinds q, binder_bodies q) },
+  λ f. record { later = f.later; goals_in = f.goals_in; relates = λ w s sat all. contravariant_binders refl (f.relates w s sat all); keeps = λ w s sat q. f.keeps w s sat (binder_kinds q, binder_bodies q) },
+)
 
 pub two_rounds_relate : TwoRoundsRelate
 two_rounds_relate c e before middle after earlier first others ks ls a b ina inb f g = record {

@@ -1,17 +1,17 @@
 -- Small terms in the relation.
-use Rattle.std.proofs.Common.{◌≡◌, ◌≢◌, ◌⊎◌, ◌↔◌, ℕ, suc, refl, sym, arith, inl, inr, subst, subst₂, ap, ◌∙◌, List, [], ◌∷◌, false}
+use Rattle.std.proofs.Common.{◌≡◌, ◌≢◌, ℕ, refl, sym, inl, inr, subst, subst₂, ap, ◌∙◌, List, [], ◌∷◌, false}
 use Rattle.relation_terms.specs.declared.terms.enums.Variance.{Variance}
 use Rattle.relation_terms.specs.declared.terms.enums.Variance.TheVariants.{Covariant, Contravariant, Invariant, Bivariant}
 use Rattle.relation_terms.specs.declared.terms.enums.Mutability.TheVariants.{Not, Mut}
 use Rattle.relation_terms.specs.declared.terms.enums.Safety.TheVariants.{Safe}
 use Rattle.relation_terms.specs.declared.terms.enums.ExternAbi.TheVariants.{Rust}
-use Rattle.relation_terms.specs.Heads.{Sort, Admits, leaf_sort, head_sort, region_sort, type_param, const_param, uint_type, bool_type, host_effect, subtype, region_outlives, type_outlives, projection, const_has_type, well_formed, const_evaluatable, coerce, normalizes_to, alias_relate, environment, trait_clause, Leaf, atom, bound, placeholder, Head, adt, ref, tuple, fn_ptr, signature, inputs, value, value_type, BoundKind}
+use Rattle.relation_terms.specs.Heads.{Sort, Admits, leaf_sort, head_sort, region_sort, type_param, const_param, uint_type, bool_type, host_effect, subtype, region_outlives, type_outlives, projection, const_has_type, well_formed, const_evaluatable, coerce, normalizes_to, alias_relate, environment, trait_clause, Head, adt, ref, tuple, fn_ptr, signature, inputs, value, value_type, BoundKind}
 use Rattle.relation_terms.specs.Trees.{Tree, leaf, node, bind, nil, cons, inst, IsList, IsTerm}
 use Rattle.relation_terms.specs.declared.terms.enums.UintTy.TheVariants.{U8}
 use Rattle.relation_terms.specs.declared.terms.enums.PredicatePolarity.{PredicatePolarity}
 use Rattle.relation_terms.specs.Variances.{xform}
 use Rattle.type_relations.specs.Relation.{Items, Interpretation, parts, second_opened, first_opened, Rel, at, same, anything, regions, atoms, forms, no_parts, next_part, covariant_binders, open_second, open_first, Outlives, itself, sort_of, RegionRule, IsRelatedHead, plain_atom, error_left, error_right, alias_types, equal_consts, contravariant_binders, invariant_binders, Avoids}
-use Rattle.type_relations.specs.SmallTerms.{u8, bool, static, named, ref_to, mut_ref_to, value_of, adt_of, fn_of, fn_of_ref, a_region, bound_region, region_placeholder, fn_of_any, IsReflexive, AnythingAtBivariance, ErrorsAreRelated, ParametersByIndex, ValuesByTheirTrees, ReferencesByRegions, MutablePointeesAreFixed, InputsTurnRound, BivariantArguments, UnlikeHeadsAreUnrelated, UnlikeAtomsAreUnrelated, AtomsAreNoForms, FormsByParts, IsPredicateSort, PredicatesWithThemselvesAlone, AnyIsStatic, StaticIsNotAny, PlaceholderIsNotAny, OneRegionIsNotTwo, AnyIsNotInvariantlyStatic}
+use Rattle.type_relations.specs.SmallTerms.{u8, bool, static, named, ref_to, value_of, fn_of, a_region, bound_region, region_placeholder, IsReflexive, AnythingAtBivariance, ErrorsAreRelated, ParametersByIndex, ValuesByTheirTrees, ReferencesByRegions, MutablePointeesAreFixed, InputsTurnRound, BivariantArguments, UnlikeHeadsAreUnrelated, UnlikeAtomsAreUnrelated, AtomsAreNoForms, FormsByParts, IsPredicateSort, PredicatesWithThemselvesAlone, AnyIsStatic, StaticIsNotAny, PlaceholderIsNotAny, OneRegionIsNotTwo, AnyIsNotInvariantlyStatic}
 use Rattle.type_relations.proofs.Related.{region_of, heads_inverted, forms_inverted, others_inverted, atoms_inverted, covariant_opened, invariant_opened, no_form_left, no_form_right}
 
 pub is_reflexive : IsReflexive
@@ -31,9 +31,10 @@ const_index : {i j : ℕ} (n m : ℕ) → plain_atom (const_param i n) ≡ plain
 const_index n m e = cc
 
 pub parameters_by_index : ParametersByIndex
-parameters_by_index c w e v i j n m b =
-    ((λ r. type_index n m (atoms_inverted b (λ h. h) (λ h. h) (λ h. cc) r), λ p. atoms (ap (λ z. type_param z 0) p)),
-    (λ r. const_index n m (atoms_inverted b (λ h. h) (λ h. h) (λ h. cc) r), λ p. atoms (ap (λ z. const_param z 0) p)))
+parameters_by_index c w e v i j n m b = (
+  (λ r. type_index n m (atoms_inverted b (λ h. h) (λ h. h) (λ h. cc) r), λ p. atoms (ap (λ z. type_param z 0) p)),
+  (λ r. const_index n m (atoms_inverted b (λ h. h) (λ h. h) (λ h. cc) r), λ p. atoms (ap (λ z. const_param z 0) p)),
+)
 
 value_tree : {c : Items} {w : Interpretation} {e : Tree} (v : Variance) {ty ty' t t' : Tree} → Rel c w e (parts value 0 v) (cons (node value_type (cons ty nil)) (cons t nil)) (cons (node value_type (cons ty' nil)) (cons t' nil)) → Rel c w e (at v) t t'
 value_tree Covariant (next_part _ (next_part r _)) = r
@@ -82,9 +83,10 @@ pointee : {c : Items} {w : Interpretation} {e x t u : Tree} → Rel c w e (parts
 pointee (next_part _ (next_part r _)) = r
 
 pub mutable_pointees_are_fixed : MutablePointeesAreFixed
-mutable_pointees_are_fixed c w e x a b p q =
-    (λ r. refs_back Invariant p q (pointee (forms_inverted (λ p. cc) (λ h. h) (λ h. h) tt r).1),
-    λ h. forms tt refl (next_part (same refl) (next_part (refs_forth Invariant p q h) no_parts)))
+mutable_pointees_are_fixed c w e x a b p q = (
+  λ r. refs_back Invariant p q (pointee (forms_inverted (λ p. cc) (λ h. h) (λ h. h) tt r).1),
+  λ h. forms tt refl (next_part (same refl) (next_part (refs_forth Invariant p q h) no_parts)),
+)
 
 -- The inputs of signatures.
 abbrev signature_of : Tree → Tree
@@ -150,9 +152,10 @@ u8_is_not_bool : plain_atom (uint_type U8) ≡ plain_atom bool_type → ⊥
 u8_is_not_bool p = cc
 
 pub bivariant_arguments : BivariantArguments
-bivariant_arguments c w e d p =
-    (forms tt refl (next_part (anything p) no_parts),
-    λ r. u8_is_not_bool (atoms_inverted (λ p. cc) (λ h. h) (λ h. h) (λ h. cc) (one_argument (forms_inverted (λ p. cc) (λ h. h) (λ h. h) tt r).1)))
+bivariant_arguments c w e d p = (
+  forms tt refl (next_part (anything p) no_parts),
+  λ r. u8_is_not_bool (atoms_inverted (λ p. cc) (λ h. h) (λ h. h) (λ h. cc) (one_argument (forms_inverted (λ p. cc) (λ h. h) (λ h. h) tt r).1)),
+)
 
 pub unlike_heads_are_unrelated : UnlikeHeadsAreUnrelated
 unlike_heads_are_unrelated c w e v h k xs ys n rh rk u r = u (heads_inverted n rh rk r)

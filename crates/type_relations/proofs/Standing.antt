@@ -3,8 +3,8 @@ use Rattle.std.proofs.Common.{◌≡◌, ℕ, zero, suc, ◌≤◌, ◌<◌, ref
 use Rattle.relation_terms.specs.Heads.{Sort, Admits, Part, term_of, binder_of, Shape, one, row, head_parts, head_sort, leaf_sort, var_sort, VarKind, type_var, int_var, float_var, const_var, region_var, type_sort, const_sort, region_sort, Leaf, Atom, int_type, uint_type, float_type, atom, variable, bound, placeholder, unknown}
 use Rattle.relation_terms.specs.Trees.{Tree, leaf, node, bind, nil, cons, Assign, assigned, apply, Leaves, Fits, IsTerm}
 use Rattle.type_relations.specs.Relation.{StaysWithin, sort_of}
-use Rattle.type_relations.specs.Stores.{Store, universe_of, IsMade, IsIntegerAtom, IsFloatAtom, IsIntegerTerm, IsFloatTerm, MayStandFor, IsInScope, IsNamable, IsMadeLeaf, InContext, IsTermIn, IsRegionIn, Constraint, outlives_constraint, equal_constraint, ConstraintIn}
-use Rattle.type_relations.proofs.Trees.{Leaves_map, Leaves-replace, StaysWithin-mono}
+use Rattle.type_relations.specs.Stores.{Store, universe_of, IsMade, IsIntegerAtom, IsFloatAtom, IsIntegerTerm, IsFloatTerm, MayStandFor, IsInScope, IsNamable, IsMadeLeaf, InContext, IsTermIn, IsSound, resolved, IsRegionIn, Constraint, outlives_constraint, equal_constraint, ConstraintIn}
+use Rattle.type_relations.proofs.Trees.{Leaves_map, Leaves_map₂, Leaves-replace, StaysWithin-mono}
 
 -- What is of a variable's sort alone.
 admits_var : (k : VarKind) (x : Sort) → Admits (var_sort k) x → x ≡ var_sort k
@@ -169,13 +169,13 @@ pub later_context : (before after : Store) → ((k : VarKind) (n : ℕ) → IsMa
 unfolding InContext
 later_context before after g t h = Leaves_map (IsMadeLeaf before) (IsMadeLeaf after) (made_leaf before after g) t h
 
-pub later_term : (before after : Store) → ((k : VarKind) (n : ℕ) → IsMade before k n → IsMade after k n) → (t : Tree) → IsTermIn before t → IsTermIn after t
+pub later_term : (before after : Store) → ((k : VarKind) (n : ℕ) → IsMade before k n → IsMade after k n) → before.universe ≤ after.universe → (t : Tree) → IsTermIn before t → IsTermIn after t
 unfolding IsTermIn
-later_term before after g t h = (later_context before after g t h.0, h.1)
+later_term before after g u t h = (later_context before after g t h.0, h.1, Leaves_map (IsNamable before.universe) (IsNamable after.universe) (namable_mono before.universe after.universe u) t h.2)
 
-pub later_constraint : (before after : Store) → ((k : VarKind) (n : ℕ) → IsMade before k n → IsMade after k n) → (q : Constraint) → ConstraintIn before q → ConstraintIn after q
-later_constraint before after g (outlives_constraint x y) h = ((h.0.0, later_term before after g x h.0.1), (h.1.0, later_term before after g y h.1.1))
-later_constraint before after g (equal_constraint x y) h = ((h.0.0, later_term before after g x h.0.1), (h.1.0, later_term before after g y h.1.1))
+pub later_constraint : (before after : Store) → ((k : VarKind) (n : ℕ) → IsMade before k n → IsMade after k n) → before.universe ≤ after.universe → (q : Constraint) → ConstraintIn before q → ConstraintIn after q
+later_constraint before after g u (outlives_constraint x y) h = ((h.0.0, later_term before after g u x h.0.1), (h.1.0, later_term before after g u y h.1.1))
+later_constraint before after g u (equal_constraint x y) h = ((h.0.0, later_term before after g u x h.0.1), (h.1.0, later_term before after g u y h.1.1))
 
 -- The parts of being a term of a context.
 pub term_context : (st : Store) (t : Tree) → IsTermIn st t → InContext st t
@@ -186,9 +186,13 @@ pub term_within : (st : Store) (t : Tree) → IsTermIn st t → StaysWithin 0 t
 unfolding IsTermIn
 term_within st t h = h.1
 
-pub term_in : (st : Store) (t : Tree) → InContext st t → StaysWithin 0 t → IsTermIn st t
+pub term_in : (st : Store) (t : Tree) → InContext st t → StaysWithin 0 t → Leaves (IsNamable st.universe) t → IsTermIn st t
 unfolding IsTermIn
-term_in st t h w = (h, w)
+term_in st t h w u = (h, w, u)
+
+pub term_namable : (st : Store) (t : Tree) → IsTermIn st t → Leaves (IsNamable st.universe) t
+unfolding IsTermIn
+term_namable st t h = h.2
 
 pub made_of_term : (st : Store) (k : VarKind) (n : ℕ) → IsTermIn st (leaf (variable k n)) → IsMade st k n
 unfolding IsTermIn InContext
@@ -196,4 +200,23 @@ made_of_term st k n h = h.0
 
 pub term_of_made : (st : Store) (k : VarKind) (n : ℕ) → IsMade st k n → IsTermIn st (leaf (variable k n))
 unfolding IsTermIn InContext
-term_of_made st k n h = (h, tt)
+term_of_made st k n h = (h, tt, tt)
+
+-- What a term of a context comes to names only what the current universe can.
+pub term_scope : (st : Store) → IsSound st → (t : Tree) → IsTermIn st t → Leaves (IsInScope st st.universe) (apply (resolved st) t)
+unfolding IsTermIn InContext
+term_scope st g t h = Leaves-replace (IsInScope st st.universe) (assigned (resolved st)) t (Leaves_map₂ (IsMadeLeaf st) (IsNamable st.universe) _ at_leaf t h.0 h.2)
+  where
+    at_leaf : (l : Leaf) → IsMadeLeaf st l → IsNamable st.universe l → Leaves (IsInScope st st.universe) (assigned (resolved st) l)
+    at_leaf (variable k n) m u = Leaves_map _ _ (scope_mono st (universe_of st k n) st.universe (g.below_current k n)) (resolved st k n) (g.in_scope k n m)
+    at_leaf (bound k d i) m u = tt
+    at_leaf (placeholder k v n) m u = u
+    at_leaf (atom x) m u = m
+    at_leaf unknown m u = u
+
+pub scope_namable : (st : Store) (u : ℕ) (l : Leaf) → IsInScope st u l → IsNamable u l
+scope_namable st u (variable k n) h = tt
+scope_namable st u (bound k d i) h = tt
+scope_namable st u (placeholder k v n) h = h
+scope_namable st u (atom x) h = tt
+scope_namable st u unknown h = h

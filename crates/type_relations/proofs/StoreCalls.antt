@@ -1,23 +1,23 @@
 -- Which assignments each call of a store keeps, and that a sound store stays sound.
-use Rattle.std.proofs.Common.{◌≡◌, ◌≢◌, ◌⊎◌, ◌↔◌, ℕ, zero, suc, ◌<◌, ◌≤◌, refl, sym, ap, ap₂, ◌∙◌, arith, inl, inr, subst, subst₂, Some, None, Option, List, [], ◌∷◌, ◌++◌, length, get_or, All, le_trans, le_of_eq}
-use Rattle.relation_terms.specs.Heads.{VarKind, type_var, int_var, float_var, const_var, region_var, type_sort, const_sort, region_sort, Sort, Leaf, Atom, bool_type, int_type, uint_type, float_type, static_region, const_param, variable, bound, placeholder, atom, unknown}
+use Rattle.std.proofs.Common.{◌≡◌, ◌⊎◌, ℕ, zero, suc, ◌<◌, ◌≤◌, refl, sym, ap, ◌∙◌, arith, inl, inr, subst, subst₂, List, [], ◌∷◌, ◌++◌, length, get_or, All, le_trans, le_of_eq}
+use Rattle.relation_terms.specs.Heads.{VarKind, type_var, int_var, float_var, const_var, region_var, Leaf, Atom, bool_type, int_type, uint_type, float_type, static_region, const_param, variable, bound, placeholder, atom, unknown}
 use Rattle.relation_terms.specs.declared.terms.enums.IntTy.TheVariants.{I32}
 use Rattle.relation_terms.specs.declared.terms.enums.FloatTy.TheVariants.{F32}
-use Rattle.relation_terms.specs.Trees.{Tree, leaf, node, bind, nil, cons, Assign, assigned, apply, Leaves, Occurs}
+use Rattle.relation_terms.specs.Trees.{Tree, leaf, Assign, assigned, apply, Leaves, Occurs}
 use Rattle.relation_terms.specs.Erasure.{erase}
-use Rattle.type_relations.specs.Relation.{Interpretation, Outlives, IsValueAtom, IsGround, StaysWithin}
-use Rattle.type_relations.specs.Stores.{Store, Entry, unbound, same_as, bound_to, entry_of, entry_term, bound_term, universe_of, IsMade, IsMadeLeaf, IsFree, IsInScope, InContext, IsTermIn, IsNamable, IsAssignment, MayStandFor, MeetsBindings, Satisfies, IsSound, MayHave, Constraint, ConstraintIn, ConstraintHolds, BindingsAreMet, IsIntegerAtom, IsFloatAtom, resolve, resolved, outlives_constraint, equal_constraint, counts_term}
-use Rattle.type_relations.specs.FirstOrder.{Unifies, MeetsErased, IsErasedSolution}
-use Rattle.type_relations.specs.Steps.{IsLater, AgreeOn, Extends, Equates, BindsTo, MakesVariable, AddsConstraint, ChangesNothing, InstantiatesNumber, IsNumberFor, Resolves}
+use Rattle.type_relations.specs.Relation.{Outlives, IsValueAtom, IsGround, StaysWithin}
+use Rattle.type_relations.specs.Stores.{Store, unbound, bound_to, entry_term, bound_term, universe_of, IsMade, IsMadeLeaf, IsFree, IsInScope, InContext, IsTermIn, IsNamable, IsAssignment, MayStandFor, MeetsBindings, IsSound, Constraint, ConstraintIn, ConstraintHolds, BindingsAreMet, IsIntegerAtom, IsFloatAtom, resolve, resolved, outlives_constraint, equal_constraint, counts_term}
+use Rattle.type_relations.specs.FirstOrder.{Unifies, MeetsErased}
+use Rattle.type_relations.specs.Steps.{IsLater, AgreeOn, ChangesNothing, IsNumberFor}
 use Rattle.type_relations.specs.StoreLaws.{EquatingStaysSound, EquatingIsExact, BindingStaysSound, BindingIsExact, NumbersStaySound, NumbersAreExact, MakingStaysSound, MadeIsUnconstrained, ConstrainingIsExact, NothingIsSeen, ResolvedResolves}
-use Rattle.type_relations.proofs.Trees.{Leaves_map, Leaves-replace, all_leaves, apply-apply, apply_alike}
+use Rattle.type_relations.proofs.Trees.{Leaves_map, Leaves-replace, apply-apply}
 use Rattle.type_relations.proofs.Values.{same_value, scope_made}
-use Rattle.type_relations.proofs.Resolved.{resolved_same, resolved_meets, resolved_value, resolved_twice, resolved_free, general, HasTerm, is_free, is_bound, has_term, resolve_free, resolve_bound}
-use Rattle.type_relations.proofs.Standing.{namable_mono, stands_apply, within_apply, term_in, term_context, term_within, itself_stands, later_constraint, later_term}
-use Rattle.type_relations.proofs.Growing.{same_terms, old_or_new, made_sound, made_is_later, made_later, new_made, new_unbound, universes_stand, constraint_sound, constraint_is_later, constraint_holds, constraint_keeps}
+use Rattle.type_relations.proofs.Resolved.{resolved_same, resolved_meets, resolved_value, resolved_twice, HasTerm, is_free, is_bound, has_term, resolve_free, resolve_bound}
+use Rattle.type_relations.proofs.Standing.{stands_apply, within_apply, term_context, term_within, itself_stands, later_constraint, later_term, term_scope, scope_namable}
+use Rattle.type_relations.proofs.Growing.{same_terms, old_or_new, made_sound, universes_stand, constraint_sound, constraint_is_later, constraint_holds, constraint_keeps}
 use Rattle.type_relations.proofs.Written.{is_later, equal, keeps, sound_after}
 use Rattle.type_relations.proofs.Equating.{equating_lowers, equated_sound, equated_later, equated_value, equated_keeps, bound_sound}
-use Rattle.type_relations.proofs.Opening.{satisfies_still, satisfied_then, changes_later}
+use Rattle.type_relations.proofs.Opening.{satisfies_still, satisfied_then}
 use Rattle.type_relations.proofs.Tallies.{all_alike}
 use Rattle.type_relations.proofs.Composing.{All_map₂}
 use Rattle.type_relations.proofs.Exactness.{erased_alike, entry_is_exact, equating_exact, changed, changed_same, changed_other, changed_case}
@@ -26,17 +26,19 @@ pub equating_stays_sound : EquatingStaysSound
 equating_stays_sound before after k child root n q g = equated_sound before after k child root q g n
 
 pub equating_is_exact : EquatingIsExact
-equating_is_exact before after k child root n q g =
-    (λ w s. (λ h. ((equated_later before after k child root q g n).shrinks w s h, equated_value before after k child root q g n w s h), λ h. equated_keeps before after k child root q g n w s h.0 h.1),
-    equating_exact before after k child root q g (equated_later before after k child root q g n) (equating_lowers before after k child root q g n))
+equating_is_exact before after k child root n q g = (
+  λ w s. (λ h. ((equated_later before after k child root q g n).shrinks w s h, equated_value before after k child root q g n w s h), λ h. equated_keeps before after k child root q g n w s h.0 h.1),
+  equating_exact before after k child root q g (equated_later before after k child root q g n) (equating_lowers before after k child root q g n),
+)
 
 pub binding_stays_sound : BindingStaysSound
 binding_stays_sound before after k n t r q g stands is_in absent in_scope = bound_sound before after k n t q g r stands is_in absent in_scope
 
 pub binding_is_exact : BindingIsExact
-binding_is_exact before after k n t q =
-    (λ w s. (λ h. (l.shrinks w s h, equal before after k n (bound_to t) t q.writes refl w s h), λ h. keeps before after k n (bound_to t) t q.writes refl w s h.0 h.1 (λ j i m. subst (λ z. Leaves (IsNamable z) (s j i)) (sym (q.same_universes j i)) (h.0.assigns j i m).3)),
-    entry_is_exact before after k n (bound_to t) t q.writes refl l q.same_universes)
+binding_is_exact before after k n t q = (
+  λ w s. (λ h. (l.shrinks w s h, equal before after k n (bound_to t) t q.writes refl w s h), λ h. keeps before after k n (bound_to t) t q.writes refl w s h.0 h.1 (λ j i m. subst (λ z. Leaves (IsNamable z) (s j i)) (sym (q.same_universes j i)) (h.0.assigns j i m).3)),
+  entry_is_exact before after k n (bound_to t) t q.writes refl l q.same_universes,
+)
   where
     l : IsLater before after
     l = is_later before after k n (bound_to t) t q.writes refl (λ j i. le_of_eq (q.same_universes j i))
@@ -48,9 +50,10 @@ number_value s float_var (leaf (atom x)) h = refl
 number_value s k t h = absurd h
 
 pub numbers_are_exact : NumbersAreExact
-numbers_are_exact before after k n t q =
-    (λ w s. (λ h. (l.shrinks w s h, equal before after k n (bound_to t) t q.writes refl w s h ∙ number_value s k t q.fits), λ h. keeps before after k n (bound_to t) t q.writes refl w s h.0 (h.1 ∙ sym (number_value s k t q.fits)) (λ j i m. subst (λ z. Leaves (IsNamable z) (s j i)) (sym (q.same_universes j i)) (h.0.assigns j i m).3)),
-    entry_is_exact before after k n (bound_to t) t q.writes refl l q.same_universes)
+numbers_are_exact before after k n t q = (
+  λ w s. (λ h. (l.shrinks w s h, equal before after k n (bound_to t) t q.writes refl w s h ∙ number_value s k t q.fits), λ h. keeps before after k n (bound_to t) t q.writes refl w s h.0 (h.1 ∙ sym (number_value s k t q.fits)) (λ j i m. subst (λ z. Leaves (IsNamable z) (s j i)) (sym (q.same_universes j i)) (h.0.assigns j i m).3)),
+  entry_is_exact before after k n (bound_to t) t q.writes refl l q.same_universes,
+)
   where
     l : IsLater before after
     l = is_later before after k n (bound_to t) t q.writes refl (λ j i. le_of_eq (q.same_universes j i))
@@ -85,7 +88,7 @@ number_no_region k t h p = h
 
 atom_in : (st : Store) (x : Atom) → IsValueAtom x → IsTermIn st (leaf (atom x))
 unfolding IsTermIn InContext
-atom_in st x h = (h, tt)
+atom_in st x h = (h, tt, tt)
 
 pub numbers_stay_sound : NumbersStaySound
 numbers_stay_sound before after k n t q g = sound_after before after k n (bound_to t) t q.writes refl g absent (number_no_region k t q.fits) (number_stands k t q.fits)
@@ -141,17 +144,19 @@ made_is_unconstrained before after k n u q g w s t sat stands ground within name
 
     constraint : (c : Constraint) → ConstraintIn before c → ConstraintHolds w s c → ConstraintHolds w z c
     constraint (outlives_constraint a b) i h = subst₂ (Outlives w) (same_value before s z a agree (term_context before a i.0.1)) (same_value before s z b agree (term_context before b i.1.1)) h
-    constraint (equal_constraint a b) i h =
-        (subst₂ (Outlives w) (same_value before s z a agree (term_context before a i.0.1)) (same_value before s z b agree (term_context before b i.1.1)) h.0,
-        subst₂ (Outlives w) (same_value before s z b agree (term_context before b i.1.1)) (same_value before s z a agree (term_context before a i.0.1)) h.1)
+    constraint (equal_constraint a b) i h = (
+      subst₂ (Outlives w) (same_value before s z a agree (term_context before a i.0.1)) (same_value before s z b agree (term_context before b i.1.1)) h.0,
+      subst₂ (Outlives w) (same_value before s z b agree (term_context before b i.1.1)) (same_value before s z a agree (term_context before a i.0.1)) h.1,
+    )
 
     regions : All (ConstraintHolds w z) after.constraints
     regions = subst (All (ConstraintHolds w z)) (sym q.same_constraints) (All_map₂ (ConstraintIn before) (ConstraintHolds w s) (ConstraintHolds w z) constraint before.constraints g.constraints_in sat.regions)
 
 pub constraining_is_exact : ConstrainingIsExact
-constraining_is_exact before after q b =
-    (λ g h. constraint_sound before after q b g h,
-    λ w s. (λ h. ((constraint_is_later before after q b).shrinks w s h, constraint_holds before after q b w s h), λ h. constraint_keeps before after q b w s h.0 h.1))
+constraining_is_exact before after q b = (
+  λ g h. constraint_sound before after q b g h,
+  λ w s. (λ h. ((constraint_is_later before after q b).shrinks w s h, constraint_holds before after q b w s h), λ h. constraint_keeps before after q b w s h.0 h.1),
+)
 
 -- A store with the same entries and universes is sound where the other is.
 module _ (before after : Store) (b : ChangesNothing before after) (g : IsSound before) where
@@ -184,14 +189,14 @@ module _ (before after : Store) (b : ChangesNothing before after) (g : IsSound b
   changed_sound : IsSound after
   changed_sound = record {
     settles = λ j m. subst (Leaves (IsFree after)) (resolved_stand j m) (Leaves_map (IsFree before) (IsFree after) free_stands (resolved before j m) (g.settles j m));
-    bindings = λ j m t e. let p = g.bindings j m t (terms_stand j m ∙ e) in record { made = made_stand j m p.made; is_in = later_term before after made_stand t p.is_in; stands = p.stands };
+    bindings = λ j m t e. let p = g.bindings j m t (terms_stand j m ∙ e) in record { made = made_stand j m p.made; is_in = later_term before after made_stand b.universe_stands t p.is_in; stands = p.stands };
     in_scope = λ j m p. subst₂ (λ v r. Leaves (IsInScope after v) r) (universe_stands j m) (resolved_stand j m)
         (Leaves_map (IsInScope before (universe_of before j m)) _ (scope_stands (universe_of before j m)) (resolved before j m) (g.in_scope j m (subst (λ es. m < length es) (b.same_entries j) p)));
     falls = λ j m i e. g.falls j m i (ap (λ es. get_or es m unbound) (sym (b.same_entries j)) ∙ e);
     regions_unbound = λ m. ap (λ es. get_or es m unbound) (b.same_entries region_var) ∙ g.regions_unbound m;
     one_universe_each = λ j. ap length (b.same_universes j) ∙ g.one_universe_each j ∙ ap length (sym (b.same_entries j));
     below_current = λ j m. subst (λ z. z ≤ after.universe) (universe_stands j m) (le_trans (g.below_current j m) b.universe_stands);
-    constraints_in = subst (All (ConstraintIn after)) (sym b.same_constraints) (λ i d p. later_constraint before after made_stand _ (g.constraints_in i d p));
+    constraints_in = subst (All (ConstraintIn after)) (sym b.same_constraints) (λ i d p. later_constraint before after made_stand b.universe_stands _ (g.constraints_in i d p));
   }
 
 pub nothing_is_seen : NothingIsSeen
@@ -247,7 +252,8 @@ module _ (st : Store) (g : IsSound st) where
 
   resolved_in : (t : Tree) → IsTermIn st t → IsTermIn st (apply (resolved st) t)
   unfolding IsTermIn InContext
-  resolved_in t h = (Leaves-replace (IsMadeLeaf st) (assigned (resolved st)) t (Leaves_map (IsMadeLeaf st) _ in_leaf t h.0), within_apply (resolved st) 0 t resolved_within h.1)
+  resolved_in t h = (Leaves-replace (IsMadeLeaf st) (assigned (resolved st)) t (Leaves_map (IsMadeLeaf st) _ in_leaf t h.0), within_apply (resolved st) 0 t resolved_within h.1,
+      Leaves_map (IsInScope st st.universe) (IsNamable st.universe) (scope_namable st st.universe) (apply (resolved st) t) (term_scope st g t h))
 
 pub resolved_resolves : ResolvedResolves
 resolved_resolves st t g = record {
@@ -306,8 +312,12 @@ bindings_are_met st g = (value, assigns, meets)
     scope k n m = Leaves-replace _ (assigned defaults) (resolved st k n) (Leaves_map (IsInScope st (universe_of st k n)) _ (default_scope st (universe_of st k n)) (resolved st k n) (g.in_scope k n m))
 
     assigns : IsAssignment st value
-    assigns k n m = (stands_apply defaults k (resolved st k n) default_stands (resolved_stands st g k n), Leaves_map _ IsGround (λ l h. h.0) (apply defaults (resolved st k n)) (scope k n m),
-        within_apply defaults 0 (resolved st k n) default_within (resolved_within st g k n), Leaves_map _ (IsNamable (universe_of st k n)) (λ l h. h.1) (apply defaults (resolved st k n)) (scope k n m))
+    assigns k n m = (
+      stands_apply defaults k (resolved st k n) default_stands (resolved_stands st g k n),
+      Leaves_map _ IsGround (λ l h. h.0) (apply defaults (resolved st k n)) (scope k n m),
+      within_apply defaults 0 (resolved st k n) default_within (resolved_within st g k n),
+      Leaves_map _ (IsNamable (universe_of st k n)) (λ l h. h.1) (apply defaults (resolved st k n)) (scope k n m),
+    )
 
     meets : MeetsBindings st value
     meets k n t e = ap (apply defaults) (resolved_meets st g k n t e) ∙ apply-apply defaults (resolved st) t

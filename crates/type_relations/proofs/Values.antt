@@ -1,9 +1,9 @@
 -- The values of terms under the assignments of a store.
-use Rattle.std.proofs.Common.{◌≡◌, ◌≢◌, ◌⊎◌, ℕ, zero, suc, ◌+◌, ◌<◌, ◌≤◌, refl, sym, ap, ap₂, ◌∙◌, arith, inl, inr, subst, subst₂, List, [], ◌∷◌, map}
-use Rattle.relation_terms.specs.Heads.{Sort, region_sort, type_sort, const_sort, Kind, region_kind, type_kind, const_kind, BoundKind, bound_kind, bound_sort, VarKind, var_sort, Leaf, bool_type, static_region, const_param, atom, variable, bound, placeholder, unknown}
-use Rattle.relation_terms.specs.Trees.{Tree, leaf, node, bind, nil, cons, Assign, assigned, apply, inst, Leaves, Occurs, IsTerm, IsList, count, nth}
-use Rattle.type_relations.specs.Relation.{IsGround, StaysWithin, IsValue, FitKinds, Avoids, AvoidsAll, Fresh}
-use Rattle.type_relations.specs.Stores.{Store, universe_of, IsMade, IsNamable, IsAssignment, IsInScope, IsMadeLeaf, InContext, MayStandFor}
+use Rattle.std.proofs.Common.{◌≡◌, ◌≢◌, ℕ, zero, suc, ◌<◌, refl, sym, ap, ap₂, arith, inl, inr, subst, List, [], ◌∷◌, map}
+use Rattle.relation_terms.specs.Heads.{region_kind, type_kind, const_kind, BoundKind, bound_kind, bound_sort, VarKind, var_sort, Leaf, bool_type, static_region, const_param, atom, variable, bound, placeholder, unknown}
+use Rattle.relation_terms.specs.Trees.{Tree, leaf, node, bind, nil, cons, Assign, assigned, apply, Leaves, Occurs, IsTerm, IsList, count, nth}
+use Rattle.type_relations.specs.Relation.{StaysWithin, IsValue, FitKinds, Avoids, AvoidsAll, Fresh}
+use Rattle.type_relations.specs.Stores.{Store, universe_of, IsMade, IsNamable, IsAssignment, IsInScope, IsMadeLeaf, InContext}
 use Rattle.type_relations.specs.Steps.{AgreeOn, AllNamable, AreNewVariables, ArePlaceholders}
 use Rattle.type_relations.proofs.Trees.{Leaves_map, Leaves-replace, StaysIn, StaysWithin-mono, replace_alike}
 use Rattle.type_relations.proofs.Standing.{namable_mono, stands_term}

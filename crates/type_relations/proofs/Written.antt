@@ -205,6 +205,9 @@ module _ (before after : Store) (k : VarKind) (n : ℕ) (x : Entry) (t : Tree) (
         (kept : (j : VarKind) (i : ℕ) (u : Tree) → bound_term after j i ≡ Some u → universe_of after j i ≡ universe_of before j i)
         (in_scope : Leaves (IsInScope after (universe_of before k n)) (apply (resolved before) t)) where
 
+      same_now : before.universe ≤ after.universe
+      same_now = omega (arith, w.same_universe)
+
       scope_leaf : (u : ℕ) (l : Leaf) → IsInScope before u l → Leaves (IsInScope after u) (assigned single l)
       scope_leaf u (variable j i) h = go (which j k i n)
         where
@@ -235,11 +238,11 @@ module _ (before after : Store) (k : VarKind) (n : ℕ) (x : Entry) (t : Tree) (
           go (inl (a, b)) = let z : bound_term after j i ≡ bound_term after k n = ap₂ (bound_term after) a b in let tu : t ≡ u = cc (z, q, now_bound) in
               subst₂ (λ y z. MayHave after y z u) (sym a) (sym b) (record {
                 made = made_after k n w.made;
-                is_in = subst (IsTermIn after) tu (later_term before after made_after t is_in);
+                is_in = subst (IsTermIn after) tu (later_term before after made_after same_now t is_in);
                 stands = subst (MayStandFor k) tu stands;
               })
           go (inr o) = let h = g.bindings j i u (sym (others j i o) ∙ q) in
-              record { made = made_after j i h.made; is_in = later_term before after made_after u h.is_in; stands = h.stands }
+              record { made = made_after j i h.made; is_in = later_term before after made_after same_now u h.is_in; stands = h.stands }
 
       all_fall : (j : VarKind) (i m : ℕ) → entry_of after j i ≡ same_as m → m < i
       all_fall j i m q = go (which j k i n)
@@ -257,7 +260,7 @@ module _ (before after : Store) (k : VarKind) (n : ℕ) (x : Entry) (t : Tree) (
         regions_unbound = λ i. w.others_stand region_var i (λ a b. not_region (sym a)) ∙ g.regions_unbound i;
         one_universe_each = λ j. w.as_many_universes j ∙ g.one_universe_each j ∙ sym (w.as_many j);
         below_current = λ j i. subst (λ z. universe_of after j i ≤ z) (sym w.same_universe) (le_trans (smaller j i) (g.below_current j i));
-        constraints_in = subst (All (ConstraintIn after)) (sym w.same_constraints) (λ i d h. later_constraint before after made_after _ (g.constraints_in i d h));
+        constraints_in = subst (All (ConstraintIn after)) (sym w.same_constraints) (λ i d h. later_constraint before after made_after same_now _ (g.constraints_in i d h));
       }
 
   -- The satisfying assignments that are left.

@@ -81,4 +81,5 @@ IsQuiet g = AsksNoPair (asked g.predicate)
 
 -- Each assignment that satisfies the store and makes the goals true puts the terms into the relation.
 abbrev pub Relates : Items → Store → List Goal → Tree → Variance → Tree → Tree → Type 0
-Relates c st goals e v a b = (w : Interpretation) (s : Assign) → Satisfies w st s → All (Holds c w s) goals → Rel c w e (at v) (apply s a) (apply s b)
+Relates c st goals e v a b = (w : Interpretation) (s : Assign) → Satisfies w st s → All (Holds c w s) goals →
+    Rel c w e (at v) (apply s a) (apply s b)

@@ -17,7 +17,8 @@ AnswersGoals c before after goals e v a b = Relates c after goals e v a b × Onl
 -- No equal pair is lost: what satisfied the store before and made the terms one tree extends to satisfy the store
 -- after and to make both sides of each subtype and alias goal one tree.
 abbrev pub KeepsEqualTerms : Store → Store → List Goal → Tree → Tree → Type 0
-KeepsEqualTerms before after goals a b = (w : Interpretation) (s : Assign) → Satisfies w before s → apply s a ≡ apply s b → Extends before s (λ s'. Satisfies w after s' × All (MakesOneTree s') goals)
+KeepsEqualTerms before after goals a b = (w : Interpretation) (s : Assign) → Satisfies w before s →
+    apply s a ≡ apply s b → Extends before s (λ s'. Satisfies w after s' × All (MakesOneTree s') goals)
 
 -- The first-order terms and store on which relating at invariance is exact.
 pub record IsFirstOrderPair (before : Store) (a b : Tree) : Type 0 where
@@ -32,4 +33,5 @@ AnswersExactly before after goals a b = (goals ≡ []) × Exact before after a b
 
 -- What exactness says of an earlier assignment: it unifies the terms just where it extends to the store after.
 abbrev pub KeepsUnifiers : Store → Store → Tree → Tree → Type 0
-KeepsUnifiers before after a b = (s : Assign) → IsErasedSolution before s → Unifies s a b ↔ ExtendsErased before s (IsErasedSolution after)
+KeepsUnifiers before after a b = (s : Assign) → IsErasedSolution before s → Unifies s a b ↔
+    ExtendsErased before s (IsErasedSolution after)

@@ -22,16 +22,20 @@ AreOne (first_opened ks ls v) s a b = (ks ≡ ls) × (apply s a ≡ apply s b)
 pub record Outcome (c : Items) (e : Tree) (way : Way) (before after : Store) (earlier added : List Goal) (a b : Tree) : Type 0 where
   pub later : IsLater before after
   pub goals_in : All (GoalInContext after) added
-  pub relates : (w : Interpretation) (s : Assign) → Satisfies w after s → All (Holds c w s) (earlier ++ added) → Rel c w e way (apply s a) (apply s b)
-  pub keeps : (w : Interpretation) (s : Assign) → Satisfies w before s → AreOne way s a b → Extends before s (λ s'. Satisfies w after s' × All (MakesOneTree s') added)
+  pub relates : (w : Interpretation) (s : Assign) → Satisfies w after s → All (Holds c w s) (earlier ++ added) →
+      Rel c w e way (apply s a) (apply s b)
+  pub keeps : (w : Interpretation) (s : Assign) → Satisfies w before s → AreOne way s a b →
+      Extends before s (λ s'. Satisfies w after s' × All (MakesOneTree s') added)
 
 -- A step was taken from one pair to another that is to be related yet, at its own exit: what relates the pair that is
 -- left relates the first, and what made the first one extends to make the pair that is left one.
 pub record StepsTo (c : Items) (e : Tree) (before after : Store) (earlier added : List Goal) (way : Way) (a b : Tree) (way' : Way) (x y : Tree) : Type 0 where
   pub later : IsLater before after
   pub goals_in : All (GoalInContext after) added
-  pub relates : (w : Interpretation) (s : Assign) → Satisfies w after s → All (Holds c w s) (earlier ++ added) → Rel c w e way' (apply s x) (apply s y) → Rel c w e way (apply s a) (apply s b)
-  pub keeps : (w : Interpretation) (s : Assign) → Satisfies w before s → AreOne way s a b → Extends before s (λ s'. Satisfies w after s' × All (MakesOneTree s') added × AreOne way' s' x y)
+  pub relates : (w : Interpretation) (s : Assign) → Satisfies w after s → All (Holds c w s) (earlier ++ added) →
+      Rel c w e way' (apply s x) (apply s y) → Rel c w e way (apply s a) (apply s b)
+  pub keeps : (w : Interpretation) (s : Assign) → Satisfies w before s → AreOne way s a b →
+      Extends before s (λ s'. Satisfies w after s' × All (MakesOneTree s') added × AreOne way' s' x y)
 
 -- The type-error half: no earlier satisfying assignment makes them one.
 abbrev pub NeverOne : Way → Store → Tree → Tree → Type 0
@@ -44,13 +48,15 @@ NoEqualTerms before a b = (w : Interpretation) (s : Assign) → Satisfies w befo
 pub record Exact (before after : Store) (a b : Tree) : Type 0 where
   pub later : IsLater before after
   pub shrinks : (s : Assign) → IsErasedSolution after s → IsErasedSolution before s × Unifies s a b
-  pub keeps : (s : Assign) → IsErasedSolution before s → Unifies s a b → ExtendsErased before s (IsErasedSolution after)
+  pub keeps : (s : Assign) → IsErasedSolution before s → Unifies s a b →
+      ExtendsErased before s (IsErasedSolution after)
 
 -- The same of a step to a pair that is left.
 pub record ExactStep (before after : Store) (a b x y : Tree) : Type 0 where
   pub later : IsLater before after
   pub shrinks : (s : Assign) → IsErasedSolution after s → Unifies s x y → IsErasedSolution before s × Unifies s a b
-  pub keeps : (s : Assign) → IsErasedSolution before s → Unifies s a b → ExtendsErased before s (λ s'. IsErasedSolution after s' × Unifies s' x y)
+  pub keeps : (s : Assign) → IsErasedSolution before s → Unifies s a b →
+      ExtendsErased before s (λ s'. IsErasedSolution after s' × Unifies s' x y)
 
 -- No assignment that met the store before, up to erasure, unifies the terms.
 abbrev pub NoUnifier : Store → Tree → Tree → Type 0
@@ -60,12 +66,15 @@ NoUnifier before a b = (s : Assign) → IsErasedSolution before s → Unifies s 
 pub record Front (c : Items) (e : Tree) (h : Head) (v : Variance) (i : ℕ) (before after : Store) (earlier added : List Goal) (xs ys : Tree) : Type 0 where
   pub later : IsLater before after
   pub goals_in : All (GoalInContext after) added
-  pub relates : (w : Interpretation) (s : Assign) → Satisfies w after s → All (Holds c w s) (earlier ++ added) → (j : ℕ) → j < i → Rel c w e (at (part_at c h j v)) (apply s (nth j xs)) (apply s (nth j ys))
-  pub keeps : (w : Interpretation) (s : Assign) → Satisfies w before s → apply s xs ≡ apply s ys → Extends before s (λ s'. Satisfies w after s' × All (MakesOneTree s') added)
+  pub relates : (w : Interpretation) (s : Assign) → Satisfies w after s → All (Holds c w s) (earlier ++ added) →
+      (j : ℕ) → j < i → Rel c w e (at (part_at c h j v)) (apply s (nth j xs)) (apply s (nth j ys))
+  pub keeps : (w : Interpretation) (s : Assign) → Satisfies w before s → apply s xs ≡ apply s ys →
+      Extends before s (λ s'. Satisfies w after s' × All (MakesOneTree s') added)
 
 -- The same of exactness.
 pub record ExactFront (i : ℕ) (before after : Store) (xs ys : Tree) : Type 0 where
   pub later : IsLater before after
   pub shrinks : (s : Assign) → IsErasedSolution after s → IsErasedSolution before s
   pub unifies : (s : Assign) → IsErasedSolution after s → (j : ℕ) → j < i → Unifies s (nth j xs) (nth j ys)
-  pub keeps : (s : Assign) → IsErasedSolution before s → Unifies s xs ys → ExtendsErased before s (IsErasedSolution after)
+  pub keeps : (s : Assign) → IsErasedSolution before s → Unifies s xs ys →
+      ExtendsErased before s (IsErasedSolution after)

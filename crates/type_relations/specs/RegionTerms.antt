@@ -1,6 +1,6 @@
 -- Variable-free terms that are first-order but for binders of regions, and what relates them where all regions
 -- outlive each other.
-use Rattle.std.specs.Prelude.{◌≡◌, ◌⊎◌, ◌↔◌, ℕ, suc, List, [], ◌∷◌, None}
+use Rattle.std.specs.Prelude.{◌≡◌, ◌⊎◌, ◌↔◌, suc, List, [], ◌∷◌, None}
 use Rattle.relation_terms.specs.declared.terms.enums.Variance.{Variance}
 use Rattle.relation_terms.specs.declared.terms.enums.Variance.TheVariants.{Bivariant}
 use Rattle.relation_terms.specs.Heads.{Sort, region_sort, BoundKind, bound_sort, Head, fn_ptr, unsafe_binder, Leaf, variable, bound, placeholder, atom, unknown}
@@ -43,9 +43,11 @@ Agree c way a b = a ≡ b
 
 -- Such terms that are in the relation have erasures that agree.
 abbrev pub RelatedTermsAgree : Type 0
-RelatedTermsAgree = (c : Items) (w : Interpretation) (e : Tree) (v : Variance) (a b : Tree) → IsRegionTerm a → IsRegionTerm b → Rel c w e (at v) a b → Agree c (at v) (erase a) (erase b)
+RelatedTermsAgree = (c : Items) (w : Interpretation) (e : Tree) (v : Variance) (a b : Tree) → IsRegionTerm a →
+    IsRegionTerm b → Rel c w e (at v) a b → Agree c (at v) (erase a) (erase b)
 
 -- Where all regions outlive each other, they are in the relation just where their erasures agree.
 abbrev pub RelatedIffAgree : Type 0
-RelatedIffAgree = (c : Items) (w : Interpretation) (e : Tree) (v : Variance) (s : Sort) (a b : Tree) → w.outlives ≡ None → IsTerm s a → IsTerm s b → IsRegionTerm a → IsRegionTerm b →
+RelatedIffAgree = (c : Items) (w : Interpretation) (e : Tree) (v : Variance) (s : Sort) (a b : Tree) →
+    w.outlives ≡ None → IsTerm s a → IsTerm s b → IsRegionTerm a → IsRegionTerm b →
     Rel c w e (at v) a b ↔ Agree c (at v) (erase a) (erase b)

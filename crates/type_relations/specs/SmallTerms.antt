@@ -2,13 +2,12 @@
 use Rattle.std.specs.Prelude.{◌≡◌, ◌≢◌, ◌⊎◌, ◌↔◌, ℕ, List, [], ◌∷◌, false}
 use Rattle.relation_terms.specs.declared.terms.enums.Variance.{Variance}
 use Rattle.relation_terms.specs.declared.terms.enums.Variance.TheVariants.{Covariant, Contravariant, Invariant, Bivariant}
-use Rattle.relation_terms.specs.declared.terms.enums.Mutability.{Mutability}
 use Rattle.relation_terms.specs.declared.terms.enums.Mutability.TheVariants.{Not, Mut}
 use Rattle.relation_terms.specs.declared.terms.enums.PredicatePolarity.{PredicatePolarity}
 use Rattle.relation_terms.specs.declared.terms.enums.UintTy.TheVariants.{U8}
 use Rattle.relation_terms.specs.declared.terms.enums.Safety.TheVariants.{Safe}
 use Rattle.relation_terms.specs.declared.terms.enums.ExternAbi.TheVariants.{Rust}
-use Rattle.relation_terms.specs.Heads.{Sort, region_sort, clause_sort, predicate_sort, environment_sort, head_sort, trait_clause, region_kind, BoundKind, bound_kind, Atom, atom_sort, bool_type, uint_type, type_param, const_param, static_region, early_region, Head, adt, tuple, ref, fn_ptr, signature, inputs, value, value_type, Leaf, bound, placeholder, atom}
+use Rattle.relation_terms.specs.Heads.{Sort, region_sort, clause_sort, predicate_sort, environment_sort, head_sort, trait_clause, region_kind, BoundKind, bound_kind, Atom, atom_sort, bool_type, uint_type, type_param, const_param, static_region, early_region, Head, adt, tuple, ref, fn_ptr, signature, inputs, value, value_type, bound, placeholder, atom}
 use Rattle.relation_terms.specs.Trees.{Tree, leaf, node, bind, nil, cons, IsList}
 use Rattle.type_relations.specs.Relation.{Items, Interpretation, Rel, at, parts, plain, plain_atom, sort_of, IsError, IsErrorAtom, IsAliasHead, IsRelatedHead, Outlives}
 
@@ -68,35 +67,45 @@ AnythingAtBivariance = (c : Items) (w : Interpretation) (e a b : Tree) → Rel c
 
 -- An error is related with anything of its sort, on either side.
 abbrev pub ErrorsAreRelated : Type 0
-ErrorsAreRelated = (c : Items) (w : Interpretation) (e : Tree) (v : Variance) (a b : Tree) → IsError a ⊎ IsError b → sort_of a ≡ sort_of b → Rel c w e (at v) a b
+ErrorsAreRelated = (c : Items) (w : Interpretation) (e : Tree) (v : Variance) (a b : Tree) → IsError a ⊎ IsError b →
+    sort_of a ≡ sort_of b → Rel c w e (at v) a b
 
 -- Parameters are related just where their indices are equal, whatever their names.
 abbrev pub ParametersByIndex : Type 0
 ParametersByIndex = (c : Items) (w : Interpretation) (e : Tree) (v : Variance) (i j n m : ℕ) → v ≢ Bivariant →
-    (Rel c w e (at v) (leaf (atom (type_param i n))) (leaf (atom (type_param j m))) ↔ i ≡ j) × (Rel c w e (at v) (leaf (atom (const_param i n))) (leaf (atom (const_param j m))) ↔ i ≡ j)
+    (Rel c w e (at v) (leaf (atom (type_param i n))) (leaf (atom (type_param j m))) ↔ i ≡ j) ×
+    (Rel c w e (at v) (leaf (atom (const_param i n))) (leaf (atom (const_param j m))) ↔ i ≡ j)
 
 -- Constant values are related just where their value trees are; their types are not looked at.
 abbrev pub ValuesByTheirTrees : Type 0
-ValuesByTheirTrees = (c : Items) (w : Interpretation) (e : Tree) (v : Variance) (ty ty' t t' : Tree) → Rel c w e (at v) (value_of ty t) (value_of ty' t') ↔ Rel c w e (at v) t t'
+ValuesByTheirTrees = (c : Items) (w : Interpretation) (e : Tree) (v : Variance) (ty ty' t t' : Tree) →
+    Rel c w e (at v) (value_of ty t) (value_of ty' t') ↔ Rel c w e (at v) t t'
 
 -- Shared references to one type are related just as their regions are: covariantly where the first outlives the
 -- second, contravariantly the other way round, invariantly where both hold.
 abbrev pub ReferencesByRegions : Type 0
-ReferencesByRegions = (c : Items) (w : Interpretation) (e a b t : Tree) → sort_of a ≡ region_sort → sort_of b ≡ region_sort →
-    (Rel c w e (at Covariant) (ref_to a t) (ref_to b t) ↔ Outlives w a b) × (Rel c w e (at Contravariant) (ref_to a t) (ref_to b t) ↔ Outlives w b a) × (Rel c w e (at Invariant) (ref_to a t) (ref_to b t) ↔ Outlives w a b × Outlives w b a)
+ReferencesByRegions = (c : Items) (w : Interpretation) (e a b t : Tree) → sort_of a ≡ region_sort →
+    sort_of b ≡ region_sort →
+    (Rel c w e (at Covariant) (ref_to a t) (ref_to b t) ↔ Outlives w a b) ×
+    (Rel c w e (at Contravariant) (ref_to a t) (ref_to b t) ↔ Outlives w b a) ×
+    (Rel c w e (at Invariant) (ref_to a t) (ref_to b t) ↔ Outlives w a b × Outlives w b a)
 
 -- `&'x mut &'a u8` is `&'x mut &'b u8` just where 'a and 'b outlive each other.
 abbrev pub MutablePointeesAreFixed : Type 0
-MutablePointeesAreFixed = (c : Items) (w : Interpretation) (e x a b : Tree) → sort_of a ≡ region_sort → sort_of b ≡ region_sort → Rel c w e (at Covariant) (mut_ref_to x (ref_to a u8)) (mut_ref_to x (ref_to b u8)) ↔ Outlives w a b × Outlives w b a
+MutablePointeesAreFixed = (c : Items) (w : Interpretation) (e x a b : Tree) → sort_of a ≡ region_sort →
+    sort_of b ≡ region_sort → Rel c w e (at Covariant) (mut_ref_to x (ref_to a u8)) (mut_ref_to x (ref_to b u8)) ↔
+    Outlives w a b × Outlives w b a
 
 -- `fn(&'i u8)` is `fn(&'j u8)` just where 'j outlives 'i.
 abbrev pub InputsTurnRound : Type 0
-InputsTurnRound = (c : Items) (w : Interpretation) (e : Tree) (i j : ℕ) → Rel c w e (at Covariant) (fn_of_ref [] (named i)) (fn_of_ref [] (named j)) ↔ Outlives w (named j) (named i)
+InputsTurnRound = (c : Items) (w : Interpretation) (e : Tree) (i j : ℕ) →
+    Rel c w e (at Covariant) (fn_of_ref [] (named i)) (fn_of_ref [] (named j)) ↔ Outlives w (named j) (named i)
 
 -- Arguments at a bivariant parameter are skipped at covariance, and related at invariance.
 abbrev pub BivariantArguments : Type 0
 BivariantArguments = (c : Items) (w : Interpretation) (e : Tree) (d : ℕ) → c.declared d 0 ≡ Bivariant →
-    Rel c w e (at Covariant) (adt_of d u8) (adt_of d bool) × (Rel c w e (at Invariant) (adt_of d u8) (adt_of d bool) → ⊥)
+    Rel c w e (at Covariant) (adt_of d u8) (adt_of d bool) ×
+    (Rel c w e (at Invariant) (adt_of d u8) (adt_of d bool) → ⊥)
 
 -- Neither alias type nor unevaluated constant.
 abbrev pub IsRigidHead : Head → Type 0
@@ -104,20 +113,25 @@ IsRigidHead h = IsAliasHead h → ⊥
 
 -- Rigid forms of different heads are never related.
 abbrev pub UnlikeHeadsAreUnrelated : Type 0
-UnlikeHeadsAreUnrelated = (c : Items) (w : Interpretation) (e : Tree) (v : Variance) (h k : Head) (xs ys : Tree) → v ≢ Bivariant → IsRigidHead h → IsRigidHead k → plain h ≢ plain k → Rel c w e (at v) (node h xs) (node k ys) → ⊥
+UnlikeHeadsAreUnrelated = (c : Items) (w : Interpretation) (e : Tree) (v : Variance) (h k : Head) (xs ys : Tree) →
+    v ≢ Bivariant → IsRigidHead h → IsRigidHead k → plain h ≢ plain k → Rel c w e (at v) (node h xs) (node k ys) → ⊥
 
 -- Nor are unlike forms without parts, errors and regions aside, nor one of these and a rigid form with parts.
 abbrev pub UnlikeAtomsAreUnrelated : Type 0
-UnlikeAtomsAreUnrelated = (c : Items) (w : Interpretation) (e : Tree) (v : Variance) (x y : Atom) → v ≢ Bivariant → (IsErrorAtom x → ⊥) → (IsErrorAtom y → ⊥) → atom_sort x ≢ region_sort → plain_atom x ≢ plain_atom y → Rel c w e (at v) (leaf (atom x)) (leaf (atom y)) → ⊥
+UnlikeAtomsAreUnrelated = (c : Items) (w : Interpretation) (e : Tree) (v : Variance) (x y : Atom) → v ≢ Bivariant →
+    (IsErrorAtom x → ⊥) → (IsErrorAtom y → ⊥) → atom_sort x ≢ region_sort → plain_atom x ≢ plain_atom y →
+    Rel c w e (at v) (leaf (atom x)) (leaf (atom y)) → ⊥
 
 abbrev pub AtomsAreNoForms : Type 0
-AtomsAreNoForms = (c : Items) (w : Interpretation) (e : Tree) (v : Variance) (x : Atom) (h : Head) (ts : Tree) → v ≢ Bivariant → (IsErrorAtom x → ⊥) → IsRigidHead h →
+AtomsAreNoForms = (c : Items) (w : Interpretation) (e : Tree) (v : Variance) (x : Atom) (h : Head) (ts : Tree) →
+    v ≢ Bivariant → (IsErrorAtom x → ⊥) → IsRigidHead h →
     (Rel c w e (at v) (leaf (atom x)) (node h ts) → ⊥) × (Rel c w e (at v) (node h ts) (leaf (atom x)) → ⊥)
 
 -- Rigid forms that have a relation are related just where their heads are equal, but for what relating does not look
 -- at, and their parts are related.
 abbrev pub FormsByParts : Type 0
-FormsByParts = (c : Items) (w : Interpretation) (e : Tree) (v : Variance) (h k : Head) (xs ys : Tree) → v ≢ Bivariant → IsRelatedHead h → IsRigidHead h → IsRigidHead k → IsList xs →
+FormsByParts = (c : Items) (w : Interpretation) (e : Tree) (v : Variance) (h k : Head) (xs ys : Tree) →
+    v ≢ Bivariant → IsRelatedHead h → IsRigidHead h → IsRigidHead k → IsList xs →
     Rel c w e (at v) (node h xs) (node k ys) ↔ (plain h ≡ plain k) × Rel c w e (parts h 0 v) xs ys
 
 -- A predicate or an environment, but for trait predicates, is related with itself alone.
@@ -136,12 +150,16 @@ AnyIsStatic = (c : Items) (w : Interpretation) (e : Tree) → Rel c w e (at Cova
 
 -- The converse only where some placeholder outlives the static region.
 abbrev pub StaticIsNotAny : Type 0
-StaticIsNotAny = (c : Items) (w : Interpretation) (e : Tree) → Rel c w e (at Covariant) (fn_of_ref [] static) fn_of_any → (u : ℕ) × (n : ℕ) × Outlives w (region_placeholder u n) static
+StaticIsNotAny = (c : Items) (w : Interpretation) (e : Tree) →
+    Rel c w e (at Covariant) (fn_of_ref [] static) fn_of_any → (u : ℕ) × (n : ℕ) ×
+    Outlives w (region_placeholder u n) static
 
 -- A function of references at a placeholder's region is one of all references only where another placeholder outlives it.
 abbrev pub PlaceholderIsNotAny : Type 0
-PlaceholderIsNotAny = (c : Items) (w : Interpretation) (e : Tree) (u n : ℕ) → Rel c w e (at Covariant) (fn_of_ref [] (region_placeholder u n)) fn_of_any →
-    (u' : ℕ) × (n' : ℕ) × (region_placeholder u' n' ≢ region_placeholder u n) × Outlives w (region_placeholder u' n') (region_placeholder u n)
+PlaceholderIsNotAny = (c : Items) (w : Interpretation) (e : Tree) (u n : ℕ) →
+    Rel c w e (at Covariant) (fn_of_ref [] (region_placeholder u n)) fn_of_any →
+    (u' : ℕ) × (n' : ℕ) × (region_placeholder u' n' ≢ region_placeholder u n) ×
+    Outlives w (region_placeholder u' n') (region_placeholder u n)
 
 -- Where regions outlive only themselves, `for<'a> fn(&'a u8, &'a u8)` is no `for<'a, 'b> fn(&'a u8, &'b u8)`.
 abbrev pub OneRegionIsNotTwo : Type 0
@@ -152,4 +170,6 @@ OneRegionIsNotTwo = (c : Items) (w : Interpretation) (e : Tree) → ((a b : Tree
 -- At invariance a function of all references is one of static references only where some placeholder outlives the
 -- static region.
 abbrev pub AnyIsNotInvariantlyStatic : Type 0
-AnyIsNotInvariantlyStatic = (c : Items) (w : Interpretation) (e : Tree) → Rel c w e (at Invariant) fn_of_any (fn_of_ref [] static) → (u : ℕ) × (n : ℕ) × Outlives w (region_placeholder u n) static
+AnyIsNotInvariantlyStatic = (c : Items) (w : Interpretation) (e : Tree) →
+    Rel c w e (at Invariant) fn_of_any (fn_of_ref [] static) → (u : ℕ) × (n : ℕ) ×
+    Outlives w (region_placeholder u n) static

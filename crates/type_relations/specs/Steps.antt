@@ -13,7 +13,8 @@ use Rattle.type_relations.specs.FirstOrder.{IsFirstOrder, IsFirstOrderStore, IsR
 -- behind them; the current universe is not lower; and only satisfying assignments were lost.
 pub record IsLater (before after : Store) : Type 0 where
   pub grows : (k : VarKind) (n : ℕ) → IsMade before k n → IsMade after k n
-  pub entries_stand : (k : VarKind) (n : ℕ) → IsMade before k n → (entry_of before k n ≡ unbound → ⊥) → entry_of after k n ≡ entry_of before k n
+  pub entries_stand : (k : VarKind) (n : ℕ) → IsMade before k n → (entry_of before k n ≡ unbound → ⊥) →
+      entry_of after k n ≡ entry_of before k n
   pub constraints_stand : (more : List Constraint) × (after.constraints ≡ before.constraints ++ more)
   pub universe_stands : before.universe ≤ after.universe
   pub shrinks : OnlyShrinks before after
@@ -38,7 +39,8 @@ pub record Equates (before after : Store) (k : VarKind) (child root : ℕ) : Typ
   pub smaller : root < child
   pub root_unbound : entry_of before k root ≡ unbound
   pub lowered : universe_of after k root ≡ min (universe_of before k child) (universe_of before k root)
-  pub other_universes : (j : VarKind) (i : ℕ) → (j ≡ k → i ≡ root → ⊥) → universe_of after j i ≡ universe_of before j i
+  pub other_universes : (j : VarKind) (i : ℕ) → (j ≡ k → i ≡ root → ⊥) →
+      universe_of after j i ≡ universe_of before j i
   pub same_budget : after.budget ≡ before.budget
 
 -- An unbound variable was bound to a term as it stands, for one of the budget.
@@ -125,7 +127,9 @@ AllNamable u (t ∷ ts) = Leaves (IsNamable u) t × AllNamable u ts
 -- Pairwise different variables that were not there before, of a universe, for the variables of a binder.
 abbrev pub AreNewVariables : Store → Store → ℕ → List BoundKind → List Tree → Type 0
 AreNewVariables before after u [] [] = Unit {0}
-AreNewVariables before after u (k ∷ ks) (x ∷ xs) = ((v : VarKind) × (n : ℕ) × (x ≡ leaf (variable v n)) × (var_sort v ≡ bound_sort k) × (IsMade before v n → ⊥) × IsMade after v n × (universe_of after v n ≡ u)) × AvoidsAll x xs × AreNewVariables before after u ks xs
+AreNewVariables before after u (k ∷ ks) (x ∷ xs) = ((v : VarKind) × (n : ℕ) × (x ≡ leaf (variable v n)) ×
+    (var_sort v ≡ bound_sort k) × (IsMade before v n → ⊥) × IsMade after v n × (universe_of after v n ≡ u)) ×
+    AvoidsAll x xs × AreNewVariables before after u ks xs
 AreNewVariables before after u [] (x ∷ xs) = ⊥
 AreNewVariables before after u (k ∷ ks) [] = ⊥
 
@@ -139,12 +143,15 @@ pub record Makes (before after : Store) (u : ℕ) (ks : List BoundKind) (variabl
   pub same_constraints : after.constraints ≡ before.constraints
   pub same_universe : after.universe ≡ before.universe
   pub same_budget : after.budget ≡ before.budget
-  pub unconstrained : (w : Interpretation) (s : Assign) (values : List Tree) → Satisfies w before s → FitKinds ks values → AllNamable u values → Extends before s (λ s'. Satisfies w after s' × (map (apply s') variables ≡ values))
+  pub unconstrained : (w : Interpretation) (s : Assign) (values : List Tree) → Satisfies w before s →
+      FitKinds ks values → AllNamable u values → Extends before s (λ s'. Satisfies w after s' ×
+      (map (apply s') variables ≡ values))
 
 -- Pairwise different placeholders of a universe for the variables of a binder.
 abbrev pub ArePlaceholders : ℕ → List BoundKind → List Tree → Type 0
 ArePlaceholders u [] [] = Unit {0}
-ArePlaceholders u (k ∷ ks) (p ∷ ps) = ((n : ℕ) × (p ≡ leaf (placeholder k u n))) × AvoidsAll p ps × ArePlaceholders u ks ps
+ArePlaceholders u (k ∷ ks) (p ∷ ps) = ((n : ℕ) × (p ≡ leaf (placeholder k u n))) × AvoidsAll p ps ×
+    ArePlaceholders u ks ps
 ArePlaceholders u [] (p ∷ ps) = ⊥
 ArePlaceholders u (k ∷ ks) [] = ⊥
 
@@ -169,15 +176,20 @@ pub record LeavesBody (before after : Store) (body opened : Tree) : Type 0 where
 
 pub record EntersForall (before after : Store) (ks : List BoundKind) (body opened : Tree) : Type 0 where
   pub changes_nothing : ChangesNothing before after
-  pub opens : LeavesBody before after body opened ⊎ ((StaysWithin 0 body → ⊥) × EntersUniverse before after ks body opened)
+  pub opens : LeavesBody before after body opened ⊎ ((StaysWithin 0 body → ⊥) ×
+      EntersUniverse before after ks body opened)
 
 -- A tree with some places replaced by new variables of their sort.
 pub data IsGeneralised (before after : Store) : Tree → Tree → Type 0 where
   kept : {t u : Tree} → t ≡ u → IsGeneralised before after t u
-  replaced : {t u : Tree} (k : VarKind) (n : ℕ) → u ≡ leaf (variable k n) → (IsMade before k n → ⊥) → IsMade after k n → sort_of t ≡ var_sort k → IsGeneralised before after t u
-  in_form : {h : Head} {ts us : Tree} → IsGeneralised before after ts us → IsGeneralised before after (node h ts) (node h us)
-  in_binder : {ks : List BoundKind} {t u : Tree} → IsGeneralised before after t u → IsGeneralised before after (bind ks t) (bind ks u)
-  in_list : {t u ts us : Tree} → IsGeneralised before after t u → IsGeneralised before after ts us → IsGeneralised before after (cons t ts) (cons u us)
+  replaced : {t u : Tree} (k : VarKind) (n : ℕ) → u ≡ leaf (variable k n) → (IsMade before k n → ⊥) →
+      IsMade after k n → sort_of t ≡ var_sort k → IsGeneralised before after t u
+  in_form : {h : Head} {ts us : Tree} → IsGeneralised before after ts us →
+      IsGeneralised before after (node h ts) (node h us)
+  in_binder : {ks : List BoundKind} {t u : Tree} → IsGeneralised before after t u →
+      IsGeneralised before after (bind ks t) (bind ks u)
+  in_list : {t u ts us : Tree} → IsGeneralised before after t u → IsGeneralised before after ts us →
+      IsGeneralised before after (cons t ts) (cons u us)
 
 -- No part of a term but its regions is beyond what a universe can name.
 abbrev pub IsNamedBy : Store → ℕ → Leaf → Type 0
@@ -203,9 +215,13 @@ pub record Instantiates (before after : Store) (v : Variance) (k : VarKind) (n :
   pub term_in : IsTermIn after term
   pub generalised : IsGeneralised before after (apply (resolved before) source) term
   pub stays_sound : IsSound before → IsSound after
-  pub keeps : (w : Interpretation) (s : Assign) → Satisfies w before s → s k n ≡ apply s source → Extends before s (λ s'. Satisfies w after s')
-  pub keeps_erased : (s : Assign) → IsErasedSolution before s → Unifies s (leaf (variable k n)) source → ExtendsErased before s (IsErasedSolution after)
-  pub regions_alone : v ≡ Invariant → IsFirstOrder source → IsFirstOrderStore before → Leaves (IsNamedBy before (universe_of before k n)) (apply (resolved before) source) → erase term ≡ erase (apply (resolved before) source)
+  pub keeps : (w : Interpretation) (s : Assign) → Satisfies w before s → s k n ≡ apply s source →
+      Extends before s (λ s'. Satisfies w after s')
+  pub keeps_erased : (s : Assign) → IsErasedSolution before s → Unifies s (leaf (variable k n)) source →
+      ExtendsErased before s (IsErasedSolution after)
+  pub regions_alone : v ≡ Invariant → IsFirstOrder source → IsFirstOrderStore before →
+      Leaves (IsNamedBy before (universe_of before k n)) (apply (resolved before) source) →
+      erase term ≡ erase (apply (resolved before) source)
 
 -- Or nothing was bound, and no earlier assignment gave the variable the term's value: nor up to erasure, at invariance
 -- where all is first-order. Variables that were made on the way stay unbound.
@@ -218,4 +234,5 @@ pub record RefusesToInstantiate (before after : Store) (v : Variance) (k : VarKi
   pub same_budget : after.budget ≡ before.budget
   pub stays_sound : IsSound before → IsSound after
   pub apart : (w : Interpretation) (s : Assign) → Satisfies w before s → s k n ≡ apply s source → ⊥
-  pub apart_erased : v ≡ Invariant → IsFirstOrder source → IsFirstOrderStore before → (s : Assign) → IsErasedSolution before s → Unifies s (leaf (variable k n)) source → ⊥
+  pub apart_erased : v ≡ Invariant → IsFirstOrder source → IsFirstOrderStore before → (s : Assign) →
+      IsErasedSolution before s → Unifies s (leaf (variable k n)) source → ⊥

@@ -1,6 +1,6 @@
 -- Laws of a store's calls: which assignments each keeps, and that a sound store stays sound.
 use Rattle.std.specs.Prelude.{◌≡◌, ◌≢◌, ◌↔◌, ℕ, ◌≤◌}
-use Rattle.relation_terms.specs.Heads.{VarKind, region_var, Leaf, variable}
+use Rattle.relation_terms.specs.Heads.{VarKind, region_var, variable}
 use Rattle.relation_terms.specs.Trees.{Tree, leaf, Assign, apply, Leaves, Occurs}
 use Rattle.type_relations.specs.Relation.{Interpretation, IsGround, StaysWithin}
 use Rattle.type_relations.specs.Stores.{Store, universe_of, MayStandFor, IsNamable, IsInScope, IsTermIn, IsSound, Satisfies, ConstraintHolds, ConstraintIn, Constraint, resolved}
@@ -9,45 +9,58 @@ use Rattle.type_relations.specs.Outcomes.{Exact}
 
 -- Equating keeps a store sound, and exactly the assignments that give both variables one value; also up to erasure.
 abbrev pub EquatingStaysSound : Type 0
-EquatingStaysSound = (before after : Store) (k : VarKind) (child root : ℕ) → k ≢ region_var → Equates before after k child root → IsSound before → IsSound after
+EquatingStaysSound = (before after : Store) (k : VarKind) (child root : ℕ) → k ≢ region_var →
+    Equates before after k child root → IsSound before → IsSound after
 
 abbrev pub EquatingIsExact : Type 0
-EquatingIsExact = (before after : Store) (k : VarKind) (child root : ℕ) → k ≢ region_var → Equates before after k child root → IsSound before →
-    ((w : Interpretation) (s : Assign) → Satisfies w after s ↔ Satisfies w before s × (s k child ≡ s k root)) × Exact before after (leaf (variable k child)) (leaf (variable k root))
+EquatingIsExact = (before after : Store) (k : VarKind) (child root : ℕ) → k ≢ region_var →
+    Equates before after k child root → IsSound before →
+    ((w : Interpretation) (s : Assign) → Satisfies w after s ↔ Satisfies w before s × (s k child ≡ s k root)) ×
+    Exact before after (leaf (variable k child)) (leaf (variable k root))
 
 -- Binding a variable to a term that does not come to one in which it stands, and that names only what it can.
 abbrev pub BindingStaysSound : Type 0
-BindingStaysSound = (before after : Store) (k : VarKind) (n : ℕ) (t : Tree) → k ≢ region_var → BindsTo before after k n t → IsSound before → MayStandFor k t → IsTermIn before t →
-    (Occurs k n (apply (resolved before) t) → ⊥) → Leaves (IsInScope before (universe_of before k n)) (apply (resolved before) t) → IsSound after
+BindingStaysSound = (before after : Store) (k : VarKind) (n : ℕ) (t : Tree) → k ≢ region_var →
+    BindsTo before after k n t → IsSound before → MayStandFor k t → IsTermIn before t →
+    (Occurs k n (apply (resolved before) t) → ⊥) →
+    Leaves (IsInScope before (universe_of before k n)) (apply (resolved before) t) → IsSound after
 
 abbrev pub BindingIsExact : Type 0
 BindingIsExact = (before after : Store) (k : VarKind) (n : ℕ) (t : Tree) → BindsTo before after k n t →
-    ((w : Interpretation) (s : Assign) → Satisfies w after s ↔ Satisfies w before s × (s k n ≡ apply s t)) × Exact before after (leaf (variable k n)) t
+    ((w : Interpretation) (s : Assign) → Satisfies w after s ↔ Satisfies w before s × (s k n ≡ apply s t)) ×
+    Exact before after (leaf (variable k n)) t
 
 -- The same of a number variable and a type of its kind.
 abbrev pub NumbersStaySound : Type 0
-NumbersStaySound = (before after : Store) (k : VarKind) (n : ℕ) (t : Tree) → InstantiatesNumber before after k n t → IsSound before → IsSound after
+NumbersStaySound = (before after : Store) (k : VarKind) (n : ℕ) (t : Tree) → InstantiatesNumber before after k n t →
+    IsSound before → IsSound after
 
 abbrev pub NumbersAreExact : Type 0
 NumbersAreExact = (before after : Store) (k : VarKind) (n : ℕ) (t : Tree) → InstantiatesNumber before after k n t →
-    ((w : Interpretation) (s : Assign) → Satisfies w after s ↔ Satisfies w before s × (s k n ≡ t)) × Exact before after (leaf (variable k n)) t
+    ((w : Interpretation) (s : Assign) → Satisfies w after s ↔ Satisfies w before s × (s k n ≡ t)) ×
+    Exact before after (leaf (variable k n)) t
 
 -- Making a variable keeps a store sound, and the variable may have any value that its universe can name.
 abbrev pub MakingStaysSound : Type 0
-MakingStaysSound = (before after : Store) (k : VarKind) (n u : ℕ) → MakesVariable before after k n u → u ≤ before.universe → IsSound before → IsSound after
+MakingStaysSound = (before after : Store) (k : VarKind) (n u : ℕ) → MakesVariable before after k n u →
+    u ≤ before.universe → IsSound before → IsSound after
 
 abbrev pub MadeIsUnconstrained : Type 0
-MadeIsUnconstrained = (before after : Store) (k : VarKind) (n u : ℕ) → MakesVariable before after k n u → IsSound before → (w : Interpretation) (s : Assign) (t : Tree) → Satisfies w before s →
-    MayStandFor k t → Leaves IsGround t → StaysWithin 0 t → Leaves (IsNamable u) t → Extends before s (λ s'. Satisfies w after s' × (s' k n ≡ t))
+MadeIsUnconstrained = (before after : Store) (k : VarKind) (n u : ℕ) → MakesVariable before after k n u →
+    IsSound before → (w : Interpretation) (s : Assign) (t : Tree) → Satisfies w before s →
+    MayStandFor k t → Leaves IsGround t → StaysWithin 0 t → Leaves (IsNamable u) t →
+    Extends before s (λ s'. Satisfies w after s' × (s' k n ≡ t))
 
 -- A constraint keeps exactly the assignments for which it holds.
 abbrev pub ConstrainingIsExact : Type 0
 ConstrainingIsExact = (before after : Store) (q : Constraint) → AddsConstraint before after q →
-    (IsSound before → ConstraintIn before q → IsSound after) × ((w : Interpretation) (s : Assign) → Satisfies w after s ↔ Satisfies w before s × ConstraintHolds w s q)
+    (IsSound before → ConstraintIn before q → IsSound after) ×
+    ((w : Interpretation) (s : Assign) → Satisfies w after s ↔ Satisfies w before s × ConstraintHolds w s q)
 
 -- A new universe, a taint and the like keep all assignments.
 abbrev pub NothingIsSeen : Type 0
-NothingIsSeen = (before after : Store) → ChangesNothing before after → (IsSound before → IsSound after) × ((w : Interpretation) (s : Assign) → Satisfies w after s ↔ Satisfies w before s)
+NothingIsSeen = (before after : Store) → ChangesNothing before after → (IsSound before → IsSound after) ×
+    ((w : Interpretation) (s : Assign) → Satisfies w after s ↔ Satisfies w before s)
 
 -- What a term comes to resolves it.
 abbrev pub ResolvedResolves : Type 0

@@ -179,9 +179,9 @@ IsInScope st u (placeholder k v n) = v ≤ u
 IsInScope st u (atom x) = IsValueAtom x
 IsInScope st u unknown = ⊥
 
--- A term over the context's variables, with no escaping bound variable.
+-- A term over the context's variables, with no escaping bound variable and no placeholder of a later universe.
 unfoldable pub IsTermIn : Store → Tree → Type 0
-IsTermIn st t = InContext st t × StaysWithin 0 t
+IsTermIn st t = InContext st t × StaysWithin 0 t × Leaves (IsNamable st.universe) t
 
 -- A region of the context.
 abbrev pub IsRegionIn : Store → Tree → Type 0

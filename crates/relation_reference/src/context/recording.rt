@@ -85,7 +85,7 @@ impl<I: Interner> RefCtxt<I> {
     }
 
     // The universe of a type variable.
-    fn universe_of_ty(&self, v: usize) -> UniverseIndex
+    pub(crate) fn universe_of_ty(&self, v: usize) -> UniverseIndex
         requires { v < length self.now.inner.types.items }
         ensures { result.0 ≡ universe_of (store_of (I.meaning self.now.interner) self.now.inner) type_var v }
     {

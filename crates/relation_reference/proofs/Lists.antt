@@ -1,0 +1,98 @@
+-- The trees of lists, part by part.
+use Rattle.std.proofs.Common.{◌≡◌, ◌⊎◌, ℕ, zero, suc, ◌+◌, ◌<◌, ◌≤◌, IsTrue, IsFalse, Bool, true, false, ◌&&◌, refl, sym, ap, ap₂, ◌∙◌, inl, inr, subst, arith, List, [], ◌∷◌, ◌++◌, length, get_or, take}
+use Rattle.std.proofs.lemmas.Bool.{and_parts}
+use Rattle.relation_terms.specs.Heads.{VarKind, type_var, region_sort, Head, Admits, head_sort, array, Leaf, variable, bound, placeholder, atom, unknown}
+use Rattle.relation_terms.specs.Trees.{Tree, leaf, node, bind, nil, cons, list_tree, known, size, count, nth, Occurs, IsList, IsTerm, Assign, apply}
+
+pub list_count : {K : Type 0} (f : K → Tree) (xs : List K) → count (list_tree f xs) ≡ length xs
+list_count f [] = refl
+list_count f (x ∷ xs) = ap suc (list_count f xs)
+
+pub list_is : {K : Type 0} (f : K → Tree) (xs : List K) → IsList (list_tree f xs)
+list_is f [] = tt
+list_is f (x ∷ xs) = list_is f xs
+
+pub list_nth : {K : Type 0} (f : K → Tree) (xs : List K) (i : ℕ) (d : K) → i < length xs → nth i (list_tree f xs) ≡ f (get_or xs i d)
+list_nth f [] i d h = absurd (omega arith)
+list_nth f (x ∷ xs) zero d h = refl
+list_nth f (x ∷ xs) (suc i) d h = list_nth f xs i d (omega arith)
+
+pub part_known : {K : Type 0} (f : K → Tree) (xs : List K) (i : ℕ) (d : K) → i < length xs → IsTrue (known (list_tree f xs)) → IsTrue (known (f (get_or xs i d)))
+part_known f [] i d h k = absurd (omega arith)
+part_known f (x ∷ xs) zero d h k = (and_parts (known (f x)) (known (list_tree f xs)) k).0
+part_known f (x ∷ xs) (suc i) d h k = part_known f xs i d (omega arith) (and_parts (known (f x)) (known (list_tree f xs)) k).1
+
+pub part_size : {K : Type 0} (f : K → Tree) (xs : List K) (i : ℕ) (d : K) → i < length xs → size (f (get_or xs i d)) < size (list_tree f xs)
+part_size f [] i d h = absurd (omega arith)
+part_size f (x ∷ xs) zero d h = omega arith
+part_size f (x ∷ xs) (suc i) d h = let e = part_size f xs i d (omega arith) in omega (arith, e)
+
+pub part_occurs : {K : Type 0} (f : K → Tree) (xs : List K) (n : ℕ) (i : ℕ) (d : K) → i < length xs → Occurs type_var n (f (get_or xs i d)) → Occurs type_var n (list_tree f xs)
+part_occurs f [] n i d h o = absurd (omega arith)
+part_occurs f (x ∷ xs) n zero d h o = inl o
+part_occurs f (x ∷ xs) n (suc i) d h o = inr (part_occurs f xs n i d (omega arith) o)
+
+pub none_occurs : {K : Type 0} (f : K → Tree) (xs : List K) (n : ℕ) → ((i : ℕ) (d : K) → i < length xs → Occurs type_var n (f (get_or xs i d)) → ⊥) → Occurs type_var n (list_tree f xs) → ⊥
+none_occurs f [] n h o = o
+none_occurs f (x ∷ xs) n h (inl o) = h 0 x (omega arith) o
+none_occurs f (x ∷ xs) n h (inr o) = none_occurs f xs n (λ i d p. h (suc i) d (omega arith)) o
+
+-- A type variable does not stand in a region.
+no_region_head : (h : Head) → Admits region_sort (head_sort h) → ⊥
+no_region_head array a = a
+no_region_head h a = a
+
+pub no_variable : (n : ℕ) (r : Tree) → IsTerm region_sort r → Occurs type_var n r → ⊥
+no_variable n (leaf l) h o = at_variable (subst (IsTerm region_sort) o h)
+  where
+    at_variable : IsTerm region_sort (leaf (variable type_var n)) → ⊥
+    at_variable p = p
+no_variable n (node g ts) h o = no_region_head g h.0
+no_variable n (bind ks t) h o = h
+no_variable n nil h o = h
+no_variable n (cons t u) h o = h
+
+-- The first trees of a list, and one more behind a list.
+abbrev pub firsts : ℕ → Tree → Tree
+firsts zero t = nil
+firsts (suc i) (cons t ts) = cons t (firsts i ts)
+firsts (suc i) t = nil
+
+abbrev pub snoc : Tree → Tree → Tree
+snoc (cons t ts) u = cons t (snoc ts u)
+snoc t u = cons u nil
+
+pub list_push : {K : Type 0} (f : K → Tree) (xs : List K) (x : K) → list_tree f (xs ++ x ∷ []) ≡ snoc (list_tree f xs) (f x)
+list_push f [] x = refl
+list_push f (y ∷ xs) x = ap (cons (f y)) (list_push f xs x)
+
+pub firsts_more : (i : ℕ) (t : Tree) → i < count t → firsts (suc i) t ≡ snoc (firsts i t) (nth i t)
+firsts_more zero (cons t ts) h = refl
+firsts_more (suc i) (cons t ts) h = ap (cons t) (firsts_more i ts (omega arith))
+firsts_more i (leaf l) h = absurd (omega arith)
+firsts_more i (node g ts) h = absurd (omega arith)
+firsts_more i (bind ks t) h = absurd (omega arith)
+firsts_more i nil h = absurd (omega arith)
+
+pub firsts_all : (t : Tree) → IsList t → firsts (count t) t ≡ t
+firsts_all nil h = refl
+firsts_all (cons t ts) h = ap (cons t) (firsts_all ts h)
+firsts_all (leaf l) h = absurd h
+firsts_all (node g ts) h = absurd h
+firsts_all (bind ks t) h = absurd h
+
+pub apply_snoc : (s : Assign) (i : ℕ) (t u : Tree) → apply s (snoc (firsts i t) u) ≡ snoc (apply s (firsts i t)) (apply s u)
+apply_snoc s zero t u = refl
+apply_snoc s (suc i) (cons t ts) u = ap (cons (apply s t)) (apply_snoc s i ts u)
+apply_snoc s (suc i) (leaf l) u = refl
+apply_snoc s (suc i) (node g ts) u = refl
+apply_snoc s (suc i) (bind ks t) u = refl
+apply_snoc s (suc i) nil u = refl
+
+pub both_known : (a b : Bool) → IsTrue a → IsTrue b → IsTrue (a && b)
+both_known true b h k = k
+both_known false b h k = h
+
+pub push_known : {K : Type 0} (f : K → Tree) (xs : List K) (x : K) → IsTrue (known (list_tree f xs)) → IsTrue (known (f x)) → IsTrue (known (list_tree f (xs ++ x ∷ [])))
+push_known f [] x h k = both_known (known (f x)) true k refl
+push_known f (y ∷ xs) x h k = let p = and_parts (known (f y)) (known (list_tree f xs)) h in both_known (known (f y)) (known (list_tree f (xs ++ x ∷ []))) p.0 (push_known f xs x p.1 k)
