@@ -1,5 +1,6 @@
 //! The rows, their stored answers, and the program's runs.
-ghost use Rattle.std.specs.Prelude.{◌≡◌, ◌<◌, ◌≤◌, IfSome, length};
+ghost use Rattle.std.specs.Prelude.{◌≡◌, ◌<◌, ◌≤◌, ◌↔◌, IsTrue, IfSome, length, slice_get, string_bytes};
+ghost use Rattle.relations.specs.Named.{IsRow};
 
 use crate::asking::{Question, ask};
 use crate::written::{Parameter, Written};
@@ -115,30 +116,28 @@ fn print<O: io::Write>(alloc: Global, row: &Row, out: &mut O) -> io::Result<bool
     }
 }
 
-// Prints rows. The status is 1 if an answer is not the stored one or a write failed.
-fn print_all<O: io::Write>(alloc: Global, rows: &[Row], out: &mut O) -> u8
+// Whether a row has that name.
+fn is_row(name: &str) -> bool
+    ensures { IsTrue result ↔ IsRow name.now }
+{
+    ROWS.iter().any(|row| row.name == name)
+}
+
+// Prints the row of a name, or all. The status is 1 if an answer is not the stored one or a write failed.
+fn print_rows<O: io::Write>(alloc: Global, name: Option<&str>, out: &mut O) -> u8
     ensures { result ≤ 1 }
 {
     let mut status = 0;
-    for row in rows {
-        match print(alloc, row, out) {
-            Ok(true) => {}
-            _ => status = 1,
+    for row in &ROWS {
+        let asked = match name {
+            None => true,
+            Some(name) => row.name == name,
+        };
+        if asked && !matches!(print(alloc, row, out), Ok(true)) {
+            status = 1;
         }
     }
     status
-}
-
-// The place of a row.
-fn place_of(name: &str) -> Option<usize>
-    ensures { IfSome result (λ place. place < 4) }
-{
-    for (place, row) in ROWS.iter().enumerate() {
-        if row.name == name {
-            return Some(place);
-        }
-    }
-    None
 }
 
 /// Runs one row or all, and answers the status: 2 where the words name no row, 1 where an answer is not the stored
@@ -149,20 +148,21 @@ pub fn run<O: io::Write, E: io::Write>(
     out: &mut O,
     err: &mut E,
 ) -> u8
-    ensures all { length words.now ≡ 0 → result ≤ 1 }
     ensures usage { 1 < length words.now → result ≡ 2 }
-    ensures known { result ≤ 2 }
+    ensures all { length words.now ≡ 0 → result ≤ 1 }
+    ensures row { length words.now ≤ 1 → IfSome (slice_get words.now 0) (λ w. IsRow (string_bytes w) → result ≤ 1) }
+    ensures no_row { IfSome (slice_get words.now 0) (λ w. (IsRow (string_bytes w) → ⊥) → result ≡ 2) }
 {
     if words.len() > 1 {
         let _ = writeln!(err, "usage: relations [name]");
         return 2;
     }
     let Some(name) = words.first() else {
-        return print_all(alloc, &ROWS, out);
+        return print_rows(alloc, None, out);
     };
-    let Some(place) = place_of(name.as_str()) else {
+    if !is_row(name.as_str()) {
         let _ = writeln!(err, "unknown row: {name}");
         return 2;
-    };
-    print_all(alloc, &ROWS[place..place + 1], out)
+    }
+    print_rows(alloc, Some(name.as_str()), out)
 }
