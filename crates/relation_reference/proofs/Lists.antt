@@ -38,7 +38,7 @@ none_occurs f (x ∷ xs) n h (inl o) = h 0 x (omega arith) o
 none_occurs f (x ∷ xs) n h (inr o) = none_occurs f xs n (λ i d p. h (suc i) d (omega arith)) o
 
 -- A type variable does not stand in a region.
-no_region_head : (h : Head) → Admits region_sort (head_sort h) → ⊥
+pub no_region_head : (h : Head) → Admits region_sort (head_sort h) → ⊥
 no_region_head array a = a
 no_region_head h a = a
 
