@@ -1,12 +1,12 @@
 -- Forms over terms of a context are terms of the context, also once its interner has grown.
-use Rattle.std.proofs.Common.{◌≡◌, ℕ, ◌<◌, IsTrue, ◌&&◌, List, [], ◌∷◌, ◌++◌, refl, sym, ap, ◌∙◌, subst, length, map, get_or}
+use Rattle.std.proofs.Common.{◌≡◌, ℕ, ◌<◌, IsTrue, List, [], ◌∷◌, ◌++◌, refl, sym, ap, ◌∙◌, subst, length, map, get_or}
 use Rattle.std.proofs.lemmas.Bool.{and_parts}
 use Rattle.std.proofs.lemmas.List.{length-map, get_or-map}
 use Rattle.relation_terms.specs.Heads.{VarKind, region_var, type_var, Head, Atom, variable, atom}
 use Rattle.relation_terms.specs.Trees.{Tree, leaf, node, nil, cons, known, list_tree}
 use Rattle.relation_terms.specs.Meaning.{Meaning, Extends}
 use Rattle.relation_terms.specs.declared.terms.keys.TyKey.{TyKey}
-use Rattle.relation_terms.proofs.Stays.{knows_as, knows_ty, stays_list}
+use Rattle.relation_terms.proofs.Stays.{knows_as, stays_list}
 use Rattle.type_relations.specs.Stores.{Store, IsMade, IsTermIn, InContext, IsRegionIn, ConstraintIn}
 use Rattle.relation_terms.specs.declared.predicate.RegionConstraint.{RegionConstraint}
 use Rattle.relation_reference.specs.declared.context.inner.TypeVariable.{TypeVariable}

@@ -1,4 +1,3 @@
-use Rattle.std.proofs.Common.{refl}
 use Rattle.relation_reference.proofs.Grows.{lawful_grows}
 use Rattle.relations.proofs.Joining.{ty_in}
 use Rattle.relations.proofs.asking.build_pair.Goals as goal

@@ -1,4 +1,4 @@
-use Rattle.std.proofs.Common.{refl, sym, ap, ◌∙◌, subst, ◌≡◌, IsTrue, List, []}
+use Rattle.std.proofs.Common.{refl, sym, ◌∙◌, subst, IsTrue, List, []}
 use Rattle.relation_terms.specs.Trees.{known, list_tree}
 use Rattle.relation_terms.specs.declared.terms.keys.TyKey.{TyKey}
 use Rattle.relation_terms.proofs.Stays.{extends_on, stays_same}

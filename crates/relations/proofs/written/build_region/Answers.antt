@@ -1,5 +1,4 @@
 use Rattle.std.proofs.Common.{arith}
-use Rattle.relation_reference.specs.Tables.{store_of}
 use Rattle.relations.proofs.Joining.{atom_in, region_in}
 use Rattle.relations.proofs.written.build_region.Goals as goal
 
