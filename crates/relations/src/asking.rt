@@ -40,8 +40,8 @@ fn make_variables<I: Interner>(ctx: &mut RefCtxt<I>, question: &Question) -> Res
     Ok(())
 }
 
-// The empty environment and both types of a pair.
-fn build_pair<I: Interner>(
+/// The empty environment and both types of a pair.
+pub fn build_pair<I: Interner>(
     ctx: &mut RefCtxt<I>,
     parameters: &[Parameter<I::Name>],
     pair: &(Written, Written),
@@ -60,8 +60,8 @@ fn build_pair<I: Interner>(
     Ok((param_env, lhs, rhs))
 }
 
-// Relates two types in any context that can.
-fn relate<C: RelateExt>(
+/// Relates two types in any context that can.
+pub fn relate<C: RelateExt>(
     ctx: &mut C,
     param_env: ParamEnv<C::Interner>,
     lhs: Ty<C::Interner>,

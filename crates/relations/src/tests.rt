@@ -1,11 +1,11 @@
 //! What a run prints and answers, and what several calls on one context leave.
 
-use crate::asking::{Question, ask};
+use crate::asking::{Question, ask, build_pair, relate};
 use crate::rows::{PARAMETERS, run};
 use crate::written::{Written, WrittenRegion};
 use relation_reference::context::RefCtxt;
 use relation_reference::interner::RefInterner;
-use relation_terms::terms::{InferTy, TyKind, TyVid, UintTy};
+use relation_terms::terms::{Dup, Interner, TyVid, UintTy};
 use std::alloc::AllocError;
 use std::io;
 use std::test::Fail;
@@ -196,5 +196,20 @@ fn several_calls_on_one_context(rt: HostRuntime) -> Result<(), Fail> {
         ask(cx, &PARAMETERS, &question, &mut text)?;
         assert_eq!(rt; text.as_str(), *answers);
     }
+    Ok(())
+}
+
+#[test]
+fn a_bound_variable_has_its_type(rt: HostRuntime) -> Result<(), Fail> {
+    let mut ctx = RefCtxt::new(RefInterner::new(rt.alloc()), 1);
+    let _ = ctx.next_ty_infer()?;
+    let (param_env, lhs, rhs) = build_pair(&mut ctx, &PARAMETERS, &(FIRST, U8))?;
+    let bound = rhs.dup();
+    let span = ctx.interner.dummy_span();
+    let goals = relate(&mut ctx, param_env, lhs, rhs, span)?;
+    assert!(rt; goals.is_empty());
+    assert_eq!(rt; ctx.inner.types.len(), 1);
+    assert!(rt; ctx.binding(TyVid(0)) == Some(bound));
+    assert_eq!(rt; ctx.budget_left(), 0);
     Ok(())
 }
