@@ -1,5 +1,6 @@
 //! The rows, their stored answers, and the program's runs.
-ghost use Rattle.std.specs.Prelude.{◌≡◌, ◌<◌, ◌≤◌, length};
+ghost use Rattle.std.specs.Prelude.{◌≡◌, ◌<◌, ◌≤◌, ◌↔◌, IsTrue, IfSome, length, slice_get, string_bytes};
+ghost use Rattle.relations.specs.Named.{IsRow};
 
 use crate::asking::{Question, ask};
 use crate::written::{Parameter, Written};
@@ -117,8 +118,10 @@ fn print<O: io::Write>(alloc: Global, row: &Row, out: &mut O) -> io::Result<bool
 }
 
 // Whether a row has that name.
-fn is_row(name: &str) -> bool {
-    ROWS.iter().any(|row| row.name == name)
+fn is_row(name: &str) -> bool
+    ensures { IsTrue result ↔ IsRow name.now }
+{
+    name == "r07" || name == "r08" || name == "r09" || name == "r17"
 }
 
 // Prints the row of a name, or all. The status is 1 if an answer is not the stored one or a write failed.
@@ -148,7 +151,8 @@ pub fn run<O: io::Write, E: io::Write>(
 ) -> u8
     ensures usage { 1 < length words.now → result ≡ 2 }
     ensures all { length words.now ≡ 0 → result ≤ 1 }
-    ensures known { result ≤ 2 }
+    ensures row { length words.now ≤ 1 → IfSome (slice_get words.now 0) (λ w. IsRow (string_bytes w) → result ≤ 1) }
+    ensures no_row { IfSome (slice_get words.now 0) (λ w. (IsRow (string_bytes w) → ⊥) → result ≡ 2) }
 {
     if words.len() > 1 {
         let _ = writeln!(err, "usage: relations [name]");
