@@ -1,7 +1,8 @@
 //! The relation that a solver asks of its inference context.
-ghost use Rattle.std.specs.Prelude.{◌≡◌, ◌+◌, IsTrue};
+ghost use Rattle.std.specs.Prelude.{◌≡◌, ◌+◌, IsTrue, IfErr};
 ghost use Rattle.relation_terms.specs.Trees.{known};
 ghost use Rattle.relation_terms.specs.Meaning.{Meaning, Extends};
+ghost use Rattle.relation_tools.specs.Faults.{KnowsFault};
 ghost use Rattle.type_relations.specs.Relation.{Items};
 ghost use Rattle.type_relations.specs.Stores.{Store, IsTermIn, IsSound, all_bound};
 ghost use Rattle.type_relations.specs.Steps.{IsLater};
@@ -57,7 +58,8 @@ pub trait RelateExt {
         ensures lawful { is_lawful self.new }
         ensures grown { Extends (Self.Interner.meaning (interner self.old)) (Self.Interner.meaning (interner self.new)) }
         ensures later { IsLater (store self.old) (store self.new) }
-        ensures budget { (store self.old).budget + all_bound (store self.old) ≡ (store self.new).budget + all_bound (store self.new) };
+        ensures budget { (store self.old).budget + all_bound (store self.old) ≡ (store self.new).budget + all_bound (store self.new) }
+        ensures why_known { IfErr result (λ e. KnowsFault (Self.Interner.meaning (interner self.new)) e) };
 
     // The store of a lawful context is sound.
     ghost sound: { (c : Self) → is_lawful c → IsSound (store c) };

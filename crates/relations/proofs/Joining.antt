@@ -1,0 +1,119 @@
+-- Forms over terms of a context are terms of the context, also once its interner has grown.
+use Rattle.std.proofs.Common.{◌≡◌, ℕ, ◌<◌, IsTrue, List, [], ◌∷◌, ◌++◌, refl, sym, ap, ◌∙◌, subst, length, map, get_or}
+use Rattle.std.proofs.lemmas.Bool.{and_parts}
+use Rattle.std.proofs.lemmas.List.{length-map, get_or-map}
+use Rattle.relation_terms.specs.Heads.{VarKind, region_var, type_var, Head, Atom, variable, atom}
+use Rattle.relation_terms.specs.Trees.{Tree, leaf, node, nil, cons, known, list_tree}
+use Rattle.relation_terms.specs.Meaning.{Meaning, Extends}
+use Rattle.relation_terms.specs.declared.terms.keys.TyKey.{TyKey}
+use Rattle.relation_terms.proofs.Stays.{knows_as, stays_list}
+use Rattle.type_relations.specs.Stores.{Store, IsMade, IsTermIn, InContext, IsRegionIn, ConstraintIn}
+use Rattle.relation_terms.specs.declared.predicate.RegionConstraint.{RegionConstraint}
+use Rattle.relation_reference.specs.declared.context.inner.TypeVariable.{TypeVariable}
+use Rattle.relation_reference.specs.declared.context.inner.TypeVariableValue.TheVariants.{Known}
+use Rattle.relation_reference.specs.declared.context.inner.InferCtxtInner.{InferCtxtInner}
+use Rattle.relation_reference.specs.Tables.{store_of, IsLawful, entry_of_value, constraint_of}
+use Rattle.relation_reference.proofs.Grows.{term_grows, both, known_of_term, known_bound, entry_at}
+use Rattle.relation_reference.proofs.Reading.{key_of, root_in, root_known}
+
+module _ (st : Store) where
+  pub atom_in : (x : Atom) → IsTermIn st (leaf (atom x))
+  unfolding IsTermIn InContext
+  atom_in x = (tt, tt)
+
+  pub nil_in : IsTermIn st nil
+  unfolding IsTermIn InContext
+  nil_in = (tt, tt)
+
+  pub cons_in : (t ts : Tree) → IsTermIn st t → IsTermIn st ts → IsTermIn st (cons t ts)
+  unfolding IsTermIn InContext
+  cons_in t ts h k = ((h.0, k.0), (h.1, k.1))
+
+  pub node_in : (a : Head) (ts : Tree) → IsTermIn st ts → IsTermIn st (node a ts)
+  unfolding IsTermIn InContext
+  node_in a ts h = (h.0, h.1)
+
+  pub variable_in : (k : VarKind) (n : ℕ) → IsMade st k n → IsTermIn st (leaf (variable k n))
+  unfolding IsTermIn InContext
+  variable_in k n h = (h, tt)
+
+  snoc_parts : {A : Type 0} (f : A → Tree) (xs : List A) (x : A) → IsTermIn st (list_tree f xs) → IsTermIn st (f x) → IsTermIn st (list_tree f (xs ++ x ∷ []))
+  unfolding IsTermIn InContext
+  snoc_parts f [] x h k = ((k.0, tt), (k.1, tt))
+  snoc_parts f (y ∷ ys) x h k =
+      let r = snoc_parts f ys x (h.0.1, h.1.1) k in
+      ((h.0.0, r.0), (h.1.0, r.1))
+
+  pub snoc_in : {A : Type 0} (f : A → Tree) (xs : List A) (x : A) → IsTermIn st (list_tree f xs) → IsTermIn st (f x) → IsTermIn st (list_tree f (xs ++ x ∷ []))
+  snoc_in f xs x h k = snoc_parts f xs x h k
+
+pub snoc_known : {A : Type 0} (f : A → Tree) (xs : List A) (x : A) → IsTrue (known (list_tree f xs)) → IsTrue (known (f x)) → IsTrue (known (list_tree f (xs ++ x ∷ [])))
+snoc_known f [] x h k = both (known (f x)) _ k refl
+snoc_known f (y ∷ ys) x h k =
+    let p = and_parts (known (f y)) (known (list_tree f ys)) h in
+    both (known (f y)) _ p.0 (snoc_known f ys x p.1 k)
+
+-- What an equal tree was, this one is.
+pub in_as : (st : Store) (t u : Tree) → u ≡ t → IsTermIn st t → IsTermIn st u
+in_as st t u e h = subst (IsTermIn st) (sym e) h
+
+module _ {Key Id Name : Type 0} (m : Meaning Key Id Name) (x : InferCtxtInner Key) where
+  -- A region variable of the table is one of the context.
+  pub region_in : (n : ℕ) → n < length x.regions.items → IsTermIn (store_of m x) (leaf (variable region_var n))
+  region_in n h = variable_in (store_of m x) region_var n (subst (λ z. n < z) (sym (length-map x.regions.items _)) h)
+
+  module _ (l : IsLawful m x) where
+    -- The key beside a variable.
+    is_variable : (i : ℕ) (v : TypeVariable Key) (k : TyKey Key) → i < length x.types.items → v ≡ get_or x.types.items i v → k ≡ v.key → m.ty k ≡ leaf (variable type_var i)
+    is_variable i v k h e q = ap m.ty q ∙ (ap (λ w. m.ty w.key) e ∙ key_of m x l i v h)
+
+    pub key_known : (i : ℕ) (v : TypeVariable Key) (k : TyKey Key) → i < length x.types.items → v ≡ get_or x.types.items i v → k ≡ v.key → IsTrue (known (m.ty k))
+    key_known i v k h e q = root_known m x l (m.ty k) i (is_variable i v k h e q)
+
+    pub key_in : (i : ℕ) (v : TypeVariable Key) (k : TyKey Key) → i < length x.types.items → v ≡ get_or x.types.items i v → k ≡ v.key → IsTermIn (store_of m x) (m.ty k)
+    key_in i v k h e q = root_in m x l (m.ty k) i (is_variable i v k h e q) h
+
+    -- What a variable is bound to is known.
+    pub bound_known : (i : ℕ) (v : TypeVariable Key) (t u : TyKey Key) → i < length x.types.items → v ≡ get_or x.types.items i v → v.value ≡ Known t → u ≡ t → IsTrue (known (m.ty u))
+    bound_known i v t u h e q r =
+        knows_as (m.ty t) (m.ty u) (ap m.ty r)
+        (known_of_term (store_of m x) (m.ty t)
+        (known_bound m x l i (m.ty t) (entry_at m x i v h ∙ (ap (λ w. entry_of_value m w.value) (sym e) ∙ ap (entry_of_value m) q))))
+
+module _ {Key Id Name : Type 0} {m n : Meaning Key Id Name} (e : Extends m n) (x y : InferCtxtInner Key) (same : y ≡ x) (l : IsLawful m x) where
+  grows_in : (t : Tree) → IsTermIn (store_of m x) t → IsTermIn (store_of n y) t
+  grows_in t h = subst (λ z. IsTermIn (store_of n z) t) (sym same) (term_grows e x l t h)
+
+  -- A term that was made while the interner grew.
+  pub made_in : (t u : Tree) → IsTermIn (store_of m x) t → u ≡ t → IsTermIn (store_of n y) u
+  made_in t u h q = in_as (store_of n y) t u q (grows_in t h)
+
+  -- A known term stays one.
+  pub ty_in : (k : TyKey Key) → IsTrue (known (m.ty k)) → IsTermIn (store_of m x) (m.ty k) → IsTermIn (store_of n y) (n.ty k)
+  ty_in k h i = made_in (m.ty k) (n.ty k) i (e.ty k h)
+
+  -- A list that has one more type.
+  pub next_known : (ts us : List (TyKey Key)) (t : TyKey Key) → us ≡ ts ++ t ∷ [] → IsTrue (known (list_tree m.ty ts)) → IsTrue (known (n.ty t)) → IsTrue (known (list_tree n.ty us))
+  next_known ts us t q h k =
+      subst (λ zs. IsTrue (known (list_tree n.ty zs))) (sym q)
+      (snoc_known n.ty ts t (knows_as (list_tree m.ty ts) (list_tree n.ty ts) (stays_list m.ty n.ty ts e.ty h) h) k)
+
+  pub next_in : (ts us : List (TyKey Key)) (t : TyKey Key) → us ≡ ts ++ t ∷ [] → IsTrue (known (list_tree m.ty ts)) → IsTermIn (store_of m x) (list_tree m.ty ts) → IsTermIn (store_of n y) (n.ty t) → IsTermIn (store_of n y) (list_tree n.ty us)
+  next_in ts us t q h i k =
+      subst (λ zs. IsTermIn (store_of n y) (list_tree n.ty zs)) (sym q)
+      (snoc_in (store_of n y) n.ty ts t (made_in (list_tree m.ty ts) (list_tree n.ty ts) i (stays_list m.ty n.ty ts e.ty h)) k)
+
+-- A recorded constraint is on terms of the context.
+pub constraint_at : {Key Id Name : Type 0} (m : Meaning Key Id Name) (x : InferCtxtInner Key) → IsLawful m x → (i : ℕ) (q : RegionConstraint Key) → i < length x.constraints.items → q ≡ get_or x.constraints.items i q → ConstraintIn (store_of m x) (constraint_of m q)
+constraint_at m x l i q h e =
+    let f = constraint_of m in
+    let at : i < length (map f x.constraints.items) = subst (λ z. i < z) (sym (length-map x.constraints.items f)) h in
+    subst (ConstraintIn (store_of m x)) (get_or-map f x.constraints.items i q (f q) h ∙ ap f (sym e))
+    (l.sound.constraints_in i (f q) at)
+
+pub region_known : (st : Store) (t : Tree) → IsRegionIn st t → IsTrue (known t)
+region_known st t h = known_of_term st t h.1
+
+-- The same of an equal list.
+pub list_as_in : {A : Type 0} (st : Store) (f : A → Tree) (xs ys : List A) → ys ≡ xs → IsTermIn st (list_tree f xs) → IsTermIn st (list_tree f ys)
+list_as_in st f xs ys e h = subst (λ zs. IsTermIn st (list_tree f zs)) (sym e) h

@@ -1,0 +1,129 @@
+//! A row's questions: contexts, and the pairs of types that are related in each.
+ghost use Rattle.std.specs.Prelude.{◌≡◌, IsTrue, IfOk, IfErr};
+ghost use Rattle.relation_terms.specs.Trees.{known};
+ghost use Rattle.relation_terms.specs.Meaning.{Extends};
+ghost use Rattle.relation_tools.specs.Faults.{KnowsFault};
+ghost use Rattle.type_relations.specs.Stores.{IsTermIn};
+ghost use Rattle.type_relations.specs.Steps.{IsLater};
+ghost use Rattle.relation_reference.specs.Tables.{store_of, IsLawful};
+
+use crate::printing::write_answer;
+use crate::written::{BuildFault, Parameter, Written, build};
+use relation_reference::context::RefCtxt;
+use relation_terms::terms::{Interner, OutOfMemory, ParamEnv, Span, Ty, Variance};
+use std::fmt::{self, Write};
+use type_relations::relate::solver_relating::{RelateExt, RelateGoals};
+
+/// How many instantiations a context may make where a row sets no budget.
+const BUDGET: usize = 100;
+
+/// A new context with its variables, and the pairs that are related in it, one after another.
+#[derive(Clone, Copy)]
+pub struct Question {
+    pub type_variables: usize,
+    pub region_variables: usize,
+    pub budget: Option<usize>,
+    pub pairs: &'static [(Written, Written)],
+}
+
+// Makes the variables of a question.
+fn make_variables<I: Interner>(ctx: &mut RefCtxt<I>, question: &Question) -> Result<(), OutOfMemory>
+    requires { IsLawful (I.meaning ctx.old.interner) ctx.old.inner }
+    ensures { IsLawful (I.meaning ctx.new.interner) ctx.new.inner }
+{
+    for _ in 0..question.type_variables {
+        let _ = ctx.next_ty_infer()?;
+    }
+    for _ in 0..question.region_variables {
+        let _ = ctx.next_region_infer()?;
+    }
+    Ok(())
+}
+
+/// The empty environment and both types of a pair.
+pub fn build_pair<I: Interner>(
+    ctx: &mut RefCtxt<I>,
+    parameters: &[Parameter<I::Name>],
+    pair: &(Written, Written),
+) -> Result<(ParamEnv<I>, Ty<I>, Ty<I>), BuildFault>
+    requires { IsLawful (I.meaning ctx.old.interner) ctx.old.inner }
+    ensures lawful { IsLawful (I.meaning ctx.new.interner) ctx.new.inner }
+    ensures env_known { IfOk result (λ p. IsTrue (known ((I.meaning ctx.new.interner).param_env p.0))) }
+    ensures lhs_known { IfOk result (λ p. IsTrue (known ((I.meaning ctx.new.interner).ty p.1))) }
+    ensures rhs_known { IfOk result (λ p. IsTrue (known ((I.meaning ctx.new.interner).ty p.2))) }
+    ensures lhs_in { IfOk result (λ p. IsTermIn (store_of (I.meaning ctx.new.interner) ctx.new.inner) ((I.meaning ctx.new.interner).ty p.1)) }
+    ensures rhs_in { IfOk result (λ p. IsTermIn (store_of (I.meaning ctx.new.interner) ctx.new.inner) ((I.meaning ctx.new.interner).ty p.2)) }
+{
+    let param_env = ctx.interner.empty_param_env()?;
+    let lhs = build(ctx, parameters, &pair.0)?;
+    let rhs = build(ctx, parameters, &pair.1)?;
+    Ok((param_env, lhs, rhs))
+}
+
+/// Relates two types in any context that can.
+pub fn relate<C: RelateExt>(
+    ctx: &mut C,
+    param_env: ParamEnv<C::Interner>,
+    lhs: Ty<C::Interner>,
+    rhs: Ty<C::Interner>,
+    span: Span<C::Interner>,
+) -> RelateGoals<C::Interner>
+    requires lawful { C.is_lawful ctx.old }
+    requires env_known { IsTrue (known ((C.Interner.meaning (C.interner ctx.old)).param_env param_env)) }
+    requires lhs_known { IsTrue (known ((C.Interner.meaning (C.interner ctx.old)).ty lhs)) }
+    requires rhs_known { IsTrue (known ((C.Interner.meaning (C.interner ctx.old)).ty rhs)) }
+    requires lhs_in { IsTermIn (C.store ctx.old) ((C.Interner.meaning (C.interner ctx.old)).ty lhs) }
+    requires rhs_in { IsTermIn (C.store ctx.old) ((C.Interner.meaning (C.interner ctx.old)).ty rhs) }
+    ensures lawful { C.is_lawful ctx.new }
+    ensures later { IsLater (C.store ctx.old) (C.store ctx.new) }
+    ensures why_known { IfErr result (λ e. KnowsFault (C.Interner.meaning (C.interner ctx.new)) e) }
+{
+    ctx.relate(param_env, lhs, Variance::Invariant, rhs, span)
+}
+
+// Relates a pair, and writes the answer.
+fn ask_pair<I: Interner, W: Write>(
+    ctx: &mut RefCtxt<I>,
+    parameters: &[Parameter<I::Name>],
+    pair: &(Written, Written),
+    out: &mut W,
+) -> fmt::Result
+    requires { IsLawful (I.meaning ctx.old.interner) ctx.old.inner }
+    ensures { IsLawful (I.meaning ctx.new.interner) ctx.new.inner }
+{
+    match build_pair(ctx, parameters, pair) {
+        Err(BuildFault::Memory) => out.write_str("memory"),
+        Err(BuildFault::Missing) => out.write_str("missing"),
+        Ok((param_env, lhs, rhs)) => {
+            let span = ctx.interner.dummy_span();
+            let answer = relate(ctx, param_env, lhs, rhs, span);
+            write_answer(ctx, parameters, &answer, out)
+        }
+    }
+}
+
+/// Asks a question of a new context over the interner, and writes its answers, each after ` | ` but the first.
+pub fn ask<I: Interner + Drop, W: Write>(
+    interner: I,
+    parameters: &[Parameter<I::Name>],
+    question: &Question,
+    out: &mut W,
+) -> fmt::Result {
+    let mut ctx = RefCtxt::new(interner, question.budget.unwrap_or(BUDGET));
+    if make_variables(&mut ctx, question).is_err() {
+        return out.write_str("memory");
+    }
+    let mut any = false;
+    for pair in question.pairs {
+        if any {
+            out.write_str(" | ")?;
+        }
+        ask_pair(&mut ctx, parameters, pair, out)?;
+        if question.budget.is_some() {
+            let left = ctx.budget_left();
+            write!(out, "; left={left}")?;
+        }
+        any = true;
+    }
+    Ok(())
+}

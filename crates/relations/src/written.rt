@@ -1,0 +1,221 @@
+//! Types as rows write them, and how they are built.
+ghost use Rattle.std.specs.Prelude.{◌≡◌, ◌<◌, IsTrue, IfOk, length};
+ghost use Rattle.relation_terms.specs.Trees.{known, list_tree};
+ghost use Rattle.relation_terms.specs.Meaning.{Extends, kind_tree, region_tree};
+ghost use Rattle.type_relations.specs.Stores.{IsTermIn};
+ghost use Rattle.relation_reference.specs.Tables.{store_of, IsLawful};
+
+use relation_reference::context::RefCtxt;
+use relation_terms::terms::{
+    Dup, EarlyParamRegion, Interner, Mutability, OutOfMemory, Region, RegionForm, RegionKind,
+    RegionVid, Ty, TyForm, TyKind, Tys, UintTy,
+};
+use std::alloc::AllocFailed;
+
+/// A region as rows write it.
+#[derive(Clone, Copy)]
+pub enum WrittenRegion {
+    Static,
+    /// A named parameter, by its place in the list of parameters.
+    Parameter(usize),
+    /// A region variable of the context.
+    Variable(usize),
+}
+
+/// A type as rows write it.
+#[derive(Clone, Copy)]
+pub enum Written {
+    Bool,
+    Char,
+    Uint(UintTy),
+    Slice(&'static Written),
+    Tuple(&'static [Written]),
+    Ref(WrittenRegion, &'static Written),
+    /// A type variable of the context.
+    Variable(usize),
+}
+
+/// A named region parameter: its name in an interner, and its text.
+#[derive(Drop)]
+pub struct Parameter<N> {
+    pub name: N,
+    pub text: &'static str,
+}
+
+/// Why a type was not built.
+#[derive(Clone, Copy, PartialEq, Eq, Debug)]
+pub enum BuildFault {
+    /// A growth was refused.
+    Memory,
+    /// It names what is not there: a variable, or a parameter.
+    Missing,
+}
+
+impl From<OutOfMemory> for BuildFault {
+    fn from(_refused: OutOfMemory) -> BuildFault {
+        BuildFault::Memory
+    }
+}
+
+impl<T: Drop> From<AllocFailed<T>> for BuildFault {
+    fn from(_refused: AllocFailed<T>) -> BuildFault {
+        BuildFault::Memory
+    }
+}
+
+// The region of a form.
+fn make_region<I: Interner>(
+    ctx: &mut RefCtxt<I>,
+    kind: RegionForm<I>,
+) -> Result<Region<I>, BuildFault>
+    requires lawful { IsLawful (I.meaning ctx.old.interner) ctx.old.inner }
+    requires form_in { IsTermIn (store_of (I.meaning ctx.old.interner) ctx.old.inner) (region_tree (I.meaning ctx.old.interner) kind) }
+    ensures lawful { IsLawful (I.meaning ctx.new.interner) ctx.new.inner }
+    ensures grown { Extends (I.meaning ctx.old.interner) (I.meaning ctx.new.interner) }
+    ensures tables { ctx.new.inner ≡ ctx.old.inner }
+    ensures sure { IfOk result (λ r. IsTrue (known ((I.meaning ctx.new.interner).region r))) }
+    ensures is_in { IfOk result (λ r. IsTermIn (store_of (I.meaning ctx.new.interner) ctx.new.inner) ((I.meaning ctx.new.interner).region r)) }
+{
+    let region = ctx.interner.mk_region(kind)?;
+    Ok(region)
+}
+
+// The type of a form.
+fn make_ty<I: Interner>(ctx: &mut RefCtxt<I>, kind: TyForm<I>) -> Result<Ty<I>, BuildFault>
+    requires lawful { IsLawful (I.meaning ctx.old.interner) ctx.old.inner }
+    requires form_known { IsTrue (known (kind_tree (I.meaning ctx.old.interner) kind)) }
+    requires form_in { IsTermIn (store_of (I.meaning ctx.old.interner) ctx.old.inner) (kind_tree (I.meaning ctx.old.interner) kind) }
+    ensures lawful { IsLawful (I.meaning ctx.new.interner) ctx.new.inner }
+    ensures grown { Extends (I.meaning ctx.old.interner) (I.meaning ctx.new.interner) }
+    ensures tables { ctx.new.inner ≡ ctx.old.inner }
+    ensures sure { IfOk result (λ t. IsTrue (known ((I.meaning ctx.new.interner).ty t))) }
+    ensures is_in { IfOk result (λ t. IsTermIn (store_of (I.meaning ctx.new.interner) ctx.new.inner) ((I.meaning ctx.new.interner).ty t)) }
+{
+    let ty = ctx.interner.mk_ty(kind)?;
+    Ok(ty)
+}
+
+// The list of types.
+fn make_type_list<I: Interner>(ctx: &mut RefCtxt<I>, types: &[Ty<I>]) -> Result<Tys<I>, BuildFault>
+    requires lawful { IsLawful (I.meaning ctx.old.interner) ctx.old.inner }
+    requires list_known { IsTrue (known (list_tree (I.meaning ctx.old.interner).ty types.now)) }
+    requires list_in { IsTermIn (store_of (I.meaning ctx.old.interner) ctx.old.inner) (list_tree (I.meaning ctx.old.interner).ty types.now) }
+    ensures lawful { IsLawful (I.meaning ctx.new.interner) ctx.new.inner }
+    ensures grown { Extends (I.meaning ctx.old.interner) (I.meaning ctx.new.interner) }
+    ensures tables { ctx.new.inner ≡ ctx.old.inner }
+    ensures sure { IfOk result (λ t. IsTrue (known ((I.meaning ctx.new.interner).tys t))) }
+    ensures is_in { IfOk result (λ t. IsTermIn (store_of (I.meaning ctx.new.interner) ctx.new.inner) ((I.meaning ctx.new.interner).tys t)) }
+{
+    let list = ctx.interner.mk_type_list(types)?;
+    Ok(list)
+}
+
+// The region that is written.
+fn build_region<I: Interner>(
+    ctx: &mut RefCtxt<I>,
+    parameters: &[Parameter<I::Name>],
+    written: WrittenRegion,
+) -> Result<Region<I>, BuildFault>
+    requires { IsLawful (I.meaning ctx.old.interner) ctx.old.inner }
+    ensures lawful { IsLawful (I.meaning ctx.new.interner) ctx.new.inner }
+    ensures grown { Extends (I.meaning ctx.old.interner) (I.meaning ctx.new.interner) }
+    ensures tables { ctx.new.inner ≡ ctx.old.inner }
+    ensures sure { IfOk result (λ r. IsTrue (known ((I.meaning ctx.new.interner).region r))) }
+    ensures is_in { IfOk result (λ r. IsTermIn (store_of (I.meaning ctx.new.interner) ctx.new.inner) ((I.meaning ctx.new.interner).region r)) }
+{
+    match written {
+        WrittenRegion::Static => make_region(ctx, RegionKind::ReStatic),
+        WrittenRegion::Variable(number) => {
+            if number >= ctx.inner.regions.len() {
+                return Err(BuildFault::Missing);
+            }
+            make_region(ctx, RegionKind::ReVar(RegionVid(number)))
+        }
+        WrittenRegion::Parameter(place) => {
+            let Some(parameter) = parameters.get(place) else {
+                return Err(BuildFault::Missing);
+            };
+            let Ok(index) = u32::try_from(place) else {
+                return Err(BuildFault::Missing);
+            };
+            let name = parameter.name.dup();
+            make_region(
+                ctx,
+                RegionKind::ReEarlyParam(EarlyParamRegion { index, name }),
+            )
+        }
+    }
+}
+
+// A type variable of the context.
+fn variable<I: Interner>(ctx: &RefCtxt<I>, number: usize) -> Ty<I>
+    requires lawful { IsLawful (I.meaning ctx.now.interner) ctx.now.inner }
+    requires made { number < length ctx.now.inner.types.items }
+    ensures sure { IsTrue (known ((I.meaning ctx.now.interner).ty result)) }
+    ensures is_in { IsTermIn (store_of (I.meaning ctx.now.interner) ctx.now.inner) ((I.meaning ctx.now.interner).ty result) }
+{
+    ctx.inner.types[number].key.dup()
+}
+
+/// The type that is written, over the variables of a context.
+#[cycle(build)]
+pub fn build<I: Interner>(
+    ctx: &mut RefCtxt<I>,
+    parameters: &[Parameter<I::Name>],
+    written: &Written,
+) -> Result<Ty<I>, BuildFault>
+    requires { IsLawful (I.meaning ctx.old.interner) ctx.old.inner }
+    ensures lawful { IsLawful (I.meaning ctx.new.interner) ctx.new.inner }
+    ensures grown { Extends (I.meaning ctx.old.interner) (I.meaning ctx.new.interner) }
+    ensures tables { ctx.new.inner ≡ ctx.old.inner }
+    ensures sure { IfOk result (λ t. IsTrue (known ((I.meaning ctx.new.interner).ty t))) }
+    ensures is_in { IfOk result (λ t. IsTermIn (store_of (I.meaning ctx.new.interner) ctx.new.inner) ((I.meaning ctx.new.interner).ty t)) }
+{
+    match written {
+        Written::Bool => make_ty(ctx, TyKind::Bool),
+        Written::Char => make_ty(ctx, TyKind::Char),
+        Written::Uint(width) => make_ty(ctx, TyKind::Uint(*width)),
+        Written::Variable(number) => {
+            if *number >= ctx.inner.types.len() {
+                return Err(BuildFault::Missing);
+            }
+            Ok(variable(ctx, *number))
+        }
+        Written::Slice(element) => {
+            let element = build(ctx, parameters, element)?;
+            make_ty(ctx, TyKind::Slice(element))
+        }
+        Written::Ref(region, pointee) => {
+            let pointee = build(ctx, parameters, pointee)?;
+            let region = build_region(ctx, parameters, *region)?;
+            make_ty(ctx, TyKind::Ref(region, pointee, Mutability::Not))
+        }
+        Written::Tuple(members) => {
+            let members = build_all(ctx, parameters, members)?;
+            let members = make_type_list(ctx, &members)?;
+            make_ty(ctx, TyKind::Tuple(members))
+        }
+    }
+}
+
+// The types that are written, in order.
+#[cycle(build)]
+fn build_all<I: Interner>(
+    ctx: &mut RefCtxt<I>,
+    parameters: &[Parameter<I::Name>],
+    written: &[Written],
+) -> Result<Vec<Ty<I>>, BuildFault>
+    requires { IsLawful (I.meaning ctx.old.interner) ctx.old.inner }
+    ensures lawful { IsLawful (I.meaning ctx.new.interner) ctx.new.inner }
+    ensures grown { Extends (I.meaning ctx.old.interner) (I.meaning ctx.new.interner) }
+    ensures tables { ctx.new.inner ≡ ctx.old.inner }
+    ensures sure { IfOk result (λ v. IsTrue (known (list_tree (I.meaning ctx.new.interner).ty v.items))) }
+    ensures are_in { IfOk result (λ v. IsTermIn (store_of (I.meaning ctx.new.interner) ctx.new.inner) (list_tree (I.meaning ctx.new.interner).ty v.items)) }
+{
+    let mut types = Vec::new(ctx.interner.alloc());
+    for member in written {
+        let ty = build(ctx, parameters, member)?;
+        types.push(ty)?;
+    }
+    Ok(types)
+}
