@@ -9,8 +9,8 @@ use Rattle.relation_terms.specs.declared.terms.numbers.UniverseIndex.{UniverseIn
 use Rattle.relation_terms.specs.declared.terms.keys.TyKey.{TyKey}
 use Rattle.relation_tools.specs.declared.error.RelateFault.{RelateFault}
 use Rattle.relation_tools.specs.declared.error.RelateFault.TheVariants.{Memory, Budget, Unrelated}
-use Rattle.type_relations.specs.Relation.{same}
-use Rattle.type_relations.specs.Stores.{Store, unbound, entry_of, universe_of, IsInScope, IsTermIn, IsSound, MayStandFor, MeetsBindings, resolved, weight}
+use Rattle.type_relations.specs.Relation.{Interpretation, same}
+use Rattle.type_relations.specs.Stores.{Store, unbound, entry_of, universe_of, IsInScope, IsTermIn, IsSound, MayStandFor, MeetsBindings, Satisfies, resolved, weight}
 use Rattle.type_relations.specs.Steps.{BindsTo, IsLater}
 use Rattle.type_relations.specs.Measures.{Goes}
 use Rattle.type_relations.proofs.Resolved.{resolved_value, resolved_twice, cycles_do_not_unify}
@@ -72,17 +72,23 @@ module _ (before after : Store) (n : ℕ) (t u : Tree) (q : BindsTo before after
   unfolding weight
   same_weight = ap size again
 
+  pub binding_goes_at : (N : ℕ) → weight before t ≤ N → Goes N before after
+  binding_goes_at N small = bound_goes before after type_var n u q g no_region stands u_in u_absent scope N (let h = same_weight in omega (arith, h, small))
+
   pub binding_goes : Goes (weight before t) before after
-  binding_goes = bound_goes before after type_var n u q g no_region stands u_in u_absent scope (weight before t) (let h = same_weight in omega (arith, h))
+  binding_goes = binding_goes_at (weight before t) (omega arith)
+
+  bound_has_value : (s : Assign) → MeetsBindings before s → apply s u ≡ apply s t
+  bound_has_value s h = ap (apply s) e ∙ sym (resolved_value before s h t)
+
+  pub binding_equal : (w : Interpretation) (s : Assign) → Satisfies w after s → s type_var n ≡ apply s t
+  binding_equal w s sat = bound_value before after type_var n u q g no_region stands u_in u_absent scope w s sat ∙ bound_has_value s ((binding_goes.later.shrinks w s sat).bindings)
 
   pub binding_unites : Unites before after (leaf (variable type_var n)) t
   binding_unites = record {
-    relates = λ c v w s sat. same (bound_value before after type_var n u q g no_region stands u_in u_absent scope w s sat ∙ value s ((binding_goes.later.shrinks w s sat).bindings));
-    keeps = λ w s sat h. bound_keeps before after type_var n u q g no_region stands u_in u_absent scope w s sat (h ∙ sym (value s sat.bindings));
+    relates = λ c v w s sat. same (binding_equal w s sat);
+    keeps = λ w s sat h. bound_keeps before after type_var n u q g no_region stands u_in u_absent scope w s sat (h ∙ sym (bound_has_value s sat.bindings));
   }
-    where
-      value : (s : Assign) → MeetsBindings before s → apply s u ≡ apply s t
-      value s h = ap (apply s) e ∙ sym (resolved_value before s h t)
 
 -- The tables after a root was bound.
 module _ {Key Id Name : Type 0} {m n : Meaning Key Id Name} (grown : Extends m n) (x z y : InferCtxtInner Key) (resolving : z ≡ x) (l : IsLawful m x) (target : ℕ) (k : TyKey Key) (u : UniverseIndex)
@@ -120,12 +126,6 @@ module _ {Key Id Name : Type 0} {m n : Meaning Key Id Name} (grown : Extends m n
 
 -- What binding a root answers, by the bound type's side.
 module _ {Key Id Name : Type 0} (m : Meaning Key Id Name) (before after : Store) (n : ℕ) (t : Tree) where
-  pub instantiated_goes : (r : Result (TyKey Key) (RelateFault Key)) → IsSound before → before.universe ≡ 0 → IsTermIn before t → ((k : TyKey Key) → r ≡ Ok k → IsTerm type_sort (m.ty k)) → Instantiated m before after n t r → Goes (weight before t) before after
-  instantiated_goes (Ok k) g f i s h = binding_goes before after n t (m.ty k) h.1 g f i h.0 h.2 (s k refl)
-  instantiated_goes (Err (Unrelated a)) g f i s h = subst (Goes (weight before t) before) (sym h.1) (goes_nowhere (weight before t) before)
-  instantiated_goes (Err Budget) g f i s h = subst (Goes (weight before t) before) (sym h.1) (goes_nowhere (weight before t) before)
-  instantiated_goes (Err Memory) g f i s h = subst (Goes (weight before t) before) (sym h) (goes_nowhere (weight before t) before)
-
   pub instantiated_refused : (X : Type 0) (f : RelateFault Key) → IsFormed t → Instantiated m before after n t (Err f) → Answered {X = X} before after (leaf (variable type_var n)) t (Err f)
   instantiated_refused X (Unrelated a) f h = cycle_apart before n t f h.0
   instantiated_refused X Budget f h = ap (λ st. st.budget) h.1 ∙ h.0
@@ -141,3 +141,8 @@ module _ {Key Id Name : Type 0} (m : Meaning Key Id Name) (before after : Store)
   memory_instantiated (Err Memory) h p e = e
   memory_instantiated (Err Budget) h p e = absurd (cc)
   memory_instantiated (Err (Unrelated a)) h p e = absurd (cc)
+
+  pub refused_goes : (f : RelateFault Key) → Instantiated m before after n t (Err f) → Goes (weight before t) before after
+  refused_goes (Unrelated a) h = subst (Goes (weight before t) before) (sym h.1) (goes_nowhere (weight before t) before)
+  refused_goes Budget h = subst (Goes (weight before t) before) (sym h.1) (goes_nowhere (weight before t) before)
+  refused_goes Memory h = subst (Goes (weight before t) before) (sym h) (goes_nowhere (weight before t) before)

@@ -1,11 +1,12 @@
 //! Relating types in a context.
-ghost use Rattle.std.specs.Prelude.{◌≡◌, ◌⊎◌, ◌+◌, ◌<◌, IsTrue};
+ghost use Rattle.std.specs.Prelude.{◌≡◌, ◌⊎◌, ◌+◌, ◌<◌, IsTrue, IfErr};
 ghost use Rattle.relation_terms.specs.Trees.{known, count};
 ghost use Rattle.relation_terms.specs.Meaning.{Extends};
 ghost use Rattle.type_relations.specs.Stores.{IsTermIn, weight};
 ghost use Rattle.type_relations.specs.Measures.{Goes};
 ghost use Rattle.relation_tools.specs.declared.error.RelateFault.TheVariants.{Unrelated};
 ghost use Rattle.relation_tools.specs.declared.error.TypeError.TheVariants.{Sorts, TupleSize};
+ghost use Rattle.relation_tools.specs.Faults.{KnowsFault};
 ghost use Rattle.relation_reference.specs.Tables.{store_of, IsLawful, IsFormed};
 ghost use Rattle.relation_reference.specs.Answers.{Answered, AnsweredAll};
 
@@ -26,6 +27,7 @@ impl<I: Interner> RefCtxt<I> {
         ensures grown { Extends (I.meaning self.old.interner) (I.meaning self.new.interner) }
         ensures goes { Goes (weight (store_of (I.meaning self.old.interner) self.old.inner) ((I.meaning self.old.interner).ty a.now) + weight (store_of (I.meaning self.old.interner) self.old.inner) ((I.meaning self.old.interner).ty b.now)) (store_of (I.meaning self.old.interner) self.old.inner) (store_of (I.meaning self.new.interner) self.new.inner) }
         ensures answers { Answered (store_of (I.meaning self.old.interner) self.old.inner) (store_of (I.meaning self.new.interner) self.new.inner) ((I.meaning self.old.interner).ty a.now) ((I.meaning self.old.interner).ty b.now) result }
+        ensures why_known { IfErr result (KnowsFault (I.meaning self.new.interner)) }
     {
         if a == b {
             return Ok(());
@@ -67,6 +69,7 @@ impl<I: Interner> RefCtxt<I> {
         ensures grown { Extends (I.meaning self.old.interner) (I.meaning self.new.interner) }
         ensures goes { Goes (weight (store_of (I.meaning self.old.interner) self.old.inner) ((I.meaning self.old.interner).ty a.now) + weight (store_of (I.meaning self.old.interner) self.old.inner) ((I.meaning self.old.interner).ty b.now)) (store_of (I.meaning self.old.interner) self.old.inner) (store_of (I.meaning self.new.interner) self.new.inner) }
         ensures answers { Answered (store_of (I.meaning self.old.interner) self.old.inner) (store_of (I.meaning self.new.interner) self.new.inner) ((I.meaning self.old.interner).ty a.now) ((I.meaning self.old.interner).ty b.now) result }
+        ensures why_known { IfErr result (KnowsFault (I.meaning self.new.interner)) }
     {
         let right = self.interner.ty_kind(b);
         match self.interner.ty_kind(a) {
@@ -144,6 +147,7 @@ impl<I: Interner> RefCtxt<I> {
         ensures grown { Extends (I.meaning self.old.interner) (I.meaning self.new.interner) }
         ensures goes { Goes (weight (store_of (I.meaning self.old.interner) self.old.inner) ((I.meaning self.old.interner).tys a.now) + weight (store_of (I.meaning self.old.interner) self.old.inner) ((I.meaning self.old.interner).tys b.now)) (store_of (I.meaning self.old.interner) self.old.inner) (store_of (I.meaning self.new.interner) self.new.inner) }
         ensures answers { AnsweredAll (store_of (I.meaning self.old.interner) self.old.inner) (store_of (I.meaning self.new.interner) self.new.inner) ((I.meaning self.old.interner).tys a.now) ((I.meaning self.old.interner).tys b.now) result }
+        ensures why_known { IfErr result (KnowsFault (I.meaning self.new.interner)) }
     {
         let n = self.count_of(a);
         for i in 0..n {

@@ -1,10 +1,11 @@
 //! Resolving types in a context at every depth, and binding variables to what they come to.
-ghost use Rattle.std.specs.Prelude.{◌≡◌, ℕ, ◌+◌, ◌<◌, IsTrue, IsFalse, IfOk, IfSome, IfNone, length};
+ghost use Rattle.std.specs.Prelude.{◌≡◌, ℕ, ◌+◌, ◌<◌, IsTrue, IsFalse, IfOk, IfErr, IfSome, IfNone, length};
 ghost use Rattle.relation_terms.specs.Heads.{type_var, variable};
 ghost use Rattle.relation_terms.specs.Trees.{leaf, known, apply, count, nth, Occurs, IsList};
 ghost use Rattle.relation_terms.specs.Meaning.{Extends};
 ghost use Rattle.type_relations.specs.Stores.{unbound, entry_of, resolved, weight, IsTermIn};
 ghost use Rattle.type_relations.specs.Measures.{Goes};
+ghost use Rattle.relation_tools.specs.Faults.{KnowsFault};
 ghost use Rattle.relation_reference.specs.Tables.{store_of, IsLawful, IsFormed};
 ghost use Rattle.relation_reference.specs.Answers.{Instantiated};
 
@@ -148,6 +149,7 @@ impl<I: Interner> RefCtxt<I> {
         ensures grown { Extends (I.meaning self.old.interner) (I.meaning self.new.interner) }
         ensures sure { IfOk result (λ t. IsTrue (known ((I.meaning self.new.interner).ty t))) }
         ensures answers { Instantiated (I.meaning self.new.interner) (store_of (I.meaning self.old.interner) self.old.inner) (store_of (I.meaning self.new.interner) self.new.inner) target.0 ((I.meaning self.old.interner).ty source.now) result }
+        ensures why_known { IfErr result (KnowsFault (I.meaning self.new.interner)) }
     {
         if self.inner.budget == 0 {
             return Err(RelateFault::Budget);
