@@ -4,7 +4,7 @@ use Rattle.std.proofs.lemmas.Bool.{false≢true}
 use Rattle.std.specs.Result.{IsErr, IsErrAnd}
 use native.Mathlib.Decide.{ℕ_discrete}
 use Rattle.relation_terms.specs.Heads.{type_var, type_sort, slice, tuple, ref, Head, Leaf, variable, atom}
-use Rattle.relation_terms.specs.Trees.{Tree, leaf, node, bind, nil, cons, Assign, apply, IsList, IsTerm, count, nth}
+use Rattle.relation_terms.specs.Trees.{Tree, leaf, node, bind, nil, cons, Assign, apply, IsList, IsTerm, AreTerms, count, nth}
 use Rattle.relation_terms.specs.Meaning.{Meaning, kind_tree}
 use Rattle.relation_terms.specs.declared.terms.enums.Variance.TheVariants.{Invariant}
 use Rattle.relation_terms.specs.declared.terms.enums.Mutability.{Mutability}
@@ -210,3 +210,10 @@ region_in st u r x t e s p = (h.1.0, term_first st (ref u) r x t e p)
   where
     h : IsTerm type_sort (node (ref u) (cons r (cons x nil)))
     h = subst (IsTerm type_sort) e s
+
+pub terms_list : (t : Tree) → AreTerms type_sort t → IsList t
+terms_list nil h = tt
+terms_list (cons t ts) h = terms_list ts h.1
+terms_list (leaf l) h = absurd h
+terms_list (node a ts) h = absurd h
+terms_list (bind ks t) h = absurd h

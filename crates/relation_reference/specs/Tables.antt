@@ -1,10 +1,12 @@
 -- What the tables of a context mean: the store that they record, and the invariant of a context.
-use Rattle.std.specs.Prelude.{◌≡◌, ℕ, ◌<◌, Bool, false, List, [], map, length, All, get_or}
+use Rattle.std.specs.Prelude.{◌≡◌, ℕ, ◌<◌, Bool, false, None, List, [], map, length, All, get_or}
 use Rattle.relation_terms.specs.Heads.{VarKind, type_var, int_var, float_var, const_var, region_var, variable, type_sort, head_sort, atom_sort, Leaf, atom}
 use Rattle.relation_terms.specs.Trees.{Tree, leaf, node, nil}
 use Rattle.relation_terms.specs.Meaning.{Meaning, arg_tree}
 use Rattle.relation_terms.specs.declared.predicate.RegionConstraint.{RegionConstraint}
 use Rattle.relation_terms.specs.declared.predicate.RegionConstraint.TheVariants.{Outlives, Eq}
+use Rattle.relation_terms.specs.declared.terms.enums.Variance.TheVariants.{Invariant}
+use Rattle.type_relations.specs.Relation.{Items}
 use Rattle.type_relations.specs.Stores.{Store, Entry, entry_of, unbound, same_as, bound_to, Constraint, outlives_constraint, equal_constraint, IsSound}
 use Rattle.relation_reference.specs.declared.context.inner.TypeVariableValue.{TypeVariableValue}
 use Rattle.relation_reference.specs.declared.context.inner.TypeVariableValue.TheVariants.{Unknown, SameAs, Known}
@@ -18,6 +20,10 @@ by_kind t r d region_var = r
 by_kind t r d int_var = d
 by_kind t r d float_var = d
 by_kind t r d const_var = d
+
+-- No item declares variances.
+abbrev pub no_items : Items
+no_items = record { declared = λ d i. Invariant; of_alias = λ d. None }
 
 -- A type that is no variable.
 abbrev pub IsFormed : Tree → Type 0

@@ -4,6 +4,7 @@ mod inner;
 mod recording;
 mod relating;
 mod resolving;
+mod solver;
 mod variables;
 
 pub use inner::{InferCtxtInner, TypeVariable, TypeVariableValue};

@@ -8,13 +8,14 @@ use Rattle.type_relations.specs.Measures.{Goes, depth, grown}
 use Rattle.type_relations.proofs.Resolved.{weight_alike}
 use Rattle.type_relations.proofs.Standing.{later_term}
 use Rattle.type_relations.proofs.Going.{under, goes_nowhere, goes_within, goes_then, pair_grown, element_under, second_under, goes_both}
+use Rattle.relation_tools.specs.Faults.{KnowsFault}
 use Rattle.relation_reference.specs.Tables.{store_of, IsLawful}
 use Rattle.relation_reference.specs.Answers.{Answered, AnsweredAll, Unites, Apart}
 use Rattle.relation_reference.proofs.Reading.{made_of_key}
 use Rattle.relation_reference.proofs.Resolving.{known_slice, known_second, known_list, term_slice, term_list, term_second, term_nth, weight_slice, weight_list, weight_pair, weight_nth}
 use Rattle.relation_reference.proofs.Binding.{refused_goes, instantiated_refused, instantiated_refused_back}
 use Rattle.relation_reference.proofs.Instantiating.{variable_weight, binding_under, binding_under_back, binding_then_goes, binding_then_goes_back, binding_in, bound_in, then_answered, then_answered_back, roots_goes, roots_unite}
-use Rattle.relation_reference.proofs.Relating.{same_unites, unites_alike, answered_alike, error_answered, error_answered_all, slice_answered, tuple_answered, ref_answered, others_apart, unrelated_answered, tuples_apart, lengths_answered, region_in, front_more, front_error, front_all}
+use Rattle.relation_reference.proofs.Relating.{same_unites, unites_alike, answered_alike, error_answered, error_answered_all, slice_answered, tuple_answered, ref_answered, others_apart, unrelated_answered, tuples_apart, lengths_answered, region_in, terms_list, front_none, front_more, front_error, front_all}
 use Rattle.relation_reference.proofs.context.variables.RefCtxt.+relate.Goals as goal
 
 pub relate_members-element-x-requires-clause-in_bounds : goal.relate_members-element-x-requires-clause-in_bounds
@@ -205,6 +206,21 @@ relate_members-loop-i-preserved g t c =
       a_list = inv.a_list;
       b_list = inv.b_list;
       front = front_more st now c.loop-i.i ts us x y less less' ex ey inv.front last c.relate_tys.ensures.goes.later.shrinks c.in_ok-relate_tys.ensures.answers;
+    }
+
+pub relate_members-loop-i-init : goal.relate_members-loop-i-init
+relate_members-loop-i-init g t c =
+    let m = g.I.Interner.meaning c.args.self.now.interner in
+    let st = store_of m c.args.self.now.inner in
+    record {
+      lawful = c.requires.lawful;
+      grown = stays_same m;
+      goes = goes_nowhere (weight st (m.tys c.args.a.now) + weight st (m.tys c.args.b.now)) st;
+      counts_a = c.count_of-n.ensures.counts;
+      counts_b = c.count_of-n.ensures.counts ∙ c.requires.as_many;
+      a_list = c.count_of-n.ensures.is_list;
+      b_list = terms_list (m.tys c.args.b.now) (g.met.I.Interner.are_tys c.args.self.now.interner c.args.b.now c.requires.b_known);
+      front = front_none st (m.tys c.args.a.now) (m.tys c.args.b.now);
     }
 
 pub relate_members-returns-clause-lawful : goal.relate_members-returns-clause-lawful
@@ -581,6 +597,7 @@ structurally_relate_tys-returns-in_default g t c =
       grown = stays_same m;
       goes = goes_nowhere (weight st (m.ty c.args.a.now) + weight st (m.ty c.args.b.now)) st;
       answers = unrelated_answered (Unit {0}) st st (m.ty c.args.a.now) (m.ty c.args.b.now) c.unlike.result _ unlike (others_apart m st Bool c.ty_kind-right.result (m.ty c.args.a.now) (m.ty c.args.b.now) c.in-Bool.ensures c.ty_kind-right.ensures c.requires.a_formed c.requires.b_formed other);
+      why_known = subst (KnowsFault m) (sym unlike) (c.requires.a_known, c.requires.b_known);
     }
 
 pub structurally_relate_tys-returns-in_default-right : goal.structurally_relate_tys-returns-in_default-right
@@ -594,6 +611,7 @@ structurally_relate_tys-returns-in_default-right g t c =
       grown = stays_same m;
       goes = goes_nowhere (weight st (m.ty c.args.a.now) + weight st (m.ty c.args.b.now)) st;
       answers = unrelated_answered (Unit {0}) st st (m.ty c.args.a.now) (m.ty c.args.b.now) c.unlike-in_default-right.result _ unlike (others_apart m st Char c.ty_kind-right.result (m.ty c.args.a.now) (m.ty c.args.b.now) c.in-Char.ensures c.ty_kind-right.ensures c.requires.a_formed c.requires.b_formed other);
+      why_known = subst (KnowsFault m) (sym unlike) (c.requires.a_known, c.requires.b_known);
     }
 
 pub structurally_relate_tys-returns-in_default-right-2 : goal.structurally_relate_tys-returns-in_default-right-2
@@ -607,6 +625,7 @@ structurally_relate_tys-returns-in_default-right-2 g t c =
       grown = stays_same m;
       goes = goes_nowhere (weight st (m.ty c.args.a.now) + weight st (m.ty c.args.b.now)) st;
       answers = unrelated_answered (Unit {0}) st st (m.ty c.args.a.now) (m.ty c.args.b.now) c.unlike-in_default-right-2.result _ unlike (others_apart m st (Int c.in-Int.x) c.ty_kind-right.result (m.ty c.args.a.now) (m.ty c.args.b.now) c.in-Int.ensures c.ty_kind-right.ensures c.requires.a_formed c.requires.b_formed other);
+      why_known = subst (KnowsFault m) (sym unlike) (c.requires.a_known, c.requires.b_known);
     }
 
 pub structurally_relate_tys-returns-in_default-right-3 : goal.structurally_relate_tys-returns-in_default-right-3
@@ -620,6 +639,7 @@ structurally_relate_tys-returns-in_default-right-3 g t c =
       grown = stays_same m;
       goes = goes_nowhere (weight st (m.ty c.args.a.now) + weight st (m.ty c.args.b.now)) st;
       answers = unrelated_answered (Unit {0}) st st (m.ty c.args.a.now) (m.ty c.args.b.now) c.unlike-in_default-right-3.result _ unlike (others_apart m st (Uint c.in-Uint.x) c.ty_kind-right.result (m.ty c.args.a.now) (m.ty c.args.b.now) c.in-Uint.ensures c.ty_kind-right.ensures c.requires.a_formed c.requires.b_formed other);
+      why_known = subst (KnowsFault m) (sym unlike) (c.requires.a_known, c.requires.b_known);
     }
 
 pub structurally_relate_tys-returns-in_default-right-4 : goal.structurally_relate_tys-returns-in_default-right-4
@@ -633,6 +653,7 @@ structurally_relate_tys-returns-in_default-right-4 g t c =
       grown = stays_same m;
       goes = goes_nowhere (weight st (m.ty c.args.a.now) + weight st (m.ty c.args.b.now)) st;
       answers = unrelated_answered (Unit {0}) st st (m.ty c.args.a.now) (m.ty c.args.b.now) c.unlike-in_default-right-4.result _ unlike (others_apart m st (Slice c.in-Slice.x) c.ty_kind-right.result (m.ty c.args.a.now) (m.ty c.args.b.now) c.in-Slice.ensures c.ty_kind-right.ensures c.requires.a_formed c.requires.b_formed other);
+      why_known = subst (KnowsFault m) (sym unlike) (c.requires.a_known, c.requires.b_known);
     }
 
 pub structurally_relate_tys-returns-in_default-right-5 : goal.structurally_relate_tys-returns-in_default-right-5
@@ -646,6 +667,7 @@ structurally_relate_tys-returns-in_default-right-5 g t c =
       grown = stays_same m;
       goes = goes_nowhere (weight st (m.ty c.args.a.now) + weight st (m.ty c.args.b.now)) st;
       answers = unrelated_answered (Unit {0}) st st (m.ty c.args.a.now) (m.ty c.args.b.now) c.unlike-in_default-right-5.result _ unlike (others_apart m st (Tuple c.in-Tuple.xs) c.ty_kind-right.result (m.ty c.args.a.now) (m.ty c.args.b.now) c.in-Tuple.ensures c.ty_kind-right.ensures c.requires.a_formed c.requires.b_formed other);
+      why_known = subst (KnowsFault m) (sym unlike) (c.requires.a_known, c.requires.b_known);
     }
 
 pub structurally_relate_tys-returns-in_default-right-6 : goal.structurally_relate_tys-returns-in_default-right-6
@@ -659,6 +681,7 @@ structurally_relate_tys-returns-in_default-right-6 g t c =
       grown = stays_same m;
       goes = goes_nowhere (weight st (m.ty c.args.a.now) + weight st (m.ty c.args.b.now)) st;
       answers = unrelated_answered (Unit {0}) st st (m.ty c.args.a.now) (m.ty c.args.b.now) c.unlike-in_default-right-6.result _ unlike (others_apart m st (Ref c.in-Ref.r c.in-Ref.x c.in-Ref.mutability) c.ty_kind-right.result (m.ty c.args.a.now) (m.ty c.args.b.now) c.in-Ref.ensures c.ty_kind-right.ensures c.requires.a_formed c.requires.b_formed other);
+      why_known = subst (KnowsFault m) (sym unlike) (c.requires.a_known, c.requires.b_known);
     }
 
 pub structurally_relate_tys-returns-in-Bool-right-clause-goes : goal.structurally_relate_tys-returns-in-Bool-right-clause-goes
