@@ -46,7 +46,6 @@ cycle_apart st n t f o = λ w s sat e. cycles_do_not_unify st type_var n t o (fo
 -- A store after a root was bound to what a type comes to.
 module _ (before after : Store) (n : ℕ) (t u : Tree) (q : BindsTo before after type_var n u) (g : IsSound before) (first : before.universe ≡ 0) (is_in : IsTermIn before t)
     (e : u ≡ apply (resolved before) t) (absent : Occurs type_var n (apply (resolved before) t) → ⊥) (stands : IsTerm type_sort u) where
-
   u_in : IsTermIn before u
   u_in = subst (IsTermIn before) (sym e) ((resolved_resolves before t g).is_in is_in)
 
@@ -103,7 +102,6 @@ module _ {Key Id Name : Type 0} {m n : Meaning Key Id Name} (grown : Extends m n
     (constraints : y.constraints.items ≡ z.constraints.items)
     (universe : y.universe ≡ z.universe)
     (budget : z.budget ≡ suc y.budget) where
-
   abbrev now : store_of n z ≡ store_of m x
   now = ap (store_of n) resolving ∙ store_grows grown x l
 

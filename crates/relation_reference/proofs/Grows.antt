@@ -77,7 +77,7 @@ module _ {Key Id Name : Type 0} {m n : Meaning Key Id Name} (e : Extends m n) (x
   store_grows = ap₂ with_lists
       (map_at (λ v. entry_of_value n v.value) (λ v. entry_of_value m v.value) x.types.items (λ i d p. value_stays i ((get_or x.types.items i d).value) (entry_at m x i d p)))
       (map_at (constraint_of n) (constraint_of m) x.constraints.items (λ i d p. constraint_stays (get_or x.constraints.items i d)
-        (subst (ConstraintIn (store_of m x)) (get_or-map (constraint_of m) x.constraints.items i d (constraint_of m d) p) (l.sound.constraints_in i (constraint_of m d) (at i p)))))
+      (subst (ConstraintIn (store_of m x)) (get_or-map (constraint_of m) x.constraints.items i d (constraint_of m d) p) (l.sound.constraints_in i (constraint_of m d) (at i p)))))
     where
       at : (i : ℕ) → i < length x.constraints.items → i < length (map (constraint_of m) x.constraints.items)
       at i p = subst (λ z. i < z) (sym (length-map x.constraints.items (constraint_of m))) p

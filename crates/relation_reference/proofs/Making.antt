@@ -70,7 +70,6 @@ module _ {Key Id Name : Type 0} {m n : Meaning Key Id Name} (e : Extends m n) (x
     (key : n.ty v.key ≡ leaf (variable type_var (length x.types.items)))
     (same_regions : y.regions.items ≡ x.regions.items) (constraints : y.constraints.items ≡ x.constraints.items)
     (universe : y.universe ≡ x.universe) (budget : y.budget ≡ x.budget) where
-
   grown_entries : map (λ w. entry_of_value n w.value) x.types.items ≡ (store_of m x).entries type_var
   grown_entries = ap (λ st. st.entries type_var) (store_grows e x l)
 
@@ -136,7 +135,6 @@ module _ {Key Id Name : Type 0} {m n : Meaning Key Id Name} (e : Extends m n) (x
     (types : y.types.items ≡ x.types.items)
     (more : y.regions.items ≡ x.regions.items ++ x.universe ∷ []) (constraints : y.constraints.items ≡ x.constraints.items)
     (universe : y.universe ≡ x.universe) (budget : y.budget ≡ x.budget) where
-
   pub region_made : MakesVariable (store_of m x) (store_of n y) region_var (length x.regions.items) ((x.universe).0)
   region_made = record {
     number = sym (length-map x.regions.items (λ u. unbound));
@@ -200,7 +198,6 @@ module _ {Key Id Name : Type 0} (m : Meaning Key Id Name) (x y : InferCtxtInner 
     (types : y.types.items ≡ x.types.items) (same_regions : y.regions.items ≡ x.regions.items)
     (more : y.constraints.items ≡ x.constraints.items ++ Eq (record { 0 = a; 1 = b }) ∷ [])
     (universe : y.universe ≡ x.universe) (budget : y.budget ≡ x.budget) where
-
   abbrev asked : Constraint
   asked = equal_constraint (m.region a) (m.region b)
 
@@ -249,7 +246,7 @@ module _ {Key Id Name : Type 0} (m : Meaning Key Id Name) (x y : InferCtxtInner 
   constraint_unites = record {
     relates = λ c e w s h. let before = (constraint_goes.later).shrinks w s h in
         regions (region_value (store_of m x) s (m.region a) before.assigns a_in.0 a_in.1) (region_value (store_of m x) s (m.region b) before.assigns b_in.0 b_in.1)
-          (constraint_holds (store_of m x) (store_of m y) asked constraint_added w s h);
+        (constraint_holds (store_of m x) (store_of m y) asked constraint_added w s h);
     keeps = λ w s h e. constraint_keeps (store_of m x) (store_of m y) asked constraint_added w s h (itself e, itself (sym e));
   }
 

@@ -23,7 +23,6 @@ module _ {Key Id Name : Type 0} (m : Meaning Key Id Name) (x y : InferCtxtInner 
     (keys : map (λ t. t.key) y.types.items ≡ map (λ t. t.key) x.types.items)
     (values : map (λ t. t.value) y.types.items ≡ set (map (λ t. t.value) x.types.items) n v)
     (universes : map (λ t. t.universe) y.types.items ≡ set (map (λ t. t.universe) x.types.items) n u) where
-
   pub entries_set : (store_of m y).entries type_var ≡ set ((store_of m x).entries type_var) n (entry_of_value m v)
   entries_set = map-map (entry_of_value m) (λ t. t.value) y.types.items ∙ ap (map (entry_of_value m)) values
       ∙ map-set (entry_of_value m) (map (λ t. t.value) x.types.items) n v
@@ -44,7 +43,6 @@ module _ {Key Id Name : Type 0} (m : Meaning Key Id Name) (x y : InferCtxtInner 
 module _ {Key Id Name : Type 0} (m : Meaning Key Id Name) (x y : InferCtxtInner Key) (n : ℕ) (e : Entry) (w : WritesEntry (store_of m x) (store_of m y) type_var n e) (l : IsLawful m x)
     (keys : map (λ t. m.ty t.key) y.types.items ≡ map (λ t. m.ty t.key) x.types.items)
     (universe : y.universe ≡ x.universe) where
-
   long : length y.types.items ≡ length x.types.items
   long = sym (length-map y.types.items (λ t. m.ty t.key)) ∙ ap length keys ∙ length-map x.types.items (λ t. m.ty t.key)
 
@@ -82,7 +80,6 @@ module _ {Key Id Name : Type 0} (m : Meaning Key Id Name) (x z y : InferCtxtInne
     (made : IsMade (store_of m x) type_var child) (smaller : root < child)
     (child_unbound : entry_of (store_of m x) type_var child ≡ unbound)
     (root_unbound : entry_of (store_of m x) type_var root ≡ unbound) where
-
   abbrev old : Store
   old = store_of m x
 
@@ -186,7 +183,6 @@ module _ {Key Id Name : Type 0} (m : Meaning Key Id Name) (x z y : InferCtxtInne
     (root_unbound : entry_of (store_of m x) type_var root ≡ unbound)
     (below_is : below.0 ≡ universe_of (store_of m x) type_var child)
     (lower_is : lower.0 ≡ min (universe_of (store_of m x) type_var child) (universe_of (store_of m x) type_var root)) where
-
   is_made : IsMade (store_of m x) type_var child
   is_made = subst (λ i. child < i) (sym (length-map x.types.items (λ t. entry_of_value m t.value))) made
 
@@ -223,7 +219,6 @@ module _ {Key Id Name : Type 0} (m : Meaning Key Id Name) (x y : InferCtxtInner 
     (l : IsLawful m x) (made : n < length x.types.items)
     (free : entry_of (store_of m x) type_var n ≡ unbound)
     (universe_is : u.0 ≡ universe_of (store_of m x) type_var n) where
-
   bind_made : IsMade (store_of m x) type_var n
   bind_made = subst (λ i. n < i) (sym (length-map x.types.items (λ t. entry_of_value m t.value))) made
 

@@ -93,8 +93,8 @@ module _ (before after : Store) (k : VarKind) (child root : ℕ) (q : Equates be
           go : ((j ≡ k) × (i ≡ root)) ⊎ (j ≡ k → i ≡ root → ⊥) → Leaves (IsNamable (universe_of after j i)) (s j i)
           go (inl (a, b)) = subst₂ (λ c d. Leaves (IsNamable (universe_of after c d)) (s c d)) (sym a) (sym b)
               (subst (λ z. Leaves (IsNamable z) (s k root)) (sym q.lowered)
-                (low (universe_of before k child) (universe_of before k root) (s k root) (dec_le (universe_of before k child) (universe_of before k root))
-                  (subst (Leaves (IsNamable (universe_of before k child))) e (h.assigns k child q.links.made).3) (h.assigns k root root_made).3))
+              (low (universe_of before k child) (universe_of before k root) (s k root) (dec_le (universe_of before k child) (universe_of before k root))
+              (subst (Leaves (IsNamable (universe_of before k child))) e (h.assigns k child q.links.made).3) (h.assigns k root root_made).3))
           go (inr o) = subst (λ z. Leaves (IsNamable z) (s j i)) (sym (q.other_universes j i o)) (h.assigns j i p).3
 
 -- Binding a variable to a term in which it does not stand, and that names only what it can.
@@ -102,7 +102,6 @@ module _ (before after : Store) (k : VarKind) (n : ℕ) (t : Tree) (q : BindsTo 
     (stands : MayStandFor k t) (is_in : IsTermIn before t)
     (absent : Occurs k n (apply (resolved before) t) → ⊥)
     (in_scope : Leaves (IsInScope before (universe_of before k n)) (apply (resolved before) t)) where
-
   no_higher : (j : VarKind) (i : ℕ) → universe_of after j i ≤ universe_of before j i
   no_higher j i = le_of_eq (q.same_universes j i)
 

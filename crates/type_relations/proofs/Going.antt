@@ -21,8 +21,10 @@ pub later_through : {r q p : Store} → IsLater r q → IsLater q p → IsLater 
 later_through {r} {q} {p} a b = record {
   grows = λ k n h. b.grows k n (a.grows k n h);
   entries_stand = λ k n h o. let e = a.entries_stand k n h o in b.entries_stand k n (a.grows k n h) (λ u. o (sym e ∙ u)) ∙ e;
-  constraints_stand = (a.constraints_stand.0 ++ b.constraints_stand.0,
-    b.constraints_stand.1 ∙ ap (λ cs. cs ++ b.constraints_stand.0) a.constraints_stand.1 ∙ append_assoc r.constraints a.constraints_stand.0 b.constraints_stand.0);
+  constraints_stand = (
+    a.constraints_stand.0 ++ b.constraints_stand.0,
+    b.constraints_stand.1 ∙ ap (λ cs. cs ++ b.constraints_stand.0) a.constraints_stand.1 ∙ append_assoc r.constraints a.constraints_stand.0 b.constraints_stand.0,
+  );
   universe_stands = le_trans a.universe_stands b.universe_stands;
   shrinks = λ w s h. a.shrinks w s (b.shrinks w s h);
 }

@@ -213,7 +213,7 @@ module _ (before after : Store) (q : Constraint) (b : AddsConstraint before afte
     below_current = λ j m. subst₂ (λ z y. z ≤ y) (same_universe_of j m) (sym b.same_universe) (g.below_current j m);
     constraints_in = subst (All (ConstraintIn after)) (sym b.one_more)
         (All-append (ConstraintIn after) before.constraints (q ∷ []) (λ i d p. later_constraint before after constraint_made (omega (arith, b.same_universe)) _ (g.constraints_in i d p))
-            (All-cons (ConstraintIn after) q [] (later_constraint before after constraint_made (omega (arith, b.same_universe)) q h) (All-nil (ConstraintIn after))));
+        (All-cons (ConstraintIn after) q [] (later_constraint before after constraint_made (omega (arith, b.same_universe)) q h) (All-nil (ConstraintIn after))));
   }
 
   pub constraint_is_later : IsLater before after

@@ -14,7 +14,6 @@ use Rattle.type_relations.proofs.Standing.{within_apply, scope_mono, stands_appl
 use Rattle.type_relations.proofs.Tallies.{tally_alike, tally_written, all_more}
 
 module _ (before after : Store) (k : VarKind) (n : ℕ) (x : Entry) (t : Tree) (w : WritesEntry before after k n x) (e : entry_term k x ≡ Some t) where
-
   pub unbound_before : bound_term before k n ≡ None
   unbound_before = ap (entry_term k) w.was_unbound
 
@@ -204,7 +203,6 @@ module _ (before after : Store) (k : VarKind) (n : ℕ) (x : Entry) (t : Tree) (
         (smaller : (j : VarKind) (i : ℕ) → universe_of after j i ≤ universe_of before j i)
         (kept : (j : VarKind) (i : ℕ) (u : Tree) → bound_term after j i ≡ Some u → universe_of after j i ≡ universe_of before j i)
         (in_scope : Leaves (IsInScope after (universe_of before k n)) (apply (resolved before) t)) where
-
       same_now : before.universe ≤ after.universe
       same_now = omega (arith, w.same_universe)
 

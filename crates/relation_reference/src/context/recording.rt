@@ -38,7 +38,9 @@ impl<I: Interner> RefCtxt<I> {
     {
         let number = self.inner.types.len();
         let universe = self.inner.universe;
-        let key = self.interner.mk_ty(TyKind::Infer(InferTy::TyVar(TyVid(number))))?;
+        let key = self
+            .interner
+            .mk_ty(TyKind::Infer(InferTy::TyVar(TyVid(number))))?;
         self.inner.types.push(TypeVariable {
             key: key.dup(),
             value: TypeVariableValue::Unknown,
@@ -62,7 +64,9 @@ impl<I: Interner> RefCtxt<I> {
     {
         let number = self.inner.regions.len();
         let universe = self.inner.universe;
-        let key = self.interner.mk_region(RegionKind::ReVar(RegionVid(number)))?;
+        let key = self
+            .interner
+            .mk_region(RegionKind::ReVar(RegionVid(number)))?;
         self.inner.regions.push(universe)?;
         Ok(key)
     }
@@ -131,7 +135,12 @@ impl<I: Interner> RefCtxt<I> {
     }
 
     // Writes what is recorded of a variable, and its universe.
-    pub(crate) fn record(&mut self, v: usize, value: TypeVariableValue<I::Key>, universe: UniverseIndex)
+    pub(crate) fn record(
+        &mut self,
+        v: usize,
+        value: TypeVariableValue<I::Key>,
+        universe: UniverseIndex,
+    )
         requires { v < length self.old.inner.types.items }
         ensures interner { self.new.interner ≡ self.old.interner }
         ensures keys { map (λ t. t.key) self.new.inner.types.items ≡ map (λ t. t.key) self.old.inner.types.items }

@@ -97,7 +97,9 @@ impl<I: Interner> RefCtxt<I> {
             }
             TyKind::Ref(region, pointee, mutability) => {
                 let pointee = self.resolve_vars_if_possible(&pointee)?;
-                let made = self.interner.mk_ty(TyKind::Ref(region, pointee, mutability))?;
+                let made = self
+                    .interner
+                    .mk_ty(TyKind::Ref(region, pointee, mutability))?;
                 Ok(made)
             }
         }
@@ -138,7 +140,11 @@ impl<I: Interner> RefCtxt<I> {
 
     // Binds a root to what a type comes to, for one of the budget, and answers that. The type does not come to the
     // root itself. Where no instantiation is left, or the root stands in what the type comes to, nothing is bound.
-    pub(crate) fn instantiate_ty_var_raw(&mut self, target: TyVid, source: &Ty<I>) -> Result<Ty<I>, RelateFault<I::Key>>
+    pub(crate) fn instantiate_ty_var_raw(
+        &mut self,
+        target: TyVid,
+        source: &Ty<I>,
+    ) -> Result<Ty<I>, RelateFault<I::Key>>
         requires lawful { IsLawful (I.meaning self.old.interner) self.old.inner }
         requires target_made { target.0 < length self.old.inner.types.items }
         requires target_unbound { entry_of (store_of (I.meaning self.old.interner) self.old.inner) type_var target.0 ≡ unbound }

@@ -11,8 +11,10 @@ use relation_terms::terms::{Goal, Interner, Keys, ParamEnv, Predicate, Span, Ty,
 use relation_tools::error::RelateFault;
 
 /// The goals that relating answers, or why it stopped.
-pub type RelateGoals<I> =
-    Result<Vec<Goal<<I as Keys>::Key, Predicate<I>>>, RelateFault<<I as Keys>::Key>>;
+pub type RelateGoals<I> = Result<
+    Vec<Goal<<I as Keys>::Key, Predicate<I>>>,
+    RelateFault<<I as Keys>::Key>,
+>;
 
 /// An inference context that relates terms.
 pub trait RelateExt {

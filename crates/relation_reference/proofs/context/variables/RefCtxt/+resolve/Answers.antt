@@ -17,7 +17,7 @@ resolve_list-resolve_vars_if_possible-requires g t c κs within =
     let i = c.loop-i.invariant in
     let h : c.loop-i.i < count (m.tys c.args.tys.now) = omega (arith, c.loop-i-test.true, i.counts) in
     let small : 2 * weight (store_of n c.loop-i.self.inner) (n.ty c.element-ty.result) + 1 < 2 * weight st (m.tys c.args.tys.now) =
-        (let e = element_falls i.grown (stays_same n) c.args.self.now.inner c.loop-i.self.inner c.requires.lawful i.inner c.args.tys.now c.requires.tys_known c.loop-i.i c.element-ty.result h c.element-ty.ensures.means in omega (arith, e)) in
+    (let e = element_falls i.grown (stays_same n) c.args.self.now.inner c.loop-i.self.inner c.requires.lawful i.inner c.args.tys.now c.requires.tys_known c.loop-i.i c.element-ty.result h c.element-ty.ensures.means in omega (arith, e)) in
     let lawful : IsLawful n c.loop-i.self.inner = lawful_now i.grown (stays_same n) c.args.self.now.inner c.loop-i.self.inner c.requires.lawful i.inner c.args.tys.now c.requires.tys_known in
     let sure : IsTrue (known (n.ty c.element-ty.result)) = c.element-ty.ensures.sure in
     let is_in : IsTermIn (store_of n c.loop-i.self.inner) (n.ty c.element-ty.result) = element_in i.grown (stays_same n) c.args.self.now.inner c.loop-i.self.inner c.requires.lawful i.inner c.args.tys.now c.requires.tys_known c.loop-i.i c.element-ty.result h c.element-ty.ensures.means c.requires.tys_in in
@@ -58,7 +58,7 @@ resolve_list-returns-clause-resolves g t c =
     let i = c.loop-i.invariant in
     let all : c.loop-i.i ≡ count (m.tys c.args.tys.now) = (let a = c.loop-i.auto.i-end in omega (arith, c.loop-i-test.false, i.counts, a)) in
     c.in_ok-made.ensures.made ∙ ap (list_tree n.ty) c.as_slice.ensures.value ∙ i.resolved_so_far
-        ∙ ap (λ z. apply (resolved st) (firsts z (m.tys c.args.tys.now))) all ∙ ap (apply (resolved st)) (firsts_all (m.tys c.args.tys.now) i.is_list)
+    ∙ ap (λ z. apply (resolved st) (firsts z (m.tys c.args.tys.now))) all ∙ ap (apply (resolved st)) (firsts_all (m.tys c.args.tys.now) i.is_list)
 
 pub resolve_vars_if_possible-resolve_vars_if_possible-requires : goal.resolve_vars_if_possible-resolve_vars_if_possible-requires
 resolve_vars_if_possible-resolve_vars_if_possible-requires g t c κs within =
@@ -67,7 +67,7 @@ resolve_vars_if_possible-resolve_vars_if_possible-requires g t c κs within =
     let e = c.in-Slice.ensures in
     let d = c.decreases in
     let small : 2 * weight st (m.ty c.in-Slice.element) + 1 < 2 * weight st (m.ty c.args.ty.now) + 1 =
-        falls st c.requires.lawful.sound (m.ty c.args.ty.now) (m.ty c.shallow_resolve-ty.result) c.shallow_resolve-ty.ensures.same_value (weight st (m.ty c.in-Slice.element)) 0 (omega (arith, weight_slice st slice (m.ty c.in-Slice.element) (m.ty c.shallow_resolve-ty.result) c.in-Slice.ensures)) in
+    falls st c.requires.lawful.sound (m.ty c.args.ty.now) (m.ty c.shallow_resolve-ty.result) c.shallow_resolve-ty.ensures.same_value (weight st (m.ty c.in-Slice.element)) 0 (omega (arith, weight_slice st slice (m.ty c.in-Slice.element) (m.ty c.shallow_resolve-ty.result) c.in-Slice.ensures)) in
     let sure : IsTrue (known (m.ty c.in-Slice.element)) = known_slice slice (m.ty c.in-Slice.element) (m.ty c.shallow_resolve-ty.result) c.in-Slice.ensures c.shallow_resolve-ty.ensures.sure in
     let is_in : IsTermIn st (m.ty c.in-Slice.element) = term_slice st slice (m.ty c.in-Slice.element) (m.ty c.shallow_resolve-ty.result) c.in-Slice.ensures c.shallow_resolve-ty.ensures.is_in in
     search rules
@@ -78,7 +78,7 @@ resolve_vars_if_possible-resolve_list-requires g t c κs within =
     let st = store_of m c.args.self.now.inner in
     let d = c.decreases in
     let small : 2 * weight st (m.tys c.in-Tuple.members) < 2 * weight st (m.ty c.args.ty.now) + 1 =
-        falls_list st c.requires.lawful.sound (m.ty c.args.ty.now) (m.ty c.shallow_resolve-ty.result) c.shallow_resolve-ty.ensures.same_value (weight st (m.tys c.in-Tuple.members)) 0 (omega (arith, weight_list st tuple (m.tys c.in-Tuple.members) (m.ty c.shallow_resolve-ty.result) c.in-Tuple.ensures)) in
+    falls_list st c.requires.lawful.sound (m.ty c.args.ty.now) (m.ty c.shallow_resolve-ty.result) c.shallow_resolve-ty.ensures.same_value (weight st (m.tys c.in-Tuple.members)) 0 (omega (arith, weight_list st tuple (m.tys c.in-Tuple.members) (m.ty c.shallow_resolve-ty.result) c.in-Tuple.ensures)) in
     let sure : IsTrue (known (m.tys c.in-Tuple.members)) = known_list tuple (m.tys c.in-Tuple.members) (m.ty c.shallow_resolve-ty.result) c.in-Tuple.ensures c.shallow_resolve-ty.ensures.sure in
     let is_in : IsTermIn st (m.tys c.in-Tuple.members) = term_list st tuple (m.tys c.in-Tuple.members) (m.ty c.shallow_resolve-ty.result) c.in-Tuple.ensures c.shallow_resolve-ty.ensures.is_in in
     search rules
@@ -89,7 +89,7 @@ resolve_vars_if_possible-resolve_vars_if_possible-requires-in-Ref g t c κs with
     let st = store_of m c.args.self.now.inner in
     let d = c.decreases in
     let small : 2 * weight st (m.ty c.in-Ref.pointee) + 1 < 2 * weight st (m.ty c.args.ty.now) + 1 =
-        falls st c.requires.lawful.sound (m.ty c.args.ty.now) (m.ty c.shallow_resolve-ty.result) c.shallow_resolve-ty.ensures.same_value (weight st (m.ty c.in-Ref.pointee)) 0 (omega (arith, weight_pair st (ref c.in-Ref.mutability) (m.region c.in-Ref.region) (m.ty c.in-Ref.pointee) (m.ty c.shallow_resolve-ty.result) c.in-Ref.ensures)) in
+    falls st c.requires.lawful.sound (m.ty c.args.ty.now) (m.ty c.shallow_resolve-ty.result) c.shallow_resolve-ty.ensures.same_value (weight st (m.ty c.in-Ref.pointee)) 0 (omega (arith, weight_pair st (ref c.in-Ref.mutability) (m.region c.in-Ref.region) (m.ty c.in-Ref.pointee) (m.ty c.shallow_resolve-ty.result) c.in-Ref.ensures)) in
     let sure : IsTrue (known (m.ty c.in-Ref.pointee)) = known_second (ref c.in-Ref.mutability) (m.region c.in-Ref.region) (m.ty c.in-Ref.pointee) (m.ty c.shallow_resolve-ty.result) c.in-Ref.ensures c.shallow_resolve-ty.ensures.sure in
     let is_in : IsTermIn st (m.ty c.in-Ref.pointee) = term_second st (ref c.in-Ref.mutability) (m.region c.in-Ref.region) (m.ty c.in-Ref.pointee) (m.ty c.shallow_resolve-ty.result) c.in-Ref.ensures c.shallow_resolve-ty.ensures.is_in in
     search rules
@@ -123,15 +123,15 @@ pub resolve_vars_if_possible-returns-in_ok-made-in-Slice-clause-resolves : goal.
 resolve_vars_if_possible-returns-in_ok-made-in-Slice-clause-resolves g t c =
     let m = g.I.Interner.meaning c.args.self.now.interner in
     part_resolves (store_of m c.args.self.now.inner) c.requires.lawful.sound (m.ty c.args.ty.now) (m.ty c.shallow_resolve-ty.result) c.shallow_resolve-ty.ensures.same_value
-        (node slice (cons (m.ty c.in-Slice.element) nil)) ((g.I.Interner.meaning c.mk_ty.new.self).ty c.in_ok-made-in-Slice.made) c.in-Slice.ensures
-        (c.in_ok-made-in-Slice.ensures.made ∙ ap (λ z. node slice (cons z nil)) c.in_ok-element-in-Slice.ensures.resolves)
+    (node slice (cons (m.ty c.in-Slice.element) nil)) ((g.I.Interner.meaning c.mk_ty.new.self).ty c.in_ok-made-in-Slice.made) c.in-Slice.ensures
+    (c.in_ok-made-in-Slice.ensures.made ∙ ap (λ z. node slice (cons z nil)) c.in_ok-element-in-Slice.ensures.resolves)
 
 pub resolve_vars_if_possible-returns-in_ok-made-in-Tuple-clause-resolves : goal.resolve_vars_if_possible-returns-in_ok-made-in-Tuple-clause-resolves
 resolve_vars_if_possible-returns-in_ok-made-in-Tuple-clause-resolves g t c =
     let m = g.I.Interner.meaning c.args.self.now.interner in
     part_resolves (store_of m c.args.self.now.inner) c.requires.lawful.sound (m.ty c.args.ty.now) (m.ty c.shallow_resolve-ty.result) c.shallow_resolve-ty.ensures.same_value
-        (node tuple (m.tys c.in-Tuple.members)) ((g.I.Interner.meaning c.mk_ty-in-Tuple.new.self).ty c.in_ok-made-in-Tuple.made) c.in-Tuple.ensures
-        (c.in_ok-made-in-Tuple.ensures.made ∙ ap (node tuple) c.in_ok-members-in-Tuple.ensures.resolves)
+    (node tuple (m.tys c.in-Tuple.members)) ((g.I.Interner.meaning c.mk_ty-in-Tuple.new.self).ty c.in_ok-made-in-Tuple.made) c.in-Tuple.ensures
+    (c.in_ok-made-in-Tuple.ensures.made ∙ ap (node tuple) c.in_ok-members-in-Tuple.ensures.resolves)
 
 pub resolve_vars_if_possible-returns-in_ok-made-in-Ref-clause-resolves : goal.resolve_vars_if_possible-returns-in_ok-made-in-Ref-clause-resolves
 resolve_vars_if_possible-returns-in_ok-made-in-Ref-clause-resolves g t c =
@@ -139,7 +139,7 @@ resolve_vars_if_possible-returns-in_ok-made-in-Ref-clause-resolves g t c =
     let st = store_of m c.args.self.now.inner in
     let sure = known_first (ref c.in-Ref.mutability) (m.region c.in-Ref.region) (m.ty c.in-Ref.pointee) (m.ty c.shallow_resolve-ty.result) c.in-Ref.ensures c.shallow_resolve-ty.ensures.sure in
     part_resolves st c.requires.lawful.sound (m.ty c.args.ty.now) (m.ty c.shallow_resolve-ty.result) c.shallow_resolve-ty.ensures.same_value
-        (node (ref c.in-Ref.mutability) (cons (m.region c.in-Ref.region) (cons (m.ty c.in-Ref.pointee) nil))) ((g.I.Interner.meaning c.mk_ty-in-Ref.new.self).ty c.in_ok-made-in-Ref.made) c.in-Ref.ensures
-        (c.in_ok-made-in-Ref.ensures.made ∙ ap₂ (λ r z. node (ref c.in-Ref.mutability) (cons r (cons z nil)))
-            (c.in_ok-pointee-in-Ref.ensures.grown.region c.in-Ref.region sure ∙ sym (region_resolved st c.requires.lawful.sound (m.region c.in-Ref.region) (g.met.I.Interner.is_region c.args.self.now.interner c.in-Ref.region sure)))
-            c.in_ok-pointee-in-Ref.ensures.resolves)
+    (node (ref c.in-Ref.mutability) (cons (m.region c.in-Ref.region) (cons (m.ty c.in-Ref.pointee) nil))) ((g.I.Interner.meaning c.mk_ty-in-Ref.new.self).ty c.in_ok-made-in-Ref.made) c.in-Ref.ensures
+    (c.in_ok-made-in-Ref.ensures.made ∙ ap₂ (λ r z. node (ref c.in-Ref.mutability) (cons r (cons z nil)))
+    (c.in_ok-pointee-in-Ref.ensures.grown.region c.in-Ref.region sure ∙ sym (region_resolved st c.requires.lawful.sound (m.region c.in-Ref.region) (g.met.I.Interner.is_region c.args.self.now.interner c.in-Ref.region sure)))
+    c.in_ok-pointee-in-Ref.ensures.resolves)

@@ -14,7 +14,7 @@ returns-clause-sure g c =
     let m = g.I.Interner.meaning c.args.self.now.interner in
     let l : c.args.i < length c.tys.result.now = omega (arith, c.requires.in_bounds, ap count c.tys.ensures, list_count m.ty c.tys.result.now) in
     subst (λ k. IsTrue (known (m.ty k))) (sym (c.dup.ensures ∙ c.index-tys-i.is))
-        (part_known m.ty c.tys.result.now c.args.i c.index-tys-i.result l (subst (λ t. IsTrue (known t)) c.tys.ensures c.requires.tys_known))
+    (part_known m.ty c.tys.result.now c.args.i c.index-tys-i.result l (subst (λ t. IsTrue (known t)) c.tys.ensures c.requires.tys_known))
 
 pub returns-clause-means : goal.returns-clause-means
 returns-clause-means g c =

@@ -14,14 +14,14 @@ returns-in_err-push-clause-goes g c =
 pub returns-clause-lawful : goal.returns-clause-lawful
 returns-clause-lawful g c =
     constraint_lawful (g.I.Interner.meaning c.args.self.now.interner) c.args.self.now.inner (record c.args.self.now.inner { constraints = c.push.new.self }) c.requires.lawful c.args.a.now c.args.b.now c.requires.a_in c.requires.b_in refl refl
-        (c.in_ok-push.ensures.items ∙ ap₂ (λ p q. c.args.self.now.inner.constraints.items ++ Eq (record { 0 = p; 1 = q }) ∷ []) c.dup.ensures c.dup-2.ensures) refl refl
+    (c.in_ok-push.ensures.items ∙ ap₂ (λ p q. c.args.self.now.inner.constraints.items ++ Eq (record { 0 = p; 1 = q }) ∷ []) c.dup.ensures c.dup-2.ensures) refl refl
 
 pub returns-clause-goes : goal.returns-clause-goes
 returns-clause-goes g c =
     constraint_goes (g.I.Interner.meaning c.args.self.now.interner) c.args.self.now.inner (record c.args.self.now.inner { constraints = c.push.new.self }) c.requires.lawful c.args.a.now c.args.b.now c.requires.a_in c.requires.b_in refl refl
-        (c.in_ok-push.ensures.items ∙ ap₂ (λ p q. c.args.self.now.inner.constraints.items ++ Eq (record { 0 = p; 1 = q }) ∷ []) c.dup.ensures c.dup-2.ensures) refl refl
+    (c.in_ok-push.ensures.items ∙ ap₂ (λ p q. c.args.self.now.inner.constraints.items ++ Eq (record { 0 = p; 1 = q }) ∷ []) c.dup.ensures c.dup-2.ensures) refl refl
 
 pub returns-clause-unites : goal.returns-clause-unites
 returns-clause-unites g c =
     constraint_unites (g.I.Interner.meaning c.args.self.now.interner) c.args.self.now.inner (record c.args.self.now.inner { constraints = c.push.new.self }) c.requires.lawful c.args.a.now c.args.b.now c.requires.a_in c.requires.b_in refl refl
-        (c.in_ok-push.ensures.items ∙ ap₂ (λ p q. c.args.self.now.inner.constraints.items ++ Eq (record { 0 = p; 1 = q }) ∷ []) c.dup.ensures c.dup-2.ensures) refl refl
+    (c.in_ok-push.ensures.items ∙ ap₂ (λ p q. c.args.self.now.inner.constraints.items ++ Eq (record { 0 = p; 1 = q }) ∷ []) c.dup.ensures c.dup-2.ensures) refl refl

@@ -27,9 +27,10 @@ returns-then-occurs-clause-lawful g c =
 
 pub returns-then-occurs-clause-answers : goal.returns-then-occurs-clause-answers
 returns-then-occurs-clause-answers g c =
-    let n = g.I.Interner.meaning c.resolve_vars_if_possible.new.self.interner in
-    (subst (Occurs type_var c.args.target.0) c.in_ok-bound.ensures.resolves (c.occurs.ensures.stands c.if-occurs.true),
-     ap (store_of n) c.resolve_vars_if_possible.ensures.inner ∙ store_grows c.resolve_vars_if_possible.ensures.grown c.args.self.now.inner c.requires.lawful)
+    let n = g.I.Interner.meaning c.resolve_vars_if_possible.new.self.interner in (
+      subst (Occurs type_var c.args.target.0) c.in_ok-bound.ensures.resolves (c.occurs.ensures.stands c.if-occurs.true),
+      ap (store_of n) c.resolve_vars_if_possible.ensures.inner ∙ store_grows c.resolve_vars_if_possible.ensures.grown c.args.self.now.inner c.requires.lawful,
+    )
 
 pub returns-clause-lawful : goal.returns-clause-lawful
 returns-clause-lawful g c =
@@ -48,8 +49,8 @@ returns-clause-lawful g c =
     let in_universe : c.universe_of_ty-universe.result.0 ≡ universe_of (store_of n c.resolve_vars_if_possible.new.self.inner) type_var c.args.target.0 = c.universe_of_ty-universe.ensures ∙ ap (λ z. universe_of (store_of z c.resolve_vars_if_possible.new.self.inner) type_var c.args.target.0) (sym e) in
     let left : c.resolve_vars_if_possible.new.self.inner.budget ≡ suc (c.record.new.self.inner.budget - 1) = (let a = ap (λ z. z.budget) c.resolve_vars_if_possible.ensures.inner in let b = c.record.ensures.budget in let d = c.if-self-eq0.false in omega arith) in
     target_lawful grown c.args.self.now.inner c.resolve_vars_if_possible.new.self.inner (record { types = w.types; regions = w.regions; constraints = w.constraints; universe = w.universe; budget = w.budget - 1 }) c.resolve_vars_if_possible.ensures.inner c.requires.lawful
-        c.args.target.0 k c.universe_of_ty-universe.result c.requires.target_made c.requires.target_unbound t c.requires.source_in c.requires.source_formed means (g.met.I.Interner.is_ty c.record.new.self.interner k sure) absent in_universe
-        c.record.ensures.keys (c.record.ensures.values ∙ ap (λ z. set (map (λ t. t.value) c.resolve_vars_if_possible.new.self.inner.types.items) c.args.target.0 (Known z)) c.dup.ensures) c.record.ensures.universes c.record.ensures.regions c.record.ensures.constraints c.record.ensures.universe left
+    c.args.target.0 k c.universe_of_ty-universe.result c.requires.target_made c.requires.target_unbound t c.requires.source_in c.requires.source_formed means (g.met.I.Interner.is_ty c.record.new.self.interner k sure) absent in_universe
+    c.record.ensures.keys (c.record.ensures.values ∙ ap (λ z. set (map (λ t. t.value) c.resolve_vars_if_possible.new.self.inner.types.items) c.args.target.0 (Known z)) c.dup.ensures) c.record.ensures.universes c.record.ensures.regions c.record.ensures.constraints c.record.ensures.universe left
 
 pub returns-clause-answers : goal.returns-clause-answers
 returns-clause-answers g c =
@@ -66,7 +67,10 @@ returns-clause-answers g c =
     let sure : IsTrue (known (n.ty k)) = subst (λ z. IsTrue (known (z.ty k))) (sym e) c.in_ok-bound.ensures.sure in
     let absent : Occurs type_var c.args.target.0 (apply (resolved st) t) → ⊥ = λ h. c.occurs.ensures.absent c.if-occurs.false (subst (Occurs type_var c.args.target.0) (sym c.in_ok-bound.ensures.resolves) h) in
     let in_universe : c.universe_of_ty-universe.result.0 ≡ universe_of (store_of n c.resolve_vars_if_possible.new.self.inner) type_var c.args.target.0 = c.universe_of_ty-universe.ensures ∙ ap (λ z. universe_of (store_of z c.resolve_vars_if_possible.new.self.inner) type_var c.args.target.0) (sym e) in
-    let left : c.resolve_vars_if_possible.new.self.inner.budget ≡ suc (c.record.new.self.inner.budget - 1) = (let a = ap (λ z. z.budget) c.resolve_vars_if_possible.ensures.inner in let b = c.record.ensures.budget in let d = c.if-self-eq0.false in omega arith) in
-    (means, target_bound grown c.args.self.now.inner c.resolve_vars_if_possible.new.self.inner (record { types = w.types; regions = w.regions; constraints = w.constraints; universe = w.universe; budget = w.budget - 1 }) c.resolve_vars_if_possible.ensures.inner c.requires.lawful
-        c.args.target.0 k c.universe_of_ty-universe.result c.requires.target_made c.requires.target_unbound t c.requires.source_in c.requires.source_formed means (g.met.I.Interner.is_ty c.record.new.self.interner k sure) absent in_universe
-        c.record.ensures.keys (c.record.ensures.values ∙ ap (λ z. set (map (λ t. t.value) c.resolve_vars_if_possible.new.self.inner.types.items) c.args.target.0 (Known z)) c.dup.ensures) c.record.ensures.universes c.record.ensures.regions c.record.ensures.constraints c.record.ensures.universe left, absent)
+    let left : c.resolve_vars_if_possible.new.self.inner.budget ≡ suc (c.record.new.self.inner.budget - 1) = (let a = ap (λ z. z.budget) c.resolve_vars_if_possible.ensures.inner in let b = c.record.ensures.budget in let d = c.if-self-eq0.false in omega arith) in (
+      means,
+      target_bound grown c.args.self.now.inner c.resolve_vars_if_possible.new.self.inner (record { types = w.types; regions = w.regions; constraints = w.constraints; universe = w.universe; budget = w.budget - 1 }) c.resolve_vars_if_possible.ensures.inner c.requires.lawful
+          c.args.target.0 k c.universe_of_ty-universe.result c.requires.target_made c.requires.target_unbound t c.requires.source_in c.requires.source_formed means (g.met.I.Interner.is_ty c.record.new.self.interner k sure) absent in_universe
+          c.record.ensures.keys (c.record.ensures.values ∙ ap (λ z. set (map (λ t. t.value) c.resolve_vars_if_possible.new.self.inner.types.items) c.args.target.0 (Known z)) c.dup.ensures) c.record.ensures.universes c.record.ensures.regions c.record.ensures.constraints c.record.ensures.universe left,
+      absent,
+    )

@@ -38,27 +38,27 @@ returns-in-Unknown-clause-sure g c =
     let m = g.I.Interner.meaning c.args.self.now.interner in
     let x = c.args.self.now.inner in
     root_known m x c.requires.lawful (m.ty c.dup-in-Unknown.result) c.root_ty_var-root.result.0
-        (ap m.ty c.dup-in-Unknown.ensures ∙ ap (λ v. m.ty v.key) c.index.ensures ∙ key_of m x c.requires.lawful c.root_ty_var-root.result.0 c.index.result.now c.root_ty_var-root.ensures.made)
+    (ap m.ty c.dup-in-Unknown.ensures ∙ ap (λ v. m.ty v.key) c.index.ensures ∙ key_of m x c.requires.lawful c.root_ty_var-root.result.0 c.index.result.now c.root_ty_var-root.ensures.made)
 
 pub returns-in-Unknown-clause-is_in : goal.returns-in-Unknown-clause-is_in
 returns-in-Unknown-clause-is_in g c =
     let m = g.I.Interner.meaning c.args.self.now.interner in
     let x = c.args.self.now.inner in
     root_in m x c.requires.lawful (m.ty c.dup-in-Unknown.result) c.root_ty_var-root.result.0
-        (ap m.ty c.dup-in-Unknown.ensures ∙ ap (λ v. m.ty v.key) c.index.ensures ∙ key_of m x c.requires.lawful c.root_ty_var-root.result.0 c.index.result.now c.root_ty_var-root.ensures.made)
-        c.root_ty_var-root.ensures.made
+    (ap m.ty c.dup-in-Unknown.ensures ∙ ap (λ v. m.ty v.key) c.index.ensures ∙ key_of m x c.requires.lawful c.root_ty_var-root.result.0 c.index.result.now c.root_ty_var-root.ensures.made)
+    c.root_ty_var-root.ensures.made
 
 pub returns-in-Unknown-clause-same_value : goal.returns-in-Unknown-clause-same_value
 returns-in-Unknown-clause-same_value g c =
     let m = g.I.Interner.meaning c.args.self.now.interner in
     let x = c.args.self.now.inner in
     root_value m x c.requires.lawful (m.ty c.args.ty.now) (m.ty c.dup-in-Unknown.result) _ c.root_ty_var-root.result.0 (c.in-Infer.ensures ∙ c.ty_vid.ensures) c.root_ty_var-root.ensures.leads
-        (ap m.ty c.dup-in-Unknown.ensures ∙ ap (λ v. m.ty v.key) c.index.ensures ∙ key_of m x c.requires.lawful c.root_ty_var-root.result.0 c.index.result.now c.root_ty_var-root.ensures.made)
+    (ap m.ty c.dup-in-Unknown.ensures ∙ ap (λ v. m.ty v.key) c.index.ensures ∙ key_of m x c.requires.lawful c.root_ty_var-root.result.0 c.index.result.now c.root_ty_var-root.ensures.made)
 
 pub returns-in-Unknown-clause-shallow : goal.returns-in-Unknown-clause-shallow
 returns-in-Unknown-clause-shallow g c =
     let m = g.I.Interner.meaning c.args.self.now.interner in
     let x = c.args.self.now.inner in
     root_shallow m x c.requires.lawful (m.ty c.dup-in-Unknown.result) c.root_ty_var-root.result.0
-        (ap m.ty c.dup-in-Unknown.ensures ∙ ap (λ v. m.ty v.key) c.index.ensures ∙ key_of m x c.requires.lawful c.root_ty_var-root.result.0 c.index.result.now c.root_ty_var-root.ensures.made)
-        c.in-Unknown.ensures
+    (ap m.ty c.dup-in-Unknown.ensures ∙ ap (λ v. m.ty v.key) c.index.ensures ∙ key_of m x c.requires.lawful c.root_ty_var-root.result.0 c.index.result.now c.root_ty_var-root.ensures.made)
+    c.in-Unknown.ensures
