@@ -1,8 +1,8 @@
 -- Binding a root to what a type comes to.
-use Rattle.std.proofs.Common.{◌≡◌, ◌≢◌, ℕ, zero, suc, ◌+◌, ◌*◌, ◌<◌, ◌≤◌, refl, sym, ap, ap₂, ◌∙◌, arith, subst, subst₂, List, length, map, set, Result, Ok, Err}
+use Rattle.std.proofs.Common.{◌≡◌, ◌≢◌, ℕ, suc, ◌<◌, ◌≤◌, sym, ap, ◌∙◌, arith, subst, length, map, set, Result, Ok, Err}
 use Rattle.std.specs.Result.{IsErr, IsErrAnd}
 use Rattle.std.proofs.lemmas.Bool.{false≢true}
-use Rattle.relation_terms.specs.Heads.{VarKind, type_var, region_var, type_sort, Leaf, variable, bound, placeholder, atom, unknown}
+use Rattle.relation_terms.specs.Heads.{type_var, region_var, type_sort, variable, bound, placeholder, atom, unknown}
 use Rattle.relation_terms.specs.Trees.{Tree, leaf, node, bind, nil, cons, Assign, apply, Leaves, Occurs, IsTerm, size}
 use Rattle.relation_terms.specs.Meaning.{Meaning, Extends}
 use Rattle.relation_terms.specs.declared.terms.numbers.UniverseIndex.{UniverseIndex}
@@ -10,20 +10,20 @@ use Rattle.relation_terms.specs.declared.terms.keys.TyKey.{TyKey}
 use Rattle.relation_tools.specs.declared.error.RelateFault.{RelateFault}
 use Rattle.relation_tools.specs.declared.error.RelateFault.TheVariants.{Memory, Budget, Unrelated}
 use Rattle.type_relations.specs.Relation.{Interpretation, same}
-use Rattle.type_relations.specs.Stores.{Store, unbound, entry_of, universe_of, IsInScope, IsTermIn, IsSound, MayStandFor, MeetsBindings, Satisfies, resolved, weight}
-use Rattle.type_relations.specs.Steps.{BindsTo, IsLater}
+use Rattle.type_relations.specs.Stores.{Store, unbound, entry_of, universe_of, IsInScope, IsTermIn, IsSound, MeetsBindings, Satisfies, resolved, weight}
+use Rattle.type_relations.specs.Steps.{BindsTo}
 use Rattle.type_relations.specs.Measures.{Goes}
 use Rattle.type_relations.proofs.Resolved.{resolved_value, resolved_twice, cycles_do_not_unify}
 use Rattle.type_relations.proofs.Standing.{term_scope}
 use Rattle.type_relations.proofs.StoreCalls.{resolved_resolves}
 use Rattle.type_relations.proofs.Going.{goes_nowhere}
-use Rattle.type_relations.proofs.Equating.{bound_sound, bound_later, bound_goes, bound_value, bound_keeps}
+use Rattle.type_relations.proofs.Equating.{bound_sound, bound_goes, bound_value, bound_keeps}
 use Rattle.relation_reference.specs.declared.context.inner.TypeVariableValue.TheVariants.{Known}
 use Rattle.relation_reference.specs.declared.context.inner.InferCtxtInner.{InferCtxtInner}
 use Rattle.relation_reference.specs.Tables.{IsFormed, store_of, IsLawful}
 use Rattle.relation_reference.specs.Answers.{Unites, Apart, Answered, Instantiated}
 use Rattle.relation_reference.proofs.Grows.{store_grows, lawful_grows}
-use Rattle.relation_reference.proofs.Writing.{Recorded, binds_to, bind_lawful}
+use Rattle.relation_reference.proofs.Writing.{binds_to, bind_lawful}
 
 pub formed_differs : (n : ℕ) (t : Tree) → IsFormed t → t ≢ leaf (variable type_var n)
 formed_differs n t h e = subst IsFormed e h

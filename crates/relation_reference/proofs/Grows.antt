@@ -1,20 +1,20 @@
 -- A context whose interner has grown is as lawful as it was, and has recorded what it had.
-use Rattle.std.proofs.Common.{◌≡◌, ℕ, zero, suc, ◌<◌, IsTrue, Bool, true, false, ◌&&◌, refl, sym, ap, ap₂, ◌∙◌, subst, arith, List, [], ◌∷◌, length, map, get_or, All, Some}
+use Rattle.std.proofs.Common.{◌≡◌, ℕ, zero, suc, ◌<◌, IsTrue, Bool, true, false, ◌&&◌, refl, sym, ap, ap₂, ◌∙◌, subst, arith, List, [], ◌∷◌, length, map, get_or}
 use Rattle.std.proofs.lemmas.Bool.{false≢true}
 use Rattle.std.proofs.lemmas.List.{get_or-map, length-map}
-use Rattle.relation_terms.specs.Heads.{type_var, region_var, VarKind, variable, bound, placeholder, atom, unknown}
+use Rattle.relation_terms.specs.Heads.{type_var, variable, bound, placeholder, atom, unknown}
 use Rattle.relation_terms.specs.Trees.{Tree, leaf, node, bind, nil, cons, known}
 use Rattle.relation_terms.specs.Meaning.{Meaning, Extends}
 use Rattle.relation_terms.proofs.Stays.{stays_arg}
 use Rattle.relation_terms.specs.declared.predicate.RegionConstraint.{RegionConstraint}
 use Rattle.relation_terms.specs.declared.predicate.RegionConstraint.TheVariants.{Outlives, Eq}
-use Rattle.type_relations.specs.Stores.{Store, Entry, unbound, same_as, bound_to, entry_of, entry_term, bound_term, Constraint, outlives_constraint, equal_constraint, IsSound, InContext, IsTermIn, ConstraintIn}
+use Rattle.type_relations.specs.Stores.{Store, Entry, unbound, bound_to, entry_of, entry_term, Constraint, outlives_constraint, equal_constraint, IsSound, InContext, IsTermIn, ConstraintIn}
 use Rattle.type_relations.proofs.Standing.{term_context}
 use Rattle.relation_reference.specs.declared.context.inner.TypeVariableValue.{TypeVariableValue}
 use Rattle.relation_reference.specs.declared.context.inner.TypeVariableValue.TheVariants.{Unknown, SameAs, Known}
 use Rattle.relation_reference.specs.declared.context.inner.TypeVariable.{TypeVariable}
 use Rattle.relation_reference.specs.declared.context.inner.InferCtxtInner.{InferCtxtInner}
-use Rattle.relation_reference.specs.Tables.{by_kind, IsFormed, entry_of_value, constraint_of, store_of, IsLawful}
+use Rattle.relation_reference.specs.Tables.{by_kind, entry_of_value, constraint_of, store_of, IsLawful}
 
 pub both : (a b : Bool) → IsTrue a → IsTrue b → IsTrue (a && b)
 both true b h k = k

@@ -1,13 +1,12 @@
 -- Relating a root with a type by binding it first.
-use Rattle.std.proofs.Common.{◌≡◌, ◌≢◌, ℕ, zero, suc, ◌+◌, ◌*◌, ◌<◌, ◌≤◌, max, min, refl, sym, ap, ap₂, ◌∙◌, arith, subst, subst₂, Result, Ok, Err, None}
+use Rattle.std.proofs.Common.{◌≡◌, ℕ, suc, ◌+◌, ◌*◌, ◌<◌, ◌≤◌, max, min, refl, sym, ap, ap₂, ◌∙◌, arith, subst, Result, Ok, Err, None}
 use Rattle.std.proofs.Math.Nat.{mul-le-mul}
 use native.Mathlib.Decide.{ℕ_discrete, dec_le}
 use Rattle.relation_terms.specs.Heads.{type_var, region_var, type_sort, variable}
 use Rattle.relation_terms.specs.Trees.{Tree, leaf, Assign, apply, Occurs, IsTerm, size}
-use Rattle.relation_terms.specs.declared.terms.enums.Variance.TheVariants.{Invariant}
 use Rattle.relation_tools.specs.declared.error.RelateFault.{RelateFault}
 use Rattle.relation_tools.specs.declared.error.RelateFault.TheVariants.{Memory, Budget, Unrelated}
-use Rattle.type_relations.specs.Relation.{same, Rel, at}
+use Rattle.type_relations.specs.Relation.{same}
 use Rattle.type_relations.specs.Stores.{Store, unbound, bound_to, entry_of, entry_term, bound_term, IsTermIn, IsSound, resolved, weight, MeetsBindings}
 use Rattle.type_relations.specs.Steps.{BindsTo, Equates}
 use Rattle.type_relations.specs.Measures.{Goes, grown, depth}
@@ -18,7 +17,7 @@ use Rattle.type_relations.proofs.Standing.{later_term}
 use Rattle.type_relations.proofs.StoreCalls.{resolved_resolves}
 use Rattle.type_relations.proofs.Going.{depth-mono, goes_nowhere, goes_within, goes_then}
 use Rattle.type_relations.proofs.Equating.{equated_goes, equated_value, equated_keeps}
-use Rattle.relation_reference.specs.Answers.{IsShallow, root, formed, Unites, Apart, Answered}
+use Rattle.relation_reference.specs.Answers.{IsShallow, root, formed, Unites, Answered}
 use Rattle.relation_reference.specs.Tables.{IsFormed}
 use Rattle.relation_reference.proofs.Binding.{binding_equal, binding_goes_at, binding_unites}
 use Rattle.relation_reference.proofs.Relating.{same_unites}
@@ -50,7 +49,6 @@ variable_weight st n t e h = ap (weight st) e ∙ resolved_weight st type_var n 
 -- The pair that is left after a root was bound to what a type comes to.
 module _ (before after : Store) (n : ℕ) (t u : Tree) (q : BindsTo before after type_var n u) (g : IsSound before) (first : before.universe ≡ 0) (is_in : IsTermIn before t)
     (e : u ≡ apply (resolved before) t) (away : Occurs type_var n (apply (resolved before) t) → ⊥) (stands : IsTerm type_sort u) where
-
   again : apply (resolved before) u ≡ apply (resolved before) t
   again = ap (apply (resolved before)) e ∙ resolved_twice before g t
 

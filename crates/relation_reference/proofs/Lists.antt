@@ -1,7 +1,7 @@
 -- The trees of lists, part by part.
-use Rattle.std.proofs.Common.{◌≡◌, ◌⊎◌, ℕ, zero, suc, ◌+◌, ◌<◌, ◌≤◌, IsTrue, IsFalse, Bool, true, false, ◌&&◌, refl, sym, ap, ap₂, ◌∙◌, inl, inr, subst, arith, List, [], ◌∷◌, ◌++◌, length, get_or, take}
+use Rattle.std.proofs.Common.{◌≡◌, ℕ, zero, suc, ◌<◌, IsTrue, Bool, true, false, ◌&&◌, refl, ap, inl, inr, subst, arith, List, [], ◌∷◌, ◌++◌, length, get_or}
 use Rattle.std.proofs.lemmas.Bool.{and_parts}
-use Rattle.relation_terms.specs.Heads.{VarKind, type_var, region_sort, Head, Admits, head_sort, array, Leaf, variable, bound, placeholder, atom, unknown}
+use Rattle.relation_terms.specs.Heads.{type_var, region_sort, Head, Admits, head_sort, array, variable}
 use Rattle.relation_terms.specs.Trees.{Tree, leaf, node, bind, nil, cons, list_tree, known, size, count, nth, Occurs, IsList, IsTerm, Assign, apply}
 
 pub list_count : {K : Type 0} (f : K → Tree) (xs : List K) → count (list_tree f xs) ≡ length xs

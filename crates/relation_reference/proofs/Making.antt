@@ -1,29 +1,26 @@
 -- New variables, new constraints, and growths that were refused.
-use Rattle.std.proofs.Common.{◌≡◌, ℕ, zero, suc, ◌+◌, ◌<◌, ◌≤◌, refl, sym, ap, ap₂, ◌∙◌, arith, subst, List, [], ◌∷◌, ◌++◌, length, map, get_or, length-append, All, IsTrue, le_refl, false, Result, Ok, Err, OnErr}
+use Rattle.std.proofs.Common.{◌≡◌, ℕ, ◌<◌, ◌≤◌, refl, sym, ap, ap₂, ◌∙◌, arith, subst, List, [], ◌∷◌, ◌++◌, length, map, get_or, length-append, le_refl, false, Result, Ok, Err, OnErr}
 use Rattle.std.proofs.lemmas.List.{map-append, length-map, get_or_append_left}
 use Rattle.std.proofs.Math.Seq.{get_or-append_seam}
 use native.Mathlib.Decide.{ℕ_discrete}
 use Rattle.relation_terms.specs.Heads.{VarKind, type_var, int_var, float_var, const_var, region_var, region_sort, Admits, var_sort, variable, bound, placeholder, atom, unknown}
-use Rattle.relation_terms.specs.Trees.{Tree, leaf, node, bind, nil, cons, IsTerm, Assign, apply, known}
+use Rattle.relation_terms.specs.Trees.{Tree, leaf, node, bind, nil, cons, IsTerm, Assign, apply}
 use Rattle.relation_terms.specs.Meaning.{Meaning, Extends}
 use Rattle.relation_terms.specs.declared.predicate.RegionConstraint.{RegionConstraint}
 use Rattle.relation_terms.specs.declared.predicate.RegionConstraint.TheVariants.{Eq}
 use Rattle.relation_terms.specs.declared.terms.numbers.UniverseIndex.{UniverseIndex}
-use Rattle.relation_terms.specs.declared.terms.keys.TyKey.{TyKey}
 use Rattle.relation_terms.specs.declared.terms.keys.RegionKey.{RegionKey}
-use Rattle.relation_terms.specs.declared.terms.enums.Variance.TheVariants.{Invariant}
 use Rattle.type_relations.specs.Relation.{sort_of, regions, itself}
-use Rattle.type_relations.specs.Stores.{Store, Entry, unbound, bound_to, entry_of, IsMade, IsSound, IsAssignment, IsTermIn, IsRegionIn, Constraint, equal_constraint, ConstraintIn}
+use Rattle.type_relations.specs.Stores.{Store, unbound, entry_of, IsSound, IsAssignment, IsTermIn, IsRegionIn, Constraint, equal_constraint}
 use Rattle.type_relations.specs.Steps.{MakesVariable, AddsConstraint, IsLater}
 use Rattle.type_relations.specs.Measures.{Goes}
 use Rattle.type_relations.proofs.Standing.{made_of_term, stands_term, term_sort_of}
 use Rattle.type_relations.proofs.Growing.{entry_push, made_sound, made_is_later, constraint_sound, constraint_is_later, constraint_bound, constraint_weight, constraint_holds, constraint_keeps}
 use Rattle.type_relations.proofs.Going.{later_itself, goes_nowhere}
-use Rattle.relation_reference.specs.declared.context.inner.TypeVariableValue.{TypeVariableValue}
 use Rattle.relation_reference.specs.declared.context.inner.TypeVariableValue.TheVariants.{Unknown}
 use Rattle.relation_reference.specs.declared.context.inner.TypeVariable.{TypeVariable}
 use Rattle.relation_reference.specs.declared.context.inner.InferCtxtInner.{InferCtxtInner}
-use Rattle.relation_reference.specs.Tables.{by_kind, IsFormed, entry_of_value, constraint_of, store_of, IsLawful}
+use Rattle.relation_reference.specs.Tables.{by_kind, entry_of_value, constraint_of, store_of, IsLawful}
 use Rattle.relation_reference.specs.Answers.{Unites}
 use Rattle.relation_reference.proofs.Grows.{store_grows, lawful_grows}
 

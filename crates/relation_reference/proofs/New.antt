@@ -1,11 +1,11 @@
 -- A context that has recorded nothing.
-use Rattle.std.proofs.Common.{◌≡◌, ℕ, ◌<◌, refl, ap, arith, List, [], length, map, get_or}
+use Rattle.std.proofs.Common.{◌≡◌, refl, ap, arith, [], length, map, get_or}
 use Rattle.relation_terms.specs.Heads.{VarKind, type_var, int_var, float_var, const_var, region_var}
 use Rattle.relation_terms.specs.Meaning.{Meaning}
-use Rattle.type_relations.specs.Stores.{unbound, bound_to, entry_of}
+use Rattle.type_relations.specs.Stores.{unbound}
 use Rattle.type_relations.proofs.Empty.{empty_sound}
 use Rattle.relation_reference.specs.declared.context.inner.InferCtxtInner.{InferCtxtInner}
-use Rattle.relation_reference.specs.Tables.{store_of, IsLawful, entry_of_value, constraint_of}
+use Rattle.relation_reference.specs.Tables.{store_of, IsLawful, constraint_of}
 
 module _ {Key Id Name : Type 0} (m : Meaning Key Id Name) (x : InferCtxtInner Key) (types : x.types.items ≡ []) (regions : x.regions.items ≡ []) (constraints : x.constraints.items ≡ []) where
   entries : (k : VarKind) → (store_of m x).entries k ≡ []

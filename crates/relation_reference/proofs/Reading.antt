@@ -1,5 +1,5 @@
 -- Reading the tables.
-use Rattle.std.proofs.Common.{◌≡◌, ℕ, ◌<◌, IsTrue, refl, sym, ap, ◌∙◌, subst, Some, None, Option, length, get_or, map}
+use Rattle.std.proofs.Common.{◌≡◌, ℕ, ◌<◌, IsTrue, refl, sym, ap, ◌∙◌, subst, length, get_or}
 use Rattle.std.proofs.lemmas.List.{get_or-map, length-map}
 use Rattle.relation_terms.specs.Heads.{type_var, variable}
 use Rattle.relation_terms.specs.Trees.{Tree, leaf, nil, Assign, apply, known}
@@ -7,12 +7,12 @@ use Rattle.relation_terms.specs.Meaning.{Meaning, kind_tree}
 use Rattle.relation_terms.specs.declared.terms.ty_kind.TyKind.{TyKind}
 use Rattle.relation_terms.specs.declared.terms.ty_kind.TyKind.TheVariants.{Bool, Char, Int, Uint, Slice, Tuple, Ref, Infer}
 use Rattle.relation_terms.specs.declared.terms.ty_kind.InferTy.{InferTy}
-use Rattle.type_relations.specs.Stores.{Store, Entry, unbound, same_as, bound_to, entry_of, entry_term, bound_term, MeetsBindings, IsMade, IsSound, IsTermIn}
+use Rattle.type_relations.specs.Stores.{Store, unbound, same_as, bound_to, entry_of, entry_term, MeetsBindings, IsMade, IsSound, IsTermIn}
 use Rattle.type_relations.proofs.Standing.{made_of_term, term_of_made}
 use Rattle.relation_reference.specs.declared.context.inner.TypeVariable.{TypeVariable}
 use Rattle.relation_reference.specs.declared.context.inner.InferCtxtInner.{InferCtxtInner}
 use Rattle.relation_reference.specs.Tables.{IsFormed, store_of, IsLawful}
-use Rattle.relation_reference.specs.Answers.{LeadsTo, here, next, IsRoot, IsShallow, root, formed}
+use Rattle.relation_reference.specs.Answers.{LeadsTo, here, next, IsShallow, root, formed}
 
 pub leads_value : (st : Store) (n m : ℕ) → LeadsTo st n m → (s : Assign) → MeetsBindings st s → s type_var n ≡ s type_var m
 leads_value st n m (here e) s h = ap (s type_var) e

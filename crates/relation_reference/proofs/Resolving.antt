@@ -1,13 +1,13 @@
 -- Parts of types, and resolving them.
-use Rattle.std.proofs.Common.{◌≡◌, ◌≢◌, ℕ, zero, suc, ◌+◌, ◌*◌, ◌≤◌, ◌<◌, refl, sym, ap, ap₂, ◌∙◌, arith, subst, subst₂, IsTrue, true, Some, None, Option, length, List, [], ◌∷◌, ◌++◌}
+use Rattle.std.proofs.Common.{◌≡◌, ℕ, zero, suc, ◌+◌, ◌*◌, ◌<◌, refl, sym, ap, ap₂, ◌∙◌, arith, subst, subst₂, IsTrue, true, None, List, [], ◌∷◌, ◌++◌}
 use Rattle.std.proofs.lemmas.Bool.{and_parts}
 use Rattle.relation_terms.specs.Heads.{VarKind, type_var, int_var, float_var, const_var, region_var, region_sort, var_sort, Admits, Head, Leaf, atom, variable, bound, placeholder, unknown}
-use Rattle.relation_terms.specs.Trees.{Tree, leaf, node, bind, nil, cons, Assign, apply, Leaves, Occurs, size, count, nth, known, list_tree, IsList, IsTerm}
+use Rattle.relation_terms.specs.Trees.{Tree, leaf, node, bind, nil, cons, Assign, apply, Leaves, size, count, nth, known, list_tree, IsTerm}
 use Rattle.relation_terms.specs.Meaning.{Meaning, Extends, infer_tree}
 use Rattle.relation_terms.specs.declared.terms.ty_kind.InferTy.{InferTy}
 use Rattle.relation_terms.specs.declared.terms.ty_kind.InferTy.TheVariants.{TyVar}
 use Rattle.type_relations.specs.Relation.{StaysWithin}
-use Rattle.type_relations.specs.Stores.{Store, entry_term, entry_of, unbound, bound_term, IsNamable, IsMadeLeaf, IsSound, IsTermIn, InContext, resolved, weight, MeetsBindings}
+use Rattle.type_relations.specs.Stores.{Store, entry_term, bound_term, IsNamable, IsMadeLeaf, IsSound, IsTermIn, InContext, resolved, weight, MeetsBindings}
 use Rattle.type_relations.proofs.Resolved.{resolved_free, resolved_alike, weight_alike}
 use Rattle.relation_reference.specs.declared.context.inner.InferCtxtInner.{InferCtxtInner}
 use Rattle.relation_reference.specs.Tables.{IsFormed, store_of, IsLawful}
@@ -15,7 +15,7 @@ use Rattle.relation_reference.specs.Answers.{IsShallow, root, formed}
 use Rattle.relation_terms.proofs.Stays.{stays_list}
 use Rattle.relation_terms.specs.declared.terms.keys.TyKey.{TyKey}
 use Rattle.relation_terms.specs.declared.terms.keys.TysKey.{TysKey}
-use Rattle.relation_reference.proofs.Lists.{no_region_head, firsts, snoc, list_push, firsts_more, firsts_all, apply_snoc, push_known}
+use Rattle.relation_reference.proofs.Lists.{no_region_head, firsts, snoc, list_push, firsts_more, apply_snoc, push_known}
 use Rattle.relation_reference.proofs.Grows.{store_grows, lawful_grows}
 
 -- Parts of a known type are known.

@@ -1,19 +1,17 @@
 -- Writing the tables: what is recorded of one variable, new variables, new constraints.
-use Rattle.std.proofs.Common.{◌≡◌, ◌≢◌, ◌⊎◌, ℕ, zero, suc, ◌+◌, ◌<◌, ◌≤◌, refl, sym, ap, ap₂, ◌∙◌, arith, subst, List, [], ◌∷◌, ◌++◌, length, map, get_or, set, min}
-use Rattle.std.proofs.lemmas.List.{map-set, map-append, set-get_or, length-set, length-map, get_or-map, get_or-set_same, get_or-set_other}
+use Rattle.std.proofs.Common.{◌≡◌, ℕ, suc, ◌<◌, refl, sym, ap, ◌∙◌, arith, subst, List, length, map, get_or, set, min}
+use Rattle.std.proofs.lemmas.List.{map-set, set-get_or, length-set, length-map, get_or-set_same, get_or-set_other}
 use native.Mathlib.Decide.{ℕ_discrete}
-use Rattle.relation_terms.specs.Heads.{VarKind, type_var, int_var, float_var, const_var, region_var, variable}
-use Rattle.relation_terms.specs.Trees.{Tree, leaf, nil, IsTerm}
-use Rattle.relation_terms.specs.Meaning.{Meaning, Extends}
-use Rattle.relation_terms.specs.declared.predicate.RegionConstraint.{RegionConstraint}
+use Rattle.relation_terms.specs.Heads.{VarKind, type_var, int_var, float_var, const_var, region_var}
+use Rattle.relation_terms.specs.Trees.{Tree, nil}
+use Rattle.relation_terms.specs.Meaning.{Meaning}
 use Rattle.relation_terms.specs.declared.terms.numbers.UniverseIndex.{UniverseIndex}
 use Rattle.relation_terms.specs.declared.terms.keys.TyKey.{TyKey}
-use Rattle.type_relations.specs.Stores.{Store, Entry, unbound, same_as, bound_to, entry_of, universe_of, IsMade, IsSound, Constraint, ConstraintIn}
-use Rattle.type_relations.specs.Steps.{WritesEntry, Equates, BindsTo, MakesVariable, AddsConstraint}
-use Rattle.type_relations.proofs.Equating.{equated_sound, bound_sound}
+use Rattle.type_relations.specs.Stores.{Store, Entry, unbound, same_as, bound_to, entry_of, universe_of, IsMade, IsSound}
+use Rattle.type_relations.specs.Steps.{WritesEntry, Equates, BindsTo}
+use Rattle.type_relations.proofs.Equating.{equated_sound}
 use Rattle.relation_reference.specs.declared.context.inner.TypeVariableValue.{TypeVariableValue}
 use Rattle.relation_reference.specs.declared.context.inner.TypeVariableValue.TheVariants.{Unknown, SameAs, Known}
-use Rattle.relation_reference.specs.declared.context.inner.TypeVariable.{TypeVariable}
 use Rattle.relation_reference.specs.declared.context.inner.InferCtxtInner.{InferCtxtInner}
 use Rattle.relation_reference.specs.Tables.{IsFormed, entry_of_value, constraint_of, store_of, IsLawful}
 use Rattle.relation_reference.proofs.Grows.{map-map}

@@ -1,7 +1,7 @@
 -- What calls over a context show.
-use Rattle.std.specs.Prelude.{◌≡◌, ℕ, ◌<◌, ◌≤◌, Result, Ok, Err, Option, Some, None}
+use Rattle.std.specs.Prelude.{◌≡◌, ℕ, ◌<◌, Result, Ok, Err, None}
 use Rattle.relation_terms.specs.Heads.{type_var, variable, tuple}
-use Rattle.relation_terms.specs.Trees.{Tree, leaf, Assign, apply, Leaves, Occurs, nth}
+use Rattle.relation_terms.specs.Trees.{Tree, leaf, Assign, apply, Occurs, nth}
 use Rattle.relation_terms.specs.declared.terms.enums.Variance.TheVariants.{Invariant}
 use Rattle.relation_tools.specs.declared.error.RelateFault.{RelateFault}
 use Rattle.relation_tools.specs.declared.error.RelateFault.TheVariants.{Memory, Budget, Unrelated}

@@ -1,6 +1,6 @@
 -- What the tables of a context mean: the store that they record, and the invariant of a context.
-use Rattle.std.specs.Prelude.{◌≡◌, ℕ, ◌<◌, Bool, false, None, List, [], map, length, All, get_or}
-use Rattle.relation_terms.specs.Heads.{VarKind, type_var, int_var, float_var, const_var, region_var, variable, type_sort, head_sort, atom_sort, Leaf, atom}
+use Rattle.std.specs.Prelude.{◌≡◌, ℕ, ◌<◌, false, None, [], map, length, get_or}
+use Rattle.relation_terms.specs.Heads.{VarKind, type_var, int_var, float_var, const_var, region_var, variable, type_sort, head_sort, atom_sort, atom}
 use Rattle.relation_terms.specs.Trees.{Tree, leaf, node, nil}
 use Rattle.relation_terms.specs.Meaning.{Meaning, arg_tree}
 use Rattle.relation_terms.specs.declared.predicate.RegionConstraint.{RegionConstraint}
@@ -10,7 +10,6 @@ use Rattle.type_relations.specs.Relation.{Items}
 use Rattle.type_relations.specs.Stores.{Store, Entry, entry_of, unbound, same_as, bound_to, Constraint, outlives_constraint, equal_constraint, IsSound}
 use Rattle.relation_reference.specs.declared.context.inner.TypeVariableValue.{TypeVariableValue}
 use Rattle.relation_reference.specs.declared.context.inner.TypeVariableValue.TheVariants.{Unknown, SameAs, Known}
-use Rattle.relation_reference.specs.declared.context.inner.TypeVariable.{TypeVariable}
 use Rattle.relation_reference.specs.declared.context.inner.InferCtxtInner.{InferCtxtInner}
 
 -- One thing for type variables, one for region variables, one for the kinds that the context has none of.

@@ -1,6 +1,6 @@
-use Rattle.std.proofs.Common.{rules, ◌≡◌, sym, ap, ◌∙◌, subst, subst₂, length, arith, IsTrue, ◌<◌, get_or, refl}
+use Rattle.std.proofs.Common.{rules, sym, subst, subst₂, arith, IsTrue, ◌<◌, refl}
 use Rattle.relation_terms.specs.Heads.{type_var}
-use Rattle.relation_terms.specs.Trees.{known, size, Occurs, list_tree}
+use Rattle.relation_terms.specs.Trees.{known, size, Occurs}
 use Rattle.relation_reference.proofs.Lists.{part_known, part_size, part_occurs, none_occurs}
 use Rattle.relation_reference.proofs.context.resolving.+occurs.Goals as goal
 

@@ -1,4 +1,4 @@
-use Rattle.std.proofs.Common.{◌≡◌, ℕ, ◌+◌, ◌*◌, ◌<◌, get_or}
+use Rattle.std.proofs.Common.{ℕ, ◌<◌, get_or}
 use Rattle.relation_terms.specs.Heads.{type_var}
 use Rattle.relation_terms.specs.Trees.{size, Occurs}
 use Rattle.relation_reference.proofs.context.resolving.+occurs.Given as goal

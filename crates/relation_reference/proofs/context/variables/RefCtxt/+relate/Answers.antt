@@ -1,16 +1,16 @@
-use Rattle.std.proofs.Common.{rules, ◌≡◌, ◌+◌, ◌*◌, ◌≤◌, ◌<◌, ℕ, IsTrue, subst, sym, ap, ap₂, ◌∙◌, refl, arith, Err, subst₂}
+use Rattle.std.proofs.Common.{rules, ◌≡◌, ◌+◌, ◌*◌, ◌≤◌, ◌<◌, IsTrue, subst, sym, ap, ap₂, ◌∙◌, arith, subst₂}
 use Rattle.relation_terms.specs.Heads.{type_var, slice, tuple, ref, variable, atom, int_type, uint_type}
 use Rattle.relation_terms.specs.Trees.{Assign, leaf, apply, known, count, nth}
 use Rattle.relation_terms.specs.declared.terms.ty_kind.TyKind.TheVariants.{Bool, Char, Int, Uint, Slice, Tuple, Ref}
 use Rattle.relation_terms.proofs.Stays.{stays_same, extends_on}
-use Rattle.type_relations.specs.Stores.{weight, resolved, IsTermIn, MeetsBindings}
+use Rattle.type_relations.specs.Stores.{weight, IsTermIn, MeetsBindings}
 use Rattle.type_relations.specs.Measures.{Goes, depth, grown}
 use Rattle.type_relations.proofs.Resolved.{weight_alike}
 use Rattle.type_relations.proofs.Standing.{later_term}
 use Rattle.type_relations.proofs.Going.{under, goes_nowhere, goes_within, goes_then, pair_grown, element_under, second_under, goes_both}
 use Rattle.relation_tools.specs.Faults.{KnowsFault}
 use Rattle.relation_reference.specs.Tables.{store_of, IsLawful}
-use Rattle.relation_reference.specs.Answers.{Answered, AnsweredAll, Unites, Apart}
+use Rattle.relation_reference.specs.Answers.{Answered, Unites, Apart}
 use Rattle.relation_reference.proofs.Reading.{made_of_key}
 use Rattle.relation_reference.proofs.Resolving.{known_slice, known_second, known_list, term_slice, term_list, term_second, term_nth, weight_slice, weight_list, weight_pair, weight_nth}
 use Rattle.relation_reference.proofs.Binding.{refused_goes, instantiated_refused, instantiated_refused_back}
@@ -97,7 +97,7 @@ relate_members-relate_tys-requires g t c κs within =
     let ey : y ≡ nth c.loop-i.i us = c.element-y.ensures.means ∙ ap (nth c.loop-i.i) lb in
     let N = weight st ts + weight st us in
     let up : weight now x + weight now y ≤ grown inv.goes.spent N = subst₂ (λ i j. weight now i + weight now j ≤ grown inv.goes.spent N) (sym ex) (sym ey)
-        (pair_grown inv.goes N (nth c.loop-i.i ts) (nth c.loop-i.i us) (omega arith) (let wx = weight_nth st ts c.loop-i.i less in let wy = weight_nth st us c.loop-i.i less' in omega arith)) in
+    (pair_grown inv.goes N (nth c.loop-i.i ts) (nth c.loop-i.i us) (omega arith) (let wx = weight_nth st ts c.loop-i.i less in let wy = weight_nth st us c.loop-i.i less' in omega arith)) in
     let d = c.decreases in
     let small : 4 * depth c.loop-i.self.inner.budget (weight now x + weight now y) + 2 < 4 * depth c.args.self.now.inner.budget N + 3 = element_under inv.goes (weight now x + weight now y) N up in
     let lawful = inv.lawful in
@@ -127,7 +127,7 @@ relate_members-returns-in_err-relate_tys-clause-grown g t c =
     let ey : y ≡ nth c.loop-i.i us = c.element-y.ensures.means ∙ ap (nth c.loop-i.i) lb in
     let N = weight st ts + weight st us in
     let up : weight now x + weight now y ≤ grown inv.goes.spent N = subst₂ (λ i j. weight now i + weight now j ≤ grown inv.goes.spent N) (sym ex) (sym ey)
-        (pair_grown inv.goes N (nth c.loop-i.i ts) (nth c.loop-i.i us) (omega arith) (let wx = weight_nth st ts c.loop-i.i less in let wy = weight_nth st us c.loop-i.i less' in omega arith)) in
+    (pair_grown inv.goes N (nth c.loop-i.i ts) (nth c.loop-i.i us) (omega arith) (let wx = weight_nth st ts c.loop-i.i less in let wy = weight_nth st us c.loop-i.i less' in omega arith)) in
     extends_on inv.grown c.relate_tys.ensures.grown
 
 pub relate_members-returns-in_err-relate_tys-clause-goes : goal.relate_members-returns-in_err-relate_tys-clause-goes
@@ -149,7 +149,7 @@ relate_members-returns-in_err-relate_tys-clause-goes g t c =
     let ey : y ≡ nth c.loop-i.i us = c.element-y.ensures.means ∙ ap (nth c.loop-i.i) lb in
     let N = weight st ts + weight st us in
     let up : weight now x + weight now y ≤ grown inv.goes.spent N = subst₂ (λ i j. weight now i + weight now j ≤ grown inv.goes.spent N) (sym ex) (sym ey)
-        (pair_grown inv.goes N (nth c.loop-i.i ts) (nth c.loop-i.i us) (omega arith) (let wx = weight_nth st ts c.loop-i.i less in let wy = weight_nth st us c.loop-i.i less' in omega arith)) in
+    (pair_grown inv.goes N (nth c.loop-i.i ts) (nth c.loop-i.i us) (omega arith) (let wx = weight_nth st ts c.loop-i.i less in let wy = weight_nth st us c.loop-i.i less' in omega arith)) in
     goes_then inv.goes c.relate_tys.ensures.goes up
 
 pub relate_members-returns-in_err-relate_tys-clause-answers : goal.relate_members-returns-in_err-relate_tys-clause-answers
@@ -171,10 +171,10 @@ relate_members-returns-in_err-relate_tys-clause-answers g t c =
     let ey : y ≡ nth c.loop-i.i us = c.element-y.ensures.means ∙ ap (nth c.loop-i.i) lb in
     let N = weight st ts + weight st us in
     let up : weight now x + weight now y ≤ grown inv.goes.spent N = subst₂ (λ i j. weight now i + weight now j ≤ grown inv.goes.spent N) (sym ex) (sym ey)
-        (pair_grown inv.goes N (nth c.loop-i.i ts) (nth c.loop-i.i us) (omega arith) (let wx = weight_nth st ts c.loop-i.i less in let wy = weight_nth st us c.loop-i.i less' in omega arith)) in
+    (pair_grown inv.goes N (nth c.loop-i.i ts) (nth c.loop-i.i us) (omega arith) (let wx = weight_nth st ts c.loop-i.i less in let wy = weight_nth st us c.loop-i.i less' in omega arith)) in
     let last = store_of (g.I.Interner.meaning c.relate_tys.new.self.interner) c.relate_tys.new.self.inner in
     error_answered_all (Unit {0}) st last ts us c.from_residual.result c.in_err-relate_tys.field-0.0 c.from_residual.ensures.0 c.from_residual.ensures.1
-        (front_error st now c.loop-i.i ts us x y less less' ex ey inv.front (Unit {0}) (Unit {0}) last c.in_err-relate_tys.field-0.0 c.in_err-relate_tys.ensures.answers)
+    (front_error st now c.loop-i.i ts us x y less less' ex ey inv.front (Unit {0}) (Unit {0}) last c.in_err-relate_tys.field-0.0 c.in_err-relate_tys.ensures.answers)
 
 pub relate_members-loop-i-preserved : goal.relate_members-loop-i-preserved
 relate_members-loop-i-preserved g t c =
@@ -195,7 +195,7 @@ relate_members-loop-i-preserved g t c =
     let ey : y ≡ nth c.loop-i.i us = c.element-y.ensures.means ∙ ap (nth c.loop-i.i) lb in
     let N = weight st ts + weight st us in
     let up : weight now x + weight now y ≤ grown inv.goes.spent N = subst₂ (λ i j. weight now i + weight now j ≤ grown inv.goes.spent N) (sym ex) (sym ey)
-        (pair_grown inv.goes N (nth c.loop-i.i ts) (nth c.loop-i.i us) (omega arith) (let wx = weight_nth st ts c.loop-i.i less in let wy = weight_nth st us c.loop-i.i less' in omega arith)) in
+    (pair_grown inv.goes N (nth c.loop-i.i ts) (nth c.loop-i.i us) (omega arith) (let wx = weight_nth st ts c.loop-i.i less in let wy = weight_nth st us c.loop-i.i less' in omega arith)) in
     let last = store_of (g.I.Interner.meaning c.relate_tys.new.self.interner) c.relate_tys.new.self.inner in
     record {
       lawful = c.relate_tys.ensures.lawful;
@@ -320,8 +320,8 @@ relate_tys-returns-in-Some-ty_var-clause-answers g t c =
     let stays : (x ≡ y) → st' ≡ st = λ z. ap (store_of m) (c.equate_ty_vids_raw.ensures.same z) in
     let gone : Goes 0 st st' = roots_goes st st' x y c.requires.lawful.sound stays c.equate_ty_vids_raw.ensures.equates 0 in
     subst (λ z. Unites st (store_of z new) (m.ty c.args.a.now) (m.ty c.args.b.now)) (sym e) (unites_alike st st' (m.ty c.args.a.now) (m.ty c.args.b.now) (leaf (variable type_var x)) (leaf (variable type_var y)) gone.later.shrinks
-        (λ s h. c.shallow_resolve-left.ensures.same_value s h ∙ ap (apply s) c.in-Some.ensures.is) (λ s h. c.shallow_resolve-right.ensures.same_value s h ∙ ap (apply s) c.in-Some-ty_var.ensures.is)
-        (roots_unite st st' x y c.requires.lawful.sound stays c.equate_ty_vids_raw.ensures.equates))
+    (λ s h. c.shallow_resolve-left.ensures.same_value s h ∙ ap (apply s) c.in-Some.ensures.is) (λ s h. c.shallow_resolve-right.ensures.same_value s h ∙ ap (apply s) c.in-Some-ty_var.ensures.is)
+    (roots_unite st st' x y c.requires.lawful.sound stays c.equate_ty_vids_raw.ensures.equates))
 
 pub relate_tys-returns-in_err-bound-in-None-ty_var-clause-goes : goal.relate_tys-returns-in_err-bound-in-None-ty_var-clause-goes
 relate_tys-returns-in_err-bound-in-None-ty_var-clause-goes g t c =
@@ -334,9 +334,9 @@ relate_tys-returns-in_err-bound-in-None-ty_var-clause-goes g t c =
     let sound = c.requires.lawful.sound in
     let N = weight st (m.ty c.args.a.now) + weight st (m.ty c.args.b.now) in
     let above : weight st u + 1 ≤ N =
-        (let wu = weight_alike st sound (m.ty c.args.b.now) u c.shallow_resolve-right.ensures.same_value in
-        let wx = weight_alike st sound (m.ty c.args.a.now) (m.ty c.shallow_resolve-left.result) c.shallow_resolve-left.ensures.same_value in
-        let wv = variable_weight st v (m.ty c.shallow_resolve-left.result) c.in-Some.ensures.is c.shallow_resolve-left.ensures.shallow in omega (arith, wu, wx, wv)) in
+    (let wu = weight_alike st sound (m.ty c.args.b.now) u c.shallow_resolve-right.ensures.same_value in
+    let wx = weight_alike st sound (m.ty c.args.a.now) (m.ty c.shallow_resolve-left.result) c.shallow_resolve-left.ensures.same_value in
+    let wv = variable_weight st v (m.ty c.shallow_resolve-left.result) c.in-Some.ensures.is c.shallow_resolve-left.ensures.shallow in omega (arith, wu, wx, wv)) in
     let var_value : (s : Assign) → MeetsBindings st s → apply s (m.ty c.args.a.now) ≡ apply s (leaf (variable type_var v)) = λ s h. c.shallow_resolve-left.ensures.same_value s h ∙ ap (apply s) c.in-Some.ensures.is in
     let nothing : Goes (weight st u) st mid = refused_goes o st mid v u c.in_err-bound-in-None-ty_var.field-0.0 c.in_err-bound-in-None-ty_var.ensures.answers in
     goes_within (omega (arith, above)) nothing
@@ -352,9 +352,9 @@ relate_tys-returns-in_err-bound-in-None-ty_var-clause-answers g t c =
     let sound = c.requires.lawful.sound in
     let N = weight st (m.ty c.args.a.now) + weight st (m.ty c.args.b.now) in
     let above : weight st u + 1 ≤ N =
-        (let wu = weight_alike st sound (m.ty c.args.b.now) u c.shallow_resolve-right.ensures.same_value in
-        let wx = weight_alike st sound (m.ty c.args.a.now) (m.ty c.shallow_resolve-left.result) c.shallow_resolve-left.ensures.same_value in
-        let wv = variable_weight st v (m.ty c.shallow_resolve-left.result) c.in-Some.ensures.is c.shallow_resolve-left.ensures.shallow in omega (arith, wu, wx, wv)) in
+    (let wu = weight_alike st sound (m.ty c.args.b.now) u c.shallow_resolve-right.ensures.same_value in
+    let wx = weight_alike st sound (m.ty c.args.a.now) (m.ty c.shallow_resolve-left.result) c.shallow_resolve-left.ensures.same_value in
+    let wv = variable_weight st v (m.ty c.shallow_resolve-left.result) c.in-Some.ensures.is c.shallow_resolve-left.ensures.shallow in omega (arith, wu, wx, wv)) in
     let var_value : (s : Assign) → MeetsBindings st s → apply s (m.ty c.args.a.now) ≡ apply s (leaf (variable type_var v)) = λ s h. c.shallow_resolve-left.ensures.same_value s h ∙ ap (apply s) c.in-Some.ensures.is in
     let nothing : Goes (weight st u) st mid = refused_goes o st mid v u c.in_err-bound-in-None-ty_var.field-0.0 c.in_err-bound-in-None-ty_var.ensures.answers in
     answered_alike st mid (m.ty c.args.a.now) (m.ty c.args.b.now) (leaf (variable type_var v)) u c.from_residual.result nothing.later.shrinks var_value c.shallow_resolve-right.ensures.same_value (error_answered (Unit {0}) st mid (leaf (variable type_var v)) u c.from_residual.result c.in_err-bound-in-None-ty_var.field-0.0 c.from_residual.ensures.0 c.from_residual.ensures.1 (instantiated_refused o st mid v u (Unit {0}) c.in_err-bound-in-None-ty_var.field-0.0 c.in-None-ty_var.ensures.formed c.in_err-bound-in-None-ty_var.ensures.answers))
@@ -370,9 +370,9 @@ relate_tys-relate_tys-requires g t c κs within =
     let sound = c.requires.lawful.sound in
     let N = weight st (m.ty c.args.a.now) + weight st (m.ty c.args.b.now) in
     let above : weight st u + 1 ≤ N =
-        (let wu = weight_alike st sound (m.ty c.args.b.now) u c.shallow_resolve-right.ensures.same_value in
-        let wx = weight_alike st sound (m.ty c.args.a.now) (m.ty c.shallow_resolve-left.result) c.shallow_resolve-left.ensures.same_value in
-        let wv = variable_weight st v (m.ty c.shallow_resolve-left.result) c.in-Some.ensures.is c.shallow_resolve-left.ensures.shallow in omega (arith, wu, wx, wv)) in
+    (let wu = weight_alike st sound (m.ty c.args.b.now) u c.shallow_resolve-right.ensures.same_value in
+    let wx = weight_alike st sound (m.ty c.args.a.now) (m.ty c.shallow_resolve-left.result) c.shallow_resolve-left.ensures.same_value in
+    let wv = variable_weight st v (m.ty c.shallow_resolve-left.result) c.in-Some.ensures.is c.shallow_resolve-left.ensures.shallow in omega (arith, wu, wx, wv)) in
     let var_value : (s : Assign) → MeetsBindings st s → apply s (m.ty c.args.a.now) ≡ apply s (leaf (variable type_var v)) = λ s h. c.shallow_resolve-left.ensures.same_value s h ∙ ap (apply s) c.in-Some.ensures.is in
     let k = c.in_ok-bound-in-None-ty_var.bound in
     let r = c.in_ok-bound-in-None-ty_var.ensures.answers in
@@ -399,9 +399,9 @@ relate_tys-returns-in-Some-clause-goes g t c =
     let sound = c.requires.lawful.sound in
     let N = weight st (m.ty c.args.a.now) + weight st (m.ty c.args.b.now) in
     let above : weight st u + 1 ≤ N =
-        (let wu = weight_alike st sound (m.ty c.args.b.now) u c.shallow_resolve-right.ensures.same_value in
-        let wx = weight_alike st sound (m.ty c.args.a.now) (m.ty c.shallow_resolve-left.result) c.shallow_resolve-left.ensures.same_value in
-        let wv = variable_weight st v (m.ty c.shallow_resolve-left.result) c.in-Some.ensures.is c.shallow_resolve-left.ensures.shallow in omega (arith, wu, wx, wv)) in
+    (let wu = weight_alike st sound (m.ty c.args.b.now) u c.shallow_resolve-right.ensures.same_value in
+    let wx = weight_alike st sound (m.ty c.args.a.now) (m.ty c.shallow_resolve-left.result) c.shallow_resolve-left.ensures.same_value in
+    let wv = variable_weight st v (m.ty c.shallow_resolve-left.result) c.in-Some.ensures.is c.shallow_resolve-left.ensures.shallow in omega (arith, wu, wx, wv)) in
     let var_value : (s : Assign) → MeetsBindings st s → apply s (m.ty c.args.a.now) ≡ apply s (leaf (variable type_var v)) = λ s h. c.shallow_resolve-left.ensures.same_value s h ∙ ap (apply s) c.in-Some.ensures.is in
     let k = c.in_ok-bound-in-None-ty_var.bound in
     let r = c.in_ok-bound-in-None-ty_var.ensures.answers in
@@ -423,9 +423,9 @@ relate_tys-returns-in-Some-clause-answers g t c =
     let sound = c.requires.lawful.sound in
     let N = weight st (m.ty c.args.a.now) + weight st (m.ty c.args.b.now) in
     let above : weight st u + 1 ≤ N =
-        (let wu = weight_alike st sound (m.ty c.args.b.now) u c.shallow_resolve-right.ensures.same_value in
-        let wx = weight_alike st sound (m.ty c.args.a.now) (m.ty c.shallow_resolve-left.result) c.shallow_resolve-left.ensures.same_value in
-        let wv = variable_weight st v (m.ty c.shallow_resolve-left.result) c.in-Some.ensures.is c.shallow_resolve-left.ensures.shallow in omega (arith, wu, wx, wv)) in
+    (let wu = weight_alike st sound (m.ty c.args.b.now) u c.shallow_resolve-right.ensures.same_value in
+    let wx = weight_alike st sound (m.ty c.args.a.now) (m.ty c.shallow_resolve-left.result) c.shallow_resolve-left.ensures.same_value in
+    let wv = variable_weight st v (m.ty c.shallow_resolve-left.result) c.in-Some.ensures.is c.shallow_resolve-left.ensures.shallow in omega (arith, wu, wx, wv)) in
     let var_value : (s : Assign) → MeetsBindings st s → apply s (m.ty c.args.a.now) ≡ apply s (leaf (variable type_var v)) = λ s h. c.shallow_resolve-left.ensures.same_value s h ∙ ap (apply s) c.in-Some.ensures.is in
     let k = c.in_ok-bound-in-None-ty_var.bound in
     let r = c.in_ok-bound-in-None-ty_var.ensures.answers in
@@ -435,7 +435,7 @@ relate_tys-returns-in-Some-clause-answers g t c =
     let last = store_of (g.I.Interner.meaning c.relate_tys.new.self.interner) c.relate_tys.new.self.inner in
     let gone : Goes N st last = binding_then_goes st mid v u (o.ty k) r.1 sound first c.shallow_resolve-right.ensures.is_in r.0 r.2 stands last N above (subst (λ z. Goes (weight mid (o.ty k) + weight mid z) mid last) stays c.relate_tys.ensures.goes) in
     answered_alike st last (m.ty c.args.a.now) (m.ty c.args.b.now) (leaf (variable type_var v)) u c.relate_tys.result gone.later.shrinks var_value c.shallow_resolve-right.ensures.same_value
-        (then_answered st mid v u (o.ty k) r.1 sound first c.shallow_resolve-right.ensures.is_in r.0 r.2 stands last c.relate_tys.ensures.goes c.relate_tys.result (subst (λ z. Answered mid last (o.ty k) z c.relate_tys.result) stays c.relate_tys.ensures.answers))
+    (then_answered st mid v u (o.ty k) r.1 sound first c.shallow_resolve-right.ensures.is_in r.0 r.2 stands last c.relate_tys.ensures.goes c.relate_tys.result (subst (λ z. Answered mid last (o.ty k) z c.relate_tys.result) stays c.relate_tys.ensures.answers))
 
 pub relate_tys-returns-in_err-bound-in-Some-ty_var-2-clause-goes : goal.relate_tys-returns-in_err-bound-in-Some-ty_var-2-clause-goes
 relate_tys-returns-in_err-bound-in-Some-ty_var-2-clause-goes g t c =
@@ -448,9 +448,9 @@ relate_tys-returns-in_err-bound-in-Some-ty_var-2-clause-goes g t c =
     let sound = c.requires.lawful.sound in
     let N = weight st (m.ty c.args.a.now) + weight st (m.ty c.args.b.now) in
     let above : weight st u + 1 ≤ N =
-        (let wu = weight_alike st sound (m.ty c.args.a.now) u c.shallow_resolve-left.ensures.same_value in
-        let wx = weight_alike st sound (m.ty c.args.b.now) (m.ty c.shallow_resolve-right.result) c.shallow_resolve-right.ensures.same_value in
-        let wv = variable_weight st v (m.ty c.shallow_resolve-right.result) c.in-Some-ty_var-2.ensures.is c.shallow_resolve-right.ensures.shallow in omega (arith, wu, wx, wv)) in
+    (let wu = weight_alike st sound (m.ty c.args.a.now) u c.shallow_resolve-left.ensures.same_value in
+    let wx = weight_alike st sound (m.ty c.args.b.now) (m.ty c.shallow_resolve-right.result) c.shallow_resolve-right.ensures.same_value in
+    let wv = variable_weight st v (m.ty c.shallow_resolve-right.result) c.in-Some-ty_var-2.ensures.is c.shallow_resolve-right.ensures.shallow in omega (arith, wu, wx, wv)) in
     let var_value : (s : Assign) → MeetsBindings st s → apply s (m.ty c.args.b.now) ≡ apply s (leaf (variable type_var v)) = λ s h. c.shallow_resolve-right.ensures.same_value s h ∙ ap (apply s) c.in-Some-ty_var-2.ensures.is in
     let nothing : Goes (weight st u) st mid = refused_goes o st mid v u c.in_err-bound-in-Some-ty_var-2.field-0.0 c.in_err-bound-in-Some-ty_var-2.ensures.answers in
     goes_within (omega (arith, above)) nothing
@@ -466,9 +466,9 @@ relate_tys-returns-in_err-bound-in-Some-ty_var-2-clause-answers g t c =
     let sound = c.requires.lawful.sound in
     let N = weight st (m.ty c.args.a.now) + weight st (m.ty c.args.b.now) in
     let above : weight st u + 1 ≤ N =
-        (let wu = weight_alike st sound (m.ty c.args.a.now) u c.shallow_resolve-left.ensures.same_value in
-        let wx = weight_alike st sound (m.ty c.args.b.now) (m.ty c.shallow_resolve-right.result) c.shallow_resolve-right.ensures.same_value in
-        let wv = variable_weight st v (m.ty c.shallow_resolve-right.result) c.in-Some-ty_var-2.ensures.is c.shallow_resolve-right.ensures.shallow in omega (arith, wu, wx, wv)) in
+    (let wu = weight_alike st sound (m.ty c.args.a.now) u c.shallow_resolve-left.ensures.same_value in
+    let wx = weight_alike st sound (m.ty c.args.b.now) (m.ty c.shallow_resolve-right.result) c.shallow_resolve-right.ensures.same_value in
+    let wv = variable_weight st v (m.ty c.shallow_resolve-right.result) c.in-Some-ty_var-2.ensures.is c.shallow_resolve-right.ensures.shallow in omega (arith, wu, wx, wv)) in
     let var_value : (s : Assign) → MeetsBindings st s → apply s (m.ty c.args.b.now) ≡ apply s (leaf (variable type_var v)) = λ s h. c.shallow_resolve-right.ensures.same_value s h ∙ ap (apply s) c.in-Some-ty_var-2.ensures.is in
     let nothing : Goes (weight st u) st mid = refused_goes o st mid v u c.in_err-bound-in-Some-ty_var-2.field-0.0 c.in_err-bound-in-Some-ty_var-2.ensures.answers in
     answered_alike st mid (m.ty c.args.a.now) (m.ty c.args.b.now) u (leaf (variable type_var v)) c.from_residual-in_err-bound-in-Some-ty_var-2.result nothing.later.shrinks c.shallow_resolve-left.ensures.same_value var_value (error_answered (Unit {0}) st mid u (leaf (variable type_var v)) c.from_residual-in_err-bound-in-Some-ty_var-2.result c.in_err-bound-in-Some-ty_var-2.field-0.0 c.from_residual-in_err-bound-in-Some-ty_var-2.ensures.0 c.from_residual-in_err-bound-in-Some-ty_var-2.ensures.1 (instantiated_refused_back o st mid v u (Unit {0}) c.in_err-bound-in-Some-ty_var-2.field-0.0 c.in-None.ensures.formed c.in_err-bound-in-Some-ty_var-2.ensures.answers))
@@ -484,9 +484,9 @@ relate_tys-relate_tys-requires-in-Some-ty_var-2 g t c κs within =
     let sound = c.requires.lawful.sound in
     let N = weight st (m.ty c.args.a.now) + weight st (m.ty c.args.b.now) in
     let above : weight st u + 1 ≤ N =
-        (let wu = weight_alike st sound (m.ty c.args.a.now) u c.shallow_resolve-left.ensures.same_value in
-        let wx = weight_alike st sound (m.ty c.args.b.now) (m.ty c.shallow_resolve-right.result) c.shallow_resolve-right.ensures.same_value in
-        let wv = variable_weight st v (m.ty c.shallow_resolve-right.result) c.in-Some-ty_var-2.ensures.is c.shallow_resolve-right.ensures.shallow in omega (arith, wu, wx, wv)) in
+    (let wu = weight_alike st sound (m.ty c.args.a.now) u c.shallow_resolve-left.ensures.same_value in
+    let wx = weight_alike st sound (m.ty c.args.b.now) (m.ty c.shallow_resolve-right.result) c.shallow_resolve-right.ensures.same_value in
+    let wv = variable_weight st v (m.ty c.shallow_resolve-right.result) c.in-Some-ty_var-2.ensures.is c.shallow_resolve-right.ensures.shallow in omega (arith, wu, wx, wv)) in
     let var_value : (s : Assign) → MeetsBindings st s → apply s (m.ty c.args.b.now) ≡ apply s (leaf (variable type_var v)) = λ s h. c.shallow_resolve-right.ensures.same_value s h ∙ ap (apply s) c.in-Some-ty_var-2.ensures.is in
     let k = c.in_ok-bound-in-Some-ty_var-2.bound in
     let r = c.in_ok-bound-in-Some-ty_var-2.ensures.answers in
@@ -513,9 +513,9 @@ relate_tys-returns-in-Some-ty_var-2-clause-goes g t c =
     let sound = c.requires.lawful.sound in
     let N = weight st (m.ty c.args.a.now) + weight st (m.ty c.args.b.now) in
     let above : weight st u + 1 ≤ N =
-        (let wu = weight_alike st sound (m.ty c.args.a.now) u c.shallow_resolve-left.ensures.same_value in
-        let wx = weight_alike st sound (m.ty c.args.b.now) (m.ty c.shallow_resolve-right.result) c.shallow_resolve-right.ensures.same_value in
-        let wv = variable_weight st v (m.ty c.shallow_resolve-right.result) c.in-Some-ty_var-2.ensures.is c.shallow_resolve-right.ensures.shallow in omega (arith, wu, wx, wv)) in
+    (let wu = weight_alike st sound (m.ty c.args.a.now) u c.shallow_resolve-left.ensures.same_value in
+    let wx = weight_alike st sound (m.ty c.args.b.now) (m.ty c.shallow_resolve-right.result) c.shallow_resolve-right.ensures.same_value in
+    let wv = variable_weight st v (m.ty c.shallow_resolve-right.result) c.in-Some-ty_var-2.ensures.is c.shallow_resolve-right.ensures.shallow in omega (arith, wu, wx, wv)) in
     let var_value : (s : Assign) → MeetsBindings st s → apply s (m.ty c.args.b.now) ≡ apply s (leaf (variable type_var v)) = λ s h. c.shallow_resolve-right.ensures.same_value s h ∙ ap (apply s) c.in-Some-ty_var-2.ensures.is in
     let k = c.in_ok-bound-in-Some-ty_var-2.bound in
     let r = c.in_ok-bound-in-Some-ty_var-2.ensures.answers in
@@ -537,9 +537,9 @@ relate_tys-returns-in-Some-ty_var-2-clause-answers g t c =
     let sound = c.requires.lawful.sound in
     let N = weight st (m.ty c.args.a.now) + weight st (m.ty c.args.b.now) in
     let above : weight st u + 1 ≤ N =
-        (let wu = weight_alike st sound (m.ty c.args.a.now) u c.shallow_resolve-left.ensures.same_value in
-        let wx = weight_alike st sound (m.ty c.args.b.now) (m.ty c.shallow_resolve-right.result) c.shallow_resolve-right.ensures.same_value in
-        let wv = variable_weight st v (m.ty c.shallow_resolve-right.result) c.in-Some-ty_var-2.ensures.is c.shallow_resolve-right.ensures.shallow in omega (arith, wu, wx, wv)) in
+    (let wu = weight_alike st sound (m.ty c.args.a.now) u c.shallow_resolve-left.ensures.same_value in
+    let wx = weight_alike st sound (m.ty c.args.b.now) (m.ty c.shallow_resolve-right.result) c.shallow_resolve-right.ensures.same_value in
+    let wv = variable_weight st v (m.ty c.shallow_resolve-right.result) c.in-Some-ty_var-2.ensures.is c.shallow_resolve-right.ensures.shallow in omega (arith, wu, wx, wv)) in
     let var_value : (s : Assign) → MeetsBindings st s → apply s (m.ty c.args.b.now) ≡ apply s (leaf (variable type_var v)) = λ s h. c.shallow_resolve-right.ensures.same_value s h ∙ ap (apply s) c.in-Some-ty_var-2.ensures.is in
     let k = c.in_ok-bound-in-Some-ty_var-2.bound in
     let r = c.in_ok-bound-in-Some-ty_var-2.ensures.answers in
@@ -549,7 +549,7 @@ relate_tys-returns-in-Some-ty_var-2-clause-answers g t c =
     let last = store_of (g.I.Interner.meaning c.relate_tys-in-Some-ty_var-2.new.self.interner) c.relate_tys-in-Some-ty_var-2.new.self.inner in
     let gone : Goes N st last = binding_then_goes_back st mid v u (o.ty k) r.1 sound first c.shallow_resolve-left.ensures.is_in r.0 r.2 stands last N above (subst (λ z. Goes (weight mid z + weight mid (o.ty k)) mid last) stays c.relate_tys-in-Some-ty_var-2.ensures.goes) in
     answered_alike st last (m.ty c.args.a.now) (m.ty c.args.b.now) u (leaf (variable type_var v)) c.relate_tys-in-Some-ty_var-2.result gone.later.shrinks c.shallow_resolve-left.ensures.same_value var_value
-        (then_answered_back st mid v u (o.ty k) r.1 sound first c.shallow_resolve-left.ensures.is_in r.0 r.2 stands last c.relate_tys-in-Some-ty_var-2.ensures.goes c.relate_tys-in-Some-ty_var-2.result (subst (λ z. Answered mid last z (o.ty k) c.relate_tys-in-Some-ty_var-2.result) stays c.relate_tys-in-Some-ty_var-2.ensures.answers))
+    (then_answered_back st mid v u (o.ty k) r.1 sound first c.shallow_resolve-left.ensures.is_in r.0 r.2 stands last c.relate_tys-in-Some-ty_var-2.ensures.goes c.relate_tys-in-Some-ty_var-2.result (subst (λ z. Answered mid last z (o.ty k) c.relate_tys-in-Some-ty_var-2.result) stays c.relate_tys-in-Some-ty_var-2.ensures.answers))
 
 pub relate_tys-structurally_relate_tys-requires : goal.relate_tys-structurally_relate_tys-requires
 relate_tys-structurally_relate_tys-requires g t c κs within =
@@ -901,7 +901,7 @@ structurally_relate_tys-relate_tys-requires-in-Ref g t c κs within =
     let d = c.decreases in
     let second : 4 * depth new.budget (weight mid x + weight mid y) + 3 < 4 * depth c.args.self.now.inner.budget (weight st (m.ty c.args.a.now) + weight st (m.ty c.args.b.now)) + 1 = second_under c.equate_regions.ensures.goes (weight st (m.ty c.args.a.now) + weight st (m.ty c.args.b.now)) x y (omega (arith, wa, wb)) in
     let small : 4 * depth new.budget (weight (store_of n new) (n.ty c.in-Ref.x) + weight (store_of n new) (n.ty c.in-Ref-right.y)) + 2 < 4 * depth c.args.self.now.inner.budget (weight st (m.ty c.args.a.now) + weight st (m.ty c.args.b.now)) + 1 =
-        subst (λ z. 4 * depth new.budget (weight (store_of z new) (z.ty c.in-Ref.x) + weight (store_of z new) (z.ty c.in-Ref-right.y)) + 2 < 4 * depth c.args.self.now.inner.budget (weight st (m.ty c.args.a.now) + weight st (m.ty c.args.b.now)) + 1) (sym e) (omega (arith, second)) in
+    subst (λ z. 4 * depth new.budget (weight (store_of z new) (z.ty c.in-Ref.x) + weight (store_of z new) (z.ty c.in-Ref-right.y)) + 2 < 4 * depth c.args.self.now.inner.budget (weight st (m.ty c.args.a.now) + weight st (m.ty c.args.b.now)) + 1) (sym e) (omega (arith, second)) in
     let lawful : IsLawful n new = subst (λ z. IsLawful z new) (sym e) c.equate_regions.ensures.lawful in
     let a_sure : IsTrue (known (n.ty c.in-Ref.x)) = subst (λ z. IsTrue (known (z.ty c.in-Ref.x))) (sym e) (known_second (ref c.in-Ref.mutability) p x (m.ty c.args.a.now) ea c.requires.a_known) in
     let b_sure : IsTrue (known (n.ty c.in-Ref-right.y)) = subst (λ z. IsTrue (known (z.ty c.in-Ref-right.y))) (sym e) (known_second (ref c.in-Ref-right.other) q y (m.ty c.args.b.now) eb c.requires.b_known) in
@@ -965,4 +965,4 @@ structurally_relate_tys-returns-in_ok-equate_regions-in-Ref-clause-answers g t c
     let gone : Goes (weight mid x + weight mid y) mid last = subst (λ z. Goes (weight (store_of z new) (z.ty c.in-Ref.x) + weight (store_of z new) (z.ty c.in-Ref-right.y)) (store_of z new) last) e c.relate_tys-in-Ref.ensures.goes in
     let same_mutability : c.in-Ref.mutability ≡ c.in-Ref-right.other = (let f = c.if-ne-3.false in search rules) in
     ref_answered st mid last p q x y gone.later.shrinks c.in_ok-equate_regions-in-Ref.ensures.unites c.in-Ref.mutability c.in-Ref-right.other (m.ty c.args.a.now) (m.ty c.args.b.now) c.relate_tys-in-Ref.result same_mutability ea eb
-        (subst (λ z. Answered (store_of z new) last (z.ty c.in-Ref.x) (z.ty c.in-Ref-right.y) c.relate_tys-in-Ref.result) e c.relate_tys-in-Ref.ensures.answers)
+    (subst (λ z. Answered (store_of z new) last (z.ty c.in-Ref.x) (z.ty c.in-Ref-right.y) c.relate_tys-in-Ref.result) e c.relate_tys-in-Ref.ensures.answers)

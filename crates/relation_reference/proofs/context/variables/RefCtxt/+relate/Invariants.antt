@@ -1,4 +1,4 @@
-use Rattle.std.proofs.Common.{◌≡◌, ◌+◌, ◌*◌, ◌<◌, ℕ}
+use Rattle.std.proofs.Common.{◌≡◌, ◌+◌, ◌*◌}
 use Rattle.relation_terms.specs.Trees.{IsList, count}
 use Rattle.relation_terms.specs.Meaning.{Extends}
 use Rattle.type_relations.specs.Stores.{weight}

@@ -1,6 +1,6 @@
-use Rattle.std.proofs.Common.{rules, ◌≡◌, ◌+◌, ◌*◌, ◌<◌, sym, ap, ap₂, ◌∙◌, subst, IsTrue, refl, arith}
+use Rattle.std.proofs.Common.{rules, ◌≡◌, ◌+◌, ◌*◌, ◌<◌, sym, ap, ap₂, ◌∙◌, IsTrue, refl, arith}
 use Rattle.relation_terms.specs.Heads.{atom, bool_type, char_type, int_type, uint_type, slice, tuple, ref}
-use Rattle.relation_terms.specs.Trees.{known, node, cons, nil, leaf, apply, count, list_tree}
+use Rattle.relation_terms.specs.Trees.{known, node, cons, nil, apply, count, list_tree}
 use Rattle.type_relations.specs.Stores.{weight, resolved, IsTermIn}
 use Rattle.relation_terms.proofs.Stays.{stays_same, extends_on}
 use Rattle.relation_reference.specs.Tables.{store_of, IsLawful}

@@ -1,4 +1,4 @@
-use Rattle.std.proofs.Common.{◌≡◌, ℕ, ◌+◌, ◌*◌, ◌<◌, IsTrue}
+use Rattle.std.proofs.Common.{◌≡◌, ◌+◌, ◌*◌, IsTrue}
 use Rattle.relation_terms.specs.Trees.{known, list_tree, count, apply, IsList}
 use Rattle.relation_terms.specs.Meaning.{Extends}
 use Rattle.type_relations.specs.Stores.{weight, resolved}

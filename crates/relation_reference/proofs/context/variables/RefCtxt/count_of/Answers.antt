@@ -1,4 +1,4 @@
-use Rattle.std.proofs.Common.{◌≡◌, sym, ap, ◌∙◌, subst, length, arith}
+use Rattle.std.proofs.Common.{sym, ap, ◌∙◌, subst}
 use Rattle.relation_terms.specs.Trees.{count, IsList}
 use Rattle.relation_reference.proofs.Lists.{list_count, list_is}
 use Rattle.relation_reference.proofs.context.variables.RefCtxt.count_of.Goals as goal

@@ -1,4 +1,4 @@
-use Rattle.std.proofs.Common.{◌≡◌, refl, ap₂, ◌∙◌, ◌++◌, ◌∷◌, []}
+use Rattle.std.proofs.Common.{refl, ap₂, ◌∙◌, ◌++◌, ◌∷◌, []}
 use Rattle.relation_terms.specs.declared.predicate.RegionConstraint.TheVariants.{Eq}
 use Rattle.relation_reference.specs.Tables.{store_of}
 use Rattle.relation_reference.proofs.Making.{same_lawful, same_store, goes_same, constraint_lawful, constraint_goes, constraint_unites}

@@ -1,5 +1,5 @@
 use Rattle.std.proofs.Common.{ap₂, ◌∙◌, min}
-use Rattle.relation_reference.proofs.Writing.{Recorded, link_equates, link_lawful}
+use Rattle.relation_reference.proofs.Writing.{link_equates, link_lawful}
 use Rattle.relation_reference.proofs.context.variables.RefCtxt.link_to.Goals as goal
 
 pub returns-clause-lawful : goal.returns-clause-lawful

@@ -1,4 +1,4 @@
-use Rattle.std.proofs.Common.{◌≡◌, refl, ap, sym, ◌∙◌}
+use Rattle.std.proofs.Common.{refl, ap}
 use Rattle.relation_reference.specs.Tables.{store_of}
 use Rattle.relation_reference.proofs.Making.{on_err, later_same, refused_lawful, refused_later, refused_store, region_made, region_made_later, region_made_lawful}
 use Rattle.relation_reference.proofs.context.variables.RefCtxt.next_region_infer.Goals as goal

@@ -1,5 +1,5 @@
-use Rattle.std.proofs.Common.{refl, ap}
-use Rattle.std.proofs.lemmas.List.{map-set, get_or_read}
+use Rattle.std.proofs.Common.{ap}
+use Rattle.std.proofs.lemmas.List.{map-set}
 use Rattle.std.proofs.Math.Seq.{map-set_same}
 use Rattle.relation_reference.proofs.context.variables.RefCtxt.record.Goals as goal
 

@@ -1,4 +1,4 @@
-use Rattle.std.proofs.Common.{ℕ, ◌<◌, length}
+use Rattle.std.proofs.Common.{◌<◌, length}
 use Rattle.relation_reference.specs.Tables.{store_of}
 use Rattle.relation_reference.specs.Answers.{LeadsTo}
 use Rattle.relation_reference.proofs.context.variables.RefCtxt.root_ty_var.Given as goal

@@ -1,10 +1,7 @@
-use Rattle.std.proofs.Common.{refl, sym, ap, ◌∙◌, ◌≡◌}
-use Rattle.relation_terms.specs.Heads.{type_var, variable}
-use Rattle.relation_terms.specs.Trees.{leaf}
+use Rattle.std.proofs.Common.{sym, ap, ◌∙◌}
 use Rattle.relation_reference.specs.Tables.{store_of}
-use Rattle.relation_reference.specs.Answers.{formed}
 use Rattle.relation_reference.proofs.Grows.{known_bound, known_of_term}
-use Rattle.relation_reference.proofs.Reading.{key_of, made_of_key, root_value, bound_root_value, root_shallow, bound_shallow, root_in, root_known, formed_kind}
+use Rattle.relation_reference.proofs.Reading.{key_of, made_of_key, root_value, bound_root_value, root_shallow, bound_shallow, root_in, root_known}
 use Rattle.relation_reference.proofs.context.variables.RefCtxt.shallow_resolve.Goals as goal
 
 pub root_ty_var-root-requires-clause-made : goal.root_ty_var-root-requires-clause-made
