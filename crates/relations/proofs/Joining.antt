@@ -7,6 +7,7 @@ use Rattle.relation_terms.specs.Trees.{Tree, leaf, node, nil, cons, known, list_
 use Rattle.relation_terms.specs.Meaning.{Meaning, Extends}
 use Rattle.relation_terms.specs.declared.terms.keys.TyKey.{TyKey}
 use Rattle.relation_terms.proofs.Stays.{knows_as, stays_list}
+use Rattle.type_relations.specs.Relation.{IsValueAtom}
 use Rattle.type_relations.specs.Stores.{Store, IsMade, IsTermIn, InContext, IsRegionIn, ConstraintIn}
 use Rattle.relation_terms.specs.declared.predicate.RegionConstraint.{RegionConstraint}
 use Rattle.relation_reference.specs.declared.context.inner.TypeVariable.{TypeVariable}
@@ -17,32 +18,32 @@ use Rattle.relation_reference.proofs.Grows.{term_grows, both, known_of_term, kno
 use Rattle.relation_reference.proofs.Reading.{key_of, root_in, root_known}
 
 module _ (st : Store) where
-  pub atom_in : (x : Atom) → IsTermIn st (leaf (atom x))
+  pub atom_in : (x : Atom) → IsValueAtom x → IsTermIn st (leaf (atom x))
   unfolding IsTermIn InContext
-  atom_in x = (tt, tt)
+  atom_in x h = (h, tt, tt)
 
   pub nil_in : IsTermIn st nil
   unfolding IsTermIn InContext
-  nil_in = (tt, tt)
+  nil_in = (tt, tt, tt)
 
   pub cons_in : (t ts : Tree) → IsTermIn st t → IsTermIn st ts → IsTermIn st (cons t ts)
   unfolding IsTermIn InContext
-  cons_in t ts h k = ((h.0, k.0), (h.1, k.1))
+  cons_in t ts h k = ((h.0, k.0), (h.1, k.1), (h.2, k.2))
 
   pub node_in : (a : Head) (ts : Tree) → IsTermIn st ts → IsTermIn st (node a ts)
   unfolding IsTermIn InContext
-  node_in a ts h = (h.0, h.1)
+  node_in a ts h = (h.0, h.1, h.2)
 
   pub variable_in : (k : VarKind) (n : ℕ) → IsMade st k n → IsTermIn st (leaf (variable k n))
   unfolding IsTermIn InContext
-  variable_in k n h = (h, tt)
+  variable_in k n h = (h, tt, tt)
 
   snoc_parts : {A : Type 0} (f : A → Tree) (xs : List A) (x : A) → IsTermIn st (list_tree f xs) → IsTermIn st (f x) → IsTermIn st (list_tree f (xs ++ x ∷ []))
   unfolding IsTermIn InContext
-  snoc_parts f [] x h k = ((k.0, tt), (k.1, tt))
+  snoc_parts f [] x h k = ((k.0, tt), (k.1, tt), (k.2, tt))
   snoc_parts f (y ∷ ys) x h k =
-      let r = snoc_parts f ys x (h.0.1, h.1.1) k in
-      ((h.0.0, r.0), (h.1.0, r.1))
+      let r = snoc_parts f ys x (h.0.1, h.1.1, h.2.1) k in
+      ((h.0.0, r.0), (h.1.0, r.1), (h.2.0, r.2))
 
   pub snoc_in : {A : Type 0} (f : A → Tree) (xs : List A) (x : A) → IsTermIn st (list_tree f xs) → IsTermIn st (f x) → IsTermIn st (list_tree f (xs ++ x ∷ []))
   snoc_in f xs x h k = snoc_parts f xs x h k

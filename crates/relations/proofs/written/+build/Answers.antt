@@ -7,13 +7,13 @@ use Rattle.relations.proofs.Joining.{atom_in, nil_in, cons_in, node_in, ty_in, l
 use Rattle.relations.proofs.written.+build.Goals as goal
 
 pub build-make_ty-requires-clause-form_in : goal.build-make_ty-requires-clause-form_in
-build-make_ty-requires-clause-form_in g t c = atom_in _ _
+build-make_ty-requires-clause-form_in g t c = atom_in _ _ tt
 
 pub build-make_ty-requires-in-Char-clause-form_in : goal.build-make_ty-requires-in-Char-clause-form_in
-build-make_ty-requires-in-Char-clause-form_in g t c = atom_in _ _
+build-make_ty-requires-in-Char-clause-form_in g t c = atom_in _ _ tt
 
 pub build-make_ty-requires-in-Uint-clause-form_in : goal.build-make_ty-requires-in-Uint-clause-form_in
-build-make_ty-requires-in-Uint-clause-form_in g t c = atom_in _ _
+build-make_ty-requires-in-Uint-clause-form_in g t c = atom_in _ _ tt
 
 pub build-make_ty-requires-in-Slice-clause-form_in : goal.build-make_ty-requires-in-Slice-clause-form_in
 build-make_ty-requires-in-Slice-clause-form_in g t c =
