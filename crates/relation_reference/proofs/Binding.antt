@@ -1,5 +1,5 @@
 -- Binding a root to what a type comes to.
-use Rattle.std.proofs.Common.{◌≡◌, ◌≢◌, ℕ, suc, ◌<◌, ◌≤◌, sym, ap, ◌∙◌, arith, subst, length, map, set, Result, Ok, Err}
+use Rattle.std.proofs.Common.{◌≡◌, ◌≢◌, ℕ, suc, ◌<◌, ◌≤◌, refl, sym, ap, ◌∙◌, arith, subst, length, map, set, Result, Ok, Err}
 use Rattle.std.specs.Result.{IsErr, IsErrAnd}
 use Rattle.std.proofs.lemmas.Bool.{false≢true}
 use Rattle.relation_terms.specs.Heads.{type_var, region_var, type_sort, variable, bound, placeholder, atom, unknown}
@@ -13,6 +13,8 @@ use Rattle.type_relations.specs.Relation.{Interpretation, same}
 use Rattle.type_relations.specs.Stores.{Store, unbound, entry_of, universe_of, IsInScope, IsTermIn, IsSound, MeetsBindings, Satisfies, resolved, weight}
 use Rattle.type_relations.specs.Steps.{BindsTo}
 use Rattle.type_relations.specs.Measures.{Goes}
+use Rattle.type_relations.specs.Outcomes.{NoEqualTerms}
+use Rattle.type_relations.specs.Errors.{of_cycle, of_cycle_back}
 use Rattle.type_relations.proofs.Resolved.{resolved_value, resolved_twice, cycles_do_not_unify}
 use Rattle.type_relations.proofs.Standing.{term_scope}
 use Rattle.type_relations.proofs.StoreCalls.{resolved_resolves}
@@ -21,7 +23,7 @@ use Rattle.type_relations.proofs.Equating.{bound_sound, bound_goes, bound_value,
 use Rattle.relation_reference.specs.declared.context.inner.TypeVariableValue.TheVariants.{Known}
 use Rattle.relation_reference.specs.declared.context.inner.InferCtxtInner.{InferCtxtInner}
 use Rattle.relation_reference.specs.Tables.{IsFormed, store_of, IsLawful}
-use Rattle.relation_reference.specs.Answers.{Unites, Apart, Answered, Instantiated}
+use Rattle.relation_reference.specs.Answers.{Unites, Answered, Instantiated}
 use Rattle.relation_reference.proofs.Grows.{store_grows, lawful_grows}
 use Rattle.relation_reference.proofs.Writing.{binds_to, bind_lawful}
 
@@ -40,7 +42,7 @@ formed_applied s nil h = absurd h
 formed_applied s (cons t u) h = absurd h
 
 -- No value of a root is that of a type below whose form it stands.
-pub cycle_apart : (st : Store) (n : ℕ) (t : Tree) → IsFormed t → Occurs type_var n (apply (resolved st) t) → Apart st (leaf (variable type_var n)) t
+pub cycle_apart : (st : Store) (n : ℕ) (t : Tree) → IsFormed t → Occurs type_var n (apply (resolved st) t) → NoEqualTerms st (leaf (variable type_var n)) t
 cycle_apart st n t f o = λ w s sat e. cycles_do_not_unify st type_var n t o (formed_differs n (apply (resolved st) t) (formed_applied (resolved st) t f)) s sat.bindings e
 
 -- A store after a root was bound to what a type comes to.
@@ -124,13 +126,13 @@ module _ {Key Id Name : Type 0} {m n : Meaning Key Id Name} (grown : Extends m n
 
 -- What binding a root answers, by the bound type's side.
 module _ {Key Id Name : Type 0} (m : Meaning Key Id Name) (before after : Store) (n : ℕ) (t : Tree) where
-  pub instantiated_refused : (X : Type 0) (f : RelateFault Key) → IsFormed t → Instantiated m before after n t (Err f) → Answered {X = X} before after (leaf (variable type_var n)) t (Err f)
-  instantiated_refused X (Unrelated a) f h = cycle_apart before n t f h.0
+  pub instantiated_refused : (X : Type 0) (f : RelateFault Key) → IsFormed t → Instantiated m before after n t (Err f) → Answered {X = X} m before after (leaf (variable type_var n)) t (Err f)
+  instantiated_refused X (Unrelated a) f h = (cycle_apart before n t f (subst (Occurs type_var n) h.2 h.3), of_cycle n h.0 refl (h.2 ∙ ap (λ st. apply (resolved st) t) (sym h.4)) h.3 h.1)
   instantiated_refused X Budget f h = ap (λ st. st.budget) h.1 ∙ h.0
   instantiated_refused X Memory f h = tt
 
-  pub instantiated_refused_back : (X : Type 0) (f : RelateFault Key) → IsFormed t → Instantiated m before after n t (Err f) → Answered {X = X} before after t (leaf (variable type_var n)) (Err f)
-  instantiated_refused_back X (Unrelated a) f h = λ w s sat e. cycle_apart before n t f h.0 w s sat (sym e)
+  pub instantiated_refused_back : (X : Type 0) (f : RelateFault Key) → IsFormed t → Instantiated m before after n t (Err f) → Answered {X = X} m before after t (leaf (variable type_var n)) (Err f)
+  instantiated_refused_back X (Unrelated a) f h = (λ w s sat e. cycle_apart before n t f (subst (Occurs type_var n) h.2 h.3) w s sat (sym e), of_cycle_back n h.0 refl (h.2 ∙ ap (λ st. apply (resolved st) t) (sym h.4)) h.3 h.1)
   instantiated_refused_back X Budget f h = ap (λ st. st.budget) h.1 ∙ h.0
   instantiated_refused_back X Memory f h = tt
 
@@ -141,6 +143,6 @@ module _ {Key Id Name : Type 0} (m : Meaning Key Id Name) (before after : Store)
   memory_instantiated (Err (Unrelated a)) h p e = absurd (cc)
 
   pub refused_goes : (f : RelateFault Key) → Instantiated m before after n t (Err f) → Goes (weight before t) before after
-  refused_goes (Unrelated a) h = subst (Goes (weight before t) before) (sym h.1) (goes_nowhere (weight before t) before)
+  refused_goes (Unrelated a) h = subst (Goes (weight before t) before) (sym h.4) (goes_nowhere (weight before t) before)
   refused_goes Budget h = subst (Goes (weight before t) before) (sym h.1) (goes_nowhere (weight before t) before)
   refused_goes Memory h = subst (Goes (weight before t) before) (sym h) (goes_nowhere (weight before t) before)

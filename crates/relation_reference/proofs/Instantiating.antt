@@ -3,6 +3,7 @@ use Rattle.std.proofs.Common.{◌≡◌, ℕ, suc, ◌+◌, ◌*◌, ◌<◌, �
 use Rattle.std.proofs.Math.Nat.{mul-le-mul}
 use native.Mathlib.Decide.{ℕ_discrete, dec_le}
 use Rattle.relation_terms.specs.Heads.{type_var, region_var, type_sort, variable}
+use Rattle.relation_terms.specs.Meaning.{Meaning}
 use Rattle.relation_terms.specs.Trees.{Tree, leaf, Assign, apply, Occurs, IsTerm, size}
 use Rattle.relation_tools.specs.declared.error.RelateFault.{RelateFault}
 use Rattle.relation_tools.specs.declared.error.RelateFault.TheVariants.{Memory, Budget, Unrelated}
@@ -10,6 +11,8 @@ use Rattle.type_relations.specs.Relation.{same}
 use Rattle.type_relations.specs.Stores.{Store, unbound, bound_to, entry_of, entry_term, bound_term, IsTermIn, IsSound, resolved, weight, MeetsBindings}
 use Rattle.type_relations.specs.Steps.{BindsTo, Equates}
 use Rattle.type_relations.specs.Measures.{Goes, grown, depth}
+use Rattle.type_relations.specs.Errors.{IsReadAs, itself, of_entries}
+use Rattle.type_relations.proofs.ReadAs.{read_later, read_bound}
 use Rattle.type_relations.proofs.Only.{absent}
 use Rattle.type_relations.proofs.Resolved.{resolved_value, resolved_twice, resolved_weight}
 use Rattle.type_relations.proofs.Written.{resolved_later}
@@ -19,7 +22,7 @@ use Rattle.type_relations.proofs.Going.{depth-mono, goes_nowhere, goes_within, g
 use Rattle.type_relations.proofs.Equating.{equated_goes, equated_value, equated_keeps}
 use Rattle.relation_reference.specs.Answers.{IsShallow, root, formed, Unites, Answered}
 use Rattle.relation_reference.specs.Tables.{IsFormed}
-use Rattle.relation_reference.proofs.Binding.{binding_equal, binding_goes_at, binding_unites}
+use Rattle.relation_reference.proofs.Binding.{binding_sound, binding_equal, binding_goes_at, binding_unites}
 use Rattle.relation_reference.proofs.Relating.{same_unites}
 
 pub square_above : (W N M : ℕ) → M ≡ W + W → W + 1 ≤ N → M ≤ N * N
@@ -95,23 +98,31 @@ module _ (before after : Store) (n : ℕ) (t u : Tree) (q : BindsTo before after
   value s h = ap (apply s) e ∙ sym (resolved_value before s h t)
 
   module _ (last : Store) {M : ℕ} (goes : Goes M after last) where
-    pub then_answered : {X K : Type 0} (r : Result X (RelateFault K)) → Answered after last u t r → Answered before last (leaf (variable type_var n)) t r
-    then_answered (Ok x) h = record {
-      relates = λ c v w s sat. united.relates c v w s (goes.later.shrinks w s sat);
-      keeps = λ w s sat z. h.keeps w s (united.keeps w s sat z) (value s sat.bindings);
-    }
-    then_answered (Err Memory) h = tt
-    then_answered (Err Budget) h = h
-    then_answered (Err (Unrelated f)) h = λ w s sat z. h w s (united.keeps w s sat z) (value s sat.bindings)
+    after_sound : IsSound after
+    after_sound = binding_sound before after n t u q g first is_in e away stands
 
-    pub then_answered_back : {X K : Type 0} (r : Result X (RelateFault K)) → Answered after last t u r → Answered before last t (leaf (variable type_var n)) r
-    then_answered_back (Ok x) h = record {
-      relates = λ c v w s sat. same (sym (binding_equal before after n t u q g first is_in e away stands w s (goes.later.shrinks w s sat)));
-      keeps = λ w s sat z. h.keeps w s (united.keeps w s sat (sym z)) (sym (value s sat.bindings));
-    }
-    then_answered_back (Err Memory) h = tt
-    then_answered_back (Err Budget) h = h
-    then_answered_back (Err (Unrelated f)) h = λ w s sat z. h w s (united.keeps w s sat (sym z)) (sym (value s sat.bindings))
+    -- The root is read as the bound type.
+    reads : IsReadAs last (leaf (variable type_var n)) u
+    reads = read_later after last after_sound goes.later (leaf (variable type_var n)) u (read_bound after n u q.writes.written)
+
+    module _ {Key Id Name : Type 0} (m : Meaning Key Id Name) where
+      pub then_answered : {X : Type 0} (r : Result X (RelateFault Key)) → Answered m after last u t r → Answered m before last (leaf (variable type_var n)) t r
+      then_answered (Ok x) h = record {
+        relates = λ c v w s sat. united.relates c v w s (goes.later.shrinks w s sat);
+        keeps = λ w s sat z. h.keeps w s (united.keeps w s sat z) (value s sat.bindings);
+      }
+      then_answered (Err Memory) h = tt
+      then_answered (Err Budget) h = h
+      then_answered (Err (Unrelated f)) h = (λ w s sat z. h.0 w s (united.keeps w s sat z) (value s sat.bindings), of_entries reads (itself refl) h.1)
+
+      pub then_answered_back : {X : Type 0} (r : Result X (RelateFault Key)) → Answered m after last t u r → Answered m before last t (leaf (variable type_var n)) r
+      then_answered_back (Ok x) h = record {
+        relates = λ c v w s sat. same (sym (binding_equal before after n t u q g first is_in e away stands w s (goes.later.shrinks w s sat)));
+        keeps = λ w s sat z. h.keeps w s (united.keeps w s sat (sym z)) (sym (value s sat.bindings));
+      }
+      then_answered_back (Err Memory) h = tt
+      then_answered_back (Err Budget) h = h
+      then_answered_back (Err (Unrelated f)) h = (λ w s sat z. h.0 w s (united.keeps w s sat (sym z)) (sym (value s sat.bindings)), of_entries (itself refl) reads h.1)
 
 -- Two roots were made one.
 module _ (before after : Store) (x y : ℕ) (g : IsSound before) (stays : x ≡ y → after ≡ before) (q : (x ≡ y → ⊥) → Equates before after type_var (max x y) (min x y)) where

@@ -21,97 +21,73 @@ use Rattle.relation_tools.specs.declared.error.RelateFault.{RelateFault}
 use Rattle.relation_tools.specs.declared.error.TypeError.{TypeError}
 use Rattle.relation_tools.specs.declared.error.RelateFault.TheVariants.{Memory, Budget, Unrelated}
 use Rattle.type_relations.specs.Relation.{Items, Interpretation, Rel, at, parts, same, forms, no_parts, next_part}
-use Rattle.type_relations.specs.Stores.{Store, Satisfies, MeetsBindings, OnlyShrinks, IsTermIn, IsRegionIn}
+use Rattle.type_relations.specs.Stores.{Store, Satisfies, OnlyShrinks, IsTermIn, IsRegionIn, IsSound}
+use Rattle.type_relations.specs.Steps.{IsLater}
+use Rattle.type_relations.specs.Outcomes.{NoEqualTerms}
+use Rattle.type_relations.specs.Errors.{IsReadAs, ErrorOf, of_entries, of_parts}
+use Rattle.type_relations.proofs.ReadAs.{read_value, read_later}
 use Rattle.relation_reference.proofs.Resolving.{term_first}
-use Rattle.relation_reference.specs.Tables.{IsFormed}
-use Rattle.relation_reference.specs.Answers.{Unites, UnitesAll, Apart, Answered, AnsweredAll, IsFront}
+use Rattle.relation_reference.specs.Answers.{Unites, UnitesAll, Answered, AnsweredAll, IsFront}
 
 pub same_unites : (st : Store) (a b : Tree) → a ≡ b → Unites st st a b
 same_unites st a b e = record { relates = λ c v w s h. same (ap (apply s) e); keeps = λ w s h q. h }
 
--- Terms of the same values are related alike.
-pub unites_alike : (before after : Store) (a b a' b' : Tree) → OnlyShrinks before after → ((s : Assign) → MeetsBindings before s → apply s a ≡ apply s a') → ((s : Assign) → MeetsBindings before s → apply s b ≡ apply s b') → Unites before after a' b' → Unites before after a b
+-- Terms that are read as others are related as these are.
+pub unites_alike : (before after : Store) (a b a' b' : Tree) → OnlyShrinks before after → IsReadAs before a a' → IsReadAs before b b' → Unites before after a' b' → Unites before after a b
 unites_alike before after a b a' b' shrinks p q h = record {
-  relates = λ c e w s sat. let m = (shrinks w s sat).bindings in subst₂ (λ x y. Rel c w e (at Invariant) x y) (sym (p s m)) (sym (q s m)) (h.relates c e w s sat);
-  keeps = λ w s sat e. h.keeps w s sat (sym (p s sat.bindings) ∙ e ∙ q s sat.bindings);
+  relates = λ c e w s sat. let m = (shrinks w s sat).bindings in subst₂ (λ x y. Rel c w e (at Invariant) x y) (sym (read_value before s m a a' p)) (sym (read_value before s m b b' q)) (h.relates c e w s sat);
+  keeps = λ w s sat e. h.keeps w s sat (sym (read_value before s sat.bindings a a' p) ∙ e ∙ read_value before s sat.bindings b b' q);
 }
 
-pub answered_alike : {X K : Type 0} (before after : Store) (a b a' b' : Tree) (r : Result X (RelateFault K)) → OnlyShrinks before after → ((s : Assign) → MeetsBindings before s → apply s a ≡ apply s a') → ((s : Assign) → MeetsBindings before s → apply s b ≡ apply s b') → Answered before after a' b' r → Answered before after a b r
-answered_alike before after a b a' b' (Ok x) shrinks p q h = unites_alike before after a b a' b' shrinks p q h
-answered_alike before after a b a' b' (Err Memory) shrinks p q h = tt
-answered_alike before after a b a' b' (Err Budget) shrinks p q h = h
-answered_alike before after a b a' b' (Err (Unrelated f)) shrinks p q h = λ w s sat e. h w s sat (sym (p s sat.bindings) ∙ e ∙ q s sat.bindings)
-
--- Forms.
-module _ (before after : Store) (x y : Tree) where
-  slice_forms : {X K : Type 0} (r : Result X (RelateFault K)) → Answered before after x y r → Answered before after (node slice (cons x nil)) (node slice (cons y nil)) r
-  slice_forms (Ok v) h = record { relates = λ c u w s sat. forms tt refl (next_part (h.relates c u w s sat) no_parts); keeps = λ w s sat q. h.keeps w s sat (cc) }
-  slice_forms (Err Memory) h = tt
-  slice_forms (Err Budget) h = h
-  slice_forms (Err (Unrelated f)) h = λ w s sat q. h w s sat (cc)
-
-  pub slice_answered : {X K : Type 0} (a b : Tree) (r : Result X (RelateFault K)) → a ≡ node slice (cons x nil) → b ≡ node slice (cons y nil) → Answered before after x y r → Answered before after a b r
-  slice_answered a b r e d h = subst₂ (λ u v. Answered before after u v r) (sym e) (sym d) (slice_forms r h)
-
-  tuple_forms : {X K : Type 0} (r : Result X (RelateFault K)) → AnsweredAll before after x y r → Answered before after (node tuple x) (node tuple y) r
-  tuple_forms (Ok v) h = record { relates = λ c u w s sat. forms tt refl (h.relates c u w s sat); keeps = λ w s sat q. h.keeps w s sat (cc) }
-  tuple_forms (Err Memory) h = tt
-  tuple_forms (Err Budget) h = h
-  tuple_forms (Err (Unrelated f)) h = λ w s sat q. h w s sat (cc)
-
-  pub tuple_answered : {X K : Type 0} (a b : Tree) (r : Result X (RelateFault K)) → a ≡ node tuple x → b ≡ node tuple y → AnsweredAll before after x y r → Answered before after a b r
-  tuple_answered a b r e d h = subst₂ (λ u v. Answered before after u v r) (sym e) (sym d) (tuple_forms r h)
-
-module _ (before middle after : Store) (p q x y : Tree) (shrinks : OnlyShrinks middle after) (f : Unites before middle p q) where
-  ref_unites : (u : Mutability) → Unites middle after x y → Unites before after (node (ref u) (cons p (cons x nil))) (node (ref u) (cons q (cons y nil)))
-  ref_unites Mut h = record {
-    relates = λ c v w s sat. forms tt refl (next_part (f.relates c v w s (shrinks w s sat)) (next_part (h.relates c v w s sat) no_parts));
-    keeps = λ w s sat z. h.keeps w s (f.keeps w s sat (cc)) (cc);
-  }
-  ref_unites Not h = record {
-    relates = λ c v w s sat. forms tt refl (next_part (f.relates c v w s (shrinks w s sat)) (next_part (h.relates c v w s sat) no_parts));
-    keeps = λ w s sat z. h.keeps w s (f.keeps w s sat (cc)) (cc);
-  }
-
-  ref_forms : {X K : Type 0} (u : Mutability) (r : Result X (RelateFault K)) → Answered middle after x y r → Answered before after (node (ref u) (cons p (cons x nil))) (node (ref u) (cons q (cons y nil))) r
-  ref_forms u (Ok v) h = ref_unites u h
-  ref_forms u (Err Memory) h = tt
-  ref_forms u (Err Budget) h = h
-  ref_forms u (Err (Unrelated e)) h = λ w s sat z. h w s (f.keeps w s sat (cc)) (cc)
-
-  pub ref_answered : {X K : Type 0} (u v : Mutability) (a b : Tree) (r : Result X (RelateFault K)) → u ≡ v → a ≡ node (ref u) (cons p (cons x nil)) → b ≡ node (ref v) (cons q (cons y nil)) → Answered middle after x y r → Answered before after a b r
-  ref_answered u v a b r m e d h = subst₂ (λ i j. Answered before after i j r) (sym e) (sym (d ∙ ap (λ z. node (ref z) (cons q (cons y nil))) (sym m))) (ref_forms u r h)
-
--- Forms that differ.
 module _ {Key Id Name : Type 0} (m : Meaning Key Id Name) where
-  abbrev pub IsOther : TyKind Key → TyKind Key → Type 0
-  IsOther Bool k = k ≡ Bool → ⊥
-  IsOther Char k = k ≡ Char → ⊥
-  IsOther (Int n) k = (x : IntTy) → k ≡ Int x → ⊥
-  IsOther (Uint n) k = (x : UintTy) → k ≡ Uint x → ⊥
-  IsOther (Slice x) k = (y : TyKey Key) → k ≡ Slice y → ⊥
-  IsOther (Tuple x) k = (y : TysKey Key) → k ≡ Tuple y → ⊥
-  IsOther (Ref p x u) k = (q : RegionKey Key) (y : TyKey Key) (v : Mutability) → k ≡ Ref q y v → ⊥
-  IsOther (Infer n) k = Unit {0}
+  pub answered_alike : {X : Type 0} (before after : Store) (a b a' b' : Tree) (r : Result X (RelateFault Key)) → IsSound before → IsLater before after → IsReadAs before a a' → IsReadAs before b b' → Answered m before after a' b' r → Answered m before after a b r
+  answered_alike before after a b a' b' (Ok x) g l p q h = unites_alike before after a b a' b' l.shrinks p q h
+  answered_alike before after a b a' b' (Err Memory) g l p q h = tt
+  answered_alike before after a b a' b' (Err Budget) g l p q h = h
+  answered_alike before after a b a' b' (Err (Unrelated f)) g l p q h = (
+    λ w s sat e. h.0 w s sat (sym (read_value before s sat.bindings a a' p) ∙ e ∙ read_value before s sat.bindings b b' q),
+    of_entries (read_later before after g l a a' p) (read_later before after g l b b' q) h.1,
+  )
 
-  no_variable_type : (s : Assign) (k l : TyKind Key) → IsFormed (kind_tree m k) → IsFormed (kind_tree m l) → apply s (kind_tree m k) ≡ apply s (kind_tree m l) → IsOther k l → ⊥
-  no_variable_type s (Infer (TyVar n)) l f g e o = f
-  no_variable_type s k (Infer (TyVar n)) f g e o = g
-  no_variable_type s Bool Bool f g e o = o refl
-  no_variable_type s Char Char f g e o = o refl
-  no_variable_type s (Int x) (Int y) f g e o = o y refl
-  no_variable_type s (Uint x) (Uint y) f g e o = o y refl
-  no_variable_type s (Slice x) (Slice y) f g e o = o y refl
-  no_variable_type s (Tuple x) (Tuple y) f g e o = o y refl
-  no_variable_type s (Ref p x u) (Ref q y v) f g e o = o q y v refl
-  no_variable_type s k l f g e o = cc
+  -- Forms.
+  module _ (before after : Store) (x y : Tree) where
+    slice_forms : {X : Type 0} (r : Result X (RelateFault Key)) → Answered m before after x y r → Answered m before after (node slice (cons x nil)) (node slice (cons y nil)) r
+    slice_forms (Ok v) h = record { relates = λ c u w s sat. forms tt refl (next_part (h.relates c u w s sat) no_parts); keeps = λ w s sat q. h.keeps w s sat (cc) }
+    slice_forms (Err Memory) h = tt
+    slice_forms (Err Budget) h = h
+    slice_forms (Err (Unrelated f)) h = (λ w s sat q. h.0 w s sat (cc), of_parts 0 refl refl (omega arith) (omega arith) h.1)
 
-  pub others_apart : (st : Store) (k l : TyKind Key) (a b : Tree) → a ≡ kind_tree m k → b ≡ kind_tree m l → IsFormed a → IsFormed b → IsOther k l → Apart st a b
-  others_apart st k l a b e d f g o = λ w s sat q. no_variable_type s k l (subst IsFormed e f) (subst IsFormed d g) (sym (ap (apply s) e) ∙ q ∙ ap (apply s) d) o
+    pub slice_answered : {X : Type 0} (a b : Tree) (r : Result X (RelateFault Key)) → a ≡ node slice (cons x nil) → b ≡ node slice (cons y nil) → Answered m before after x y r → Answered m before after a b r
+    slice_answered a b r e d h = subst₂ (λ u v. Answered m before after u v r) (sym e) (sym d) (slice_forms r h)
 
--- A fault of one form.
-pub unrelated_answered : {K : Type 0} (X : Type 0) (before after : Store) (a b : Tree) (f : RelateFault K) → (e : TypeError K) → f ≡ Unrelated e → Apart before a b → Answered {X = X} before after a b (Err f)
-unrelated_answered X before after a b f e is h = subst (λ z. Answered {X = X} before after a b (Err z)) (sym is) h
+    tuple_forms : {X : Type 0} (r : Result X (RelateFault Key)) → AnsweredAll m before after x y r → Answered m before after (node tuple x) (node tuple y) r
+    tuple_forms (Ok v) h = record { relates = λ c u w s sat. forms tt refl (h.relates c u w s sat); keeps = λ w s sat q. h.keeps w s sat (cc) }
+    tuple_forms (Err Memory) h = tt
+    tuple_forms (Err Budget) h = h
+    tuple_forms (Err (Unrelated f)) h = (λ w s sat q. h.0 w s sat (cc), (let (i, j, k, e) = h.1 in of_parts i refl refl j k e))
+
+    pub tuple_answered : {X : Type 0} (a b : Tree) (r : Result X (RelateFault Key)) → a ≡ node tuple x → b ≡ node tuple y → AnsweredAll m before after x y r → Answered m before after a b r
+    tuple_answered a b r e d h = subst₂ (λ u v. Answered m before after u v r) (sym e) (sym d) (tuple_forms r h)
+
+  module _ (before middle after : Store) (p q x y : Tree) (shrinks : OnlyShrinks middle after) (f : Unites before middle p q) where
+    ref_unites : (u : Mutability) → Unites middle after x y → Unites before after (node (ref u) (cons p (cons x nil))) (node (ref u) (cons q (cons y nil)))
+    ref_unites Mut h = record {
+      relates = λ c v w s sat. forms tt refl (next_part (f.relates c v w s (shrinks w s sat)) (next_part (h.relates c v w s sat) no_parts));
+      keeps = λ w s sat z. h.keeps w s (f.keeps w s sat (cc)) (cc);
+    }
+    ref_unites Not h = record {
+      relates = λ c v w s sat. forms tt refl (next_part (f.relates c v w s (shrinks w s sat)) (next_part (h.relates c v w s sat) no_parts));
+      keeps = λ w s sat z. h.keeps w s (f.keeps w s sat (cc)) (cc);
+    }
+
+    ref_forms : {X : Type 0} (u : Mutability) (r : Result X (RelateFault Key)) → Answered m middle after x y r → Answered m before after (node (ref u) (cons p (cons x nil))) (node (ref u) (cons q (cons y nil))) r
+    ref_forms u (Ok v) h = ref_unites u h
+    ref_forms u (Err Memory) h = tt
+    ref_forms u (Err Budget) h = h
+    ref_forms u (Err (Unrelated e)) h = (λ w s sat z. h.0 w s (f.keeps w s sat (cc)) (cc), of_parts 1 refl refl (omega arith) (omega arith) h.1)
+
+    pub ref_answered : {X : Type 0} (u : Mutability) (a b : Tree) (r : Result X (RelateFault Key)) → a ≡ node (ref u) (cons p (cons x nil)) → b ≡ node (ref u) (cons q (cons y nil)) → Answered m middle after x y r → Answered m before after a b r
+    ref_answered u a b r e d h = subst₂ (λ i j. Answered m before after i j r) (sym e) (sym d) (ref_forms u r h)
 
 -- Lists.
 count_applied : (s : Assign) (ts : Tree) → IsList ts → count (apply s ts) ≡ count ts
@@ -121,7 +97,7 @@ count_applied s (leaf x) l = absurd l
 count_applied s (node h x) l = absurd l
 count_applied s (bind ks x) l = absurd l
 
-pub tuples_apart : (st : Store) (ts us a b : Tree) → a ≡ node tuple ts → b ≡ node tuple us → IsList ts → IsList us → (count ts ≡ count us → ⊥) → Apart st a b
+pub tuples_apart : (st : Store) (ts us a b : Tree) → a ≡ node tuple ts → b ≡ node tuple us → IsList ts → IsList us → (count ts ≡ count us → ⊥) → NoEqualTerms st a b
 tuples_apart st ts us a b p q l m differ = λ w s sat e. differ (sym (count_applied s ts l) ∙ ap count (inside s (sym (ap (apply s) p) ∙ e ∙ ap (apply s) q)) ∙ count_applied s us m)
   where
     inside : (s : Assign) → node tuple (apply s ts) ≡ node tuple (apply s us) → apply s ts ≡ apply s us
@@ -165,13 +141,13 @@ module _ (r q : Store) (i : ℕ) (ts us x y : Tree) (h : i < count ts) (k : i < 
       go c v w s j l sat (yes is) = subst (λ z. Rel c w v (at Invariant) (apply s (nth z ts)) (apply s (nth z us))) (sym is) (subst₂ (λ a b. Rel c w v (at Invariant) (apply s a) (apply s b)) e d (u.relates c v w s sat))
       go c v w s j l sat (no not) = f.relates c v w s j (omega arith) (shrinks w s sat)
 
-  front_apart : Apart q x y → Apart r ts us
+  front_apart : NoEqualTerms q x y → NoEqualTerms r ts us
   front_apart u = λ w s sat z. u w s (f.keeps w s sat z) (ap (apply s) e ∙ nths_same s ts us i h k z ∙ sym (ap (apply s) d))
 
-  pub front_error : {K : Type 0} (X Y : Type 0) (p : Store) (a : RelateFault K) → Answered {X = X} q p x y (Err a) → AnsweredAll {X = Y} r p ts us (Err a)
-  front_error X Y p Memory u = tt
-  front_error X Y p Budget u = u
-  front_error X Y p (Unrelated b) u = front_apart u
+  pub front_error : {Key Id Name : Type 0} (m : Meaning Key Id Name) (X Y : Type 0) (p : Store) (a : RelateFault Key) → Answered {X = X} m q p x y (Err a) → AnsweredAll {X = Y} m r p ts us (Err a)
+  front_error m X Y p Memory u = tt
+  front_error m X Y p Budget u = u
+  front_error m X Y p (Unrelated b) u = (front_apart u.0, (i, h, k, subst₂ (ErrorOf m p b) e d u.1))
 
 pub front_all : (r q : Store) (i : ℕ) (ts us : Tree) → i ≡ count ts → i ≡ count us → IsList ts → IsList us → IsFront r q i ts us → UnitesAll r q ts us
 front_all r q i ts us h k l m f = record {
@@ -180,29 +156,24 @@ front_all r q i ts us h k l m f = record {
 }
 
 -- A fault that is passed on.
-err_answered : {K : Type 0} (X Y : Type 0) (before after : Store) (a b : Tree) (f : RelateFault K) → Answered {X = Y} before after a b (Err f) → Answered {X = X} before after a b (Err f)
-err_answered X Y before after a b Memory h = tt
-err_answered X Y before after a b Budget h = h
-err_answered X Y before after a b (Unrelated e) h = h
+module _ {Key Id Name : Type 0} (m : Meaning Key Id Name) where
+  err_answered : (X Y : Type 0) (before after : Store) (a b : Tree) (f : RelateFault Key) → Answered {X = Y} m before after a b (Err f) → Answered {X = X} m before after a b (Err f)
+  err_answered X Y before after a b Memory h = tt
+  err_answered X Y before after a b Budget h = h
+  err_answered X Y before after a b (Unrelated e) h = h
 
-pub error_answered : {X K : Type 0} (Y : Type 0) (before after : Store) (a b : Tree) (r : Result X (RelateFault K)) (f : RelateFault K) → IsErr r → IsErrAnd r (λ e. e ≡ f) → Answered {X = Y} before after a b (Err f) → Answered before after a b r
-error_answered {X} Y before after a b (Ok x) f h p u = absurd (false≢true h)
-error_answered {X} Y before after a b (Err e) f h p u = subst (λ z. Answered {X = X} before after a b (Err z)) (sym p) (err_answered X Y before after a b f u)
+  pub error_answered : {X : Type 0} (Y : Type 0) (before after : Store) (a b : Tree) (r : Result X (RelateFault Key)) (f : RelateFault Key) → IsErr r → IsErrAnd r (λ e. e ≡ f) → Answered {X = Y} m before after a b (Err f) → Answered m before after a b r
+  error_answered {X} Y before after a b (Ok x) f h p u = absurd (false≢true h)
+  error_answered {X} Y before after a b (Err e) f h p u = subst (λ z. Answered {X = X} m before after a b (Err z)) (sym p) (err_answered X Y before after a b f u)
 
-all_answered : {K : Type 0} (X Y : Type 0) (before after : Store) (a b : Tree) (f : RelateFault K) → AnsweredAll {X = Y} before after a b (Err f) → AnsweredAll {X = X} before after a b (Err f)
-all_answered X Y before after a b Memory h = tt
-all_answered X Y before after a b Budget h = h
-all_answered X Y before after a b (Unrelated e) h = h
+  all_answered : (X Y : Type 0) (before after : Store) (a b : Tree) (f : RelateFault Key) → AnsweredAll {X = Y} m before after a b (Err f) → AnsweredAll {X = X} m before after a b (Err f)
+  all_answered X Y before after a b Memory h = tt
+  all_answered X Y before after a b Budget h = h
+  all_answered X Y before after a b (Unrelated e) h = h
 
-pub error_answered_all : {X K : Type 0} (Y : Type 0) (before after : Store) (a b : Tree) (r : Result X (RelateFault K)) (f : RelateFault K) → IsErr r → IsErrAnd r (λ e. e ≡ f) → AnsweredAll {X = Y} before after a b (Err f) → AnsweredAll before after a b r
-error_answered_all {X} Y before after a b (Ok x) f h p u = absurd (false≢true h)
-error_answered_all {X} Y before after a b (Err e) f h p u = subst (λ z. AnsweredAll {X = X} before after a b (Err z)) (sym p) (all_answered X Y before after a b f u)
-
--- Tuples of unlike lengths.
-pub lengths_answered : {K : Type 0} (X : Type 0) (before after : Store) (a b : Tree) (n m : ℕ) (sizes sorts : TypeError K) (f : RelateFault K) → (0 < n → 0 < m → f ≡ Unrelated sizes) → ((n ≡ 0) ⊎ (m ≡ 0) → f ≡ Unrelated sorts) → Apart before a b → Answered {X = X} before after a b (Err f)
-lengths_answered X before after a b zero m sizes sorts f p q h = unrelated_answered X before after a b f sorts (q (inl refl)) h
-lengths_answered X before after a b (suc n) zero sizes sorts f p q h = unrelated_answered X before after a b f sorts (q (inr refl)) h
-lengths_answered X before after a b (suc n) (suc m) sizes sorts f p q h = unrelated_answered X before after a b f sizes (p (omega arith) (omega arith)) h
+  pub error_answered_all : {X : Type 0} (Y : Type 0) (before after : Store) (a b : Tree) (r : Result X (RelateFault Key)) (f : RelateFault Key) → IsErr r → IsErrAnd r (λ e. e ≡ f) → AnsweredAll {X = Y} m before after a b (Err f) → AnsweredAll m before after a b r
+  error_answered_all {X} Y before after a b (Ok x) f h p u = absurd (false≢true h)
+  error_answered_all {X} Y before after a b (Err e) f h p u = subst (λ z. AnsweredAll {X = X} m before after a b (Err z)) (sym p) (all_answered X Y before after a b f u)
 
 -- The region of a reference is one of the context.
 pub region_in : (st : Store) (u : Mutability) (r x t : Tree) → t ≡ node (ref u) (cons r (cons x nil)) → IsTerm type_sort t → IsTermIn st t → IsRegionIn st r

@@ -4,6 +4,7 @@ pub mod SmallTerms
 pub mod Values
 pub mod Only
 pub mod Resolved
+pub mod ReadAs
 pub mod Standing
 pub mod Tallies
 pub mod Written

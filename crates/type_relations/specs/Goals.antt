@@ -1,5 +1,8 @@
 -- Registered goals, what they ask of an assignment, and when they hold.
-use Rattle.std.specs.Prelude.{◌≡◌, Bool, List, [], All}
+use Rattle.std.specs.Prelude.{◌≡◌, Bool, List, [], All, map}
+use Rattle.relation_terms.specs.Meaning.{Meaning}
+use Rattle.relation_terms.specs.declared.terms.goal.Goal.{Goal as KeyedGoal}
+use Rattle.relation_terms.specs.declared.terms.keys.PredicateKey.{PredicateKey}
 use Rattle.relation_terms.specs.declared.terms.enums.AliasRelationDirection.{AliasRelationDirection}
 use Rattle.relation_terms.specs.declared.terms.enums.AliasRelationDirection.TheVariants.{Equate, Subtype}
 use Rattle.relation_terms.specs.declared.terms.enums.Variance.{Variance}
@@ -16,6 +19,10 @@ pub record Goal : Type 0 where
 
 abbrev pub goal_of : Tree → Tree → Goal
 goal_of e p = record { environment = e; predicate = p }
+
+-- What goals over an interner's keys mean.
+abbrev pub goals_of : {Key Id Name : Type 0} → Meaning Key Id Name → List (KeyedGoal Key (PredicateKey Key)) → List Goal
+goals_of m gs = map (λ g. goal_of (m.param_env g.param_env) (m.predicate g.predicate)) gs
 
 -- The predicates that relating registers. Each stands under a binder of no variables.
 abbrev pub subtype_predicate : Bool → Tree → Tree → Tree

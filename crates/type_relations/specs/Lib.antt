@@ -5,6 +5,7 @@ pub mod FirstOrder
 pub mod Steps
 pub mod Outcomes
 pub mod Headline
+pub mod Errors
 pub mod SmallTerms
 pub mod StepLaws
 pub mod ErasureLaws

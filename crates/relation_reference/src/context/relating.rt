@@ -1,18 +1,17 @@
 //! Relating types in a context.
-ghost use Rattle.std.specs.Prelude.{◌≡◌, ◌⊎◌, ◌+◌, ◌<◌, IsTrue, IfErr};
+ghost use Rattle.std.specs.Prelude.{◌≡◌, ◌+◌, IsTrue, IfErr};
+ghost use Rattle.std.specs.Result.{IsOk};
 ghost use Rattle.relation_terms.specs.Trees.{known, count};
 ghost use Rattle.relation_terms.specs.Meaning.{Extends};
 ghost use Rattle.type_relations.specs.Stores.{IsTermIn, weight};
 ghost use Rattle.type_relations.specs.Measures.{Goes};
-ghost use Rattle.relation_tools.specs.declared.error.RelateFault.TheVariants.{Unrelated};
-ghost use Rattle.relation_tools.specs.declared.error.TypeError.TheVariants.{Sorts, TupleSize};
 ghost use Rattle.relation_tools.specs.Faults.{KnowsFault};
 ghost use Rattle.relation_reference.specs.Tables.{store_of, IsLawful, IsFormed};
 ghost use Rattle.relation_reference.specs.Answers.{Answered, AnsweredAll};
 
-use crate::context::RefCtxt;
-use relation_terms::terms::{Dup, Interner, Ty, TyKind, Tys};
-use relation_tools::error::{ExpectedFound, RelateFault, TypeError};
+use crate::context::{PairedParts, RefCtxt};
+use relation_terms::terms::{Interner, Ty, Tys};
+use relation_tools::error::RelateFault;
 
 impl<I: Interner> RefCtxt<I> {
     // Relates two types.
@@ -26,8 +25,9 @@ impl<I: Interner> RefCtxt<I> {
         ensures lawful { IsLawful (I.meaning self.new.interner) self.new.inner }
         ensures grown { Extends (I.meaning self.old.interner) (I.meaning self.new.interner) }
         ensures goes { Goes (weight (store_of (I.meaning self.old.interner) self.old.inner) ((I.meaning self.old.interner).ty a.now) + weight (store_of (I.meaning self.old.interner) self.old.inner) ((I.meaning self.old.interner).ty b.now)) (store_of (I.meaning self.old.interner) self.old.inner) (store_of (I.meaning self.new.interner) self.new.inner) }
-        ensures answers { Answered (store_of (I.meaning self.old.interner) self.old.inner) (store_of (I.meaning self.new.interner) self.new.inner) ((I.meaning self.old.interner).ty a.now) ((I.meaning self.old.interner).ty b.now) result }
+        ensures answers { Answered (I.meaning self.new.interner) (store_of (I.meaning self.old.interner) self.old.inner) (store_of (I.meaning self.new.interner) self.new.inner) ((I.meaning self.old.interner).ty a.now) ((I.meaning self.old.interner).ty b.now) result }
         ensures why_known { IfErr result (KnowsFault (I.meaning self.new.interner)) }
+        ensures same { (I.meaning self.old.interner).ty a.now ≡ (I.meaning self.old.interner).ty b.now → IsOk result × (self.new ≡ self.old) }
     {
         if a == b {
             return Ok(());
@@ -68,69 +68,17 @@ impl<I: Interner> RefCtxt<I> {
         ensures lawful { IsLawful (I.meaning self.new.interner) self.new.inner }
         ensures grown { Extends (I.meaning self.old.interner) (I.meaning self.new.interner) }
         ensures goes { Goes (weight (store_of (I.meaning self.old.interner) self.old.inner) ((I.meaning self.old.interner).ty a.now) + weight (store_of (I.meaning self.old.interner) self.old.inner) ((I.meaning self.old.interner).ty b.now)) (store_of (I.meaning self.old.interner) self.old.inner) (store_of (I.meaning self.new.interner) self.new.inner) }
-        ensures answers { Answered (store_of (I.meaning self.old.interner) self.old.inner) (store_of (I.meaning self.new.interner) self.new.inner) ((I.meaning self.old.interner).ty a.now) ((I.meaning self.old.interner).ty b.now) result }
+        ensures answers { Answered (I.meaning self.new.interner) (store_of (I.meaning self.old.interner) self.old.inner) (store_of (I.meaning self.new.interner) self.new.inner) ((I.meaning self.old.interner).ty a.now) ((I.meaning self.old.interner).ty b.now) result }
         ensures why_known { IfErr result (KnowsFault (I.meaning self.new.interner)) }
     {
-        let right = self.interner.ty_kind(b);
-        match self.interner.ty_kind(a) {
-            TyKind::Bool => {
-                let TyKind::Bool = right else {
-                    return Err(unlike::<I>(a, b));
-                };
-                Ok(())
+        match self.paired_parts(a, b)? {
+            PairedParts::None => Ok(()),
+            PairedParts::Elements(x, y) => self.relate_tys(&x, &y),
+            PairedParts::Members(xs, ys) => self.relate_members(&xs, &ys),
+            PairedParts::References { regions, pointees } => {
+                self.equate_regions(&regions.0, &regions.1)?;
+                self.relate_tys(&pointees.0, &pointees.1)
             }
-            TyKind::Char => {
-                let TyKind::Char = right else {
-                    return Err(unlike::<I>(a, b));
-                };
-                Ok(())
-            }
-            TyKind::Int(x) => {
-                let TyKind::Int(y) = right else {
-                    return Err(unlike::<I>(a, b));
-                };
-                if x != y {
-                    return Err(unlike::<I>(a, b));
-                }
-                Ok(())
-            }
-            TyKind::Uint(x) => {
-                let TyKind::Uint(y) = right else {
-                    return Err(unlike::<I>(a, b));
-                };
-                if x != y {
-                    return Err(unlike::<I>(a, b));
-                }
-                Ok(())
-            }
-            TyKind::Slice(x) => {
-                let TyKind::Slice(y) = right else {
-                    return Err(unlike::<I>(a, b));
-                };
-                self.relate_tys(&x, &y)
-            }
-            TyKind::Tuple(xs) => {
-                let TyKind::Tuple(ys) = right else {
-                    return Err(unlike::<I>(a, b));
-                };
-                let n = self.count_of(&xs);
-                let m = self.count_of(&ys);
-                if n != m {
-                    return Err(unlike_lengths::<I>(a, b, n, m));
-                }
-                self.relate_members(&xs, &ys)
-            }
-            TyKind::Ref(r, x, mutability) => {
-                let TyKind::Ref(s, y, other) = right else {
-                    return Err(unlike::<I>(a, b));
-                };
-                if mutability != other {
-                    return Err(RelateFault::Unrelated(TypeError::Mutability));
-                }
-                self.equate_regions(&r, &s)?;
-                self.relate_tys(&x, &y)
-            }
-            TyKind::Infer(_) => Err(unlike::<I>(a, b)),
         }
     }
 
@@ -146,7 +94,7 @@ impl<I: Interner> RefCtxt<I> {
         ensures lawful { IsLawful (I.meaning self.new.interner) self.new.inner }
         ensures grown { Extends (I.meaning self.old.interner) (I.meaning self.new.interner) }
         ensures goes { Goes (weight (store_of (I.meaning self.old.interner) self.old.inner) ((I.meaning self.old.interner).tys a.now) + weight (store_of (I.meaning self.old.interner) self.old.inner) ((I.meaning self.old.interner).tys b.now)) (store_of (I.meaning self.old.interner) self.old.inner) (store_of (I.meaning self.new.interner) self.new.inner) }
-        ensures answers { AnsweredAll (store_of (I.meaning self.old.interner) self.old.inner) (store_of (I.meaning self.new.interner) self.new.inner) ((I.meaning self.old.interner).tys a.now) ((I.meaning self.old.interner).tys b.now) result }
+        ensures answers { AnsweredAll (I.meaning self.new.interner) (store_of (I.meaning self.old.interner) self.old.inner) (store_of (I.meaning self.new.interner) self.new.inner) ((I.meaning self.old.interner).tys a.now) ((I.meaning self.old.interner).tys b.now) result }
         ensures why_known { IfErr result (KnowsFault (I.meaning self.new.interner)) }
     {
         let n = self.count_of(a);
@@ -157,22 +105,4 @@ impl<I: Interner> RefCtxt<I> {
         }
         Ok(())
     }
-}
-
-// Two types of unlike forms.
-fn unlike<I: Interner>(a: &Ty<I>, b: &Ty<I>) -> RelateFault<I::Key>
-    ensures { result ≡ Unrelated (Sorts (record { expected = a.now; found = b.now })) }
-{
-    RelateFault::Unrelated(TypeError::Sorts(ExpectedFound::new(a.dup(), b.dup())))
-}
-
-// Two tuples of unlike lengths; where one is empty, two types of unlike forms.
-fn unlike_lengths<I: Interner>(a: &Ty<I>, b: &Ty<I>, n: usize, m: usize) -> RelateFault<I::Key>
-    ensures sizes { 0 < n → 0 < m → result ≡ Unrelated (TupleSize (record { expected = n; found = m })) }
-    ensures empty { (n ≡ 0) ⊎ (m ≡ 0) → result ≡ Unrelated (Sorts (record { expected = a.now; found = b.now })) }
-{
-    if n == 0 || m == 0 {
-        return unlike::<I>(a, b);
-    }
-    RelateFault::Unrelated(TypeError::TupleSize(ExpectedFound::new(n, m)))
 }

@@ -1,9 +1,11 @@
 //! The context, and reading what it has recorded.
 ghost use Rattle.std.specs.Prelude.{◌≡◌, ℕ, ◌<◌, IsTrue, IfSome, IfNone, length, []};
 ghost use Rattle.relation_terms.specs.Heads.{type_var, variable};
-ghost use Rattle.relation_terms.specs.Trees.{leaf, Assign, known, apply};
+ghost use Rattle.relation_terms.specs.Trees.{leaf, known};
 ghost use Rattle.relation_terms.specs.Meaning.{infer_tree};
-ghost use Rattle.type_relations.specs.Stores.{unbound, entry_of, bound_to, MeetsBindings, IsTermIn};
+ghost use Rattle.type_relations.specs.Stores.{unbound, entry_of, bound_to, IsTermIn};
+ghost use Rattle.type_relations.specs.Steps.{Resolves};
+ghost use Rattle.type_relations.specs.Errors.{IsReadAs};
 ghost use Rattle.relation_reference.specs.Tables.{store_of, IsLawful, entry_of_value};
 ghost use Rattle.relation_reference.specs.Answers.{LeadsTo, IsRoot, IsShallow};
 
@@ -115,8 +117,8 @@ impl<I: Interner> RefCtxt<I> {
         requires ty_known { IsTrue (known ((I.meaning self.now.interner).ty ty.now)) }
         requires ty_in { IsTermIn (store_of (I.meaning self.now.interner) self.now.inner) ((I.meaning self.now.interner).ty ty.now) }
         ensures sure { IsTrue (known ((I.meaning self.now.interner).ty result)) }
-        ensures is_in { IsTermIn (store_of (I.meaning self.now.interner) self.now.inner) ((I.meaning self.now.interner).ty result) }
-        ensures same_value { (s : Assign) → MeetsBindings (store_of (I.meaning self.now.interner) self.now.inner) s → apply s ((I.meaning self.now.interner).ty ty.now) ≡ apply s ((I.meaning self.now.interner).ty result) }
+        ensures reads { IsReadAs (store_of (I.meaning self.now.interner) self.now.inner) ((I.meaning self.now.interner).ty ty.now) ((I.meaning self.now.interner).ty result) }
+        ensures resolves { Resolves (store_of (I.meaning self.now.interner) self.now.inner) ((I.meaning self.now.interner).ty ty.now) ((I.meaning self.now.interner).ty result) }
         ensures shallow { IsShallow (store_of (I.meaning self.now.interner) self.now.inner) ((I.meaning self.now.interner).ty result) }
     {
         let TyKind::Infer(variable) = self.interner.ty_kind(ty) else {

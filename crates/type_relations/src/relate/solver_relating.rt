@@ -1,11 +1,16 @@
 //! The relation that a solver asks of its inference context.
-ghost use Rattle.std.specs.Prelude.{◌≡◌, ◌+◌, IsTrue, IfErr};
+ghost use Rattle.std.specs.Prelude.{◌≡◌, ◌+◌, IsTrue, IfOk, IfErr, []};
+ghost use Rattle.std.specs.Result.{IsOkAnd};
 ghost use Rattle.relation_terms.specs.Trees.{known};
 ghost use Rattle.relation_terms.specs.Meaning.{Meaning, Extends};
-ghost use Rattle.relation_tools.specs.Faults.{KnowsFault};
+ghost use Rattle.relation_tools.specs.Faults.{KnowsFault, IfUnrelated, IfSpent};
 ghost use Rattle.type_relations.specs.Relation.{Items};
 ghost use Rattle.type_relations.specs.Stores.{Store, IsTermIn, IsSound, all_bound};
+ghost use Rattle.type_relations.specs.Goals.{goals_of};
 ghost use Rattle.type_relations.specs.Steps.{IsLater};
+ghost use Rattle.type_relations.specs.Outcomes.{NoEqualTerms};
+ghost use Rattle.type_relations.specs.Headline.{AnswersGoals, KeepsEqualTerms, IsFirstOrderPair};
+ghost use Rattle.type_relations.specs.Errors.{ErrorOf};
 
 use relation_terms::terms::{Goal, Interner, Keys, ParamEnv, Predicate, Span, Ty, Variance};
 use relation_tools::error::RelateFault;
@@ -38,10 +43,14 @@ pub trait RelateExt {
     /// Both types and the environment are the interner's, and the variables in them are the context's. The variance is
     /// `Invariant` for now.
     ///
-    /// Answers `Unrelated` where the types do not relate, `Budget` where a variable had to be bound and no
-    /// instantiation was left, and `Memory` where a growth was refused. Also after an error all that was recorded
-    /// stands; more may have been recorded on the way, and each variable that was newly bound to a term has taken one
-    /// instantiation.
+    /// After `Ok`, each assignment that satisfies what is recorded and makes the goals true relates the types, and none
+    /// is lost that made them one. Equal types answer no goal and record nothing.
+    ///
+    /// Answers `Unrelated` where no assignment that satisfied what was recorded makes the types one: with the error of
+    /// a pair that was met on the way, the left side's part first, or of a cycle. Answers `Budget` where a variable had
+    /// to be bound and no instantiation was left, and `Memory` where a growth was refused. Also after an error all that
+    /// was recorded stands; more may have been recorded on the way, and each variable that was newly bound to a term
+    /// has taken one instantiation.
     fn relate(
         &mut self,
         param_env: ParamEnv<Self::Interner>,
@@ -57,10 +66,18 @@ pub trait RelateExt {
         requires rhs_known { IsTrue (known ((Self.Interner.meaning (interner self.old)).ty rhs)) }
         requires lhs_in { IsTermIn (store self.old) ((Self.Interner.meaning (interner self.old)).ty lhs) }
         requires rhs_in { IsTermIn (store self.old) ((Self.Interner.meaning (interner self.old)).ty rhs) }
+        ensures answers { IfOk result (λ goals. AnswersGoals (items self.old) (store self.old) (store self.new) (goals_of (Self.Interner.meaning (interner self.new)) goals.items) ((Self.Interner.meaning (interner self.old)).param_env param_env) variance ((Self.Interner.meaning (interner self.old)).ty lhs) ((Self.Interner.meaning (interner self.old)).ty rhs)) }
+        ensures keeps { IfOk result (λ goals. KeepsEqualTerms (store self.old) (store self.new) (goals_of (Self.Interner.meaning (interner self.new)) goals.items) ((Self.Interner.meaning (interner self.old)).ty lhs) ((Self.Interner.meaning (interner self.old)).ty rhs)) }
+        ensures apart { IfUnrelated result (λ e. NoEqualTerms (store self.old) ((Self.Interner.meaning (interner self.old)).ty lhs) ((Self.Interner.meaning (interner self.old)).ty rhs)) }
+        ensures errors { IfUnrelated result (λ e. ErrorOf (Self.Interner.meaning (interner self.new)) (store self.new) e ((Self.Interner.meaning (interner self.old)).ty lhs) ((Self.Interner.meaning (interner self.old)).ty rhs)) }
+        ensures spent { IfSpent result ((store self.new).budget ≡ 0) }
+        ensures same { (Self.Interner.meaning (interner self.old)).ty lhs ≡ (Self.Interner.meaning (interner self.old)).ty rhs → IsOkAnd result (λ goals. goals.items ≡ []) × (store self.new ≡ store self.old) }
+        ensures goals { IfOk result (λ goals. variance ≡ Variance.Invariant → IsFirstOrderPair (store self.old) ((Self.Interner.meaning (interner self.old)).ty lhs) ((Self.Interner.meaning (interner self.old)).ty rhs) → goals.items ≡ []) }
+        ensures later { IsLater (store self.old) (store self.new) }
+        ensures sound { IsSound (store self.new) }
+        ensures budget { (store self.old).budget + all_bound (store self.old) ≡ (store self.new).budget + all_bound (store self.new) }
         ensures lawful { is_lawful self.new }
         ensures grown { Extends (Self.Interner.meaning (interner self.old)) (Self.Interner.meaning (interner self.new)) }
-        ensures later { IsLater (store self.old) (store self.new) }
-        ensures budget { (store self.old).budget + all_bound (store self.old) ≡ (store self.new).budget + all_bound (store self.new) }
         ensures why_known { IfErr result (λ e. KnowsFault (Self.Interner.meaning (interner self.new)) e) };
 
     // The store of a lawful context is sound.

@@ -1,4 +1,4 @@
-use Rattle.std.proofs.Common.{◌≡◌, ◌∙◌, ap, sym, subst, suc, arith, IsTrue, ◌-◌, set, map}
+use Rattle.std.proofs.Common.{◌≡◌, refl, ◌∙◌, ap, sym, subst, suc, arith, IsTrue, ◌-◌, set, map}
 use Rattle.relation_terms.specs.Heads.{type_var}
 use Rattle.relation_terms.specs.Trees.{apply, Occurs, known}
 use Rattle.relation_terms.specs.Meaning.{Extends}
@@ -28,7 +28,10 @@ returns-then-occurs-clause-lawful g c =
 pub returns-then-occurs-clause-answers : goal.returns-then-occurs-clause-answers
 returns-then-occurs-clause-answers g c =
     let n = g.I.Interner.meaning c.resolve_vars_if_possible.new.self.interner in (
-      subst (Occurs type_var c.args.target.0) c.in_ok-bound.ensures.resolves (c.occurs.ensures.stands c.if-occurs.true),
+      c.in_ok-bound.bound,
+      refl,
+      c.in_ok-bound.ensures.resolves,
+      c.occurs.ensures.stands c.if-occurs.true,
       ap (store_of n) c.resolve_vars_if_possible.ensures.inner ∙ store_grows c.resolve_vars_if_possible.ensures.grown c.args.self.now.inner c.requires.lawful,
     )
 
