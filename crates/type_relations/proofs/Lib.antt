@@ -16,6 +16,7 @@ pub mod Going
 pub mod Equating
 pub mod Empty
 pub mod StoreCalls
+pub mod Instantiating
 pub mod Assigning
 pub mod RegionTerms
 pub mod Deciding

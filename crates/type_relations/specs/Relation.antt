@@ -5,7 +5,7 @@ use Rattle.relation_terms.specs.declared.terms.enums.Variance.TheVariants.{Covar
 use Rattle.relation_terms.specs.declared.terms.enums.Mutability.{Mutability}
 use Rattle.relation_terms.specs.declared.terms.enums.Mutability.TheVariants.{Not, Mut}
 use Rattle.relation_terms.specs.Variances.{xform}
-use Rattle.relation_terms.specs.Heads.{Sort, region_sort, type_sort, const_sort, no_sort, Kind, BoundKind, bound_kind, kind_sort, bound_sort, leaf_sort, head_sort, AliasKind, projection_alias, opaque_alias, AliasTermKind, type_alias, Atom, type_error, const_error, fresh_type, fresh_int, fresh_float, fresh_const, type_param, const_param, Head, adt, fn_def, closure, coroutine_closure, coroutine, coroutine_witness, raw_ptr, ref, alias, signature, unevaluated, expression, value_type, arguments, existential_trait, existential_projection, trait_ref, host_effect, subtype, alias_term, region_outlives, type_outlives, projection, const_has_type, well_formed, const_evaluatable, coerce, normalizes_to, alias_relate, environment, Leaf, variable, bound, placeholder, atom, unknown}
+use Rattle.relation_terms.specs.Heads.{Sort, region_sort, type_sort, const_sort, no_sort, BoundKind, bound_sort, leaf_sort, head_sort, projection_alias, opaque_alias, AliasTermKind, type_alias, Atom, type_error, const_error, fresh_type, fresh_int, fresh_float, fresh_const, type_param, const_param, Head, adt, fn_def, closure, coroutine_closure, coroutine, coroutine_witness, raw_ptr, ref, alias, signature, unevaluated, expression, value_type, arguments, existential_trait, existential_projection, trait_ref, host_effect, subtype, alias_term, region_outlives, type_outlives, projection, const_has_type, well_formed, const_evaluatable, coerce, normalizes_to, alias_relate, environment, Leaf, variable, bound, placeholder, atom, unknown}
 use Rattle.relation_terms.specs.Trees.{Tree, leaf, node, bind, nil, cons, inst, Leaves, IsTerm}
 
 -- The declared variances of the parameters of items, by item and place; of an alias only where it has any.

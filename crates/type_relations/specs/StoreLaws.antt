@@ -1,11 +1,13 @@
 -- Laws of a store's calls: which assignments each keeps, and that a sound store stays sound.
 use Rattle.std.specs.Prelude.{◌≡◌, ◌≢◌, ◌↔◌, ℕ, ◌≤◌, [], ◌∷◌}
+use Rattle.relation_terms.specs.declared.terms.enums.Variance.{Variance}
 use Rattle.relation_terms.specs.Heads.{BoundKind, bound_sort, VarKind, int_var, float_var, region_var, var_sort, variable}
 use Rattle.relation_terms.specs.Trees.{Tree, leaf, Assign, apply, Leaves, Occurs}
 use Rattle.type_relations.specs.Relation.{Interpretation, IsGround, StaysWithin}
 use Rattle.type_relations.specs.Stores.{Store, universe_of, MayStandFor, IsNamable, IsInScope, IsTermIn, IsSound, Satisfies, ConstraintHolds, ConstraintIn, Constraint, resolved}
-use Rattle.type_relations.specs.Steps.{Equates, BindsTo, MakesVariable, AddsConstraint, ChangesNothing, InstantiatesNumber, Resolves, Extends, Makes}
+use Rattle.type_relations.specs.Steps.{Equates, BindsTo, Instantiates, RefusesToInstantiate, MakesVariable, AddsConstraint, ChangesNothing, InstantiatesNumber, Resolves, Extends, Makes}
 use Rattle.type_relations.specs.Outcomes.{Exact}
+use Rattle.type_relations.specs.ErasureLaws.{IsTypeOrConst}
 
 -- Equating keeps a store sound, and exactly the assignments that give both variables one value; also up to erasure.
 abbrev pub EquatingStaysSound : Type 0
@@ -29,6 +31,21 @@ abbrev pub BindingIsExact : Type 0
 BindingIsExact = (before after : Store) (k : VarKind) (n : ℕ) (t : Tree) → BindsTo before after k n t →
     ((w : Interpretation) (s : Assign) → Satisfies w after s ↔ Satisfies w before s × (s k n ≡ apply s t)) ×
     Exact before after (leaf (variable k n)) t
+
+-- Binding it to what a term comes to instantiates it with that as it stands, at every variance: nothing is replaced.
+abbrev pub BindingInstantiates : Type 0
+BindingInstantiates = (before after : Store) (v : Variance) (k : VarKind) (n : ℕ) (source : Tree) → k ≢ region_var →
+    BindsTo before after k n (apply (resolved before) source) → IsSound before → IsTermIn before source →
+    MayStandFor k (apply (resolved before) source) → (Occurs k n (apply (resolved before) source) → ⊥) →
+    Leaves (IsInScope before (universe_of before k n)) (apply (resolved before) source) →
+    Instantiates before after v k n source (apply (resolved before) source)
+
+-- Where a variable of a type or a constant stands in what a term comes to and is not that itself, leaving all as it is
+-- refuses to instantiate the variable.
+abbrev pub CyclesRefuse : Type 0
+CyclesRefuse = (st : Store) (v : Variance) (k : VarKind) (n : ℕ) (source : Tree) → IsTypeOrConst k → IsSound st →
+    Occurs k n (apply (resolved st) source) → apply (resolved st) source ≢ leaf (variable k n) →
+    RefusesToInstantiate st st v k n source
 
 -- The same of a number variable and a type of its kind.
 abbrev pub NumbersStaySound : Type 0

@@ -1,8 +1,8 @@
 -- What a context has recorded, what that asks of an assignment, and the invariant of what is recorded.
 use Rattle.std.specs.Prelude.{◌≡◌, ℕ, zero, suc, ◌+◌, ◌<◌, ◌≤◌, Bool, List, [], ◌∷◌, Option, Some, None, All, length, get_or}
-use Rattle.relation_terms.specs.Heads.{Sort, region_sort, type_sort, const_sort, BoundKind, bound_sort, VarKind, type_var, int_var, float_var, const_var, region_var, var_sort, Atom, int_type, uint_type, float_type, Leaf, variable, bound, placeholder, atom, unknown}
-use Rattle.relation_terms.specs.Trees.{Tree, leaf, node, bind, nil, cons, Assign, apply, Leaves, size, IsTerm}
-use Rattle.type_relations.specs.Relation.{Interpretation, Outlives, IsValueAtom, IsGround, StaysWithin, AvoidsAll}
+use Rattle.relation_terms.specs.Heads.{region_sort, type_sort, const_sort, VarKind, type_var, int_var, float_var, const_var, region_var, Atom, int_type, uint_type, float_type, Leaf, variable, bound, placeholder, atom, unknown}
+use Rattle.relation_terms.specs.Trees.{Tree, leaf, Assign, apply, Leaves, size, IsTerm}
+use Rattle.type_relations.specs.Relation.{Interpretation, Outlives, IsValueAtom, IsGround, StaysWithin}
 
 -- A constraint on regions: the first outlives the second, or both outlive each other.
 pub data Constraint : Type 0 where
