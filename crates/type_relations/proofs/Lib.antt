@@ -1,6 +1,7 @@
 pub mod Trees
 pub mod Related
 pub mod SmallTerms
+pub mod Constants
 pub mod Values
 pub mod Only
 pub mod Resolved
