@@ -1,6 +1,12 @@
 -- First-order terms and stores, and unification.
 use Rattle.std.specs.Prelude.{◌≡◌, ℕ, Some}
-use Rattle.relation_terms.specs.Heads.{region_sort, leaf_sort, Kind, region_kind, bound_kind, VarKind, type_var, const_var, Atom, type_error, const_error, fresh_type, fresh_int, fresh_float, fresh_const, not_null_pattern, unstable_feature, ambiguous, Head, adt, fn_def, closure, coroutine_closure, coroutine, coroutine_witness, array, slice, tuple, raw_ptr, ref, signature, inputs, value, value_type, value_branch, arguments, existential_trait, existential_projection, trait_ref, trait_clause, Leaf, variable, bound, placeholder, atom, unknown}
+use Rattle.relation_terms.specs.Heads.{region_sort, leaf_sort, Kind, region_kind, bound_kind, VarKind, type_var}
+use Rattle.relation_terms.specs.Heads.{const_var, Atom, type_error, const_error, fresh_type, fresh_int, fresh_float}
+use Rattle.relation_terms.specs.Heads.{fresh_const, not_null_pattern, unstable_feature, ambiguous, Head, adt, fn_def}
+use Rattle.relation_terms.specs.Heads.{closure, coroutine_closure, coroutine, coroutine_witness, array, slice, tuple}
+use Rattle.relation_terms.specs.Heads.{raw_ptr, ref, signature, inputs, value, value_type, value_branch, arguments}
+use Rattle.relation_terms.specs.Heads.{existential_trait, existential_projection, trait_ref, trait_clause, Leaf}
+use Rattle.relation_terms.specs.Heads.{variable, bound, placeholder, atom, unknown}
 use Rattle.relation_terms.specs.Trees.{Tree, leaf, node, bind, nil, cons, Assign, apply, Leaves, IsList}
 use Rattle.relation_terms.specs.Erasure.{erase}
 use Rattle.type_relations.specs.Stores.{Store, bound_term, IsAssignment}

@@ -1,11 +1,14 @@
 -- Laws of a store's calls: which assignments each keeps, and that a sound store stays sound.
 use Rattle.std.specs.Prelude.{◌≡◌, ◌≢◌, ◌↔◌, ℕ, ◌≤◌, [], ◌∷◌}
 use Rattle.relation_terms.specs.declared.terms.enums.Variance.{Variance}
-use Rattle.relation_terms.specs.Heads.{BoundKind, bound_sort, VarKind, int_var, float_var, region_var, var_sort, variable}
+use Rattle.relation_terms.specs.Heads.{BoundKind, bound_sort, VarKind, int_var, float_var, region_var, var_sort}
+use Rattle.relation_terms.specs.Heads.{variable}
 use Rattle.relation_terms.specs.Trees.{Tree, leaf, Assign, apply, Leaves, Occurs}
 use Rattle.type_relations.specs.Relation.{Interpretation, IsGround, StaysWithin}
-use Rattle.type_relations.specs.Stores.{Store, universe_of, MayStandFor, IsNamable, IsInScope, IsTermIn, IsSound, Satisfies, ConstraintHolds, ConstraintIn, Constraint, resolved}
-use Rattle.type_relations.specs.Steps.{Equates, BindsTo, Instantiates, RefusesToInstantiate, MakesVariable, AddsConstraint, ChangesNothing, InstantiatesNumber, Resolves, Extends, Makes}
+use Rattle.type_relations.specs.Stores.{Store, universe_of, MayStandFor, IsNamable, IsInScope, IsTermIn, IsSound}
+use Rattle.type_relations.specs.Stores.{Satisfies, ConstraintHolds, ConstraintIn, Constraint, resolved}
+use Rattle.type_relations.specs.Steps.{Equates, BindsTo, Instantiates, RefusesToInstantiate, MakesVariable}
+use Rattle.type_relations.specs.Steps.{AddsConstraint, ChangesNothing, InstantiatesNumber, Resolves, Extends, Makes}
 use Rattle.type_relations.specs.Outcomes.{Exact}
 use Rattle.type_relations.specs.ErasureLaws.{IsTypeOrConst}
 
@@ -85,5 +88,6 @@ ResolvedResolves = (st : Store) (t : Tree) → IsSound st → Resolves st t (app
 
 -- Making one variable is making the variables of a binder of one.
 abbrev pub MakingOneMakes : Type 0
-MakingOneMakes = (before after : Store) (k : BoundKind) (v : VarKind) (n u : ℕ) → MakesVariable before after v n u → IsSound before → var_sort v ≡ bound_sort k →
+MakingOneMakes = (before after : Store) (k : BoundKind) (v : VarKind) (n u : ℕ) → MakesVariable before after v n u →
+    IsSound before → var_sort v ≡ bound_sort k →
     (v ≡ int_var → ⊥) → (v ≡ float_var → ⊥) → Makes before after u (k ∷ []) (leaf (variable v n) ∷ [])
