@@ -35,7 +35,7 @@ BindingIsExact = (before after : Store) (k : VarKind) (n : ℕ) (t : Tree) → B
     ((w : Interpretation) (s : Assign) → Satisfies w after s ↔ Satisfies w before s × (s k n ≡ apply s t)) ×
     Exact before after (leaf (variable k n)) t
 
--- Binding it to what a term comes to instantiates it with that as it stands, at every variance: nothing is replaced.
+-- Binding a variable to what a term comes to instantiates it with that as it stands, at every variance.
 abbrev pub BindingInstantiates : Type 0
 BindingInstantiates = (before after : Store) (v : Variance) (k : VarKind) (n : ℕ) (source : Tree) → k ≢ region_var →
     BindsTo before after k n (apply (resolved before) source) → IsSound before → IsTermIn before source →
