@@ -50,7 +50,7 @@ CyclesRefuse = (st : Store) (v : Variance) (k : VarKind) (n : ℕ) (source : Tre
     Occurs k n (apply (resolved st) source) → apply (resolved st) source ≢ leaf (variable k n) →
     RefusesToInstantiate st st v k n source
 
--- The same of a number variable and a type of its kind.
+-- A number variable bound to a type of its kind: what holds of any binding.
 abbrev pub NumbersStaySound : Type 0
 NumbersStaySound = (before after : Store) (k : VarKind) (n : ℕ) (t : Tree) → InstantiatesNumber before after k n t →
     IsSound before → IsSound after
