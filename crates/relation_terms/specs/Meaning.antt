@@ -1,6 +1,7 @@
 -- What the keys of an interner and the forms over them mean.
 use Rattle.std.specs.Prelude.{ℕ, ◌≡◌, IsTrue, List, Option, IsSome}
-use Rattle.relation_terms.specs.Heads.{BoundKind, type_var, region_var, bool_type, char_type, int_type, uint_type, static_region, early_region, slice, tuple, ref, variable, atom}
+use Rattle.relation_terms.specs.Heads.{BoundKind, type_var, region_var, bool_type, char_type, int_type, uint_type}
+use Rattle.relation_terms.specs.Heads.{static_region, early_region, slice, tuple, ref, variable, atom}
 use Rattle.relation_terms.specs.Trees.{Tree, leaf, node, nil, cons, known}
 use Rattle.relation_terms.specs.declared.terms.keys.TyKey.{TyKey}
 use Rattle.relation_terms.specs.declared.terms.keys.RegionKey.{RegionKey}
@@ -17,7 +18,8 @@ use Rattle.relation_terms.specs.declared.terms.keys.PredicateKey.{PredicateKey}
 use Rattle.relation_terms.specs.declared.terms.keys.ClauseKey.{ClauseKey}
 use Rattle.relation_terms.specs.declared.terms.keys.ParamEnvKey.{ParamEnvKey}
 use Rattle.relation_terms.specs.declared.terms.ty_kind.TyKind.{TyKind}
-use Rattle.relation_terms.specs.declared.terms.ty_kind.TyKind.TheVariants.{Bool, Char, Int, Uint, Slice, Tuple, Ref, Infer}
+use Rattle.relation_terms.specs.declared.terms.ty_kind.TyKind.TheVariants.{Bool, Char, Int, Uint, Slice, Tuple, Ref}
+use Rattle.relation_terms.specs.declared.terms.ty_kind.TyKind.TheVariants.{Infer}
 use Rattle.relation_terms.specs.declared.terms.ty_kind.InferTy.{InferTy}
 use Rattle.relation_terms.specs.declared.terms.ty_kind.InferTy.TheVariants.{TyVar}
 use Rattle.relation_terms.specs.declared.terms.region_kind.RegionKind.{RegionKind}
@@ -56,7 +58,8 @@ pub record Extends {Key Id Name : Type 0} (m n : Meaning Key Id Name) : Type 0 w
   pub valtree : (k : ValTreeKey Key) → IsTrue (known (m.valtree k)) → n.valtree k ≡ m.valtree k
   pub branches : (k : BranchesKey Key) → IsTrue (known (m.branches k)) → n.branches k ≡ m.branches k
   pub alternatives : (k : AlternativesKey Key) → IsTrue (known (m.alternatives k)) → n.alternatives k ≡ m.alternatives k
-  pub existential_predicates : (k : ExistentialPredicatesKey Key) → IsTrue (known (m.existential_predicates k)) → n.existential_predicates k ≡ m.existential_predicates k
+  pub existential_predicates : (k : ExistentialPredicatesKey Key) → IsTrue (known (m.existential_predicates k)) →
+      n.existential_predicates k ≡ m.existential_predicates k
   pub bound_vars : (k : BoundVarsKey Key) → IsSome (m.bound_vars k) → n.bound_vars k ≡ m.bound_vars k
   pub predicate : (k : PredicateKey Key) → IsTrue (known (m.predicate k)) → n.predicate k ≡ m.predicate k
   pub clause : (k : ClauseKey Key) → IsTrue (known (m.clause k)) → n.clause k ≡ m.clause k

@@ -1,6 +1,8 @@
 -- Terms, predicates and lists of them as finite trees of one type.
 use Rattle.std.specs.Prelude.{◌≡◌, ◌⊎◌, ℕ, zero, suc, ◌+◌, Bool, true, false, ◌&&◌, cond, List, [], ◌∷◌, nat_eq, Some}
-use Rattle.relation_terms.specs.Heads.{Sort, term_of, binder_of, Shape, one, row, Admits, leaf_sort, head_sort, head_parts, BoundKind, VarKind, Head, Leaf, variable, bound, placeholder, atom, unknown}
+use Rattle.relation_terms.specs.Heads.{Sort, term_of, binder_of, Shape, one, row, Admits, leaf_sort, head_sort}
+use Rattle.relation_terms.specs.Heads.{head_parts, BoundKind, VarKind, Head, Leaf, variable, bound, placeholder, atom}
+use Rattle.relation_terms.specs.Heads.{unknown}
 
 -- A tree: a leaf, a form over the list of its parts, a binder over its body, or a list of trees.
 pub data Tree : Type 0 where

@@ -1,9 +1,9 @@
 -- A store that has recorded nothing is sound.
-use Rattle.std.proofs.Common.{◌≡◌, ℕ, zero, suc, ◌≤◌, ◌<◌, refl, sym, ap, subst, subst₂, ◌∙◌, arith, List, [], All, Some, None, get_or, length}
+use Rattle.std.proofs.Common.{◌≡◌, ℕ, ◌≤◌, sym, ap, subst, ◌∙◌, arith, [], All, None, get_or, length}
 use Rattle.std.proofs.lemmas.List.Elements.{All-nil}
-use Rattle.relation_terms.specs.Heads.{VarKind, region_var, variable}
-use Rattle.relation_terms.specs.Trees.{leaf, Leaves}
-use Rattle.type_relations.specs.Stores.{Store, Entry, unbound, same_as, entry_of, entry_term, bound_term, universe_of, IsMade, IsFree, IsSound, ConstraintIn, resolved}
+use Rattle.relation_terms.specs.Heads.{VarKind, region_var}
+use Rattle.relation_terms.specs.Trees.{Leaves}
+use Rattle.type_relations.specs.Stores.{Store, unbound, entry_of, entry_term, bound_term, IsMade, IsFree, IsSound, ConstraintIn}
 use Rattle.type_relations.proofs.Resolved.{resolved_free}
 
 module _ (st : Store) (entries : (k : VarKind) → st.entries k ≡ []) (universes : (k : VarKind) → st.universes k ≡ []) (constraints : st.constraints ≡ []) where

@@ -1,18 +1,18 @@
 -- Making two variables one, and binding a variable to a term.
-use Rattle.std.proofs.Common.{◌≡◌, ◌≢◌, ◌⊎◌, ℕ, zero, suc, ◌+◌, ◌*◌, ◌≤◌, ◌<◌, min, refl, sym, ap, ap₂, ◌∙◌, arith, inl, inr, subst, subst₂, Some, None, Option, le_trans, le_of_eq}
+use Rattle.std.proofs.Common.{◌≡◌, ◌⊎◌, ℕ, ◌*◌, ◌≤◌, ◌<◌, min, refl, sym, ap, ap₂, ◌∙◌, arith, inl, inr, subst, subst₂, Some, None, le_trans, le_of_eq}
 use Rattle.std.proofs.Math.Nat.{mul-le-mul}
 use native.Mathlib.Decide.{dec_le}
 use Rattle.relation_terms.specs.Heads.{VarKind, region_var, Leaf, variable, bound, placeholder, atom, unknown}
 use Rattle.relation_terms.specs.Trees.{Tree, leaf, Assign, apply, Leaves, Occurs}
 use Rattle.type_relations.specs.Relation.{Interpretation}
-use Rattle.type_relations.specs.Stores.{Store, Entry, unbound, same_as, bound_to, entry_of, entry_term, bound_term, universe_of, IsMade, IsInScope, IsNamable, MayStandFor, IsTermIn, IsSound, Satisfies, resolved, weight, all_bound, counts_bound}
-use Rattle.type_relations.specs.Steps.{WritesEntry, Equates, BindsTo, IsLater}
+use Rattle.type_relations.specs.Stores.{Store, same_as, bound_to, entry_term, bound_term, universe_of, IsMade, IsInScope, IsNamable, MayStandFor, IsTermIn, IsSound, Satisfies, resolved, weight, counts_bound}
+use Rattle.type_relations.specs.Steps.{Equates, BindsTo, IsLater}
 use Rattle.type_relations.specs.Measures.{Goes}
 use Rattle.type_relations.proofs.Trees.{Leaves_map}
 use Rattle.type_relations.proofs.Only.{which}
 use Rattle.type_relations.proofs.Resolved.{resolved_free, resolved_weight}
 use Rattle.type_relations.proofs.Standing.{itself_stands, namable_mono, term_of_made}
-use Rattle.type_relations.proofs.Written.{sound_after, is_later, equal, keeps, weight_after, made_after, made_before, now_bound, tally_more}
+use Rattle.type_relations.proofs.Written.{sound_after, is_later, equal, keeps, weight_after, made_after, tally_more}
 
 module _ (before after : Store) (k : VarKind) (child root : ℕ) (q : Equates before after k child root) (g : IsSound before) (not_region : k ≡ region_var → ⊥) where
   abbrev to : Tree

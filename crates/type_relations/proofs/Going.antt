@@ -1,10 +1,9 @@
 -- States in a row, and sizes and budgets over parts of the work.
-use Rattle.std.proofs.Common.{ℕ, suc, zero, ◌+◌, ◌*◌, ◌≤◌, ◌<◌, ◌≡◌, refl, arith, ap, sym, ◌∙◌, subst, zero-add, le_trans, List, [], ◌++◌, append_assoc}
+use Rattle.std.proofs.Common.{ℕ, suc, zero, ◌+◌, ◌*◌, ◌≤◌, ◌<◌, ◌≡◌, refl, arith, ap, sym, ◌∙◌, subst, zero-add, le_trans, [], ◌++◌, append_assoc}
 use Rattle.std.proofs.Math.Nat.{suc-add, mul-le-mul}
 use Rattle.std.proofs.lemmas.List.{append-nil}
-use Rattle.relation_terms.specs.Heads.{VarKind}
-use Rattle.relation_terms.specs.Trees.{Tree, cons, size, apply}
-use Rattle.type_relations.specs.Stores.{Store, weight, all_bound, entry_of, unbound, IsMade}
+use Rattle.relation_terms.specs.Trees.{Tree, cons}
+use Rattle.type_relations.specs.Stores.{Store, weight}
 use Rattle.type_relations.specs.Steps.{IsLater}
 use Rattle.type_relations.specs.Measures.{grown, depth, Goes}
 

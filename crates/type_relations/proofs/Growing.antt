@@ -1,12 +1,12 @@
 -- A new variable and a new constraint keep a store sound.
-use Rattle.std.proofs.Common.{◌≡◌, ◌⊎◌, ℕ, zero, suc, ◌+◌, ◌≤◌, ◌<◌, refl, sym, ap, ap₂, ◌∙◌, arith, inl, inr, subst, subst₂, Some, None, Option, le_trans, get_or, List, [], ◌∷◌, ◌++◌, All, length, length-append}
+use Rattle.std.proofs.Common.{◌≡◌, ◌⊎◌, ℕ, zero, suc, ◌≤◌, ◌<◌, refl, sym, ap, ap₂, ◌∙◌, arith, inl, inr, subst, subst₂, get_or, List, [], ◌∷◌, ◌++◌, All, length, length-append}
 use Rattle.std.proofs.lemmas.List.{append-nil, get_or_append_left}
 use Rattle.std.proofs.lemmas.List.Elements.{All-nil, All-cons, All-append, All-head, All-tail}
 use native.Mathlib.Decide.{ℕ_discrete}
 use Rattle.relation_terms.specs.Heads.{VarKind, VarKind_discrete, region_var, Leaf, atom, variable, bound, placeholder, unknown}
-use Rattle.relation_terms.specs.Trees.{Tree, leaf, Assign, apply, Leaves, size}
+use Rattle.relation_terms.specs.Trees.{Tree, Assign, Leaves, size}
 use Rattle.type_relations.specs.Relation.{Interpretation}
-use Rattle.type_relations.specs.Stores.{Store, Entry, unbound, same_as, entry_of, entry_term, bound_term, universe_of, IsMade, IsFree, IsInScope, IsNamable, MayHave, IsSound, Satisfies, OnlyShrinks, ConstraintHolds, Constraint, ConstraintIn, resolved, all_tally, all_taken, all_bound, tally, counts_term, counts_bound, weight}
+use Rattle.type_relations.specs.Stores.{Store, Entry, unbound, entry_of, entry_term, bound_term, universe_of, IsMade, IsFree, IsInScope, IsNamable, IsSound, Satisfies, ConstraintHolds, Constraint, ConstraintIn, resolved, all_tally, all_bound, tally, counts_term, counts_bound, weight}
 use Rattle.type_relations.specs.Steps.{MakesVariable, AddsConstraint, IsLater}
 use Rattle.type_relations.proofs.Trees.{Leaves_map, apply_alike}
 use Rattle.type_relations.proofs.Resolved.{resolved_same, resolved_free}

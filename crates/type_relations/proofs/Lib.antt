@@ -1,6 +1,7 @@
 pub mod Trees
 pub mod Related
 pub mod SmallTerms
+pub mod Constants
 pub mod Values
 pub mod Only
 pub mod Resolved
@@ -17,6 +18,7 @@ pub mod Going
 pub mod Equating
 pub mod Empty
 pub mod StoreCalls
+pub mod Instantiating
 pub mod Assigning
 pub mod RegionTerms
 pub mod Deciding

@@ -1,10 +1,10 @@
 -- Following bindings.
-use Rattle.std.proofs.Common.{◌≡◌, ◌≢◌, ◌⊎◌, ℕ, zero, suc, ◌+◌, ◌<◌, ◌≤◌, refl, sym, ap, ap₂, ◌∙◌, arith, inl, inr, subst, Option, Some, None, zero-add}
+use Rattle.std.proofs.Common.{◌≡◌, ◌≢◌, ℕ, zero, suc, ◌+◌, refl, sym, ap, ◌∙◌, arith, subst, Option, Some, None, zero-add}
 use Rattle.std.proofs.Math.Nat.{suc-add}
 use Rattle.relation_terms.specs.Heads.{VarKind, Leaf, variable, bound, placeholder, atom, unknown}
-use Rattle.relation_terms.specs.Trees.{Tree, leaf, node, bind, nil, cons, Assign, assigned, apply, Leaves, Occurs, size}
+use Rattle.relation_terms.specs.Trees.{Tree, leaf, Assign, assigned, apply, Leaves, Occurs, size}
 use Rattle.type_relations.specs.Stores.{Store, bound_term, MeetsBindings, IsFree, IsSound, through, resolve, rounds_for, all_taken, resolved, weight}
-use Rattle.type_relations.proofs.Trees.{Leaves_map, Leaves-replace, all_leaves, apply-apply, apply_alike, IsOwn, own_if, own_other, apply_own, occurs_check}
+use Rattle.type_relations.proofs.Trees.{Leaves_map, Leaves-replace, all_leaves, apply-apply, apply_alike, IsOwn, own_other, apply_own, occurs_check}
 
 free_through : (s : Assign) (k : VarKind) (n : ℕ) (o : Option Tree) → o ≡ None → through s k n o ≡ leaf (variable k n)
 free_through s k n None e = refl

@@ -1,9 +1,9 @@
 -- What stands when variables are replaced.
-use Rattle.std.proofs.Common.{◌≡◌, ℕ, zero, suc, ◌≤◌, ◌<◌, refl, sym, ap, arith, subst, List, [], ◌∷◌, Some, None, Option, le_trans, All}
-use Rattle.relation_terms.specs.Heads.{Sort, Admits, Part, term_of, binder_of, Shape, one, row, head_parts, head_sort, leaf_sort, var_sort, VarKind, type_var, int_var, float_var, const_var, region_var, type_sort, const_sort, region_sort, Leaf, Atom, int_type, uint_type, float_type, atom, variable, bound, placeholder, unknown}
+use Rattle.std.proofs.Common.{◌≡◌, ℕ, suc, ◌≤◌, refl, sym, arith, subst, [], ◌∷◌, Some, le_trans}
+use Rattle.relation_terms.specs.Heads.{Sort, Admits, term_of, binder_of, Shape, one, row, head_parts, head_sort, leaf_sort, var_sort, VarKind, type_var, int_var, float_var, const_var, region_var, type_sort, const_sort, region_sort, Leaf, Atom, int_type, uint_type, float_type, atom, variable, bound, placeholder, unknown}
 use Rattle.relation_terms.specs.Trees.{Tree, leaf, node, bind, nil, cons, Assign, assigned, apply, Leaves, Fits, IsTerm}
 use Rattle.type_relations.specs.Relation.{StaysWithin, sort_of}
-use Rattle.type_relations.specs.Stores.{Store, universe_of, IsMade, IsIntegerAtom, IsFloatAtom, IsIntegerTerm, IsFloatTerm, MayStandFor, IsInScope, IsNamable, IsMadeLeaf, InContext, IsTermIn, IsSound, resolved, IsRegionIn, Constraint, outlives_constraint, equal_constraint, ConstraintIn}
+use Rattle.type_relations.specs.Stores.{Store, universe_of, IsMade, IsIntegerAtom, IsFloatAtom, IsIntegerTerm, IsFloatTerm, MayStandFor, IsInScope, IsNamable, IsMadeLeaf, InContext, IsTermIn, IsSound, resolved, Constraint, outlives_constraint, equal_constraint, ConstraintIn}
 use Rattle.type_relations.proofs.Trees.{Leaves_map, Leaves_map₂, Leaves-replace, StaysWithin-mono}
 
 -- What is of a variable's sort alone.

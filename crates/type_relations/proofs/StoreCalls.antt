@@ -235,7 +235,7 @@ nothing_is_seen before after h = (changed_sound before after h, λ w s. (satisfi
 
 -- What variables come to in a sound store.
 module _ (st : Store) (g : IsSound st) where
-  resolve_stands : (f : ℕ) (k : VarKind) (n : ℕ) → MayStandFor k (resolve f st k n)
+  pub resolve_stands : (f : ℕ) (k : VarKind) (n : ℕ) → MayStandFor k (resolve f st k n)
   unfolding resolve
   resolve_stands zero k n = itself_stands k n
   resolve_stands (suc f) k n = go (resolve_stands f) (has_term st k n)
@@ -270,7 +270,7 @@ module _ (st : Store) (g : IsSound st) where
       go i (is_free q) = ap (λ z. erase (apply s z)) (sym (resolve_free (suc f) st k n q))
       go i (is_bound t q) = h k n t q ∙ erased_alike s (λ k n. apply s (resolve f st k n)) t i ∙ ap erase (sym (apply-apply s (resolve f st) t)) ∙ ap (λ z. erase (apply s z)) (sym (resolve_bound f st k n t q))
 
-  resolved_unifies : (s : Assign) → MeetsErased st s → (t : Tree) → Unifies s (apply (resolved st) t) t
+  pub resolved_unifies : (s : Assign) → MeetsErased st s → (t : Tree) → Unifies s (apply (resolved st) t) t
   unfolding resolved
   resolved_unifies s h t = ap erase (apply-apply s (resolved st) t) ∙ sym (erased_alike s (λ k n. apply s (resolved st k n)) t (resolve_erased s h _))
 
@@ -281,7 +281,7 @@ module _ (st : Store) (g : IsSound st) where
   in_leaf (atom x) m = m
   in_leaf unknown m = m
 
-  resolved_in : (t : Tree) → IsTermIn st t → IsTermIn st (apply (resolved st) t)
+  pub resolved_in : (t : Tree) → IsTermIn st t → IsTermIn st (apply (resolved st) t)
   unfolding IsTermIn InContext
   resolved_in t h = (
     Leaves-replace (IsMadeLeaf st) (assigned (resolved st)) t (Leaves_map (IsMadeLeaf st) _ in_leaf t h.0),

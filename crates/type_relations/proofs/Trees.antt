@@ -1,6 +1,6 @@
 -- What replacing leaves does.
-use Rattle.std.proofs.Common.{◌≡◌, ◌≢◌, ◌⊎◌, ℕ, zero, suc, ◌+◌, ◌<◌, ◌≤◌, refl, sym, ap, ap₂, ◌∙◌, arith, inl, inr, subst, List, [], ◌∷◌, map, nat_eq, cond, Bool, true, false, ne_eqb, le_of_eq}
-use Rattle.relation_terms.specs.Heads.{Sort, BoundKind, VarKind, Leaf, atom, variable, bound, placeholder, unknown, Head}
+use Rattle.std.proofs.Common.{◌≡◌, ◌≢◌, ℕ, zero, suc, ◌<◌, ◌≤◌, refl, sym, ap, ap₂, ◌∙◌, arith, inl, inr, List, [], ◌∷◌, map, nat_eq, cond, Bool, true, false, ne_eqb, le_of_eq}
+use Rattle.relation_terms.specs.Heads.{BoundKind, VarKind, Leaf, atom, variable, bound, placeholder, unknown}
 use Rattle.relation_terms.specs.Trees.{Tree, leaf, node, bind, nil, cons, replace, Assign, assigned, apply, tree_at, put, inst, size, Leaves, Occurs}
 use Rattle.type_relations.specs.Relation.{IsGround, StaysWithin}
 

@@ -1,16 +1,16 @@
 -- One variable got an entry: what all variables come to, which assignments are left, and that the store stays sound.
-use Rattle.std.proofs.Common.{◌≡◌, ◌≢◌, ◌⊎◌, ◌↔◌, ℕ, zero, suc, ◌+◌, ◌*◌, ◌≤◌, ◌<◌, refl, sym, ap, ap₂, ◌∙◌, arith, inl, inr, subst, subst₂, Some, None, Option, le_trans, get_or, List, [], ◌++◌, All, length}
+use Rattle.std.proofs.Common.{◌≡◌, ◌⊎◌, ◌↔◌, ℕ, zero, suc, ◌+◌, ◌*◌, ◌≤◌, ◌<◌, refl, sym, ap, ap₂, ◌∙◌, arith, inl, inr, subst, subst₂, Some, None, le_trans, [], All}
 use Rattle.std.proofs.Math.Nat.{suc-add}
 use Rattle.std.proofs.lemmas.List.{append-nil}
 use Rattle.relation_terms.specs.Heads.{VarKind, region_var, Leaf, atom, variable, bound, placeholder, unknown}
 use Rattle.relation_terms.specs.Trees.{Tree, leaf, node, bind, nil, cons, Assign, assigned, apply, Leaves, Occurs, size}
-use Rattle.type_relations.specs.Relation.{Interpretation, IsGround, StaysWithin}
-use Rattle.type_relations.specs.Stores.{Store, Entry, unbound, same_as, bound_to, entry_of, entry_term, bound_term, universe_of, IsMade, IsFree, IsInScope, IsNamable, MayStandFor, MayHave, IsTermIn, IsSound, MeetsBindings, Satisfies, OnlyShrinks, ConstraintHolds, Constraint, ConstraintIn, resolve, resolved, rounds_for, all_taken, all_bound, all_tally, tally, counts_term, counts_bound, weight}
+use Rattle.type_relations.specs.Relation.{Interpretation}
+use Rattle.type_relations.specs.Stores.{Store, Entry, unbound, same_as, bound_to, entry_of, entry_term, bound_term, universe_of, IsMade, IsFree, IsInScope, IsNamable, MayStandFor, MayHave, IsTermIn, IsSound, MeetsBindings, Satisfies, OnlyShrinks, ConstraintHolds, ConstraintIn, resolve, resolved, rounds_for, all_taken, all_tally, tally, counts_term, weight}
 use Rattle.type_relations.specs.Steps.{WritesEntry, IsLater}
-use Rattle.type_relations.proofs.Trees.{Leaves_map, Leaves_map₂, Leaves-replace, all_leaves, apply_alike, apply-apply}
-use Rattle.type_relations.proofs.Only.{only, only_same, only_other, which, only_case, absent, absent_leaves, only_size}
-use Rattle.type_relations.proofs.Resolved.{HasTerm, is_free, is_bound, has_term, resolve_free, resolve_bound, resolve_none, resolve_start, settled_more, settled_term, general, over_free, resolved_free, resolved_meets, resolved_value}
-use Rattle.type_relations.proofs.Standing.{within_apply, scope_mono, stands_apply, itself_stands, own_scope, namable_mono, later_context, later_term, later_constraint, term_within}
+use Rattle.type_relations.proofs.Trees.{Leaves_map, Leaves_map₂, Leaves-replace, apply_alike, apply-apply}
+use Rattle.type_relations.proofs.Only.{only, only_same, only_other, which, absent, absent_leaves, only_size}
+use Rattle.type_relations.proofs.Resolved.{HasTerm, is_free, is_bound, has_term, resolve_free, resolve_bound, resolve_none, resolve_start, settled_more, settled_term, general, over_free, resolved_free, resolved_meets}
+use Rattle.type_relations.proofs.Standing.{scope_mono, own_scope, namable_mono, later_term, later_constraint}
 use Rattle.type_relations.proofs.Tallies.{tally_alike, tally_written, all_more}
 
 module _ (before after : Store) (k : VarKind) (n : ℕ) (x : Entry) (t : Tree) (w : WritesEntry before after k n x) (e : entry_term k x ≡ Some t) where

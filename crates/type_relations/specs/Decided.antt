@@ -2,7 +2,14 @@
 use Rattle.std.specs.Prelude.{◌≡◌, ◌⊎◌, [], ◌∷◌, Bool, true, false, List, map, Option, Some, None, get_or}
 use Rattle.relation_terms.specs.declared.terms.enums.Variance.{Variance}
 use Rattle.relation_terms.specs.declared.terms.enums.Variance.TheVariants.{Invariant}
-use Rattle.relation_terms.specs.Heads.{Sort, region_sort, type_sort, const_sort, value_sort, value_type_sort, pattern_sort, region_kind, type_kind, const_kind, bound_kind, bool_type, char_type, str_type, never_type, type_error, int_type, uint_type, float_type, foreign, type_param, static_region, early_region, const_error, const_param, value_leaf, not_null_pattern, Head, adt, fn_def, closure, coroutine_closure, coroutine, coroutine_witness, array, slice, pattern_type, tuple, raw_ptr, ref, value, value_type, value_branch, expression, range_pattern, or_pattern, Leaf, placeholder, atom}
+use Rattle.relation_terms.specs.Heads.{Sort, region_sort, type_sort, const_sort, value_sort, value_type_sort}
+use Rattle.relation_terms.specs.Heads.{pattern_sort, region_kind, type_kind, const_kind, bound_kind, bool_type}
+use Rattle.relation_terms.specs.Heads.{char_type, str_type, never_type, type_error, int_type, uint_type, float_type}
+use Rattle.relation_terms.specs.Heads.{foreign, type_param, static_region, early_region, const_error, const_param}
+use Rattle.relation_terms.specs.Heads.{value_leaf, not_null_pattern, Head, adt, fn_def, closure, coroutine_closure}
+use Rattle.relation_terms.specs.Heads.{coroutine, coroutine_witness, array, slice, pattern_type, tuple, raw_ptr, ref}
+use Rattle.relation_terms.specs.Heads.{value, value_type, value_branch, expression, range_pattern, or_pattern, Leaf}
+use Rattle.relation_terms.specs.Heads.{placeholder, atom}
 use Rattle.relation_terms.specs.Trees.{Tree, leaf, node, nil, cons}
 use Rattle.type_relations.specs.Relation.{Items, plain_atom}
 use Rattle.type_relations.specs.declared.decided.SmallLeaf.{SmallLeaf}
@@ -89,7 +96,8 @@ abbrev pub plain_leaf : Leaf → Leaf
 plain_leaf (atom x) = atom (plain_atom x)
 plain_leaf l = l
 
--- One region leads to another by some pairs: it is the other, or it leads to the first of a pair whose second leads there.
+-- One region leads to another by some pairs: it is the other, or it leads to the first of a pair whose second leads
+-- there.
 abbrev pub Leads : List (Tree × Tree) → Tree → Tree → Type 0
 Leads [] a b = a ≡ b
 Leads (p ∷ ps) a b = Leads ps a b ⊎ (Leads ps a p.0 × Leads ps p.1 b)

@@ -1,7 +1,8 @@
 -- Laws of erasure and of unification.
 use Rattle.std.specs.Prelude.{◌≡◌, ◌≢◌, ◌↔◌, ℕ}
 use Rattle.relation_terms.specs.declared.terms.enums.Variance.TheVariants.{Invariant}
-use Rattle.relation_terms.specs.Heads.{region_sort, VarKind, type_var, const_var, region_var, Head, value_type, variable}
+use Rattle.relation_terms.specs.Heads.{region_sort, VarKind, type_var, const_var, region_var, Head, value_type}
+use Rattle.relation_terms.specs.Heads.{variable}
 use Rattle.relation_terms.specs.Trees.{Tree, leaf, node, cons, Assign, apply, Occurs}
 use Rattle.relation_terms.specs.Erasure.{erase}
 use Rattle.type_relations.specs.Relation.{Items, Interpretation, Rel, at, sort_of}

@@ -1,6 +1,12 @@
 -- First-order terms and stores, and unification.
 use Rattle.std.specs.Prelude.{◌≡◌, ℕ, Some}
-use Rattle.relation_terms.specs.Heads.{region_sort, leaf_sort, Kind, region_kind, bound_kind, VarKind, type_var, const_var, Atom, type_error, const_error, fresh_type, fresh_int, fresh_float, fresh_const, not_null_pattern, unstable_feature, ambiguous, Head, adt, fn_def, closure, coroutine_closure, coroutine, coroutine_witness, array, slice, tuple, raw_ptr, ref, signature, inputs, value, value_type, value_branch, arguments, existential_trait, existential_projection, trait_ref, trait_clause, Leaf, variable, bound, placeholder, atom, unknown}
+use Rattle.relation_terms.specs.Heads.{region_sort, leaf_sort, VarKind, type_var}
+use Rattle.relation_terms.specs.Heads.{const_var, Atom, type_error, const_error, fresh_type, fresh_int, fresh_float}
+use Rattle.relation_terms.specs.Heads.{fresh_const, not_null_pattern, unstable_feature, ambiguous, Head, adt, fn_def}
+use Rattle.relation_terms.specs.Heads.{closure, coroutine_closure, coroutine, coroutine_witness, array, slice, tuple}
+use Rattle.relation_terms.specs.Heads.{raw_ptr, ref, signature, inputs, value, value_type, value_branch, arguments}
+use Rattle.relation_terms.specs.Heads.{existential_trait, existential_projection, trait_ref, trait_clause, Leaf}
+use Rattle.relation_terms.specs.Heads.{variable, bound, placeholder, atom, unknown}
 use Rattle.relation_terms.specs.Trees.{Tree, leaf, node, bind, nil, cons, Assign, apply, Leaves, IsList}
 use Rattle.relation_terms.specs.Erasure.{erase}
 use Rattle.type_relations.specs.Stores.{Store, bound_term, IsAssignment}
@@ -51,9 +57,9 @@ IsFirstOrderHead (trait_ref d) = Unit {0}
 IsFirstOrderHead (trait_clause p) = Unit {0}
 IsFirstOrderHead h = ⊥
 
-abbrev pub IsRegionKind : Kind → Type 0
-IsRegionKind region_kind = Unit {0}
-IsRegionKind k = ⊥
+-- A region's variable, bound variable, placeholder or name.
+abbrev pub IsRegionLeaf : Leaf → Type 0
+IsRegionLeaf l = leaf_sort l ≡ region_sort
 
 -- No variable and no placeholder of a type or a constant.
 abbrev pub IsClosedLeaf : Leaf → Type 0
@@ -61,7 +67,7 @@ IsClosedLeaf (variable type_var n) = ⊥
 IsClosedLeaf (variable const_var n) = ⊥
 IsClosedLeaf (variable k n) = Unit {0}
 IsClosedLeaf (bound k d i) = Unit {0}
-IsClosedLeaf (placeholder (bound_kind k m) u n) = IsRegionKind k
+IsClosedLeaf (placeholder k u n) = IsRegionLeaf (placeholder k u n)
 IsClosedLeaf (atom x) = Unit {0}
 IsClosedLeaf unknown = ⊥
 
@@ -92,7 +98,3 @@ MeetsErased st s = (k : VarKind) (n : ℕ) (t : Tree) → bound_term st k n ≡ 
 -- An assignment that satisfies a store's bindings up to erasure. Its constraints on regions are not asked.
 abbrev pub IsErasedSolution : Store → Assign → Type 0
 IsErasedSolution st s = IsAssignment st s × MeetsErased st s
-
--- A region's variable, bound variable, placeholder or name.
-abbrev pub IsRegionLeaf : Leaf → Type 0
-IsRegionLeaf l = leaf_sort l ≡ region_sort

@@ -3,7 +3,8 @@
 use Rattle.std.specs.Prelude.{◌≡◌, ◌⊎◌, ◌↔◌, suc, List, [], ◌∷◌, None}
 use Rattle.relation_terms.specs.declared.terms.enums.Variance.{Variance}
 use Rattle.relation_terms.specs.declared.terms.enums.Variance.TheVariants.{Bivariant}
-use Rattle.relation_terms.specs.Heads.{Sort, region_sort, BoundKind, bound_sort, Head, fn_ptr, unsafe_binder, Leaf, variable, bound, placeholder, atom, unknown}
+use Rattle.relation_terms.specs.Heads.{Sort, region_sort, BoundKind, bound_sort, Head, fn_ptr, unsafe_binder, Leaf}
+use Rattle.relation_terms.specs.Heads.{variable, bound, placeholder, atom, unknown}
 use Rattle.relation_terms.specs.Trees.{Tree, leaf, node, bind, nil, cons, IsTerm}
 use Rattle.relation_terms.specs.Erasure.{erase}
 use Rattle.type_relations.specs.Relation.{Items, Interpretation, Way, at, parts, part_at, plain, Rel}

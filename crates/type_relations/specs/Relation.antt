@@ -1,11 +1,21 @@
 -- When two variable-free trees are related, at a variance, in an environment, under an interpretation.
 use Rattle.std.specs.Prelude.{◌≡◌, ◌≢◌, ◌⊎◌, ℕ, zero, suc, ◌<◌, List, [], ◌∷◌, Option, Some, None, Contains}
 use Rattle.relation_terms.specs.declared.terms.enums.Variance.{Variance}
-use Rattle.relation_terms.specs.declared.terms.enums.Variance.TheVariants.{Covariant, Contravariant, Invariant, Bivariant}
+use Rattle.relation_terms.specs.declared.terms.enums.Variance.TheVariants.{Covariant, Contravariant, Invariant}
+use Rattle.relation_terms.specs.declared.terms.enums.Variance.TheVariants.{Bivariant}
 use Rattle.relation_terms.specs.declared.terms.enums.Mutability.{Mutability}
 use Rattle.relation_terms.specs.declared.terms.enums.Mutability.TheVariants.{Not, Mut}
 use Rattle.relation_terms.specs.Variances.{xform}
-use Rattle.relation_terms.specs.Heads.{Sort, region_sort, type_sort, const_sort, no_sort, Kind, BoundKind, bound_kind, kind_sort, bound_sort, leaf_sort, head_sort, AliasKind, projection_alias, opaque_alias, AliasTermKind, type_alias, Atom, type_error, const_error, fresh_type, fresh_int, fresh_float, fresh_const, type_param, const_param, Head, adt, fn_def, closure, coroutine_closure, coroutine, coroutine_witness, raw_ptr, ref, alias, signature, unevaluated, expression, value_type, arguments, existential_trait, existential_projection, trait_ref, host_effect, subtype, alias_term, region_outlives, type_outlives, projection, const_has_type, well_formed, const_evaluatable, coerce, normalizes_to, alias_relate, environment, Leaf, variable, bound, placeholder, atom, unknown}
+use Rattle.relation_terms.specs.Heads.{Sort, region_sort, type_sort, const_sort, no_sort, BoundKind, bound_sort}
+use Rattle.relation_terms.specs.Heads.{leaf_sort, head_sort, projection_alias, opaque_alias, AliasTermKind, type_alias}
+use Rattle.relation_terms.specs.Heads.{Atom, type_error, const_error, fresh_type, fresh_int, fresh_float, fresh_const}
+use Rattle.relation_terms.specs.Heads.{type_param, const_param, Head, adt, fn_def, closure, coroutine_closure}
+use Rattle.relation_terms.specs.Heads.{coroutine, coroutine_witness, raw_ptr, ref, alias, signature, unevaluated}
+use Rattle.relation_terms.specs.Heads.{expression, value_type, arguments, existential_trait, existential_projection}
+use Rattle.relation_terms.specs.Heads.{trait_ref, host_effect, subtype, alias_term, region_outlives, type_outlives}
+use Rattle.relation_terms.specs.Heads.{projection, const_has_type, well_formed, const_evaluatable, coerce}
+use Rattle.relation_terms.specs.Heads.{normalizes_to, alias_relate, environment, Leaf, variable, bound, placeholder}
+use Rattle.relation_terms.specs.Heads.{atom, unknown}
 use Rattle.relation_terms.specs.Trees.{Tree, leaf, node, bind, nil, cons, inst, Leaves, IsTerm}
 
 -- The declared variances of the parameters of items, by item and place; of an alias only where it has any.
@@ -211,7 +221,8 @@ AvoidsAll p (q ∷ qs) = (q ≢ p) × AvoidsAll p qs
 -- Pairwise different placeholders for the variables of a binder, none of which stands in either tree.
 abbrev pub Fresh : List BoundKind → List Tree → Tree → Tree → Type 0
 Fresh [] [] a b = Unit {0}
-Fresh (k ∷ ks) (p ∷ ps) a b = ((u : ℕ) × (n : ℕ) × (p ≡ leaf (placeholder k u n))) × Avoids p a × Avoids p b × AvoidsAll p ps × Fresh ks ps a b
+Fresh (k ∷ ks) (p ∷ ps) a b = ((u : ℕ) × (n : ℕ) × (p ≡ leaf (placeholder k u n))) × Avoids p a × Avoids p b ×
+    AvoidsAll p ps × Fresh ks ps a b
 Fresh [] (p ∷ ps) a b = ⊥
 Fresh (k ∷ ks) [] a b = ⊥
 
@@ -233,20 +244,33 @@ pub data Rel (c : Items) (w : Interpretation) (e : Tree) : Way → Tree → Tree
   error_left : {v : Variance} {a b : Tree} → IsError a → sort_of a ≡ sort_of b → Rel c w e (at v) a b
   error_right : {v : Variance} {a b : Tree} → IsError b → sort_of a ≡ sort_of b → Rel c w e (at v) a b
   -- regions by what outlives what
-  regions : {v : Variance} {a b : Tree} → sort_of a ≡ region_sort → sort_of b ≡ region_sort → RegionRule w v a b → Rel c w e (at v) a b
+  regions : {v : Variance} {a b : Tree} → sort_of a ≡ region_sort → sort_of b ≡ region_sort → RegionRule w v a b →
+      Rel c w e (at v) a b
   -- types by a pair of the environment
-  alias_types : {v : Variance} {a b : Tree} → sort_of a ≡ type_sort → sort_of b ≡ type_sort → AliasRule w e v a b → Rel c w e (at v) a b
+  alias_types : {v : Variance} {a b : Tree} → sort_of a ≡ type_sort → sort_of b ≡ type_sort → AliasRule w e v a b →
+      Rel c w e (at v) a b
   -- constants by an equal pair of the environment
-  equal_consts : {v : Variance} {a b : Tree} → sort_of a ≡ const_sort → sort_of b ≡ const_sort → IsEqualPair w e a b → Rel c w e (at v) a b
+  equal_consts : {v : Variance} {a b : Tree} → sort_of a ≡ const_sort → sort_of b ≡ const_sort → IsEqualPair w e a b →
+      Rel c w e (at v) a b
   -- forms without parts that are alike but for a parameter's name
   atoms : {v : Variance} {x y : Atom} → plain_atom x ≡ plain_atom y → Rel c w e (at v) (leaf (atom x)) (leaf (atom y))
   -- one form: by its parts, each at the variance of its place
-  forms : {v : Variance} {h k : Head} {xs ys : Tree} → IsRelatedHead h → plain h ≡ plain k → Rel c w e (parts h 0 v) xs ys → Rel c w e (at v) (node h xs) (node k ys)
+  forms : {v : Variance} {h k : Head} {xs ys : Tree} → IsRelatedHead h → plain h ≡ plain k →
+      Rel c w e (parts h 0 v) xs ys → Rel c w e (at v) (node h xs) (node k ys)
   no_parts : {h : Head} {i : ℕ} {v : Variance} → Rel c w e (parts h i v) nil nil
-  next_part : {h : Head} {i : ℕ} {v : Variance} {a b xs ys : Tree} → Rel c w e (at (part_at c h i v)) a b → Rel c w e (parts h (suc i) v) xs ys → Rel c w e (parts h i v) (cons a xs) (cons b ys)
+  next_part : {h : Head} {i : ℕ} {v : Variance} {a b xs ys : Tree} → Rel c w e (at (part_at c h i v)) a b →
+      Rel c w e (parts h (suc i) v) xs ys → Rel c w e (parts h i v) (cons a xs) (cons b ys)
   -- binders, by placeholders for one and values for the other
-  covariant_binders : {v : Variance} {ks ls : List BoundKind} {a b : Tree} → v ≡ Covariant → Rel c w e (second_opened ks ls v) a b → Rel c w e (at v) (bind ks a) (bind ls b)
-  contravariant_binders : {v : Variance} {ks ls : List BoundKind} {a b : Tree} → v ≡ Contravariant → Rel c w e (first_opened ks ls v) a b → Rel c w e (at v) (bind ks a) (bind ls b)
-  invariant_binders : {v : Variance} {ks ls : List BoundKind} {a b : Tree} → v ≡ Invariant → Rel c w e (second_opened ks ls v) a b → Rel c w e (first_opened ks ls v) a b → Rel c w e (at v) (bind ks a) (bind ls b)
-  open_second : {v : Variance} {ks ls : List BoundKind} {a b : Tree} (values placeholders : List Tree) → FitKinds ks values → Fresh ls placeholders a b → Rel c w e (at v) (inst values 0 a) (inst placeholders 0 b) → Rel c w e (second_opened ks ls v) a b
-  open_first : {v : Variance} {ks ls : List BoundKind} {a b : Tree} (placeholders values : List Tree) → Fresh ks placeholders a b → FitKinds ls values → Rel c w e (at v) (inst placeholders 0 a) (inst values 0 b) → Rel c w e (first_opened ks ls v) a b
+  covariant_binders : {v : Variance} {ks ls : List BoundKind} {a b : Tree} → v ≡ Covariant →
+      Rel c w e (second_opened ks ls v) a b → Rel c w e (at v) (bind ks a) (bind ls b)
+  contravariant_binders : {v : Variance} {ks ls : List BoundKind} {a b : Tree} → v ≡ Contravariant →
+      Rel c w e (first_opened ks ls v) a b → Rel c w e (at v) (bind ks a) (bind ls b)
+  invariant_binders : {v : Variance} {ks ls : List BoundKind} {a b : Tree} → v ≡ Invariant →
+      Rel c w e (second_opened ks ls v) a b → Rel c w e (first_opened ks ls v) a b →
+      Rel c w e (at v) (bind ks a) (bind ls b)
+  open_second : {v : Variance} {ks ls : List BoundKind} {a b : Tree} (values placeholders : List Tree) →
+      FitKinds ks values → Fresh ls placeholders a b → Rel c w e (at v) (inst values 0 a) (inst placeholders 0 b) →
+      Rel c w e (second_opened ks ls v) a b
+  open_first : {v : Variance} {ks ls : List BoundKind} {a b : Tree} (placeholders values : List Tree) →
+      Fresh ks placeholders a b → FitKinds ls values → Rel c w e (at v) (inst placeholders 0 a) (inst values 0 b) →
+      Rel c w e (first_opened ks ls v) a b

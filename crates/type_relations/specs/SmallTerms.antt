@@ -1,15 +1,21 @@
 -- What the relation says of small terms and of forms.
 use Rattle.std.specs.Prelude.{◌≡◌, ◌≢◌, ◌⊎◌, ◌↔◌, ℕ, List, [], ◌∷◌, false}
 use Rattle.relation_terms.specs.declared.terms.enums.Variance.{Variance}
-use Rattle.relation_terms.specs.declared.terms.enums.Variance.TheVariants.{Covariant, Contravariant, Invariant, Bivariant}
+use Rattle.relation_terms.specs.declared.terms.enums.Variance.TheVariants.{Covariant, Contravariant, Invariant}
+use Rattle.relation_terms.specs.declared.terms.enums.Variance.TheVariants.{Bivariant}
 use Rattle.relation_terms.specs.declared.terms.enums.Mutability.TheVariants.{Not, Mut}
 use Rattle.relation_terms.specs.declared.terms.enums.PredicatePolarity.{PredicatePolarity}
 use Rattle.relation_terms.specs.declared.terms.enums.UintTy.TheVariants.{U8}
 use Rattle.relation_terms.specs.declared.terms.enums.Safety.TheVariants.{Safe}
 use Rattle.relation_terms.specs.declared.terms.enums.ExternAbi.TheVariants.{Rust}
-use Rattle.relation_terms.specs.Heads.{Sort, region_sort, clause_sort, predicate_sort, environment_sort, head_sort, trait_clause, region_kind, BoundKind, bound_kind, Atom, atom_sort, bool_type, uint_type, type_param, const_param, static_region, early_region, Head, adt, tuple, ref, fn_ptr, signature, inputs, value, value_type, bound, placeholder, atom}
-use Rattle.relation_terms.specs.Trees.{Tree, leaf, node, bind, nil, cons, IsList}
-use Rattle.type_relations.specs.Relation.{Items, Interpretation, Rel, at, parts, plain, plain_atom, sort_of, IsError, IsErrorAtom, IsAliasHead, IsRelatedHead, Outlives}
+use Rattle.relation_terms.specs.Heads.{Sort, region_sort, const_sort, value_sort, value_type_sort, pattern_sort}
+use Rattle.relation_terms.specs.Heads.{clause_sort, predicate_sort, environment_sort, head_sort, trait_clause}
+use Rattle.relation_terms.specs.Heads.{region_kind, BoundKind, bound_kind, Atom, atom_sort, bool_type, uint_type}
+use Rattle.relation_terms.specs.Heads.{type_param, const_param, static_region, early_region, Head, adt, tuple, ref}
+use Rattle.relation_terms.specs.Heads.{fn_ptr, signature, inputs, value, value_type, bound, placeholder, atom}
+use Rattle.relation_terms.specs.Trees.{Tree, leaf, node, bind, nil, cons, IsTerm, IsList}
+use Rattle.type_relations.specs.Relation.{Items, Interpretation, Rel, at, parts, plain, plain_atom, sort_of, IsError}
+use Rattle.type_relations.specs.Relation.{IsErrorAtom, IsAliasHead, IsRelatedHead, Outlives}
 
 abbrev pub u8 : Tree
 u8 = leaf (atom (uint_type U8))
@@ -39,7 +45,8 @@ adt_of d t = node (adt d) (cons t nil)
 
 -- A function pointer with these inputs.
 abbrev pub fn_of : List BoundKind → Tree → Tree
-fn_of ks ts = node fn_ptr (cons (bind ks (node (signature false Safe Rust) (cons (node inputs ts) (cons (node tuple nil) nil)))) nil)
+fn_of ks ts = node fn_ptr (cons (bind ks (node (signature false Safe Rust)
+    (cons (node inputs ts) (cons (node tuple nil) nil)))) nil)
 
 -- `fn(&'r u8)`.
 abbrev pub fn_of_ref : List BoundKind → Tree → Tree
@@ -80,6 +87,19 @@ ParametersByIndex = (c : Items) (w : Interpretation) (e : Tree) (v : Variance) (
 abbrev pub ValuesByTheirTrees : Type 0
 ValuesByTheirTrees = (c : Items) (w : Interpretation) (e : Tree) (v : Variance) (ty ty' t t' : Tree) →
     Rel c w e (at v) (value_of ty t) (value_of ty' t') ↔ Rel c w e (at v) t t'
+
+-- The sorts of constants, of what their values are made of, and of patterns.
+abbrev pub IsConstantSort : Sort → Type 0
+IsConstantSort const_sort = Unit {0}
+IsConstantSort value_sort = Unit {0}
+IsConstantSort value_type_sort = Unit {0}
+IsConstantSort pattern_sort = Unit {0}
+IsConstantSort s = ⊥
+
+-- Constants, value trees and patterns are related alike at every variance but bivariance.
+abbrev pub ConstantsAtEachVariance : Type 0
+ConstantsAtEachVariance = (c : Items) (w : Interpretation) (e : Tree) (v v' : Variance) (s : Sort) (a b : Tree) →
+    IsConstantSort s → IsTerm s a → v ≢ Bivariant → v' ≢ Bivariant → Rel c w e (at v) a b → Rel c w e (at v') a b
 
 -- Shared references to one type are related just as their regions are: covariantly where the first outlives the
 -- second, contravariantly the other way round, invariantly where both hold.
@@ -142,7 +162,9 @@ IsPredicateSort environment_sort = Unit {0}
 IsPredicateSort s = ⊥
 
 abbrev pub PredicatesWithThemselvesAlone : Type 0
-PredicatesWithThemselvesAlone = (c : Items) (w : Interpretation) (e : Tree) (v : Variance) (h k : Head) (xs ys : Tree) → v ≢ Bivariant → IsPredicateSort (head_sort h) → ((p : PredicatePolarity) → h ≢ trait_clause p) → Rel c w e (at v) (node h xs) (node k ys) → node h xs ≡ node k ys
+PredicatesWithThemselvesAlone = (c : Items) (w : Interpretation) (e : Tree) (v : Variance) (h k : Head)
+    (xs ys : Tree) → v ≢ Bivariant → IsPredicateSort (head_sort h) → ((p : PredicatePolarity) → h ≢ trait_clause p) →
+    Rel c w e (at v) (node h xs) (node k ys) → node h xs ≡ node k ys
 
 -- A function of all references is one of static references.
 abbrev pub AnyIsStatic : Type 0
@@ -154,7 +176,8 @@ StaticIsNotAny = (c : Items) (w : Interpretation) (e : Tree) →
     Rel c w e (at Covariant) (fn_of_ref [] static) fn_of_any → (u : ℕ) × (n : ℕ) ×
     Outlives w (region_placeholder u n) static
 
--- A function of references at a placeholder's region is one of all references only where another placeholder outlives it.
+-- A function of references at a placeholder's region is one of all references only where another placeholder outlives
+-- it.
 abbrev pub PlaceholderIsNotAny : Type 0
 PlaceholderIsNotAny = (c : Items) (w : Interpretation) (e : Tree) (u n : ℕ) →
     Rel c w e (at Covariant) (fn_of_ref [] (region_placeholder u n)) fn_of_any →
@@ -164,7 +187,8 @@ PlaceholderIsNotAny = (c : Items) (w : Interpretation) (e : Tree) (u n : ℕ) �
 -- Where regions outlive only themselves, `for<'a> fn(&'a u8, &'a u8)` is no `for<'a, 'b> fn(&'a u8, &'b u8)`.
 abbrev pub OneRegionIsNotTwo : Type 0
 OneRegionIsNotTwo = (c : Items) (w : Interpretation) (e : Tree) → ((a b : Tree) → Outlives w a b → a ≡ b) →
-    Rel c w e (at Covariant) (fn_of (a_region ∷ []) (cons (ref_to (bound_region 0) u8) (cons (ref_to (bound_region 0) u8) nil)))
+    Rel c w e (at Covariant)
+    (fn_of (a_region ∷ []) (cons (ref_to (bound_region 0) u8) (cons (ref_to (bound_region 0) u8) nil)))
     (fn_of (a_region ∷ a_region ∷ []) (cons (ref_to (bound_region 0) u8) (cons (ref_to (bound_region 1) u8) nil))) → ⊥
 
 -- At invariance a function of all references is one of static references only where some placeholder outlives the

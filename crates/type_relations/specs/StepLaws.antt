@@ -1,11 +1,15 @@
 -- Laws of assigning, and of what steps and relating calls come to one after another.
 use Rattle.std.specs.Prelude.{◌≡◌, ◌≢◌, ℕ, suc, List, [], ◌++◌, map, All, Some}
 use Rattle.relation_terms.specs.declared.terms.enums.Variance.{Variance}
-use Rattle.relation_terms.specs.declared.terms.enums.Variance.TheVariants.{Covariant, Contravariant, Invariant, Bivariant}
+use Rattle.relation_terms.specs.declared.terms.enums.Variance.TheVariants.{Covariant, Contravariant, Invariant}
+use Rattle.relation_terms.specs.declared.terms.enums.Variance.TheVariants.{Bivariant}
 use Rattle.relation_terms.specs.Heads.{BoundKind, VarKind, Head, variable}
-use Rattle.relation_terms.specs.Trees.{Tree, leaf, node, bind, nil, cons, Assign, apply, inst, Leaves, Occurs, IsList, count, nth}
-use Rattle.type_relations.specs.Relation.{Items, Interpretation, Way, at, parts, second_opened, first_opened, part_at, plain, IsRelatedHead, IsGround, StaysWithin}
-use Rattle.type_relations.specs.Stores.{Store, IsMade, IsNamable, IsAssignment, IsInScope, InContext, OnlyShrinks, MeetsBindings, bound_term, resolved}
+use Rattle.relation_terms.specs.Trees.{Tree, leaf, node, bind, nil, cons, Assign, apply, inst, Leaves, Occurs, IsList}
+use Rattle.relation_terms.specs.Trees.{count, nth}
+use Rattle.type_relations.specs.Relation.{Items, Interpretation, Way, at, parts, second_opened, first_opened, part_at}
+use Rattle.type_relations.specs.Relation.{plain, IsRelatedHead, IsGround, StaysWithin}
+use Rattle.type_relations.specs.Stores.{Store, IsMade, IsNamable, IsAssignment, IsInScope, InContext, OnlyShrinks}
+use Rattle.type_relations.specs.Stores.{MeetsBindings, bound_term, resolved}
 use Rattle.type_relations.specs.Goals.{Goal, Holds, Relates}
 use Rattle.type_relations.specs.Steps.{EntersForall, InstantiatesBinder, Instantiates}
 use Rattle.type_relations.specs.Outcomes.{Outcome, StepsTo, NeverOne, Exact, ExactStep, NoUnifier, Front, ExactFront}
@@ -44,11 +48,13 @@ RelatesLater = (c : Items) (before after : Store) (goals more : List Goal) (e : 
 
 -- So it does when the list of goals grows.
 abbrev pub RelatesUnderMore : Type 0
-RelatesUnderMore = (c : Items) (before after : Store) (goals more : List Goal) (e : Tree) (v : Variance) (a b : Tree) → OnlyShrinks before after → Relates c before goals e v a b → Relates c after (goals ++ more) e v a b
+RelatesUnderMore = (c : Items) (before after : Store) (goals more : List Goal) (e : Tree) (v : Variance) (a b : Tree) →
+    OnlyShrinks before after → Relates c before goals e v a b → Relates c after (goals ++ more) e v a b
 
 -- Relating the first parts and then the others relates the lists.
 abbrev pub PartsCompose : Type 0
-PartsCompose = (c : Items) (e : Tree) (h : Head) (i : ℕ) (v : Variance) (before middle after : Store) (earlier first others : List Goal) (a b xs ys : Tree) → InContext before xs → InContext before ys →
+PartsCompose = (c : Items) (e : Tree) (h : Head) (i : ℕ) (v : Variance) (before middle after : Store)
+    (earlier first others : List Goal) (a b xs ys : Tree) → InContext before xs → InContext before ys →
     Outcome c e (at (part_at c h i v)) before middle earlier first a b →
     Outcome c e (parts h (suc i) v) middle after (earlier ++ first) others xs ys →
     Outcome c e (parts h i v) before after earlier (first ++ others) (cons a xs) (cons b ys)
@@ -59,25 +65,29 @@ NoPartsRelate = (c : Items) (e : Tree) (h : Head) (i : ℕ) (v : Variance) (st :
     Outcome c e (parts h i v) st st earlier [] nil nil
 
 abbrev pub FormsRelate : Type 0
-FormsRelate = (c : Items) (e : Tree) (h k : Head) (v : Variance) (before after : Store) (earlier added : List Goal) (xs ys : Tree) → IsRelatedHead h → plain h ≡ plain k →
+FormsRelate = (c : Items) (e : Tree) (h k : Head) (v : Variance) (before after : Store) (earlier added : List Goal)
+    (xs ys : Tree) → IsRelatedHead h → plain h ≡ plain k →
     Outcome c e (parts h 0 v) before after earlier added xs ys →
     Outcome c e (at v) before after earlier added (node h xs) (node k ys)
 
 -- A step and then relating the pair that is left; and where these are never one, nor were the first.
 abbrev pub StepsCompose : Type 0
-StepsCompose = (c : Items) (e : Tree) (way way' : Way) (before middle after : Store) (earlier first others : List Goal) (a b x y : Tree) → StepsTo c e before middle earlier first way a b way' x y →
+StepsCompose = (c : Items) (e : Tree) (way way' : Way) (before middle after : Store) (earlier first others : List Goal)
+    (a b x y : Tree) → StepsTo c e before middle earlier first way a b way' x y →
     (Outcome c e way' middle after (earlier ++ first) others x y →
     Outcome c e way before after earlier (first ++ others) a b) × (NeverOne way' middle x y → NeverOne way before a b)
 
 -- Instantiating a variable is a step from it and the source to the bound term and the source, on either side.
 abbrev pub InstantiatingSteps : Type 0
-InstantiatingSteps = (c : Items) (e : Tree) (v u : Variance) (before after : Store) (earlier : List Goal) (k : VarKind) (n : ℕ) (source term : Tree) → InContext before source → Instantiates before after u k n source term →
+InstantiatingSteps = (c : Items) (e : Tree) (v u : Variance) (before after : Store) (earlier : List Goal) (k : VarKind)
+    (n : ℕ) (source term : Tree) → InContext before source → Instantiates before after u k n source term →
     StepsTo c e before after earlier [] (at v) (leaf (variable k n)) source (at v) term source ×
     StepsTo c e before after earlier [] (at v) source (leaf (variable k n)) (at v) source term
 
 -- Opening two binders, the one with placeholders and the other with new variables, is a step to their bodies.
 abbrev pub OpeningSteps : Type 0
-OpeningSteps = (c : Items) (e : Tree) (v : Variance) (before middle after : Store) (earlier : List Goal) (ks ls : List BoundKind) (a b a' b' : Tree) →
+OpeningSteps = (c : Items) (e : Tree) (v : Variance) (before middle after : Store) (earlier : List Goal)
+    (ks ls : List BoundKind) (a b a' b' : Tree) →
     Leaves (IsInScope before before.universe) a → Leaves (IsInScope before before.universe) b →
     (EntersForall before middle ls b b' → InstantiatesBinder middle after ks a a' →
     StepsTo c e before after earlier [] (second_opened ks ls v) a b (at v) a' b') ×
@@ -86,7 +96,8 @@ OpeningSteps = (c : Items) (e : Tree) (v : Variance) (before middle after : Stor
 
 -- One round relates binders at covariance and contravariance.
 abbrev pub OneRoundRelates : Type 0
-OneRoundRelates = (c : Items) (e : Tree) (before after : Store) (earlier added : List Goal) (ks ls : List BoundKind) (a b : Tree) →
+OneRoundRelates = (c : Items) (e : Tree) (before after : Store) (earlier added : List Goal) (ks ls : List BoundKind)
+    (a b : Tree) →
     (Outcome c e (second_opened ks ls Covariant) before after earlier added a b →
     Outcome c e (at Covariant) before after earlier added (bind ks a) (bind ls b)) ×
     (Outcome c e (first_opened ks ls Contravariant) before after earlier added a b →
@@ -94,14 +105,16 @@ OneRoundRelates = (c : Items) (e : Tree) (before after : Store) (earlier added :
 
 -- At invariance both rounds do.
 abbrev pub TwoRoundsRelate : Type 0
-TwoRoundsRelate = (c : Items) (e : Tree) (before middle after : Store) (earlier first others : List Goal) (ks ls : List BoundKind) (a b : Tree) → InContext before a → InContext before b →
+TwoRoundsRelate = (c : Items) (e : Tree) (before middle after : Store) (earlier first others : List Goal)
+    (ks ls : List BoundKind) (a b : Tree) → InContext before a → InContext before b →
     Outcome c e (second_opened ks ls Invariant) before middle earlier first a b →
     Outcome c e (first_opened ks ls Invariant) middle after (earlier ++ first) others a b →
     Outcome c e (at Invariant) before after earlier (first ++ others) (bind ks a) (bind ls b)
 
 -- Where neither body uses a variable of its binder, relating the bodies relates the binders.
 abbrev pub UnusedBindersRelate : Type 0
-UnusedBindersRelate = (c : Items) (e : Tree) (v : Variance) (before after : Store) (earlier added : List Goal) (ks ls : List BoundKind) (a b : Tree) → v ≢ Bivariant →
+UnusedBindersRelate = (c : Items) (e : Tree) (v : Variance) (before after : Store) (earlier added : List Goal)
+    (ks ls : List BoundKind) (a b : Tree) → v ≢ Bivariant →
     Leaves (IsInScope before before.universe) a → Leaves (IsInScope before before.universe) b → StaysWithin 0 a →
     StaysWithin 0 b →
     Outcome c e (at v) before after earlier added a b →
@@ -114,13 +127,16 @@ FrontBegins = (c : Items) (e : Tree) (h : Head) (v : Variance) (st : Store) (ear
     Front c e h v 0 st st earlier [] xs ys
 
 abbrev pub FrontGoesOn : Type 0
-FrontGoesOn = (c : Items) (e : Tree) (h : Head) (v : Variance) (i : ℕ) (before middle after : Store) (earlier first others : List Goal) (xs ys : Tree) → IsList xs → IsList ys → InContext before xs → InContext before ys → Front c e h v i before middle earlier first xs ys →
+FrontGoesOn = (c : Items) (e : Tree) (h : Head) (v : Variance) (i : ℕ) (before middle after : Store)
+    (earlier first others : List Goal) (xs ys : Tree) → IsList xs → IsList ys → InContext before xs →
+    InContext before ys → Front c e h v i before middle earlier first xs ys →
     (Outcome c e (at (part_at c h i v)) middle after (earlier ++ first) others (nth i xs) (nth i ys) →
     Front c e h v (suc i) before after earlier (first ++ others) xs ys) ×
     (NeverOne (at (part_at c h i v)) middle (nth i xs) (nth i ys) → NeverOne (parts h 0 v) before xs ys)
 
 abbrev pub FrontEnds : Type 0
-FrontEnds = (c : Items) (e : Tree) (h : Head) (v : Variance) (before after : Store) (earlier added : List Goal) (xs ys : Tree) → IsList xs → IsList ys → count xs ≡ count ys →
+FrontEnds = (c : Items) (e : Tree) (h : Head) (v : Variance) (before after : Store) (earlier added : List Goal)
+    (xs ys : Tree) → IsList xs → IsList ys → count xs ≡ count ys →
     Front c e h v (count xs) before after earlier added xs ys →
     Outcome c e (parts h 0 v) before after earlier added xs ys
 

@@ -2,11 +2,14 @@
 use Rattle.std.specs.Prelude.{◌≡◌, ◌⊎◌, ℕ, suc, ◌<◌, ◌≤◌, min, List, [], ◌∷◌, ◌++◌, map, length}
 use Rattle.relation_terms.specs.declared.terms.enums.Variance.{Variance}
 use Rattle.relation_terms.specs.declared.terms.enums.Variance.TheVariants.{Invariant}
-use Rattle.relation_terms.specs.Heads.{BoundKind, bound_sort, VarKind, int_var, float_var, var_sort, Head, Leaf, variable, placeholder, atom}
+use Rattle.relation_terms.specs.Heads.{BoundKind, bound_sort, VarKind, int_var, float_var, var_sort, Head, Leaf}
+use Rattle.relation_terms.specs.Heads.{variable, placeholder, atom}
 use Rattle.relation_terms.specs.Trees.{Tree, leaf, node, bind, cons, Assign, apply, inst, Leaves}
 use Rattle.relation_terms.specs.Erasure.{erase}
 use Rattle.type_relations.specs.Relation.{Interpretation, sort_of, StaysWithin, FitKinds, AvoidsAll}
-use Rattle.type_relations.specs.Stores.{Store, Entry, unbound, same_as, bound_to, entry_of, universe_of, IsMade, IsNamable, IsSound, IsIntegerAtom, IsFloatAtom, IsTermIn, Satisfies, OnlyShrinks, Constraint, resolved}
+use Rattle.type_relations.specs.Stores.{Store, Entry, unbound, same_as, bound_to, entry_of, universe_of, IsMade}
+use Rattle.type_relations.specs.Stores.{IsNamable, IsSound, IsIntegerAtom, IsFloatAtom, IsTermIn, Satisfies}
+use Rattle.type_relations.specs.Stores.{OnlyShrinks, Constraint, resolved}
 use Rattle.type_relations.specs.FirstOrder.{IsFirstOrder, IsFirstOrderStore, IsRegionLeaf, Unifies, IsErasedSolution}
 
 -- A later state: entries stand, though an unbound variable may have got one; constraints stand, and others may stand
@@ -225,7 +228,8 @@ pub record Instantiates (before after : Store) (v : Variance) (k : VarKind) (n :
 
 -- Or nothing was bound, and no earlier assignment gave the variable the term's value: nor up to erasure, at invariance
 -- where all is first-order. Variables that were made on the way stay unbound.
-pub record RefusesToInstantiate (before after : Store) (v : Variance) (k : VarKind) (n : ℕ) (source : Tree) : Type 0 where
+pub record RefusesToInstantiate (before after : Store) (v : Variance) (k : VarKind) (n : ℕ)
+    (source : Tree) : Type 0 where
   pub later : IsLater before after
   pub same_entries : (j : VarKind) (i : ℕ) → entry_of after j i ≡ entry_of before j i
   pub same_constraints : after.constraints ≡ before.constraints

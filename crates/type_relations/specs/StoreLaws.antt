@@ -1,11 +1,16 @@
 -- Laws of a store's calls: which assignments each keeps, and that a sound store stays sound.
 use Rattle.std.specs.Prelude.{◌≡◌, ◌≢◌, ◌↔◌, ℕ, ◌≤◌, [], ◌∷◌}
-use Rattle.relation_terms.specs.Heads.{BoundKind, bound_sort, VarKind, int_var, float_var, region_var, var_sort, variable}
+use Rattle.relation_terms.specs.declared.terms.enums.Variance.{Variance}
+use Rattle.relation_terms.specs.Heads.{BoundKind, bound_sort, VarKind, int_var, float_var, region_var, var_sort}
+use Rattle.relation_terms.specs.Heads.{variable}
 use Rattle.relation_terms.specs.Trees.{Tree, leaf, Assign, apply, Leaves, Occurs}
 use Rattle.type_relations.specs.Relation.{Interpretation, IsGround, StaysWithin}
-use Rattle.type_relations.specs.Stores.{Store, universe_of, MayStandFor, IsNamable, IsInScope, IsTermIn, IsSound, Satisfies, ConstraintHolds, ConstraintIn, Constraint, resolved}
-use Rattle.type_relations.specs.Steps.{Equates, BindsTo, MakesVariable, AddsConstraint, ChangesNothing, InstantiatesNumber, Resolves, Extends, Makes}
+use Rattle.type_relations.specs.Stores.{Store, universe_of, MayStandFor, IsNamable, IsInScope, IsTermIn, IsSound}
+use Rattle.type_relations.specs.Stores.{Satisfies, ConstraintHolds, ConstraintIn, Constraint, resolved}
+use Rattle.type_relations.specs.Steps.{Equates, BindsTo, Instantiates, RefusesToInstantiate, MakesVariable}
+use Rattle.type_relations.specs.Steps.{AddsConstraint, ChangesNothing, InstantiatesNumber, Resolves, Extends, Makes}
 use Rattle.type_relations.specs.Outcomes.{Exact}
+use Rattle.type_relations.specs.ErasureLaws.{IsTypeOrConst}
 
 -- Equating keeps a store sound, and exactly the assignments that give both variables one value; also up to erasure.
 abbrev pub EquatingStaysSound : Type 0
@@ -30,7 +35,22 @@ BindingIsExact = (before after : Store) (k : VarKind) (n : ℕ) (t : Tree) → B
     ((w : Interpretation) (s : Assign) → Satisfies w after s ↔ Satisfies w before s × (s k n ≡ apply s t)) ×
     Exact before after (leaf (variable k n)) t
 
--- The same of a number variable and a type of its kind.
+-- Binding a variable to what a term comes to instantiates it with that as it stands, at every variance.
+abbrev pub BindingInstantiates : Type 0
+BindingInstantiates = (before after : Store) (v : Variance) (k : VarKind) (n : ℕ) (source : Tree) → k ≢ region_var →
+    BindsTo before after k n (apply (resolved before) source) → IsSound before → IsTermIn before source →
+    MayStandFor k (apply (resolved before) source) → (Occurs k n (apply (resolved before) source) → ⊥) →
+    Leaves (IsInScope before (universe_of before k n)) (apply (resolved before) source) →
+    Instantiates before after v k n source (apply (resolved before) source)
+
+-- Where a variable of a type or a constant stands in what a term comes to and is not that itself, leaving all as it is
+-- refuses to instantiate the variable.
+abbrev pub CyclesRefuse : Type 0
+CyclesRefuse = (st : Store) (v : Variance) (k : VarKind) (n : ℕ) (source : Tree) → IsTypeOrConst k → IsSound st →
+    Occurs k n (apply (resolved st) source) → apply (resolved st) source ≢ leaf (variable k n) →
+    RefusesToInstantiate st st v k n source
+
+-- A number variable bound to a type of its kind: what holds of any binding.
 abbrev pub NumbersStaySound : Type 0
 NumbersStaySound = (before after : Store) (k : VarKind) (n : ℕ) (t : Tree) → InstantiatesNumber before after k n t →
     IsSound before → IsSound after
@@ -68,5 +88,6 @@ ResolvedResolves = (st : Store) (t : Tree) → IsSound st → Resolves st t (app
 
 -- Making one variable is making the variables of a binder of one.
 abbrev pub MakingOneMakes : Type 0
-MakingOneMakes = (before after : Store) (k : BoundKind) (v : VarKind) (n u : ℕ) → MakesVariable before after v n u → IsSound before → var_sort v ≡ bound_sort k →
+MakingOneMakes = (before after : Store) (k : BoundKind) (v : VarKind) (n u : ℕ) → MakesVariable before after v n u →
+    IsSound before → var_sort v ≡ bound_sort k →
     (v ≡ int_var → ⊥) → (v ≡ float_var → ⊥) → Makes before after u (k ∷ []) (leaf (variable v n) ∷ [])

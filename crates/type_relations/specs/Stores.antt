@@ -1,8 +1,11 @@
 -- What a context has recorded, what that asks of an assignment, and the invariant of what is recorded.
-use Rattle.std.specs.Prelude.{◌≡◌, ℕ, zero, suc, ◌+◌, ◌<◌, ◌≤◌, Bool, List, [], ◌∷◌, Option, Some, None, All, length, get_or}
-use Rattle.relation_terms.specs.Heads.{Sort, region_sort, type_sort, const_sort, BoundKind, bound_sort, VarKind, type_var, int_var, float_var, const_var, region_var, var_sort, Atom, int_type, uint_type, float_type, Leaf, variable, bound, placeholder, atom, unknown}
-use Rattle.relation_terms.specs.Trees.{Tree, leaf, node, bind, nil, cons, Assign, apply, Leaves, size, IsTerm}
-use Rattle.type_relations.specs.Relation.{Interpretation, Outlives, IsValueAtom, IsGround, StaysWithin, AvoidsAll}
+use Rattle.std.specs.Prelude.{◌≡◌, ℕ, zero, suc, ◌+◌, ◌<◌, ◌≤◌, Bool, List, [], ◌∷◌, Option, Some, None, All, length}
+use Rattle.std.specs.Prelude.{get_or}
+use Rattle.relation_terms.specs.Heads.{region_sort, type_sort, const_sort, VarKind, type_var, int_var, float_var}
+use Rattle.relation_terms.specs.Heads.{const_var, region_var, Atom, int_type, uint_type, float_type, Leaf, variable}
+use Rattle.relation_terms.specs.Heads.{bound, placeholder, atom, unknown}
+use Rattle.relation_terms.specs.Trees.{Tree, leaf, Assign, apply, Leaves, size, IsTerm}
+use Rattle.type_relations.specs.Relation.{Interpretation, Outlives, IsValueAtom, IsGround, StaysWithin}
 
 -- A constraint on regions: the first outlives the second, or both outlive each other.
 pub data Constraint : Type 0 where
@@ -82,7 +85,8 @@ IsNamable u unknown = ⊥
 -- Each variable of the context has a value of its kind, without variables and escaping bound variables, that names
 -- only what its universe can.
 abbrev pub IsAssignment : Store → Assign → Type 0
-IsAssignment st s = (k : VarKind) (n : ℕ) → IsMade st k n → MayStandFor k (s k n) × Leaves IsGround (s k n) × StaysWithin 0 (s k n) × Leaves (IsNamable (universe_of st k n)) (s k n)
+IsAssignment st s = (k : VarKind) (n : ℕ) → IsMade st k n → MayStandFor k (s k n) × Leaves IsGround (s k n) ×
+    StaysWithin 0 (s k n) × Leaves (IsNamable (universe_of st k n)) (s k n)
 
 -- A constraint holds of the assigned regions.
 abbrev pub ConstraintHolds : Interpretation → Assign → Constraint → Type 0
@@ -143,7 +147,8 @@ tally f [] = 0
 tally f (e ∷ es) = f e + tally f es
 
 abbrev pub all_tally : (Entry → ℕ) → Store → ℕ
-all_tally f st = tally f (st.entries type_var) + (tally f (st.entries int_var) + (tally f (st.entries float_var) + (tally f (st.entries const_var) + tally f (st.entries region_var))))
+all_tally f st = tally f (st.entries type_var) + (tally f (st.entries int_var) + (tally f (st.entries float_var) +
+    (tally f (st.entries const_var) + tally f (st.entries region_var))))
 
 -- How many entries have a term, and how many variables are bound to one.
 abbrev pub all_taken : Store → ℕ
