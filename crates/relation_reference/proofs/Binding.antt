@@ -5,25 +5,27 @@ use Rattle.std.proofs.lemmas.Bool.{false≢true}
 use Rattle.relation_terms.specs.Heads.{type_var, region_var, type_sort, variable, bound, placeholder, atom, unknown}
 use Rattle.relation_terms.specs.Trees.{Tree, leaf, node, bind, nil, cons, Assign, apply, Leaves, Occurs, IsTerm, size}
 use Rattle.relation_terms.specs.Meaning.{Meaning, Extends}
+use Rattle.relation_terms.specs.declared.terms.enums.Variance.TheVariants.{Invariant}
 use Rattle.relation_terms.specs.declared.terms.numbers.UniverseIndex.{UniverseIndex}
 use Rattle.relation_terms.specs.declared.terms.keys.TyKey.{TyKey}
 use Rattle.relation_tools.specs.declared.error.RelateFault.{RelateFault}
 use Rattle.relation_tools.specs.declared.error.RelateFault.TheVariants.{Memory, Budget, Unrelated}
 use Rattle.type_relations.specs.Relation.{Interpretation, same}
 use Rattle.type_relations.specs.Stores.{Store, unbound, entry_of, universe_of, IsInScope, IsTermIn, IsSound, MeetsBindings, Satisfies, resolved, weight}
-use Rattle.type_relations.specs.Steps.{BindsTo}
+use Rattle.type_relations.specs.Steps.{BindsTo, ChangesNothing, Instantiates, RefusesToInstantiate}
 use Rattle.type_relations.specs.Measures.{Goes}
 use Rattle.type_relations.specs.Outcomes.{NoEqualTerms}
 use Rattle.type_relations.specs.Errors.{of_cycle, of_cycle_back}
 use Rattle.type_relations.proofs.Resolved.{resolved_value, resolved_twice, cycles_do_not_unify}
 use Rattle.type_relations.proofs.Standing.{term_scope}
 use Rattle.type_relations.proofs.StoreCalls.{resolved_resolves}
+use Rattle.type_relations.proofs.Instantiating.{binding_instantiates, cycles_refuse}
 use Rattle.type_relations.proofs.Going.{goes_nowhere}
 use Rattle.type_relations.proofs.Equating.{bound_sound, bound_goes, bound_value, bound_keeps}
 use Rattle.relation_reference.specs.declared.context.inner.TypeVariableValue.TheVariants.{Known}
 use Rattle.relation_reference.specs.declared.context.inner.InferCtxtInner.{InferCtxtInner}
 use Rattle.relation_reference.specs.Tables.{IsFormed, store_of, IsLawful}
-use Rattle.relation_reference.specs.Answers.{Unites, Answered, Instantiated}
+use Rattle.relation_reference.specs.Answers.{Unites, Answered, Instantiated, StepsByInstantiating}
 use Rattle.relation_reference.proofs.Grows.{store_grows, lawful_grows}
 use Rattle.relation_reference.proofs.Writing.{binds_to, bind_lawful}
 
@@ -91,6 +93,16 @@ module _ (before after : Store) (n : ℕ) (t u : Tree) (q : BindsTo before after
     keeps = λ w s sat h. bound_keeps before after type_var n u q g no_region stands u_in u_absent scope w s sat (h ∙ sym (bound_has_value s sat.bindings));
   }
 
+  pub binding_steps : Instantiates before after Invariant type_var n t u
+  binding_steps = subst (Instantiates before after Invariant type_var n t) (sym e) (binding_instantiates before after Invariant type_var n t no_region (subst (BindsTo before after type_var n) e q) g is_in (subst (IsTerm type_sort) e stands) absent
+      (subst (Leaves (IsInScope before (universe_of before type_var n))) again scope))
+
+pub cycle_refuses : (st : Store) (n : ℕ) (t : Tree) → IsSound st → IsFormed t → Occurs type_var n (apply (resolved st) t) → RefusesToInstantiate st st Invariant type_var n t
+cycle_refuses st n t g f o = cycles_refuse st Invariant type_var n t tt g o (formed_differs n (apply (resolved st) t) (formed_applied (resolved st) t f))
+
+pub nothing_changed : (before after : Store) → after ≡ before → ChangesNothing before after
+nothing_changed before after e = subst (ChangesNothing before) (sym e) (record { same_entries = λ k. refl; same_universes = λ k. refl; same_constraints = refl; universe_stands = omega arith; same_budget = refl })
+
 -- The tables after a root was bound.
 module _ {Key Id Name : Type 0} {m n : Meaning Key Id Name} (grown : Extends m n) (x z y : InferCtxtInner Key) (resolving : z ≡ x) (l : IsLawful m x) (target : ℕ) (k : TyKey Key) (u : UniverseIndex)
     (made : target < length x.types.items) (free : entry_of (store_of m x) type_var target ≡ unbound)
@@ -124,6 +136,9 @@ module _ {Key Id Name : Type 0} {m n : Meaning Key Id Name} (grown : Extends m n
       (subst IsFormed (sym means) (formed_applied (resolved (store_of m x)) t t_formed))
       (binding_sound (store_of m x) (store_of n y) target t (n.ty k) target_bound l.sound l.first_universe t_in means absent stands)
 
+  pub target_steps : Instantiates (store_of m x) (store_of n y) Invariant type_var target t (n.ty k)
+  target_steps = binding_steps (store_of m x) (store_of n y) target t (n.ty k) target_bound l.sound l.first_universe t_in means absent stands
+
 -- What binding a root answers, by the bound type's side.
 module _ {Key Id Name : Type 0} (m : Meaning Key Id Name) (before after : Store) (n : ℕ) (t : Tree) where
   pub instantiated_refused : (X : Type 0) (f : RelateFault Key) → IsFormed t → Instantiated m before after n t (Err f) → Answered {X = X} m before after (leaf (variable type_var n)) t (Err f)
@@ -141,6 +156,12 @@ module _ {Key Id Name : Type 0} (m : Meaning Key Id Name) (before after : Store)
   memory_instantiated (Err Memory) h p e = e
   memory_instantiated (Err Budget) h p e = absurd (cc)
   memory_instantiated (Err (Unrelated a)) h p e = absurd (cc)
+
+  pub memory_steps : (r : Result (TyKey Key) (RelateFault Key)) → IsErr r → IsErrAnd r (λ f. f ≡ Memory) → after ≡ before → StepsByInstantiating m before after n t r
+  memory_steps (Ok k) h p e = absurd (false≢true h)
+  memory_steps (Err Memory) h p e = nothing_changed before after e
+  memory_steps (Err Budget) h p e = absurd (cc)
+  memory_steps (Err (Unrelated a)) h p e = absurd (cc)
 
   pub refused_goes : (f : RelateFault Key) → Instantiated m before after n t (Err f) → Goes (weight before t) before after
   refused_goes (Unrelated a) h = subst (Goes (weight before t) before) (sym h.4) (goes_nowhere (weight before t) before)

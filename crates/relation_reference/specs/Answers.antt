@@ -14,7 +14,7 @@ use Rattle.relation_terms.specs.declared.terms.keys.TyKey.{TyKey}
 use Rattle.relation_terms.specs.declared.terms.ty_kind.TyKind.{TyKind}
 use Rattle.relation_terms.specs.declared.terms.ty_kind.TyKind.TheVariants.{Bool, Char, Int, Uint, Infer}
 use Rattle.type_relations.specs.Stores.{Store, same_as, entry_of, bound_term, resolved, Satisfies}
-use Rattle.type_relations.specs.Steps.{BindsTo}
+use Rattle.type_relations.specs.Steps.{BindsTo, ChangesNothing, Instantiates, RefusesToInstantiate}
 use Rattle.type_relations.specs.Outcomes.{NoEqualTerms}
 use Rattle.type_relations.specs.Errors.{ErrorOf}
 use Rattle.relation_reference.specs.declared.context.pairing.PairedParts.{PairedParts}
@@ -61,6 +61,13 @@ Instantiated m before after n t (Ok k) = (m.ty k ≡ apply (resolved before) t) 
 Instantiated m before after n t (Err (Unrelated e)) = (k : TyKey _) × (e ≡ CyclicTy k) × (m.ty k ≡ apply (resolved before) t) × Occurs type_var n (m.ty k) × (after ≡ before)
 Instantiated m before after n t (Err Budget) = (before.budget ≡ 0) × (after ≡ before)
 Instantiated m before after n t (Err Memory) = after ≡ before
+
+-- The same as a step of a context at invariance.
+abbrev pub StepsByInstantiating : {Key Id Name : Type 0} → Meaning Key Id Name → Store → Store → ℕ → Tree → Result (TyKey Key) (RelateFault Key) → Type 0
+StepsByInstantiating m before after n t (Ok k) = Instantiates before after Invariant type_var n t (m.ty k)
+StepsByInstantiating m before after n t (Err (Unrelated e)) = RefusesToInstantiate before after Invariant type_var n t
+StepsByInstantiating m before after n t (Err Budget) = ChangesNothing before after
+StepsByInstantiating m before after n t (Err Memory) = ChangesNothing before after
 
 -- What relating two terms answers; nothing is claimed where memory ran out, and no instantiation is left where the
 -- budget did. An error is one of a pair that was met, by what is recorded after.

@@ -7,7 +7,7 @@ ghost use Rattle.type_relations.specs.Stores.{unbound, entry_of, resolved, weigh
 ghost use Rattle.type_relations.specs.Measures.{Goes};
 ghost use Rattle.relation_tools.specs.Faults.{KnowsFault};
 ghost use Rattle.relation_reference.specs.Tables.{store_of, IsLawful, IsFormed};
-ghost use Rattle.relation_reference.specs.Answers.{Instantiated};
+ghost use Rattle.relation_reference.specs.Answers.{Instantiated, StepsByInstantiating};
 
 use crate::context::variables::ty_vid;
 use crate::context::{RefCtxt, TypeVariableValue};
@@ -155,6 +155,7 @@ impl<I: Interner> RefCtxt<I> {
         ensures grown { Extends (I.meaning self.old.interner) (I.meaning self.new.interner) }
         ensures sure { IfOk result (λ t. IsTrue (known ((I.meaning self.new.interner).ty t))) }
         ensures answers { Instantiated (I.meaning self.new.interner) (store_of (I.meaning self.old.interner) self.old.inner) (store_of (I.meaning self.new.interner) self.new.inner) target.0 ((I.meaning self.old.interner).ty source.now) result }
+        ensures steps { StepsByInstantiating (I.meaning self.new.interner) (store_of (I.meaning self.old.interner) self.old.inner) (store_of (I.meaning self.new.interner) self.new.inner) target.0 ((I.meaning self.old.interner).ty source.now) result }
         ensures why_known { IfErr result (KnowsFault (I.meaning self.new.interner)) }
     {
         if self.inner.budget == 0 {
