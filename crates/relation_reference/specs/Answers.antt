@@ -18,7 +18,8 @@ use Rattle.type_relations.specs.Steps.{BindsTo, ChangesNothing, Instantiates, Re
 use Rattle.type_relations.specs.Outcomes.{NoEqualTerms}
 use Rattle.type_relations.specs.Errors.{ErrorOf}
 use Rattle.relation_reference.specs.declared.context.pairing.PairedParts.{PairedParts}
-use Rattle.relation_reference.specs.declared.context.pairing.PairedParts.TheVariants.{None as NoParts, Elements, Members, References}
+use Rattle.relation_reference.specs.declared.context.pairing.PairedParts.TheVariants.{None as NoParts, Elements}
+use Rattle.relation_reference.specs.declared.context.pairing.PairedParts.TheVariants.{Members, References}
 use Rattle.relation_reference.specs.Tables.{IsFormed}
 
 -- From a variable the entries lead to another of the same class.
@@ -37,17 +38,20 @@ pub data IsShallow (st : Store) (t : Tree) : Type 0 where
 
 -- Two terms were made one: what satisfies the store after relates them, and what made them one tree satisfies it.
 pub record Unites (before after : Store) (a b : Tree) : Type 0 where
-  pub relates : (c : Items) (e : Tree) (w : Interpretation) (s : Assign) → Satisfies w after s → Rel c w e (at Invariant) (apply s a) (apply s b)
+  pub relates : (c : Items) (e : Tree) (w : Interpretation) (s : Assign) → Satisfies w after s →
+      Rel c w e (at Invariant) (apply s a) (apply s b)
   pub keeps : (w : Interpretation) (s : Assign) → Satisfies w before s → apply s a ≡ apply s b → Satisfies w after s
 
 -- The same of two lists of a tuple's parts.
 pub record UnitesAll (before after : Store) (a b : Tree) : Type 0 where
-  pub relates : (c : Items) (e : Tree) (w : Interpretation) (s : Assign) → Satisfies w after s → Rel c w e (parts tuple 0 Invariant) (apply s a) (apply s b)
+  pub relates : (c : Items) (e : Tree) (w : Interpretation) (s : Assign) → Satisfies w after s →
+      Rel c w e (parts tuple 0 Invariant) (apply s a) (apply s b)
   pub keeps : (w : Interpretation) (s : Assign) → Satisfies w before s → apply s a ≡ apply s b → Satisfies w after s
 
 -- The first places of two lists were made one.
 pub record IsFront (before after : Store) (i : ℕ) (a b : Tree) : Type 0 where
-  pub relates : (c : Items) (e : Tree) (w : Interpretation) (s : Assign) (j : ℕ) → j < i → Satisfies w after s → Rel c w e (at Invariant) (apply s (nth j a)) (apply s (nth j b))
+  pub relates : (c : Items) (e : Tree) (w : Interpretation) (s : Assign) (j : ℕ) → j < i → Satisfies w after s →
+      Rel c w e (at Invariant) (apply s (nth j a)) (apply s (nth j b))
   pub keeps : (w : Interpretation) (s : Assign) → Satisfies w before s → apply s a ≡ apply s b → Satisfies w after s
 
 -- The error is one of a pair at some place of two lists.
@@ -56,14 +60,18 @@ ErrorOfPlace m st e a b = (i : ℕ) × (i < count a) × (i < count b) × ErrorOf
 
 -- What binding a root to a type answers: it is bound to what the type comes to; or nothing is bound, since the root
 -- stands there below a form, or no instantiation is left, or memory ran out.
-abbrev pub Instantiated : {Key Id Name : Type 0} → Meaning Key Id Name → Store → Store → ℕ → Tree → Result (TyKey Key) (RelateFault Key) → Type 0
-Instantiated m before after n t (Ok k) = (m.ty k ≡ apply (resolved before) t) × BindsTo before after type_var n (m.ty k) × (Occurs type_var n (apply (resolved before) t) → ⊥)
-Instantiated m before after n t (Err (Unrelated e)) = (k : TyKey _) × (e ≡ CyclicTy k) × (m.ty k ≡ apply (resolved before) t) × Occurs type_var n (m.ty k) × (after ≡ before)
+abbrev pub Instantiated : {Key Id Name : Type 0} → Meaning Key Id Name → Store → Store → ℕ → Tree →
+    Result (TyKey Key) (RelateFault Key) → Type 0
+Instantiated m before after n t (Ok k) = (m.ty k ≡ apply (resolved before) t) ×
+    BindsTo before after type_var n (m.ty k) × (Occurs type_var n (apply (resolved before) t) → ⊥)
+Instantiated m before after n t (Err (Unrelated e)) = (k : TyKey _) × (e ≡ CyclicTy k) ×
+    (m.ty k ≡ apply (resolved before) t) × Occurs type_var n (m.ty k) × (after ≡ before)
 Instantiated m before after n t (Err Budget) = (before.budget ≡ 0) × (after ≡ before)
 Instantiated m before after n t (Err Memory) = after ≡ before
 
 -- The same as a step of a context at invariance.
-abbrev pub StepsByInstantiating : {Key Id Name : Type 0} → Meaning Key Id Name → Store → Store → ℕ → Tree → Result (TyKey Key) (RelateFault Key) → Type 0
+abbrev pub StepsByInstantiating : {Key Id Name : Type 0} → Meaning Key Id Name → Store → Store → ℕ → Tree →
+    Result (TyKey Key) (RelateFault Key) → Type 0
 StepsByInstantiating m before after n t (Ok k) = Instantiates before after Invariant type_var n t (m.ty k)
 StepsByInstantiating m before after n t (Err (Unrelated e)) = RefusesToInstantiate before after Invariant type_var n t
 StepsByInstantiating m before after n t (Err Budget) = ChangesNothing before after
@@ -71,14 +79,16 @@ StepsByInstantiating m before after n t (Err Memory) = ChangesNothing before aft
 
 -- What relating two terms answers; nothing is claimed where memory ran out, and no instantiation is left where the
 -- budget did. An error is one of a pair that was met, by what is recorded after.
-abbrev pub Answered : {X Key Id Name : Type 0} → Meaning Key Id Name → Store → Store → Tree → Tree → Result X (RelateFault Key) → Type 0
+abbrev pub Answered : {X Key Id Name : Type 0} → Meaning Key Id Name → Store → Store → Tree → Tree →
+    Result X (RelateFault Key) → Type 0
 Answered m before after a b (Ok x) = Unites before after a b
 Answered m before after a b (Err (Unrelated e)) = NoEqualTerms before a b × ErrorOf m after e a b
 Answered m before after a b (Err Budget) = after.budget ≡ 0
 Answered m before after a b (Err Memory) = Unit {0}
 
 -- The same of two lists of a tuple's parts.
-abbrev pub AnsweredAll : {X Key Id Name : Type 0} → Meaning Key Id Name → Store → Store → Tree → Tree → Result X (RelateFault Key) → Type 0
+abbrev pub AnsweredAll : {X Key Id Name : Type 0} → Meaning Key Id Name → Store → Store → Tree → Tree →
+    Result X (RelateFault Key) → Type 0
 AnsweredAll m before after a b (Ok x) = UnitesAll before after a b
 AnsweredAll m before after a b (Err (Unrelated e)) = NoEqualTerms before a b × ErrorOfPlace m after e a b
 AnsweredAll m before after a b (Err Budget) = after.budget ≡ 0
@@ -97,5 +107,8 @@ IsOneLeaf k l = ⊥
 abbrev pub ArePartsOf : {Key Id Name : Type 0} → Meaning Key Id Name → Tree → Tree → PairedParts Key → Type 0
 ArePartsOf m a b NoParts = a ≡ b
 ArePartsOf m a b (Elements x y) = (a ≡ node slice (cons (m.ty x) nil)) × (b ≡ node slice (cons (m.ty y) nil))
-ArePartsOf m a b (Members xs ys) = (a ≡ node tuple (m.tys xs)) × (b ≡ node tuple (m.tys ys)) × (count (m.tys xs) ≡ count (m.tys ys))
-ArePartsOf m a b (References rs xs) = (u : Mutability) × (a ≡ node (ref u) (cons (m.region rs.0) (cons (m.ty xs.0) nil))) × (b ≡ node (ref u) (cons (m.region rs.1) (cons (m.ty xs.1) nil)))
+ArePartsOf m a b (Members xs ys) = (a ≡ node tuple (m.tys xs)) × (b ≡ node tuple (m.tys ys)) ×
+    (count (m.tys xs) ≡ count (m.tys ys))
+ArePartsOf m a b (References rs xs) = (u : Mutability) ×
+    (a ≡ node (ref u) (cons (m.region rs.0) (cons (m.ty xs.0) nil))) ×
+    (b ≡ node (ref u) (cons (m.region rs.1) (cons (m.ty xs.1) nil)))

@@ -1,6 +1,7 @@
 -- What holds of the keys of a table: each reads a term of its sort, and in a table in which nothing stands twice keys
 -- of one tree are one key.
-use Rattle.std.proofs.Common.{ℕ, ◌≡◌, ◌↔◌, IsTrue, List, [], ◌∷◌, ◌++◌, length, get_or, eqb, refl, ap, sym, ◌∙◌, subst, inl, inr}
+use Rattle.std.proofs.Common.{ℕ, ◌≡◌, ◌↔◌, IsTrue, List, [], ◌∷◌, ◌++◌, length, get_or, eqb, refl, ap, sym, ◌∙◌}
+use Rattle.std.proofs.Common.{subst, inl, inr}
 use Rattle.std.proofs.lemmas.Bool.{false≢true, eqb-true, eq-eqb, cases_lt}
 use Rattle.std.proofs.lemmas.List.{get_or_append_left, get_or_past}
 use Rattle.std.proofs.Math.Seq.{get_or-append_seam}
@@ -19,7 +20,9 @@ use Rattle.relation_reference.specs.declared.interner.keys.ItemId.{ItemId}
 use Rattle.relation_reference.specs.declared.interner.keys.SymbolId.{SymbolId}
 use Rattle.relation_reference.specs.declared.interner.node.Node.{Node}
 use Rattle.relation_reference.specs.Forms.{Form, ty_form, region_form, tys_form, environment_form, form_of}
-use Rattle.relation_reference.specs.Nodes.{Entry, no_entry, ty_entry, region_entry, tys_entry, environment_entry, as_ty, as_region, as_tys, as_environment, meaning_of, entry_at, entry_of, entries_from, entries, table_meaning, known_entry, AllDistinct}
+use Rattle.relation_reference.specs.Nodes.{Entry, no_entry, ty_entry, region_entry, tys_entry, environment_entry}
+use Rattle.relation_reference.specs.Nodes.{as_ty, as_region, as_tys, as_environment, meaning_of, entry_at, entry_of}
+use Rattle.relation_reference.specs.Nodes.{entries_from, entries, table_meaning, known_entry, AllDistinct}
 use Rattle.relation_reference.specs.Places.{known_in, of_ty, of_region, of_tys, of_environment}
 
 -- The tree of an entry is a term of the entry's sort.

@@ -1,11 +1,14 @@
 -- Where the entries of a table stand.
-use Rattle.std.proofs.Common.{ℕ, ◌+◌, ◌<◌, ◌≡◌, IsTrue, List, [], ◌∷◌, ◌++◌, length, get_or, inl, inr, refl, sym, ◌∙◌, subst, add-zero, zero-add}
+use Rattle.std.proofs.Common.{ℕ, ◌+◌, ◌<◌, ◌≡◌, IsTrue, List, [], ◌∷◌, ◌++◌, length, get_or, inl, inr, refl, sym, ◌∙◌}
+use Rattle.std.proofs.Common.{subst, add-zero, zero-add}
 use Rattle.std.proofs.lemmas.Bool.{false≢true, cases_lt}
 use Rattle.std.proofs.lemmas.List.{get_or_past}
 use Rattle.relation_terms.specs.Trees.{known}
 use Rattle.relation_terms.proofs.Lists.{length_after}
 use Rattle.relation_reference.specs.declared.interner.node.Node.{Node}
-use Rattle.relation_reference.specs.Nodes.{Entry, no_entry, ty_entry, region_entry, tys_entry, environment_entry, as_ty, as_region, as_tys, as_environment, meaning_of, entry_of, entries_from, entries, known_entry}
+use Rattle.relation_reference.specs.Nodes.{Entry, no_entry, ty_entry, region_entry, tys_entry, environment_entry}
+use Rattle.relation_reference.specs.Nodes.{as_ty, as_region, as_tys, as_environment, meaning_of, entry_of}
+use Rattle.relation_reference.specs.Nodes.{entries_from, entries, known_entry}
 
 pub length_entries : (es : List Entry) (ns : List Node) → length (entries_from es ns) ≡ length es + length ns
 length_entries es [] = sym (add-zero (length es))

@@ -1,13 +1,15 @@
 -- What the tables of a context mean: the store that they record, and the invariant of a context.
 use Rattle.std.specs.Prelude.{◌≡◌, ℕ, ◌<◌, false, None, [], map, length, get_or}
-use Rattle.relation_terms.specs.Heads.{VarKind, type_var, int_var, float_var, const_var, region_var, variable, type_sort, head_sort, atom_sort, atom}
+use Rattle.relation_terms.specs.Heads.{VarKind, type_var, int_var, float_var, const_var, region_var, variable}
+use Rattle.relation_terms.specs.Heads.{type_sort, head_sort, atom_sort, atom}
 use Rattle.relation_terms.specs.Trees.{Tree, leaf, node, nil}
 use Rattle.relation_terms.specs.Meaning.{Meaning, arg_tree}
 use Rattle.relation_terms.specs.declared.predicate.RegionConstraint.{RegionConstraint}
 use Rattle.relation_terms.specs.declared.predicate.RegionConstraint.TheVariants.{Outlives, Eq}
 use Rattle.relation_terms.specs.declared.terms.enums.Variance.TheVariants.{Invariant}
 use Rattle.type_relations.specs.Relation.{Items}
-use Rattle.type_relations.specs.Stores.{Store, Entry, entry_of, unbound, same_as, bound_to, Constraint, outlives_constraint, equal_constraint, IsSound}
+use Rattle.type_relations.specs.Stores.{Store, Entry, entry_of, unbound, same_as, bound_to, Constraint}
+use Rattle.type_relations.specs.Stores.{outlives_constraint, equal_constraint, IsSound}
 use Rattle.relation_reference.specs.declared.context.inner.TypeVariableValue.{TypeVariableValue}
 use Rattle.relation_reference.specs.declared.context.inner.TypeVariableValue.TheVariants.{Unknown, SameAs, Known}
 use Rattle.relation_reference.specs.declared.context.inner.InferCtxtInner.{InferCtxtInner}
@@ -57,6 +59,7 @@ module _ {Key Id Name : Type 0} (m : Meaning Key Id Name) where
   -- bound to is no variable; and there is no universe yet but the first.
   pub record IsLawful (x : InferCtxtInner Key) : Type 0 where
     pub sound : IsSound (store_of x)
-    pub keyed : (n : ℕ) → n < length x.types.items → get_or (map (λ v. m.ty v.key) x.types.items) n nil ≡ leaf (variable type_var n)
+    pub keyed : (n : ℕ) → n < length x.types.items →
+        get_or (map (λ v. m.ty v.key) x.types.items) n nil ≡ leaf (variable type_var n)
     pub formed : (n : ℕ) (t : Tree) → entry_of (store_of x) type_var n ≡ bound_to t → IsFormed t
     pub first_universe : (x.universe).0 ≡ 0

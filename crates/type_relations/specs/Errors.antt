@@ -42,5 +42,6 @@ module _ {Key Id Name : Type 0} (m : Meaning Key Id Name) where
         ErrorOf st e (nth i ts) (nth i us) → ErrorOf st e a b
     of_cycle : {a b : Tree} (n : ℕ) (k : TyKey Key) → a ≡ leaf (variable type_var n) → m.ty k ≡ apply (resolved st) b →
         Occurs type_var n (m.ty k) → e ≡ CyclicTy k → ErrorOf st e a b
-    of_cycle_back : {a b : Tree} (n : ℕ) (k : TyKey Key) → b ≡ leaf (variable type_var n) → m.ty k ≡ apply (resolved st) a →
+    of_cycle_back : {a b : Tree} (n : ℕ) (k : TyKey Key) → b ≡ leaf (variable type_var n) →
+        m.ty k ≡ apply (resolved st) a →
         Occurs type_var n (m.ty k) → e ≡ CyclicTy k → ErrorOf st e a b

@@ -3,7 +3,8 @@ use Rattle.std.specs.Prelude.{◌≡◌, ℕ, ◌<◌, List, ◌++◌, All}
 use Rattle.relation_terms.specs.declared.terms.enums.Variance.{Variance}
 use Rattle.relation_terms.specs.Heads.{Head}
 use Rattle.relation_terms.specs.Trees.{Tree, Assign, apply, nth}
-use Rattle.type_relations.specs.Relation.{Items, Interpretation, Way, at, parts, second_opened, first_opened, part_at, Rel}
+use Rattle.type_relations.specs.Relation.{Items, Interpretation, Way, at, parts, second_opened, first_opened, part_at}
+use Rattle.type_relations.specs.Relation.{Rel}
 use Rattle.type_relations.specs.Stores.{Store, Satisfies}
 use Rattle.type_relations.specs.Goals.{Goal, Holds, GoalInContext, MakesOneTree}
 use Rattle.type_relations.specs.FirstOrder.{Unifies, IsErasedSolution}
@@ -19,7 +20,8 @@ AreOne (first_opened ks ls v) s a b = (ks ≡ ls) × (apply s a ≡ apply s b)
 -- Two things were brought together: terms, parts of a form, or binders at one round. What satisfies the store after
 -- and makes the whole list of goals true relates them. What satisfied the store before and made them one extends to
 -- the store after and makes both sides of each added goal one tree.
-pub record Outcome (c : Items) (e : Tree) (way : Way) (before after : Store) (earlier added : List Goal) (a b : Tree) : Type 0 where
+pub record Outcome (c : Items) (e : Tree) (way : Way) (before after : Store) (earlier added : List Goal)
+    (a b : Tree) : Type 0 where
   pub later : IsLater before after
   pub goals_in : All (GoalInContext after) added
   pub relates : (w : Interpretation) (s : Assign) → Satisfies w after s → All (Holds c w s) (earlier ++ added) →
@@ -29,7 +31,8 @@ pub record Outcome (c : Items) (e : Tree) (way : Way) (before after : Store) (ea
 
 -- A step was taken from one pair to another that is to be related yet, at its own exit: what relates the pair that is
 -- left relates the first, and what made the first one extends to make the pair that is left one.
-pub record StepsTo (c : Items) (e : Tree) (before after : Store) (earlier added : List Goal) (way : Way) (a b : Tree) (way' : Way) (x y : Tree) : Type 0 where
+pub record StepsTo (c : Items) (e : Tree) (before after : Store) (earlier added : List Goal) (way : Way)
+    (a b : Tree) (way' : Way) (x y : Tree) : Type 0 where
   pub later : IsLater before after
   pub goals_in : All (GoalInContext after) added
   pub relates : (w : Interpretation) (s : Assign) → Satisfies w after s → All (Holds c w s) (earlier ++ added) →
@@ -63,7 +66,8 @@ abbrev pub NoUnifier : Store → Tree → Tree → Type 0
 NoUnifier before a b = (s : Assign) → IsErasedSolution before s → Unifies s a b → ⊥
 
 -- The first `i` parts of two lists of parts of a form at a variance were brought together.
-pub record Front (c : Items) (e : Tree) (h : Head) (v : Variance) (i : ℕ) (before after : Store) (earlier added : List Goal) (xs ys : Tree) : Type 0 where
+pub record Front (c : Items) (e : Tree) (h : Head) (v : Variance) (i : ℕ) (before after : Store)
+    (earlier added : List Goal) (xs ys : Tree) : Type 0 where
   pub later : IsLater before after
   pub goals_in : All (GoalInContext after) added
   pub relates : (w : Interpretation) (s : Assign) → Satisfies w after s → All (Holds c w s) (earlier ++ added) →

@@ -101,11 +101,6 @@ pub record Resolves (st : Store) (t answer : Tree) : Type 0 where
   pub same_value : (w : Interpretation) (s : Assign) → Satisfies w st s → apply s answer ≡ apply s t
   pub same_erased : (s : Assign) → IsErasedSolution st s → Unifies s answer t
 
--- No variable that has a term.
-abbrev pub IsShallow : Store → Tree → Type 0
-IsShallow st (leaf (variable k n)) = entry_of st k n ≡ unbound
-IsShallow st t = Unit {0}
-
 -- The two assignments agree on the variables of a store, wholly or up to erasure.
 abbrev pub AgreeOn : Store → Assign → Assign → Type 0
 AgreeOn st s s' = (k : VarKind) (n : ℕ) → IsMade st k n → s k n ≡ s' k n
