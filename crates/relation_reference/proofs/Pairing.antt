@@ -18,11 +18,14 @@ use Rattle.relation_tools.specs.declared.error.RelateFault.{RelateFault}
 use Rattle.relation_tools.specs.declared.error.RelateFault.TheVariants.{Unrelated}
 use Rattle.relation_tools.specs.Faults.{KnowsError, KnowsFault}
 use Rattle.type_relations.specs.Stores.{Store}
-use Rattle.type_relations.specs.Errors.{AreAlike, FormError, mutability, tuple_size, empty_tuple, sorts, of_forms}
+use Rattle.type_relations.specs.Errors.{AreAlike, IsNoVariable, FormError, mutability, tuple_size, empty_tuple, sorts, of_forms}
 use Rattle.type_relations.specs.Outcomes.{NoEqualTerms}
 use Rattle.relation_reference.specs.Tables.{IsFormed}
 use Rattle.relation_reference.specs.Answers.{IsOneLeaf, Answered}
 use Rattle.relation_reference.proofs.Relating.{tuples_apart, terms_list}
+
+formed_no_variable : (t : Tree) → IsFormed t → IsNoVariable t
+formed_no_variable t h k n e = subst IsFormed e h
 
 module _ {Key Id Name : Type 0} (m : Meaning Key Id Name) where
   abbrev pub IsUnlike : TyKind Key → TyKind Key → Type 0
@@ -114,7 +117,7 @@ module _ {Key Id Name : Type 0} (m : Meaning Key Id Name) where
   pub form_answered : {X : Type 0} (st : Store) (x y : TyKey Key) (e : TypeError Key) → IsFormed (m.ty x) → IsFormed (m.ty y) → IsTerm type_sort (m.ty x) → IsTerm type_sort (m.ty y) → FormError m x y e
       → (r : Result X (RelateFault Key)) → IsErr r × IsErrAnd r (λ f. f ≡ Unrelated e) → Answered m st st (m.ty x) (m.ty y) r
   form_answered st x y e f g s t h (Ok v) q = absurd (false≢true q.0)
-  form_answered {X} st x y e f g s t h (Err z) q = subst (λ z. Answered {X = X} m st st (m.ty x) (m.ty y) (Err z)) (sym q.1) (form_apart st x y e f g s t h, of_forms x y refl refl h)
+  form_answered {X} st x y e f g s t h (Err z) q = subst (λ z. Answered {X = X} m st st (m.ty x) (m.ty y) (Err z)) (sym q.1) (form_apart st x y e f g s t h, of_forms x y refl refl (formed_no_variable (m.ty x) f) (formed_no_variable (m.ty y) g) h)
 
   known_error : (x y : TyKey Key) (e : TypeError Key) → IsTrue (known (m.ty x)) → IsTrue (known (m.ty y)) → FormError m x y e → KnowsError m e
   known_error x y e a b (mutability p q o) = tt

@@ -55,19 +55,19 @@ module _ {Key Id Name : Type 0} (m : Meaning Key Id Name) where
     slice_forms (Ok v) h = record { relates = λ c u w s sat. forms tt refl (next_part (h.relates c u w s sat) no_parts); keeps = λ w s sat q. h.keeps w s sat (cc) }
     slice_forms (Err Memory) h = tt
     slice_forms (Err Budget) h = h
-    slice_forms (Err (Unrelated f)) h = (λ w s sat q. h.0 w s sat (cc), of_parts 0 refl refl (omega arith) (omega arith) h.1)
+    slice_forms (Err (Unrelated f)) h = (λ w s sat q. h.0 w s sat (cc), of_parts 0 refl refl refl (omega arith) h.1)
 
     pub slice_answered : {X : Type 0} (a b : Tree) (r : Result X (RelateFault Key)) → a ≡ node slice (cons x nil) → b ≡ node slice (cons y nil) → Answered m before after x y r → Answered m before after a b r
     slice_answered a b r e d h = subst₂ (λ u v. Answered m before after u v r) (sym e) (sym d) (slice_forms r h)
 
-    tuple_forms : {X : Type 0} (r : Result X (RelateFault Key)) → AnsweredAll m before after x y r → Answered m before after (node tuple x) (node tuple y) r
-    tuple_forms (Ok v) h = record { relates = λ c u w s sat. forms tt refl (h.relates c u w s sat); keeps = λ w s sat q. h.keeps w s sat (cc) }
-    tuple_forms (Err Memory) h = tt
-    tuple_forms (Err Budget) h = h
-    tuple_forms (Err (Unrelated f)) h = (λ w s sat q. h.0 w s sat (cc), (let (i, j, k, e) = h.1 in of_parts i refl refl j k e))
+    tuple_forms : {X : Type 0} (r : Result X (RelateFault Key)) → count x ≡ count y → AnsweredAll m before after x y r → Answered m before after (node tuple x) (node tuple y) r
+    tuple_forms (Ok v) n h = record { relates = λ c u w s sat. forms tt refl (h.relates c u w s sat); keeps = λ w s sat q. h.keeps w s sat (cc) }
+    tuple_forms (Err Memory) n h = tt
+    tuple_forms (Err Budget) n h = h
+    tuple_forms (Err (Unrelated f)) n h = (λ w s sat q. h.0 w s sat (cc), (let (i, j, e) = h.1 in of_parts i refl refl n j e))
 
-    pub tuple_answered : {X : Type 0} (a b : Tree) (r : Result X (RelateFault Key)) → a ≡ node tuple x → b ≡ node tuple y → AnsweredAll m before after x y r → Answered m before after a b r
-    tuple_answered a b r e d h = subst₂ (λ u v. Answered m before after u v r) (sym e) (sym d) (tuple_forms r h)
+    pub tuple_answered : {X : Type 0} (a b : Tree) (r : Result X (RelateFault Key)) → a ≡ node tuple x → b ≡ node tuple y → count x ≡ count y → AnsweredAll m before after x y r → Answered m before after a b r
+    tuple_answered a b r e d n h = subst₂ (λ u v. Answered m before after u v r) (sym e) (sym d) (tuple_forms r n h)
 
   module _ (before middle after : Store) (p q x y : Tree) (shrinks : OnlyShrinks middle after) (f : Unites before middle p q) where
     ref_unites : (u : Mutability) → Unites middle after x y → Unites before after (node (ref u) (cons p (cons x nil))) (node (ref u) (cons q (cons y nil)))
@@ -84,7 +84,7 @@ module _ {Key Id Name : Type 0} (m : Meaning Key Id Name) where
     ref_forms u (Ok v) h = ref_unites u h
     ref_forms u (Err Memory) h = tt
     ref_forms u (Err Budget) h = h
-    ref_forms u (Err (Unrelated e)) h = (λ w s sat z. h.0 w s (f.keeps w s sat (cc)) (cc), of_parts 1 refl refl (omega arith) (omega arith) h.1)
+    ref_forms u (Err (Unrelated e)) h = (λ w s sat z. h.0 w s (f.keeps w s sat (cc)) (cc), of_parts 1 refl refl refl (omega arith) h.1)
 
     pub ref_answered : {X : Type 0} (u : Mutability) (a b : Tree) (r : Result X (RelateFault Key)) → a ≡ node (ref u) (cons p (cons x nil)) → b ≡ node (ref u) (cons q (cons y nil)) → Answered m middle after x y r → Answered m before after a b r
     ref_answered u a b r e d h = subst₂ (λ i j. Answered m before after i j r) (sym e) (sym d) (ref_forms u r h)
@@ -147,7 +147,7 @@ module _ (r q : Store) (i : ℕ) (ts us x y : Tree) (h : i < count ts) (k : i < 
   pub front_error : {Key Id Name : Type 0} (m : Meaning Key Id Name) (X Y : Type 0) (p : Store) (a : RelateFault Key) → Answered {X = X} m q p x y (Err a) → AnsweredAll {X = Y} m r p ts us (Err a)
   front_error m X Y p Memory u = tt
   front_error m X Y p Budget u = u
-  front_error m X Y p (Unrelated b) u = (front_apart u.0, (i, h, k, subst₂ (ErrorOf m p b) e d u.1))
+  front_error m X Y p (Unrelated b) u = (front_apart u.0, (i, h, subst₂ (ErrorOf m p b) e d u.1))
 
 pub front_all : (r q : Store) (i : ℕ) (ts us : Tree) → i ≡ count ts → i ≡ count us → IsList ts → IsList us → IsFront r q i ts us → UnitesAll r q ts us
 front_all r q i ts us h k l m f = record {

@@ -56,7 +56,7 @@ pub record IsFront (before after : Store) (i : ℕ) (a b : Tree) : Type 0 where
 
 -- The error is one of a pair at some place of two lists.
 abbrev pub ErrorOfPlace : {Key Id Name : Type 0} → Meaning Key Id Name → Store → TypeError Key → Tree → Tree → Type 0
-ErrorOfPlace m st e a b = (i : ℕ) × (i < count a) × (i < count b) × ErrorOf m st e (nth i a) (nth i b)
+ErrorOfPlace m st e a b = (i : ℕ) × (i < count a) × ErrorOf m st e (nth i a) (nth i b)
 
 -- What binding a root to a type answers: it is bound to what the type comes to; or nothing is bound, since the root
 -- stands there below a form, or no instantiation is left, or memory ran out.

@@ -15,6 +15,9 @@ AreAlike (node (ref u) ts) (node (ref v) us) = Unit {0}
 AreAlike (node h ts) (node k us) = h ≡ k
 AreAlike t u = ⊥
 
+abbrev pub IsNoVariable : Tree → Type 0
+IsNoVariable t = (k : VarKind) (n : ℕ) → t ≢ leaf (variable k n)
+
 -- By the entries of a store a type is read as another: itself, or what a variable's entry is read as.
 pub data IsReadAs (st : Store) : Tree → Tree → Type 0 where
   itself : {t u : Tree} → t ≡ u → IsReadAs st t u
@@ -32,16 +35,16 @@ module _ {Key Id Name : Type 0} (m : Meaning Key Id Name) where
         (count ts ≡ zero) ⊎ (count us ≡ zero) → FormError x y (Sorts (record { expected = x; found = y }))
     sorts : (AreAlike (m.ty x) (m.ty y) → ⊥) → FormError x y (Sorts (record { expected = x; found = y }))
 
-  -- The error comes of a pair that is met when two types are related: of two types that differ in form; of what they
-  -- are read as by what is recorded; of two parts at one place; or of a variable that stands in what the other type
-  -- comes to.
+  -- The error comes of a pair that is met when two types are related: of two types, as read, that differ in form; of
+  -- what they are read as by what is recorded; of two parts at one place of one form; or of a variable that stands in
+  -- what the other type comes to.
   pub data ErrorOf (st : Store) (e : TypeError Key) : Tree → Tree → Type 0 where
-    of_forms : {a b : Tree} (x y : TyKey Key) → m.ty x ≡ a → m.ty y ≡ b → FormError x y e → ErrorOf st e a b
+    of_forms : {a b : Tree} (x y : TyKey Key) → m.ty x ≡ a → m.ty y ≡ b → IsNoVariable a → IsNoVariable b →
+        FormError x y e → ErrorOf st e a b
     of_entries : {a b t u : Tree} → IsReadAs st a t → IsReadAs st b u → ErrorOf st e t u → ErrorOf st e a b
-    of_parts : {h k : Head} {a b ts us : Tree} (i : ℕ) → a ≡ node h ts → b ≡ node k us → i < count ts → i < count us →
-        ErrorOf st e (nth i ts) (nth i us) → ErrorOf st e a b
+    of_parts : {h : Head} {a b ts us : Tree} (i : ℕ) → a ≡ node h ts → b ≡ node h us → count ts ≡ count us →
+        i < count ts → ErrorOf st e (nth i ts) (nth i us) → ErrorOf st e a b
     of_cycle : {a b : Tree} (n : ℕ) (k : TyKey Key) → a ≡ leaf (variable type_var n) → m.ty k ≡ apply (resolved st) b →
         Occurs type_var n (m.ty k) → e ≡ CyclicTy k → ErrorOf st e a b
     of_cycle_back : {a b : Tree} (n : ℕ) (k : TyKey Key) → b ≡ leaf (variable type_var n) →
-        m.ty k ≡ apply (resolved st) a →
-        Occurs type_var n (m.ty k) → e ≡ CyclicTy k → ErrorOf st e a b
+        m.ty k ≡ apply (resolved st) a → Occurs type_var n (m.ty k) → e ≡ CyclicTy k → ErrorOf st e a b

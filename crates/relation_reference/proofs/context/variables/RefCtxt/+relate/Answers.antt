@@ -690,7 +690,7 @@ structurally_relate_tys-returns-in-Members g t c =
       lawful = done.lawful;
       grown = done.grown;
       goes = goes_within (omega (arith, wa, wb)) done.goes;
-      answers = tuple_answered p st last ts us a b c.relate_members.result parts.0 parts.1 done.answers;
+      answers = tuple_answered p st last ts us a b c.relate_members.result parts.0 parts.1 parts.2 done.answers;
       why_known = done.why_known;
     }
 
