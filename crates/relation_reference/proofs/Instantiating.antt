@@ -12,7 +12,7 @@ use Rattle.type_relations.specs.Stores.{Store, unbound, bound_to, entry_of, entr
 use Rattle.type_relations.specs.Steps.{BindsTo, Equates}
 use Rattle.type_relations.specs.Measures.{Goes, grown, depth}
 use Rattle.type_relations.specs.Errors.{IsReadAs, itself, of_entries}
-use Rattle.type_relations.proofs.ReadAs.{read_later, read_bound}
+use Rattle.type_relations.proofs.ReadAs.{read_later, read_bound, read_weight}
 use Rattle.type_relations.proofs.Only.{absent}
 use Rattle.type_relations.proofs.Resolved.{resolved_value, resolved_twice, resolved_weight}
 use Rattle.type_relations.proofs.Written.{resolved_later}
@@ -48,6 +48,17 @@ root_free st n t e (root m d f) = go (entry_of st type_var n) refl
 
 pub variable_weight : (st : Store) (n : ℕ) (t : Tree) → t ≡ leaf (variable type_var n) → IsShallow st t → weight st t ≡ 1
 variable_weight st n t e h = ap (weight st) e ∙ resolved_weight st type_var n (ap (entry_term type_var) (root_free st n t e h))
+
+-- A pair of a root and a type, as read, is larger than the type.
+pub root_above : (st : Store) → IsSound st → (n : ℕ) (a b l u : Tree) → IsReadAs st a l → IsReadAs st b u → l ≡ leaf (variable type_var n) → IsShallow st l → weight st u + 1 ≤ weight st a + weight st b
+root_above st g n a b l u p q e h =
+    let wa = read_weight st g a l p in
+    let wb = read_weight st g b u q in
+    let wl = variable_weight st n l e h in
+    omega (arith, wa, wb, wl)
+
+pub root_above_back : (st : Store) → IsSound st → (n : ℕ) (a b l u : Tree) → IsReadAs st a l → IsReadAs st b u → l ≡ leaf (variable type_var n) → IsShallow st l → weight st u + 1 ≤ weight st b + weight st a
+root_above_back st g n a b l u p q e h = let z = root_above st g n a b l u p q e h in omega (arith, z)
 
 -- The pair that is left after a root was bound to what a type comes to.
 module _ (before after : Store) (n : ℕ) (t u : Tree) (q : BindsTo before after type_var n u) (g : IsSound before) (first : before.universe ≡ 0) (is_in : IsTermIn before t)

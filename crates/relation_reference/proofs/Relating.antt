@@ -1,5 +1,5 @@
 -- What relating parts shows of forms.
-use Rattle.std.proofs.Common.{◌≡◌, ◌⊎◌, ℕ, zero, suc, ◌+◌, ◌<◌, refl, sym, ap, ◌∙◌, arith, inl, inr, subst, subst₂, Result, Ok, Err}
+use Rattle.std.proofs.Common.{◌≡◌, ◌⊎◌, ℕ, zero, suc, ◌+◌, ◌<◌, refl, sym, ap, ◌∙◌, arith, inl, inr, subst, subst₂, Result, Ok, Err, IfErr}
 use Rattle.std.proofs.lemmas.Bool.{false≢true}
 use Rattle.std.specs.Result.{IsErr, IsErrAnd}
 use native.Mathlib.Decide.{ℕ_discrete}
@@ -20,6 +20,7 @@ use Rattle.relation_terms.specs.declared.terms.enums.UintTy.{UintTy}
 use Rattle.relation_tools.specs.declared.error.RelateFault.{RelateFault}
 use Rattle.relation_tools.specs.declared.error.TypeError.{TypeError}
 use Rattle.relation_tools.specs.declared.error.RelateFault.TheVariants.{Memory, Budget, Unrelated}
+use Rattle.relation_tools.specs.Faults.{KnowsFault}
 use Rattle.type_relations.specs.Relation.{Items, Interpretation, Rel, at, parts, same, forms, no_parts, next_part}
 use Rattle.type_relations.specs.Stores.{Store, Satisfies, OnlyShrinks, IsTermIn, IsRegionIn, IsSound}
 use Rattle.type_relations.specs.Steps.{IsLater}
@@ -165,6 +166,10 @@ module _ {Key Id Name : Type 0} (m : Meaning Key Id Name) where
   pub error_answered : {X : Type 0} (Y : Type 0) (before after : Store) (a b : Tree) (r : Result X (RelateFault Key)) (f : RelateFault Key) → IsErr r → IsErrAnd r (λ e. e ≡ f) → Answered {X = Y} m before after a b (Err f) → Answered m before after a b r
   error_answered {X} Y before after a b (Ok x) f h p u = absurd (false≢true h)
   error_answered {X} Y before after a b (Err e) f h p u = subst (λ z. Answered {X = X} m before after a b (Err z)) (sym p) (err_answered X Y before after a b f u)
+
+  pub passed_known : {X : Type 0} (r : Result X (RelateFault Key)) (f : RelateFault Key) → IsErr r → IsErrAnd r (λ e. e ≡ f) → KnowsFault m f → IfErr r (KnowsFault m)
+  passed_known (Ok x) f h p k = absurd (false≢true h)
+  passed_known (Err e) f h p k = subst (KnowsFault m) (sym p) k
 
   all_answered : (X Y : Type 0) (before after : Store) (a b : Tree) (f : RelateFault Key) → AnsweredAll {X = Y} m before after a b (Err f) → AnsweredAll {X = X} m before after a b (Err f)
   all_answered X Y before after a b Memory h = tt

@@ -1,4 +1,4 @@
-use Rattle.std.proofs.Common.{rules, ◌≡◌, ◌+◌, ◌*◌, ◌≤◌, ◌<◌, IsTrue, subst, sym, ap, ap₂, ◌∙◌, arith, subst₂}
+use Rattle.std.proofs.Common.{rules, refl, ◌≡◌, ◌+◌, ◌*◌, ◌≤◌, ◌<◌, IsTrue, subst, sym, ap, ap₂, ◌∙◌, arith, subst₂}
 use Rattle.std.proofs.lemmas.Bool.{false≢true}
 use Rattle.relation_terms.specs.Heads.{type_var, slice, tuple, ref, variable}
 use Rattle.relation_terms.specs.Trees.{Assign, leaf, apply, known, count, nth}
@@ -18,12 +18,12 @@ use Rattle.relation_terms.specs.Meaning.{Extends}
 use Rattle.relation_reference.proofs.Reading.{made_of_key}
 use Rattle.relation_reference.proofs.Resolving.{known_slice, known_second, known_list, term_slice, term_list, term_second, term_nth, weight_slice, weight_list, weight_pair, weight_nth}
 use Rattle.relation_reference.proofs.Binding.{refused_goes, instantiated_refused, instantiated_refused_back}
-use Rattle.relation_reference.proofs.Instantiating.{variable_weight, binding_under, binding_under_back, binding_then_goes, binding_then_goes_back, binding_in, bound_in, then_answered, then_answered_back, roots_goes, roots_unite}
-use Rattle.relation_reference.proofs.Relating.{same_unites, unites_alike, answered_alike, error_answered, error_answered_all, slice_answered, tuple_answered, ref_answered, region_in, terms_list, front_none, front_more, front_error, front_all}
+use Rattle.relation_reference.proofs.Instantiating.{root_above, root_above_back, binding_under, binding_under_back, binding_then_goes, binding_then_goes_back, binding_in, bound_in, then_answered, then_answered_back, roots_goes, roots_unite}
+use Rattle.relation_reference.proofs.Relating.{same_unites, unites_alike, answered_alike, error_answered, passed_known, error_answered_all, slice_answered, tuple_answered, ref_answered, region_in, terms_list, front_none, front_more, front_error, front_all}
 use Rattle.relation_reference.proofs.context.variables.RefCtxt.+relate.Goals as goal
 
-pub relate_members-element-x-requires-clause-in_bounds : goal.relate_members-element-x-requires-clause-in_bounds
-relate_members-element-x-requires-clause-in_bounds g t c =
+pub relate_members-element-x-requires : goal.relate_members-element-x-requires
+relate_members-element-x-requires g t c =
     let m = g.I.Interner.meaning c.args.self.now.interner in
     let st = store_of m c.args.self.now.inner in
     let n = g.I.Interner.meaning c.loop-i.self.interner in
@@ -34,24 +34,10 @@ relate_members-element-x-requires-clause-in_bounds g t c =
     let us = m.tys c.args.b.now in
     let la : n.tys c.args.a.now ≡ ts = inv.grown.tys c.args.a.now c.requires.a_known in
     let less : i < count ts = (let test = c.loop-i-test.true in let k = inv.counts_a in omega arith) in
-    subst (λ z. i < count z) (sym la) less
+    record { tys_known = subst (λ z. IsTrue (known z)) (sym la) c.requires.a_known; in_bounds = subst (λ z. i < count z) (sym la) less }
 
-pub relate_members-element-x-requires-clause-tys_known : goal.relate_members-element-x-requires-clause-tys_known
-relate_members-element-x-requires-clause-tys_known g t c =
-    let m = g.I.Interner.meaning c.args.self.now.interner in
-    let st = store_of m c.args.self.now.inner in
-    let n = g.I.Interner.meaning c.loop-i.self.interner in
-    let now = store_of n c.loop-i.self.inner in
-    let inv = c.loop-i.invariant in
-    let i = c.loop-i.i in
-    let ts = m.tys c.args.a.now in
-    let us = m.tys c.args.b.now in
-    let la : n.tys c.args.a.now ≡ ts = inv.grown.tys c.args.a.now c.requires.a_known in
-    let less : i < count ts = (let test = c.loop-i-test.true in let k = inv.counts_a in omega arith) in
-    subst (λ z. IsTrue (known z)) (sym la) c.requires.a_known
-
-pub relate_members-element-y-requires-clause-in_bounds : goal.relate_members-element-y-requires-clause-in_bounds
-relate_members-element-y-requires-clause-in_bounds g t c =
+pub relate_members-element-y-requires : goal.relate_members-element-y-requires
+relate_members-element-y-requires g t c =
     let m = g.I.Interner.meaning c.args.self.now.interner in
     let st = store_of m c.args.self.now.inner in
     let n = g.I.Interner.meaning c.loop-i.self.interner in
@@ -62,21 +48,7 @@ relate_members-element-y-requires-clause-in_bounds g t c =
     let us = m.tys c.args.b.now in
     let lb : n.tys c.args.b.now ≡ us = inv.grown.tys c.args.b.now c.requires.b_known in
     let less' : i < count us = (let test = c.loop-i-test.true in let k = inv.counts_b in omega arith) in
-    subst (λ z. i < count z) (sym lb) less'
-
-pub relate_members-element-y-requires-clause-tys_known : goal.relate_members-element-y-requires-clause-tys_known
-relate_members-element-y-requires-clause-tys_known g t c =
-    let m = g.I.Interner.meaning c.args.self.now.interner in
-    let st = store_of m c.args.self.now.inner in
-    let n = g.I.Interner.meaning c.loop-i.self.interner in
-    let now = store_of n c.loop-i.self.inner in
-    let inv = c.loop-i.invariant in
-    let i = c.loop-i.i in
-    let ts = m.tys c.args.a.now in
-    let us = m.tys c.args.b.now in
-    let lb : n.tys c.args.b.now ≡ us = inv.grown.tys c.args.b.now c.requires.b_known in
-    let less' : i < count us = (let test = c.loop-i-test.true in let k = inv.counts_b in omega arith) in
-    subst (λ z. IsTrue (known z)) (sym lb) c.requires.b_known
+    record { tys_known = subst (λ z. IsTrue (known z)) (sym lb) c.requires.b_known; in_bounds = subst (λ z. i < count z) (sym lb) less' }
 
 pub relate_members-relate_tys-requires : goal.relate_members-relate_tys-requires
 relate_members-relate_tys-requires g t c κs within =
@@ -109,43 +81,8 @@ relate_members-relate_tys-requires g t c κs within =
     let y_in : IsTermIn now y = subst (IsTermIn now) (sym ey) (later_term st now later.grows later.universe_stands (nth i us) (term_nth st us i less' c.requires.b_in)) in
     search rules
 
-pub relate_members-returns-in_err-relate_tys-clause-grown : goal.relate_members-returns-in_err-relate_tys-clause-grown
-relate_members-returns-in_err-relate_tys-clause-grown g t c =
-    let m = g.I.Interner.meaning c.args.self.now.interner in
-    let st = store_of m c.args.self.now.inner in
-    let n = g.I.Interner.meaning c.loop-i.self.interner in
-    let now = store_of n c.loop-i.self.inner in
-    let inv = c.loop-i.invariant in
-    let i = c.loop-i.i in
-    let ts = m.tys c.args.a.now in
-    let us = m.tys c.args.b.now in
-    extends_on inv.grown c.relate_tys.ensures.grown
-
-pub relate_members-returns-in_err-relate_tys-clause-goes : goal.relate_members-returns-in_err-relate_tys-clause-goes
-relate_members-returns-in_err-relate_tys-clause-goes g t c =
-    let m = g.I.Interner.meaning c.args.self.now.interner in
-    let st = store_of m c.args.self.now.inner in
-    let n = g.I.Interner.meaning c.loop-i.self.interner in
-    let now = store_of n c.loop-i.self.inner in
-    let inv = c.loop-i.invariant in
-    let i = c.loop-i.i in
-    let ts = m.tys c.args.a.now in
-    let us = m.tys c.args.b.now in
-    let la : n.tys c.args.a.now ≡ ts = inv.grown.tys c.args.a.now c.requires.a_known in
-    let less : i < count ts = (let test = c.loop-i-test.true in let k = inv.counts_a in omega arith) in
-    let lb : n.tys c.args.b.now ≡ us = inv.grown.tys c.args.b.now c.requires.b_known in
-    let less' : i < count us = (let test = c.loop-i-test.true in let k = inv.counts_b in omega arith) in
-    let x = n.ty c.element-x.result in
-    let y = n.ty c.element-y.result in
-    let ex : x ≡ nth i ts = c.element-x.ensures.means ∙ ap (nth i) la in
-    let ey : y ≡ nth i us = c.element-y.ensures.means ∙ ap (nth i) lb in
-    let N = weight st ts + weight st us in
-    let up : weight now x + weight now y ≤ grown inv.goes.spent N = subst₂ (λ p q. weight now p + weight now q ≤ grown inv.goes.spent N) (sym ex) (sym ey)
-    (pair_grown inv.goes N (nth i ts) (nth i us) (omega arith) (let wx = weight_nth st ts i less in let wy = weight_nth st us i less' in omega arith)) in
-    goes_then inv.goes c.relate_tys.ensures.goes up
-
-pub relate_members-returns-in_err-relate_tys-clause-answers : goal.relate_members-returns-in_err-relate_tys-clause-answers
-relate_members-returns-in_err-relate_tys-clause-answers g t c =
+pub relate_members-returns-in_err-relate_tys : goal.relate_members-returns-in_err-relate_tys
+relate_members-returns-in_err-relate_tys g t c =
     let m = g.I.Interner.meaning c.args.self.now.interner in
     let st = store_of m c.args.self.now.inner in
     let n = g.I.Interner.meaning c.loop-i.self.interner in
@@ -167,8 +104,15 @@ relate_members-returns-in_err-relate_tys-clause-answers g t c =
     (pair_grown inv.goes N (nth i ts) (nth i us) (omega arith) (let wx = weight_nth st ts i less in let wy = weight_nth st us i less' in omega arith)) in
     let p = g.I.Interner.meaning c.relate_tys.new.self.interner in
     let last = store_of p c.relate_tys.new.self.inner in
-    error_answered_all p (Unit {0}) st last ts us c.from_residual.result c.in_err-relate_tys.field-0.0 c.from_residual.ensures.0 c.from_residual.ensures.1
-    (front_error st now i ts us x y less less' ex ey inv.front p (Unit {0}) (Unit {0}) last c.in_err-relate_tys.field-0.0 c.in_err-relate_tys.ensures.answers)
+    let e = c.in_err-relate_tys.field-0.0 in
+    record {
+      lawful = c.relate_tys.ensures.lawful;
+      grown = extends_on inv.grown c.relate_tys.ensures.grown;
+      goes = goes_then inv.goes c.relate_tys.ensures.goes up;
+      answers = error_answered_all p (Unit {0}) st last ts us c.from_residual.result e c.from_residual.ensures.0 c.from_residual.ensures.1
+      (front_error st now i ts us x y less less' ex ey inv.front p (Unit {0}) (Unit {0}) last e c.in_err-relate_tys.ensures.answers);
+      why_known = passed_known p c.from_residual.result e c.from_residual.ensures.0 c.from_residual.ensures.1 c.in_err-relate_tys.ensures.why_known;
+    }
 
 pub relate_members-loop-i-preserved : goal.relate_members-loop-i-preserved
 relate_members-loop-i-preserved g t c =
@@ -238,17 +182,21 @@ relate_members-returns g t c =
       why_known = tt;
     }
 
-pub relate_tys-returns-then-eq-clause-goes : goal.relate_tys-returns-then-eq-clause-goes
-relate_tys-returns-then-eq-clause-goes g t c =
+pub relate_tys-returns-then-eq : goal.relate_tys-returns-then-eq
+relate_tys-returns-then-eq g t c =
     let m = g.I.Interner.meaning c.args.self.now.interner in
     let st = store_of m c.args.self.now.inner in
-    goes_nowhere _ st
-
-pub relate_tys-returns-then-eq-clause-answers : goal.relate_tys-returns-then-eq-clause-answers
-relate_tys-returns-then-eq-clause-answers g t c =
-    let m = g.I.Interner.meaning c.args.self.now.interner in
-    let st = store_of m c.args.self.now.inner in
-    same_unites st (m.ty c.args.a.now) (m.ty c.args.b.now) ((g.met.I.Interner.same_ty c.args.self.now.interner c.args.a.now c.args.b.now c.requires.a_known c.requires.b_known).0 (sym c.if-eq.ensures))
+    let a = m.ty c.args.a.now in
+    let b = m.ty c.args.b.now in
+    let sound = c.requires.lawful.sound in
+    record {
+      lawful = c.requires.lawful;
+      grown = stays_same m;
+      goes = goes_nowhere (weight st a + weight st b) st;
+      answers = same_unites st a b ((g.met.I.Interner.same_ty c.args.self.now.interner c.args.a.now c.args.b.now c.requires.a_known c.requires.b_known).0 (sym c.if-eq.ensures));
+      why_known = tt;
+      same = λ e. (refl, refl);
+    }
 
 pub relate_tys-equate_ty_vids_raw-requires-clause-a_made : goal.relate_tys-equate_ty_vids_raw-requires-clause-a_made
 relate_tys-equate_ty_vids_raw-requires-clause-a_made g t c =
@@ -274,35 +222,35 @@ relate_tys-instantiate_ty_var_raw-requires-in-Some-ty_var-2-clause-target_made g
     let st = store_of m c.args.self.now.inner in
     made_of_key m c.args.self.now.inner c.requires.lawful (m.ty c.shallow_resolve-right.result) c.in-Some-ty_var-2.y.0 c.in-Some-ty_var-2.ensures.is (c.shallow_resolve-right.ensures.resolves.is_in c.requires.b_in)
 
-pub relate_tys-returns-in-Some-ty_var-clause-goes : goal.relate_tys-returns-in-Some-ty_var-clause-goes
-relate_tys-returns-in-Some-ty_var-clause-goes g t c =
+pub relate_tys-returns-in-Some-ty_var : goal.relate_tys-returns-in-Some-ty_var
+relate_tys-returns-in-Some-ty_var g t c =
     let m = g.I.Interner.meaning c.args.self.now.interner in
     let st = store_of m c.args.self.now.inner in
+    let a = m.ty c.args.a.now in
+    let b = m.ty c.args.b.now in
+    let sound = c.requires.lawful.sound in
     let x = c.in-Some.x.0 in
     let y = c.in-Some-ty_var.y.0 in
-    let e : g.I.Interner.meaning c.equate_ty_vids_raw.new.self.interner ≡ m = ap g.I.Interner.meaning c.equate_ty_vids_raw.ensures.interner in
+    let done = c.equate_ty_vids_raw.ensures in
     let new = c.equate_ty_vids_raw.new.self.inner in
-    let st' = store_of m new in
-    let stays : (x ≡ y) → st' ≡ st = λ z. ap (store_of m) (c.equate_ty_vids_raw.ensures.same z) in
-    subst (λ z. Goes (weight st (m.ty c.args.a.now) + weight st (m.ty c.args.b.now)) st (store_of z new)) (sym e) (roots_goes st st' x y c.requires.lawful.sound stays c.equate_ty_vids_raw.ensures.equates (weight st (m.ty c.args.a.now) + weight st (m.ty c.args.b.now)))
+    let o = g.I.Interner.meaning c.equate_ty_vids_raw.new.self.interner in
+    let e : o ≡ m = ap g.I.Interner.meaning done.interner in
+    let later = store_of m new in
+    let stays : (x ≡ y) → later ≡ st = λ z. ap (store_of m) (done.same z) in
+    let gone : Goes 0 st later = roots_goes st later x y sound stays done.equates 0 in
+    record {
+      lawful = subst (λ z. IsLawful z new) (sym e) done.lawful;
+      grown = subst (Extends m) (sym e) (stays_same m);
+      goes = subst (λ z. Goes (weight st a + weight st b) st (store_of z new)) (sym e) (goes_within (omega arith) gone);
+      answers = subst (λ z. Unites st (store_of z new) a b) (sym e) (unites_alike st later a b (leaf (variable type_var x)) (leaf (variable type_var y)) gone.later.shrinks
+      (subst (IsReadAs st a) c.in-Some.ensures.is c.shallow_resolve-left.ensures.reads) (subst (IsReadAs st b) c.in-Some-ty_var.ensures.is c.shallow_resolve-right.ensures.reads)
+      (roots_unite st later x y sound stays done.equates));
+      why_known = tt;
+      same = λ e. absurd (false≢true (c.if-eq.ensures ∙ (g.met.I.Interner.same_ty c.args.self.now.interner c.args.a.now c.args.b.now c.requires.a_known c.requires.b_known).1 e));
+    }
 
-pub relate_tys-returns-in-Some-ty_var-clause-answers : goal.relate_tys-returns-in-Some-ty_var-clause-answers
-relate_tys-returns-in-Some-ty_var-clause-answers g t c =
-    let m = g.I.Interner.meaning c.args.self.now.interner in
-    let st = store_of m c.args.self.now.inner in
-    let x = c.in-Some.x.0 in
-    let y = c.in-Some-ty_var.y.0 in
-    let e : g.I.Interner.meaning c.equate_ty_vids_raw.new.self.interner ≡ m = ap g.I.Interner.meaning c.equate_ty_vids_raw.ensures.interner in
-    let new = c.equate_ty_vids_raw.new.self.inner in
-    let st' = store_of m new in
-    let stays : (x ≡ y) → st' ≡ st = λ z. ap (store_of m) (c.equate_ty_vids_raw.ensures.same z) in
-    let gone : Goes 0 st st' = roots_goes st st' x y c.requires.lawful.sound stays c.equate_ty_vids_raw.ensures.equates 0 in
-    subst (λ z. Unites st (store_of z new) (m.ty c.args.a.now) (m.ty c.args.b.now)) (sym e) (unites_alike st st' (m.ty c.args.a.now) (m.ty c.args.b.now) (leaf (variable type_var x)) (leaf (variable type_var y)) gone.later.shrinks
-    (subst (IsReadAs st (m.ty c.args.a.now)) c.in-Some.ensures.is c.shallow_resolve-left.ensures.reads) (subst (IsReadAs st (m.ty c.args.b.now)) c.in-Some-ty_var.ensures.is c.shallow_resolve-right.ensures.reads)
-    (roots_unite st st' x y c.requires.lawful.sound stays c.equate_ty_vids_raw.ensures.equates))
-
-pub relate_tys-returns-in_err-bound-in-None-ty_var-clause-goes : goal.relate_tys-returns-in_err-bound-in-None-ty_var-clause-goes
-relate_tys-returns-in_err-bound-in-None-ty_var-clause-goes g t c =
+pub relate_tys-returns-in_err-bound-in-None-ty_var : goal.relate_tys-returns-in_err-bound-in-None-ty_var
+relate_tys-returns-in_err-bound-in-None-ty_var g t c =
     let m = g.I.Interner.meaning c.args.self.now.interner in
     let st = store_of m c.args.self.now.inner in
     let a = m.ty c.args.a.now in
@@ -313,34 +261,19 @@ relate_tys-returns-in_err-bound-in-None-ty_var-clause-goes g t c =
     let mid = store_of o c.instantiate_ty_var_raw.new.self.inner in
     let u = m.ty c.shallow_resolve-right.result in
     let N = weight st a + weight st b in
-    let above : weight st u + 1 ≤ N =
-    (let wu = read_weight st sound b u c.shallow_resolve-right.ensures.reads in
-    let wx = read_weight st sound a (m.ty c.shallow_resolve-left.result) c.shallow_resolve-left.ensures.reads in
-    let wv = variable_weight st v (m.ty c.shallow_resolve-left.result) c.in-Some.ensures.is c.shallow_resolve-left.ensures.shallow in omega (arith, wu, wx, wv)) in
-    let nothing : Goes (weight st u) st mid = refused_goes o st mid v u c.in_err-bound-in-None-ty_var.field-0.0 c.in_err-bound-in-None-ty_var.ensures.answers in
-    goes_within (omega (arith, above)) nothing
-
-pub relate_tys-returns-in_err-bound-in-None-ty_var-clause-answers : goal.relate_tys-returns-in_err-bound-in-None-ty_var-clause-answers
-relate_tys-returns-in_err-bound-in-None-ty_var-clause-answers g t c =
-    let m = g.I.Interner.meaning c.args.self.now.interner in
-    let st = store_of m c.args.self.now.inner in
-    let a = m.ty c.args.a.now in
-    let b = m.ty c.args.b.now in
-    let sound = c.requires.lawful.sound in
-    let v = c.in-Some.x.0 in
-    let o = g.I.Interner.meaning c.instantiate_ty_var_raw.new.self.interner in
-    let mid = store_of o c.instantiate_ty_var_raw.new.self.inner in
-    let u = m.ty c.shallow_resolve-right.result in
-    let N = weight st a + weight st b in
-    let above : weight st u + 1 ≤ N =
-    (let wu = read_weight st sound b u c.shallow_resolve-right.ensures.reads in
-    let wx = read_weight st sound a (m.ty c.shallow_resolve-left.result) c.shallow_resolve-left.ensures.reads in
-    let wv = variable_weight st v (m.ty c.shallow_resolve-left.result) c.in-Some.ensures.is c.shallow_resolve-left.ensures.shallow in omega (arith, wu, wx, wv)) in
+    let above : weight st u + 1 ≤ N = root_above st sound v a b (m.ty c.shallow_resolve-left.result) u c.shallow_resolve-left.ensures.reads c.shallow_resolve-right.ensures.reads c.in-Some.ensures.is c.shallow_resolve-left.ensures.shallow in
     let read : IsReadAs st a (leaf (variable type_var v)) = subst (IsReadAs st a) c.in-Some.ensures.is c.shallow_resolve-left.ensures.reads in
     let nothing : Goes (weight st u) st mid = refused_goes o st mid v u c.in_err-bound-in-None-ty_var.field-0.0 c.in_err-bound-in-None-ty_var.ensures.answers in
-    answered_alike o st mid a b (leaf (variable type_var v)) u c.from_residual.result sound nothing.later read c.shallow_resolve-right.ensures.reads
-    (error_answered o (Unit {0}) st mid (leaf (variable type_var v)) u c.from_residual.result c.in_err-bound-in-None-ty_var.field-0.0 c.from_residual.ensures.0 c.from_residual.ensures.1
-    (instantiated_refused o st mid v u (Unit {0}) c.in_err-bound-in-None-ty_var.field-0.0 c.in-None-ty_var.ensures.formed c.in_err-bound-in-None-ty_var.ensures.answers))
+    record {
+      lawful = c.instantiate_ty_var_raw.ensures.lawful;
+      grown = c.instantiate_ty_var_raw.ensures.grown;
+      goes = goes_within (omega (arith, above)) nothing;
+      answers = answered_alike o st mid a b (leaf (variable type_var v)) u c.from_residual.result sound nothing.later read c.shallow_resolve-right.ensures.reads
+      (error_answered o (Unit {0}) st mid (leaf (variable type_var v)) u c.from_residual.result c.in_err-bound-in-None-ty_var.field-0.0 c.from_residual.ensures.0 c.from_residual.ensures.1
+      (instantiated_refused o st mid v u (Unit {0}) c.in_err-bound-in-None-ty_var.field-0.0 c.in-None-ty_var.ensures.formed c.in_err-bound-in-None-ty_var.ensures.answers));
+      why_known = passed_known o c.from_residual.result c.in_err-bound-in-None-ty_var.field-0.0 c.from_residual.ensures.0 c.from_residual.ensures.1 c.in_err-bound-in-None-ty_var.ensures.why_known;
+      same = λ e. absurd (false≢true (c.if-eq.ensures ∙ (g.met.I.Interner.same_ty c.args.self.now.interner c.args.a.now c.args.b.now c.requires.a_known c.requires.b_known).1 e));
+    }
 
 pub relate_tys-relate_tys-requires : goal.relate_tys-relate_tys-requires
 relate_tys-relate_tys-requires g t c κs within =
@@ -354,10 +287,7 @@ relate_tys-relate_tys-requires g t c κs within =
     let mid = store_of o c.instantiate_ty_var_raw.new.self.inner in
     let u = m.ty c.shallow_resolve-right.result in
     let N = weight st a + weight st b in
-    let above : weight st u + 1 ≤ N =
-    (let wu = read_weight st sound b u c.shallow_resolve-right.ensures.reads in
-    let wx = read_weight st sound a (m.ty c.shallow_resolve-left.result) c.shallow_resolve-left.ensures.reads in
-    let wv = variable_weight st v (m.ty c.shallow_resolve-left.result) c.in-Some.ensures.is c.shallow_resolve-left.ensures.shallow in omega (arith, wu, wx, wv)) in
+    let above : weight st u + 1 ≤ N = root_above st sound v a b (m.ty c.shallow_resolve-left.result) u c.shallow_resolve-left.ensures.reads c.shallow_resolve-right.ensures.reads c.in-Some.ensures.is c.shallow_resolve-left.ensures.shallow in
     let k = c.in_ok-bound-in-None-ty_var.bound in
     let r = c.in_ok-bound-in-None-ty_var.ensures.answers in
     let stands = g.met.I.Interner.is_ty c.instantiate_ty_var_raw.new.self.interner k c.in_ok-bound-in-None-ty_var.ensures.sure in
@@ -385,10 +315,7 @@ relate_tys-returns-in-Some g t c =
     let mid = store_of o c.instantiate_ty_var_raw.new.self.inner in
     let u = m.ty c.shallow_resolve-right.result in
     let N = weight st a + weight st b in
-    let above : weight st u + 1 ≤ N =
-    (let wu = read_weight st sound b u c.shallow_resolve-right.ensures.reads in
-    let wx = read_weight st sound a (m.ty c.shallow_resolve-left.result) c.shallow_resolve-left.ensures.reads in
-    let wv = variable_weight st v (m.ty c.shallow_resolve-left.result) c.in-Some.ensures.is c.shallow_resolve-left.ensures.shallow in omega (arith, wu, wx, wv)) in
+    let above : weight st u + 1 ≤ N = root_above st sound v a b (m.ty c.shallow_resolve-left.result) u c.shallow_resolve-left.ensures.reads c.shallow_resolve-right.ensures.reads c.in-Some.ensures.is c.shallow_resolve-left.ensures.shallow in
     let read : IsReadAs st a (leaf (variable type_var v)) = subst (IsReadAs st a) c.in-Some.ensures.is c.shallow_resolve-left.ensures.reads in
     let k = c.in_ok-bound-in-None-ty_var.bound in
     let r = c.in_ok-bound-in-None-ty_var.ensures.answers in
@@ -409,8 +336,8 @@ relate_tys-returns-in-Some g t c =
       same = λ e. absurd (false≢true (c.if-eq.ensures ∙ (g.met.I.Interner.same_ty c.args.self.now.interner c.args.a.now c.args.b.now c.requires.a_known c.requires.b_known).1 e));
     }
 
-pub relate_tys-returns-in_err-bound-in-Some-ty_var-2-clause-goes : goal.relate_tys-returns-in_err-bound-in-Some-ty_var-2-clause-goes
-relate_tys-returns-in_err-bound-in-Some-ty_var-2-clause-goes g t c =
+pub relate_tys-returns-in_err-bound-in-Some-ty_var-2 : goal.relate_tys-returns-in_err-bound-in-Some-ty_var-2
+relate_tys-returns-in_err-bound-in-Some-ty_var-2 g t c =
     let m = g.I.Interner.meaning c.args.self.now.interner in
     let st = store_of m c.args.self.now.inner in
     let a = m.ty c.args.a.now in
@@ -421,34 +348,19 @@ relate_tys-returns-in_err-bound-in-Some-ty_var-2-clause-goes g t c =
     let mid = store_of o c.instantiate_ty_var_raw-in-Some-ty_var-2.new.self.inner in
     let u = m.ty c.shallow_resolve-left.result in
     let N = weight st a + weight st b in
-    let above : weight st u + 1 ≤ N =
-    (let wu = read_weight st sound a u c.shallow_resolve-left.ensures.reads in
-    let wx = read_weight st sound b (m.ty c.shallow_resolve-right.result) c.shallow_resolve-right.ensures.reads in
-    let wv = variable_weight st v (m.ty c.shallow_resolve-right.result) c.in-Some-ty_var-2.ensures.is c.shallow_resolve-right.ensures.shallow in omega (arith, wu, wx, wv)) in
-    let nothing : Goes (weight st u) st mid = refused_goes o st mid v u c.in_err-bound-in-Some-ty_var-2.field-0.0 c.in_err-bound-in-Some-ty_var-2.ensures.answers in
-    goes_within (omega (arith, above)) nothing
-
-pub relate_tys-returns-in_err-bound-in-Some-ty_var-2-clause-answers : goal.relate_tys-returns-in_err-bound-in-Some-ty_var-2-clause-answers
-relate_tys-returns-in_err-bound-in-Some-ty_var-2-clause-answers g t c =
-    let m = g.I.Interner.meaning c.args.self.now.interner in
-    let st = store_of m c.args.self.now.inner in
-    let a = m.ty c.args.a.now in
-    let b = m.ty c.args.b.now in
-    let sound = c.requires.lawful.sound in
-    let v = c.in-Some-ty_var-2.y.0 in
-    let o = g.I.Interner.meaning c.instantiate_ty_var_raw-in-Some-ty_var-2.new.self.interner in
-    let mid = store_of o c.instantiate_ty_var_raw-in-Some-ty_var-2.new.self.inner in
-    let u = m.ty c.shallow_resolve-left.result in
-    let N = weight st a + weight st b in
-    let above : weight st u + 1 ≤ N =
-    (let wu = read_weight st sound a u c.shallow_resolve-left.ensures.reads in
-    let wx = read_weight st sound b (m.ty c.shallow_resolve-right.result) c.shallow_resolve-right.ensures.reads in
-    let wv = variable_weight st v (m.ty c.shallow_resolve-right.result) c.in-Some-ty_var-2.ensures.is c.shallow_resolve-right.ensures.shallow in omega (arith, wu, wx, wv)) in
+    let above : weight st u + 1 ≤ N = root_above_back st sound v b a (m.ty c.shallow_resolve-right.result) u c.shallow_resolve-right.ensures.reads c.shallow_resolve-left.ensures.reads c.in-Some-ty_var-2.ensures.is c.shallow_resolve-right.ensures.shallow in
     let read : IsReadAs st b (leaf (variable type_var v)) = subst (IsReadAs st b) c.in-Some-ty_var-2.ensures.is c.shallow_resolve-right.ensures.reads in
     let nothing : Goes (weight st u) st mid = refused_goes o st mid v u c.in_err-bound-in-Some-ty_var-2.field-0.0 c.in_err-bound-in-Some-ty_var-2.ensures.answers in
-    answered_alike o st mid a b u (leaf (variable type_var v)) c.from_residual-in_err-bound-in-Some-ty_var-2.result sound nothing.later c.shallow_resolve-left.ensures.reads read
-    (error_answered o (Unit {0}) st mid u (leaf (variable type_var v)) c.from_residual-in_err-bound-in-Some-ty_var-2.result c.in_err-bound-in-Some-ty_var-2.field-0.0 c.from_residual-in_err-bound-in-Some-ty_var-2.ensures.0 c.from_residual-in_err-bound-in-Some-ty_var-2.ensures.1
-    (instantiated_refused_back o st mid v u (Unit {0}) c.in_err-bound-in-Some-ty_var-2.field-0.0 c.in-None.ensures.formed c.in_err-bound-in-Some-ty_var-2.ensures.answers))
+    record {
+      lawful = c.instantiate_ty_var_raw-in-Some-ty_var-2.ensures.lawful;
+      grown = c.instantiate_ty_var_raw-in-Some-ty_var-2.ensures.grown;
+      goes = goes_within (omega (arith, above)) nothing;
+      answers = answered_alike o st mid a b u (leaf (variable type_var v)) c.from_residual-in_err-bound-in-Some-ty_var-2.result sound nothing.later c.shallow_resolve-left.ensures.reads read
+      (error_answered o (Unit {0}) st mid u (leaf (variable type_var v)) c.from_residual-in_err-bound-in-Some-ty_var-2.result c.in_err-bound-in-Some-ty_var-2.field-0.0 c.from_residual-in_err-bound-in-Some-ty_var-2.ensures.0 c.from_residual-in_err-bound-in-Some-ty_var-2.ensures.1
+      (instantiated_refused_back o st mid v u (Unit {0}) c.in_err-bound-in-Some-ty_var-2.field-0.0 c.in-None.ensures.formed c.in_err-bound-in-Some-ty_var-2.ensures.answers));
+      why_known = passed_known o c.from_residual-in_err-bound-in-Some-ty_var-2.result c.in_err-bound-in-Some-ty_var-2.field-0.0 c.from_residual-in_err-bound-in-Some-ty_var-2.ensures.0 c.from_residual-in_err-bound-in-Some-ty_var-2.ensures.1 c.in_err-bound-in-Some-ty_var-2.ensures.why_known;
+      same = λ e. absurd (false≢true (c.if-eq.ensures ∙ (g.met.I.Interner.same_ty c.args.self.now.interner c.args.a.now c.args.b.now c.requires.a_known c.requires.b_known).1 e));
+    }
 
 pub relate_tys-relate_tys-requires-in-Some-ty_var-2 : goal.relate_tys-relate_tys-requires-in-Some-ty_var-2
 relate_tys-relate_tys-requires-in-Some-ty_var-2 g t c κs within =
@@ -462,10 +374,7 @@ relate_tys-relate_tys-requires-in-Some-ty_var-2 g t c κs within =
     let mid = store_of o c.instantiate_ty_var_raw-in-Some-ty_var-2.new.self.inner in
     let u = m.ty c.shallow_resolve-left.result in
     let N = weight st a + weight st b in
-    let above : weight st u + 1 ≤ N =
-    (let wu = read_weight st sound a u c.shallow_resolve-left.ensures.reads in
-    let wx = read_weight st sound b (m.ty c.shallow_resolve-right.result) c.shallow_resolve-right.ensures.reads in
-    let wv = variable_weight st v (m.ty c.shallow_resolve-right.result) c.in-Some-ty_var-2.ensures.is c.shallow_resolve-right.ensures.shallow in omega (arith, wu, wx, wv)) in
+    let above : weight st u + 1 ≤ N = root_above_back st sound v b a (m.ty c.shallow_resolve-right.result) u c.shallow_resolve-right.ensures.reads c.shallow_resolve-left.ensures.reads c.in-Some-ty_var-2.ensures.is c.shallow_resolve-right.ensures.shallow in
     let k = c.in_ok-bound-in-Some-ty_var-2.bound in
     let r = c.in_ok-bound-in-Some-ty_var-2.ensures.answers in
     let stands = g.met.I.Interner.is_ty c.instantiate_ty_var_raw-in-Some-ty_var-2.new.self.interner k c.in_ok-bound-in-Some-ty_var-2.ensures.sure in
@@ -493,10 +402,7 @@ relate_tys-returns-in-Some-ty_var-2 g t c =
     let mid = store_of o c.instantiate_ty_var_raw-in-Some-ty_var-2.new.self.inner in
     let u = m.ty c.shallow_resolve-left.result in
     let N = weight st a + weight st b in
-    let above : weight st u + 1 ≤ N =
-    (let wu = read_weight st sound a u c.shallow_resolve-left.ensures.reads in
-    let wx = read_weight st sound b (m.ty c.shallow_resolve-right.result) c.shallow_resolve-right.ensures.reads in
-    let wv = variable_weight st v (m.ty c.shallow_resolve-right.result) c.in-Some-ty_var-2.ensures.is c.shallow_resolve-right.ensures.shallow in omega (arith, wu, wx, wv)) in
+    let above : weight st u + 1 ≤ N = root_above_back st sound v b a (m.ty c.shallow_resolve-right.result) u c.shallow_resolve-right.ensures.reads c.shallow_resolve-left.ensures.reads c.in-Some-ty_var-2.ensures.is c.shallow_resolve-right.ensures.shallow in
     let read : IsReadAs st b (leaf (variable type_var v)) = subst (IsReadAs st b) c.in-Some-ty_var-2.ensures.is c.shallow_resolve-right.ensures.reads in
     let k = c.in_ok-bound-in-Some-ty_var-2.bound in
     let r = c.in_ok-bound-in-Some-ty_var-2.ensures.answers in
@@ -562,18 +468,6 @@ relate_tys-returns g t c =
       why_known = done.why_known;
       same = λ e. absurd (false≢true (c.if-eq.ensures ∙ (g.met.I.Interner.same_ty c.args.self.now.interner c.args.a.now c.args.b.now c.requires.a_known c.requires.b_known).1 e));
     }
-
-pub relate_tys-returns-in-Some-ty_var-clause-same : goal.relate_tys-returns-in-Some-ty_var-clause-same
-relate_tys-returns-in-Some-ty_var-clause-same g t c =
-    λ e. absurd (false≢true (c.if-eq.ensures ∙ (g.met.I.Interner.same_ty c.args.self.now.interner c.args.a.now c.args.b.now c.requires.a_known c.requires.b_known).1 e))
-
-pub relate_tys-returns-in_err-bound-in-None-ty_var-clause-same : goal.relate_tys-returns-in_err-bound-in-None-ty_var-clause-same
-relate_tys-returns-in_err-bound-in-None-ty_var-clause-same g t c =
-    λ e. absurd (false≢true (c.if-eq.ensures ∙ (g.met.I.Interner.same_ty c.args.self.now.interner c.args.a.now c.args.b.now c.requires.a_known c.requires.b_known).1 e))
-
-pub relate_tys-returns-in_err-bound-in-Some-ty_var-2-clause-same : goal.relate_tys-returns-in_err-bound-in-Some-ty_var-2-clause-same
-relate_tys-returns-in_err-bound-in-Some-ty_var-2-clause-same g t c =
-    λ e. absurd (false≢true (c.if-eq.ensures ∙ (g.met.I.Interner.same_ty c.args.self.now.interner c.args.a.now c.args.b.now c.requires.a_known c.requires.b_known).1 e))
 
 pub structurally_relate_tys-returns-in_err-paired_parts : goal.structurally_relate_tys-returns-in_err-paired_parts
 structurally_relate_tys-returns-in_err-paired_parts g t c =
