@@ -1,13 +1,11 @@
 -- What is written, by its outermost form.
-use Rattle.std.proofs.Common.{rules, arith, ◌≡◌, ℕ, zero, suc, ◌+◌, ◌<◌, ◌≤◌, Bool as Boolean, true, false, ◌&&◌, nat_lt, IsFalse, List, [], ◌∷◌, ◌++◌, Bor, Result, Err, IfOk, IfErr, refl, sym, ap, ◌∙◌, subst, map, length, take, get_or}
+use Rattle.std.proofs.Common.{rules, arith, ◌≡◌, ℕ, zero, suc, ◌+◌, ◌<◌, Bool as Boolean, true, false, ◌&&◌, IsFalse, List, [], ◌∷◌, ◌++◌, Bor, Result, IfOk, refl, sym, ap, ◌∙◌, subst, map, length, take, get_or}
 use Rattle.std.proofs.lemmas.List.{take_more}
 use Rattle.relation_terms.specs.Heads.{type_var, variable, atom, bool_type, char_type, uint_type, slice, tuple, ref}
 use Rattle.relation_terms.specs.Trees.{Tree, leaf, node, nil, cons, list_tree}
 use Rattle.relation_terms.specs.declared.terms.enums.UintTy.{UintTy}
 use Rattle.relation_terms.specs.declared.terms.enums.Mutability.TheVariants.{Not}
-use Rattle.relations.specs.Types.{written_region, written_tree, has_region, has_all, have_all}
-use Rattle.relations.specs.declared.written.BuildFault.{BuildFault}
-use Rattle.relations.specs.declared.written.BuildFault.TheVariants.{Memory, Missing}
+use Rattle.relations.specs.Types.{written_region, written_tree, has_all, have_all}
 use Rattle.relations.specs.declared.written.Parameter.{Parameter}
 use Rattle.relations.specs.declared.written.WrittenRegion.{WrittenRegion}
 use Rattle.relations.specs.declared.written.Written.{Written, Bool, Char, Uint, Slice, Tuple, Ref, Variable, the_lemmas}

@@ -1,5 +1,5 @@
 -- How many variables a context has after one more was made.
-use Rattle.std.proofs.Common.{◌≡◌, ℕ, ◌+◌, refl, sym, ap, ◌∙◌, length, map, [], ◌∷◌}
+use Rattle.std.proofs.Common.{◌≡◌, ℕ, ◌+◌, sym, ap, ◌∙◌, length, [], ◌∷◌}
 use Rattle.std.proofs.lemmas.List.{length-map, length-append}
 use Rattle.relation_terms.specs.Heads.{type_var, region_var}
 use Rattle.relation_terms.specs.Meaning.{Meaning}
