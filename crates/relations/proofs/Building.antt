@@ -1,20 +1,20 @@
 -- What is written, by its outermost form.
 use Rattle.std.proofs.Common.{rules, arith, ◌≡◌, ℕ, zero, suc, ◌+◌, ◌<◌, Bool as Boolean, true, false, ◌&&◌, IsFalse, List, [], ◌∷◌, ◌++◌, Bor, Result, IfOk, refl, sym, ap, ◌∙◌, subst, map, length, take, get_or}
 use Rattle.std.proofs.lemmas.List.{take_more}
-use Rattle.relation_terms.specs.Heads.{type_var, variable, atom, bool_type, char_type, uint_type, slice, tuple, ref}
+use Rattle.relation_terms.specs.Heads.{atom, bool_type, char_type, uint_type, slice, tuple, ref}
 use Rattle.relation_terms.specs.Trees.{Tree, leaf, node, nil, cons, list_tree}
 use Rattle.relation_terms.specs.declared.terms.enums.UintTy.{UintTy}
 use Rattle.relation_terms.specs.declared.terms.enums.Mutability.TheVariants.{Not}
 use Rattle.relations.specs.Types.{written_region, written_tree, has_all, have_all}
 use Rattle.relations.specs.declared.written.Parameter.{Parameter}
 use Rattle.relations.specs.declared.written.WrittenRegion.{WrittenRegion}
-use Rattle.relations.specs.declared.written.Written.{Written, Bool, Char, Uint, Slice, Tuple, Ref, Variable, the_lemmas}
+use Rattle.relations.specs.declared.written.Written.{Written, Bool, Char, Uint, Slice, Tuple, Ref, the_lemmas}
 
 -- An answer that means one tree means an equal one.
 pub ok_as : {A E : Type 0} (r : Result A E) (f : A → Tree) (t u : Tree) → t ≡ u → IfOk r (λ x. f x ≡ t) → IfOk r (λ x. f x ≡ u)
 ok_as r f t u e h = subst (λ z. IfOk r (λ x. f x ≡ z)) e h
 
-pub list_tree-map : {A : Type 0} (f : A → Tree) (xs : List A) → list_tree (λ t. t) (map f xs) ≡ list_tree f xs
+list_tree-map : {A : Type 0} (f : A → Tree) (xs : List A) → list_tree (λ t. t) (map f xs) ≡ list_tree f xs
 list_tree-map f [] = refl
 list_tree-map f (x ∷ xs) = ap (cons (f x)) (list_tree-map f xs)
 
@@ -28,16 +28,13 @@ module _ {Name : Type 0} (name : Name → ℕ) (ps : List (Parameter Name)) wher
   pub tree-Uint : (w : UintTy) → leaf (atom (uint_type w)) ≡ written_tree name ps (Uint w)
   tree-Uint w = search (rules, the_lemmas)
 
-  pub tree-Variable : (n : ℕ) → leaf (variable type_var n) ≡ written_tree name ps (Variable n)
-  tree-Variable n = search (rules, the_lemmas)
-
-  pub tree-Slice : (w : Bor Written) → node slice (cons (written_tree name ps w.now) nil) ≡ written_tree name ps (Slice w)
+  tree-Slice : (w : Bor Written) → node slice (cons (written_tree name ps w.now) nil) ≡ written_tree name ps (Slice w)
   tree-Slice w = search (rules, the_lemmas)
 
-  pub tree-Ref : (r : WrittenRegion) (w : Bor Written) → node (ref Not) (cons (written_region name ps r) (cons (written_tree name ps w.now) nil)) ≡ written_tree name ps (Ref r w)
+  tree-Ref : (r : WrittenRegion) (w : Bor Written) → node (ref Not) (cons (written_region name ps r) (cons (written_tree name ps w.now) nil)) ≡ written_tree name ps (Ref r w)
   tree-Ref r w = search (rules, the_lemmas)
 
-  pub tree-Tuple : (ws : Bor (List Written)) → node tuple (list_tree (written_tree name ps) ws.now) ≡ written_tree name ps (Tuple ws)
+  tree-Tuple : (ws : Bor (List Written)) → node tuple (list_tree (written_tree name ps) ws.now) ≡ written_tree name ps (Tuple ws)
   tree-Tuple ws = search (rules, the_lemmas, list_tree-map)
 
   -- The same of what is known to be that form.

@@ -1,6 +1,7 @@
 //! What a run prints and answers, and what several calls on one context leave.
 
 use crate::asking::{Question, ask, build_pair, relate};
+use crate::printing::write_ty;
 use crate::rows::{PARAMETERS, run};
 use crate::written::{Written, WrittenRegion};
 use relation_reference::context::RefCtxt;
@@ -8,8 +9,8 @@ use relation_reference::interner::{ItemId, NoSpan, NodeKey, RefInterner};
 use relation_terms::predicate::{OutlivesPredicate, RegionConstraint, RegionEqPredicate};
 use relation_terms::terms::{
     AlternativesKey, ArgsKey, BoundVarsKey, BranchesKey, ClauseKey, ConstKey, Dup,
-    ExistentialPredicatesKey, GenericArgKind, Goal, Interner, ParamEnvKey, PatKey, PredicateKey,
-    RegionKey, TyKey, TyVid, UintTy, ValTreeKey,
+    ExistentialPredicatesKey, GenericArgKind, Goal, IntTy, Interner, ParamEnvKey, PatKey,
+    PredicateKey, RegionKey, TyKey, TyKind, TyVid, UintTy, ValTreeKey,
 };
 use relation_tools::error::{ExpectedFound, OutOfMemory, RelateFault, TypeError};
 use std::alloc::{AllocError, Global};
@@ -272,4 +273,31 @@ fn faults_of_growths_and_errors(rt: HostRuntime) {
     let error: TypeError<NodeKey> = TypeError::CyclicTy(TyKey(NodeKey(1)));
     let fault = RelateFault::from(error.dup());
     assert!(rt; fault == RelateFault::Unrelated(error));
+}
+
+const INTEGERS: [(TyKind<NodeKey>, &str); 12] = [
+    (TyKind::Int(IntTy::Isize), "isize"),
+    (TyKind::Int(IntTy::I8), "i8"),
+    (TyKind::Int(IntTy::I16), "i16"),
+    (TyKind::Int(IntTy::I32), "i32"),
+    (TyKind::Int(IntTy::I64), "i64"),
+    (TyKind::Int(IntTy::I128), "i128"),
+    (TyKind::Uint(UintTy::Usize), "usize"),
+    (TyKind::Uint(UintTy::U8), "u8"),
+    (TyKind::Uint(UintTy::U16), "u16"),
+    (TyKind::Uint(UintTy::U32), "u32"),
+    (TyKind::Uint(UintTy::U64), "u64"),
+    (TyKind::Uint(UintTy::U128), "u128"),
+];
+
+#[test]
+fn integer_types_print_their_names(rt: HostRuntime) -> Result<(), Fail> {
+    for (kind, name) in &INTEGERS {
+        let mut cx = RefInterner::new(rt.alloc());
+        let ty = cx.mk_ty(kind.dup())?;
+        let mut text = String::new(rt.alloc());
+        write_ty(&cx, &PARAMETERS, &ty, &mut text)?;
+        assert_eq!(rt; text.as_str(), *name);
+    }
+    Ok(())
 }
