@@ -65,7 +65,7 @@ module _ {Key Id Name : Type 0} (m : Meaning Key Id Name) (x : InferCtxtInner Ke
 
   module _ (l : IsLawful m x) where
     -- The key beside a variable.
-    is_variable : (i : ℕ) (v : TypeVariable Key) (k : TyKey Key) → i < length x.types.items → v ≡ get_or x.types.items i v → k ≡ v.key → m.ty k ≡ leaf (variable type_var i)
+    pub is_variable : (i : ℕ) (v : TypeVariable Key) (k : TyKey Key) → i < length x.types.items → v ≡ get_or x.types.items i v → k ≡ v.key → m.ty k ≡ leaf (variable type_var i)
     is_variable i v k h e q = ap m.ty q ∙ (ap (λ w. m.ty w.key) e ∙ key_of m x l i v h)
 
     pub key_known : (i : ℕ) (v : TypeVariable Key) (k : TyKey Key) → i < length x.types.items → v ≡ get_or x.types.items i v → k ≡ v.key → IsTrue (known (m.ty k))

@@ -1,2 +1,4 @@
+pub mod Building
+pub mod Counting
 pub mod Joining
 pub mod Parts

@@ -1,11 +1,14 @@
 //! A row's questions: contexts, and the pairs of types that are related in each.
-ghost use Rattle.std.specs.Prelude.{◌≡◌, IsTrue, IfOk, IfErr};
-ghost use Rattle.relation_terms.specs.Trees.{known};
+ghost use Rattle.std.specs.Prelude.{◌≡◌, ◌+◌, ◌&&◌, IsTrue, IsFalse, Err, IfOk, IfErr, OnOk, length};
+ghost use Rattle.relation_terms.specs.Heads.{environment};
+ghost use Rattle.relation_terms.specs.Trees.{known, node, nil};
 ghost use Rattle.relation_terms.specs.Meaning.{Extends};
 ghost use Rattle.relation_tools.specs.Faults.{KnowsFault};
 ghost use Rattle.type_relations.specs.Stores.{IsTermIn};
 ghost use Rattle.type_relations.specs.Steps.{IsLater};
 ghost use Rattle.relation_reference.specs.Tables.{store_of, IsLawful};
+ghost use Rattle.relations.specs.Types.{written_tree, has_all};
+ghost use Rattle.relations.specs.declared.written.BuildFault.TheVariants.{Missing};
 
 use crate::printing::write_answer;
 use crate::written::{BuildFault, Parameter, Written, build};
@@ -29,7 +32,9 @@ pub struct Question {
 // Makes the variables of a question.
 fn make_variables<I: Interner>(ctx: &mut RefCtxt<I>, question: &Question) -> Result<(), OutOfMemory>
     requires { IsLawful (I.meaning ctx.old.interner) ctx.old.inner }
-    ensures { IsLawful (I.meaning ctx.new.interner) ctx.new.inner }
+    ensures lawful { IsLawful (I.meaning ctx.new.interner) ctx.new.inner }
+    ensures types { OnOk result (length ctx.new.inner.types.items ≡ length ctx.old.inner.types.items + question.now.type_variables) }
+    ensures regions { OnOk result (length ctx.new.inner.regions.items ≡ length ctx.old.inner.regions.items + question.now.region_variables) }
 {
     for _ in 0..question.type_variables {
         let _ = ctx.next_ty_infer()?;
@@ -48,11 +53,17 @@ pub fn build_pair<I: Interner>(
 ) -> Result<(ParamEnv<I>, Ty<I>, Ty<I>), BuildFault>
     requires { IsLawful (I.meaning ctx.old.interner) ctx.old.inner }
     ensures lawful { IsLawful (I.meaning ctx.new.interner) ctx.new.inner }
+    ensures grown { Extends (I.meaning ctx.old.interner) (I.meaning ctx.new.interner) }
+    ensures tables { ctx.new.inner ≡ ctx.old.inner }
     ensures env_known { IfOk result (λ p. IsTrue (known ((I.meaning ctx.new.interner).param_env p.0))) }
     ensures lhs_known { IfOk result (λ p. IsTrue (known ((I.meaning ctx.new.interner).ty p.1))) }
     ensures rhs_known { IfOk result (λ p. IsTrue (known ((I.meaning ctx.new.interner).ty p.2))) }
     ensures lhs_in { IfOk result (λ p. IsTermIn (store_of (I.meaning ctx.new.interner) ctx.new.inner) ((I.meaning ctx.new.interner).ty p.1)) }
     ensures rhs_in { IfOk result (λ p. IsTermIn (store_of (I.meaning ctx.new.interner) ctx.new.inner) ((I.meaning ctx.new.interner).ty p.2)) }
+    ensures env_made { IfOk result (λ p. (I.meaning ctx.new.interner).param_env p.0 ≡ node environment nil) }
+    ensures lhs_made { IfOk result (λ p. (I.meaning ctx.new.interner).ty p.1 ≡ written_tree (I.meaning ctx.old.interner).name parameters.now pair.now.0) }
+    ensures rhs_made { IfOk result (λ p. (I.meaning ctx.new.interner).ty p.2 ≡ written_tree (I.meaning ctx.old.interner).name parameters.now pair.now.1) }
+    ensures missing { result ≡ Err Missing → IsFalse (has_all (length ctx.old.inner.types.items) (length ctx.old.inner.regions.items) (length parameters.now) pair.now.0 && has_all (length ctx.old.inner.types.items) (length ctx.old.inner.regions.items) (length parameters.now) pair.now.1) }
 {
     let param_env = ctx.interner.empty_param_env()?;
     let lhs = build(ctx, parameters, &pair.0)?;

@@ -1,8 +1,9 @@
 //! How terms and answers print.
-ghost use Rattle.std.specs.Prelude.{◌<◌, IsTrue, IfSome, IfErr, length};
-ghost use Rattle.relation_terms.specs.Trees.{known};
+ghost use Rattle.std.specs.Prelude.{◌≡◌, ◌<◌, IsTrue, IfSome, IfNone, IfErr, length};
+ghost use Rattle.relation_terms.specs.Heads.{type_var};
+ghost use Rattle.relation_terms.specs.Trees.{Tree, known};
 ghost use Rattle.relation_tools.specs.Faults.{KnowsError, KnowsFault};
-ghost use Rattle.type_relations.specs.Stores.{ConstraintIn};
+ghost use Rattle.type_relations.specs.Stores.{ConstraintIn, entry_of, bound_to};
 ghost use Rattle.relation_reference.specs.Tables.{store_of, constraint_of, IsLawful};
 
 use crate::written::Parameter;
@@ -206,10 +207,12 @@ fn write_constraints<I: Interner, W: Write>(
 }
 
 // The type that a root is bound to, or none, also where the variable is the same as another.
-fn bound_to<I: Interner>(ctx: &RefCtxt<I>, number: usize) -> Option<Ty<I>>
+fn bound_type<I: Interner>(ctx: &RefCtxt<I>, number: usize) -> Option<Ty<I>>
     requires lawful { IsLawful (I.meaning ctx.now.interner) ctx.now.inner }
     requires made { number < length ctx.now.inner.types.items }
-    ensures { IfSome result (λ t. IsTrue (known ((I.meaning ctx.now.interner).ty t))) }
+    ensures sure { IfSome result (λ t. IsTrue (known ((I.meaning ctx.now.interner).ty t))) }
+    ensures bound { IfSome result (λ t. entry_of (store_of (I.meaning ctx.now.interner) ctx.now.inner) type_var number ≡ bound_to ((I.meaning ctx.now.interner).ty t)) }
+    ensures none { IfNone result ((t : Tree) → entry_of (store_of (I.meaning ctx.now.interner) ctx.now.inner) type_var number ≡ bound_to t → ⊥) }
 {
     match &ctx.inner.types[number].value {
         TypeVariableValue::Known(ty) => Some(ty.dup()),
@@ -228,7 +231,7 @@ fn write_bound<I: Interner, W: Write>(
 {
     let mut any = false;
     for number in 0..ctx.inner.types.len() {
-        if let Some(ty) = bound_to(ctx, number) {
+        if let Some(ty) = bound_type(ctx, number) {
             out.write_str(if any { ", " } else { "; bound=[" })?;
             write!(out, "?{number}=")?;
             write_ty(&ctx.interner, parameters, &ty, out)?;

@@ -1,12 +1,19 @@
 //! What a run prints and answers, and what several calls on one context leave.
 
 use crate::asking::{Question, ask, build_pair, relate};
+use crate::printing::write_ty;
 use crate::rows::{PARAMETERS, run};
 use crate::written::{Written, WrittenRegion};
 use relation_reference::context::RefCtxt;
-use relation_reference::interner::RefInterner;
-use relation_terms::terms::{Dup, Interner, TyVid, UintTy};
-use std::alloc::AllocError;
+use relation_reference::interner::{ItemId, NoSpan, NodeKey, RefInterner};
+use relation_terms::predicate::{OutlivesPredicate, RegionConstraint, RegionEqPredicate};
+use relation_terms::terms::{
+    AlternativesKey, ArgsKey, BoundVarsKey, BranchesKey, ClauseKey, ConstKey, Dup,
+    ExistentialPredicatesKey, GenericArgKind, Goal, IntTy, Interner, ParamEnvKey, PatKey,
+    PredicateKey, RegionKey, TyKey, TyKind, TyVid, UintTy, ValTreeKey,
+};
+use relation_tools::error::{ExpectedFound, OutOfMemory, RelateFault, TypeError};
+use std::alloc::{AllocError, Global};
 use std::io;
 use std::test::Fail;
 
@@ -44,7 +51,7 @@ const RUNS: [(&[&str], u8, &str, &str); 7] = [
     (&["none", "r08", "r09"], 2, "", "usage: relations [name]\n"),
 ];
 
-fn texts(alloc: std::alloc::Global, words: &[&str]) -> Result<Vec<String>, AllocError> {
+fn texts(alloc: Global, words: &[&str]) -> Result<Vec<String>, AllocError> {
     let mut texts = Vec::new(alloc);
     for word in words {
         texts.push(String::from_str(alloc, word)?)?;
@@ -211,5 +218,86 @@ fn a_bound_variable_has_its_type(rt: HostRuntime) -> Result<(), Fail> {
     assert_eq!(rt; ctx.inner.types.len(), 1);
     assert!(rt; ctx.binding(TyVid(0)) == Some(bound));
     assert_eq!(rt; ctx.budget_left(), 0);
+    Ok(())
+}
+
+// Whether a copy equals its source.
+fn copies<T: Dup + PartialEq + Drop>(source: &T) -> bool {
+    source.dup() == *source
+}
+
+#[test]
+fn copies_equal_their_sources(rt: HostRuntime) {
+    let region = RegionKey(NodeKey(1));
+    let argument = GenericArgKind::Const(ConstKey(NodeKey(2)));
+    let outlives = OutlivesPredicate(argument, region.dup());
+    assert!(rt; copies(&RegionConstraint::Outlives(outlives)));
+    let equal = RegionEqPredicate(region, RegionKey(NodeKey(3)));
+    assert!(rt; copies(&RegionConstraint::Eq(equal)));
+    let goal = Goal {
+        param_env: ParamEnvKey(NodeKey(4)),
+        predicate: PredicateKey(NodeKey(5)),
+    };
+    assert!(rt; copies(&goal));
+    let types = ExpectedFound::new(TyKey(NodeKey(6)), TyKey(NodeKey(7)));
+    assert!(rt; copies(&TypeError::Sorts(types)));
+}
+
+#[test]
+fn copies_of_keys_equal_their_sources(rt: HostRuntime) {
+    assert!(rt; copies(&ArgsKey(NodeKey(1))));
+    assert!(rt; copies(&PatKey(NodeKey(2))));
+    assert!(rt; copies(&ValTreeKey(NodeKey(3))));
+    assert!(rt; copies(&BranchesKey(NodeKey(4))));
+    assert!(rt; copies(&AlternativesKey(NodeKey(5))));
+    assert!(rt; copies(&ExistentialPredicatesKey(NodeKey(6))));
+    assert!(rt; copies(&BoundVarsKey(NodeKey(7))));
+    assert!(rt; copies(&ClauseKey(NodeKey(8))));
+    assert!(rt; copies(&ItemId(9)));
+    assert!(rt; copies(&NoSpan));
+}
+
+// Grows by each kind of call.
+fn growths(alloc: Global) -> Result<usize, RelateFault<NodeKey>> {
+    let mut numbers = Vec::new(alloc);
+    numbers.push(7u8)?;
+    let text = String::from_str(alloc, "text")?;
+    Ok(numbers.len() + text.len())
+}
+
+#[test]
+fn faults_of_growths_and_errors(rt: HostRuntime) {
+    assert!(rt; growths(rt.alloc()) == Ok(5));
+    let refused: RelateFault<NodeKey> = RelateFault::from(OutOfMemory::from(AllocError));
+    assert!(rt; refused == RelateFault::Memory);
+    let error: TypeError<NodeKey> = TypeError::CyclicTy(TyKey(NodeKey(1)));
+    let fault = RelateFault::from(error.dup());
+    assert!(rt; fault == RelateFault::Unrelated(error));
+}
+
+const INTEGERS: [(TyKind<NodeKey>, &str); 12] = [
+    (TyKind::Int(IntTy::Isize), "isize"),
+    (TyKind::Int(IntTy::I8), "i8"),
+    (TyKind::Int(IntTy::I16), "i16"),
+    (TyKind::Int(IntTy::I32), "i32"),
+    (TyKind::Int(IntTy::I64), "i64"),
+    (TyKind::Int(IntTy::I128), "i128"),
+    (TyKind::Uint(UintTy::Usize), "usize"),
+    (TyKind::Uint(UintTy::U8), "u8"),
+    (TyKind::Uint(UintTy::U16), "u16"),
+    (TyKind::Uint(UintTy::U32), "u32"),
+    (TyKind::Uint(UintTy::U64), "u64"),
+    (TyKind::Uint(UintTy::U128), "u128"),
+];
+
+#[test]
+fn integer_types_print_their_names(rt: HostRuntime) -> Result<(), Fail> {
+    for (kind, name) in &INTEGERS {
+        let mut cx = RefInterner::new(rt.alloc());
+        let ty = cx.mk_ty(kind.dup())?;
+        let mut text = String::new(rt.alloc());
+        write_ty(&cx, &PARAMETERS, &ty, &mut text)?;
+        assert_eq!(rt; text.as_str(), *name);
+    }
     Ok(())
 }

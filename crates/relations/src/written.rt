@@ -1,9 +1,12 @@
 //! Types as rows write them, and how they are built.
-ghost use Rattle.std.specs.Prelude.{◌≡◌, ◌<◌, IsTrue, IfOk, length};
-ghost use Rattle.relation_terms.specs.Trees.{known, list_tree};
+ghost use Rattle.std.specs.Prelude.{◌≡◌, ◌<◌, IsTrue, IsFalse, Err, IfOk, IfErr, length};
+ghost use Rattle.relation_terms.specs.Heads.{type_var, variable};
+ghost use Rattle.relation_terms.specs.Trees.{leaf, known, list_tree};
 ghost use Rattle.relation_terms.specs.Meaning.{Extends, kind_tree, region_tree};
 ghost use Rattle.type_relations.specs.Stores.{IsTermIn};
 ghost use Rattle.relation_reference.specs.Tables.{store_of, IsLawful};
+ghost use Rattle.relations.specs.Types.{written_region, written_tree, has_region, has_all, have_all};
+ghost use Rattle.relations.specs.declared.written.BuildFault.TheVariants.{Memory, Missing};
 
 use relation_reference::context::RefCtxt;
 use relation_terms::terms::{
@@ -52,12 +55,16 @@ pub enum BuildFault {
 }
 
 impl From<OutOfMemory> for BuildFault {
+    ghost from_gives = { λ _ e. e ≡ Memory };
+
     fn from(_refused: OutOfMemory) -> BuildFault {
         BuildFault::Memory
     }
 }
 
 impl<T: Drop> From<AllocFailed<T>> for BuildFault {
+    ghost from_gives = { λ _ e. e ≡ Memory };
+
     fn from(_refused: AllocFailed<T>) -> BuildFault {
         BuildFault::Memory
     }
@@ -75,6 +82,8 @@ fn make_region<I: Interner>(
     ensures tables { ctx.new.inner ≡ ctx.old.inner }
     ensures sure { IfOk result (λ r. IsTrue (known ((I.meaning ctx.new.interner).region r))) }
     ensures is_in { IfOk result (λ r. IsTermIn (store_of (I.meaning ctx.new.interner) ctx.new.inner) ((I.meaning ctx.new.interner).region r)) }
+    ensures made { IfOk result (λ r. (I.meaning ctx.new.interner).region r ≡ region_tree (I.meaning ctx.old.interner) kind) }
+    ensures memory { IfErr result (λ e. e ≡ Memory) }
 {
     let region = ctx.interner.mk_region(kind)?;
     Ok(region)
@@ -90,6 +99,8 @@ fn make_ty<I: Interner>(ctx: &mut RefCtxt<I>, kind: TyForm<I>) -> Result<Ty<I>, 
     ensures tables { ctx.new.inner ≡ ctx.old.inner }
     ensures sure { IfOk result (λ t. IsTrue (known ((I.meaning ctx.new.interner).ty t))) }
     ensures is_in { IfOk result (λ t. IsTermIn (store_of (I.meaning ctx.new.interner) ctx.new.inner) ((I.meaning ctx.new.interner).ty t)) }
+    ensures made { IfOk result (λ t. (I.meaning ctx.new.interner).ty t ≡ kind_tree (I.meaning ctx.old.interner) kind) }
+    ensures memory { IfErr result (λ e. e ≡ Memory) }
 {
     let ty = ctx.interner.mk_ty(kind)?;
     Ok(ty)
@@ -105,6 +116,8 @@ fn make_type_list<I: Interner>(ctx: &mut RefCtxt<I>, types: &[Ty<I>]) -> Result<
     ensures tables { ctx.new.inner ≡ ctx.old.inner }
     ensures sure { IfOk result (λ t. IsTrue (known ((I.meaning ctx.new.interner).tys t))) }
     ensures is_in { IfOk result (λ t. IsTermIn (store_of (I.meaning ctx.new.interner) ctx.new.inner) ((I.meaning ctx.new.interner).tys t)) }
+    ensures made { IfOk result (λ t. (I.meaning ctx.new.interner).tys t ≡ list_tree (I.meaning ctx.old.interner).ty types.now) }
+    ensures memory { IfErr result (λ e. e ≡ Memory) }
 {
     let list = ctx.interner.mk_type_list(types)?;
     Ok(list)
@@ -122,6 +135,8 @@ fn build_region<I: Interner>(
     ensures tables { ctx.new.inner ≡ ctx.old.inner }
     ensures sure { IfOk result (λ r. IsTrue (known ((I.meaning ctx.new.interner).region r))) }
     ensures is_in { IfOk result (λ r. IsTermIn (store_of (I.meaning ctx.new.interner) ctx.new.inner) ((I.meaning ctx.new.interner).region r)) }
+    ensures made { IfOk result (λ r. (I.meaning ctx.new.interner).region r ≡ written_region (I.meaning ctx.old.interner).name parameters.now written) }
+    ensures missing { result ≡ Err Missing → IsFalse (has_region (length ctx.old.inner.regions.items) (length parameters.now) written) }
 {
     match written {
         WrittenRegion::Static => make_region(ctx, RegionKind::ReStatic),
@@ -148,11 +163,12 @@ fn build_region<I: Interner>(
 }
 
 // A type variable of the context.
-fn variable<I: Interner>(ctx: &RefCtxt<I>, number: usize) -> Ty<I>
+fn variable_of<I: Interner>(ctx: &RefCtxt<I>, number: usize) -> Ty<I>
     requires lawful { IsLawful (I.meaning ctx.now.interner) ctx.now.inner }
     requires made { number < length ctx.now.inner.types.items }
     ensures sure { IsTrue (known ((I.meaning ctx.now.interner).ty result)) }
     ensures is_in { IsTermIn (store_of (I.meaning ctx.now.interner) ctx.now.inner) ((I.meaning ctx.now.interner).ty result) }
+    ensures means { (I.meaning ctx.now.interner).ty result ≡ leaf (variable type_var number) }
 {
     ctx.inner.types[number].key.dup()
 }
@@ -170,6 +186,8 @@ pub fn build<I: Interner>(
     ensures tables { ctx.new.inner ≡ ctx.old.inner }
     ensures sure { IfOk result (λ t. IsTrue (known ((I.meaning ctx.new.interner).ty t))) }
     ensures is_in { IfOk result (λ t. IsTermIn (store_of (I.meaning ctx.new.interner) ctx.new.inner) ((I.meaning ctx.new.interner).ty t)) }
+    ensures made { IfOk result (λ t. (I.meaning ctx.new.interner).ty t ≡ written_tree (I.meaning ctx.old.interner).name parameters.now written.now) }
+    ensures missing { result ≡ Err Missing → IsFalse (has_all (length ctx.old.inner.types.items) (length ctx.old.inner.regions.items) (length parameters.now) written.now) }
 {
     match written {
         Written::Bool => make_ty(ctx, TyKind::Bool),
@@ -179,7 +197,7 @@ pub fn build<I: Interner>(
             if *number >= ctx.inner.types.len() {
                 return Err(BuildFault::Missing);
             }
-            Ok(variable(ctx, *number))
+            Ok(variable_of(ctx, *number))
         }
         Written::Slice(element) => {
             let element = build(ctx, parameters, element)?;
@@ -211,6 +229,8 @@ fn build_all<I: Interner>(
     ensures tables { ctx.new.inner ≡ ctx.old.inner }
     ensures sure { IfOk result (λ v. IsTrue (known (list_tree (I.meaning ctx.new.interner).ty v.items))) }
     ensures are_in { IfOk result (λ v. IsTermIn (store_of (I.meaning ctx.new.interner) ctx.new.inner) (list_tree (I.meaning ctx.new.interner).ty v.items)) }
+    ensures made { IfOk result (λ v. list_tree (I.meaning ctx.new.interner).ty v.items ≡ list_tree (written_tree (I.meaning ctx.old.interner).name parameters.now) written.now) }
+    ensures missing { result ≡ Err Missing → IsFalse (have_all (length ctx.old.inner.types.items) (length ctx.old.inner.regions.items) (length parameters.now) written.now) }
 {
     let mut types = Vec::new(ctx.interner.alloc());
     for member in written {

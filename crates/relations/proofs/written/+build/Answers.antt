@@ -1,8 +1,13 @@
-use Rattle.std.proofs.Common.{refl, sym, ◌∙◌, subst, IsTrue, List, []}
+use Rattle.std.proofs.Common.{rules, refl, sym, ap, ◌∙◌, subst, IsTrue, IsFalse, List, [], length, arith}
+use Rattle.std.proofs.lemmas.List.{take_all}
+use Rattle.std.proofs.Math.Path.{fun_ext}
 use Rattle.relation_terms.specs.Trees.{known, list_tree}
 use Rattle.relation_terms.specs.declared.terms.keys.TyKey.{TyKey}
-use Rattle.relation_terms.proofs.Stays.{extends_on, stays_same}
+use Rattle.relation_terms.proofs.Stays.{extends_on, stays_same, stays_list}
+use Rattle.relation_reference.specs.declared.context.inner.InferCtxtInner.{InferCtxtInner}
 use Rattle.relation_reference.specs.Tables.{store_of}
+use Rattle.relations.specs.Types.{written_region, written_tree, has_all}
+use Rattle.relations.proofs.Building.{ok_as, tree-Bool, tree-Char, tree-Uint, slice_written, ref_written, tuple_written, next_written, member_has}
 use Rattle.relations.proofs.Joining.{atom_in, nil_in, cons_in, node_in, ty_in, list_as_in, next_known, next_in}
 use Rattle.relations.proofs.written.+build.Goals as goal
 
@@ -55,6 +60,7 @@ build_all-loop-member-init g t c =
       tables = refl;
       sure = subst (λ (ts : List (TyKey _)). IsTrue (known (list_tree m.ty ts))) (sym c.new-types.ensures.items) refl;
       are_in = list_as_in (store_of m c.args.ctx.now.inner) m.ty [] c.new-types.result.items c.new-types.ensures.items (nil_in (store_of m c.args.ctx.now.inner));
+      made = ap (list_tree m.ty) c.new-types.ensures.items;
     }
 
 pub build_all-returns-in_err-ty-clause-grown : goal.build_all-returns-in_err-ty-clause-grown
@@ -76,4 +82,55 @@ build_all-loop-member-preserved g t c =
       tables = c.build.ensures.tables ∙ i.tables;
       sure = next_known e x y c.build.ensures.tables l c.loop-member.types.items _ c.in_ok-ty.ty c.in_ok-push.ensures.items i.sure c.in_ok-ty.ensures.sure;
       are_in = next_in e x y c.build.ensures.tables l c.loop-member.types.items _ c.in_ok-ty.ty c.in_ok-push.ensures.items i.sure i.are_in c.in_ok-ty.ensures.is_in;
+      made =
+          next_written (g.I.Interner.meaning c.build.new.ctx.interner).ty (written_tree (g.I.Interner.meaning c.args.ctx.now.interner).name c.args.parameters.now) c.loop-member.types.items _ c.in_ok-ty.ty c.args.written.now c.loop-member.member-index c.member-item.result (omega arith) c.in_ok-push.ensures.items c.member-item.is
+          (stays_list (g.I.Interner.meaning c.loop-member.ctx.interner).ty (g.I.Interner.meaning c.build.new.ctx.interner).ty c.loop-member.types.items e.ty i.sure ∙ i.made)
+          (c.in_ok-ty.ensures.made ∙ ap (λ n. written_tree n c.args.parameters.now c.member-item.result) (fun_ext i.grown.name));
     }
+
+pub build-returns-in-Bool-clause-made : goal.build-returns-in-Bool-clause-made
+build-returns-in-Bool-clause-made g t c =
+    ok_as c.make_ty.result (g.I.Interner.meaning c.make_ty.new.ctx.interner).ty _ _ (rw c.in-Bool.is (tree-Bool (g.I.Interner.meaning c.args.ctx.now.interner).name c.args.parameters.now)) c.make_ty.ensures.made
+
+pub build-returns-in-Char-clause-made : goal.build-returns-in-Char-clause-made
+build-returns-in-Char-clause-made g t c =
+    ok_as c.make_ty-in-Char.result (g.I.Interner.meaning c.make_ty-in-Char.new.ctx.interner).ty _ _ (rw c.in-Char.is (tree-Char (g.I.Interner.meaning c.args.ctx.now.interner).name c.args.parameters.now)) c.make_ty-in-Char.ensures.made
+
+pub build-returns-in-Uint-clause-made : goal.build-returns-in-Uint-clause-made
+build-returns-in-Uint-clause-made g t c =
+    ok_as c.make_ty-in-Uint.result (g.I.Interner.meaning c.make_ty-in-Uint.new.ctx.interner).ty _ _ (rw c.in-Uint.is (tree-Uint (g.I.Interner.meaning c.args.ctx.now.interner).name c.args.parameters.now c.in-Uint.width)) c.make_ty-in-Uint.ensures.made
+
+pub build-returns-in_ok-element-in-Slice-clause-made : goal.build-returns-in_ok-element-in-Slice-clause-made
+build-returns-in_ok-element-in-Slice-clause-made g t c =
+    ok_as c.make_ty-in-Slice.result (g.I.Interner.meaning c.make_ty-in-Slice.new.ctx.interner).ty _ _
+    (slice_written (g.I.Interner.meaning c.args.ctx.now.interner).name c.args.parameters.now c.args.written.now c.in-Slice.element _ c.in-Slice.is
+    c.in_ok-element-in-Slice.ensures.made)
+    c.make_ty-in-Slice.ensures.made
+
+pub build-returns-in_ok-region-in-Ref-clause-made : goal.build-returns-in_ok-region-in-Ref-clause-made
+build-returns-in_ok-region-in-Ref-clause-made g t c =
+    ok_as c.make_ty-in-Ref.result (g.I.Interner.meaning c.make_ty-in-Ref.new.ctx.interner).ty _ _
+    (ref_written (g.I.Interner.meaning c.args.ctx.now.interner).name c.args.parameters.now c.args.written.now c.in-Ref.region c.in-Ref.pointee _ _ c.in-Ref.is
+    (c.in_ok-region-in-Ref.ensures.made ∙ ap (λ n. written_region n c.args.parameters.now c.in-Ref.region) (fun_ext c.build-in-Ref.ensures.grown.name))
+    (c.build_region.ensures.grown.ty c.in_ok-pointee-in-Ref.pointee c.in_ok-pointee-in-Ref.ensures.sure ∙ c.in_ok-pointee-in-Ref.ensures.made))
+    c.make_ty-in-Ref.ensures.made
+
+pub build-returns-in_ok-members-in-Tuple-2-clause-made : goal.build-returns-in_ok-members-in-Tuple-2-clause-made
+build-returns-in_ok-members-in-Tuple-2-clause-made g t c =
+    ok_as c.make_ty-in-Tuple.result (g.I.Interner.meaning c.make_ty-in-Tuple.new.ctx.interner).ty _ _
+    (tuple_written (g.I.Interner.meaning c.args.ctx.now.interner).name c.args.parameters.now c.args.written.now c.in-Tuple.members _ c.in-Tuple.is
+    (c.in_ok-members-in-Tuple-2.ensures.made
+    ∙ (ap (list_tree (g.I.Interner.meaning c.build_all.new.ctx.interner).ty) c.deref.ensures.value
+    ∙ c.in_ok-members-in-Tuple.ensures.made)))
+    c.make_ty-in-Tuple.ensures.made
+
+pub build_all-returns-clause-made : goal.build_all-returns-clause-made
+build_all-returns-clause-made g t c =
+    c.loop-member.invariant.made ∙ ap (list_tree (written_tree (g.I.Interner.meaning c.args.ctx.now.interner).name c.args.parameters.now)) (take_all c.loop-member.member-index c.args.written.now (omega arith))
+
+pub build_all-returns-in_err-ty-clause-missing : goal.build_all-returns-in_err-ty-clause-missing
+build_all-returns-in_err-ty-clause-missing g t c e =
+    let z = c.args.ctx.now.inner in
+    member_has (length z.types.items) (length z.regions.items) (length c.args.parameters.now) c.args.written.now c.loop-member.member-index c.member-item.result (omega arith) c.member-item.is
+    (subst (λ (x : InferCtxtInner _). IsFalse (has_all (length x.types.items) (length x.regions.items) (length c.args.parameters.now) c.member-item.result)) c.loop-member.invariant.tables
+    (c.in_err-ty.ensures.missing (search (rules, e, c.from_residual.ensures))))

@@ -1,5 +1,5 @@
-use Rattle.relations.proofs.Joining.{key_known, key_in}
-use Rattle.relations.proofs.written.variable.Goals as goal
+use Rattle.relations.proofs.Joining.{is_variable, key_known, key_in}
+use Rattle.relations.proofs.written.variable_of.Goals as goal
 
 pub returns-clause-sure : goal.returns-clause-sure
 returns-clause-sure g c =
@@ -8,3 +8,7 @@ returns-clause-sure g c =
 pub returns-clause-is_in : goal.returns-clause-is_in
 returns-clause-is_in g c =
     key_in (g.I.Interner.meaning c.args.ctx.now.interner) c.args.ctx.now.inner c.requires.lawful c.args.number c.index.result.now c.dup.result c.requires.made c.index.ensures c.dup.ensures
+
+pub returns-clause-means : goal.returns-clause-means
+returns-clause-means g c =
+    is_variable (g.I.Interner.meaning c.args.ctx.now.interner) c.args.ctx.now.inner c.requires.lawful c.args.number c.index.result.now c.dup.result c.requires.made c.index.ensures c.dup.ensures

@@ -1,0 +1,82 @@
+-- What is written, by its outermost form.
+use Rattle.std.proofs.Common.{rules, arith, ◌≡◌, ℕ, zero, suc, ◌+◌, ◌<◌, Bool as Boolean, true, false, ◌&&◌, IsFalse, List, [], ◌∷◌, ◌++◌, Bor, Result, IfOk, refl, sym, ap, ◌∙◌, subst, map, length, take, get_or}
+use Rattle.std.proofs.lemmas.List.{take_more}
+use Rattle.relation_terms.specs.Heads.{atom, bool_type, char_type, uint_type, slice, tuple, ref}
+use Rattle.relation_terms.specs.Trees.{Tree, leaf, node, nil, cons, list_tree}
+use Rattle.relation_terms.specs.declared.terms.enums.UintTy.{UintTy}
+use Rattle.relation_terms.specs.declared.terms.enums.Mutability.TheVariants.{Not}
+use Rattle.relations.specs.Types.{written_region, written_tree, has_all, have_all}
+use Rattle.relations.specs.declared.written.Parameter.{Parameter}
+use Rattle.relations.specs.declared.written.WrittenRegion.{WrittenRegion}
+use Rattle.relations.specs.declared.written.Written.{Written, Bool, Char, Uint, Slice, Tuple, Ref, the_lemmas}
+
+-- An answer that means one tree means an equal one.
+pub ok_as : {A E : Type 0} (r : Result A E) (f : A → Tree) (t u : Tree) → t ≡ u → IfOk r (λ x. f x ≡ t) → IfOk r (λ x. f x ≡ u)
+ok_as r f t u e h = subst (λ z. IfOk r (λ x. f x ≡ z)) e h
+
+list_tree-map : {A : Type 0} (f : A → Tree) (xs : List A) → list_tree (λ t. t) (map f xs) ≡ list_tree f xs
+list_tree-map f [] = refl
+list_tree-map f (x ∷ xs) = ap (cons (f x)) (list_tree-map f xs)
+
+module _ {Name : Type 0} (name : Name → ℕ) (ps : List (Parameter Name)) where
+  pub tree-Bool : leaf (atom bool_type) ≡ written_tree name ps Bool
+  tree-Bool = search (rules, the_lemmas)
+
+  pub tree-Char : leaf (atom char_type) ≡ written_tree name ps Char
+  tree-Char = search (rules, the_lemmas)
+
+  pub tree-Uint : (w : UintTy) → leaf (atom (uint_type w)) ≡ written_tree name ps (Uint w)
+  tree-Uint w = search (rules, the_lemmas)
+
+  tree-Slice : (w : Bor Written) → node slice (cons (written_tree name ps w.now) nil) ≡ written_tree name ps (Slice w)
+  tree-Slice w = search (rules, the_lemmas)
+
+  tree-Ref : (r : WrittenRegion) (w : Bor Written) → node (ref Not) (cons (written_region name ps r) (cons (written_tree name ps w.now) nil)) ≡ written_tree name ps (Ref r w)
+  tree-Ref r w = search (rules, the_lemmas)
+
+  tree-Tuple : (ws : Bor (List Written)) → node tuple (list_tree (written_tree name ps) ws.now) ≡ written_tree name ps (Tuple ws)
+  tree-Tuple ws = search (rules, the_lemmas, list_tree-map)
+
+  -- The same of what is known to be that form.
+  pub slice_written : (v : Written) (w : Bor Written) (u : Tree) → v ≡ Slice w → u ≡ written_tree name ps w.now → node slice (cons u nil) ≡ written_tree name ps v
+  slice_written v w u e q = ap (λ z. node slice (cons z nil)) q ∙ (tree-Slice w ∙ ap (written_tree name ps) (sym e))
+
+  pub ref_written : (v : Written) (r : WrittenRegion) (w : Bor Written) (a b : Tree) → v ≡ Ref r w → a ≡ written_region name ps r → b ≡ written_tree name ps w.now → node (ref Not) (cons a (cons b nil)) ≡ written_tree name ps v
+  ref_written v r w a b e p q =
+      ap (λ z. node (ref Not) (cons z (cons b nil))) p
+      ∙ (ap (λ z. node (ref Not) (cons (written_region name ps r) (cons z nil))) q
+      ∙ (tree-Ref r w ∙ ap (written_tree name ps) (sym e)))
+
+  pub tuple_written : (v : Written) (ws : Bor (List Written)) (u : Tree) → v ≡ Tuple ws → u ≡ list_tree (written_tree name ps) ws.now → node tuple u ≡ written_tree name ps v
+  tuple_written v ws u e q = ap (node tuple) q ∙ (tree-Tuple ws ∙ ap (written_tree name ps) (sym e))
+
+-- A list with one more tree behind it.
+abbrev push : Tree → Tree → Tree
+push nil u = cons u nil
+push (cons t ts) u = cons t (push ts u)
+push t u = t
+
+list_tree-push : {A : Type 0} (f : A → Tree) (xs : List A) (x : A) → list_tree f (xs ++ x ∷ []) ≡ push (list_tree f xs) (f x)
+list_tree-push f [] x = refl
+list_tree-push f (y ∷ ys) x = ap (cons (f y)) (list_tree-push f ys x)
+
+-- The first places of two lists mean the same, and the next.
+pub next_written : {A B : Type 0} (f : A → Tree) (h : B → Tree) (ts us : List A) (t : A) (ws : List B) (i : ℕ) (w : B) → i < length ws → us ≡ ts ++ t ∷ [] → w ≡ get_or ws i w → list_tree f ts ≡ list_tree h (take i ws) → f t ≡ h w → list_tree f us ≡ list_tree h (take (i + 1) ws)
+next_written f h ts us t ws i w l e q p s =
+    ap (list_tree f) e
+    ∙ (list_tree-push f ts t
+    ∙ (ap (λ z. push z (f t)) p
+    ∙ (ap (push (list_tree h (take i ws))) (s ∙ ap h q)
+    ∙ (sym (list_tree-push h (take i ws) (get_or ws i w))
+    ∙ ap (list_tree h) (sym (take_more ws i w l))))))
+
+and_false : (b : Boolean) → b && false ≡ false
+and_false true = refl
+and_false false = refl
+
+-- What one of a list names is missing.
+module _ (types regions parameters : ℕ) where
+  pub member_has : (ws : List Written) (i : ℕ) (w : Written) → i < length ws → w ≡ get_or ws i w → IsFalse (has_all types regions parameters w) → IsFalse (have_all types regions parameters ws)
+  member_has [] i w l e h = absurd (omega arith)
+  member_has (x ∷ xs) zero w l e h = ap (λ b. b && have_all types regions parameters xs) (ap (has_all types regions parameters) (sym e) ∙ h)
+  member_has (x ∷ xs) (suc i) w l e h = ap (λ b. has_all types regions parameters x && b) (member_has xs i w (omega arith) e h) ∙ and_false (has_all types regions parameters x)

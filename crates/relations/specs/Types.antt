@@ -1,0 +1,64 @@
+-- What the types that rows write mean: their trees, and whether all that they name is there.
+use Rattle.std.specs.Prelude.{ℕ, ◌^◌, Bool, true, ◌&&◌, nat_lt, List, [], ◌∷◌, Option, Some, None, map, slice_get}
+use Rattle.relation_terms.specs.Heads.{type_var, region_var, variable, atom, unknown, bool_type, char_type, uint_type, static_region, early_region, slice, tuple, ref}
+use Rattle.relation_terms.specs.Trees.{Tree, leaf, node, nil, cons, list_tree}
+use Rattle.relation_terms.specs.declared.terms.enums.Mutability.TheVariants.{Not}
+use Rattle.relations.specs.declared.written.Parameter.{Parameter}
+use Rattle.relations.specs.declared.written.WrittenRegion.{WrittenRegion}
+use Rattle.relations.specs.declared.written.Written.{Written, fold-Written}
+use Rattle.relations.specs.declared.written.Written.TheOpen.{Written-F}
+
+module _ {Name : Type 0} (name : Name → ℕ) (parameters : List (Parameter Name)) where
+  -- A named parameter by its place. What is not there is unknown.
+  abbrev pub parameter_tree : ℕ → Option (Parameter Name) → Tree
+  parameter_tree i None = leaf unknown
+  parameter_tree i (Some p) = leaf (atom (early_region i (name p.name)))
+
+  -- The tree of a region.
+  abbrev pub written_region : WrittenRegion → Tree
+  written_region WrittenRegion.Static = leaf (atom static_region)
+  written_region (WrittenRegion.Parameter i) = parameter_tree i (slice_get parameters i)
+  written_region (WrittenRegion.Variable n) = leaf (variable region_var n)
+
+  -- One level of a type, with the trees of the types inside.
+  abbrev pub written_step : Written-F Tree → Tree
+  written_step Written-F.Bool = leaf (atom bool_type)
+  written_step Written-F.Char = leaf (atom char_type)
+  written_step (Written-F.Uint w) = leaf (atom (uint_type w))
+  written_step (Written-F.Slice t) = node slice (cons t.now nil)
+  written_step (Written-F.Tuple ts) = node tuple (list_tree (λ t. t) ts.now)
+  written_step (Written-F.Ref r t) = node (ref Not) (cons (written_region r) (cons t.now nil))
+  written_step (Written-F.Variable n) = leaf (variable type_var n)
+
+  -- The tree of a type.
+  abbrev pub written_tree : Written → Tree
+  written_tree = fold-Written Tree written_step
+
+-- With so many region variables and parameters, the region is there. An index of a parameter has 32 bits.
+abbrev pub has_region : ℕ → ℕ → WrittenRegion → Bool
+has_region regions parameters WrittenRegion.Static = true
+has_region regions parameters (WrittenRegion.Parameter i) = nat_lt i parameters && nat_lt i (2 ^ 32)
+has_region regions parameters (WrittenRegion.Variable n) = nat_lt n regions
+
+abbrev pub all_true : List Bool → Bool
+all_true [] = true
+all_true (b ∷ bs) = b && all_true bs
+
+-- With so many type variables, region variables and parameters.
+module _ (types regions parameters : ℕ) where
+  -- One level of a type, with whether what the types inside name is there.
+  abbrev pub has_step : Written-F Bool → Bool
+  has_step Written-F.Bool = true
+  has_step Written-F.Char = true
+  has_step (Written-F.Uint w) = true
+  has_step (Written-F.Slice b) = b.now
+  has_step (Written-F.Tuple bs) = all_true bs.now
+  has_step (Written-F.Ref r b) = has_region regions parameters r && b.now
+  has_step (Written-F.Variable n) = nat_lt n types
+
+  -- All that a type names is there, and all that several name.
+  abbrev pub has_all : Written → Bool
+  has_all = fold-Written Bool has_step
+
+  abbrev pub have_all : List Written → Bool
+  have_all ws = all_true (map has_all ws)
