@@ -2,7 +2,7 @@
 use Rattle.std.proofs.Common.{◌≡◌, ◌≢◌, ◌⊎◌, ℕ, zero, suc, ◌<◌, refl, sym, ap, ◌∙◌, arith, inl, inr, subst, IsTrue, IfErr, Result, Ok, Err}
 use Rattle.std.specs.Result.{IsErr, IsErrAnd}
 use Rattle.std.proofs.lemmas.Bool.{false≢true}
-use Rattle.relation_terms.specs.Heads.{Head, type_sort, tuple, ref, atom, variable, bound, placeholder, unknown}
+use Rattle.relation_terms.specs.Heads.{Head, type_sort, tuple, raw_ptr, ref, atom, variable, bound, placeholder, unknown}
 use Rattle.relation_terms.specs.Trees.{Tree, leaf, node, bind, nil, cons, Assign, apply, IsTerm, IsList, count, known}
 use Rattle.relation_terms.specs.Meaning.{Meaning, kind_tree}
 use Rattle.relation_terms.specs.declared.terms.enums.Mutability.{Mutability}
@@ -18,7 +18,7 @@ use Rattle.relation_tools.specs.declared.error.RelateFault.{RelateFault}
 use Rattle.relation_tools.specs.declared.error.RelateFault.TheVariants.{Unrelated}
 use Rattle.relation_tools.specs.Faults.{KnowsError, KnowsFault}
 use Rattle.type_relations.specs.Stores.{Store}
-use Rattle.type_relations.specs.Errors.{AreAlike, IsNoVariable, FormError, mutability, tuple_size, empty_tuple, sorts, of_forms}
+use Rattle.type_relations.specs.Errors.{AreAlike, IsNoVariable, FormError, mutability, pointer_mutability, tuple_size, empty_tuple, sorts, of_forms}
 use Rattle.type_relations.specs.Outcomes.{NoEqualTerms}
 use Rattle.relation_reference.specs.Tables.{IsFormed}
 use Rattle.relation_reference.specs.Answers.{IsOneLeaf, Answered}
@@ -82,6 +82,7 @@ module _ {Key Id Name : Type 0} (m : Meaning Key Id Name) where
     where
       go : (h : Head) → AreAlike (node h ts) (node h us)
       go (ref u) = tt
+      go (raw_ptr u) = tt
       go h = refl
 
   alike_applied : (s : Assign) (a b : Tree) → IsFormed a → IsFormed b → apply s a ≡ apply s b → AreAlike a b
@@ -109,6 +110,7 @@ module _ {Key Id Name : Type 0} (m : Meaning Key Id Name) where
 
   pub form_apart : (st : Store) (x y : TyKey Key) (e : TypeError Key) → IsFormed (m.ty x) → IsFormed (m.ty y) → IsTerm type_sort (m.ty x) → IsTerm type_sort (m.ty y) → FormError m x y e → NoEqualTerms st (m.ty x) (m.ty y)
   form_apart st x y e f g s t (mutability {ts} {us} p q differ) = λ w a sat z. differ (let h = sym (ap (apply a) p) ∙ z ∙ ap (apply a) q in cc)
+  form_apart st x y e f g s t (pointer_mutability {ts} {us} p q differ) = λ w a sat z. differ (let h = sym (ap (apply a) p) ∙ z ∙ ap (apply a) q in cc)
   form_apart st x y e f g s t (tuple_size {ts} {us} p q i j differ) = tuples_apart st ts us (m.ty x) (m.ty y) p q (list_of ts (m.ty x) p s) (list_of us (m.ty y) q t) differ
   form_apart st x y e f g s t (empty_tuple {ts} {us} p q differ o) = tuples_apart st ts us (m.ty x) (m.ty y) p q (list_of ts (m.ty x) p s) (list_of us (m.ty y) q t) differ
   form_apart st x y e f g s t (sorts o) = λ w a sat z. o (alike_applied a (m.ty x) (m.ty y) f g z)
@@ -121,6 +123,7 @@ module _ {Key Id Name : Type 0} (m : Meaning Key Id Name) where
 
   known_error : (x y : TyKey Key) (e : TypeError Key) → IsTrue (known (m.ty x)) → IsTrue (known (m.ty y)) → FormError m x y e → KnowsError m e
   known_error x y e a b (mutability p q o) = tt
+  known_error x y e a b (pointer_mutability p q o) = tt
   known_error x y e a b (tuple_size p q i j o) = tt
   known_error x y e a b (empty_tuple p q o i) = (a, b)
   known_error x y e a b (sorts o) = (a, b)

@@ -65,9 +65,9 @@ abbrev pub Instantiated : {Key Id Name : Type 0} → Meaning Key Id Name → Sto
 Instantiated m before after n t (Ok k) = (m.ty k ≡ apply (resolved before) t) ×
     BindsTo before after type_var n (m.ty k) × (Occurs type_var n (apply (resolved before) t) → ⊥)
 Instantiated m before after n t (Err (Unrelated e)) = (k : TyKey _) × (e ≡ CyclicTy k) ×
-    (m.ty k ≡ apply (resolved before) t) × Occurs type_var n (m.ty k) × (after ≡ before)
+    (m.ty k ≡ apply (resolved before) t) × Occurs type_var n (m.ty k) × (0 < before.budget) × (after ≡ before)
 Instantiated m before after n t (Err Budget) = (before.budget ≡ 0) × (after ≡ before)
-Instantiated m before after n t (Err Memory) = after ≡ before
+Instantiated m before after n t (Err Memory) = (0 < before.budget) × (after ≡ before)
 
 -- The same as a step of a context at invariance.
 abbrev pub StepsByInstantiating : {Key Id Name : Type 0} → Meaning Key Id Name → Store → Store → ℕ → Tree →

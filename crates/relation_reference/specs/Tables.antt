@@ -26,7 +26,7 @@ by_kind t r d const_var = d
 abbrev pub no_items : Items
 no_items = record { declared = λ d i. Invariant; of_alias = λ d. None }
 
--- A type that is no variable.
+-- A type with an outermost form: no variable, bound variable or placeholder.
 abbrev pub IsFormed : Tree → Type 0
 IsFormed (leaf (atom x)) = atom_sort x ≡ type_sort
 IsFormed (node h ts) = head_sort h ≡ type_sort

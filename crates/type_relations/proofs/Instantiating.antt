@@ -132,5 +132,6 @@ cycles_refuse st v k n source kind g occurs other = record {
   same_budget = refl;
   stays_sound = λ h. h;
   apart = λ w s sat e. cycles_do_not_unify st k n source occurs other s sat.bindings e;
+  same_universes = λ j i h. refl;
   apart_erased = λ p f h s sol e. erased_occurs_check s k n (apply (resolved st) source) kind (resolved_first_order st g h source f) occurs other (e ∙ sym (resolved_unifies st g s sol.1 source));
 }

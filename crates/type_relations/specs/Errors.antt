@@ -1,7 +1,7 @@
 -- Which error comes of relating two types.
 use Rattle.std.specs.Prelude.{◌≡◌, ◌≢◌, ◌⊎◌, ℕ, zero, ◌<◌, Some}
 use Rattle.relation_terms.specs.declared.terms.keys.TyKey.{TyKey}
-use Rattle.relation_terms.specs.Heads.{VarKind, type_var, Head, tuple, ref, variable}
+use Rattle.relation_terms.specs.Heads.{VarKind, type_var, Head, tuple, raw_ptr, ref, variable}
 use Rattle.relation_terms.specs.Trees.{Tree, leaf, node, apply, count, nth, Occurs}
 use Rattle.relation_terms.specs.Meaning.{Meaning}
 use Rattle.relation_tools.specs.declared.error.TypeError.{TypeError}
@@ -12,9 +12,15 @@ use Rattle.type_relations.specs.Stores.{Store, bound_term, resolved}
 abbrev pub AreAlike : Tree → Tree → Type 0
 AreAlike (leaf x) (leaf y) = x ≡ y
 AreAlike (node (ref u) ts) (node (ref v) us) = Unit {0}
+AreAlike (node (raw_ptr u) ts) (node (raw_ptr v) us) = Unit {0}
 AreAlike (node h ts) (node k us) = h ≡ k
 AreAlike t u = ⊥
 
+-- The variable stands in the term, which is not the variable itself.
+abbrev pub IsCycle : ℕ → Tree → Type 0
+IsCycle n t = Occurs type_var n t × (t ≢ leaf (variable type_var n))
+
+-- No variable of any kind.
 abbrev pub IsNoVariable : Tree → Type 0
 IsNoVariable t = (k : VarKind) (n : ℕ) → t ≢ leaf (variable k n)
 
@@ -29,6 +35,8 @@ module _ {Key Id Name : Type 0} (m : Meaning Key Id Name) where
   pub data FormError (x y : TyKey Key) : TypeError Key → Type 0 where
     mutability : {u v : _} {ts us : Tree} → m.ty x ≡ node (ref u) ts → m.ty y ≡ node (ref v) us → u ≢ v →
         FormError x y Mutability
+    pointer_mutability : {u v : _} {ts us : Tree} → m.ty x ≡ node (raw_ptr u) ts → m.ty y ≡ node (raw_ptr v) us →
+        u ≢ v → FormError x y Mutability
     tuple_size : {ts us : Tree} → m.ty x ≡ node tuple ts → m.ty y ≡ node tuple us → 0 < count ts → 0 < count us →
         count ts ≢ count us → FormError x y (TupleSize (record { expected = count ts; found = count us }))
     empty_tuple : {ts us : Tree} → m.ty x ≡ node tuple ts → m.ty y ≡ node tuple us → count ts ≢ count us →
@@ -45,6 +53,6 @@ module _ {Key Id Name : Type 0} (m : Meaning Key Id Name) where
     of_parts : {h : Head} {a b ts us : Tree} (i : ℕ) → a ≡ node h ts → b ≡ node h us → count ts ≡ count us →
         i < count ts → ErrorOf st e (nth i ts) (nth i us) → ErrorOf st e a b
     of_cycle : {a b : Tree} (n : ℕ) (k : TyKey Key) → a ≡ leaf (variable type_var n) → m.ty k ≡ apply (resolved st) b →
-        Occurs type_var n (m.ty k) → e ≡ CyclicTy k → ErrorOf st e a b
+        IsCycle n (m.ty k) → e ≡ CyclicTy k → ErrorOf st e a b
     of_cycle_back : {a b : Tree} (n : ℕ) (k : TyKey Key) → b ≡ leaf (variable type_var n) →
-        m.ty k ≡ apply (resolved st) a → Occurs type_var n (m.ty k) → e ≡ CyclicTy k → ErrorOf st e a b
+        m.ty k ≡ apply (resolved st) a → IsCycle n (m.ty k) → e ≡ CyclicTy k → ErrorOf st e a b

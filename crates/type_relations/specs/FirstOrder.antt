@@ -11,7 +11,7 @@ use Rattle.relation_terms.specs.Trees.{Tree, leaf, node, bind, nil, cons, Assign
 use Rattle.relation_terms.specs.Erasure.{erase}
 use Rattle.type_relations.specs.Stores.{Store, bound_term, IsAssignment}
 
--- No error, nothing that stands for a variable, no pattern and no predicate.
+-- No error, nothing that stands for a variable, no pattern, and of the predicates without parts none but auto traits.
 abbrev pub IsFirstOrderAtom : Atom → Type 0
 IsFirstOrderAtom type_error = ⊥
 IsFirstOrderAtom const_error = ⊥

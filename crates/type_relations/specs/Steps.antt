@@ -227,6 +227,7 @@ pub record RefusesToInstantiate (before after : Store) (v : Variance) (k : VarKi
     (source : Tree) : Type 0 where
   pub later : IsLater before after
   pub same_entries : (j : VarKind) (i : ℕ) → entry_of after j i ≡ entry_of before j i
+  pub same_universes : (j : VarKind) (i : ℕ) → IsMade before j i → universe_of after j i ≡ universe_of before j i
   pub same_constraints : after.constraints ≡ before.constraints
   pub same_universe : after.universe ≡ before.universe
   pub same_taint : after.tainted ≡ before.tainted

@@ -21,7 +21,7 @@ pub returns-in_err-bound-clause-answers : goal.returns-in_err-bound-clause-answe
 returns-in_err-bound-clause-answers g c =
     let n = g.I.Interner.meaning c.resolve_vars_if_possible.new.self.interner in
     let kept = ap (store_of n) c.resolve_vars_if_possible.ensures.inner ∙ store_grows c.resolve_vars_if_possible.ensures.grown c.args.self.now.inner c.requires.lawful in
-    memory_instantiated n (store_of (g.I.Interner.meaning c.args.self.now.interner) c.args.self.now.inner) (store_of n c.resolve_vars_if_possible.new.self.inner) c.args.target.0 ((g.I.Interner.meaning c.args.self.now.interner).ty c.args.source.now) c.from_residual.result c.from_residual.ensures.0 c.from_residual.ensures.1 kept
+    memory_instantiated n (store_of (g.I.Interner.meaning c.args.self.now.interner) c.args.self.now.inner) (store_of n c.resolve_vars_if_possible.new.self.inner) c.args.target.0 ((g.I.Interner.meaning c.args.self.now.interner).ty c.args.source.now) c.from_residual.result c.from_residual.ensures.0 c.from_residual.ensures.1 (let d = c.if-self-eq0.false in omega arith) kept
 
 pub returns-in_err-bound-clause-steps : goal.returns-in_err-bound-clause-steps
 returns-in_err-bound-clause-steps g c =
@@ -45,7 +45,7 @@ returns-then-occurs g c =
       lawful = subst (IsLawful n) (sym c.resolve_vars_if_possible.ensures.inner) (lawful_grows c.resolve_vars_if_possible.ensures.grown c.args.self.now.inner c.requires.lawful);
       grown = c.resolve_vars_if_possible.ensures.grown;
       sure = tt;
-      answers = (c.in_ok-bound.bound, refl, means, stands, kept);
+      answers = (c.in_ok-bound.bound, refl, means, stands, (let d = c.if-self-eq0.false in omega arith), kept);
       steps = subst (λ z. RefusesToInstantiate st z Invariant type_var c.args.target.0 t) (sym kept) (cycle_refuses st c.args.target.0 t c.requires.lawful.sound c.requires.source_formed (subst (Occurs type_var c.args.target.0) means stands));
       why_known = c.in_ok-bound.ensures.sure;
     }
