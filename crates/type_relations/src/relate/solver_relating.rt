@@ -43,14 +43,15 @@ pub trait RelateExt {
     /// Both types and the environment are the interner's, and the variables in them are the context's. The variance is
     /// `Invariant` for now.
     ///
-    /// After `Ok`, each assignment that satisfies what is recorded and makes the goals true relates the types, and none
-    /// is lost that made them one. Equal types answer no goal and record nothing.
+    /// After `Ok`, each assignment that satisfies what is recorded and makes the goals true relates the types; and each
+    /// that satisfied what was recorded and made them one extends to such a one. Equal types answer no goal and record
+    /// nothing.
     ///
-    /// Answers `Unrelated` where no assignment that satisfied what was recorded makes the types one: with the error of
-    /// a pair that was met on the way, the left side's part first, or of a cycle. Answers `Budget` where a variable had
-    /// to be bound and no instantiation was left, and `Memory` where a growth was refused. Also after an error all that
-    /// was recorded stands; more may have been recorded on the way, and each variable that was newly bound to a term
-    /// has taken one instantiation.
+    /// Answers `Unrelated` only where no assignment that satisfied what was recorded makes the types one: with the error
+    /// of two parts that stand at one place, the left side's first, or of a cycle. Answers `Budget` only where no
+    /// instantiation is left, and `Memory` where a growth was refused. Also after an error all that was recorded
+    /// stands; more may have been recorded on the way, and each variable that was newly bound to a term has taken one
+    /// instantiation.
     fn relate(
         &mut self,
         param_env: ParamEnv<Self::Interner>,
