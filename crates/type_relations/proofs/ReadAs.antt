@@ -3,7 +3,7 @@ use Rattle.std.proofs.Common.{◌≡◌, ℕ, refl, sym, ap, ◌∙◌, subst, S
 use Rattle.relation_terms.specs.Heads.{VarKind, type_var, variable}
 use Rattle.relation_terms.specs.Trees.{Tree, leaf, Assign, apply}
 use Rattle.relation_terms.specs.Erasure.{erase}
-use Rattle.type_relations.specs.Stores.{Store, unbound, same_as, bound_to, entry_of, entry_term, bound_term, MeetsBindings, IsTermIn, IsSound, resolved, weight}
+use Rattle.type_relations.specs.Stores.{Store, same_as, bound_to, entry_of, entry_term, bound_term, MeetsBindings, IsTermIn, IsSound, resolved, weight}
 use Rattle.type_relations.specs.Steps.{IsLater, Resolves}
 use Rattle.type_relations.specs.Errors.{IsReadAs, itself, by_entry}
 use Rattle.type_relations.proofs.Resolved.{resolved_meets, weight_alike}
