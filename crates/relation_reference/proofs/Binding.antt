@@ -144,29 +144,29 @@ module _ {Key Id Name : Type 0} (m : Meaning Key Id Name) (before after : Store)
   is_cycle : {k : TyKey Key} → IsFormed t → m.ty k ≡ apply (resolved before) t → Occurs type_var n (m.ty k) → IsCycle n (m.ty k)
   is_cycle f e o = (o, λ q. formed_differs n (apply (resolved before) t) (formed_applied (resolved before) t f) (sym e ∙ q))
 
-  pub instantiated_refused : (X : Type 0) (f : RelateFault Key) → IsFormed t → Instantiated m before after n t (Err f) → Answered {X = X} m before after (leaf (variable type_var n)) t (Err f)
+  pub instantiated_refused : (X : Type 0) (f : RelateFault Key Id Name) → IsFormed t → Instantiated m before after n t (Err f) → Answered {X = X} m before after (leaf (variable type_var n)) t (Err f)
   instantiated_refused X (Unrelated a) f h = (cycle_apart before n t f (subst (Occurs type_var n) h.2 h.3), of_cycle n h.0 refl (h.2 ∙ ap (λ st. apply (resolved st) t) (sym h.5)) (is_cycle f h.2 h.3) h.1)
   instantiated_refused X Budget f h = ap (λ st. st.budget) h.1 ∙ h.0
   instantiated_refused X Memory f h = tt
 
-  pub instantiated_refused_back : (X : Type 0) (f : RelateFault Key) → IsFormed t → Instantiated m before after n t (Err f) → Answered {X = X} m before after t (leaf (variable type_var n)) (Err f)
+  pub instantiated_refused_back : (X : Type 0) (f : RelateFault Key Id Name) → IsFormed t → Instantiated m before after n t (Err f) → Answered {X = X} m before after t (leaf (variable type_var n)) (Err f)
   instantiated_refused_back X (Unrelated a) f h = (λ w s sat e. cycle_apart before n t f (subst (Occurs type_var n) h.2 h.3) w s sat (sym e), of_cycle_back n h.0 refl (h.2 ∙ ap (λ st. apply (resolved st) t) (sym h.5)) (is_cycle f h.2 h.3) h.1)
   instantiated_refused_back X Budget f h = ap (λ st. st.budget) h.1 ∙ h.0
   instantiated_refused_back X Memory f h = tt
 
-  pub memory_instantiated : (r : Result (TyKey Key) (RelateFault Key)) → IsErr r → IsErrAnd r (λ f. f ≡ Memory) → 0 < before.budget → after ≡ before → Instantiated m before after n t r
+  pub memory_instantiated : (r : Result (TyKey Key) (RelateFault Key Id Name)) → IsErr r → IsErrAnd r (λ f. f ≡ Memory) → 0 < before.budget → after ≡ before → Instantiated m before after n t r
   memory_instantiated (Ok k) h p l e = absurd (false≢true h)
   memory_instantiated (Err Memory) h p l e = (l, e)
   memory_instantiated (Err Budget) h p l e = absurd (cc)
   memory_instantiated (Err (Unrelated a)) h p l e = absurd (cc)
 
-  pub memory_steps : (r : Result (TyKey Key) (RelateFault Key)) → IsErr r → IsErrAnd r (λ f. f ≡ Memory) → after ≡ before → StepsByInstantiating m before after n t r
+  pub memory_steps : (r : Result (TyKey Key) (RelateFault Key Id Name)) → IsErr r → IsErrAnd r (λ f. f ≡ Memory) → after ≡ before → StepsByInstantiating m before after n t r
   memory_steps (Ok k) h p e = absurd (false≢true h)
   memory_steps (Err Memory) h p e = nothing_changed before after e
   memory_steps (Err Budget) h p e = absurd (cc)
   memory_steps (Err (Unrelated a)) h p e = absurd (cc)
 
-  pub refused_goes : (f : RelateFault Key) → Instantiated m before after n t (Err f) → Goes (weight before t) before after
+  pub refused_goes : (f : RelateFault Key Id Name) → Instantiated m before after n t (Err f) → Goes (weight before t) before after
   refused_goes (Unrelated a) h = subst (Goes (weight before t) before) (sym h.5) (goes_nowhere (weight before t) before)
   refused_goes Budget h = subst (Goes (weight before t) before) (sym h.1) (goes_nowhere (weight before t) before)
   refused_goes Memory h = subst (Goes (weight before t) before) (sym h.1) (goes_nowhere (weight before t) before)

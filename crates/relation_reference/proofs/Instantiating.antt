@@ -117,7 +117,7 @@ module _ (before after : Store) (n : ℕ) (t u : Tree) (q : BindsTo before after
     reads = read_later after last after_sound goes.later (leaf (variable type_var n)) u (read_bound after n u q.writes.written)
 
     module _ {Key Id Name : Type 0} (m : Meaning Key Id Name) where
-      pub then_answered : {X : Type 0} (r : Result X (RelateFault Key)) → Answered m after last u t r → Answered m before last (leaf (variable type_var n)) t r
+      pub then_answered : {X : Type 0} (r : Result X (RelateFault Key Id Name)) → Answered m after last u t r → Answered m before last (leaf (variable type_var n)) t r
       then_answered (Ok x) h = record {
         relates = λ c v w s sat. united.relates c v w s (goes.later.shrinks w s sat);
         keeps = λ w s sat z. h.keeps w s (united.keeps w s sat z) (value s sat.bindings);
@@ -126,7 +126,7 @@ module _ (before after : Store) (n : ℕ) (t u : Tree) (q : BindsTo before after
       then_answered (Err Budget) h = h
       then_answered (Err (Unrelated f)) h = (λ w s sat z. h.0 w s (united.keeps w s sat z) (value s sat.bindings), of_entries reads (itself refl) h.1)
 
-      pub then_answered_back : {X : Type 0} (r : Result X (RelateFault Key)) → Answered m after last t u r → Answered m before last t (leaf (variable type_var n)) r
+      pub then_answered_back : {X : Type 0} (r : Result X (RelateFault Key Id Name)) → Answered m after last t u r → Answered m before last t (leaf (variable type_var n)) r
       then_answered_back (Ok x) h = record {
         relates = λ c v w s sat. same (sym (binding_equal before after n t u q g first is_in e away stands w s (goes.later.shrinks w s sat)));
         keeps = λ w s sat z. h.keeps w s (united.keeps w s sat (sym z)) (sym (value s sat.bindings));

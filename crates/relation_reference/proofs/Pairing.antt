@@ -47,7 +47,7 @@ module _ {Key Id Name : Type 0} (m : Meaning Key Id Name) where
   unlike_trees k (Infer (TyVar y)) o a = first_of (cc, search a)
   unlike_trees k l o a = first_of (cc, search a)
 
-  pub unlike_error : (k l : TyKind Key) (x y : TyKey Key) (e : TypeError Key) → m.ty x ≡ kind_tree m k → m.ty y ≡ kind_tree m l → IsUnlike k l → e ≡ Sorts (record { expected = x; found = y }) → FormError m x y e
+  pub unlike_error : (k l : TyKind Key) (x y : TyKey Key) (e : TypeError Key Id Name) → m.ty x ≡ kind_tree m k → m.ty y ≡ kind_tree m l → IsUnlike k l → e ≡ Sorts (record { expected = x; found = y }) → FormError m x y e
   unlike_error k l x y e p q o is = subst (FormError m x y) (sym is) (sorts (λ a. unlike_trees k l o (subst (λ t. AreAlike t (kind_tree m l)) p (subst (AreAlike (m.ty x)) q a))))
 
   pub leaf_unlike : (k l : TyKind Key) → ((x : TyKey Key) → k ≡ Slice x → ⊥) → ((x : TysKey Key) → k ≡ Tuple x → ⊥) → ((r : RegionKey Key) (x : TyKey Key) (u : Mutability) → k ≡ Ref r x u → ⊥) → (IsOneLeaf k l → ⊥) → IsUnlike k l
@@ -60,14 +60,14 @@ module _ {Key Id Name : Type 0} (m : Meaning Key Id Name) where
   leaf_unlike (Uint x) l a b c o = o
   leaf_unlike (Infer x) l a b c o = o
 
-  pub lengths_error : (i j : ℕ) (ts us : Tree) (x y : TyKey Key) (e : TypeError Key) → m.ty x ≡ node tuple ts → m.ty y ≡ node tuple us → i ≡ count ts → j ≡ count us → i ≢ j →
+  pub lengths_error : (i j : ℕ) (ts us : Tree) (x y : TyKey Key) (e : TypeError Key Id Name) → m.ty x ≡ node tuple ts → m.ty y ≡ node tuple us → i ≡ count ts → j ≡ count us → i ≢ j →
       (0 < i → 0 < j → e ≡ TupleSize (record { expected = i; found = j })) → ((i ≡ 0) ⊎ (j ≡ 0) → e ≡ Sorts (record { expected = x; found = y })) → FormError m x y e
   lengths_error i j ts us x y e p q ci cj differ sizes empty = go i j refl refl
     where
       unequal : count ts ≢ count us
       unequal z = differ (ci ∙ z ∙ sym cj)
 
-      sized : (e' : TypeError Key) → e' ≡ TupleSize (record { expected = i; found = j }) → 0 < i → 0 < j → FormError m x y e'
+      sized : (e' : TypeError Key Id Name) → e' ≡ TupleSize (record { expected = i; found = j }) → 0 < i → 0 < j → FormError m x y e'
       sized e' is a b = subst (FormError m x y) (ap (λ z. TupleSize (record { expected = z; found = count us })) (sym ci) ∙ ap (λ z. TupleSize (record { expected = i; found = z })) (sym cj) ∙ sym is)
           (tuple_size p q (omega (arith, ci, a)) (omega (arith, cj, b)) unequal)
 
@@ -108,7 +108,7 @@ module _ {Key Id Name : Type 0} (m : Meaning Key Id Name) where
   list_of : (ts a : Tree) → a ≡ node tuple ts → IsTerm type_sort a → IsList ts
   list_of ts a e h = terms_list ts (let z : IsTerm type_sort (node tuple ts) = subst (IsTerm type_sort) e h in z.1)
 
-  pub form_apart : (st : Store) (x y : TyKey Key) (e : TypeError Key) → IsFormed (m.ty x) → IsFormed (m.ty y) → IsTerm type_sort (m.ty x) → IsTerm type_sort (m.ty y) → FormError m x y e → NoEqualTerms st (m.ty x) (m.ty y)
+  pub form_apart : (st : Store) (x y : TyKey Key) (e : TypeError Key Id Name) → IsFormed (m.ty x) → IsFormed (m.ty y) → IsTerm type_sort (m.ty x) → IsTerm type_sort (m.ty y) → FormError m x y e → NoEqualTerms st (m.ty x) (m.ty y)
   form_apart st x y e f g s t (mutability {ts} {us} p q differ) = λ w a sat z. differ (let h = sym (ap (apply a) p) ∙ z ∙ ap (apply a) q in cc)
   form_apart st x y e f g s t (pointer_mutability {ts} {us} p q differ) = λ w a sat z. differ (let h = sym (ap (apply a) p) ∙ z ∙ ap (apply a) q in cc)
   form_apart st x y e f g s t (tuple_size {ts} {us} p q i j differ) = tuples_apart st ts us (m.ty x) (m.ty y) p q (list_of ts (m.ty x) p s) (list_of us (m.ty y) q t) differ
@@ -116,19 +116,19 @@ module _ {Key Id Name : Type 0} (m : Meaning Key Id Name) where
   form_apart st x y e f g s t (sorts o) = λ w a sat z. o (alike_applied a (m.ty x) (m.ty y) f g z)
 
   -- What is answered of types whose outermost forms differ.
-  pub form_answered : {X : Type 0} (st : Store) (x y : TyKey Key) (e : TypeError Key) → IsFormed (m.ty x) → IsFormed (m.ty y) → IsTerm type_sort (m.ty x) → IsTerm type_sort (m.ty y) → FormError m x y e
-      → (r : Result X (RelateFault Key)) → IsErr r × IsErrAnd r (λ f. f ≡ Unrelated e) → Answered m st st (m.ty x) (m.ty y) r
+  pub form_answered : {X : Type 0} (st : Store) (x y : TyKey Key) (e : TypeError Key Id Name) → IsFormed (m.ty x) → IsFormed (m.ty y) → IsTerm type_sort (m.ty x) → IsTerm type_sort (m.ty y) → FormError m x y e
+      → (r : Result X (RelateFault Key Id Name)) → IsErr r × IsErrAnd r (λ f. f ≡ Unrelated e) → Answered m st st (m.ty x) (m.ty y) r
   form_answered st x y e f g s t h (Ok v) q = absurd (false≢true q.0)
   form_answered {X} st x y e f g s t h (Err z) q = subst (λ z. Answered {X = X} m st st (m.ty x) (m.ty y) (Err z)) (sym q.1) (form_apart st x y e f g s t h, of_forms x y refl refl (formed_no_variable (m.ty x) f) (formed_no_variable (m.ty y) g) h)
 
-  known_error : (x y : TyKey Key) (e : TypeError Key) → IsTrue (known (m.ty x)) → IsTrue (known (m.ty y)) → FormError m x y e → KnowsError m e
+  known_error : (x y : TyKey Key) (e : TypeError Key Id Name) → IsTrue (known (m.ty x)) → IsTrue (known (m.ty y)) → FormError m x y e → KnowsError m e
   known_error x y e a b (mutability p q o) = tt
   known_error x y e a b (pointer_mutability p q o) = tt
   known_error x y e a b (tuple_size p q i j o) = tt
   known_error x y e a b (empty_tuple p q o i) = (a, b)
   known_error x y e a b (sorts o) = (a, b)
 
-  pub form_known : {X : Type 0} (x y : TyKey Key) (e : TypeError Key) → IsTrue (known (m.ty x)) → IsTrue (known (m.ty y)) → FormError m x y e
-      → (r : Result X (RelateFault Key)) → IsErr r × IsErrAnd r (λ f. f ≡ Unrelated e) → IfErr r (KnowsFault m)
+  pub form_known : {X : Type 0} (x y : TyKey Key) (e : TypeError Key Id Name) → IsTrue (known (m.ty x)) → IsTrue (known (m.ty y)) → FormError m x y e
+      → (r : Result X (RelateFault Key Id Name)) → IsErr r × IsErrAnd r (λ f. f ≡ Unrelated e) → IfErr r (KnowsFault m)
   form_known x y e a b h (Ok v) q = absurd (false≢true q.0)
   form_known x y e a b h (Err z) q = subst (KnowsFault m) (sym q.1) (known_error x y e a b h)

@@ -2,12 +2,12 @@
 use Rattle.std.proofs.Common.{◌≡◌, ℕ, ◌<◌, IsTrue, refl, sym, ap, ◌∙◌, subst, length, get_or}
 use Rattle.std.proofs.lemmas.List.{get_or-map, length-map}
 use Rattle.relation_terms.specs.Heads.{type_var, variable}
-use Rattle.relation_terms.specs.Trees.{Tree, leaf, nil, Assign, apply, known}
+use Rattle.relation_terms.specs.Trees.{Tree, leaf, nil, known}
 use Rattle.relation_terms.specs.Meaning.{Meaning, kind_tree}
 use Rattle.relation_terms.specs.declared.terms.ty_kind.TyKind.{TyKind}
 use Rattle.relation_terms.specs.declared.terms.ty_kind.TyKind.TheVariants.{Bool, Char, Int, Uint, Slice, Tuple, Ref, Infer}
 use Rattle.relation_terms.specs.declared.terms.ty_kind.InferTy.{InferTy}
-use Rattle.type_relations.specs.Stores.{Store, unbound, same_as, bound_to, entry_of, entry_term, MeetsBindings, IsMade, IsSound, IsTermIn}
+use Rattle.type_relations.specs.Stores.{Store, unbound, same_as, bound_to, entry_of, entry_term, IsMade, IsSound, IsTermIn}
 use Rattle.type_relations.specs.Errors.{IsReadAs, itself}
 use Rattle.type_relations.proofs.Standing.{made_of_term, term_of_made}
 use Rattle.type_relations.proofs.ReadAs.{read_then, read_same, read_bound}

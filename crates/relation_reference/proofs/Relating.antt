@@ -5,20 +5,11 @@ use Rattle.std.specs.Result.{IsErr, IsErrAnd}
 use native.Mathlib.Decide.{ℕ_discrete}
 use Rattle.relation_terms.specs.Heads.{type_sort, slice, tuple, ref}
 use Rattle.relation_terms.specs.Trees.{Tree, leaf, node, bind, nil, cons, Assign, apply, IsList, IsTerm, AreTerms, count, nth}
-use Rattle.relation_terms.specs.Meaning.{Meaning, kind_tree}
+use Rattle.relation_terms.specs.Meaning.{Meaning}
 use Rattle.relation_terms.specs.declared.terms.enums.Variance.TheVariants.{Invariant}
 use Rattle.relation_terms.specs.declared.terms.enums.Mutability.{Mutability}
 use Rattle.relation_terms.specs.declared.terms.enums.Mutability.TheVariants.{Mut, Not}
-use Rattle.relation_terms.specs.declared.terms.keys.TyKey.{TyKey}
-use Rattle.relation_terms.specs.declared.terms.keys.TysKey.{TysKey}
-use Rattle.relation_terms.specs.declared.terms.keys.RegionKey.{RegionKey}
-use Rattle.relation_terms.specs.declared.terms.ty_kind.TyKind.{TyKind}
-use Rattle.relation_terms.specs.declared.terms.ty_kind.TyKind.TheVariants.{Bool, Char, Int, Uint, Slice, Tuple, Ref, Infer}
-use Rattle.relation_terms.specs.declared.terms.ty_kind.InferTy.TheVariants.{TyVar}
-use Rattle.relation_terms.specs.declared.terms.enums.IntTy.{IntTy}
-use Rattle.relation_terms.specs.declared.terms.enums.UintTy.{UintTy}
 use Rattle.relation_tools.specs.declared.error.RelateFault.{RelateFault}
-use Rattle.relation_tools.specs.declared.error.TypeError.{TypeError}
 use Rattle.relation_tools.specs.declared.error.RelateFault.TheVariants.{Memory, Budget, Unrelated}
 use Rattle.relation_tools.specs.Faults.{KnowsFault}
 use Rattle.type_relations.specs.Relation.{Items, Interpretation, Rel, at, parts, same, forms, no_parts, next_part}
@@ -41,7 +32,7 @@ unites_alike before after a b a' b' shrinks p q h = record {
 }
 
 module _ {Key Id Name : Type 0} (m : Meaning Key Id Name) where
-  pub answered_alike : {X : Type 0} (before after : Store) (a b a' b' : Tree) (r : Result X (RelateFault Key)) → IsSound before → IsLater before after → IsReadAs before a a' → IsReadAs before b b' → Answered m before after a' b' r → Answered m before after a b r
+  pub answered_alike : {X : Type 0} (before after : Store) (a b a' b' : Tree) (r : Result X (RelateFault Key Id Name)) → IsSound before → IsLater before after → IsReadAs before a a' → IsReadAs before b b' → Answered m before after a' b' r → Answered m before after a b r
   answered_alike before after a b a' b' (Ok x) g l p q h = unites_alike before after a b a' b' l.shrinks p q h
   answered_alike before after a b a' b' (Err Memory) g l p q h = tt
   answered_alike before after a b a' b' (Err Budget) g l p q h = h
@@ -52,22 +43,22 @@ module _ {Key Id Name : Type 0} (m : Meaning Key Id Name) where
 
   -- Forms.
   module _ (before after : Store) (x y : Tree) where
-    slice_forms : {X : Type 0} (r : Result X (RelateFault Key)) → Answered m before after x y r → Answered m before after (node slice (cons x nil)) (node slice (cons y nil)) r
+    slice_forms : {X : Type 0} (r : Result X (RelateFault Key Id Name)) → Answered m before after x y r → Answered m before after (node slice (cons x nil)) (node slice (cons y nil)) r
     slice_forms (Ok v) h = record { relates = λ c u w s sat. forms tt refl (next_part (h.relates c u w s sat) no_parts); keeps = λ w s sat q. h.keeps w s sat (cc) }
     slice_forms (Err Memory) h = tt
     slice_forms (Err Budget) h = h
     slice_forms (Err (Unrelated f)) h = (λ w s sat q. h.0 w s sat (cc), of_parts 0 refl refl refl (omega arith) h.1)
 
-    pub slice_answered : {X : Type 0} (a b : Tree) (r : Result X (RelateFault Key)) → a ≡ node slice (cons x nil) → b ≡ node slice (cons y nil) → Answered m before after x y r → Answered m before after a b r
+    pub slice_answered : {X : Type 0} (a b : Tree) (r : Result X (RelateFault Key Id Name)) → a ≡ node slice (cons x nil) → b ≡ node slice (cons y nil) → Answered m before after x y r → Answered m before after a b r
     slice_answered a b r e d h = subst₂ (λ u v. Answered m before after u v r) (sym e) (sym d) (slice_forms r h)
 
-    tuple_forms : {X : Type 0} (r : Result X (RelateFault Key)) → count x ≡ count y → AnsweredAll m before after x y r → Answered m before after (node tuple x) (node tuple y) r
+    tuple_forms : {X : Type 0} (r : Result X (RelateFault Key Id Name)) → count x ≡ count y → AnsweredAll m before after x y r → Answered m before after (node tuple x) (node tuple y) r
     tuple_forms (Ok v) n h = record { relates = λ c u w s sat. forms tt refl (h.relates c u w s sat); keeps = λ w s sat q. h.keeps w s sat (cc) }
     tuple_forms (Err Memory) n h = tt
     tuple_forms (Err Budget) n h = h
     tuple_forms (Err (Unrelated f)) n h = (λ w s sat q. h.0 w s sat (cc), (let (i, j, e) = h.1 in of_parts i refl refl n j e))
 
-    pub tuple_answered : {X : Type 0} (a b : Tree) (r : Result X (RelateFault Key)) → a ≡ node tuple x → b ≡ node tuple y → count x ≡ count y → AnsweredAll m before after x y r → Answered m before after a b r
+    pub tuple_answered : {X : Type 0} (a b : Tree) (r : Result X (RelateFault Key Id Name)) → a ≡ node tuple x → b ≡ node tuple y → count x ≡ count y → AnsweredAll m before after x y r → Answered m before after a b r
     tuple_answered a b r e d n h = subst₂ (λ u v. Answered m before after u v r) (sym e) (sym d) (tuple_forms r n h)
 
   module _ (before middle after : Store) (p q x y : Tree) (shrinks : OnlyShrinks middle after) (f : Unites before middle p q) where
@@ -81,13 +72,13 @@ module _ {Key Id Name : Type 0} (m : Meaning Key Id Name) where
       keeps = λ w s sat z. h.keeps w s (f.keeps w s sat (cc)) (cc);
     }
 
-    ref_forms : {X : Type 0} (u : Mutability) (r : Result X (RelateFault Key)) → Answered m middle after x y r → Answered m before after (node (ref u) (cons p (cons x nil))) (node (ref u) (cons q (cons y nil))) r
+    ref_forms : {X : Type 0} (u : Mutability) (r : Result X (RelateFault Key Id Name)) → Answered m middle after x y r → Answered m before after (node (ref u) (cons p (cons x nil))) (node (ref u) (cons q (cons y nil))) r
     ref_forms u (Ok v) h = ref_unites u h
     ref_forms u (Err Memory) h = tt
     ref_forms u (Err Budget) h = h
     ref_forms u (Err (Unrelated e)) h = (λ w s sat z. h.0 w s (f.keeps w s sat (cc)) (cc), of_parts 1 refl refl refl (omega arith) h.1)
 
-    pub ref_answered : {X : Type 0} (u : Mutability) (a b : Tree) (r : Result X (RelateFault Key)) → a ≡ node (ref u) (cons p (cons x nil)) → b ≡ node (ref u) (cons q (cons y nil)) → Answered m middle after x y r → Answered m before after a b r
+    pub ref_answered : {X : Type 0} (u : Mutability) (a b : Tree) (r : Result X (RelateFault Key Id Name)) → a ≡ node (ref u) (cons p (cons x nil)) → b ≡ node (ref u) (cons q (cons y nil)) → Answered m middle after x y r → Answered m before after a b r
     ref_answered u a b r e d h = subst₂ (λ i j. Answered m before after i j r) (sym e) (sym d) (ref_forms u r h)
 
 -- Lists.
@@ -145,7 +136,7 @@ module _ (r q : Store) (i : ℕ) (ts us x y : Tree) (h : i < count ts) (k : i < 
   front_apart : NoEqualTerms q x y → NoEqualTerms r ts us
   front_apart u = λ w s sat z. u w s (f.keeps w s sat z) (ap (apply s) e ∙ nths_same s ts us i h k z ∙ sym (ap (apply s) d))
 
-  pub front_error : {Key Id Name : Type 0} (m : Meaning Key Id Name) (X Y : Type 0) (p : Store) (a : RelateFault Key) → Answered {X = X} m q p x y (Err a) → AnsweredAll {X = Y} m r p ts us (Err a)
+  pub front_error : {Key Id Name : Type 0} (m : Meaning Key Id Name) (X Y : Type 0) (p : Store) (a : RelateFault Key Id Name) → Answered {X = X} m q p x y (Err a) → AnsweredAll {X = Y} m r p ts us (Err a)
   front_error m X Y p Memory u = tt
   front_error m X Y p Budget u = u
   front_error m X Y p (Unrelated b) u = (front_apart u.0, (i, h, subst₂ (ErrorOf m p b) e d u.1))
@@ -158,25 +149,25 @@ front_all r q i ts us h k l m f = record {
 
 -- A fault that is passed on.
 module _ {Key Id Name : Type 0} (m : Meaning Key Id Name) where
-  err_answered : (X Y : Type 0) (before after : Store) (a b : Tree) (f : RelateFault Key) → Answered {X = Y} m before after a b (Err f) → Answered {X = X} m before after a b (Err f)
+  err_answered : (X Y : Type 0) (before after : Store) (a b : Tree) (f : RelateFault Key Id Name) → Answered {X = Y} m before after a b (Err f) → Answered {X = X} m before after a b (Err f)
   err_answered X Y before after a b Memory h = tt
   err_answered X Y before after a b Budget h = h
   err_answered X Y before after a b (Unrelated e) h = h
 
-  pub error_answered : {X : Type 0} (Y : Type 0) (before after : Store) (a b : Tree) (r : Result X (RelateFault Key)) (f : RelateFault Key) → IsErr r → IsErrAnd r (λ e. e ≡ f) → Answered {X = Y} m before after a b (Err f) → Answered m before after a b r
+  pub error_answered : {X : Type 0} (Y : Type 0) (before after : Store) (a b : Tree) (r : Result X (RelateFault Key Id Name)) (f : RelateFault Key Id Name) → IsErr r → IsErrAnd r (λ e. e ≡ f) → Answered {X = Y} m before after a b (Err f) → Answered m before after a b r
   error_answered {X} Y before after a b (Ok x) f h p u = absurd (false≢true h)
   error_answered {X} Y before after a b (Err e) f h p u = subst (λ z. Answered {X = X} m before after a b (Err z)) (sym p) (err_answered X Y before after a b f u)
 
-  pub passed_known : {X : Type 0} (r : Result X (RelateFault Key)) (f : RelateFault Key) → IsErr r → IsErrAnd r (λ e. e ≡ f) → KnowsFault m f → IfErr r (KnowsFault m)
+  pub passed_known : {X : Type 0} (r : Result X (RelateFault Key Id Name)) (f : RelateFault Key Id Name) → IsErr r → IsErrAnd r (λ e. e ≡ f) → KnowsFault m f → IfErr r (KnowsFault m)
   passed_known (Ok x) f h p k = absurd (false≢true h)
   passed_known (Err e) f h p k = subst (KnowsFault m) (sym p) k
 
-  all_answered : (X Y : Type 0) (before after : Store) (a b : Tree) (f : RelateFault Key) → AnsweredAll {X = Y} m before after a b (Err f) → AnsweredAll {X = X} m before after a b (Err f)
+  all_answered : (X Y : Type 0) (before after : Store) (a b : Tree) (f : RelateFault Key Id Name) → AnsweredAll {X = Y} m before after a b (Err f) → AnsweredAll {X = X} m before after a b (Err f)
   all_answered X Y before after a b Memory h = tt
   all_answered X Y before after a b Budget h = h
   all_answered X Y before after a b (Unrelated e) h = h
 
-  pub error_answered_all : {X : Type 0} (Y : Type 0) (before after : Store) (a b : Tree) (r : Result X (RelateFault Key)) (f : RelateFault Key) → IsErr r → IsErrAnd r (λ e. e ≡ f) → AnsweredAll {X = Y} m before after a b (Err f) → AnsweredAll m before after a b r
+  pub error_answered_all : {X : Type 0} (Y : Type 0) (before after : Store) (a b : Tree) (r : Result X (RelateFault Key Id Name)) (f : RelateFault Key Id Name) → IsErr r → IsErrAnd r (λ e. e ≡ f) → AnsweredAll {X = Y} m before after a b (Err f) → AnsweredAll m before after a b r
   error_answered_all {X} Y before after a b (Ok x) f h p u = absurd (false≢true h)
   error_answered_all {X} Y before after a b (Err e) f h p u = subst (λ z. AnsweredAll {X = X} m before after a b (Err z)) (sym p) (all_answered X Y before after a b f u)
 

@@ -55,13 +55,13 @@ pub record IsFront (before after : Store) (i : ℕ) (a b : Tree) : Type 0 where
   pub keeps : (w : Interpretation) (s : Assign) → Satisfies w before s → apply s a ≡ apply s b → Satisfies w after s
 
 -- The error is one of a pair at some place of two lists.
-abbrev pub ErrorOfPlace : {Key Id Name : Type 0} → Meaning Key Id Name → Store → TypeError Key → Tree → Tree → Type 0
+abbrev pub ErrorOfPlace : {Key Id Name : Type 0} → Meaning Key Id Name → Store → TypeError Key Id Name → Tree → Tree → Type 0
 ErrorOfPlace m st e a b = (i : ℕ) × (i < count a) × ErrorOf m st e (nth i a) (nth i b)
 
 -- What binding a root to a type answers: it is bound to what the type comes to; or nothing is bound, since the root
 -- stands there below a form, or no instantiation is left, or memory ran out.
 abbrev pub Instantiated : {Key Id Name : Type 0} → Meaning Key Id Name → Store → Store → ℕ → Tree →
-    Result (TyKey Key) (RelateFault Key) → Type 0
+    Result (TyKey Key) (RelateFault Key Id Name) → Type 0
 Instantiated m before after n t (Ok k) = (m.ty k ≡ apply (resolved before) t) ×
     BindsTo before after type_var n (m.ty k) × (Occurs type_var n (apply (resolved before) t) → ⊥)
 Instantiated m before after n t (Err (Unrelated e)) = (k : TyKey _) × (e ≡ CyclicTy k) ×
@@ -71,7 +71,7 @@ Instantiated m before after n t (Err Memory) = (0 < before.budget) × (after ≡
 
 -- The same as a step of a context at invariance.
 abbrev pub StepsByInstantiating : {Key Id Name : Type 0} → Meaning Key Id Name → Store → Store → ℕ → Tree →
-    Result (TyKey Key) (RelateFault Key) → Type 0
+    Result (TyKey Key) (RelateFault Key Id Name) → Type 0
 StepsByInstantiating m before after n t (Ok k) = Instantiates before after Invariant type_var n t (m.ty k)
 StepsByInstantiating m before after n t (Err (Unrelated e)) = RefusesToInstantiate before after Invariant type_var n t
 StepsByInstantiating m before after n t (Err Budget) = ChangesNothing before after
@@ -80,7 +80,7 @@ StepsByInstantiating m before after n t (Err Memory) = ChangesNothing before aft
 -- What relating two terms answers; nothing is claimed where memory ran out, and no instantiation is left where the
 -- budget did. An error is one of a pair that was met, by what is recorded after.
 abbrev pub Answered : {X Key Id Name : Type 0} → Meaning Key Id Name → Store → Store → Tree → Tree →
-    Result X (RelateFault Key) → Type 0
+    Result X (RelateFault Key Id Name) → Type 0
 Answered m before after a b (Ok x) = Unites before after a b
 Answered m before after a b (Err (Unrelated e)) = NoEqualTerms before a b × ErrorOf m after e a b
 Answered m before after a b (Err Budget) = after.budget ≡ 0
@@ -88,7 +88,7 @@ Answered m before after a b (Err Memory) = Unit {0}
 
 -- The same of two lists of a tuple's parts.
 abbrev pub AnsweredAll : {X Key Id Name : Type 0} → Meaning Key Id Name → Store → Store → Tree → Tree →
-    Result X (RelateFault Key) → Type 0
+    Result X (RelateFault Key Id Name) → Type 0
 AnsweredAll m before after a b (Ok x) = UnitesAll before after a b
 AnsweredAll m before after a b (Err (Unrelated e)) = NoEqualTerms before a b × ErrorOfPlace m after e a b
 AnsweredAll m before after a b (Err Budget) = after.budget ≡ 0

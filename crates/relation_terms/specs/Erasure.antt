@@ -1,6 +1,6 @@
 -- The erasure of a tree: regions, lists of a binder's variables, names of parameters and types of values are alike.
 use Rattle.std.specs.Prelude.{[]}
-use Rattle.relation_terms.specs.Heads.{Kind, region_kind, BoundKind, bound_kind, region_var, Atom, static_region}
+use Rattle.relation_terms.specs.Heads.{Kind, region_kind, bound_kind, region_var, Atom, static_region}
 use Rattle.relation_terms.specs.Heads.{early_region, type_param, const_param, Head, value_type, Leaf, variable, bound}
 use Rattle.relation_terms.specs.Heads.{placeholder, atom, unknown}
 use Rattle.relation_terms.specs.Trees.{Tree, leaf, node, bind, nil, cons}

@@ -4,6 +4,7 @@ mod dup;
 mod enums;
 mod generic_arg;
 mod goal;
+mod ids;
 mod interner;
 mod keys;
 mod numbers;
@@ -17,12 +18,13 @@ pub use enums::{
 };
 pub use generic_arg::GenericArgKind;
 pub use goal::Goal;
+pub use ids::TraitId;
 pub use interner::{Interner, OutOfMemory};
 pub use keys::{
     AlternativesKey, ArgsKey, BoundVarsKey, BranchesKey, ClauseKey, Const, ConstKey,
     ExistentialPredicatesKey, GenericArgs, Keys, ParamEnv, ParamEnvKey, PatKey, Predicate,
     PredicateKey, Region, RegionKey, Span, Symbol, Ty, TyKey, Tys, TysKey, ValTreeKey,
 };
-pub use numbers::{ConstVid, FloatVid, IntVid, RegionVid, TyVid, UniverseIndex};
-pub use region_kind::{EarlyParamRegion, RegionForm, RegionKind};
+pub use numbers::{BoundVar, ConstVid, FloatVid, IntVid, RegionVid, TyVid, UniverseIndex};
+pub use region_kind::{BoundRegion, EarlyParamRegion, RegionForm, RegionKind};
 pub use ty_kind::{InferTy, TyForm, TyKind};

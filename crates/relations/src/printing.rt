@@ -2,7 +2,7 @@
 ghost use Rattle.std.specs.Prelude.{◌≡◌, ◌<◌, IsTrue, IfSome, IfNone, IfErr, length};
 ghost use Rattle.relation_terms.specs.Heads.{type_var};
 ghost use Rattle.relation_terms.specs.Trees.{Tree, known};
-ghost use Rattle.relation_tools.specs.Faults.{KnowsError, KnowsFault};
+ghost use Rattle.relation_tools.specs.Faults.{KnowsBoth, KnowsError, KnowsFault};
 ghost use Rattle.type_relations.specs.Stores.{ConstraintIn, entry_of, bound_to};
 ghost use Rattle.relation_reference.specs.Tables.{store_of, constraint_of, IsLawful};
 
@@ -13,7 +13,7 @@ use relation_terms::terms::{
     Dup, GenericArgKind, InferTy, IntTy, Interner, Mutability, Region, RegionKind, Ty, TyKind, Tys,
     UintTy,
 };
-use relation_tools::error::{RelateFault, TypeError, TypeErrorOf};
+use relation_tools::error::{ExpectedFound, RelateFault, TypeError, TypeErrorOf};
 use std::fmt::{self, Write};
 use type_relations::relate::solver_relating::RelateGoals;
 
@@ -130,8 +130,53 @@ fn write_tuple<I: Interner, W: Write>(
     out.write_str(")")
 }
 
-/// Writes why two terms do not relate.
-pub fn write_error<I: Interner, W: Write>(
+// The name of an error.
+fn error_name<X, D, N>(error: &TypeError<X, D, N>) -> &'static str {
+    match error {
+        TypeError::Mismatch => "Mismatch",
+        TypeError::PolarityMismatch(_) => "PolarityMismatch",
+        TypeError::SafetyMismatch(_) => "SafetyMismatch",
+        TypeError::AbiMismatch(_) => "AbiMismatch",
+        TypeError::Mutability => "Mutability",
+        TypeError::ArgumentMutability(_) => "ArgumentMutability",
+        TypeError::TupleSize(_) => "TupleSize",
+        TypeError::ArraySize(_) => "ArraySize",
+        TypeError::ArgCount => "ArgCount",
+        TypeError::RegionsDoesNotOutlive(..) => "RegionsDoesNotOutlive",
+        TypeError::RegionsInsufficientlyPolymorphic(..) => "RegionsInsufficientlyPolymorphic",
+        TypeError::RegionsPlaceholderMismatch => "RegionsPlaceholderMismatch",
+        TypeError::Sorts(_) => "Sorts",
+        TypeError::ArgumentSorts(..) => "ArgumentSorts",
+        TypeError::Traits(_) => "Traits",
+        TypeError::VariadicMismatch(_) => "VariadicMismatch",
+        TypeError::CyclicTy(_) => "CyclicTy",
+        TypeError::CyclicConst(_) => "CyclicConst",
+        TypeError::ProjectionMismatched(_) => "ProjectionMismatched",
+        TypeError::ExistentialMismatch(_) => "ExistentialMismatch",
+        TypeError::ConstMismatch(_) => "ConstMismatch",
+        TypeError::IntrinsicCast => "IntrinsicCast",
+        TypeError::ForceInlineCast => "ForceInlineCast",
+        TypeError::TargetFeatureCast(_) => "TargetFeatureCast",
+    }
+}
+
+// Writes two types with a comma between.
+fn write_types<I: Interner, W: Write>(
+    cx: &I,
+    parameters: &[Parameter<I::Name>],
+    types: &ExpectedFound<Ty<I>>,
+    out: &mut W,
+) -> fmt::Result
+    requires { KnowsBoth (I.meaning cx.now).ty types.now }
+{
+    write_ty(cx, parameters, &types.expected, out)?;
+    out.write_str(", ")?;
+    write_ty(cx, parameters, &types.found, out)
+}
+
+// Writes the types and regions that an error names, in parentheses. Constants, ids, lists and regions of a binder have
+// no text yet: of an error that names one nothing is written.
+fn write_error_terms<I: Interner, W: Write>(
     cx: &I,
     parameters: &[Parameter<I::Name>],
     error: &TypeErrorOf<I>,
@@ -140,24 +185,50 @@ pub fn write_error<I: Interner, W: Write>(
     requires { KnowsError (I.meaning cx.now) error.now }
 {
     match error {
-        TypeError::Mutability => out.write_str("Mutability"),
-        TypeError::TupleSize(sizes) => {
-            let expected = sizes.expected;
-            let found = sizes.found;
-            write!(out, "TupleSize({expected}, {found})")
-        }
-        TypeError::Sorts(types) => {
-            out.write_str("Sorts(")?;
-            write_ty(cx, parameters, &types.expected, out)?;
+        TypeError::RegionsDoesNotOutlive(longer, shorter) => {
+            out.write_str("(")?;
+            write_region(cx, parameters, longer, out)?;
             out.write_str(", ")?;
-            write_ty(cx, parameters, &types.found, out)?;
+            write_region(cx, parameters, shorter, out)?;
             out.write_str(")")
         }
+        TypeError::Sorts(types) => {
+            out.write_str("(")?;
+            write_types(cx, parameters, types, out)?;
+            out.write_str(")")
+        }
+        TypeError::ArgumentSorts(types, place) => {
+            out.write_str("(")?;
+            write_types(cx, parameters, types, out)?;
+            write!(out, ", {place})")
+        }
         TypeError::CyclicTy(ty) => {
-            out.write_str("CyclicTy(")?;
+            out.write_str("(")?;
             write_ty(cx, parameters, ty, out)?;
             out.write_str(")")
         }
+        _ => Ok(()),
+    }
+}
+
+/// Writes why two terms do not relate: the error's name and, of its parts, those that have a text.
+pub fn write_error<I: Interner, W: Write>(
+    cx: &I,
+    parameters: &[Parameter<I::Name>],
+    error: &TypeErrorOf<I>,
+    out: &mut W,
+) -> fmt::Result
+    requires { KnowsError (I.meaning cx.now) error.now }
+{
+    out.write_str(error_name(error))?;
+    match error {
+        TypeError::PolarityMismatch(pair) => write!(out, "({:?}, {:?})", pair.expected, pair.found),
+        TypeError::SafetyMismatch(pair) => write!(out, "({:?}, {:?})", pair.expected, pair.found),
+        TypeError::AbiMismatch(pair) => write!(out, "({:?}, {:?})", pair.expected, pair.found),
+        TypeError::VariadicMismatch(pair) => write!(out, "({}, {})", pair.expected, pair.found),
+        TypeError::TupleSize(pair) => write!(out, "({}, {})", pair.expected, pair.found),
+        TypeError::ArgumentMutability(place) => write!(out, "({place})"),
+        _ => write_error_terms(cx, parameters, error, out),
     }
 }
 

@@ -32,7 +32,7 @@ pub data IsReadAs (st : Store) : Tree → Tree → Type 0 where
 
 module _ {Key Id Name : Type 0} (m : Meaning Key Id Name) where
   -- The outermost forms of two types differ, and the error that says how.
-  pub data FormError (x y : TyKey Key) : TypeError Key → Type 0 where
+  pub data FormError (x y : TyKey Key) : TypeError Key Id Name → Type 0 where
     mutability : {u v : _} {ts us : Tree} → m.ty x ≡ node (ref u) ts → m.ty y ≡ node (ref v) us → u ≢ v →
         FormError x y Mutability
     pointer_mutability : {u v : _} {ts us : Tree} → m.ty x ≡ node (raw_ptr u) ts → m.ty y ≡ node (raw_ptr v) us →
@@ -46,7 +46,7 @@ module _ {Key Id Name : Type 0} (m : Meaning Key Id Name) where
   -- The error comes of a pair that is met when two types are related: of two types, as read, that differ in form; of
   -- what they are read as by what is recorded; of two parts at one place of one form; or of a variable that stands in
   -- what the other type comes to.
-  pub data ErrorOf (st : Store) (e : TypeError Key) : Tree → Tree → Type 0 where
+  pub data ErrorOf (st : Store) (e : TypeError Key Id Name) : Tree → Tree → Type 0 where
     of_forms : {a b : Tree} (x y : TyKey Key) → m.ty x ≡ a → m.ty y ≡ b → IsNoVariable a → IsNoVariable b →
         FormError x y e → ErrorOf st e a b
     of_entries : {a b t u : Tree} → IsReadAs st a t → IsReadAs st b u → ErrorOf st e t u → ErrorOf st e a b

@@ -7,7 +7,7 @@ ghost use Rattle.relation_reference.specs.Answers.{IsOneLeaf, ArePartsOf};
 
 use crate::context::RefCtxt;
 use relation_terms::terms::{Dup, Interner, RegionKey, Ty, TyKey, TyKind, Tys, TysKey};
-use relation_tools::error::{ExpectedFound, TypeError};
+use relation_tools::error::{ExpectedFound, TypeError, TypeErrorOf};
 
 /// The parts of two types of one form, each from the first and the second.
 #[derive(Debug, Drop)]
@@ -46,7 +46,7 @@ impl<I: Interner> RefCtxt<I> {
         &self,
         a: &Ty<I>,
         b: &Ty<I>,
-    ) -> Result<PairedParts<I::Key>, TypeError<I::Key>>
+    ) -> Result<PairedParts<I::Key>, TypeErrorOf<I>>
         requires a_known { IsTrue (known ((I.meaning self.now.interner).ty a.now)) }
         requires b_known { IsTrue (known ((I.meaning self.now.interner).ty b.now)) }
         ensures parts { IfOk result (ArePartsOf (I.meaning self.now.interner) ((I.meaning self.now.interner).ty a.now) ((I.meaning self.now.interner).ty b.now)) }
@@ -78,7 +78,10 @@ impl<I: Interner> RefCtxt<I> {
                 if mutability != other {
                     return Err(TypeError::Mutability);
                 }
-                Ok(PairedParts::References { regions: (r, s), pointees: (x, y) })
+                Ok(PairedParts::References {
+                    regions: (r, s),
+                    pointees: (x, y),
+                })
             }
             left => {
                 if !is_one_leaf(&left, &right) {
@@ -91,14 +94,14 @@ impl<I: Interner> RefCtxt<I> {
 }
 
 // Two types of unlike forms.
-fn unlike<I: Interner>(a: &Ty<I>, b: &Ty<I>) -> TypeError<I::Key>
+fn unlike<I: Interner>(a: &Ty<I>, b: &Ty<I>) -> TypeErrorOf<I>
     ensures { result ≡ Sorts (record { expected = a.now; found = b.now }) }
 {
     TypeError::Sorts(ExpectedFound::new(a.dup(), b.dup()))
 }
 
 // Two tuples of unlike lengths; where one is empty, two types of unlike forms.
-fn unlike_lengths<I: Interner>(a: &Ty<I>, b: &Ty<I>, n: usize, m: usize) -> TypeError<I::Key>
+fn unlike_lengths<I: Interner>(a: &Ty<I>, b: &Ty<I>, n: usize, m: usize) -> TypeErrorOf<I>
     ensures sizes { 0 < n → 0 < m → result ≡ TupleSize (record { expected = n; found = m }) }
     ensures empty { (n ≡ 0) ⊎ (m ≡ 0) → result ≡ Sorts (record { expected = a.now; found = b.now }) }
 {

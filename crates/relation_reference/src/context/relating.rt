@@ -11,12 +11,12 @@ ghost use Rattle.relation_reference.specs.Answers.{Answered, AnsweredAll};
 
 use crate::context::{PairedParts, RefCtxt};
 use relation_terms::terms::{Interner, Ty, Tys};
-use relation_tools::error::RelateFault;
+use relation_tools::error::RelateFaultOf;
 
 impl<I: Interner> RefCtxt<I> {
     // Relates two types.
     #[cycle(relate)]
-    pub(crate) fn relate_tys(&mut self, a: &Ty<I>, b: &Ty<I>) -> Result<(), RelateFault<I::Key>>
+    pub(crate) fn relate_tys(&mut self, a: &Ty<I>, b: &Ty<I>) -> Result<(), RelateFaultOf<I>>
         requires lawful { IsLawful (I.meaning self.old.interner) self.old.inner }
         requires a_known { IsTrue (known ((I.meaning self.old.interner).ty a.now)) }
         requires b_known { IsTrue (known ((I.meaning self.old.interner).ty b.now)) }
@@ -57,7 +57,7 @@ impl<I: Interner> RefCtxt<I> {
 
     // Relates two types that are no variables by their outermost forms and their parts.
     #[cycle(relate)]
-    fn structurally_relate_tys(&mut self, a: &Ty<I>, b: &Ty<I>) -> Result<(), RelateFault<I::Key>>
+    fn structurally_relate_tys(&mut self, a: &Ty<I>, b: &Ty<I>) -> Result<(), RelateFaultOf<I>>
         requires lawful { IsLawful (I.meaning self.old.interner) self.old.inner }
         requires a_known { IsTrue (known ((I.meaning self.old.interner).ty a.now)) }
         requires b_known { IsTrue (known ((I.meaning self.old.interner).ty b.now)) }
@@ -84,7 +84,7 @@ impl<I: Interner> RefCtxt<I> {
 
     // Relates the members of two tuples of one length by position.
     #[cycle(relate)]
-    fn relate_members(&mut self, a: &Tys<I>, b: &Tys<I>) -> Result<(), RelateFault<I::Key>>
+    fn relate_members(&mut self, a: &Tys<I>, b: &Tys<I>) -> Result<(), RelateFaultOf<I>>
         requires lawful { IsLawful (I.meaning self.old.interner) self.old.inner }
         requires a_known { IsTrue (known ((I.meaning self.old.interner).tys a.now)) }
         requires b_known { IsTrue (known ((I.meaning self.old.interner).tys b.now)) }

@@ -12,7 +12,7 @@ ghost use Rattle.relation_reference.specs.Answers.{Instantiated, StepsByInstanti
 use crate::context::variables::ty_vid;
 use crate::context::{RefCtxt, TypeVariableValue};
 use relation_terms::terms::{Dup, Interner, OutOfMemory, Ty, TyKind, TyVid, Tys};
-use relation_tools::error::{RelateFault, TypeError};
+use relation_tools::error::{RelateFault, RelateFaultOf, TypeError};
 
 // Whether a type variable stands in a type.
 #[cycle(occurs)]
@@ -144,7 +144,7 @@ impl<I: Interner> RefCtxt<I> {
         &mut self,
         target: TyVid,
         source: &Ty<I>,
-    ) -> Result<Ty<I>, RelateFault<I::Key>>
+    ) -> Result<Ty<I>, RelateFaultOf<I>>
         requires lawful { IsLawful (I.meaning self.old.interner) self.old.inner }
         requires target_made { target.0 < length self.old.inner.types.items }
         requires target_unbound { entry_of (store_of (I.meaning self.old.interner) self.old.inner) type_var target.0 ≡ unbound }

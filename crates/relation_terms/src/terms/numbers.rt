@@ -1,8 +1,12 @@
-//! The numbers of universes and variables, each of a type of its own.
+//! The numbers of universes and variables, and places in a binder's list, each of a type of its own.
 
 /// The number of a universe. A universe can name the placeholders of universes up to its own.
 #[derive(Clone, Copy, PartialEq, Eq, PartialOrd, Ord, Hash, Debug)]
 pub struct UniverseIndex(pub usize);
+
+/// The place of a variable in the list of the binder that binds it.
+#[derive(Clone, Copy, PartialEq, Eq, PartialOrd, Ord, Hash, Debug)]
+pub struct BoundVar(pub usize);
 
 /// The number of a type variable.
 #[derive(Clone, Copy, PartialEq, Eq, PartialOrd, Ord, Hash, Debug)]

@@ -1,5 +1,5 @@
 //! The forms of regions.
-use crate::terms::{Dup, Keys, RegionVid};
+use crate::terms::{BoundVar, Dup, Keys, RegionVid};
 
 /// The form of a region, over names.
 #[derive(PartialEq, Eq, Hash, Debug, Drop)]
@@ -16,6 +16,13 @@ pub struct EarlyParamRegion<N> {
     pub name: N,
 }
 
+/// A region that a binder binds, by its place in the binder's list and its name.
+#[derive(PartialEq, Eq, Hash, Debug, Drop)]
+pub struct BoundRegion<N> {
+    pub var: BoundVar,
+    pub name: N,
+}
+
 /// The form of an interner's region.
 pub type RegionForm<I> = RegionKind<<I as Keys>::Name>;
 
@@ -23,6 +30,15 @@ impl<N: Dup> Dup for EarlyParamRegion<N> {
     fn dup(&self) -> Self {
         EarlyParamRegion {
             index: self.index,
+            name: self.name.dup(),
+        }
+    }
+}
+
+impl<N: Dup> Dup for BoundRegion<N> {
+    fn dup(&self) -> Self {
+        BoundRegion {
+            var: self.var,
             name: self.name.dup(),
         }
     }

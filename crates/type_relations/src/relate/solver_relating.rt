@@ -13,13 +13,10 @@ ghost use Rattle.type_relations.specs.Headline.{AnswersGoals, KeepsEqualTerms, I
 ghost use Rattle.type_relations.specs.Errors.{ErrorOf};
 
 use relation_terms::terms::{Goal, Interner, Keys, ParamEnv, Predicate, Span, Ty, Variance};
-use relation_tools::error::RelateFault;
+use relation_tools::error::RelateResult;
 
 /// The goals that relating answers, or why it stopped.
-pub type RelateGoals<I> = Result<
-    Vec<Goal<<I as Keys>::Key, Predicate<I>>>,
-    RelateFault<<I as Keys>::Key>,
->;
+pub type RelateGoals<I> = RelateResult<I, Vec<Goal<<I as Keys>::Key, Predicate<I>>>>;
 
 /// An inference context that relates terms.
 pub trait RelateExt {

@@ -1,4 +1,4 @@
-use Rattle.std.proofs.Common.{◌≡◌, refl, sym, ap, subst, arith, All}
+use Rattle.std.proofs.Common.{refl, sym, ap, subst, arith, All}
 use Rattle.relation_terms.specs.Trees.{apply}
 use Rattle.type_relations.specs.Relation.{Rel, at}
 use Rattle.type_relations.specs.Goals.{goals_of, MakesOneTree}
@@ -9,7 +9,7 @@ pub returns-clause-answers : goal.returns-clause-answers
 returns-clause-answers g c =
     let m = g.I.Interner.meaning c.args.self.now.interner in (
       λ w s sat h. subst (λ v. Rel no_items w (m.param_env c.args._param_env) (at v) (apply s (m.ty c.args.lhs)) (apply s (m.ty c.args.rhs))) (sym c.requires.invariantly)
-      (c.in_ok-relate_tys.ensures.answers.relates no_items (m.param_env c.args._param_env) w s sat),
+          (c.in_ok-relate_tys.ensures.answers.relates no_items (m.param_env c.args._param_env) w s sat),
       c.relate_tys.ensures.goes.later.shrinks,
     )
 

@@ -1,7 +1,7 @@
 use Rattle.std.proofs.Common.{rules, refl, ◌≡◌, ◌+◌, ◌*◌, ◌≤◌, ◌<◌, IsTrue, subst, sym, ap, ap₂, ◌∙◌, arith, subst₂}
 use Rattle.std.proofs.lemmas.Bool.{false≢true}
 use Rattle.relation_terms.specs.Heads.{type_var, slice, tuple, ref, variable}
-use Rattle.relation_terms.specs.Trees.{Assign, leaf, apply, known, count, nth}
+use Rattle.relation_terms.specs.Trees.{leaf, known, count, nth}
 use Rattle.relation_terms.proofs.Stays.{stays_same, extends_on}
 use Rattle.type_relations.specs.Stores.{weight, IsTermIn}
 use Rattle.type_relations.specs.Measures.{Goes, depth, grown}
@@ -9,7 +9,6 @@ use Rattle.type_relations.specs.Errors.{IsReadAs}
 use Rattle.type_relations.proofs.ReadAs.{read_weight}
 use Rattle.type_relations.proofs.Standing.{later_term}
 use Rattle.type_relations.proofs.Going.{under, goes_nowhere, goes_within, goes_then, pair_grown, element_under, second_under, goes_both}
-use Rattle.relation_tools.specs.Faults.{KnowsFault}
 use Rattle.relation_reference.specs.Tables.{store_of, IsLawful}
 use Rattle.relation_reference.specs.Answers.{Answered, Unites, ArePartsOf}
 use Rattle.relation_reference.specs.declared.context.pairing.PairedParts.TheVariants.{Elements, Members, References}
@@ -331,7 +330,7 @@ relate_tys-returns-in-Some g t c =
       grown = extends_on c.in_ok-bound-in-None-ty_var.ensures.grown c.relate_tys.ensures.grown;
       goes = gone;
       answers = answered_alike p st last a b (leaf (variable type_var v)) u c.relate_tys.result sound gone.later read c.shallow_resolve-right.ensures.reads
-      (then_answered st mid v u (o.ty k) r.1 sound first u_in r.0 r.2 stands last c.relate_tys.ensures.goes p c.relate_tys.result (subst (λ z. Answered p mid last (o.ty k) z c.relate_tys.result) stays c.relate_tys.ensures.answers));
+          (then_answered st mid v u (o.ty k) r.1 sound first u_in r.0 r.2 stands last c.relate_tys.ensures.goes p c.relate_tys.result (subst (λ z. Answered p mid last (o.ty k) z c.relate_tys.result) stays c.relate_tys.ensures.answers));
       why_known = c.relate_tys.ensures.why_known;
       same = λ e. absurd (false≢true (c.if-eq.ensures ∙ (g.met.I.Interner.same_ty c.args.self.now.interner c.args.a.now c.args.b.now c.requires.a_known c.requires.b_known).1 e));
     }
@@ -418,7 +417,7 @@ relate_tys-returns-in-Some-ty_var-2 g t c =
       grown = extends_on c.in_ok-bound-in-Some-ty_var-2.ensures.grown c.relate_tys-in-Some-ty_var-2.ensures.grown;
       goes = gone;
       answers = answered_alike p st last a b u (leaf (variable type_var v)) c.relate_tys-in-Some-ty_var-2.result sound gone.later c.shallow_resolve-left.ensures.reads read
-      (then_answered_back st mid v u (o.ty k) r.1 sound first u_in r.0 r.2 stands last c.relate_tys-in-Some-ty_var-2.ensures.goes p c.relate_tys-in-Some-ty_var-2.result (subst (λ z. Answered p mid last z (o.ty k) c.relate_tys-in-Some-ty_var-2.result) stays c.relate_tys-in-Some-ty_var-2.ensures.answers));
+          (then_answered_back st mid v u (o.ty k) r.1 sound first u_in r.0 r.2 stands last c.relate_tys-in-Some-ty_var-2.ensures.goes p c.relate_tys-in-Some-ty_var-2.result (subst (λ z. Answered p mid last z (o.ty k) c.relate_tys-in-Some-ty_var-2.result) stays c.relate_tys-in-Some-ty_var-2.ensures.answers));
       why_known = c.relate_tys-in-Some-ty_var-2.ensures.why_known;
       same = λ e. absurd (false≢true (c.if-eq.ensures ∙ (g.met.I.Interner.same_ty c.args.self.now.interner c.args.a.now c.args.b.now c.requires.a_known c.requires.b_known).1 e));
     }
@@ -688,6 +687,6 @@ structurally_relate_tys-returns-in_ok-equate_regions-in-References g t c =
       grown = subst (λ z. Extends z p) e done.grown;
       goes = goes_both (weight st a + weight st b) x y (omega arith) (omega (arith, wa, wb)) c.equate_regions.ensures.goes gone;
       answers = ref_answered p st mid last r s x y gone.later.shrinks c.in_ok-equate_regions-in-References.ensures.unites parts.0 a b c.relate_tys-in-References.result parts.1 parts.2
-      (subst (λ z. Answered p (store_of z new) last (z.ty c.in-References.pointees.0) (z.ty c.in-References.pointees.1) c.relate_tys-in-References.result) e done.answers);
+          (subst (λ z. Answered p (store_of z new) last (z.ty c.in-References.pointees.0) (z.ty c.in-References.pointees.1) c.relate_tys-in-References.result) e done.answers);
       why_known = done.why_known;
     }

@@ -76,16 +76,16 @@ returns g c =
     let u = c.universe_of_ty-universe.result in
     record {
       lawful = target_lawful grown x z y same_tables c.requires.lawful c.args.target.0 k u c.requires.target_made c.requires.target_unbound t c.requires.source_in c.requires.source_formed means stands absent in_universe
-      e'.keys values e'.universes e'.regions e'.constraints e'.universe left;
+          e'.keys values e'.universes e'.regions e'.constraints e'.universe left;
       grown = grown;
       sure = sure;
       answers = (
         means,
         target_bound grown x z y same_tables c.requires.lawful c.args.target.0 k u c.requires.target_made c.requires.target_unbound t c.requires.source_in c.requires.source_formed means stands absent in_universe
-        e'.keys values e'.universes e'.regions e'.constraints e'.universe left,
+            e'.keys values e'.universes e'.regions e'.constraints e'.universe left,
         absent,
       );
       steps = target_steps grown x z y same_tables c.requires.lawful c.args.target.0 k u c.requires.target_made c.requires.target_unbound t c.requires.source_in c.requires.source_formed means stands absent in_universe
-      e'.keys values e'.universes e'.regions e'.constraints e'.universe left;
+          e'.keys values e'.universes e'.regions e'.constraints e'.universe left;
       why_known = tt;
     }

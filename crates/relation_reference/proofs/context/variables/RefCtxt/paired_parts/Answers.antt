@@ -1,6 +1,6 @@
-use Rattle.std.proofs.Common.{rules, refl, ◌≡◌, ◌≢◌, ap, sym, ◌∙◌}
+use Rattle.std.proofs.Common.{rules, refl, ◌≢◌}
 use Rattle.relation_terms.specs.declared.terms.ty_kind.TyKind.TheVariants.{Slice, Tuple, Ref}
-use Rattle.type_relations.specs.Errors.{FormError, mutability}
+use Rattle.type_relations.specs.Errors.{mutability}
 use Rattle.relation_reference.proofs.Pairing.{unlike_error, leaf_unlike, lengths_error}
 use Rattle.relation_reference.proofs.context.variables.RefCtxt.paired_parts.Goals as goal
 
@@ -36,5 +36,5 @@ pub returns-then-not-is_one_leaf : goal.returns-then-not-is_one_leaf
 returns-then-not-is_one_leaf g c = record {
   parts = tt;
   errors = unlike_error (g.I.Interner.meaning c.args.self.now.interner) c.ty_kind.result c.ty_kind-right.result c.args.a.now c.args.b.now c.unlike-then-not-is_one_leaf.result c.ty_kind.ensures c.ty_kind-right.ensures
-  (leaf_unlike (g.I.Interner.meaning c.args.self.now.interner) c.ty_kind.result c.ty_kind-right.result c.in_default.not-Slice c.in_default.not-Tuple c.in_default.not-Ref (c.if-not-is_one_leaf.ensures.unlike refl)) c.unlike-then-not-is_one_leaf.ensures;
+      (leaf_unlike (g.I.Interner.meaning c.args.self.now.interner) c.ty_kind.result c.ty_kind-right.result c.in_default.not-Slice c.in_default.not-Tuple c.in_default.not-Ref (c.if-not-is_one_leaf.ensures.unlike refl)) c.unlike-then-not-is_one_leaf.ensures;
 }
