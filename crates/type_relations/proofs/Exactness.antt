@@ -4,7 +4,7 @@ use native.Mathlib.Decide.{dec_le}
 use Rattle.relation_terms.specs.Heads.{VarKind, Leaf, variable}
 use Rattle.relation_terms.specs.Trees.{Tree, leaf, node, bind, nil, cons, Assign, assigned, apply, Leaves, IsList, count, nth}
 use Rattle.relation_terms.specs.Erasure.{erase, kept_parts}
-use Rattle.type_relations.specs.Relation.{IsGround, StaysWithin}
+use Rattle.type_relations.specs.Relation.{IsValueLeaf, StaysWithin}
 use Rattle.type_relations.specs.Stores.{Store, Entry, same_as, entry_term, bound_term, universe_of, IsMade, IsMadeLeaf, InContext, IsNamable, IsAssignment, MayStandFor, IsSound}
 use Rattle.type_relations.specs.FirstOrder.{Unifies, MeetsErased, IsErasedSolution}
 use Rattle.type_relations.specs.Steps.{IsLater, AgreeErased, ExtendsErased, WritesEntry, Equates}
@@ -252,7 +252,7 @@ module _ (before after : Store) (k : VarKind) (n m : ℕ) (q : Equates before af
 
   fits : (s : Assign) → IsAssignment before s → universe_of before k n ≤ universe_of before k m → IsAssignment before (root_changed s)
   unfolding root_changed
-  fits s h le j i p = changed_case (λ j i z. MayStandFor j z × Leaves IsGround z × StaysWithin 0 z × Leaves (IsNamable (universe_of before j i)) z) k m (s k n) s
+  fits s h le j i p = changed_case (λ j i z. MayStandFor j z × Leaves IsValueLeaf z × StaysWithin 0 z × Leaves (IsNamable (universe_of before j i)) z) k m (s k n) s
       (let a = h k n left_made in (a.0, a.1, a.2, Leaves_map (IsNamable (universe_of before k n)) (IsNamable (universe_of before k m)) (namable_mono (universe_of before k n) (universe_of before k m) le) (s k n) a.3)) j i (λ o. h j i p)
 
   low : (u : ℕ) → u ≤ lower → (t : Tree) → Leaves (IsNamable u) t → Leaves (IsNamable lower) t

@@ -5,7 +5,7 @@ use Rattle.relation_terms.specs.declared.terms.enums.Variance.TheVariants.{Covar
 use Rattle.relation_terms.specs.Heads.{Sort, Kind, region_kind, kind_sort, BoundKind, bound_kind, bound_sort, region_var, region_sort, Part, term_of, binder_of, Shape, one, row, head_parts, leaf_sort, Leaf, Atom, atom_sort, type_param, const_param, static_region, early_region, atom, variable, bound, placeholder, unknown, Head, slice, value_type, alias, alias_term, unevaluated, host_effect, subtype, region_outlives, type_outlives, projection, const_has_type, well_formed, const_evaluatable, coerce, normalizes_to, alias_relate, environment}
 use Rattle.relation_terms.specs.Trees.{Tree, leaf, node, bind, nil, cons, Leaves, inst, put, tree_at, size, IsList, IsTerm, Fits}
 use Rattle.relation_terms.specs.Erasure.{erase, erase_leaf, erase_atom, erase_kinded, kept_parts}
-use Rattle.type_relations.specs.Relation.{Items, Interpretation, parts, second_opened, first_opened, Rel, at, same, anything, error_left, error_right, regions, alias_types, equal_consts, atoms, forms, no_parts, next_part, covariant_binders, contravariant_binders, invariant_binders, open_second, open_first, part_at, plain, plain_atom, sort_of, IsError, IsAlias, IsAliasHead, IsRelatedHead, AliasRule, IsGround, FitKinds, Fresh, RegionRule, all_outlive}
+use Rattle.type_relations.specs.Relation.{Items, Interpretation, parts, second_opened, first_opened, Rel, at, same, anything, error_left, error_right, regions, alias_types, equal_consts, atoms, forms, no_parts, next_part, covariant_binders, contravariant_binders, invariant_binders, open_second, open_first, part_at, plain, plain_atom, sort_of, IsError, IsAlias, IsAliasHead, IsRelatedHead, AliasRule, IsValueLeaf, FitKinds, Fresh, RegionRule, all_outlive}
 use Rattle.type_relations.specs.FirstOrder.{IsFirstOrderAtom}
 use Rattle.type_relations.specs.Stores.{IsNamable}
 use Rattle.type_relations.specs.RegionTerms.{IsRegionTermHead, IsRegionTermLeaf, BindsRegions, IsRegionTerm, Agree, RelatedTermsAgree, RelatedIffAgree}
@@ -84,7 +84,7 @@ region_atom static_region p = tt
 region_atom (early_region i n) p = tt
 region_atom x p = absurd cc
 
-region_term : (t : Tree) → sort_of t ≡ region_sort → Leaves IsGround t → IsRegionTerm t
+region_term : (t : Tree) → sort_of t ≡ region_sort → Leaves IsValueLeaf t → IsRegionTerm t
 region_term (leaf (atom x)) p g = region_atom x p
 region_term (leaf (bound k d i)) p g = p
 region_term (leaf (placeholder k u n)) p g = tt

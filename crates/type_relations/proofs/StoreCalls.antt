@@ -5,7 +5,7 @@ use Rattle.relation_terms.specs.declared.terms.enums.IntTy.TheVariants.{I32}
 use Rattle.relation_terms.specs.declared.terms.enums.FloatTy.TheVariants.{F32}
 use Rattle.relation_terms.specs.Trees.{Tree, leaf, Assign, assigned, apply, Leaves, Occurs, IsTerm}
 use Rattle.relation_terms.specs.Erasure.{erase}
-use Rattle.type_relations.specs.Relation.{Interpretation, FitKinds, Outlives, IsValueAtom, IsGround, StaysWithin}
+use Rattle.type_relations.specs.Relation.{Interpretation, FitKinds, Outlives, IsValueAtom, IsValueLeaf, StaysWithin}
 use Rattle.type_relations.specs.Stores.{Store, unbound, bound_to, entry_term, bound_term, universe_of, IsMade, IsMadeLeaf, IsFree, IsInScope, InContext, IsTermIn, IsNamable, IsAssignment, MayStandFor, MeetsBindings, Satisfies, IsSound, Constraint, ConstraintIn, ConstraintHolds, BindingsAreMet, IsIntegerAtom, IsFloatAtom, resolve, resolved, outlives_constraint, equal_constraint, counts_term}
 use Rattle.type_relations.specs.FirstOrder.{Unifies, MeetsErased}
 use Rattle.type_relations.specs.Steps.{IsLater, AgreeOn, Extends, AllNamable, ChangesNothing, IsNumberFor}
@@ -134,7 +134,7 @@ made_is_unconstrained before after k n u q g w s t sat stands ground within name
         go (inr p) = absurd (o p.0 p.1)
 
     assigns : IsAssignment after z
-    assigns j i m = changed_case (λ j i y. MayStandFor j y × Leaves IsGround y × StaysWithin 0 y × Leaves (IsNamable (universe_of after j i)) y) k n t s
+    assigns j i m = changed_case (λ j i y. MayStandFor j y × Leaves IsValueLeaf y × StaysWithin 0 y × Leaves (IsNamable (universe_of after j i)) y) k n t s
         (stands, ground, within, subst (λ v. Leaves (IsNamable v) t) (sym new_universe) names) j i
         (λ o. let a = sat.assigns j i (old j i m o) in (a.0, a.1, a.2, subst (λ v. Leaves (IsNamable v) (s j i)) (sym (universes_stand before after k n u q g j i (old j i m o))) a.3))
 
@@ -160,8 +160,9 @@ stands_value int_var t i f h = absurd (i refl)
 stands_value float_var t i f h = absurd (f refl)
 
 pub making_one_makes : MakingOneMakes
-making_one_makes before after k v n u q g s i f = record {
+making_one_makes before after k v n u q low g s i f = record {
   later = made_is_later before after v n u q g;
+  stays_sound = making_stays_sound before after v n u q low;
   are_new = ((v, n, refl, s, not_before, new_made before after v n u q, new_universe), tt, tt);
   same_entries = same_entries before after v n u q;
   same_universes = universes_stand before after v n u q g;
@@ -324,7 +325,7 @@ default_within float_var n = tt
 default_within const_var n = tt
 default_within region_var n = tt
 
-default_scope : (st : Store) (u : ℕ) (l : Leaf) → IsInScope st u l → Leaves (λ m. IsGround m × IsNamable u m) (assigned defaults l)
+default_scope : (st : Store) (u : ℕ) (l : Leaf) → IsInScope st u l → Leaves (λ m. IsValueLeaf m × IsNamable u m) (assigned defaults l)
 unfolding default defaults
 default_scope st u (variable type_var n) i = (tt, tt)
 default_scope st u (variable int_var n) i = (tt, tt)
@@ -342,13 +343,13 @@ bindings_are_met st g = (value, assigns, meets)
     value : Assign
     value k n = apply defaults (resolved st k n)
 
-    scope : (k : VarKind) (n : ℕ) → IsMade st k n → Leaves (λ m. IsGround m × IsNamable (universe_of st k n) m) (apply defaults (resolved st k n))
+    scope : (k : VarKind) (n : ℕ) → IsMade st k n → Leaves (λ m. IsValueLeaf m × IsNamable (universe_of st k n) m) (apply defaults (resolved st k n))
     scope k n m = Leaves-replace _ (assigned defaults) (resolved st k n) (Leaves_map (IsInScope st (universe_of st k n)) _ (default_scope st (universe_of st k n)) (resolved st k n) (g.in_scope k n m))
 
     assigns : IsAssignment st value
     assigns k n m = (
       stands_apply defaults k (resolved st k n) default_stands (resolved_stands st g k n),
-      Leaves_map _ IsGround (λ l h. h.0) (apply defaults (resolved st k n)) (scope k n m),
+      Leaves_map _ IsValueLeaf (λ l h. h.0) (apply defaults (resolved st k n)) (scope k n m),
       within_apply defaults 0 (resolved st k n) default_within (resolved_within st g k n),
       Leaves_map _ (IsNamable (universe_of st k n)) (λ l h. h.1) (apply defaults (resolved st k n)) (scope k n m),
     )

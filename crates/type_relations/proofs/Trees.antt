@@ -2,7 +2,7 @@
 use Rattle.std.proofs.Common.{◌≡◌, ◌≢◌, ℕ, zero, suc, ◌<◌, ◌≤◌, refl, sym, ap, ap₂, ◌∙◌, arith, inl, inr, List, [], ◌∷◌, map, nat_eq, cond, Bool, true, false, ne_eqb, le_of_eq}
 use Rattle.relation_terms.specs.Heads.{BoundKind, VarKind, Leaf, atom, variable, bound, placeholder, unknown}
 use Rattle.relation_terms.specs.Trees.{Tree, leaf, node, bind, nil, cons, replace, Assign, assigned, apply, tree_at, put, inst, size, Leaves, Occurs}
-use Rattle.type_relations.specs.Relation.{IsGround, StaysWithin}
+use Rattle.type_relations.specs.Relation.{IsValueLeaf, StaysWithin}
 
 -- Replacing twice.
 pub replace-replace : (f g : Leaf → Tree) (t : Tree) → replace f (replace g t) ≡ replace (λ l. replace f (g l)) t
@@ -51,11 +51,11 @@ Leaves-replace P f nil h = tt
 Leaves-replace P f (cons t u) h = (Leaves-replace P f t h.0, Leaves-replace P f u h.1)
 
 -- A ground tree is its own value.
-ground_leaf : (s : Assign) (l : Leaf) → IsGround l → assigned s l ≡ leaf l
+ground_leaf : (s : Assign) (l : Leaf) → IsValueLeaf l → assigned s l ≡ leaf l
 ground_leaf s (variable k n) h = absurd h
 ground_leaf s l h = refl
 
-pub apply_ground : (s : Assign) (t : Tree) → Leaves IsGround t → apply s t ≡ t
+pub apply_ground : (s : Assign) (t : Tree) → Leaves IsValueLeaf t → apply s t ≡ t
 apply_ground s t h = replace_alike (assigned s) leaf t (Leaves_map _ _ (ground_leaf s) t h) ∙ replace_leaf t
 
 -- Nothing is put where no variable is bound further out.

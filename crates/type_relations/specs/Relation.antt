@@ -180,12 +180,12 @@ IsValueAtom (fresh_const n) = ⊥
 IsValueAtom x = Unit {0}
 
 -- No variable, and nothing that stands for one.
-abbrev pub IsGround : Leaf → Type 0
-IsGround (variable k n) = ⊥
-IsGround (bound k d i) = Unit {0}
-IsGround (placeholder k u n) = Unit {0}
-IsGround (atom x) = IsValueAtom x
-IsGround unknown = ⊥
+abbrev pub IsValueLeaf : Leaf → Type 0
+IsValueLeaf (variable k n) = ⊥
+IsValueLeaf (bound k d i) = Unit {0}
+IsValueLeaf (placeholder k u n) = Unit {0}
+IsValueLeaf (atom x) = IsValueAtom x
+IsValueLeaf unknown = ⊥
 
 -- No variable bound further out than the tree's own binders, `depth` of them being passed already.
 abbrev pub StaysWithin : ℕ → Tree → Type 0
@@ -201,7 +201,7 @@ StaysWithin depth (cons t ts) = StaysWithin depth t × StaysWithin depth ts
 
 -- A variable-free term of a sort, without escaping bound variables.
 abbrev pub IsValue : Sort → Tree → Type 0
-IsValue s t = IsTerm s t × Leaves IsGround t × StaysWithin 0 t
+IsValue s t = IsTerm s t × Leaves IsValueLeaf t × StaysWithin 0 t
 
 -- A value for each variable of a binder.
 abbrev pub FitKinds : List BoundKind → List Tree → Type 0

@@ -7,7 +7,7 @@ use Rattle.relation_terms.specs.Heads.{BoundKind, VarKind, Head, variable}
 use Rattle.relation_terms.specs.Trees.{Tree, leaf, node, bind, nil, cons, Assign, apply, inst, Leaves, Occurs, IsList}
 use Rattle.relation_terms.specs.Trees.{count, nth}
 use Rattle.type_relations.specs.Relation.{Items, Interpretation, Way, at, parts, second_opened, first_opened, part_at}
-use Rattle.type_relations.specs.Relation.{plain, IsRelatedHead, IsGround, StaysWithin}
+use Rattle.type_relations.specs.Relation.{plain, IsRelatedHead, IsValueLeaf, StaysWithin}
 use Rattle.type_relations.specs.Stores.{Store, IsMade, IsNamable, IsAssignment, IsInScope, InContext, OnlyShrinks}
 use Rattle.type_relations.specs.Stores.{MeetsBindings, bound_term, resolved}
 use Rattle.type_relations.specs.Goals.{Goal, Holds, Relates}
@@ -17,7 +17,7 @@ use Rattle.type_relations.specs.Headline.{KeepsUnifiers}
 
 -- A variable-free term is its own value, so assigning values twice changes nothing more.
 abbrev pub AssigningTwice : Type 0
-AssigningTwice = (s s' : Assign) (t : Tree) → Leaves IsGround (apply s t) → apply s' (apply s t) ≡ apply s t
+AssigningTwice = (s s' : Assign) (t : Tree) → Leaves IsValueLeaf (apply s t) → apply s' (apply s t) ≡ apply s t
 
 -- Putting trees for a binder's variables commutes with assigning values that bind nothing outside themselves.
 abbrev pub InstantiatingAssigns : Type 0

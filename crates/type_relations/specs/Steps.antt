@@ -135,6 +135,7 @@ AreNewVariables before after u (k ∷ ks) [] = ⊥
 -- for whatever the universe can name.
 pub record Makes (before after : Store) (u : ℕ) (ks : List BoundKind) (variables : List Tree) : Type 0 where
   pub later : IsLater before after
+  pub stays_sound : IsSound before → IsSound after
   pub are_new : AreNewVariables before after u ks variables
   pub same_entries : (k : VarKind) (n : ℕ) → entry_of after k n ≡ entry_of before k n
   pub same_universes : (k : VarKind) (n : ℕ) → IsMade before k n → universe_of after k n ≡ universe_of before k n

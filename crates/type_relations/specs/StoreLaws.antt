@@ -4,7 +4,7 @@ use Rattle.relation_terms.specs.declared.terms.enums.Variance.{Variance}
 use Rattle.relation_terms.specs.Heads.{BoundKind, bound_sort, VarKind, int_var, float_var, region_var, var_sort}
 use Rattle.relation_terms.specs.Heads.{variable}
 use Rattle.relation_terms.specs.Trees.{Tree, leaf, Assign, apply, Leaves, Occurs}
-use Rattle.type_relations.specs.Relation.{Interpretation, IsGround, StaysWithin}
+use Rattle.type_relations.specs.Relation.{Interpretation, IsValueLeaf, StaysWithin}
 use Rattle.type_relations.specs.Stores.{Store, universe_of, MayStandFor, IsNamable, IsInScope, IsTermIn, IsSound}
 use Rattle.type_relations.specs.Stores.{Satisfies, ConstraintHolds, ConstraintIn, Constraint, resolved}
 use Rattle.type_relations.specs.Steps.{Equates, BindsTo, Instantiates, RefusesToInstantiate, MakesVariable}
@@ -68,7 +68,7 @@ MakingStaysSound = (before after : Store) (k : VarKind) (n u : ℕ) → MakesVar
 abbrev pub MadeIsUnconstrained : Type 0
 MadeIsUnconstrained = (before after : Store) (k : VarKind) (n u : ℕ) → MakesVariable before after k n u →
     IsSound before → (w : Interpretation) (s : Assign) (t : Tree) → Satisfies w before s →
-    MayStandFor k t → Leaves IsGround t → StaysWithin 0 t → Leaves (IsNamable u) t →
+    MayStandFor k t → Leaves IsValueLeaf t → StaysWithin 0 t → Leaves (IsNamable u) t →
     Extends before s (λ s'. Satisfies w after s' × (s' k n ≡ t))
 
 -- A constraint keeps exactly the assignments for which it holds.
@@ -89,5 +89,5 @@ ResolvedResolves = (st : Store) (t : Tree) → IsSound st → Resolves st t (app
 -- Making one variable is making the variables of a binder of one.
 abbrev pub MakingOneMakes : Type 0
 MakingOneMakes = (before after : Store) (k : BoundKind) (v : VarKind) (n u : ℕ) → MakesVariable before after v n u →
-    IsSound before → var_sort v ≡ bound_sort k →
+    u ≤ before.universe → IsSound before → var_sort v ≡ bound_sort k →
     (v ≡ int_var → ⊥) → (v ≡ float_var → ⊥) → Makes before after u (k ∷ []) (leaf (variable v n) ∷ [])

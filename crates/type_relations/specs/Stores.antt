@@ -5,7 +5,7 @@ use Rattle.relation_terms.specs.Heads.{region_sort, type_sort, const_sort, VarKi
 use Rattle.relation_terms.specs.Heads.{const_var, region_var, Atom, int_type, uint_type, float_type, Leaf, variable}
 use Rattle.relation_terms.specs.Heads.{bound, placeholder, atom, unknown}
 use Rattle.relation_terms.specs.Trees.{Tree, leaf, Assign, apply, Leaves, size, IsTerm}
-use Rattle.type_relations.specs.Relation.{Interpretation, Outlives, IsValueAtom, IsGround, StaysWithin}
+use Rattle.type_relations.specs.Relation.{Interpretation, Outlives, IsValueAtom, IsValueLeaf, StaysWithin}
 
 -- A constraint on regions: the first outlives the second, or both outlive each other.
 pub data Constraint : Type 0 where
@@ -85,7 +85,7 @@ IsNamable u unknown = ⊥
 -- Each variable of the context has a value of its kind, without variables and escaping bound variables, that names
 -- only what its universe can.
 abbrev pub IsAssignment : Store → Assign → Type 0
-IsAssignment st s = (k : VarKind) (n : ℕ) → IsMade st k n → MayStandFor k (s k n) × Leaves IsGround (s k n) ×
+IsAssignment st s = (k : VarKind) (n : ℕ) → IsMade st k n → MayStandFor k (s k n) × Leaves IsValueLeaf (s k n) ×
     StaysWithin 0 (s k n) × Leaves (IsNamable (universe_of st k n)) (s k n)
 
 -- A constraint holds of the assigned regions.
