@@ -76,7 +76,7 @@ module _ (before after : Store) (n : ℕ) (t u : Tree) (q : BindsTo before after
   same_weight = ap size again
 
   pub binding_goes_at : (N : ℕ) → weight before t ≤ N → Goes N before after
-  binding_goes_at N small = bound_goes before after type_var n u q g no_region stands u_in u_absent scope N (let h = same_weight in omega (arith, h, small))
+  binding_goes_at N small = bound_goes before after type_var n u q g no_region stands u_in u_absent scope tt N (let h = same_weight in omega (arith, h, small))
 
   pub binding_goes : Goes (weight before t) before after
   binding_goes = binding_goes_at (weight before t) (omega arith)

@@ -2,17 +2,19 @@
 use Rattle.std.proofs.Common.{◌≡◌, ◌⊎◌, ℕ, ◌*◌, ◌≤◌, ◌<◌, min, refl, sym, ap, ap₂, ◌∙◌, arith, inl, inr, subst, subst₂, Some, None, le_trans, le_of_eq}
 use Rattle.std.proofs.Math.Nat.{mul-le-mul}
 use native.Mathlib.Decide.{dec_le}
-use Rattle.relation_terms.specs.Heads.{VarKind, region_var, Leaf, variable, bound, placeholder, atom, unknown}
+use Rattle.relation_terms.specs.Heads.{VarKind, VarKind_discrete, region_var, Leaf, variable, bound, placeholder, atom, unknown}
 use Rattle.relation_terms.specs.Trees.{Tree, leaf, Assign, apply, Leaves, Occurs}
 use Rattle.type_relations.specs.Relation.{Interpretation}
-use Rattle.type_relations.specs.Stores.{Store, same_as, bound_to, entry_term, bound_term, universe_of, IsMade, IsInScope, IsNamable, MayStandFor, IsTermIn, IsSound, Satisfies, resolved, weight, counts_bound}
+use Rattle.type_relations.specs.Stores.{Store, same_as, bound_to, entry_term, bound_term, universe_of, IsMade, IsInScope, IsNamable, MayStandFor, IsTermIn, IsSound, Satisfies, resolved, weight, counts_bound, tally}
 use Rattle.type_relations.specs.Steps.{Equates, BindsTo, IsLater}
 use Rattle.type_relations.specs.Measures.{Goes}
 use Rattle.type_relations.proofs.Trees.{Leaves_map}
 use Rattle.type_relations.proofs.Only.{which}
 use Rattle.type_relations.proofs.Resolved.{resolved_free, resolved_weight}
 use Rattle.type_relations.proofs.Standing.{itself_stands, namable_mono, term_of_made}
-use Rattle.type_relations.proofs.Written.{sound_after, is_later, equal, keeps, weight_after, made_after, tally_more}
+use Rattle.type_relations.proofs.Written.{sound_after, is_later, equal, keeps, weight_after, made_after, kind_more, kinds_stand}
+use Rattle.type_relations.proofs.Tallies.{bound_more, bound_alike}
+use Rattle.type_relations.specs.ErasureLaws.{IsTypeOrConst}
 
 module _ (before after : Store) (k : VarKind) (child root : ℕ) (q : Equates before after k child root) (g : IsSound before) (not_region : k ≡ region_var → ⊥) where
   abbrev to : Tree
@@ -66,12 +68,19 @@ module _ (before after : Store) (k : VarKind) (child root : ℕ) (q : Equates be
   pub equated_later : IsLater before after
   equated_later = is_later before after k child (same_as root) to q.links refl equating_lowers
 
+  none_bound : (j : VarKind) → tally counts_bound (after.entries j) ≡ tally counts_bound (before.entries j)
+  none_bound j = go (VarKind_discrete j k)
+    where
+      go : Dec (j ≡ k) → tally counts_bound (after.entries j) ≡ tally counts_bound (before.entries j)
+      go (yes e) = subst (λ z. tally counts_bound (after.entries z) ≡ tally counts_bound (before.entries z)) (sym e) (let h = kind_more before after k child (same_as root) to q.links refl counts_bound refl in omega (arith, h))
+      go (no o) = kinds_stand before after k child (same_as root) to q.links refl counts_bound j o
+
   pub equated_goes : Goes 0 before after
   equated_goes = record {
     later = equated_later;
     spent = 0;
     counts = let b = q.same_budget in omega arith;
-    binds = tally_more before after k child (same_as root) to q.links refl counts_bound refl;
+    binds = (let h = bound_alike before after none_bound in omega (arith, h));
     grows = λ m u above below.
         let one : weight before to ≡ 1 = resolved_weight before k root root_free in
         let h : weight after u ≤ weight before u * 1 = subst (λ z. weight after u ≤ weight before u * z) one (weight_after before after k child (same_as root) to q.links refl g away u) in omega arith;
@@ -121,12 +130,12 @@ module _ (before after : Store) (k : VarKind) (n : ℕ) (t : Tree) (q : BindsTo 
   pub bound_later : IsLater before after
   bound_later = is_later before after k n (bound_to t) t q.writes refl no_higher
 
-  pub bound_goes : (size : ℕ) → weight before t ≤ size → Goes size before after
-  bound_goes size small = record {
+  pub bound_goes : IsTypeOrConst k → (size : ℕ) → weight before t ≤ size → Goes size before after
+  bound_goes counted size small = record {
     later = bound_later;
     spent = 1;
     counts = let b = q.one_spent in omega arith;
-    binds = tally_more before after k n (bound_to t) t q.writes refl counts_bound refl;
+    binds = bound_more before after 1 k counted (kind_more before after k n (bound_to t) t q.writes refl counts_bound refl) (kinds_stand before after k n (bound_to t) t q.writes refl counts_bound);
     grows = λ m u above below.
         let h : weight after u ≤ weight before u * weight before t = weight_after before after k n (bound_to t) t q.writes refl g absent u in
         let d : weight before u * weight before t ≤ m * m = mul-le-mul below (le_trans small above) in le_trans h d;

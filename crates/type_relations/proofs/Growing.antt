@@ -11,7 +11,7 @@ use Rattle.type_relations.specs.Steps.{MakesVariable, AddsConstraint, IsLater}
 use Rattle.type_relations.proofs.Trees.{Leaves_map, apply_alike}
 use Rattle.type_relations.proofs.Resolved.{resolved_same, resolved_free}
 use Rattle.type_relations.proofs.Standing.{own_scope, later_term, later_constraint}
-use Rattle.type_relations.proofs.Tallies.{tally_append, all_more, all_alike}
+use Rattle.type_relations.proofs.Tallies.{tally_append, all_more, all_alike, bound_alike}
 
 pub entry_push : (es : List Entry) (m : ℕ) → get_or (es ++ unbound ∷ []) m unbound ≡ get_or es m unbound
 entry_push [] zero = refl
@@ -71,7 +71,14 @@ module _ (before after : Store) (k : VarKind) (n u : ℕ) (b : MakesVariable bef
       (λ j o. ap (tally f) (b.other_entries j o)) ∙ omega arith
 
   pub same_bound : all_bound after ≡ all_bound before
-  same_bound = same_tally counts_bound refl
+  same_bound = bound_alike before after each
+    where
+      each : (j : VarKind) → tally counts_bound (after.entries j) ≡ tally counts_bound (before.entries j)
+      each j = go (VarKind_discrete j k)
+        where
+          go : Dec (j ≡ k) → tally counts_bound (after.entries j) ≡ tally counts_bound (before.entries j)
+          go (yes e) = subst (λ z. tally counts_bound (after.entries z) ≡ tally counts_bound (before.entries z)) (sym e) (ap (tally counts_bound) b.entries_grow ∙ tally_append counts_bound (before.entries k) unbound ∙ omega arith)
+          go (no o) = ap (tally counts_bound) (b.other_entries j o)
 
   pub resolved_still : (j : VarKind) (m : ℕ) → resolved before j m ≡ resolved after j m
   resolved_still j m = resolved_same before after same_terms (sym (same_tally counts_term refl)) j m
@@ -179,7 +186,7 @@ module _ (before after : Store) (q : Constraint) (b : AddsConstraint before afte
   constraint_weight t = ap size (apply_alike (resolved before) (resolved after) t constraint_resolved)
 
   pub constraint_bound : all_bound after ≡ all_bound before
-  constraint_bound = all_alike counts_bound before after b.same_entries
+  constraint_bound = bound_alike before after (λ j. ap (tally counts_bound) (b.same_entries j))
 
   pub constraint_made : (j : VarKind) (m : ℕ) → IsMade before j m → IsMade after j m
   constraint_made j m h = subst (λ es. m < length es) (sym (b.same_entries j)) h

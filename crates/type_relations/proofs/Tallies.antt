@@ -1,7 +1,8 @@
 -- Counting entries.
 use Rattle.std.proofs.Common.{◌≡◌, ℕ, zero, suc, ◌+◌, ◌<◌, refl, ap, arith, List, [], ◌∷◌, ◌++◌, length, get_or}
 use Rattle.relation_terms.specs.Heads.{VarKind, type_var, int_var, float_var, const_var, region_var}
-use Rattle.type_relations.specs.Stores.{Store, Entry, unbound, tally, all_tally}
+use Rattle.type_relations.specs.Stores.{Store, Entry, unbound, tally, all_tally, counts_bound, all_bound}
+use Rattle.type_relations.specs.ErasureLaws.{IsTypeOrConst}
 
 pub tally_alike : (f : Entry → ℕ) (es fs : List Entry) → length fs ≡ length es → ((m : ℕ) → get_or fs m unbound ≡ get_or es m unbound) → tally f fs ≡ tally f es
 tally_alike f [] [] l h = refl
@@ -34,3 +35,16 @@ module _ (f : Entry → ℕ) (before after : Store) (c : ℕ) where
 
 pub all_alike : (f : Entry → ℕ) (before after : Store) → ((j : VarKind) → after.entries j ≡ before.entries j) → all_tally f after ≡ all_tally f before
 all_alike f before after h = let a = ap (tally f) (h type_var) in let b = ap (tally f) (h int_var) in let c = ap (tally f) (h float_var) in let d = ap (tally f) (h const_var) in let e = ap (tally f) (h region_var) in omega (arith, a, b, c, d, e)
+
+-- Of type and constant variables alone.
+module _ (before after : Store) where
+  pub bound_more : (c : ℕ) (k : VarKind) → IsTypeOrConst k → tally counts_bound (after.entries k) ≡ c + tally counts_bound (before.entries k) →
+      ((j : VarKind) → (j ≡ k → ⊥) → tally counts_bound (after.entries j) ≡ tally counts_bound (before.entries j)) → all_bound after ≡ c + all_bound before
+  bound_more c type_var i h o = let b = o const_var (λ q. cc) in omega (arith, h, b)
+  bound_more c const_var i h o = let b = o type_var (λ q. cc) in omega (arith, h, b)
+  bound_more c int_var i h o = absurd i
+  bound_more c float_var i h o = absurd i
+  bound_more c region_var i h o = absurd i
+
+  pub bound_alike : ((j : VarKind) → tally counts_bound (after.entries j) ≡ tally counts_bound (before.entries j)) → all_bound after ≡ all_bound before
+  bound_alike o = let a = o type_var in let b = o const_var in omega (arith, a, b)

@@ -30,10 +30,14 @@ module _ (before after : Store) (k : VarKind) (n : ℕ) (x : Entry) (t : Tree) (
   made_before j i h = subst (λ z. i < z) (w.as_many j) h
 
   -- What is counted of entries.
-  pub tally_more : (f : Entry → ℕ) → f unbound ≡ 0 → all_tally f after ≡ f x + all_tally f before
-  tally_more f z = all_more f before after (f x) k
-      (tally_written f (before.entries k) (after.entries k) n z (w.as_many k) w.made w.was_unbound (λ m o. w.others_stand k m (λ _ q. o q)) ∙ ap (λ y. f y + tally f (before.entries k)) w.written)
-      (λ j o. tally_alike f (before.entries j) (after.entries j) (w.as_many j) (λ m. w.others_stand j m (λ q _. o q)))
+  pub kind_more : (f : Entry → ℕ) → f unbound ≡ 0 → tally f (after.entries k) ≡ f x + tally f (before.entries k)
+  kind_more f z = tally_written f (before.entries k) (after.entries k) n z (w.as_many k) w.made w.was_unbound (λ m o. w.others_stand k m (λ _ q. o q)) ∙ ap (λ y. f y + tally f (before.entries k)) w.written
+
+  pub kinds_stand : (f : Entry → ℕ) (j : VarKind) → (j ≡ k → ⊥) → tally f (after.entries j) ≡ tally f (before.entries j)
+  kinds_stand f j o = tally_alike f (before.entries j) (after.entries j) (w.as_many j) (λ m. w.others_stand j m (λ q _. o q))
+
+  tally_more : (f : Entry → ℕ) → f unbound ≡ 0 → all_tally f after ≡ f x + all_tally f before
+  tally_more f z = all_more f before after (f x) k (kind_more f z) (kinds_stand f)
 
   counts_one : (y : Entry) → entry_term k y ≡ Some t → counts_term y ≡ 1
   counts_one unbound q = absurd (cc)

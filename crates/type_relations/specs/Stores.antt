@@ -150,12 +150,13 @@ abbrev pub all_tally : (Entry → ℕ) → Store → ℕ
 all_tally f st = tally f (st.entries type_var) + (tally f (st.entries int_var) + (tally f (st.entries float_var) +
     (tally f (st.entries const_var) + tally f (st.entries region_var))))
 
--- How many entries have a term, and how many variables are bound to one.
+-- How many entries have a term.
 abbrev pub all_taken : Store → ℕ
 all_taken st = all_tally counts_term st
 
+-- How many type and constant variables are bound to a term. Number variables are bound for nothing.
 abbrev pub all_bound : Store → ℕ
-all_bound st = all_tally counts_bound st
+all_bound st = tally counts_bound (st.entries type_var) + tally counts_bound (st.entries const_var)
 
 -- What each variable comes to.
 unfoldable pub resolved : Store → Assign
