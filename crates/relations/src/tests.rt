@@ -1,14 +1,20 @@
-//! What a run prints and answers, and what several calls on one context leave.
+//! What a run prints and answers, what several calls on one context leave, and how errors print.
+ghost use Rattle.relation_tools.specs.Faults.{KnowsError};
 
 use crate::asking::{Question, ask, build_pair, relate};
+use crate::printing::write_error;
 use crate::rows::{PARAMETERS, run};
 use crate::written::{Written, WrittenRegion};
 use relation_reference::context::RefCtxt;
 use relation_reference::interner::RefInterner;
-use relation_terms::terms::{Dup, Interner, TyVid, UintTy};
+use relation_terms::terms::{
+    Dup, ExternAbi, Interner, PredicatePolarity, RegionKind, RegionVid, Safety, TyKind, TyVid,
+    UintTy,
+};
+use relation_tools::error::{ExpectedFound, TypeError, TypeErrorOf};
 use std::alloc::AllocError;
-use std::io;
 use std::test::Fail;
+use std::{fmt, io};
 
 const U8: Written = Written::Uint(UintTy::U8);
 
@@ -211,5 +217,67 @@ fn a_bound_variable_has_its_type(rt: HostRuntime) -> Result<(), Fail> {
     assert_eq!(rt; ctx.inner.types.len(), 1);
     assert!(rt; ctx.binding(TyVid(0)) == Some(bound));
     assert_eq!(rt; ctx.budget_left(), 0);
+    Ok(())
+}
+
+// Whether an error prints as that text.
+fn prints<I: Interner>(cx: &I, error: TypeErrorOf<I>, expected: &str) -> Result<bool, fmt::Error>
+    requires { KnowsError (I.meaning cx.now) error }
+{
+    let mut text = String::new(cx.alloc());
+    write_error(cx, &[], &error, &mut text)?;
+    Ok(text.as_str() == expected)
+}
+
+fn small_parts_print<I: Interner>(cx: &I) -> Result<bool, fmt::Error> {
+    let sizes = TypeError::TupleSize(ExpectedFound::new(2, 3));
+    let polarities = ExpectedFound::new(PredicatePolarity::Positive, PredicatePolarity::Negative);
+    let safeties = ExpectedFound::new(Safety::Unsafe, Safety::Safe);
+    let conventions = ExpectedFound::new(ExternAbi::Rust, ExternAbi::C);
+    let variadic = TypeError::VariadicMismatch(ExpectedFound::new(true, false));
+    Ok(
+        prints(cx, TypeError::ForceInlineCast, "ForceInlineCast")?
+            && prints(
+                cx,
+                TypeError::ArgumentMutability(1),
+                "ArgumentMutability(1)",
+            )?
+            && prints(cx, sizes, "TupleSize(2, 3)")?
+            && prints(cx, variadic, "VariadicMismatch(true, false)")?
+            && prints(
+                cx,
+                TypeError::PolarityMismatch(polarities),
+                "PolarityMismatch(Positive, Negative)",
+            )?
+            && prints(
+                cx,
+                TypeError::SafetyMismatch(safeties),
+                "SafetyMismatch(Unsafe, Safe)",
+            )?
+            && prints(
+                cx,
+                TypeError::AbiMismatch(conventions),
+                "AbiMismatch(Rust, C)",
+            )?,
+    )
+}
+
+#[tactic(auto, using(relation_terms::proofs::Stays::knows_ty, relation_terms::proofs::Stays::knows_region))]
+fn terms_print<I: Interner>(cx: &mut I) -> Result<bool, Fail> {
+    let longer = cx.mk_region(RegionKind::ReStatic)?;
+    let shorter = cx.mk_region(RegionKind::ReVar(RegionVid(0)))?;
+    let regions = TypeError::RegionsDoesNotOutlive(longer, shorter);
+    let outlives = prints(cx, regions, "RegionsDoesNotOutlive('static, '?0)")?;
+    let expected = cx.mk_ty(TyKind::Bool)?;
+    let found = cx.mk_ty(TyKind::Char)?;
+    let types = TypeError::ArgumentSorts(ExpectedFound::new(expected, found), 1);
+    Ok(outlives && prints(cx, types, "ArgumentSorts(bool, char, 1)")?)
+}
+
+#[test]
+fn errors_print_their_parts(rt: HostRuntime) -> Result<(), Fail> {
+    let mut cx = RefInterner::new(rt.alloc());
+    assert!(rt; small_parts_print(&cx)?);
+    assert!(rt; terms_print(&mut cx)?);
     Ok(())
 }
