@@ -55,7 +55,8 @@ pub record IsFront (before after : Store) (i : ℕ) (a b : Tree) : Type 0 where
   pub keeps : (w : Interpretation) (s : Assign) → Satisfies w before s → apply s a ≡ apply s b → Satisfies w after s
 
 -- The error is one of a pair at some place of two lists.
-abbrev pub ErrorOfPlace : {Key Id Name : Type 0} → Meaning Key Id Name → Store → TypeError Key Id Name → Tree → Tree → Type 0
+abbrev pub ErrorOfPlace : {Key Id Name : Type 0} → Meaning Key Id Name → Store → TypeError Key Id Name → Tree →
+    Tree → Type 0
 ErrorOfPlace m st e a b = (i : ℕ) × (i < count a) × ErrorOf m st e (nth i a) (nth i b)
 
 -- What binding a root to a type answers: it is bound to what the type comes to; or nothing is bound, since the root

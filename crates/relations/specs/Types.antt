@@ -1,6 +1,7 @@
 -- What the types that rows write mean: their trees, and whether all that they name is there.
 use Rattle.std.specs.Prelude.{ℕ, ◌^◌, Bool, true, ◌&&◌, nat_lt, List, [], ◌∷◌, Option, Some, None, map, slice_get}
-use Rattle.relation_terms.specs.Heads.{type_var, region_var, variable, atom, unknown, bool_type, char_type, uint_type, static_region, early_region, slice, tuple, ref}
+use Rattle.relation_terms.specs.Heads.{type_var, region_var, variable, atom, unknown, bool_type, char_type, uint_type}
+use Rattle.relation_terms.specs.Heads.{static_region, early_region, slice, tuple, ref}
 use Rattle.relation_terms.specs.Trees.{Tree, leaf, node, nil, cons, list_tree}
 use Rattle.relation_terms.specs.declared.terms.enums.Mutability.TheVariants.{Not}
 use Rattle.relations.specs.declared.written.Parameter.{Parameter}

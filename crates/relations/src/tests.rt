@@ -1,7 +1,8 @@
-//! What a run prints and answers, and what several calls on one context leave.
+//! What a run prints and answers, what several calls on one context leave, and how errors print.
+ghost use Rattle.relation_tools.specs.Faults.{KnowsError};
 
 use crate::asking::{Question, ask, build_pair, relate};
-use crate::printing::write_ty;
+use crate::printing::{write_error, write_ty};
 use crate::rows::{PARAMETERS, run};
 use crate::written::{Written, WrittenRegion};
 use relation_reference::context::RefCtxt;
@@ -9,13 +10,16 @@ use relation_reference::interner::{ItemId, NoSpan, NodeKey, RefInterner};
 use relation_terms::predicate::{OutlivesPredicate, RegionConstraint, RegionEqPredicate};
 use relation_terms::terms::{
     AlternativesKey, ArgsKey, BoundVarsKey, BranchesKey, ClauseKey, ConstKey, Dup,
-    ExistentialPredicatesKey, GenericArgKind, Goal, IntTy, Interner, ParamEnvKey, PatKey,
-    PredicateKey, RegionKey, TyKey, TyKind, TyVid, UintTy, ValTreeKey,
+    ExistentialPredicatesKey, ExternAbi, GenericArgKind, Goal, IntTy, Interner, ParamEnvKey, PatKey,
+    PredicateKey, PredicatePolarity, RegionKey, RegionKind, RegionVid, Safety, TyKey, TyKind, TyVid,
+    UintTy, ValTreeKey,
 };
-use relation_tools::error::{ExpectedFound, OutOfMemory, RelateFault, TypeError};
+use relation_tools::error::{
+    ExpectedFound, OutOfMemory, RelateFault, RelateFaultOf, TypeError, TypeErrorOf,
+};
 use std::alloc::{AllocError, Global};
-use std::io;
 use std::test::Fail;
+use std::{fmt, io};
 
 const U8: Written = Written::Uint(UintTy::U8);
 
@@ -240,7 +244,8 @@ fn copies_equal_their_sources(rt: HostRuntime) {
     };
     assert!(rt; copies(&goal));
     let types = ExpectedFound::new(TyKey(NodeKey(6)), TyKey(NodeKey(7)));
-    assert!(rt; copies(&TypeError::Sorts(types)));
+    let error: TypeErrorOf<RefInterner> = TypeError::Sorts(types);
+    assert!(rt; copies(&error));
 }
 
 #[test]
@@ -258,7 +263,7 @@ fn copies_of_keys_equal_their_sources(rt: HostRuntime) {
 }
 
 // Grows by each kind of call.
-fn growths(alloc: Global) -> Result<usize, RelateFault<NodeKey>> {
+fn growths(alloc: Global) -> Result<usize, RelateFaultOf<RefInterner>> {
     let mut numbers = Vec::new(alloc);
     numbers.push(7u8)?;
     let text = String::from_str(alloc, "text")?;
@@ -268,9 +273,9 @@ fn growths(alloc: Global) -> Result<usize, RelateFault<NodeKey>> {
 #[test]
 fn faults_of_growths_and_errors(rt: HostRuntime) {
     assert!(rt; growths(rt.alloc()) == Ok(5));
-    let refused: RelateFault<NodeKey> = RelateFault::from(OutOfMemory::from(AllocError));
+    let refused: RelateFaultOf<RefInterner> = RelateFault::from(OutOfMemory::from(AllocError));
     assert!(rt; refused == RelateFault::Memory);
-    let error: TypeError<NodeKey> = TypeError::CyclicTy(TyKey(NodeKey(1)));
+    let error: TypeErrorOf<RefInterner> = TypeError::CyclicTy(TyKey(NodeKey(1)));
     let fault = RelateFault::from(error.dup());
     assert!(rt; fault == RelateFault::Unrelated(error));
 }
@@ -299,5 +304,67 @@ fn integer_types_print_their_names(rt: HostRuntime) -> Result<(), Fail> {
         write_ty(&cx, &PARAMETERS, &ty, &mut text)?;
         assert_eq!(rt; text.as_str(), *name);
     }
+    Ok(())
+}
+
+// Whether an error prints as that text.
+fn prints<I: Interner>(cx: &I, error: TypeErrorOf<I>, expected: &str) -> Result<bool, fmt::Error>
+    requires { KnowsError (I.meaning cx.now) error }
+{
+    let mut text = String::new(cx.alloc());
+    write_error(cx, &[], &error, &mut text)?;
+    Ok(text.as_str() == expected)
+}
+
+fn small_parts_print<I: Interner>(cx: &I) -> Result<bool, fmt::Error> {
+    let sizes = TypeError::TupleSize(ExpectedFound::new(2, 3));
+    let polarities = ExpectedFound::new(PredicatePolarity::Positive, PredicatePolarity::Negative);
+    let safeties = ExpectedFound::new(Safety::Unsafe, Safety::Safe);
+    let conventions = ExpectedFound::new(ExternAbi::Rust, ExternAbi::C);
+    let variadic = TypeError::VariadicMismatch(ExpectedFound::new(true, false));
+    Ok(
+        prints(cx, TypeError::ForceInlineCast, "ForceInlineCast")?
+            && prints(
+                cx,
+                TypeError::ArgumentMutability(1),
+                "ArgumentMutability(1)",
+            )?
+            && prints(cx, sizes, "TupleSize(2, 3)")?
+            && prints(cx, variadic, "VariadicMismatch(true, false)")?
+            && prints(
+                cx,
+                TypeError::PolarityMismatch(polarities),
+                "PolarityMismatch(Positive, Negative)",
+            )?
+            && prints(
+                cx,
+                TypeError::SafetyMismatch(safeties),
+                "SafetyMismatch(Unsafe, Safe)",
+            )?
+            && prints(
+                cx,
+                TypeError::AbiMismatch(conventions),
+                "AbiMismatch(Rust, C)",
+            )?,
+    )
+}
+
+#[tactic(auto, using(relation_terms::proofs::Stays::knows_ty, relation_terms::proofs::Stays::knows_region))]
+fn terms_print<I: Interner>(cx: &mut I) -> Result<bool, Fail> {
+    let longer = cx.mk_region(RegionKind::ReStatic)?;
+    let shorter = cx.mk_region(RegionKind::ReVar(RegionVid(0)))?;
+    let regions = TypeError::RegionsDoesNotOutlive(longer, shorter);
+    let outlives = prints(cx, regions, "RegionsDoesNotOutlive('static, '?0)")?;
+    let expected = cx.mk_ty(TyKind::Bool)?;
+    let found = cx.mk_ty(TyKind::Char)?;
+    let types = TypeError::ArgumentSorts(ExpectedFound::new(expected, found), 1);
+    Ok(outlives && prints(cx, types, "ArgumentSorts(bool, char, 1)")?)
+}
+
+#[test]
+fn errors_print_their_parts(rt: HostRuntime) -> Result<(), Fail> {
+    let mut cx = RefInterner::new(rt.alloc());
+    assert!(rt; small_parts_print(&cx)?);
+    assert!(rt; terms_print(&mut cx)?);
     Ok(())
 }

@@ -11,7 +11,8 @@ use Rattle.type_relations.specs.Relation.{Interpretation, Outlives, IsValueAtom,
 pub data Constraint : Type 0 where
   outlives_constraint equal_constraint : Tree → Tree → Constraint
 
--- What is recorded of a variable: nothing, that it is the same as another of its kind, or the term that it is bound to.
+-- What is recorded of a variable: nothing, that it is the same as another of its kind, or the term that it is bound
+-- to.
 pub data Entry : Type 0 where
   unbound : Entry
   same_as : ℕ → Entry
