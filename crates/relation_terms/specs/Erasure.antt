@@ -17,6 +17,7 @@ abbrev pub erase_kinded : Kind → Leaf → Leaf
 erase_kinded region_kind l = atom static_region
 erase_kinded k l = l
 
+-- A leaf without what is not compared.
 abbrev pub erase_leaf : Leaf → Leaf
 erase_leaf (variable region_var n) = atom static_region
 erase_leaf (variable k n) = variable k n
@@ -30,6 +31,7 @@ abbrev pub kept_parts : Head → Tree → Tree
 kept_parts value_type ts = nil
 kept_parts h ts = ts
 
+-- A tree without what is not compared.
 abbrev pub erase : Tree → Tree
 erase (leaf l) = leaf (erase_leaf l)
 erase (node h ts) = node h (kept_parts h (erase ts))

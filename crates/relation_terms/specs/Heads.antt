@@ -109,15 +109,19 @@ pub data Shape : Type 0 where
   one : Part → Shape
   row : List Part → Option Part → Shape
 
+-- One term of a sort.
 abbrev pub just : Sort → Shape
 just s = row (term_of s ∷ []) None
 
+-- Two terms.
 abbrev pub both : Sort → Sort → Shape
 both s t = row (term_of s ∷ term_of t ∷ []) None
 
+-- Any number of terms of one sort.
 abbrev pub many : Sort → Shape
 many s = row [] (Some (term_of s))
 
+-- A binder over one term.
 abbrev pub one_binder : Sort → Shape
 one_binder s = row (binder_of s ∷ []) None
 
@@ -215,6 +219,7 @@ head_sort normalizes_to = predicate_sort
 head_sort (alias_relate d) = predicate_sort
 head_sort environment = environment_sort
 
+-- The sort of an atom.
 abbrev pub atom_sort : Atom → Sort
 atom_sort bool_type = type_sort
 atom_sort char_type = type_sort
@@ -240,14 +245,17 @@ atom_sort (existential_auto d) = existential_sort
 atom_sort (unstable_feature d) = clause_sort
 atom_sort ambiguous = predicate_sort
 
+-- The sort that a kind of variables stands for.
 abbrev pub kind_sort : Kind → Sort
 kind_sort region_kind = region_sort
 kind_sort type_kind = type_sort
 kind_sort const_kind = const_sort
 
+-- The sort of a bound variable.
 abbrev pub bound_sort : BoundKind → Sort
 bound_sort (bound_kind k n) = kind_sort k
 
+-- The sort of an inference variable.
 abbrev pub var_sort : VarKind → Sort
 var_sort type_var = type_sort
 var_sort int_var = type_sort
@@ -255,6 +263,7 @@ var_sort float_var = type_sort
 var_sort const_var = const_sort
 var_sort region_var = region_sort
 
+-- The sort of a leaf.
 abbrev pub leaf_sort : Leaf → Sort
 leaf_sort (variable k n) = var_sort k
 leaf_sort (bound k d i) = bound_sort k

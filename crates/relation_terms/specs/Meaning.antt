@@ -67,6 +67,7 @@ pub record Extends {Key Id Name : Type 0} (m n : Meaning Key Id Name) : Type 0 w
   pub id : (d : Id) → n.id d ≡ m.id d
   pub name : (s : Name) → n.name s ≡ m.name s
 
+-- The tree of a variable.
 abbrev pub infer_tree : InferTy → Tree
 infer_tree (TyVar v) = leaf (variable type_var v.0)
 

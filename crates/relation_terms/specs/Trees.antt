@@ -17,6 +17,7 @@ abbrev pub list_tree : {A : Type 0} → (A → Tree) → List A → Tree
 list_tree f [] = nil
 list_tree f (x ∷ xs) = cons (f x) (list_tree f xs)
 
+-- Any leaf but the one of what is not known.
 abbrev pub is_known_leaf : Leaf → Bool
 is_known_leaf (variable k n) = true
 is_known_leaf (bound k d i) = true
@@ -46,6 +47,7 @@ Fits s t = ⊥
 abbrev pub IsTerm : Sort → Tree → Type 0
 IsTerm s t = Fits (one (term_of s)) t
 
+-- A list whose members are terms of a sort.
 abbrev pub AreTerms : Sort → Tree → Type 0
 AreTerms s t = Fits (row [] (Some (term_of s))) t
 
@@ -134,6 +136,7 @@ abbrev pub count : Tree → ℕ
 count (cons t ts) = suc (count ts)
 count t = 0
 
+-- The member at a place of a list.
 abbrev pub nth : ℕ → Tree → Tree
 nth zero (cons t ts) = t
 nth (suc i) (cons t ts) = nth i ts

@@ -76,6 +76,7 @@ abbrev pub IsTypeClosed : Head → Tree → Type 0
 IsTypeClosed value_type ts = Leaves IsClosedLeaf ts
 IsTypeClosed h ts = Unit {0}
 
+-- A first-order term: its leaves, forms and values are.
 abbrev pub IsFirstOrder : Tree → Type 0
 IsFirstOrder (leaf l) = IsFirstOrderLeaf l
 IsFirstOrder (node h ts) = IsFirstOrderHead h × IsList ts × IsTypeClosed h ts × IsFirstOrder ts

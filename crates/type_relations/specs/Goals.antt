@@ -17,6 +17,7 @@ pub record Goal : Type 0 where
   pub environment : Tree
   pub predicate : Tree
 
+-- The goal of a predicate in an environment.
 abbrev pub goal_of : Tree → Tree → Goal
 goal_of e p = record { environment = e; predicate = p }
 
@@ -28,12 +29,15 @@ goals_of m gs = map (λ g. goal_of (m.param_env g.param_env) (m.predicate g.pred
 abbrev pub subtype_predicate : Bool → Tree → Tree → Tree
 subtype_predicate a_is_expected a b = bind [] (node (subtype a_is_expected) (cons a (cons b nil)))
 
+-- That two terms, one an alias, are one or in order.
 abbrev pub alias_relate_predicate : AliasRelationDirection → Tree → Tree → Tree
 alias_relate_predicate d a b = bind [] (node (alias_relate d) (cons a (cons b nil)))
 
+-- That a type is well formed.
 abbrev pub well_formed_predicate : Tree → Tree
 well_formed_predicate t = bind [] (node well_formed (cons t nil))
 
+-- That too much was met to tell.
 abbrev pub ambiguous_predicate : Tree
 ambiguous_predicate = bind [] (leaf (atom ambiguous))
 
@@ -45,6 +49,7 @@ pub data Asked : Type 0 where
   asks_too_much : Asked
   asks_nothing : Asked
 
+-- What a predicate asks.
 abbrev pub asked : Tree → Asked
 asked (bind [] (node (subtype x) (cons a (cons b nil)))) = asks_subtype a b
 asked (bind [] (node (alias_relate d) (cons a (cons b nil)))) = asks_alias d a b
@@ -59,6 +64,7 @@ IsSo c w s e (asks_alias Equate a b) = IsEqualPair w e (apply s a) (apply s b)
 IsSo c w s e asks_too_much = ⊥
 IsSo c w s e asks_nothing = Unit {0}
 
+-- A goal is so under an assignment.
 abbrev pub Holds : Items → Interpretation → Assign → Goal → Type 0
 Holds c w s g = IsSo c w s g.environment (asked g.predicate)
 
@@ -73,6 +79,7 @@ HasOneTree s (asks_alias d a b) = apply s a ≡ apply s b
 HasOneTree s asks_too_much = Unit {0}
 HasOneTree s asks_nothing = Unit {0}
 
+-- The two sides of a goal are one tree, where it has two.
 abbrev pub MakesOneTree : Assign → Goal → Type 0
 MakesOneTree s g = HasOneTree s (asked g.predicate)
 
@@ -83,6 +90,7 @@ AsksNoPair (asks_alias d a b) = ⊥
 AsksNoPair asks_too_much = Unit {0}
 AsksNoPair asks_nothing = Unit {0}
 
+-- A goal that asks nothing of two terms.
 abbrev pub IsQuiet : Goal → Type 0
 IsQuiet g = AsksNoPair (asked g.predicate)
 

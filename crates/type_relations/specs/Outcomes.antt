@@ -44,6 +44,7 @@ pub record StepsTo (c : Items) (e : Tree) (before after : Store) (earlier added 
 abbrev pub NeverOne : Way → Store → Tree → Tree → Type 0
 NeverOne way before a b = (w : Interpretation) (s : Assign) → Satisfies w before s → AreOne way s a b → ⊥
 
+-- The same of two terms.
 abbrev pub NoEqualTerms : Store → Tree → Tree → Type 0
 NoEqualTerms before a b = (w : Interpretation) (s : Assign) → Satisfies w before s → apply s a ≡ apply s b → ⊥
 

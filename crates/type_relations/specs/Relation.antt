@@ -38,6 +38,7 @@ abbrev pub signature_variance : ℕ → Variance
 signature_variance zero = Contravariant
 signature_variance (suc i) = Covariant
 
+-- How a pointee varies with its pointer.
 abbrev pub pointee_variance : Mutability → Variance
 pointee_variance Not = Covariant
 pointee_variance Mut = Invariant
@@ -121,16 +122,18 @@ IsErrorAtom type_error = Unit {0}
 IsErrorAtom const_error = Unit {0}
 IsErrorAtom x = ⊥
 
+-- A type or constant that stands for an error.
 abbrev pub IsError : Tree → Type 0
 IsError (leaf (atom x)) = IsErrorAtom x
 IsError t = ⊥
 
--- An alias type or an unevaluated constant.
+-- The form of an alias type or of an unevaluated constant.
 abbrev pub IsAliasHead : Head → Type 0
 IsAliasHead (alias k d) = Unit {0}
 IsAliasHead (unevaluated d) = Unit {0}
 IsAliasHead h = ⊥
 
+-- An alias type or an unevaluated constant.
 abbrev pub IsAlias : Tree → Type 0
 IsAlias (node h ts) = IsAliasHead h
 IsAlias t = ⊥
@@ -214,6 +217,7 @@ FitKinds (k ∷ ks) [] = ⊥
 abbrev pub Avoids : Tree → Tree → Type 0
 Avoids p t = Leaves (λ l. leaf l ≢ p) t
 
+-- A tree that is none of a list.
 abbrev pub AvoidsAll : Tree → List Tree → Type 0
 AvoidsAll p [] = Unit {0}
 AvoidsAll p (q ∷ qs) = (q ≢ p) × AvoidsAll p qs

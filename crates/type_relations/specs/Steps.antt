@@ -82,12 +82,13 @@ pub record ChangesNothing (before after : Store) : Type 0 where
   pub universe_stands : before.universe ≤ after.universe
   pub same_budget : after.budget ≡ before.budget
 
--- A number variable was bound to a type of its kind, for nothing of the budget.
+-- A type for a kind of number variables.
 abbrev pub IsNumberFor : VarKind → Tree → Type 0
 IsNumberFor int_var (leaf (atom x)) = IsIntegerAtom x
 IsNumberFor float_var (leaf (atom x)) = IsFloatAtom x
 IsNumberFor k t = ⊥
 
+-- A number variable was bound to a type of its kind, for nothing of the budget.
 pub record InstantiatesNumber (before after : Store) (k : VarKind) (n : ℕ) (t : Tree) : Type 0 where
   pub writes : WritesEntry before after k n (bound_to t)
   pub fits : IsNumberFor k t
@@ -101,10 +102,11 @@ pub record Resolves (st : Store) (t answer : Tree) : Type 0 where
   pub same_value : (w : Interpretation) (s : Assign) → Satisfies w st s → apply s answer ≡ apply s t
   pub same_erased : (s : Assign) → IsErasedSolution st s → Unifies s answer t
 
--- The two assignments agree on the variables of a store, wholly or up to erasure.
+-- The two assignments agree on the variables of a store.
 abbrev pub AgreeOn : Store → Assign → Assign → Type 0
 AgreeOn st s s' = (k : VarKind) (n : ℕ) → IsMade st k n → s k n ≡ s' k n
 
+-- They agree up to erasure.
 abbrev pub AgreeErased : Store → Assign → Assign → Type 0
 AgreeErased st s s' = (k : VarKind) (n : ℕ) → IsMade st k n → erase (s k n) ≡ erase (s' k n)
 
@@ -173,6 +175,7 @@ pub record LeavesBody (before after : Store) (body opened : Tree) : Type 0 where
   pub body_is : opened ≡ body
   pub same_universe : after.universe ≡ before.universe
 
+-- A binder was opened with placeholders, or left where its body uses none.
 pub record EntersForall (before after : Store) (ks : List BoundKind) (body opened : Tree) : Type 0 where
   pub changes_nothing : ChangesNothing before after
   pub opens : LeavesBody before after body opened ⊎ ((StaysWithin 0 body → ⊥) ×

@@ -28,6 +28,7 @@ pub record Store : Type 0 where
   pub tainted : Bool
   pub budget : ℕ
 
+-- The entry of a variable; of one that is not made, none.
 abbrev pub entry_of : Store → VarKind → ℕ → Entry
 entry_of st k n = get_or (st.entries k) n unbound
 
@@ -37,9 +38,11 @@ entry_term k unbound = None
 entry_term k (same_as m) = Some (leaf (variable k m))
 entry_term k (bound_to t) = Some t
 
+-- The term that a variable has.
 abbrev pub bound_term : Store → VarKind → ℕ → Option Tree
 bound_term st k n = entry_term k (entry_of st k n)
 
+-- A variable's universe.
 abbrev pub universe_of : Store → VarKind → ℕ → ℕ
 universe_of st k n = get_or (st.universes k) n 0
 
@@ -47,21 +50,24 @@ universe_of st k n = get_or (st.universes k) n 0
 abbrev pub IsMade : Store → VarKind → ℕ → Type 0
 IsMade st k n = n < length (st.entries k)
 
+-- An integer type.
 abbrev pub IsIntegerAtom : Atom → Type 0
 IsIntegerAtom (int_type w) = Unit {0}
 IsIntegerAtom (uint_type w) = Unit {0}
 IsIntegerAtom x = ⊥
 
+-- A float type.
 abbrev pub IsFloatAtom : Atom → Type 0
 IsFloatAtom (float_type w) = Unit {0}
 IsFloatAtom x = ⊥
 
--- An integer type or an integer variable, and the same of floats.
+-- An integer type or an integer variable.
 abbrev pub IsIntegerTerm : Tree → Type 0
 IsIntegerTerm (leaf (variable int_var n)) = Unit {0}
 IsIntegerTerm (leaf (atom x)) = IsIntegerAtom x
 IsIntegerTerm t = ⊥
 
+-- A float type or a float variable.
 abbrev pub IsFloatTerm : Tree → Type 0
 IsFloatTerm (leaf (variable float_var n)) = Unit {0}
 IsFloatTerm (leaf (atom x)) = IsFloatAtom x
@@ -131,22 +137,24 @@ abbrev pub rounds_for : ℕ → ℕ
 rounds_for zero = 0
 rounds_for (suc n) = suc (rounds_for n + rounds_for n)
 
--- Whether an entry has a term, and whether it is one that a variable was bound to, as numbers.
+-- One for an entry that has a term.
 abbrev pub counts_term : Entry → ℕ
 counts_term unbound = 0
 counts_term (same_as m) = 1
 counts_term (bound_to t) = 1
 
+-- One for the entry of a variable that is bound to a term.
 abbrev pub counts_bound : Entry → ℕ
 counts_bound unbound = 0
 counts_bound (same_as m) = 0
 counts_bound (bound_to t) = 1
 
--- The sum over the entries of a list, and over those of a store.
+-- The sum over the entries of a list.
 abbrev pub tally : (Entry → ℕ) → List Entry → ℕ
 tally f [] = 0
 tally f (e ∷ es) = f e + tally f es
 
+-- The same over the variables of all kinds.
 abbrev pub all_tally : (Entry → ℕ) → Store → ℕ
 all_tally f st = tally f (st.entries type_var) + (tally f (st.entries int_var) + (tally f (st.entries float_var) +
     (tally f (st.entries const_var) + tally f (st.entries region_var))))
@@ -175,6 +183,7 @@ IsMadeLeaf st (placeholder k u n) = Unit {0}
 IsMadeLeaf st (atom x) = IsValueAtom x
 IsMadeLeaf st unknown = ⊥
 
+-- A term over the variables of a context.
 unfoldable pub InContext : Store → Tree → Type 0
 InContext st t = Leaves (IsMadeLeaf st) t
 
@@ -194,6 +203,7 @@ IsTermIn st t = InContext st t × StaysWithin 0 t × Leaves (IsNamable st.univer
 abbrev pub IsRegionIn : Store → Tree → Type 0
 IsRegionIn st r = IsTerm region_sort r × IsTermIn st r
 
+-- A constraint on regions of the context.
 abbrev pub ConstraintIn : Store → Constraint → Type 0
 ConstraintIn st (outlives_constraint a b) = IsRegionIn st a × IsRegionIn st b
 ConstraintIn st (equal_constraint a b) = IsRegionIn st a × IsRegionIn st b

@@ -109,7 +109,7 @@ relate_members-returns-in_err-relate_tys g t c =
       grown = extends_on inv.grown c.relate_tys.ensures.grown;
       goes = goes_then inv.goes c.relate_tys.ensures.goes up;
       answers = error_answered_all p (Unit {0}) st last ts us c.from_residual.result e c.from_residual.ensures.0 c.from_residual.ensures.1
-      (front_error st now i ts us x y less less' ex ey inv.front p (Unit {0}) (Unit {0}) last e c.in_err-relate_tys.ensures.answers);
+          (front_error st now i ts us x y less less' ex ey inv.front p (Unit {0}) (Unit {0}) last e c.in_err-relate_tys.ensures.answers);
       why_known = passed_known p c.from_residual.result e c.from_residual.ensures.0 c.from_residual.ensures.1 c.in_err-relate_tys.ensures.why_known;
     }
 
@@ -242,8 +242,8 @@ relate_tys-returns-in-Some-ty_var g t c =
       grown = subst (Extends m) (sym e) (stays_same m);
       goes = subst (λ z. Goes (weight st a + weight st b) st (store_of z new)) (sym e) (goes_within (omega arith) gone);
       answers = subst (λ z. Unites st (store_of z new) a b) (sym e) (unites_alike st later a b (leaf (variable type_var x)) (leaf (variable type_var y)) gone.later.shrinks
-      (subst (IsReadAs st a) c.in-Some.ensures.is c.shallow_resolve-left.ensures.reads) (subst (IsReadAs st b) c.in-Some-ty_var.ensures.is c.shallow_resolve-right.ensures.reads)
-      (roots_unite st later x y sound stays done.equates));
+          (subst (IsReadAs st a) c.in-Some.ensures.is c.shallow_resolve-left.ensures.reads) (subst (IsReadAs st b) c.in-Some-ty_var.ensures.is c.shallow_resolve-right.ensures.reads)
+          (roots_unite st later x y sound stays done.equates));
       why_known = tt;
       same = λ e. absurd (false≢true (c.if-eq.ensures ∙ (g.met.I.Interner.same_ty c.args.self.now.interner c.args.a.now c.args.b.now c.requires.a_known c.requires.b_known).1 e));
     }
@@ -268,8 +268,8 @@ relate_tys-returns-in_err-bound-in-None-ty_var g t c =
       grown = c.instantiate_ty_var_raw.ensures.grown;
       goes = goes_within (omega (arith, above)) nothing;
       answers = answered_alike o st mid a b (leaf (variable type_var v)) u c.from_residual.result sound nothing.later read c.shallow_resolve-right.ensures.reads
-      (error_answered o (Unit {0}) st mid (leaf (variable type_var v)) u c.from_residual.result c.in_err-bound-in-None-ty_var.field-0.0 c.from_residual.ensures.0 c.from_residual.ensures.1
-      (instantiated_refused o st mid v u (Unit {0}) c.in_err-bound-in-None-ty_var.field-0.0 c.in-None-ty_var.ensures.formed c.in_err-bound-in-None-ty_var.ensures.answers));
+          (error_answered o (Unit {0}) st mid (leaf (variable type_var v)) u c.from_residual.result c.in_err-bound-in-None-ty_var.field-0.0 c.from_residual.ensures.0 c.from_residual.ensures.1
+          (instantiated_refused o st mid v u (Unit {0}) c.in_err-bound-in-None-ty_var.field-0.0 c.in-None-ty_var.ensures.formed c.in_err-bound-in-None-ty_var.ensures.answers));
       why_known = passed_known o c.from_residual.result c.in_err-bound-in-None-ty_var.field-0.0 c.from_residual.ensures.0 c.from_residual.ensures.1 c.in_err-bound-in-None-ty_var.ensures.why_known;
       same = λ e. absurd (false≢true (c.if-eq.ensures ∙ (g.met.I.Interner.same_ty c.args.self.now.interner c.args.a.now c.args.b.now c.requires.a_known c.requires.b_known).1 e));
     }
@@ -355,8 +355,8 @@ relate_tys-returns-in_err-bound-in-Some-ty_var-2 g t c =
       grown = c.instantiate_ty_var_raw-in-Some-ty_var-2.ensures.grown;
       goes = goes_within (omega (arith, above)) nothing;
       answers = answered_alike o st mid a b u (leaf (variable type_var v)) c.from_residual-in_err-bound-in-Some-ty_var-2.result sound nothing.later c.shallow_resolve-left.ensures.reads read
-      (error_answered o (Unit {0}) st mid u (leaf (variable type_var v)) c.from_residual-in_err-bound-in-Some-ty_var-2.result c.in_err-bound-in-Some-ty_var-2.field-0.0 c.from_residual-in_err-bound-in-Some-ty_var-2.ensures.0 c.from_residual-in_err-bound-in-Some-ty_var-2.ensures.1
-      (instantiated_refused_back o st mid v u (Unit {0}) c.in_err-bound-in-Some-ty_var-2.field-0.0 c.in-None.ensures.formed c.in_err-bound-in-Some-ty_var-2.ensures.answers));
+          (error_answered o (Unit {0}) st mid u (leaf (variable type_var v)) c.from_residual-in_err-bound-in-Some-ty_var-2.result c.in_err-bound-in-Some-ty_var-2.field-0.0 c.from_residual-in_err-bound-in-Some-ty_var-2.ensures.0 c.from_residual-in_err-bound-in-Some-ty_var-2.ensures.1
+          (instantiated_refused_back o st mid v u (Unit {0}) c.in_err-bound-in-Some-ty_var-2.field-0.0 c.in-None.ensures.formed c.in_err-bound-in-Some-ty_var-2.ensures.answers));
       why_known = passed_known o c.from_residual-in_err-bound-in-Some-ty_var-2.result c.in_err-bound-in-Some-ty_var-2.field-0.0 c.from_residual-in_err-bound-in-Some-ty_var-2.ensures.0 c.from_residual-in_err-bound-in-Some-ty_var-2.ensures.1 c.in_err-bound-in-Some-ty_var-2.ensures.why_known;
       same = λ e. absurd (false≢true (c.if-eq.ensures ∙ (g.met.I.Interner.same_ty c.args.self.now.interner c.args.a.now c.args.b.now c.requires.a_known c.requires.b_known).1 e));
     }
