@@ -10,9 +10,9 @@ use relation_reference::interner::{ItemId, NoSpan, NodeKey, RefInterner};
 use relation_terms::predicate::{OutlivesPredicate, RegionConstraint, RegionEqPredicate};
 use relation_terms::terms::{
     AlternativesKey, ArgsKey, BoundVarsKey, BranchesKey, ClauseKey, ConstKey, Dup,
-    ExistentialPredicatesKey, ExternAbi, GenericArgKind, Goal, IntTy, Interner, ParamEnvKey, PatKey,
-    PredicateKey, PredicatePolarity, RegionKey, RegionKind, RegionVid, Safety, TyKey, TyKind, TyVid,
-    UintTy, ValTreeKey,
+    ExistentialPredicatesKey, ExternAbi, GenericArgKind, Goal, IntTy, Interner, ParamEnvKey,
+    PatKey, PredicateKey, PredicatePolarity, RegionKey, RegionKind, RegionVid, Safety, TyKey,
+    TyKind, TyVid, UintTy, ValTreeKey,
 };
 use relation_tools::error::{
     ExpectedFound, OutOfMemory, RelateFault, RelateFaultOf, TypeError, TypeErrorOf,
