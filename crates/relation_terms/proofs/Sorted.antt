@@ -1,14 +1,31 @@
 -- The tree of a known form is a term of its sort, where those of known keys are.
 use Rattle.std.proofs.Common.{IsTrue, true, ◌&&◌, List, [], ◌∷◌, refl}
 use Rattle.std.proofs.lemmas.Bool.{and_parts}
-use Rattle.relation_terms.specs.Heads.{Sort, type_sort, region_sort, environment_sort, environment}
-use Rattle.relation_terms.specs.Trees.{Tree, node, nil, known, list_tree, IsTerm, AreTerms}
-use Rattle.relation_terms.specs.Meaning.{Meaning, kind_tree, region_tree}
+use Rattle.relation_terms.specs.Heads.{Sort, type_sort, region_sort, const_sort, value_sort, argument_sort}
+use Rattle.relation_terms.specs.Heads.{environment_sort, environment, Admits, leaf_sort, head_sort}
+use Rattle.relation_terms.specs.Trees.{Tree, leaf, node, nil, known, list_tree, IsTerm, AreTerms}
+use Rattle.relation_terms.specs.Meaning.{Meaning, kind_tree, region_tree, const_tree, valtree_tree, arg_tree}
 use Rattle.relation_terms.specs.declared.terms.keys.TyKey.{TyKey}
 use Rattle.relation_terms.specs.declared.terms.keys.RegionKey.{RegionKey}
+use Rattle.relation_terms.specs.declared.terms.keys.ConstKey.{ConstKey}
+use Rattle.relation_terms.specs.declared.terms.keys.ArgsKey.{ArgsKey}
 use Rattle.relation_terms.specs.declared.terms.keys.TysKey.{TysKey}
+use Rattle.relation_terms.specs.declared.terms.keys.ValTreeKey.{ValTreeKey}
+use Rattle.relation_terms.specs.declared.terms.keys.BranchesKey.{BranchesKey}
+use Rattle.relation_terms.specs.declared.terms.generic_arg.GenericArgKind.{GenericArgKind}
+use Rattle.relation_terms.specs.declared.terms.generic_arg.GenericArgKind.TheVariants.{Lifetime, Ty, Const}
 use Rattle.relation_terms.specs.declared.terms.ty_kind.TyKind.{TyKind}
-use Rattle.relation_terms.specs.declared.terms.ty_kind.TyKind.TheVariants.{Bool, Char, Int, Uint, Slice, Tuple, Ref, Infer}
+use Rattle.relation_terms.specs.declared.terms.ty_kind.TyKind.TheVariants.{Bool, Char, Int, Uint, Float, Adt, Foreign}
+use Rattle.relation_terms.specs.declared.terms.ty_kind.TyKind.TheVariants.{Str, Array, Slice, RawPtr, Ref, FnDef}
+use Rattle.relation_terms.specs.declared.terms.ty_kind.TyKind.TheVariants.{Closure, CoroutineClosure, Coroutine}
+use Rattle.relation_terms.specs.declared.terms.ty_kind.TyKind.TheVariants.{CoroutineWitness, Never, Tuple, Infer}
+use Rattle.relation_terms.specs.declared.terms.ty_kind.TyKind.TheVariants.{Param as TyParam, Placeholder as TyPlaceholder}
+use Rattle.relation_terms.specs.declared.terms.const_kind.ConstKind.{ConstKind}
+use Rattle.relation_terms.specs.declared.terms.const_kind.ConstKind.TheVariants.{Param as ConstParam}
+use Rattle.relation_terms.specs.declared.terms.const_kind.ConstKind.TheVariants.{Placeholder as ConstPlaceholder}
+use Rattle.relation_terms.specs.declared.terms.const_kind.ConstKind.TheVariants.{Value, Expr}
+use Rattle.relation_terms.specs.declared.terms.const_kind.ValTreeKind.{ValTreeKind}
+use Rattle.relation_terms.specs.declared.terms.const_kind.ValTreeKind.TheVariants.{Leaf, Branch}
 use Rattle.relation_terms.specs.declared.terms.ty_kind.InferTy.TheVariants.{TyVar}
 use Rattle.relation_terms.specs.declared.terms.region_kind.RegionKind.{RegionKind}
 use Rattle.relation_terms.specs.declared.terms.region_kind.RegionKind.TheVariants.{ReStatic, ReEarlyParam, ReVar}
@@ -18,6 +35,10 @@ pub record Sorted {Key Id Name : Type 0} (m : Meaning Key Id Name) : Type 0 wher
   pub ty : (k : TyKey Key) → IsTrue (known (m.ty k)) → IsTerm type_sort (m.ty k)
   pub region : (k : RegionKey Key) → IsTrue (known (m.region k)) → IsTerm region_sort (m.region k)
   pub tys : (k : TysKey Key) → IsTrue (known (m.tys k)) → AreTerms type_sort (m.tys k)
+  pub const_ : (k : ConstKey Key) → IsTrue (known (m.const_ k)) → IsTerm const_sort (m.const_ k)
+  pub valtree : (k : ValTreeKey Key) → IsTrue (known (m.valtree k)) → IsTerm value_sort (m.valtree k)
+  pub args : (k : ArgsKey Key) → IsTrue (known (m.args k)) → AreTerms argument_sort (m.args k)
+  pub branches : (k : BranchesKey Key) → IsTrue (known (m.branches k)) → AreTerms const_sort (m.branches k)
 
 pub list_sorted : {A : Type 0} (s : Sort) (f : A → Tree) → ((x : A) → IsTrue (known (f x)) → IsTerm s (f x)) →
     (xs : List A) → IsTrue (known (list_tree f xs)) → AreTerms s (list_tree f xs)
@@ -25,6 +46,25 @@ list_sorted s f h [] k = tt
 list_sorted s f h (x ∷ xs) k =
     let p = and_parts (known (f x)) (known (list_tree f xs)) k in
     (h x p.0, list_sorted s f h xs p.1)
+
+-- A region, a type or a constant is an argument.
+widen : (s : Sort) → ((x : Sort) → Admits s x → Admits argument_sort x) → (t : Tree) → IsTerm s t →
+    IsTerm argument_sort t
+widen s f (leaf l) h = f (leaf_sort l) h
+widen s f (node x ts) h = (f (head_sort x) h.0, h.1)
+widen s f t h = absurd h
+
+region_admitted : (x : Sort) → Admits region_sort x → Admits argument_sort x
+region_admitted region_sort h = tt
+region_admitted x h = absurd h
+
+type_admitted : (x : Sort) → Admits type_sort x → Admits argument_sort x
+type_admitted type_sort h = tt
+type_admitted x h = absurd h
+
+const_admitted : (x : Sort) → Admits const_sort x → Admits argument_sort x
+const_admitted const_sort h = tt
+const_admitted x h = absurd h
 
 pub environment_sorted : IsTerm environment_sort (node environment nil)
 environment_sorted = (tt, tt)
@@ -41,15 +81,55 @@ module _ {Key Id Name : Type 0} (m : Meaning Key Id Name) where
   region_known (ReEarlyParam p) = refl
   region_known (ReVar v) = refl
 
-  pub kind_sorted : Sorted m → (f : TyKind Key) → IsTrue (known (kind_tree m f)) → IsTerm type_sort (kind_tree m f)
+  pub arg_sorted : Sorted m → (a : GenericArgKind Key) → IsTrue (known (arg_tree m a)) →
+      IsTerm argument_sort (arg_tree m a)
+  arg_sorted s (Lifetime r) k = widen region_sort region_admitted (m.region r) (s.region r k)
+  arg_sorted s (Ty t) k = widen type_sort type_admitted (m.ty t) (s.ty t k)
+  arg_sorted s (Const c) k = widen const_sort const_admitted (m.const_ c) (s.const_ c k)
+
+  pub kind_sorted : Sorted m → (f : TyKind Key Id Name) → IsTrue (known (kind_tree m f)) →
+      IsTerm type_sort (kind_tree m f)
   kind_sorted s Bool k = tt
   kind_sorted s Char k = tt
   kind_sorted s (Int w) k = tt
   kind_sorted s (Uint w) k = tt
+  kind_sorted s (Float w) k = tt
+  kind_sorted s (Adt d a) k = (tt, s.args a k)
+  kind_sorted s (Foreign d) k = tt
+  kind_sorted s Str k = tt
+  kind_sorted s (Array t c) k =
+      let p = and_parts (known (m.ty t)) (known (m.const_ c) && true) k in
+      let q = and_parts (known (m.const_ c)) true p.1 in
+      (tt, (s.ty t p.0, (s.const_ c q.0, tt)))
   kind_sorted s (Slice t) k = (tt, (s.ty t (and_parts (known (m.ty t)) true k).0, tt))
-  kind_sorted s (Tuple ts) k = (tt, s.tys ts k)
+  kind_sorted s (RawPtr t u) k = (tt, (s.ty t (and_parts (known (m.ty t)) true k).0, tt))
   kind_sorted s (Ref r t u) k =
       let p = and_parts (known (m.region r)) (known (m.ty t) && true) k in
       let q = and_parts (known (m.ty t)) true p.1 in
       (tt, (s.region r p.0, (s.ty t q.0, tt)))
+  kind_sorted s (FnDef d a) k = (tt, s.args a k)
+  kind_sorted s (Closure d a) k = (tt, s.args a k)
+  kind_sorted s (CoroutineClosure d a) k = (tt, s.args a k)
+  kind_sorted s (Coroutine d a) k = (tt, s.args a k)
+  kind_sorted s (CoroutineWitness d a) k = (tt, s.args a k)
+  kind_sorted s Never k = tt
+  kind_sorted s (Tuple ts) k = (tt, s.tys ts k)
+  kind_sorted s (TyParam p) k = tt
+  kind_sorted s (TyPlaceholder p) k = tt
   kind_sorted s (Infer (TyVar v)) k = tt
+
+  pub const_sorted : Sorted m → (f : ConstKind Key Name) → IsTrue (known (const_tree m f)) →
+      IsTerm const_sort (const_tree m f)
+  const_sorted s (ConstParam p) k = tt
+  const_sorted s (ConstPlaceholder p) k = tt
+  const_sorted s (Value t v) k =
+      let p = and_parts (known (m.ty t) && true) (known (m.valtree v) && true) k in
+      let q = and_parts (known (m.ty t)) true p.0 in
+      let r = and_parts (known (m.valtree v)) true p.1 in
+      (tt, ((tt, (s.ty t q.0, tt)), (s.valtree v r.0, tt)))
+  const_sorted s (Expr x a) k = (tt, s.args a k)
+
+  pub valtree_sorted : Sorted m → (f : ValTreeKind Key) → IsTrue (known (valtree_tree m f)) →
+      IsTerm value_sort (valtree_tree m f)
+  valtree_sorted s (Leaf b n) k = tt
+  valtree_sorted s (Branch b) k = (tt, s.branches b k)

@@ -1,19 +1,39 @@
 -- What an interner knows stays as it is while it grows.
 use Rattle.std.proofs.Common.{◌≡◌, IsTrue, true, ◌&&◌, List, [], ◌∷◌, IsSome, refl, ap, ap₂, sym, ◌∙◌, subst}
 use Rattle.std.proofs.lemmas.Bool.{and_parts}
-use Rattle.relation_terms.specs.Heads.{early_region, slice, tuple, ref, atom}
+use Rattle.relation_terms.specs.Heads.{bound_kind, type_kind, const_kind, early_region, type_param, const_param}
+use Rattle.relation_terms.specs.Heads.{foreign, adt, fn_def, closure, coroutine_closure, coroutine, coroutine_witness}
+use Rattle.relation_terms.specs.Heads.{array, slice, tuple, raw_ptr, ref, expression, value, value_type, value_branch}
+use Rattle.relation_terms.specs.Heads.{placeholder, atom}
 use Rattle.relation_terms.specs.Trees.{Tree, leaf, node, nil, cons, known, list_tree}
-use Rattle.relation_terms.specs.Meaning.{Meaning, Extends, kind_tree, region_tree, arg_tree}
+use Rattle.relation_terms.specs.Meaning.{Meaning, Extends, kind_tree, region_tree, const_tree, valtree_tree, arg_tree}
+use Rattle.relation_terms.specs.Meaning.{term_tree}
 use Rattle.relation_terms.specs.declared.terms.keys.TyKey.{TyKey}
 use Rattle.relation_terms.specs.declared.terms.keys.RegionKey.{RegionKey}
 use Rattle.relation_terms.specs.declared.terms.keys.TysKey.{TysKey}
+use Rattle.relation_terms.specs.declared.terms.keys.ConstKey.{ConstKey}
+use Rattle.relation_terms.specs.declared.terms.keys.ArgsKey.{ArgsKey}
+use Rattle.relation_terms.specs.declared.terms.keys.ValTreeKey.{ValTreeKey}
+use Rattle.relation_terms.specs.declared.terms.keys.BranchesKey.{BranchesKey}
 use Rattle.relation_terms.specs.declared.terms.keys.ParamEnvKey.{ParamEnvKey}
 use Rattle.relation_terms.specs.declared.terms.ty_kind.TyKind.{TyKind}
-use Rattle.relation_terms.specs.declared.terms.ty_kind.TyKind.TheVariants.{Bool, Char, Int, Uint, Slice, Tuple, Ref, Infer}
+use Rattle.relation_terms.specs.declared.terms.ty_kind.TyKind.TheVariants.{Bool, Char, Int, Uint, Float, Adt, Foreign}
+use Rattle.relation_terms.specs.declared.terms.ty_kind.TyKind.TheVariants.{Str, Array, Slice, RawPtr, Ref, FnDef}
+use Rattle.relation_terms.specs.declared.terms.ty_kind.TyKind.TheVariants.{Closure, CoroutineClosure, Coroutine}
+use Rattle.relation_terms.specs.declared.terms.ty_kind.TyKind.TheVariants.{CoroutineWitness, Never, Tuple, Infer}
+use Rattle.relation_terms.specs.declared.terms.ty_kind.TyKind.TheVariants.{Param as TyParam, Placeholder as TyPlaceholder}
+use Rattle.relation_terms.specs.declared.terms.const_kind.ConstKind.{ConstKind}
+use Rattle.relation_terms.specs.declared.terms.const_kind.ConstKind.TheVariants.{Param as ConstParam}
+use Rattle.relation_terms.specs.declared.terms.const_kind.ConstKind.TheVariants.{Placeholder as ConstPlaceholder}
+use Rattle.relation_terms.specs.declared.terms.const_kind.ConstKind.TheVariants.{Value, Expr}
+use Rattle.relation_terms.specs.declared.terms.const_kind.ValTreeKind.{ValTreeKind}
+use Rattle.relation_terms.specs.declared.terms.const_kind.ValTreeKind.TheVariants.{Leaf, Branch}
 use Rattle.relation_terms.specs.declared.terms.region_kind.RegionKind.{RegionKind}
 use Rattle.relation_terms.specs.declared.terms.region_kind.RegionKind.TheVariants.{ReStatic, ReEarlyParam, ReVar}
 use Rattle.relation_terms.specs.declared.terms.generic_arg.GenericArgKind.{GenericArgKind}
 use Rattle.relation_terms.specs.declared.terms.generic_arg.GenericArgKind.TheVariants.{Lifetime, Ty, Const}
+use Rattle.relation_terms.specs.declared.terms.generic_arg.TermKind.{TermKind}
+use Rattle.relation_terms.specs.declared.terms.generic_arg.TermKind.TheVariants.{Ty as TyTerm, Const as ConstTerm}
 
 -- Of equal trees both are known or neither.
 pub knows_as : (t u : Tree) → u ≡ t → IsTrue (known t) → IsTrue (known u)
@@ -37,6 +57,8 @@ stays_same m = record {
   param_env = λ k h. refl;
   id = λ k. refl;
   name = λ k. refl;
+  generics = λ d. refl;
+  variances = λ d. refl;
 }
 
 -- A step and the steps after it, at one key.
@@ -65,6 +87,8 @@ module _ {Key Id Name : Type 0} {m n o : Meaning Key Id Name} where
     param_env = λ k. on m.param_env n.param_env o.param_env k (e.param_env k) (f.param_env k);
     id = λ d. f.id d ∙ e.id d;
     name = λ s. f.name s ∙ e.name s;
+    generics = λ d. f.generics d ∙ e.generics d;
+    variances = λ d. f.variances d ∙ e.variances d;
   }
 
 -- What is known stays known.
@@ -77,6 +101,18 @@ module _ {Key Id Name : Type 0} {m n : Meaning Key Id Name} (e : Extends m n) wh
 
   pub knows_tys : (k : TysKey Key) → IsTrue (known (m.tys k)) → IsTrue (known (n.tys k))
   knows_tys k h = knows_as (m.tys k) (n.tys k) (e.tys k h) h
+
+  pub knows_const : (k : ConstKey Key) → IsTrue (known (m.const_ k)) → IsTrue (known (n.const_ k))
+  knows_const k h = knows_as (m.const_ k) (n.const_ k) (e.const_ k h) h
+
+  pub knows_args : (k : ArgsKey Key) → IsTrue (known (m.args k)) → IsTrue (known (n.args k))
+  knows_args k h = knows_as (m.args k) (n.args k) (e.args k h) h
+
+  pub knows_valtree : (k : ValTreeKey Key) → IsTrue (known (m.valtree k)) → IsTrue (known (n.valtree k))
+  knows_valtree k h = knows_as (m.valtree k) (n.valtree k) (e.valtree k h) h
+
+  pub knows_branches : (k : BranchesKey Key) → IsTrue (known (m.branches k)) → IsTrue (known (n.branches k))
+  knows_branches k h = knows_as (m.branches k) (n.branches k) (e.branches k h) h
 
   pub knows_param_env : (k : ParamEnvKey Key) → IsTrue (known (m.param_env k)) → IsTrue (known (n.param_env k))
   knows_param_env k h = knows_as (m.param_env k) (n.param_env k) (e.param_env k h) h
@@ -96,19 +132,60 @@ module _ {Key Id Name : Type 0} {m n : Meaning Key Id Name} (e : Extends m n) wh
   stays_arg (Ty t) k = e.ty t k
   stays_arg (Const c) k = e.const_ c k
 
-  pub stays_kind : (a : TyKind Key) → IsTrue (known (kind_tree m a)) → kind_tree n a ≡ kind_tree m a
+  pub knows_arg : (a : GenericArgKind Key) → IsTrue (known (arg_tree m a)) → IsTrue (known (arg_tree n a))
+  knows_arg a h = knows_as (arg_tree m a) (arg_tree n a) (stays_arg a h) h
+
+  pub stays_term : (a : TermKind Key) → IsTrue (known (term_tree m a)) → term_tree n a ≡ term_tree m a
+  stays_term (TyTerm t) k = e.ty t k
+  stays_term (ConstTerm c) k = e.const_ c k
+
+  pub stays_kind : (a : TyKind Key Id Name) → IsTrue (known (kind_tree m a)) → kind_tree n a ≡ kind_tree m a
   stays_kind Bool k = refl
   stays_kind Char k = refl
   stays_kind (Int w) k = refl
   stays_kind (Uint w) k = refl
+  stays_kind (Float w) k = refl
+  stays_kind (Adt d a) k = ap₂ (λ x y. node (adt x) y) (e.id d.0) (e.args a k)
+  stays_kind (Foreign d) k = ap (λ x. leaf (atom (foreign x))) (e.id d.0)
+  stays_kind Str k = refl
+  stays_kind (Array t c) k =
+      let p = and_parts (known (m.ty t)) (known (m.const_ c) && true) k in
+      let q = and_parts (known (m.const_ c)) true p.1 in
+      ap₂ (λ x y. node array (cons x (cons y nil))) (e.ty t p.0) (e.const_ c q.0)
   stays_kind (Slice t) k =
       ap (λ x. node slice (cons x nil)) (e.ty t (and_parts (known (m.ty t)) true k).0)
-  stays_kind (Tuple ts) k = ap (λ x. node tuple x) (e.tys ts k)
+  stays_kind (RawPtr t u) k =
+      ap (λ x. node (raw_ptr u) (cons x nil)) (e.ty t (and_parts (known (m.ty t)) true k).0)
   stays_kind (Ref r t u) k =
       let p = and_parts (known (m.region r)) (known (m.ty t) && true) k in
       let q = and_parts (known (m.ty t)) true p.1 in
       ap₂ (λ x y. node (ref u) (cons x (cons y nil))) (e.region r p.0) (e.ty t q.0)
+  stays_kind (FnDef d a) k = ap₂ (λ x y. node (fn_def x) y) (e.id d.0) (e.args a k)
+  stays_kind (Closure d a) k = ap₂ (λ x y. node (closure x) y) (e.id d.0) (e.args a k)
+  stays_kind (CoroutineClosure d a) k = ap₂ (λ x y. node (coroutine_closure x) y) (e.id d.0) (e.args a k)
+  stays_kind (Coroutine d a) k = ap₂ (λ x y. node (coroutine x) y) (e.id d.0) (e.args a k)
+  stays_kind (CoroutineWitness d a) k = ap₂ (λ x y. node (coroutine_witness x) y) (e.id d.0) (e.args a k)
+  stays_kind Never k = refl
+  stays_kind (Tuple ts) k = ap (λ x. node tuple x) (e.tys ts k)
+  stays_kind (TyParam p) k = ap (λ x. leaf (atom (type_param p.index x))) (e.name p.name)
+  stays_kind (TyPlaceholder p) k =
+      ap (λ x. leaf (placeholder (bound_kind type_kind x) (p.universe).0 ((p.bound).var).0)) (e.name (p.bound).name)
   stays_kind (Infer i) k = refl
+
+  pub stays_const : (a : ConstKind Key Name) → IsTrue (known (const_tree m a)) → const_tree n a ≡ const_tree m a
+  stays_const (ConstParam p) k = ap (λ x. leaf (atom (const_param p.index x))) (e.name p.name)
+  stays_const (ConstPlaceholder p) k =
+      ap (λ x. leaf (placeholder (bound_kind const_kind x) (p.universe).0 ((p.bound).var).0)) (e.name (p.bound).name)
+  stays_const (Value t v) k =
+      let p = and_parts (known (m.ty t) && true) (known (m.valtree v) && true) k in
+      let q = and_parts (known (m.ty t)) true p.0 in
+      let r = and_parts (known (m.valtree v)) true p.1 in
+      ap₂ (λ x y. node value (cons (node value_type (cons x nil)) (cons y nil))) (e.ty t q.0) (e.valtree v r.0)
+  stays_const (Expr x a) k = ap (λ y. node (expression x.0) y) (e.args a k)
+
+  pub stays_valtree : (a : ValTreeKind Key) → IsTrue (known (valtree_tree m a)) → valtree_tree n a ≡ valtree_tree m a
+  stays_valtree (Leaf b n) k = refl
+  stays_valtree (Branch b) k = ap (λ x. node value_branch x) (e.branches b k)
 
   pub stays_region : (a : RegionKind Name) → IsTrue (known (region_tree m a)) → region_tree n a ≡ region_tree m a
   stays_region ReStatic k = refl

@@ -1,8 +1,13 @@
 -- What the keys of an interner and the forms over them mean.
 use Rattle.std.specs.Prelude.{ℕ, ◌≡◌, IsTrue, List, Option, IsSome}
-use Rattle.relation_terms.specs.Heads.{BoundKind, type_var, region_var, bool_type, char_type, int_type, uint_type}
-use Rattle.relation_terms.specs.Heads.{static_region, early_region, slice, tuple, ref, variable, atom}
-use Rattle.relation_terms.specs.Trees.{Tree, leaf, node, nil, cons, known}
+use Rattle.relation_terms.specs.Heads.{BoundKind, bound_kind, type_kind, const_kind, type_var, region_var}
+use Rattle.relation_terms.specs.Heads.{bool_type, char_type, str_type, never_type, int_type, uint_type, float_type}
+use Rattle.relation_terms.specs.Heads.{foreign, type_param, static_region, early_region, const_param, value_leaf}
+use Rattle.relation_terms.specs.Heads.{adt, fn_def, closure, coroutine_closure, coroutine, coroutine_witness}
+use Rattle.relation_terms.specs.Heads.{array, slice, tuple, raw_ptr, ref, expression, value, value_type, value_branch}
+use Rattle.relation_terms.specs.Heads.{variable, placeholder, atom}
+use Rattle.relation_terms.specs.Trees.{Tree, leaf, node, nil, cons, known, list_tree}
+use Rattle.relation_terms.specs.declared.terms.enums.Variance.{Variance}
 use Rattle.relation_terms.specs.declared.terms.keys.TyKey.{TyKey}
 use Rattle.relation_terms.specs.declared.terms.keys.RegionKey.{RegionKey}
 use Rattle.relation_terms.specs.declared.terms.keys.ConstKey.{ConstKey}
@@ -17,18 +22,33 @@ use Rattle.relation_terms.specs.declared.terms.keys.BoundVarsKey.{BoundVarsKey}
 use Rattle.relation_terms.specs.declared.terms.keys.PredicateKey.{PredicateKey}
 use Rattle.relation_terms.specs.declared.terms.keys.ClauseKey.{ClauseKey}
 use Rattle.relation_terms.specs.declared.terms.keys.ParamEnvKey.{ParamEnvKey}
+use Rattle.relation_terms.specs.declared.terms.placeholder.Placeholder.{Placeholder}
+use Rattle.relation_terms.specs.declared.terms.placeholder.BoundTy.{BoundTy}
+use Rattle.relation_terms.specs.declared.terms.placeholder.BoundConst.{BoundConst}
 use Rattle.relation_terms.specs.declared.terms.ty_kind.TyKind.{TyKind}
-use Rattle.relation_terms.specs.declared.terms.ty_kind.TyKind.TheVariants.{Bool, Char, Int, Uint, Slice, Tuple, Ref}
-use Rattle.relation_terms.specs.declared.terms.ty_kind.TyKind.TheVariants.{Infer}
+use Rattle.relation_terms.specs.declared.terms.ty_kind.TyKind.TheVariants.{Bool, Char, Int, Uint, Float, Adt, Foreign}
+use Rattle.relation_terms.specs.declared.terms.ty_kind.TyKind.TheVariants.{Str, Array, Slice, RawPtr, Ref, FnDef}
+use Rattle.relation_terms.specs.declared.terms.ty_kind.TyKind.TheVariants.{Closure, CoroutineClosure, Coroutine}
+use Rattle.relation_terms.specs.declared.terms.ty_kind.TyKind.TheVariants.{CoroutineWitness, Never, Tuple, Infer}
+use Rattle.relation_terms.specs.declared.terms.ty_kind.TyKind.TheVariants.{Param as TyParam, Placeholder as TyPlaceholder}
 use Rattle.relation_terms.specs.declared.terms.ty_kind.InferTy.{InferTy}
 use Rattle.relation_terms.specs.declared.terms.ty_kind.InferTy.TheVariants.{TyVar}
+use Rattle.relation_terms.specs.declared.terms.const_kind.ConstKind.{ConstKind}
+use Rattle.relation_terms.specs.declared.terms.const_kind.ConstKind.TheVariants.{Param as ConstParam}
+use Rattle.relation_terms.specs.declared.terms.const_kind.ConstKind.TheVariants.{Placeholder as ConstPlaceholder}
+use Rattle.relation_terms.specs.declared.terms.const_kind.ConstKind.TheVariants.{Value, Expr}
+use Rattle.relation_terms.specs.declared.terms.const_kind.ValTreeKind.{ValTreeKind}
+use Rattle.relation_terms.specs.declared.terms.const_kind.ValTreeKind.TheVariants.{Leaf, Branch}
 use Rattle.relation_terms.specs.declared.terms.region_kind.RegionKind.{RegionKind}
 use Rattle.relation_terms.specs.declared.terms.region_kind.RegionKind.TheVariants.{ReStatic, ReEarlyParam, ReVar}
 use Rattle.relation_terms.specs.declared.terms.generic_arg.GenericArgKind.{GenericArgKind}
 use Rattle.relation_terms.specs.declared.terms.generic_arg.GenericArgKind.TheVariants.{Lifetime, Ty, Const}
+use Rattle.relation_terms.specs.declared.terms.generic_arg.TermKind.{TermKind}
+use Rattle.relation_terms.specs.declared.terms.generic_arg.TermKind.TheVariants.{Ty as TyTerm, Const as ConstTerm}
 
--- The tree of each key, the list of lists' trees, the number of each id and name. What an interner does not know
--- has a tree with the leaf `unknown`, and of a binder's variables none.
+-- The tree of each key, the list of lists' trees, the number of each id and name, and of each item how many generic
+-- parameters it has and the variances that are declared of them. What an interner does not know has a tree with the
+-- leaf `unknown`, and of a binder's variables none.
 pub record Meaning (Key Id Name : Type 0) : Type 0 where
   pub ty : TyKey Key → Tree
   pub region : RegionKey Key → Tree
@@ -46,6 +66,8 @@ pub record Meaning (Key Id Name : Type 0) : Type 0 where
   pub param_env : ParamEnvKey Key → Tree
   pub id : Id → ℕ
   pub name : Name → ℕ
+  pub generics : Id → ℕ
+  pub variances : Id → List Variance
 
 -- The second has all that the first knows, and by the same trees.
 pub record Extends {Key Id Name : Type 0} (m n : Meaning Key Id Name) : Type 0 where
@@ -66,22 +88,60 @@ pub record Extends {Key Id Name : Type 0} (m n : Meaning Key Id Name) : Type 0 w
   pub param_env : (k : ParamEnvKey Key) → IsTrue (known (m.param_env k)) → n.param_env k ≡ m.param_env k
   pub id : (d : Id) → n.id d ≡ m.id d
   pub name : (s : Name) → n.name s ≡ m.name s
+  pub generics : (d : Id) → n.generics d ≡ m.generics d
+  pub variances : (d : Id) → n.variances d ≡ m.variances d
 
 -- The tree of a variable.
 abbrev pub infer_tree : InferTy → Tree
 infer_tree (TyVar v) = leaf (variable type_var v.0)
 
 module _ {Key Id Name : Type 0} (m : Meaning Key Id Name) where
+  -- The tree of a type placeholder.
+  abbrev pub ty_placeholder_tree : Placeholder (BoundTy Name) → Tree
+  ty_placeholder_tree p =
+      leaf (placeholder (bound_kind type_kind (m.name (p.bound).name)) (p.universe).0 ((p.bound).var).0)
+
+  -- The tree of a constant placeholder.
+  abbrev pub const_placeholder_tree : Placeholder (BoundConst Name) → Tree
+  const_placeholder_tree p =
+      leaf (placeholder (bound_kind const_kind (m.name (p.bound).name)) (p.universe).0 ((p.bound).var).0)
+
   -- The tree of a type's outermost form.
-  abbrev pub kind_tree : TyKind Key → Tree
+  abbrev pub kind_tree : TyKind Key Id Name → Tree
   kind_tree Bool = leaf (atom bool_type)
   kind_tree Char = leaf (atom char_type)
   kind_tree (Int w) = leaf (atom (int_type w))
   kind_tree (Uint w) = leaf (atom (uint_type w))
+  kind_tree (Float w) = leaf (atom (float_type w))
+  kind_tree (Adt d a) = node (adt (m.id d.0)) (m.args a)
+  kind_tree (Foreign d) = leaf (atom (foreign (m.id d.0)))
+  kind_tree Str = leaf (atom str_type)
+  kind_tree (Array t c) = node array (cons (m.ty t) (cons (m.const_ c) nil))
   kind_tree (Slice t) = node slice (cons (m.ty t) nil)
-  kind_tree (Tuple ts) = node tuple (m.tys ts)
+  kind_tree (RawPtr t u) = node (raw_ptr u) (cons (m.ty t) nil)
   kind_tree (Ref r t u) = node (ref u) (cons (m.region r) (cons (m.ty t) nil))
+  kind_tree (FnDef d a) = node (fn_def (m.id d.0)) (m.args a)
+  kind_tree (Closure d a) = node (closure (m.id d.0)) (m.args a)
+  kind_tree (CoroutineClosure d a) = node (coroutine_closure (m.id d.0)) (m.args a)
+  kind_tree (Coroutine d a) = node (coroutine (m.id d.0)) (m.args a)
+  kind_tree (CoroutineWitness d a) = node (coroutine_witness (m.id d.0)) (m.args a)
+  kind_tree Never = leaf (atom never_type)
+  kind_tree (Tuple ts) = node tuple (m.tys ts)
+  kind_tree (TyParam p) = leaf (atom (type_param p.index (m.name p.name)))
+  kind_tree (TyPlaceholder p) = ty_placeholder_tree p
   kind_tree (Infer i) = infer_tree i
+
+  -- The tree of a constant's outermost form.
+  abbrev pub const_tree : ConstKind Key Name → Tree
+  const_tree (ConstParam p) = leaf (atom (const_param p.index (m.name p.name)))
+  const_tree (ConstPlaceholder p) = const_placeholder_tree p
+  const_tree (Value t v) = node value (cons (node value_type (cons (m.ty t) nil)) (cons (m.valtree v) nil))
+  const_tree (Expr k a) = node (expression k.0) (m.args a)
+
+  -- The tree of a value tree's outermost form.
+  abbrev pub valtree_tree : ValTreeKind Key → Tree
+  valtree_tree (Leaf bits size) = leaf (atom (value_leaf bits size))
+  valtree_tree (Branch b) = node value_branch (m.branches b)
 
   -- The tree of a region's form.
   abbrev pub region_tree : RegionKind Name → Tree
@@ -94,3 +154,8 @@ module _ {Key Id Name : Type 0} (m : Meaning Key Id Name) where
   arg_tree (Lifetime r) = m.region r
   arg_tree (Ty t) = m.ty t
   arg_tree (Const c) = m.const_ c
+
+  -- The tree of a term.
+  abbrev pub term_tree : TermKind Key → Tree
+  term_tree (TyTerm t) = m.ty t
+  term_tree (ConstTerm c) = m.const_ c

@@ -175,6 +175,12 @@ pub type GenericArgs<I> = ArgsKey<<I as Keys>::Key>;
 /// A list of types of an interner.
 pub type Tys<I> = TysKey<<I as Keys>::Key>;
 
+/// A value tree of an interner.
+pub type ValTree<I> = ValTreeKey<<I as Keys>::Key>;
+
+/// A list of constants of an interner, the branches of a value tree.
+pub type Branches<I> = BranchesKey<<I as Keys>::Key>;
+
 /// A predicate of an interner.
 pub type Predicate<I> = PredicateKey<<I as Keys>::Key>;
 
