@@ -1,58 +1,58 @@
 -- A table and one more node.
-use Rattle.std.proofs.Common.{ℕ, ◌<◌, ◌≡◌, ◌⊎◌, inl, inr, IsTrue, Bool, true, false, List, [], ◌∷◌, ◌++◌, length, get_or, if◌then◌else◌, refl, ap, sym, ◌∙◌, subst, arith, length-append}
+use Rattle.std.proofs.Common.{ℕ, ◌<◌, ◌≡◌, ◌⊎◌, inl, inr, IsTrue, Bool, true, false, List, [], ◌∷◌, ◌++◌, length, get_or}
+use Rattle.std.proofs.Common.{if◌then◌else◌, refl, ap, ap₂, sym, ◌∙◌, subst, arith, length-append}
 use Rattle.std.proofs.lemmas.Bool.{cases_lt}
 use Rattle.std.proofs.lemmas.List.{get_or_append_left}
 use Rattle.std.proofs.Math.Seq.{get_or-append_seam}
-use Rattle.relation_terms.specs.Trees.{Tree, leaf, known}
-use Rattle.relation_terms.specs.Heads.{unknown}
-use Rattle.relation_terms.specs.Meaning.{Meaning, Extends}
+use Rattle.relation_terms.specs.Trees.{Tree, known}
+use Rattle.relation_terms.specs.Meaning.{Meaning, Extends, arg_tree}
 use Rattle.relation_terms.proofs.Stays.{stays_same}
-use Rattle.relation_terms.proofs.Once.{Injective, kind_once, region_once, list_once}
-use Rattle.relation_terms.specs.declared.terms.keys.TyKey.{TyKey}
-use Rattle.relation_terms.specs.declared.terms.keys.RegionKey.{RegionKey}
-use Rattle.relation_terms.specs.declared.terms.keys.TysKey.{TysKey}
-use Rattle.relation_terms.specs.declared.terms.keys.ParamEnvKey.{ParamEnvKey}
+use Rattle.relation_terms.proofs.Sorted.{Sorted}
+use Rattle.relation_terms.proofs.Once.{Injective, kind_once, region_once, const_once, valtree_once, arg_once, list_once}
 use Rattle.relation_reference.specs.declared.interner.keys.NodeKey.{NodeKey}
 use Rattle.relation_reference.specs.declared.interner.keys.ItemId.{ItemId}
 use Rattle.relation_reference.specs.declared.interner.keys.SymbolId.{SymbolId}
+use Rattle.relation_reference.specs.declared.interner.items.Item.{Item}
 use Rattle.relation_reference.specs.declared.interner.node.Node.{Node}
-use Rattle.relation_reference.specs.Forms.{Form, ty_form, region_form, tys_form, environment_form, form_of}
-use Rattle.relation_reference.specs.Nodes.{Entry, no_entry, ty_entry, region_entry, tys_entry, environment_entry, as_ty, as_region, as_tys, as_environment, meaning_of, entry_at, entry_of, entries, table_meaning, known_entry, AllKnown, AllDistinct}
+use Rattle.relation_reference.specs.Forms.{Form, ty_form, region_form, const_form, valtree_form, args_form, tys_form}
+use Rattle.relation_reference.specs.Forms.{branches_form, environment_form, form_of}
+use Rattle.relation_reference.specs.Nodes.{NodeSort, Entry, no_entry, entry, tree_as, meaning_of, form_tree, entry_at}
+use Rattle.relation_reference.specs.Nodes.{entry_of, entries, table_meaning, known_entry, AllKnown, AllDistinct, StandsAt}
 use Rattle.relation_reference.specs.Empty.{KnowsNone}
-use Rattle.relation_reference.specs.Places.{length_entries, known_in, of_ty, of_region, of_tys, of_environment}
-use Rattle.relation_reference.specs.Laws.{injective}
-use Rattle.relation_reference.proofs.Table.{entries_snoc, extends_node, at_now}
-
-abbrev tree_in : Entry → Tree
-tree_in no_entry = leaf unknown
-tree_in (ty_entry t) = t
-tree_in (region_entry t) = t
-tree_in (tys_entry t) = t
-tree_in (environment_entry t) = t
+use Rattle.relation_reference.specs.Places.{length_entries, known_in, of_sort, reads_itself, tree_of_key, key_reads}
+use Rattle.relation_reference.specs.Laws.{injective, all_sorted}
+use Rattle.relation_reference.proofs.Table.{tree_in, entries_snoc, extends_node, at_now}
 
 -- Forms of one entry are one form.
-form_once : (m : Meaning NodeKey ItemId SymbolId) → Injective m → (f g : Form) →
-    IsTrue (known_entry (entry_at m f)) → entry_at m f ≡ entry_at m g → f ≡ g
-form_once m j (ty_form f) (ty_form g) k e = ap (λ x. ty_form x) (kind_once m j f g k (ap tree_in e))
-form_once m j (region_form f) (region_form g) k e = ap (λ x. region_form x) (region_once m j f g (ap tree_in e))
-form_once m j (tys_form ts) (tys_form us) k e = ap (λ x. tys_form x) (list_once m.ty j.ty ts us k (ap tree_in e))
-form_once m j environment_form environment_form k e = refl
-form_once m j f g k e = absurd (cc)
+form_once : (m : Meaning NodeKey ItemId SymbolId) → Injective m → Sorted m → (f g : Form) →
+    IsTrue (known (form_tree m f)) → entry_at m f ≡ entry_at m g → f ≡ g
+form_once m j s (ty_form f) (ty_form g) k e = ap (λ x. ty_form x) (kind_once m j f g k (ap tree_in e))
+form_once m j s (region_form f) (region_form g) k e = ap (λ x. region_form x) (region_once m j f g (ap tree_in e))
+form_once m j s (const_form f) (const_form g) k e = ap (λ x. const_form x) (const_once m j f g k (ap tree_in e))
+form_once m j s (valtree_form f) (valtree_form g) k e = ap (λ x. valtree_form x) (valtree_once m j f g k (ap tree_in e))
+form_once m j s (args_form xs) (args_form ys) k e =
+    ap (λ x. args_form x) (list_once (arg_tree m) (arg_once m j s) xs ys k (ap tree_in e))
+form_once m j s (tys_form xs) (tys_form ys) k e = ap (λ x. tys_form x) (list_once m.ty j.ty xs ys k (ap tree_in e))
+form_once m j s (branches_form xs) (branches_form ys) k e =
+    ap (λ x. branches_form x) (list_once m.const_ j.const_ xs ys k (ap tree_in e))
+form_once m j s environment_form environment_form k e = refl
+form_once m j s f g k e = absurd (cc)
 
 module _ (ns : List Node) (n : Node) where
   keeps_entry : (i : ℕ) → i < length ns → get_or (entries (ns ++ n ∷ [])) i no_entry ≡ get_or (entries ns) i no_entry
   keeps_entry i h =
       let l = length_entries [] ns in
-      rw (entries_snoc [] ns n) (get_or_append_left (entries ns) (entry_of (table_meaning ns) n ∷ []) no_entry i (omega (arith, l)))
+      let e = entry_of (table_meaning [] ns) n in
+      rw (entries_snoc [] ns n) (get_or_append_left (entries ns) (e ∷ []) no_entry i (omega (arith, l)))
 
-  new_entry : get_or (entries (ns ++ n ∷ [])) (length ns) no_entry ≡ entry_of (table_meaning ns) n
+  new_entry : get_or (entries (ns ++ n ∷ [])) (length ns) no_entry ≡ entry_of (table_meaning [] ns) n
   new_entry =
       let l = length_entries [] ns in
       let z : length ns ≡ length (entries ns) = omega (arith, l) in
-      rw (entries_snoc [] ns n, z) (get_or-append_seam (entries ns) (entry_of (table_meaning ns) n) [] no_entry)
+      rw (entries_snoc [] ns n, z) (get_or-append_seam (entries ns) (entry_of (table_meaning [] ns) n) [] no_entry)
 
   pub new_at : (ms : List Node) (k : ℕ) → ms ≡ ns ++ n ∷ [] → k ≡ length ns →
-      get_or (entries ms) k no_entry ≡ entry_of (table_meaning ns) n
+      get_or (entries ms) k no_entry ≡ entry_of (table_meaning [] ns) n
   new_at ms k e l = rw (e, l) new_entry
 
   -- The last place or an earlier one.
@@ -62,7 +62,7 @@ module _ (ns : List Node) (n : Node) where
     | inr p ↦ inr (let l = length-append ns (n ∷ []) in omega (arith, l))
   ]
 
-  all_known : AllKnown ns → IsTrue (known_entry (entry_of (table_meaning ns) n)) → AllKnown (ns ++ n ∷ [])
+  all_known : AllKnown ns → IsTrue (known_entry (entry_of (table_meaning [] ns) n)) → AllKnown (ns ++ n ∷ [])
   all_known a k = λ i h. elim (last_or i h) [
     | inl p ↦ subst (λ x. IsTrue (known_entry x)) (sym (keeps_entry i p)) (a i p)
     | inr p ↦
@@ -71,17 +71,17 @@ module _ (ns : List Node) (n : Node) where
   ]
 
   -- A node of a form that none has is at no place.
-  pub fresh : AllDistinct ns → IsTrue (known_entry (entry_of (table_meaning ns) n)) →
+  pub fresh : AllDistinct ns → IsTrue (known_entry (entry_of (table_meaning [] ns) n)) →
       ((k : ℕ) (d : Node) → k < length ns → form_of (get_or ns k d) ≡ form_of n → ⊥) →
-      (i : ℕ) → get_or (entries ns) i no_entry ≡ entry_of (table_meaning ns) n → ⊥
+      (i : ℕ) → get_or (entries ns) i no_entry ≡ entry_of (table_meaning [] ns) n → ⊥
   fresh d k u i e =
       let h : IsTrue (known_entry (get_or (entries ns) i no_entry)) = subst (λ x. IsTrue (known_entry x)) (sym e) k in
       let l : i < length ns = known_in ns i h in
       let a = at_now ns i n l h in
-      u i n l (form_once (table_meaning ns) (injective ns d) (form_of (get_or ns i n)) (form_of n)
+      u i n l (form_once (table_meaning [] ns) (injective [] ns d) (all_sorted [] ns) (form_of (get_or ns i n)) (form_of n)
       (subst (λ x. IsTrue (known_entry x)) a h) (sym a ∙ e))
 
-  all_distinct : AllDistinct ns → IsTrue (known_entry (entry_of (table_meaning ns) n)) →
+  all_distinct : AllDistinct ns → IsTrue (known_entry (entry_of (table_meaning [] ns) n)) →
       ((k : ℕ) (d : Node) → k < length ns → form_of (get_or ns k d) ≡ form_of n → ⊥) → AllDistinct (ns ++ n ∷ [])
   all_distinct d k u = λ i j h l e.
       let at : ℕ → Entry = λ x. get_or (entries (ns ++ n ∷ [])) x no_entry in
@@ -97,12 +97,12 @@ module _ (ns : List Node) (n : Node) where
       ]
 
   -- What a push leaves, which may have been refused.
-  pub known_if : (b : Bool) → AllKnown ns → IsTrue (known_entry (entry_of (table_meaning ns) n)) →
+  pub known_if : (b : Bool) → AllKnown ns → IsTrue (known_entry (entry_of (table_meaning [] ns) n)) →
       AllKnown (if b then ns ++ n ∷ [] else ns)
   known_if true a k = all_known a k
   known_if false a k = a
 
-  pub distinct_if : (b : Bool) → AllDistinct ns → IsTrue (known_entry (entry_of (table_meaning ns) n)) →
+  pub distinct_if : (b : Bool) → AllDistinct ns → IsTrue (known_entry (entry_of (table_meaning [] ns) n)) →
       ((k : ℕ) (d : Node) → k < length ns → form_of (get_or ns k d) ≡ form_of n → ⊥) →
       AllDistinct (if b then ns ++ n ∷ [] else ns)
   distinct_if true d k u = all_distinct d k u
@@ -110,59 +110,39 @@ module _ (ns : List Node) (n : Node) where
 
   -- The entry at which a node of the form stands.
   pub found : AllKnown ns → (i : ℕ) → i < length ns → ((d : Node) → form_of (get_or ns i d) ≡ form_of n) →
-      get_or (entries ns) i no_entry ≡ entry_of (table_meaning ns) n
-  found a i h s = at_now ns i n h (a i h) ∙ ap (entry_at (table_meaning ns)) (s n)
+      get_or (entries ns) i no_entry ≡ entry_of (table_meaning [] ns) n
+  found a i h s = at_now ns i n h (a i h) ∙ ap (entry_at (table_meaning [] ns)) (s n)
 
-  -- What a making leaves.
-  pub grows : (ms : List Node) → (ms ≡ ns) ⊎ (ms ≡ ns ++ n ∷ []) → Extends (table_meaning ns) (table_meaning ms)
-  grows ms (inl e) = subst (λ x. Extends (table_meaning ns) (table_meaning x)) (sym e) (stays_same (table_meaning ns))
-  grows ms (inr e) = subst (λ x. Extends (table_meaning ns) (table_meaning x)) (sym e) (extends_node ns n)
+-- What a making leaves.
+module _ (items : List Item) (ns : List Node) where
+  pub grows : (more : List Item) (ms : List Node) (n : Node) → more ≡ items → (ms ≡ ns) ⊎ (ms ≡ ns ++ n ∷ []) →
+      Extends (table_meaning items ns) (table_meaning more ms)
+  grows more ms n e (inl p) =
+      subst (λ m. Extends (table_meaning items ns) m) (ap₂ table_meaning (sym e) (sym p)) (stays_same (table_meaning items ns))
+  grows more ms n e (inr p) =
+      subst (λ m. Extends (table_meaning items ns) m) (ap₂ table_meaning (sym e) (sym p)) (extends_node items ns n)
 
--- What an entry says of a key.
-module _ (ns : List Node) (e : Entry) where
-  pub ty_of : (k : TyKey NodeKey) → get_or (entries ns) (k.0).0 no_entry ≡ e → (table_meaning ns).ty k ≡ as_ty e
-  unfolding meaning_of
-  ty_of k h = ap as_ty h
+  pub same_meaning : (more : List Item) (ms : List Node) → more ≡ items → ms ≡ ns →
+      table_meaning more ms ≡ table_meaning items ns
+  same_meaning more ms e p = ap₂ table_meaning e p
 
-  pub region_of : (k : RegionKey NodeKey) → get_or (entries ns) (k.0).0 no_entry ≡ e → (table_meaning ns).region k ≡ as_region e
-  unfolding meaning_of
-  region_of k h = ap as_region h
+  -- The key of a number where an entry stands means the entry's tree.
+  pub made : (s : NodeSort) (t : Tree) (i : ℕ) → StandsAt ns i (entry s t) →
+      tree_of_key s (table_meaning items ns) i ≡ t
+  made s t i h = key_reads items (entries ns) s i ∙ ap (tree_as s) h ∙ reads_itself s t
 
-  pub tys_of : (k : TysKey NodeKey) → get_or (entries ns) (k.0).0 no_entry ≡ e → (table_meaning ns).tys k ≡ as_tys e
-  unfolding meaning_of
-  tys_of k h = ap as_tys h
+  -- Where a key of a known tree stands.
+  pub stands : (s : NodeSort) (t : Tree) (i : ℕ) → IsTrue (known t) → tree_of_key s (table_meaning items ns) i ≡ t →
+      StandsAt ns i (entry s t)
+  stands s t i k e =
+      let x = get_or (entries ns) i no_entry in
+      let p : tree_as s x ≡ t = sym (key_reads items (entries ns) s i) ∙ e in
+      of_sort s x (subst (λ y. IsTrue (known y)) (sym p) k) ∙ ap (entry s) p
 
-  pub environment_of : (k : ParamEnvKey NodeKey) → get_or (entries ns) (k.0).0 no_entry ≡ e →
-      (table_meaning ns).param_env k ≡ as_environment e
-  unfolding meaning_of
-  environment_of k h = ap as_environment h
-
--- Where a key of a known tree stands.
-module _ (ns : List Node) (t : Tree) where
-  pub ty_stands : (k : TyKey NodeKey) → (table_meaning ns).ty k ≡ t → IsTrue (known t) →
-      get_or (entries ns) (k.0).0 no_entry ≡ ty_entry t
-  unfolding meaning_of
-  ty_stands k e h = of_ty _ (subst (λ x. IsTrue (known x)) (sym e) h) ∙ ap ty_entry e
-
-  pub region_stands : (k : RegionKey NodeKey) → (table_meaning ns).region k ≡ t → IsTrue (known t) →
-      get_or (entries ns) (k.0).0 no_entry ≡ region_entry t
-  unfolding meaning_of
-  region_stands k e h = of_region _ (subst (λ x. IsTrue (known x)) (sym e) h) ∙ ap region_entry e
-
-  pub tys_stand : (k : TysKey NodeKey) → (table_meaning ns).tys k ≡ t → IsTrue (known t) →
-      get_or (entries ns) (k.0).0 no_entry ≡ tys_entry t
-  unfolding meaning_of
-  tys_stand k e h = of_tys _ (subst (λ x. IsTrue (known x)) (sym e) h) ∙ ap tys_entry e
-
-  pub environment_stands : (k : ParamEnvKey NodeKey) → (table_meaning ns).param_env k ≡ t → IsTrue (known t) →
-      get_or (entries ns) (k.0).0 no_entry ≡ environment_entry t
-  unfolding meaning_of
-  environment_stands k e h = of_environment _ (subst (λ x. IsTrue (known x)) (sym e) h) ∙ ap environment_entry e
-
--- A table without nodes knows nothing.
-pub none_known : (ns : List Node) → ns ≡ [] → KnowsNone (table_meaning ns)
+-- A table without nodes and items knows nothing.
+pub none_known : (items : List Item) (ns : List Node) → items ≡ [] → ns ≡ [] → KnowsNone (table_meaning items ns)
 unfolding meaning_of
-none_known ns e = subst (λ x. KnowsNone (table_meaning x)) (sym e) (record {
+none_known items ns p e = subst (λ m. KnowsNone m) (sym (ap₂ table_meaning p e)) (record {
   ty = λ k. refl;
   region = λ k. refl;
   const_ = λ k. refl;
@@ -177,4 +157,6 @@ none_known ns e = subst (λ x. KnowsNone (table_meaning x)) (sym e) (record {
   predicate = λ k. refl;
   clause = λ k. refl;
   param_env = λ k. refl;
+  generics = λ d. refl;
+  variances = λ d. refl;
 })

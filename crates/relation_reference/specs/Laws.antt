@@ -2,70 +2,80 @@
 -- of one tree are one key.
 use Rattle.std.proofs.Common.{ℕ, ◌≡◌, ◌↔◌, IsTrue, List, [], ◌∷◌, ◌++◌, length, get_or, eqb, refl, ap, sym, ◌∙◌}
 use Rattle.std.proofs.Common.{subst, inl, inr}
-use Rattle.std.proofs.lemmas.Bool.{false≢true, eqb-true, eq-eqb, cases_lt}
+use Rattle.std.proofs.lemmas.Bool.{eqb-true, eq-eqb, cases_lt}
 use Rattle.std.proofs.lemmas.List.{get_or_append_left, get_or_past}
 use Rattle.std.proofs.Math.Seq.{get_or-append_seam}
-use Rattle.relation_terms.specs.Heads.{type_sort, region_sort, environment_sort}
+use Rattle.relation_terms.specs.Heads.{type_sort, region_sort, const_sort, value_sort, argument_sort, environment_sort}
 use Rattle.relation_terms.specs.Trees.{Tree, known, IsTerm, AreTerms}
-use Rattle.relation_terms.specs.Meaning.{Meaning}
-use Rattle.relation_terms.proofs.Sorted.{Sorted, kind_sorted, region_sorted, list_sorted, environment_sorted}
+use Rattle.relation_terms.specs.Meaning.{Meaning, arg_tree}
+use Rattle.relation_terms.proofs.Sorted.{Sorted, kind_sorted, region_sorted, const_sorted, valtree_sorted, arg_sorted}
+use Rattle.relation_terms.proofs.Sorted.{list_sorted, environment_sorted}
 use Rattle.relation_terms.proofs.Once.{Injective}
 use Rattle.relation_terms.proofs.Lists.{last_place}
-use Rattle.relation_terms.specs.declared.terms.keys.TyKey.{TyKey}
-use Rattle.relation_terms.specs.declared.terms.keys.RegionKey.{RegionKey}
-use Rattle.relation_terms.specs.declared.terms.keys.TysKey.{TysKey}
-use Rattle.relation_terms.specs.declared.terms.keys.ParamEnvKey.{ParamEnvKey}
 use Rattle.relation_reference.specs.declared.interner.keys.NodeKey.{NodeKey}
 use Rattle.relation_reference.specs.declared.interner.keys.ItemId.{ItemId}
 use Rattle.relation_reference.specs.declared.interner.keys.SymbolId.{SymbolId}
+use Rattle.relation_reference.specs.declared.interner.items.Item.{Item}
 use Rattle.relation_reference.specs.declared.interner.node.Node.{Node}
-use Rattle.relation_reference.specs.Forms.{Form, ty_form, region_form, tys_form, environment_form, form_of}
-use Rattle.relation_reference.specs.Nodes.{Entry, no_entry, ty_entry, region_entry, tys_entry, environment_entry}
-use Rattle.relation_reference.specs.Nodes.{as_ty, as_region, as_tys, as_environment, meaning_of, entry_at, entry_of}
+use Rattle.relation_reference.specs.Forms.{Form, ty_form, region_form, const_form, valtree_form, args_form, tys_form}
+use Rattle.relation_reference.specs.Forms.{branches_form, environment_form, form_of}
+use Rattle.relation_reference.specs.Nodes.{NodeSort, ty_node, region_node, const_node, valtree_node, args_node}
+use Rattle.relation_reference.specs.Nodes.{tys_node, branches_node, environment_node}
+use Rattle.relation_reference.specs.Nodes.{Entry, no_entry, entry, tree_as, meaning_of, form_sort, form_tree, entry_of}
 use Rattle.relation_reference.specs.Nodes.{entries_from, entries, table_meaning, known_entry, AllDistinct}
-use Rattle.relation_reference.specs.Places.{known_in, of_ty, of_region, of_tys, of_environment}
+use Rattle.relation_reference.specs.Places.{known_in, of_sort, tree_of_key, key_reads}
 
--- The tree of an entry is a term of the entry's sort.
+-- The tree is a term, or a list of terms, as a node of the sort has.
+abbrev pub IsOfSort : NodeSort → Tree → Type 0
+IsOfSort ty_node t = IsTerm type_sort t
+IsOfSort region_node t = IsTerm region_sort t
+IsOfSort const_node t = IsTerm const_sort t
+IsOfSort valtree_node t = IsTerm value_sort t
+IsOfSort args_node t = AreTerms argument_sort t
+IsOfSort tys_node t = AreTerms type_sort t
+IsOfSort branches_node t = AreTerms const_sort t
+IsOfSort environment_node t = IsTerm environment_sort t
+
+-- A known tree of an entry is of the entry's sort.
 abbrev IsSorted : Entry → Type 0
 IsSorted no_entry = Unit {0}
-IsSorted (ty_entry t) = IsTrue (known t) → IsTerm type_sort t
-IsSorted (region_entry t) = IsTrue (known t) → IsTerm region_sort t
-IsSorted (tys_entry t) = IsTrue (known t) → AreTerms type_sort t
-IsSorted (environment_entry t) = IsTrue (known t) → IsTerm environment_sort t
+IsSorted (entry s t) = IsTrue (known t) → IsOfSort s t
 
+-- All entries are sorted.
 abbrev AllSorted : List Entry → Type 0
 AllSorted es = (i : ℕ) → IsSorted (get_or es i no_entry)
 
-sorted_ty : (e : Entry) → IsSorted e → IsTrue (known (as_ty e)) → IsTerm type_sort (as_ty e)
-sorted_ty (ty_entry t) s k = s k
-sorted_ty _ s k = absurd (false≢true k)
+sorted_as : (s : NodeSort) (e : Entry) → IsSorted e → IsTrue (known (tree_as s e)) → IsOfSort s (tree_as s e)
+sorted_as s e h k = subst IsSorted (of_sort s e k) h k
 
-sorted_region : (e : Entry) → IsSorted e → IsTrue (known (as_region e)) → IsTerm region_sort (as_region e)
-sorted_region (region_entry t) s k = s k
-sorted_region _ s k = absurd (false≢true k)
+-- What a key reads is of its sort.
+key_sorted : (items : List Item) (es : List Entry) → AllSorted es → (s : NodeSort) (i : ℕ) →
+    IsTrue (known (tree_of_key s (meaning_of items es) i)) → IsOfSort s (tree_of_key s (meaning_of items es) i)
+key_sorted items es h s i k =
+    let e = key_reads items es s i in
+    subst (IsOfSort s) (sym e) (sorted_as s (get_or es i no_entry) (h i) (subst (λ t. IsTrue (known t)) e k))
 
-sorted_tys : (e : Entry) → IsSorted e → IsTrue (known (as_tys e)) → AreTerms type_sort (as_tys e)
-sorted_tys (tys_entry t) s k = s k
-sorted_tys _ s k = absurd (false≢true k)
-
-sorted_environment : (e : Entry) → IsSorted e → IsTrue (known (as_environment e)) →
-    IsTerm environment_sort (as_environment e)
-sorted_environment (environment_entry t) s k = s k
-sorted_environment _ s k = absurd (false≢true k)
-
-sorted : (es : List Entry) → AllSorted es → Sorted (meaning_of es)
-unfolding meaning_of
-sorted es s = record {
-  ty = λ k h. sorted_ty (get_or es (k.0).0 no_entry) (s (k.0).0) h;
-  region = λ k h. sorted_region (get_or es (k.0).0 no_entry) (s (k.0).0) h;
-  tys = λ k h. sorted_tys (get_or es (k.0).0 no_entry) (s (k.0).0) h;
+sorted : (items : List Item) (es : List Entry) → AllSorted es → Sorted (meaning_of items es)
+sorted items es h = record {
+  ty = λ k. key_sorted items es h ty_node (k.0).0;
+  region = λ k. key_sorted items es h region_node (k.0).0;
+  tys = λ k. key_sorted items es h tys_node (k.0).0;
+  const_ = λ k. key_sorted items es h const_node (k.0).0;
+  valtree = λ k. key_sorted items es h valtree_node (k.0).0;
+  args = λ k. key_sorted items es h args_node (k.0).0;
+  branches = λ k. key_sorted items es h branches_node (k.0).0;
 }
 
-entry_sorted : (m : Meaning NodeKey ItemId SymbolId) → Sorted m → (f : Form) → IsSorted (entry_at m f)
-entry_sorted m s (ty_form f) = kind_sorted m s f
-entry_sorted m s (region_form f) = λ k. region_sorted m f
-entry_sorted m s (tys_form ts) = list_sorted type_sort m.ty s.ty ts
-entry_sorted m s environment_form = λ k. environment_sorted
+form_sorted : (m : Meaning NodeKey ItemId SymbolId) → Sorted m → (f : Form) → IsTrue (known (form_tree m f)) →
+    IsOfSort (form_sort f) (form_tree m f)
+form_sorted m s (ty_form f) k = kind_sorted m s f k
+form_sorted m s (region_form f) k = region_sorted m f
+form_sorted m s (const_form f) k = const_sorted m s f k
+form_sorted m s (valtree_form f) k = valtree_sorted m s f k
+form_sorted m s (args_form xs) k = list_sorted argument_sort (arg_tree m) (arg_sorted m s) xs k
+form_sorted m s (tys_form ts) k = list_sorted type_sort m.ty s.ty ts k
+form_sorted m s (branches_form cs) k = list_sorted const_sort m.const_ s.const_ cs k
+form_sorted m s environment_form k = environment_sorted
 
 one_more : (es : List Entry) (e : Entry) → AllSorted es → IsSorted e → AllSorted (es ++ e ∷ [])
 one_more es e s h = λ i. elim (cases_lt i (length (es ++ e ∷ []))) [
@@ -81,34 +91,27 @@ one_more es e s h = λ i. elim (cases_lt i (length (es ++ e ∷ []))) [
 sorted_from : (es : List Entry) (ns : List Node) → AllSorted es → AllSorted (entries_from es ns)
 sorted_from es [] s = s
 sorted_from es (n ∷ ns) s =
-    sorted_from (es ++ entry_of (meaning_of es) n ∷ []) ns
-    (one_more es (entry_of (meaning_of es) n) s (entry_sorted (meaning_of es) (sorted es s) (form_of n)))
+    let m = meaning_of [] es in
+    sorted_from (es ++ entry_of m n ∷ []) ns (one_more es (entry_of m n) s (form_sorted m (sorted [] es s) (form_of n)))
 
-all_sorted : (ns : List Node) → AllSorted (entries ns)
-all_sorted ns = sorted_from [] ns (λ i. tt)
+pub all_sorted : (items : List Item) (ns : List Node) → Sorted (table_meaning items ns)
+all_sorted items ns = sorted items (entries ns) (sorted_from [] ns (λ i. tt))
 
-module _ (ns : List Node) where
-  pub is_ty_law : (k : TyKey NodeKey) → IsTrue (known ((table_meaning ns).ty k)) →
-      IsTerm type_sort ((table_meaning ns).ty k)
-  is_ty_law = (sorted (entries ns) (all_sorted ns)).ty
-
-  pub is_region_law : (k : RegionKey NodeKey) → IsTrue (known ((table_meaning ns).region k)) →
-      IsTerm region_sort ((table_meaning ns).region k)
-  is_region_law = (sorted (entries ns) (all_sorted ns)).region
-
-  pub are_tys_law : (k : TysKey NodeKey) → IsTrue (known ((table_meaning ns).tys k)) →
-      AreTerms type_sort ((table_meaning ns).tys k)
-  are_tys_law = (sorted (entries ns) (all_sorted ns)).tys
-
-  pub is_param_env_law : (k : ParamEnvKey NodeKey) → IsTrue (known ((table_meaning ns).param_env k)) →
-      IsTerm environment_sort ((table_meaning ns).param_env k)
-  unfolding meaning_of
-  is_param_env_law k h = sorted_environment (get_or (entries ns) (k.0).0 no_entry) (all_sorted ns (k.0).0) h
+module _ (items : List Item) (ns : List Node) where
+  -- The tree of a known key is a term of its sort.
+  pub sort_law : (s : NodeSort) (i : ℕ) → IsTrue (known (tree_of_key s (table_meaning items ns) i)) →
+      IsOfSort s (tree_of_key s (table_meaning items ns) i)
+  sort_law s i k = key_sorted items (entries ns) (sorted_from [] ns (λ j. tt)) s i k
 
   pub same_name_law : (x y : SymbolId) →
-      (IsTrue (eqb x.0 y.0) ↔ ((table_meaning ns).name x ≡ (table_meaning ns).name y))
+      (IsTrue (eqb x.0 y.0) ↔ ((table_meaning items ns).name x ≡ (table_meaning items ns).name y))
   unfolding meaning_of
   same_name_law x y = (λ h. eqb-true x.0 y.0 h, λ e. eq-eqb x.0 y.0 e)
+
+  pub same_id_law : (d e : ItemId) →
+      (IsTrue (eqb d.0 e.0) ↔ ((table_meaning items ns).id d ≡ (table_meaning items ns).id e))
+  unfolding meaning_of
+  same_id_law d e = (λ h. eqb-true d.0 e.0 h, λ p. eq-eqb d.0 e.0 p)
 
 -- Known entries that are one stand at one place.
 same_place : (ns : List Node) → AllDistinct ns → (i j : ℕ) (e : Entry) → IsTrue (known_entry e) →
@@ -117,75 +120,39 @@ same_place ns d i j e k p q =
     d i j (known_in ns i (subst (λ x. IsTrue (known_entry x)) (sym p) k))
     (known_in ns j (subst (λ x. IsTrue (known_entry x)) (sym q) k)) (p ∙ sym q)
 
-module _ (ns : List Node) (d : AllDistinct ns) where
-  -- What two places read, at any sort of entry.
-  once : (read : Entry → Tree) (made : Tree → Entry) → ((t : Tree) → known_entry (made t) ≡ known t) →
-      ((e : Entry) → IsTrue (known (read e)) → e ≡ made (read e)) → (i j : ℕ) →
-      IsTrue (known (read (get_or (entries ns) i no_entry))) →
-      read (get_or (entries ns) i no_entry) ≡ read (get_or (entries ns) j no_entry) → i ≡ j
-  once read made sure exact i j k e =
-      let u = read (get_or (entries ns) j no_entry) in
-      let l : IsTrue (known u) = subst (λ x. IsTrue (known x)) e k in
-      same_place ns d i j (made u) (sure u ∙ l)
-      (exact (get_or (entries ns) i no_entry) k ∙ ap made e) (exact (get_or (entries ns) j no_entry) l)
+module _ (items : List Item) (ns : List Node) (d : AllDistinct ns) where
+  -- Known keys of one tree are one, at any sort.
+  once : (s : NodeSort) (i j : ℕ) → IsTrue (known (tree_of_key s (table_meaning items ns) i)) →
+      tree_of_key s (table_meaning items ns) i ≡ tree_of_key s (table_meaning items ns) j → i ≡ j
+  once s i j k e =
+      let a = key_reads items (entries ns) s i in
+      let b = key_reads items (entries ns) s j in
+      let u = tree_as s (get_or (entries ns) j no_entry) in
+      let h : IsTrue (known (tree_as s (get_or (entries ns) i no_entry))) = subst (λ x. IsTrue (known x)) a k in
+      let same : tree_as s (get_or (entries ns) i no_entry) ≡ u = sym a ∙ e ∙ b in
+      let l : IsTrue (known u) = subst (λ x. IsTrue (known x)) same h in
+      same_place ns d i j (entry s u) l
+      (of_sort s (get_or (entries ns) i no_entry) h ∙ ap (entry s) same) (of_sort s (get_or (entries ns) j no_entry) l)
 
-  once_ty : (k l : TyKey NodeKey) → IsTrue (known ((table_meaning ns).ty k)) →
-      (table_meaning ns).ty k ≡ (table_meaning ns).ty l → (k.0).0 ≡ (l.0).0
-  unfolding meaning_of
-  once_ty k l = once as_ty ty_entry (λ t. refl) of_ty (k.0).0 (l.0).0
-
-  once_region : (k l : RegionKey NodeKey) → IsTrue (known ((table_meaning ns).region k)) →
-      (table_meaning ns).region k ≡ (table_meaning ns).region l → (k.0).0 ≡ (l.0).0
-  unfolding meaning_of
-  once_region k l = once as_region region_entry (λ t. refl) of_region (k.0).0 (l.0).0
-
-  once_tys : (k l : TysKey NodeKey) → IsTrue (known ((table_meaning ns).tys k)) →
-      (table_meaning ns).tys k ≡ (table_meaning ns).tys l → (k.0).0 ≡ (l.0).0
-  unfolding meaning_of
-  once_tys k l = once as_tys tys_entry (λ t. refl) of_tys (k.0).0 (l.0).0
-
-  once_environment : (k l : ParamEnvKey NodeKey) → IsTrue (known ((table_meaning ns).param_env k)) →
-      (table_meaning ns).param_env k ≡ (table_meaning ns).param_env l → (k.0).0 ≡ (l.0).0
-  unfolding meaning_of
-  once_environment k l = once as_environment environment_entry (λ t. refl) of_environment (k.0).0 (l.0).0
-
-  pub injective : Injective (table_meaning ns)
+  pub injective : Injective (table_meaning items ns)
   unfolding meaning_of
   injective = record {
-    ty = λ k l h e. ap (λ n. record { 0 = record { 0 = n } }) (once_ty k l h e);
-    region = λ k l h e. ap (λ n. record { 0 = record { 0 = n } }) (once_region k l h e);
-    tys = λ k l h e. ap (λ n. record { 0 = record { 0 = n } }) (once_tys k l h e);
+    ty = λ k l h e. ap (λ n. record { 0 = record { 0 = n } }) (once ty_node (k.0).0 (l.0).0 h e);
+    region = λ k l h e. ap (λ n. record { 0 = record { 0 = n } }) (once region_node (k.0).0 (l.0).0 h e);
+    const_ = λ k l h e. ap (λ n. record { 0 = record { 0 = n } }) (once const_node (k.0).0 (l.0).0 h e);
+    args = λ k l h e. ap (λ n. record { 0 = record { 0 = n } }) (once args_node (k.0).0 (l.0).0 h e);
+    tys = λ k l h e. ap (λ n. record { 0 = record { 0 = n } }) (once tys_node (k.0).0 (l.0).0 h e);
+    valtree = λ k l h e. ap (λ n. record { 0 = record { 0 = n } }) (once valtree_node (k.0).0 (l.0).0 h e);
+    branches = λ k l h e. ap (λ n. record { 0 = record { 0 = n } }) (once branches_node (k.0).0 (l.0).0 h e);
+    id = λ x y e. ap (λ n. record { 0 = n }) e;
     name = λ x y e. ap (λ n. record { 0 = n }) e;
   }
 
-  pub same_ty_law : (k l : TyKey NodeKey) → IsTrue (known ((table_meaning ns).ty k)) →
-      IsTrue (known ((table_meaning ns).ty l)) →
-      (IsTrue (eqb (k.0).0 (l.0).0) ↔ ((table_meaning ns).ty k ≡ (table_meaning ns).ty l))
-  same_ty_law k l h _ = (
-    λ e. ap (λ n. (table_meaning ns).ty (record { 0 = record { 0 = n } })) (eqb-true (k.0).0 (l.0).0 e),
-    λ e. eq-eqb _ _ (once_ty k l h e),
-  )
-
-  pub same_region_law : (k l : RegionKey NodeKey) → IsTrue (known ((table_meaning ns).region k)) →
-      IsTrue (known ((table_meaning ns).region l)) →
-      (IsTrue (eqb (k.0).0 (l.0).0) ↔ ((table_meaning ns).region k ≡ (table_meaning ns).region l))
-  same_region_law k l h _ = (
-    λ e. ap (λ n. (table_meaning ns).region (record { 0 = record { 0 = n } })) (eqb-true (k.0).0 (l.0).0 e),
-    λ e. eq-eqb _ _ (once_region k l h e),
-  )
-
-  pub same_tys_law : (k l : TysKey NodeKey) → IsTrue (known ((table_meaning ns).tys k)) →
-      IsTrue (known ((table_meaning ns).tys l)) →
-      (IsTrue (eqb (k.0).0 (l.0).0) ↔ ((table_meaning ns).tys k ≡ (table_meaning ns).tys l))
-  same_tys_law k l h _ = (
-    λ e. ap (λ n. (table_meaning ns).tys (record { 0 = record { 0 = n } })) (eqb-true (k.0).0 (l.0).0 e),
-    λ e. eq-eqb _ _ (once_tys k l h e),
-  )
-
-  pub same_param_env_law : (k l : ParamEnvKey NodeKey) → IsTrue (known ((table_meaning ns).param_env k)) →
-      IsTrue (known ((table_meaning ns).param_env l)) →
-      (IsTrue (eqb (k.0).0 (l.0).0) ↔ ((table_meaning ns).param_env k ≡ (table_meaning ns).param_env l))
-  same_param_env_law k l h _ = (
-    λ e. ap (λ n. (table_meaning ns).param_env (record { 0 = record { 0 = n } })) (eqb-true (k.0).0 (l.0).0 e),
-    λ e. eq-eqb _ _ (once_environment k l h e),
+  -- Known keys of a sort are equal exactly where their trees are.
+  pub same_law : (s : NodeSort) (i j : ℕ) → IsTrue (known (tree_of_key s (table_meaning items ns) i)) →
+      IsTrue (known (tree_of_key s (table_meaning items ns) j)) →
+      (IsTrue (eqb i j) ↔ (tree_of_key s (table_meaning items ns) i ≡ tree_of_key s (table_meaning items ns) j))
+  same_law s i j h _ = (
+    λ e. ap (λ n. tree_of_key s (table_meaning items ns) n) (eqb-true i j e),
+    λ e. eq-eqb i j (once s i j h e),
   )

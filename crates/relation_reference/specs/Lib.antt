@@ -1,7 +1,6 @@
 pub mod Forms
+pub mod Items
 pub mod Nodes
 pub mod Empty
 pub mod Places
 pub mod Laws
-pub mod Tables
-pub mod Answers

@@ -1,49 +1,57 @@
-//! An interner whose keys are the numbers of nodes.
-ghost use Rattle.std.specs.Prelude.{◌≡◌, ℕ, IsTrue, IfOk, IsOk, OnErr, ◌++◌, ◌∷◌, [], ◌⊎◌, slice_index_or};
+//! An interner whose keys are the numbers of nodes, and whose ids are the numbers of items.
+ghost use Rattle.std.specs.Prelude.{◌≡◌, ℕ, IsTrue, IfOk, IsOk, OnErr, ◌++◌, ◌∷◌, [], ◌⊎◌, length};
 ghost use Rattle.relation_reference.specs.Empty.{KnowsNone};
 ghost use Rattle.relation_reference.specs.Nodes.{AllKnown, AllDistinct, entries, entry_of, known_entry, table_meaning, StandsAt};
 
+mod items;
 mod keys;
 mod node;
 
+pub use items::{DefKind, GenericParam, GenericParamKind, Item, ItemKind};
 pub use keys::{ItemId, NoSpan, NodeKey, SymbolId};
 pub use node::Node;
 use node::{copied, place};
 use relation_terms::terms::{
-    Dup, Interner, Keys, OutOfMemory, ParamEnv, ParamEnvKey, Region, RegionForm, RegionKey, Span,
-    Ty, TyForm, TyKey, Tys, TysKey,
+    ArgsKey, Branches, BranchesKey, Const, ConstForm, ConstKey, Dup, GenericArg, GenericArgs,
+    Interner, ItemOf, Keys, OutOfMemory, ParamEnv, ParamEnvKey, Region, RegionForm, RegionKey,
+    Span, Ty, TyForm, TyKey, Tys, TysKey, ValTree, ValTreeForm, ValTreeKey, Variance,
 };
 use std::alloc::Global;
 
-/// An interner that keeps its nodes in a vector. It finds a node by going over all of them.
+/// An interner that keeps its nodes and its items in vectors. It finds a node by going over all of them.
 #[derive(Drop)]
 pub struct RefInterner {
     alloc: Global,
     // What the keys stand for, by their numbers.
     nodes: Vec<Node>,
+    // What the ids stand for, by their numbers.
+    items: Vec<Item>,
     ghost known_all: { AllKnown nodes.items },
     ghost distinct: { AllDistinct nodes.items },
 }
 
 impl RefInterner {
-    /// An interner that knows no key. This takes no memory.
+    /// An interner that knows no key and has no item. This takes no memory.
     pub fn new(alloc: Global) -> RefInterner
         ensures { KnowsNone (⟦<RefInterner as Interner>⟧.meaning result) }
     {
         RefInterner {
             alloc,
             nodes: Vec::new(alloc),
+            items: Vec::new(alloc),
         }
     }
 
     // The key of the node, which is put at the end where it is new.
     fn add(&mut self, node: Node) -> Result<NodeKey, OutOfMemory>
-        requires { IsTrue (known_entry (entry_of (table_meaning self.old.nodes.items) node)) }
-        ensures number { IfOk result (λ k. StandsAt self.new.nodes.items k.0 (entry_of (table_meaning self.old.nodes.items) node)) }
+        requires { IsTrue (known_entry (entry_of (table_meaning self.old.items.items self.old.nodes.items) node)) }
+        ensures number { let m = table_meaning self.old.items.items self.old.nodes.items in
+            IfOk result (λ k. StandsAt self.new.nodes.items k.0 (entry_of m node)) }
         ensures added { (self.new.nodes.items ≡ self.old.nodes.items) ⊎ (self.new.nodes.items ≡ self.old.nodes.items ++ node ∷ []) }
         ensures refused { OnErr result (self.new.nodes.items ≡ self.old.nodes.items) }
-        ensures there { (k : ℕ) → StandsAt self.old.nodes.items k (entry_of (table_meaning self.old.nodes.items) node) →
-            IsOk result × (self.new.nodes.items ≡ self.old.nodes.items) }
+        ensures there { let m = table_meaning self.old.items.items self.old.nodes.items in
+            (k : ℕ) → StandsAt self.old.nodes.items k (entry_of m node) → IsOk result × (self.new.nodes.items ≡ self.old.nodes.items) }
+        ensures items { self.new.items ≡ self.old.items }
     {
         if let Some(number) = place(&self.nodes, &node) {
             return Ok(NodeKey(number));
@@ -67,14 +75,17 @@ impl Keys for RefInterner {
 impl Interner for RefInterner {
     ghost use Rattle.relation_terms.specs.Heads.{environment};
     ghost use Rattle.relation_terms.specs.Trees.{known, nil, node};
-    ghost use Rattle.relation_terms.specs.Meaning.{Extends, kind_tree, region_tree};
+    ghost use Rattle.relation_terms.specs.Meaning.{Extends, kind_tree, region_tree, const_tree, valtree_tree};
     ghost use Rattle.relation_terms.specs.declared.terms.keys.TyKey.{TyKey};
     ghost use Rattle.relation_terms.specs.declared.terms.keys.RegionKey.{RegionKey};
+    ghost use Rattle.relation_terms.specs.declared.terms.keys.ConstKey.{ConstKey};
+    ghost use Rattle.relation_terms.specs.declared.terms.keys.ValTreeKey.{ValTreeKey};
     ghost use Rattle.relation_terms.specs.declared.terms.keys.ParamEnvKey.{ParamEnvKey};
     ghost use Rattle.relation_reference.specs.declared.interner.keys.NodeKey.{NodeKey};
-    ghost use Rattle.relation_reference.specs.Laws.{same_ty_law, same_region_law, same_tys_law, same_param_env_law, same_name_law, is_ty_law, is_region_law, are_tys_law, is_param_env_law};
+    ghost use Rattle.relation_reference.specs.Nodes.{ty_node, region_node, const_node, valtree_node, args_node, tys_node, branches_node, environment_node};
+    ghost use Rattle.relation_reference.specs.Laws.{sort_law, same_law, same_name_law, same_id_law};
 
-    ghost meaning = { λ s. table_meaning s.nodes.items };
+    ghost meaning = { λ s. table_meaning s.items.items s.nodes.items };
 
     fn alloc(&self) -> Global {
         self.alloc
@@ -84,33 +95,63 @@ impl Interner for RefInterner {
         NoSpan
     }
 
-    #[tactic(auto, using(crate::proofs::Table::ty_in, crate::proofs::Table::ty_read))]
     fn ty_kind(&self, ty: &Ty<Self>) -> TyForm<Self> {
         match &self.nodes[ty.0.0] {
             Node::Ty(kind) => kind.dup(),
-            Node::Region(_) => unreachable!(),
-            Node::Tys(_) => unreachable!(),
-            Node::ParamEnv => unreachable!(),
+            _ => unreachable!(),
         }
     }
 
-    #[tactic(auto, using(crate::proofs::Table::region_in, crate::proofs::Table::region_read))]
     fn region_kind(&self, region: &Region<Self>) -> RegionForm<Self> {
         match &self.nodes[region.0.0] {
             Node::Region(kind) => kind.dup(),
-            Node::Ty(_) => unreachable!(),
-            Node::Tys(_) => unreachable!(),
-            Node::ParamEnv => unreachable!(),
+            _ => unreachable!(),
         }
     }
 
-    #[tactic(auto, using(crate::proofs::Table::tys_in, crate::proofs::Table::tys_read))]
     fn tys(&self, tys: &Tys<Self>) -> &[Ty<Self>] {
         match &self.nodes[tys.0.0] {
             Node::Tys(list) => list.as_slice(),
-            Node::Ty(_) => unreachable!(),
-            Node::Region(_) => unreachable!(),
-            Node::ParamEnv => unreachable!(),
+            _ => unreachable!(),
+        }
+    }
+
+    fn const_kind(&self, constant: &Const<Self>) -> ConstForm<Self> {
+        match &self.nodes[constant.0.0] {
+            Node::Const(kind) => kind.dup(),
+            _ => unreachable!(),
+        }
+    }
+
+    fn valtree_kind(&self, valtree: &ValTree<Self>) -> ValTreeForm<Self> {
+        match &self.nodes[valtree.0.0] {
+            Node::ValTree(kind) => kind.dup(),
+            _ => unreachable!(),
+        }
+    }
+
+    fn args(&self, args: &GenericArgs<Self>) -> &[GenericArg<Self>] {
+        match &self.nodes[args.0.0] {
+            Node::Args(list) => list.as_slice(),
+            _ => unreachable!(),
+        }
+    }
+
+    fn branches(&self, branches: &Branches<Self>) -> &[Const<Self>] {
+        match &self.nodes[branches.0.0] {
+            Node::Branches(list) => list.as_slice(),
+            _ => unreachable!(),
+        }
+    }
+
+    fn generics_count(&self, def_id: &ItemOf<Self>) -> usize {
+        self.variances_of(def_id).len()
+    }
+
+    fn variances_of(&self, def_id: &ItemOf<Self>) -> &[Variance] {
+        match self.items.get(def_id.0.0) {
+            Some(item) => &item.variances,
+            None => &[],
         }
     }
 
@@ -147,28 +188,86 @@ impl Interner for RefInterner {
         Ok(TysKey(number))
     }
 
+    fn mk_const(&mut self, kind: ConstForm<Self>) -> Result<Const<Self>, OutOfMemory>
+        requires { let m = ⟦<RefInterner as Interner>⟧.meaning self.old in IsTrue (known (const_tree m kind)) }
+        ensures grown { Extends (⟦<RefInterner as Interner>⟧.meaning self.old) (⟦<RefInterner as Interner>⟧.meaning self.new) }
+        ensures sure { IfOk result (λ k. IsTrue (known ((⟦<RefInterner as Interner>⟧.meaning self.new).const_ k))) }
+        ensures made { let m = ⟦<RefInterner as Interner>⟧.meaning self.old in
+            IfOk result (λ k. (⟦<RefInterner as Interner>⟧.meaning self.new).const_ k ≡ const_tree m kind) }
+        ensures refused { OnErr result (⟦<RefInterner as Interner>⟧.meaning self.new ≡ ⟦<RefInterner as Interner>⟧.meaning self.old) }
+        ensures there { let m = ⟦<RefInterner as Interner>⟧.meaning self.old in
+            (k : ConstKey NodeKey) → m.const_ k ≡ const_tree m kind → IsOk result × (⟦<RefInterner as Interner>⟧.meaning self.new ≡ m) }
+    {
+        let number = self.add(Node::Const(kind))?;
+        Ok(ConstKey(number))
+    }
+
+    fn mk_valtree(&mut self, kind: ValTreeForm<Self>) -> Result<ValTree<Self>, OutOfMemory>
+        requires { let m = ⟦<RefInterner as Interner>⟧.meaning self.old in IsTrue (known (valtree_tree m kind)) }
+        ensures grown { Extends (⟦<RefInterner as Interner>⟧.meaning self.old) (⟦<RefInterner as Interner>⟧.meaning self.new) }
+        ensures sure { IfOk result (λ k. IsTrue (known ((⟦<RefInterner as Interner>⟧.meaning self.new).valtree k))) }
+        ensures made { let m = ⟦<RefInterner as Interner>⟧.meaning self.old in
+            IfOk result (λ k. (⟦<RefInterner as Interner>⟧.meaning self.new).valtree k ≡ valtree_tree m kind) }
+        ensures refused { OnErr result (⟦<RefInterner as Interner>⟧.meaning self.new ≡ ⟦<RefInterner as Interner>⟧.meaning self.old) }
+        ensures there { let m = ⟦<RefInterner as Interner>⟧.meaning self.old in
+            (k : ValTreeKey NodeKey) → m.valtree k ≡ valtree_tree m kind → IsOk result × (⟦<RefInterner as Interner>⟧.meaning self.new ≡ m) }
+    {
+        let number = self.add(Node::ValTree(kind))?;
+        Ok(ValTreeKey(number))
+    }
+
+    fn mk_args(&mut self, args: &[GenericArg<Self>]) -> Result<GenericArgs<Self>, OutOfMemory> {
+        let list = copied(self.alloc, args)?;
+        let number = self.add(Node::Args(list))?;
+        Ok(ArgsKey(number))
+    }
+
+    fn mk_branches(&mut self, branches: &[Const<Self>]) -> Result<Branches<Self>, OutOfMemory> {
+        let list = copied(self.alloc, branches)?;
+        let number = self.add(Node::Branches(list))?;
+        Ok(BranchesKey(number))
+    }
+
     fn empty_param_env(&mut self) -> Result<ParamEnv<Self>, OutOfMemory> {
         let number = self.add(Node::ParamEnv)?;
         Ok(ParamEnvKey(number))
     }
 
-    ghost same_ty = { λ a. same_ty_law a.nodes.items a.distinct };
+    ghost same_ty = { λ a k l. same_law a.items.items a.nodes.items a.distinct ty_node (k.0).0 (l.0).0 };
 
-    ghost same_region = { λ a. same_region_law a.nodes.items a.distinct };
+    ghost same_region = { λ a k l. same_law a.items.items a.nodes.items a.distinct region_node (k.0).0 (l.0).0 };
 
-    ghost same_tys = { λ a. same_tys_law a.nodes.items a.distinct };
+    ghost same_tys = { λ a k l. same_law a.items.items a.nodes.items a.distinct tys_node (k.0).0 (l.0).0 };
 
-    ghost same_param_env = { λ a. same_param_env_law a.nodes.items a.distinct };
+    ghost same_const = { λ a k l. same_law a.items.items a.nodes.items a.distinct const_node (k.0).0 (l.0).0 };
 
-    ghost same_name = { λ a. same_name_law a.nodes.items };
+    ghost same_args = { λ a k l. same_law a.items.items a.nodes.items a.distinct args_node (k.0).0 (l.0).0 };
 
-    ghost is_ty = { λ a. is_ty_law a.nodes.items };
+    ghost same_valtree = { λ a k l. same_law a.items.items a.nodes.items a.distinct valtree_node (k.0).0 (l.0).0 };
 
-    ghost is_region = { λ a. is_region_law a.nodes.items };
+    ghost same_branches = { λ a k l. same_law a.items.items a.nodes.items a.distinct branches_node (k.0).0 (l.0).0 };
 
-    ghost are_tys = { λ a. are_tys_law a.nodes.items };
+    ghost same_param_env = { λ a k l. same_law a.items.items a.nodes.items a.distinct environment_node (k.0).0 (l.0).0 };
 
-    ghost is_param_env = { λ a. is_param_env_law a.nodes.items };
+    ghost same_name = { λ a. same_name_law a.items.items a.nodes.items };
+
+    ghost same_id = { λ a. same_id_law a.items.items a.nodes.items };
+
+    ghost is_ty = { λ a k. sort_law a.items.items a.nodes.items ty_node (k.0).0 };
+
+    ghost is_region = { λ a k. sort_law a.items.items a.nodes.items region_node (k.0).0 };
+
+    ghost are_tys = { λ a k. sort_law a.items.items a.nodes.items tys_node (k.0).0 };
+
+    ghost is_const = { λ a k. sort_law a.items.items a.nodes.items const_node (k.0).0 };
+
+    ghost is_valtree = { λ a k. sort_law a.items.items a.nodes.items valtree_node (k.0).0 };
+
+    ghost are_args = { λ a k. sort_law a.items.items a.nodes.items args_node (k.0).0 };
+
+    ghost are_branches = { λ a k. sort_law a.items.items a.nodes.items branches_node (k.0).0 };
+
+    ghost is_param_env = { λ a k. sort_law a.items.items a.nodes.items environment_node (k.0).0 };
 }
 
 #[cfg(test)]

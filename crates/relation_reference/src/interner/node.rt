@@ -3,19 +3,29 @@ ghost use Rattle.std.specs.Prelude.{◌≡◌, ◌≢◌, ◌<◌, ◌↔◌, �
 ghost use Rattle.relation_reference.specs.Forms.{form_of};
 ghost use Rattle.relation_reference.specs.declared.interner.node.Node.{Node};
 
-use crate::interner::{NodeKey, SymbolId};
-use relation_terms::terms::{Dup, OutOfMemory, RegionKind, TyKey, TyKind};
+use crate::interner::{ItemId, NodeKey, SymbolId};
+use relation_terms::terms::{
+    ConstKey, ConstKind, Dup, GenericArgKind, OutOfMemory, RegionKind, TyKey, TyKind, ValTreeKind,
+};
 use std::alloc::Global;
 
 /// What one key stands for.
 #[derive(PartialEq, Eq, Debug, Drop)]
 pub enum Node {
     /// A type, by its outermost form.
-    Ty(TyKind<NodeKey>),
+    Ty(TyKind<NodeKey, ItemId, SymbolId>),
     /// A region.
     Region(RegionKind<SymbolId>),
+    /// A constant, by its outermost form.
+    Const(ConstKind<NodeKey, SymbolId>),
+    /// A value tree, by its outermost form.
+    ValTree(ValTreeKind<NodeKey>),
+    /// A list of generic arguments.
+    Args(Vec<GenericArgKind<NodeKey>>),
     /// A list of types.
     Tys(Vec<TyKey<NodeKey>>),
+    /// A list of constants, which a value is made of.
+    Branches(Vec<ConstKey<NodeKey>>),
     /// The environment without clauses.
     ParamEnv,
 }

@@ -2,4 +2,4 @@ use Rattle.relation_reference.proofs.Once.{none_known}
 use Rattle.relation_reference.proofs.interner.RefInterner.new.Goals as goal
 
 pub returns : goal.returns
-returns c = none_known c.new.result.items c.new.ensures.items
+returns c = none_known c.new-2.result.items c.new.result.items c.new-2.ensures.items c.new.ensures.items

@@ -3,27 +3,35 @@ use Rattle.std.proofs.lemmas.Bool.{false≢true}
 use Rattle.relation_terms.specs.Trees.{known}
 use Rattle.relation_terms.specs.Meaning.{region_tree}
 use Rattle.relation_terms.proofs.Sorted.{region_known}
-use Rattle.relation_reference.specs.Nodes.{region_entry, table_meaning}
+use Rattle.relation_reference.specs.Nodes.{region_node, table_meaning}
 use Rattle.relation_reference.specs.declared.interner.node.Node.TheVariants.{Region}
-use Rattle.relation_reference.proofs.Once.{grows, region_of, region_stands}
+use Rattle.relation_reference.proofs.Once.{grows, made, stands, same_meaning}
 use Rattle.relation_reference.proofs.interner.RefInternerInterner.mk_region.Goals as goal
 
 pub returns-clause-grown : goal.returns-clause-grown
-returns-clause-grown c = grows c.args.self.now.nodes.items (Region c.args.kind) c.add.new.self.nodes.items c.in_ok-number.ensures.added
+returns-clause-grown c =
+    grows c.args.self.now.items.items c.args.self.now.nodes.items c.add.new.self.items.items c.add.new.self.nodes.items
+    (Region c.args.kind) (ap (λ v. v.items) c.in_ok-number.ensures.items) c.in_ok-number.ensures.added
 
 pub returns-clause-made : goal.returns-clause-made
 returns-clause-made c =
-    region_of c.add.new.self.nodes.items (region_entry (region_tree (table_meaning c.args.self.now.nodes.items) c.args.kind)) (record { 0 = c.in_ok-number.number }) c.in_ok-number.ensures.number
+    made c.add.new.self.items.items c.add.new.self.nodes.items region_node
+    (region_tree (table_meaning c.args.self.now.items.items c.args.self.now.nodes.items) c.args.kind) (c.in_ok-number.number).0 c.in_ok-number.ensures.number
 
 pub returns-clause-sure : goal.returns-clause-sure
-returns-clause-sure c = subst (λ t. IsTrue (known t)) (sym (returns-clause-made c)) (region_known (table_meaning c.args.self.now.nodes.items) c.args.kind)
+returns-clause-sure c = subst (λ t. IsTrue (known t)) (sym (returns-clause-made c)) (region_known (table_meaning c.args.self.now.items.items c.args.self.now.nodes.items) c.args.kind)
 
 pub returns-clause-there : goal.returns-clause-there
 returns-clause-there c = λ k e.
-    let at = region_stands c.args.self.now.nodes.items (region_tree (table_meaning c.args.self.now.nodes.items) c.args.kind) k e (region_known (table_meaning c.args.self.now.nodes.items) c.args.kind) in
-    (refl, ap table_meaning (c.in_ok-number.ensures.there (k.0).0 at).1)
+    let at = stands c.args.self.now.items.items c.args.self.now.nodes.items region_node
+        (region_tree (table_meaning c.args.self.now.items.items c.args.self.now.nodes.items) c.args.kind) (k.0).0
+        (region_known (table_meaning c.args.self.now.items.items c.args.self.now.nodes.items) c.args.kind) e in
+    (refl, same_meaning c.args.self.now.items.items c.args.self.now.nodes.items c.add.new.self.items.items c.add.new.self.nodes.items
+    (ap (λ v. v.items) c.in_ok-number.ensures.items) (c.in_ok-number.ensures.there (k.0).0 at).1)
 
 pub returns-in_err-number-clause-there : goal.returns-in_err-number-clause-there
 returns-in_err-number-clause-there c = λ k e.
-    let at = region_stands c.args.self.now.nodes.items (region_tree (table_meaning c.args.self.now.nodes.items) c.args.kind) k e (region_known (table_meaning c.args.self.now.nodes.items) c.args.kind) in
+    let at = stands c.args.self.now.items.items c.args.self.now.nodes.items region_node
+        (region_tree (table_meaning c.args.self.now.items.items c.args.self.now.nodes.items) c.args.kind) (k.0).0
+        (region_known (table_meaning c.args.self.now.items.items c.args.self.now.nodes.items) c.args.kind) e in
     absurd (false≢true (c.in_err-number.ensures.there (k.0).0 at).0)

@@ -1,16 +1,22 @@
-use Rattle.std.proofs.Common.{refl, sym, ◌∙◌}
-use Rattle.relation_reference.specs.declared.interner.node.Node.TheVariants.{Ty, Tys, ParamEnv}
-use Rattle.relation_reference.proofs.Table.{region_not}
+use Rattle.std.proofs.Common.{◌<◌, ap, sym, ◌∙◌, subst}
+use Rattle.relation_terms.specs.Meaning.{region_tree}
+use Rattle.relation_reference.specs.Forms.{region_form, form_of}
+use Rattle.relation_reference.specs.Nodes.{region_node, table_meaning}
+use Rattle.relation_reference.proofs.Table.{key_in, key_sort, key_read, not_region}
 use Rattle.relation_reference.proofs.interner.RefInternerInterner.region_kind.Goals as goal
+
+pub index-requires : goal.index-requires
+index-requires c = subst (λ n. (c.args.region.now.0).0 < n) (sym c.args.self.now.nodes.ok.0)
+    (key_in c.args.self.now.items.items c.args.self.now.nodes.items region_node (c.args.region.now.0).0 c.requires)
 
 pub unreachable-requires : goal.unreachable-requires
 unreachable-requires c =
-    region_not c.args.self.now.nodes.items c.args.region.now (Ty c.in-Ty.field-0) _ (sym c.index.ensures ∙ c.in-Ty.is) c.requires (λ m. refl)
+    not_region c.index.result.now c.in_default.not-Region
+    (key_sort c.args.self.now.items.items c.args.self.now.nodes.items region_node (c.args.region.now.0).0 c.requires
+    c.index.result.now c.index.ensures)
 
-pub unreachable-requires-in-Tys : goal.unreachable-requires-in-Tys
-unreachable-requires-in-Tys c =
-    region_not c.args.self.now.nodes.items c.args.region.now (Tys c.in-Tys.field-0) _ (sym c.index.ensures ∙ c.in-Tys.is) c.requires (λ m. refl)
-
-pub unreachable-requires-in-ParamEnv : goal.unreachable-requires-in-ParamEnv
-unreachable-requires-in-ParamEnv c =
-    region_not c.args.self.now.nodes.items c.args.region.now ParamEnv _ (sym c.index.ensures ∙ c.in-ParamEnv.is) c.requires (λ m. refl)
+pub returns : goal.returns
+returns c =
+    key_read c.args.self.now.items.items c.args.self.now.nodes.items region_node (c.args.region.now.0).0 c.requires
+    c.index.result.now c.index.ensures (region_form c.in-Region.kind) (ap form_of c.in-Region.is) ∙
+    ap (region_tree (table_meaning c.args.self.now.items.items c.args.self.now.nodes.items)) (sym c.dup.ensures)

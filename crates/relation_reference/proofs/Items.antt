@@ -1,0 +1,115 @@
+-- The variances of a table's items, and that the trees of its nodes do not depend on them.
+use Rattle.std.proofs.Common.{ℕ, ◌≡◌, ◌<◌, ◌≤◌, List, [], ◌∷◌, refl, ap, ap₂, sym, subst, length, map, get_or}
+use Rattle.std.proofs.lemmas.List.{get_or-map, length-map, get_or_past}
+use Rattle.relation_terms.specs.Trees.{Tree, list_tree, cons}
+use Rattle.relation_terms.specs.Meaning.{kind_tree, region_tree, const_tree, valtree_tree, arg_tree}
+use Rattle.relation_terms.specs.declared.terms.ty_kind.TyKind.{TyKind}
+use Rattle.relation_terms.specs.declared.terms.ty_kind.TyKind.TheVariants.{Bool, Char, Int, Uint, Float, Adt, Foreign}
+use Rattle.relation_terms.specs.declared.terms.ty_kind.TyKind.TheVariants.{Str, Array, Slice, RawPtr, Ref, FnDef}
+use Rattle.relation_terms.specs.declared.terms.ty_kind.TyKind.TheVariants.{Closure, CoroutineClosure, Coroutine}
+use Rattle.relation_terms.specs.declared.terms.ty_kind.TyKind.TheVariants.{CoroutineWitness, Never, Tuple, Infer}
+use Rattle.relation_terms.specs.declared.terms.ty_kind.TyKind.TheVariants.{Param as TyParam, Placeholder as TyPlaceholder}
+use Rattle.relation_terms.specs.declared.terms.const_kind.ConstKind.{ConstKind}
+use Rattle.relation_terms.specs.declared.terms.const_kind.ConstKind.TheVariants.{Param as ConstParam}
+use Rattle.relation_terms.specs.declared.terms.const_kind.ConstKind.TheVariants.{Placeholder as ConstPlaceholder}
+use Rattle.relation_terms.specs.declared.terms.const_kind.ConstKind.TheVariants.{Value, Expr}
+use Rattle.relation_terms.specs.declared.terms.const_kind.ValTreeKind.{ValTreeKind}
+use Rattle.relation_terms.specs.declared.terms.const_kind.ValTreeKind.TheVariants.{Leaf, Branch}
+use Rattle.relation_terms.specs.declared.terms.region_kind.RegionKind.{RegionKind}
+use Rattle.relation_terms.specs.declared.terms.region_kind.RegionKind.TheVariants.{ReStatic, ReEarlyParam, ReVar}
+use Rattle.relation_terms.specs.declared.terms.generic_arg.GenericArgKind.{GenericArgKind}
+use Rattle.relation_terms.specs.declared.terms.generic_arg.GenericArgKind.TheVariants.{Lifetime, Ty, Const}
+use Rattle.relation_reference.specs.declared.interner.keys.NodeKey.{NodeKey}
+use Rattle.relation_reference.specs.declared.interner.keys.ItemId.{ItemId}
+use Rattle.relation_reference.specs.declared.interner.keys.SymbolId.{SymbolId}
+use Rattle.relation_reference.specs.declared.interner.items.Item.{Item}
+use Rattle.relation_reference.specs.declared.interner.node.Node.{Node}
+use Rattle.relation_reference.specs.Forms.{Form, ty_form, region_form, const_form, valtree_form, args_form, tys_form}
+use Rattle.relation_reference.specs.Forms.{branches_form, environment_form, form_of}
+use Rattle.relation_reference.specs.Items.{variances_at}
+use Rattle.relation_reference.specs.Nodes.{Entry, entry, meaning_of, form_sort, form_tree, entry_of, entries, table_meaning}
+
+same_list : {A : Type 0} (f g : A → Tree) → ((x : A) → f x ≡ g x) → (xs : List A) → list_tree f xs ≡ list_tree g xs
+same_list f g h [] = refl
+same_list f g h (x ∷ xs) = ap₂ (λ y z. cons y z) (h x) (same_list f g h xs)
+
+module _ (as_before more : List Item) (es : List Entry) where
+  same_kind : (f : TyKind NodeKey ItemId SymbolId) →
+      kind_tree (meaning_of as_before es) f ≡ kind_tree (meaning_of more es) f
+  unfolding meaning_of
+  same_kind Bool = refl
+  same_kind Char = refl
+  same_kind (Int w) = refl
+  same_kind (Uint w) = refl
+  same_kind (Float w) = refl
+  same_kind (Adt d a) = refl
+  same_kind (Foreign d) = refl
+  same_kind Str = refl
+  same_kind (Array t c) = refl
+  same_kind (Slice t) = refl
+  same_kind (RawPtr t u) = refl
+  same_kind (Ref r t u) = refl
+  same_kind (FnDef d a) = refl
+  same_kind (Closure d a) = refl
+  same_kind (CoroutineClosure d a) = refl
+  same_kind (Coroutine d a) = refl
+  same_kind (CoroutineWitness d a) = refl
+  same_kind Never = refl
+  same_kind (Tuple ts) = refl
+  same_kind (TyParam p) = refl
+  same_kind (TyPlaceholder p) = refl
+  same_kind (Infer i) = refl
+
+  same_const : (f : ConstKind NodeKey SymbolId) →
+      const_tree (meaning_of as_before es) f ≡ const_tree (meaning_of more es) f
+  unfolding meaning_of
+  same_const (ConstParam p) = refl
+  same_const (ConstPlaceholder p) = refl
+  same_const (Value t v) = refl
+  same_const (Expr x a) = refl
+
+  same_valtree : (f : ValTreeKind NodeKey) →
+      valtree_tree (meaning_of as_before es) f ≡ valtree_tree (meaning_of more es) f
+  unfolding meaning_of
+  same_valtree (Leaf b n) = refl
+  same_valtree (Branch b) = refl
+
+  same_region : (f : RegionKind SymbolId) →
+      region_tree (meaning_of as_before es) f ≡ region_tree (meaning_of more es) f
+  unfolding meaning_of
+  same_region ReStatic = refl
+  same_region (ReEarlyParam p) = refl
+  same_region (ReVar v) = refl
+
+  same_arg : (a : GenericArgKind NodeKey) → arg_tree (meaning_of as_before es) a ≡ arg_tree (meaning_of more es) a
+  unfolding meaning_of
+  same_arg (Lifetime r) = refl
+  same_arg (Ty t) = refl
+  same_arg (Const c) = refl
+
+  same_form : (f : Form) → form_tree (meaning_of as_before es) f ≡ form_tree (meaning_of more es) f
+  unfolding meaning_of
+  same_form (ty_form f) = same_kind f
+  same_form (region_form f) = same_region f
+  same_form (const_form f) = same_const f
+  same_form (valtree_form f) = same_valtree f
+  same_form (args_form xs) =
+      same_list (arg_tree (meaning_of as_before es)) (arg_tree (meaning_of more es)) same_arg xs
+  same_form (tys_form ts) = refl
+  same_form (branches_form cs) = refl
+  same_form environment_form = refl
+
+-- A node's entry is one whatever the items are.
+pub same_entry : (items more : List Item) (ns : List Node) (n : Node) →
+    entry_of (table_meaning items ns) n ≡ entry_of (table_meaning more ns) n
+same_entry items more ns n = ap (entry (form_sort (form_of n))) (same_form items more (entries ns) (form_of n))
+
+-- The variances of an item that is there, and of none.
+pub variances_there : (items : List Item) (i : ℕ) (d : Item) → i < length items →
+    variances_at items (record { 0 = i }) ≡ ((get_or items i d).variances).items
+variances_there items i d h = get_or-map (λ x. (x.variances).items) items i d [] h
+
+pub variances_past : (items : List Item) (i : ℕ) → length items ≤ i → variances_at items (record { 0 = i }) ≡ []
+variances_past items i h =
+    get_or_past (map (λ x. (x.variances).items) items) i []
+    (subst (λ n. n ≤ i) (sym (length-map items (λ x. (x.variances).items))) h)

@@ -1,0 +1,23 @@
+use Rattle.std.proofs.Common.{◌<◌, ap, sym, ◌∙◌, subst}
+use Rattle.relation_terms.specs.Meaning.{arg_tree}
+use Rattle.relation_terms.specs.Trees.{list_tree}
+use Rattle.relation_reference.specs.Forms.{args_form, form_of}
+use Rattle.relation_reference.specs.Nodes.{args_node, table_meaning}
+use Rattle.relation_reference.proofs.Table.{key_in, key_sort, key_read, not_args}
+use Rattle.relation_reference.proofs.interner.RefInternerInterner.args.Goals as goal
+
+pub index-requires : goal.index-requires
+index-requires c = subst (λ n. (c.args.args.now.0).0 < n) (sym c.args.self.now.nodes.ok.0)
+    (key_in c.args.self.now.items.items c.args.self.now.nodes.items args_node (c.args.args.now.0).0 c.requires)
+
+pub unreachable-requires : goal.unreachable-requires
+unreachable-requires c =
+    not_args c.index.result.now c.in_default.not-Args
+    (key_sort c.args.self.now.items.items c.args.self.now.nodes.items args_node (c.args.args.now.0).0 c.requires
+    c.index.result.now c.index.ensures)
+
+pub returns : goal.returns
+returns c =
+    key_read c.args.self.now.items.items c.args.self.now.nodes.items args_node (c.args.args.now.0).0 c.requires
+    c.index.result.now c.index.ensures (args_form c.in-Args.list.items) (ap form_of c.in-Args.is) ∙
+    ap (list_tree (arg_tree (table_meaning c.args.self.now.items.items c.args.self.now.nodes.items))) (sym c.as_slice.ensures.value)

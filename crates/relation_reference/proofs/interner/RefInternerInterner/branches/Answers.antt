@@ -1,0 +1,22 @@
+use Rattle.std.proofs.Common.{◌<◌, ap, sym, ◌∙◌, subst}
+use Rattle.relation_terms.specs.Trees.{list_tree}
+use Rattle.relation_reference.specs.Forms.{branches_form, form_of}
+use Rattle.relation_reference.specs.Nodes.{branches_node, table_meaning}
+use Rattle.relation_reference.proofs.Table.{key_in, key_sort, key_read, not_branches}
+use Rattle.relation_reference.proofs.interner.RefInternerInterner.branches.Goals as goal
+
+pub index-requires : goal.index-requires
+index-requires c = subst (λ n. (c.args.branches.now.0).0 < n) (sym c.args.self.now.nodes.ok.0)
+    (key_in c.args.self.now.items.items c.args.self.now.nodes.items branches_node (c.args.branches.now.0).0 c.requires)
+
+pub unreachable-requires : goal.unreachable-requires
+unreachable-requires c =
+    not_branches c.index.result.now c.in_default.not-Branches
+    (key_sort c.args.self.now.items.items c.args.self.now.nodes.items branches_node (c.args.branches.now.0).0 c.requires
+    c.index.result.now c.index.ensures)
+
+pub returns : goal.returns
+returns c =
+    key_read c.args.self.now.items.items c.args.self.now.nodes.items branches_node (c.args.branches.now.0).0 c.requires
+    c.index.result.now c.index.ensures (branches_form c.in-Branches.list.items) (ap form_of c.in-Branches.is) ∙
+    ap (list_tree (table_meaning c.args.self.now.items.items c.args.self.now.nodes.items).const_) (sym c.as_slice.ensures.value)

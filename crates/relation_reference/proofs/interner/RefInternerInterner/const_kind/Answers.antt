@@ -1,0 +1,22 @@
+use Rattle.std.proofs.Common.{◌<◌, ap, sym, ◌∙◌, subst}
+use Rattle.relation_terms.specs.Meaning.{const_tree}
+use Rattle.relation_reference.specs.Forms.{const_form, form_of}
+use Rattle.relation_reference.specs.Nodes.{const_node, table_meaning}
+use Rattle.relation_reference.proofs.Table.{key_in, key_sort, key_read, not_const}
+use Rattle.relation_reference.proofs.interner.RefInternerInterner.const_kind.Goals as goal
+
+pub index-requires : goal.index-requires
+index-requires c = subst (λ n. (c.args.constant.now.0).0 < n) (sym c.args.self.now.nodes.ok.0)
+    (key_in c.args.self.now.items.items c.args.self.now.nodes.items const_node (c.args.constant.now.0).0 c.requires)
+
+pub unreachable-requires : goal.unreachable-requires
+unreachable-requires c =
+    not_const c.index.result.now c.in_default.not-Const
+    (key_sort c.args.self.now.items.items c.args.self.now.nodes.items const_node (c.args.constant.now.0).0 c.requires
+    c.index.result.now c.index.ensures)
+
+pub returns : goal.returns
+returns c =
+    key_read c.args.self.now.items.items c.args.self.now.nodes.items const_node (c.args.constant.now.0).0 c.requires
+    c.index.result.now c.index.ensures (const_form c.in-Const.kind) (ap form_of c.in-Const.is) ∙
+    ap (const_tree (table_meaning c.args.self.now.items.items c.args.self.now.nodes.items)) (sym c.dup.ensures)

@@ -1,0 +1,32 @@
+use Rattle.std.proofs.Common.{◌≡◌, ◌∙◌, ap, subst, sym, IsTrue}
+use Rattle.relation_terms.specs.Trees.{known, list_tree}
+use Rattle.relation_terms.specs.Meaning.{arg_tree}
+use Rattle.relation_reference.specs.Nodes.{args_node, table_meaning}
+use Rattle.relation_reference.specs.declared.interner.node.Node.TheVariants.{Args}
+use Rattle.relation_reference.proofs.Once.{grows, made, stands, same_meaning}
+use Rattle.relation_reference.proofs.interner.RefInternerInterner.mk_args.Goals as goal
+
+pub returns-clause-grown : goal.returns-clause-grown
+returns-clause-grown c =
+    grows c.args.self.now.items.items c.args.self.now.nodes.items c.add.new.self.items.items c.add.new.self.nodes.items
+    (Args c.in_ok-list.list) (ap (λ v. v.items) c.in_ok-number.ensures.items) c.in_ok-number.ensures.added
+
+pub returns-clause-made : goal.returns-clause-made
+returns-clause-made c =
+    let read = arg_tree (table_meaning c.args.self.now.items.items c.args.self.now.nodes.items) in
+    made c.add.new.self.items.items c.add.new.self.nodes.items args_node
+    (list_tree read c.in_ok-list.list.items) (c.in_ok-number.number).0 c.in_ok-number.ensures.number ∙
+    ap (λ xs. list_tree read xs) c.in_ok-list.ensures
+
+pub returns-clause-sure : goal.returns-clause-sure
+returns-clause-sure c = subst (λ t. IsTrue (known t)) (sym (returns-clause-made c)) c.requires
+
+pub returns-clause-there : goal.returns-clause-there
+returns-clause-there c = λ k e.
+    let read = arg_tree (table_meaning c.args.self.now.items.items c.args.self.now.nodes.items) in
+    let v = c.in_ok-list.list.items in
+    let same : list_tree read v ≡ list_tree read c.args.args.now = ap (λ xs. list_tree read xs) c.in_ok-list.ensures in
+    let sure : IsTrue (known (list_tree read v)) = subst (λ t. IsTrue (known t)) (sym same) c.requires in
+    let at = stands c.args.self.now.items.items c.args.self.now.nodes.items args_node (list_tree read v) (k.0).0 sure (e ∙ sym same) in
+    same_meaning c.args.self.now.items.items c.args.self.now.nodes.items c.add.new.self.items.items c.add.new.self.nodes.items
+    (ap (λ v. v.items) c.in_ok-number.ensures.items) (c.in_ok-number.ensures.there (k.0).0 at).1
