@@ -1,8 +1,13 @@
 -- The variances of a table's items, and that the trees of its nodes do not depend on them.
-use Rattle.std.proofs.Common.{ℕ, ◌≡◌, ◌<◌, ◌≤◌, List, [], ◌∷◌, refl, ap, ap₂, sym, subst, length, map, get_or}
-use Rattle.std.proofs.lemmas.List.{get_or-map, length-map, get_or_past}
+use Rattle.std.proofs.Common.{ℕ, suc, ◌≡◌, ◌≢◌, ◌<◌, ◌≤◌, List, [], ◌∷◌, ◌++◌, refl, ap, ap₂, sym, ◌∙◌, subst, length, map}
+use Rattle.std.proofs.Common.{get_or, inl, inr, arith, length-append}
+use Rattle.std.proofs.lemmas.Bool.{cases_lt}
+use Rattle.std.proofs.lemmas.List.{get_or-map, length-map, map-append, get_or_append_left, get_or_past}
+use Rattle.std.proofs.Math.Seq.{get_or-append_seam}
+use Rattle.relation_terms.proofs.Lists.{last_place}
 use Rattle.relation_terms.specs.Trees.{Tree, list_tree, cons}
 use Rattle.relation_terms.specs.Meaning.{kind_tree, region_tree, const_tree, valtree_tree, arg_tree}
+use Rattle.relation_terms.specs.declared.terms.enums.Variance.{Variance}
 use Rattle.relation_terms.specs.declared.terms.ty_kind.TyKind.{TyKind}
 use Rattle.relation_terms.specs.declared.terms.ty_kind.TyKind.TheVariants.{Bool, Char, Int, Uint, Float, Adt, Foreign}
 use Rattle.relation_terms.specs.declared.terms.ty_kind.TyKind.TheVariants.{Str, Array, Slice, RawPtr, Ref, FnDef}
@@ -26,6 +31,7 @@ use Rattle.relation_reference.specs.declared.interner.items.Item.{Item}
 use Rattle.relation_reference.specs.declared.interner.node.Node.{Node}
 use Rattle.relation_reference.specs.Forms.{Form, ty_form, region_form, const_form, valtree_form, args_form, tys_form}
 use Rattle.relation_reference.specs.Forms.{branches_form, environment_form, form_of}
+use Rattle.relation_reference.specs.Adding.{SameTerms, OthersStand}
 use Rattle.relation_reference.specs.Items.{variances_at}
 use Rattle.relation_reference.specs.Nodes.{Entry, entry, meaning_of, form_sort, form_tree, entry_of, entries, table_meaning}
 
@@ -113,3 +119,80 @@ pub variances_past : (items : List Item) (i : ℕ) → length items ≤ i → va
 variances_past items i h =
     get_or_past (map (λ x. (x.variances).items) items) i []
     (subst (λ n. n ≤ i) (sym (length-map items (λ x. (x.variances).items))) h)
+
+-- A list and one more element, read elsewhere than at its end.
+elsewhere : {A : Type 0} (xs : List A) (x d : A) (i : ℕ) → i ≢ length xs → get_or (xs ++ x ∷ []) i d ≡ get_or xs i d
+elsewhere xs x d i n = elim (cases_lt i (length xs)) [
+  | inl h ↦ get_or_append_left xs (x ∷ []) d i h
+  | inr h ↦ elim (cases_lt i (length (xs ++ x ∷ []))) [
+    | inl k ↦ absurd (n (last_place xs x i k h))
+    | inr k ↦ get_or_past (xs ++ x ∷ []) i d k ∙ sym (get_or_past xs i d h)
+  ]
+]
+
+-- A table and one more item.
+module _ (items : List Item) (x : Item) where
+  abbrev declared : Item → List Variance
+  declared y = (y.variances).items
+
+  grown : map declared (items ++ x ∷ []) ≡ map declared items ++ declared x ∷ []
+  grown = map-append declared items (x ∷ [])
+
+  variances_new : variances_at (items ++ x ∷ []) (record { 0 = length items }) ≡ (x.variances).items
+  variances_new =
+      ap (λ vs. get_or vs (length items) []) grown ∙
+      ap (λ n. get_or (map declared items ++ declared x ∷ []) n []) (sym (length-map items declared)) ∙
+      get_or-append_seam (map declared items) (declared x) [] []
+
+  variances_other : (e : ItemId) → e.0 ≢ length items → variances_at (items ++ x ∷ []) e ≡ variances_at items e
+  variances_other e n =
+      ap (λ vs. get_or vs e.0 []) grown ∙
+      elsewhere (map declared items) (declared x) [] e.0 (λ p. n (p ∙ length-map items declared))
+
+-- The terms are the same with any items.
+pub same_terms : (items more : List Item) (ns : List Node) → SameTerms (table_meaning items ns) (table_meaning more ns)
+unfolding meaning_of
+same_terms items more ns = record {
+  ty = λ k. refl;
+  region = λ k. refl;
+  const_ = λ k. refl;
+  args = λ k. refl;
+  tys = λ k. refl;
+  pat = λ k. refl;
+  valtree = λ k. refl;
+  branches = λ k. refl;
+  alternatives = λ k. refl;
+  existential_predicates = λ k. refl;
+  bound_vars = λ k. refl;
+  predicate = λ k. refl;
+  clause = λ k. refl;
+  param_env = λ k. refl;
+  id = λ d. refl;
+  name = λ s. refl;
+}
+
+-- What an item that was added leaves.
+module _ (items more : List Item) (x : Item) (ns : List Node) (d : ItemId) (added : more ≡ items ++ x ∷ [])
+    (number : d.0 ≡ length items) where
+  at_number : d ≡ record { 0 = length items }
+  at_number = ap (λ n. record { 0 = n }) number
+
+  pub new_variances : (table_meaning more ns).variances d ≡ (x.variances).items
+  unfolding meaning_of
+  new_variances = ap₂ (λ ys e. variances_at ys e) added at_number ∙ variances_new items x
+
+  pub new_generics : (table_meaning more ns).generics d ≡ length (x.variances).items
+  unfolding meaning_of
+  new_generics = ap length new_variances
+
+  other_variances : (e : ItemId) → e ≢ d → variances_at more e ≡ variances_at items e
+  other_variances e n =
+      ap (λ ys. variances_at ys e) added ∙
+      variances_other items x e (λ p. n (ap (λ i. record { 0 = i }) (p ∙ sym number)))
+
+  pub others_stand : OthersStand (table_meaning items ns) (table_meaning more ns) d
+  unfolding meaning_of
+  others_stand = record {
+    generics = λ e n. ap length (other_variances e n);
+    variances = λ e n. other_variances e n;
+  }

@@ -1,4 +1,4 @@
--- The items of a table, and what adding one changes.
+-- The items of a table.
 use Rattle.std.specs.Prelude.{ℕ, List, [], map, slice_index_or}
 use Rattle.relation_terms.specs.declared.terms.enums.Variance.{Variance}
 use Rattle.relation_reference.specs.declared.interner.keys.ItemId.{ItemId}

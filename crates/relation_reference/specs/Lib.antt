@@ -4,3 +4,4 @@ pub mod Nodes
 pub mod Empty
 pub mod Places
 pub mod Laws
+pub mod Adding

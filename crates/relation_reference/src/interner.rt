@@ -31,9 +31,12 @@ pub struct RefInterner {
 }
 
 impl RefInterner {
+    ghost use Rattle.relation_reference.specs.Adding.{item_count};
+
     /// An interner that knows no key and has no item. This takes no memory.
     pub fn new(alloc: Global) -> RefInterner
-        ensures { KnowsNone (⟦<RefInterner as Interner>⟧.meaning result) }
+        ensures knows_none { KnowsNone (⟦<RefInterner as Interner>⟧.meaning result) }
+        ensures no_items { item_count result ≡ 0 }
     {
         RefInterner {
             alloc,

@@ -1,6 +1,8 @@
 //! Items, and how one is added.
-use crate::interner::{ItemId, SymbolId};
-use relation_terms::terms::{TraitId, Variance};
+ghost use Rattle.std.specs.Prelude.{◌≡◌, suc, IfOk, OnErr, length};
+
+use crate::interner::{ItemId, RefInterner, SymbolId};
+use relation_terms::terms::{Interner, OutOfMemory, TraitId, Variance};
 
 /// Which kind of item an item is.
 #[derive(PartialEq, Eq, Debug, Drop)]
@@ -61,4 +63,44 @@ pub struct Item {
     pub name: SymbolId,
     /// How the item varies with each of its generic parameters.
     pub variances: Vec<Variance>,
+}
+
+impl RefInterner {
+    ghost use Rattle.relation_reference.specs.Adding.{item_count, SameTerms, OthersStand};
+
+    /// How many items were added.
+    pub fn item_count(&self) -> usize
+        ensures { result ≡ item_count self.now }
+    {
+        self.items.len()
+    }
+
+    /// The id of a new item, which has a generic parameter for each of the variances. Two items are never one, even
+    /// where they are alike.
+    ///
+    /// # Errors
+    /// `OutOfMemory` where a growth was refused.
+    pub fn add_item(
+        &mut self,
+        kind: ItemKind,
+        name: SymbolId,
+        variances: Vec<Variance>,
+    ) -> Result<ItemId, OutOfMemory>
+        ensures number { IfOk result (λ d. d.0 ≡ item_count self.old) }
+        ensures one_more { IfOk result (λ d. item_count self.new ≡ suc (item_count self.old)) }
+        ensures terms { SameTerms (⟦<RefInterner as Interner>⟧.meaning self.old) (⟦<RefInterner as Interner>⟧.meaning self.new) }
+        ensures generics { IfOk result (λ d. (⟦<RefInterner as Interner>⟧.meaning self.new).generics d ≡ length variances.items) }
+        ensures variances { IfOk result (λ d. (⟦<RefInterner as Interner>⟧.meaning self.new).variances d ≡ variances.items) }
+        ensures others { IfOk result (λ d. OthersStand (⟦<RefInterner as Interner>⟧.meaning self.old) (⟦<RefInterner as Interner>⟧.meaning self.new) d) }
+        ensures refused { OnErr result (⟦<RefInterner as Interner>⟧.meaning self.new ≡ ⟦<RefInterner as Interner>⟧.meaning self.old) }
+        ensures none_more { OnErr result (item_count self.new ≡ item_count self.old) }
+    {
+        let number = self.items.len();
+        self.items.push(Item {
+            kind,
+            name,
+            variances,
+        })?;
+        Ok(ItemId(number))
+    }
 }
