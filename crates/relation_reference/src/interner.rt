@@ -277,7 +277,8 @@ impl Interner for RefInterner {
 mod tests {
     use super::*;
     use relation_terms::terms::{
-        EarlyParamRegion, InferTy, IntTy, Mutability, RegionKind, RegionVid, TyKind, TyVid, UintTy,
+        AdtId, ConstKind, EarlyParamRegion, ExprKind, GenericArgKind, InferTy, IntTy, Mutability,
+        ParamConst, RegionKind, RegionVid, TyKind, TyVid, UintTy, ValTreeKind,
     };
     use std::test::Fail;
 
@@ -309,6 +310,63 @@ mod tests {
         Ok(read && cx.ty_kind(&reference) == kind)
     }
 
+    #[tactic(auto, using(relation_terms::proofs::Stays::knows_const, relation_terms::proofs::Stays::knows_valtree))]
+    fn constants_read_back<I: Interner>(cx: &mut I, name: I::Name) -> Result<bool, OutOfMemory> {
+        let leaf = cx.mk_valtree(ValTreeKind::Leaf { bits: 5, size: 8 })?;
+        let read = cx.valtree_kind(&leaf) == ValTreeKind::Leaf { bits: 5, size: 8 };
+        let ty = cx.mk_ty(TyKind::Uint(UintTy::Usize))?;
+        let value = ConstKind::Value(ty, leaf);
+        let five = cx.mk_const(value.dup())?;
+        let parameter = ConstKind::Param(ParamConst { index: 2, name });
+        let constant = cx.mk_const(parameter.dup())?;
+        let apart = constant != five && cx.const_kind(&constant) == parameter;
+        Ok(read && apart && cx.const_kind(&five) == value)
+    }
+
+    fn branches_read_back<I: Interner>(cx: &mut I, name: I::Name) -> Result<bool, OutOfMemory> {
+        let constant = cx.mk_const(ConstKind::Param(ParamConst { index: 0, name }))?;
+        let mut constants = Vec::new(cx.alloc());
+        constants.push(constant.dup())?;
+        let list = cx.mk_branches(&constants)?;
+        let read = cx.branches(&list).len() == 1 && cx.branches(&list)[0] == constant;
+        let branch = cx.mk_valtree(ValTreeKind::Branch(list.dup()))?;
+        Ok(read && cx.valtree_kind(&branch) == ValTreeKind::Branch(list))
+    }
+
+    #[tactic(auto, using(relation_terms::proofs::Stays::knows_ty))]
+    fn arguments_read_back<I: Interner>(cx: &mut I, def: I::Id) -> Result<bool, OutOfMemory> {
+        let ty = cx.mk_ty(TyKind::Str)?;
+        let region = cx.mk_region(RegionKind::ReStatic)?;
+        let mut args = Vec::new(cx.alloc());
+        args.push(GenericArgKind::Lifetime(region))?;
+        args.push(GenericArgKind::Ty(ty))?;
+        let list = cx.mk_args(&args)?;
+        let read = cx.args(&list) == args.as_slice();
+        let adt = cx.mk_ty(TyKind::Adt(AdtId(def.dup()), list.dup()))?;
+        Ok(read && cx.ty_kind(&adt) == TyKind::Adt(AdtId(def), list))
+    }
+
+    fn one_key_of_constants<I: Interner>(cx: &mut I) -> Result<bool, OutOfMemory> {
+        let leaf = cx.mk_valtree(ValTreeKind::Leaf { bits: 1, size: 1 })?;
+        let leaf_again = cx.mk_valtree(ValTreeKind::Leaf { bits: 1, size: 1 })?;
+        let wider = cx.mk_valtree(ValTreeKind::Leaf { bits: 1, size: 2 })?;
+        let none = cx.mk_args(&Vec::new(cx.alloc()))?;
+        let none_again = cx.mk_args(&Vec::new(cx.alloc()))?;
+        let nothing = cx.mk_branches(&Vec::new(cx.alloc()))?;
+        let nothing_again = cx.mk_branches(&Vec::new(cx.alloc()))?;
+        let same = leaf == leaf_again && none == none_again && nothing == nothing_again;
+        Ok(same && leaf != wider)
+    }
+
+    #[tactic(auto, using(relation_terms::proofs::Stays::knows_args))]
+    fn one_key_of_expressions<I: Interner>(cx: &mut I) -> Result<bool, OutOfMemory> {
+        let none = cx.mk_args(&Vec::new(cx.alloc()))?;
+        let sum = cx.mk_const(ConstKind::Expr(ExprKind(0), none.dup()))?;
+        let sum_again = cx.mk_const(ConstKind::Expr(ExprKind(0), none.dup()))?;
+        let product = cx.mk_const(ConstKind::Expr(ExprKind(1), none))?;
+        Ok(sum == sum_again && sum != product)
+    }
+
     fn one_key_each<I: Interner>(cx: &mut I) -> Result<bool, OutOfMemory> {
         let first = cx.mk_ty(TyKind::Uint(UintTy::U8))?;
         let again = cx.mk_ty(TyKind::Uint(UintTy::U8))?;
@@ -331,6 +389,9 @@ mod tests {
         assert!(rt; slice_reads_back(&mut cx)?);
         assert!(rt; tuple_reads_back(&mut cx)?);
         assert!(rt; reference_reads_back(&mut cx, SymbolId(7))?);
+        assert!(rt; constants_read_back(&mut cx, SymbolId(8))?);
+        assert!(rt; branches_read_back(&mut cx, SymbolId(8))?);
+        assert!(rt; arguments_read_back(&mut cx, ItemId(0))?);
         assert!(rt; cx.dummy_span() == NoSpan);
         Ok(())
     }
@@ -339,8 +400,12 @@ mod tests {
     fn gives_one_key_to_what_is_made_twice(rt: HostRuntime) -> Result<(), Fail> {
         let mut cx = RefInterner::new(rt.alloc());
         assert!(rt; one_key_each(&mut cx)?);
+        assert!(rt; one_key_of_constants(&mut cx)?);
+        assert!(rt; one_key_of_expressions(&mut cx)?);
         let nodes = cx.nodes.len();
         assert!(rt; one_key_each(&mut cx)?);
+        assert!(rt; one_key_of_constants(&mut cx)?);
+        assert!(rt; one_key_of_expressions(&mut cx)?);
         assert!(rt; cx.nodes.len() == nodes);
         Ok(())
     }

@@ -23,14 +23,16 @@ returns-clause-sure c = subst (λ t. IsTrue (known t)) (sym (returns-clause-made
 pub returns-clause-there : goal.returns-clause-there
 returns-clause-there c = λ k e.
     let at = stands c.args.self.now.items.items c.args.self.now.nodes.items environment_node
-        (node environment nil) (k.0).0
-        refl e in
-    (refl, same_meaning c.args.self.now.items.items c.args.self.now.nodes.items c.add.new.self.items.items c.add.new.self.nodes.items
-    (ap (λ v. v.items) c.in_ok-number.ensures.items) (c.in_ok-number.ensures.there (k.0).0 at).1)
+    (node environment nil) (k.0).0
+    refl e in (
+      refl,
+      same_meaning c.args.self.now.items.items c.args.self.now.nodes.items c.add.new.self.items.items c.add.new.self.nodes.items
+          (ap (λ v. v.items) c.in_ok-number.ensures.items) (c.in_ok-number.ensures.there (k.0).0 at).1,
+    )
 
 pub returns-in_err-number-clause-there : goal.returns-in_err-number-clause-there
 returns-in_err-number-clause-there c = λ k e.
     let at = stands c.args.self.now.items.items c.args.self.now.nodes.items environment_node
-        (node environment nil) (k.0).0
-        refl e in
+    (node environment nil) (k.0).0
+    refl e in
     absurd (false≢true (c.in_err-number.ensures.there (k.0).0 at).0)
