@@ -95,7 +95,7 @@ impl RefInterner {
         ensures refused { OnErr result (⟦<RefInterner as Interner>⟧.meaning self.new ≡ ⟦<RefInterner as Interner>⟧.meaning self.old) }
         ensures none_more { OnErr result (item_count self.new ≡ item_count self.old) }
     {
-        let number = self.items.len();
+        let number = self.item_count();
         self.items.push(Item {
             kind,
             name,

@@ -1,4 +1,3 @@
-use Rattle.std.proofs.Common.{◌∙◌}
 use Rattle.relation_reference.proofs.Items.{same_terms, new_variances, new_generics, others_stand}
 use Rattle.relation_reference.proofs.interner.RefInterner.add_item.Goals as goal
 
@@ -9,19 +8,19 @@ pub returns-clause-generics : goal.returns-clause-generics
 returns-clause-generics c =
     new_generics c.args.self.now.items.items c.push.new.self.items
     (record { kind = c.args.kind; name = c.args.name; variances = c.args.variances })
-    c.args.self.now.nodes.items (record { 0 = c.len-number.result }) c.in_ok-push.ensures.items
-    (c.len-number.ensures ∙ c.args.self.now.items.ok.0)
+    c.args.self.now.nodes.items (record { 0 = c.item_count-number.result }) c.in_ok-push.ensures.items
+    c.item_count-number.ensures
 
 pub returns-clause-variances : goal.returns-clause-variances
 returns-clause-variances c =
     new_variances c.args.self.now.items.items c.push.new.self.items
     (record { kind = c.args.kind; name = c.args.name; variances = c.args.variances })
-    c.args.self.now.nodes.items (record { 0 = c.len-number.result }) c.in_ok-push.ensures.items
-    (c.len-number.ensures ∙ c.args.self.now.items.ok.0)
+    c.args.self.now.nodes.items (record { 0 = c.item_count-number.result }) c.in_ok-push.ensures.items
+    c.item_count-number.ensures
 
 pub returns-clause-others : goal.returns-clause-others
 returns-clause-others c =
     others_stand c.args.self.now.items.items c.push.new.self.items
     (record { kind = c.args.kind; name = c.args.name; variances = c.args.variances })
-    c.args.self.now.nodes.items (record { 0 = c.len-number.result }) c.in_ok-push.ensures.items
-    (c.len-number.ensures ∙ c.args.self.now.items.ok.0)
+    c.args.self.now.nodes.items (record { 0 = c.item_count-number.result }) c.in_ok-push.ensures.items
+    c.item_count-number.ensures
