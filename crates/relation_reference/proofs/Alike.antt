@@ -37,7 +37,7 @@ use Rattle.relation_reference.specs.declared.interner.node.Node.{Node}
 use Rattle.relation_reference.specs.declared.interner.node.Node.TheVariants.{Ty, Region, Const, ValTree, Args, Tys}
 use Rattle.relation_reference.specs.declared.interner.node.Node.TheVariants.{Branches, ParamEnv}
 use Rattle.relation_reference.specs.Forms.{Form, ty_form, region_form, const_form, valtree_form, args_form, tys_form}
-use Rattle.relation_reference.specs.Forms.{branches_form, environment_form, form_of}
+use Rattle.relation_reference.specs.Forms.{branches_form, form_of}
 use Rattle.relation_reference.specs.contracts.interner.node.NodePartialEq.TheImpl as node_impl
 use Rattle.relation_reference.specs.contracts.interner.keys.NodeKeyPartialEq.TheImpl as key_impl
 use Rattle.relation_reference.specs.contracts.interner.keys.NodeKey as key

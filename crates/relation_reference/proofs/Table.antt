@@ -1,11 +1,11 @@
 -- A table's entries, and what its keys read.
-use Rattle.std.proofs.Common.{ℕ, zero, suc, ◌+◌, ◌<◌, ◌≡◌, IsTrue, false, List, [], ◌∷◌, ◌++◌, length, get_or, inl, inr}
+use Rattle.std.proofs.Common.{ℕ, zero, suc, ◌+◌, ◌<◌, ◌≡◌, IsTrue, List, [], ◌∷◌, ◌++◌, length, get_or, inl, inr}
 use Rattle.std.proofs.Common.{refl, ap, sym, ◌∙◌, subst, arith, length-append}
 use Rattle.std.proofs.lemmas.Bool.{false≢true, cases_lt}
 use Rattle.std.proofs.lemmas.List.{get_or_append_left, get_or_past}
 use Rattle.std.proofs.Math.Seq.{get_or-append_seam}
-use Rattle.relation_terms.specs.Trees.{Tree, nil, known, list_tree}
-use Rattle.relation_terms.specs.Meaning.{Meaning, Extends, kind_tree, region_tree, const_tree, valtree_tree, arg_tree}
+use Rattle.relation_terms.specs.Trees.{Tree, nil, known}
+use Rattle.relation_terms.specs.Meaning.{Meaning, Extends, arg_tree}
 use Rattle.relation_terms.proofs.Stays.{stays_same, extends_on, stays_kind, stays_region, stays_const, stays_valtree}
 use Rattle.relation_terms.proofs.Stays.{stays_list, stays_arg}
 use Rattle.relation_reference.specs.declared.interner.keys.NodeKey.{NodeKey}

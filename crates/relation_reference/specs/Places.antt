@@ -1,6 +1,6 @@
 -- Where the entries of a table stand.
 use Rattle.std.proofs.Common.{ℕ, ◌+◌, ◌<◌, ◌≡◌, IsTrue, List, [], ◌∷◌, ◌++◌, length, get_or, inl, inr, refl, sym, ◌∙◌}
-use Rattle.std.proofs.Common.{subst, add-zero, zero-add, true, cond}
+use Rattle.std.proofs.Common.{subst, add-zero, zero-add, true}
 use Rattle.std.proofs.lemmas.Bool.{false≢true, cases_lt}
 use Rattle.std.proofs.lemmas.List.{get_or_past}
 use Rattle.relation_terms.specs.Trees.{Tree, known}
