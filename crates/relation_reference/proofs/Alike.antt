@@ -17,7 +17,8 @@ use Rattle.relation_terms.specs.declared.terms.ty_kind.TyKind.TheVariants.{Bool 
 use Rattle.relation_terms.specs.declared.terms.ty_kind.TyKind.TheVariants.{Adt, Foreign, Str, Array, Slice, RawPtr}
 use Rattle.relation_terms.specs.declared.terms.ty_kind.TyKind.TheVariants.{Ref, FnDef, Closure, CoroutineClosure}
 use Rattle.relation_terms.specs.declared.terms.ty_kind.TyKind.TheVariants.{Coroutine, CoroutineWitness, Never, Tuple}
-use Rattle.relation_terms.specs.declared.terms.ty_kind.TyKind.TheVariants.{Param as TyParam, Placeholder as TyPlaceholder}
+use Rattle.relation_terms.specs.declared.terms.ty_kind.TyKind.TheVariants.{Param as TyParam}
+use Rattle.relation_terms.specs.declared.terms.ty_kind.TyKind.TheVariants.{Placeholder as TyPlaceholder}
 use Rattle.relation_terms.specs.declared.terms.ty_kind.TyKind.TheVariants.{Infer}
 use Rattle.relation_terms.specs.declared.terms.const_kind.ConstKind.{ConstKind}
 use Rattle.relation_terms.specs.declared.terms.const_kind.ConstKind.TheVariants.{Param as ConstParam}

@@ -13,7 +13,8 @@ use Rattle.relation_terms.specs.declared.terms.ty_kind.TyKind.TheVariants.{Bool,
 use Rattle.relation_terms.specs.declared.terms.ty_kind.TyKind.TheVariants.{Str, Array, Slice, RawPtr, Ref, FnDef}
 use Rattle.relation_terms.specs.declared.terms.ty_kind.TyKind.TheVariants.{Closure, CoroutineClosure, Coroutine}
 use Rattle.relation_terms.specs.declared.terms.ty_kind.TyKind.TheVariants.{CoroutineWitness, Never, Tuple, Infer}
-use Rattle.relation_terms.specs.declared.terms.ty_kind.TyKind.TheVariants.{Param as TyParam, Placeholder as TyPlaceholder}
+use Rattle.relation_terms.specs.declared.terms.ty_kind.TyKind.TheVariants.{Param as TyParam}
+use Rattle.relation_terms.specs.declared.terms.ty_kind.TyKind.TheVariants.{Placeholder as TyPlaceholder}
 use Rattle.relation_terms.specs.declared.terms.const_kind.ConstKind.{ConstKind}
 use Rattle.relation_terms.specs.declared.terms.const_kind.ConstKind.TheVariants.{Param as ConstParam}
 use Rattle.relation_terms.specs.declared.terms.const_kind.ConstKind.TheVariants.{Placeholder as ConstPlaceholder}
@@ -33,7 +34,8 @@ use Rattle.relation_reference.specs.Forms.{Form, ty_form, region_form, const_for
 use Rattle.relation_reference.specs.Forms.{branches_form, environment_form, form_of}
 use Rattle.relation_reference.specs.Adding.{SameTerms, OthersStand}
 use Rattle.relation_reference.specs.Items.{variances_at}
-use Rattle.relation_reference.specs.Nodes.{Entry, entry, meaning_of, form_sort, form_tree, entry_of, entries, table_meaning}
+use Rattle.relation_reference.specs.Nodes.{Entry, entry, meaning_of, form_sort, form_tree, entry_of, entries}
+use Rattle.relation_reference.specs.Nodes.{table_meaning}
 
 same_list : {A : Type 0} (f g : A → Tree) → ((x : A) → f x ≡ g x) → (xs : List A) → list_tree f xs ≡ list_tree g xs
 same_list f g h [] = refl

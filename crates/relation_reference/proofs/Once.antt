@@ -1,6 +1,6 @@
 -- A table and one more node.
-use Rattle.std.proofs.Common.{ℕ, ◌<◌, ◌≡◌, ◌⊎◌, inl, inr, IsTrue, Bool, true, false, List, [], ◌∷◌, ◌++◌, length, get_or}
-use Rattle.std.proofs.Common.{if◌then◌else◌, refl, ap, ap₂, sym, ◌∙◌, subst, arith, length-append}
+use Rattle.std.proofs.Common.{ℕ, ◌<◌, ◌≡◌, ◌⊎◌, inl, inr, IsTrue, Bool, true, false, List, [], ◌∷◌, ◌++◌, length}
+use Rattle.std.proofs.Common.{get_or, if◌then◌else◌, refl, ap, ap₂, sym, ◌∙◌, subst, arith, length-append}
 use Rattle.std.proofs.lemmas.Bool.{cases_lt}
 use Rattle.std.proofs.lemmas.List.{get_or_append_left}
 use Rattle.std.proofs.Math.Seq.{get_or-append_seam}
@@ -8,7 +8,8 @@ use Rattle.relation_terms.specs.Trees.{Tree, known}
 use Rattle.relation_terms.specs.Meaning.{Meaning, Extends, arg_tree}
 use Rattle.relation_terms.proofs.Stays.{stays_same}
 use Rattle.relation_terms.proofs.Sorted.{Sorted}
-use Rattle.relation_terms.proofs.Once.{Injective, kind_once, region_once, const_once, valtree_once, arg_once, list_once}
+use Rattle.relation_terms.proofs.Once.{Injective, kind_once, region_once, const_once, valtree_once, arg_once}
+use Rattle.relation_terms.proofs.Once.{list_once}
 use Rattle.relation_reference.specs.declared.interner.keys.NodeKey.{NodeKey}
 use Rattle.relation_reference.specs.declared.interner.keys.ItemId.{ItemId}
 use Rattle.relation_reference.specs.declared.interner.keys.SymbolId.{SymbolId}
@@ -17,7 +18,8 @@ use Rattle.relation_reference.specs.declared.interner.node.Node.{Node}
 use Rattle.relation_reference.specs.Forms.{Form, ty_form, region_form, const_form, valtree_form, args_form, tys_form}
 use Rattle.relation_reference.specs.Forms.{branches_form, environment_form, form_of}
 use Rattle.relation_reference.specs.Nodes.{NodeSort, Entry, no_entry, entry, tree_as, meaning_of, form_tree, entry_at}
-use Rattle.relation_reference.specs.Nodes.{entry_of, entries, table_meaning, known_entry, AllKnown, AllDistinct, StandsAt}
+use Rattle.relation_reference.specs.Nodes.{entry_of, entries, table_meaning, known_entry, AllKnown, AllDistinct}
+use Rattle.relation_reference.specs.Nodes.{StandsAt}
 use Rattle.relation_reference.specs.Empty.{KnowsNone}
 use Rattle.relation_reference.specs.Places.{length_entries, known_in, of_sort, reads_itself, tree_of_key, key_reads}
 use Rattle.relation_reference.specs.Laws.{injective, all_sorted}
@@ -29,7 +31,8 @@ form_once : (m : Meaning NodeKey ItemId SymbolId) → Injective m → Sorted m �
 form_once m j s (ty_form f) (ty_form g) k e = ap (λ x. ty_form x) (kind_once m j f g k (ap tree_in e))
 form_once m j s (region_form f) (region_form g) k e = ap (λ x. region_form x) (region_once m j f g (ap tree_in e))
 form_once m j s (const_form f) (const_form g) k e = ap (λ x. const_form x) (const_once m j f g k (ap tree_in e))
-form_once m j s (valtree_form f) (valtree_form g) k e = ap (λ x. valtree_form x) (valtree_once m j f g k (ap tree_in e))
+form_once m j s (valtree_form f) (valtree_form g) k e =
+    ap (λ x. valtree_form x) (valtree_once m j f g k (ap tree_in e))
 form_once m j s (args_form xs) (args_form ys) k e =
     ap (λ x. args_form x) (list_once (arg_tree m) (arg_once m j s) xs ys k (ap tree_in e))
 form_once m j s (tys_form xs) (tys_form ys) k e = ap (λ x. tys_form x) (list_once m.ty j.ty xs ys k (ap tree_in e))
@@ -78,7 +81,8 @@ module _ (ns : List Node) (n : Node) where
       let h : IsTrue (known_entry (get_or (entries ns) i no_entry)) = subst (λ x. IsTrue (known_entry x)) (sym e) k in
       let l : i < length ns = known_in ns i h in
       let a = at_now ns i n l h in
-      u i n l (form_once (table_meaning [] ns) (injective [] ns d) (all_sorted [] ns) (form_of (get_or ns i n)) (form_of n)
+      let m = table_meaning [] ns in
+      u i n l (form_once m (injective [] ns d) (all_sorted [] ns) (form_of (get_or ns i n)) (form_of n)
       (subst (λ x. IsTrue (known_entry x)) a h) (sym a ∙ e))
 
   all_distinct : AllDistinct ns → IsTrue (known_entry (entry_of (table_meaning [] ns) n)) →
@@ -118,7 +122,8 @@ module _ (items : List Item) (ns : List Node) where
   pub grows : (more : List Item) (ms : List Node) (n : Node) → more ≡ items → (ms ≡ ns) ⊎ (ms ≡ ns ++ n ∷ []) →
       Extends (table_meaning items ns) (table_meaning more ms)
   grows more ms n e (inl p) =
-      subst (λ m. Extends (table_meaning items ns) m) (ap₂ table_meaning (sym e) (sym p)) (stays_same (table_meaning items ns))
+      subst (λ m. Extends (table_meaning items ns) m) (ap₂ table_meaning (sym e) (sym p))
+      (stays_same (table_meaning items ns))
   grows more ms n e (inr p) =
       subst (λ m. Extends (table_meaning items ns) m) (ap₂ table_meaning (sym e) (sym p)) (extends_node items ns n)
 

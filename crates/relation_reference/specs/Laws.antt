@@ -92,7 +92,8 @@ sorted_from : (es : List Entry) (ns : List Node) → AllSorted es → AllSorted 
 sorted_from es [] s = s
 sorted_from es (n ∷ ns) s =
     let m = meaning_of [] es in
-    sorted_from (es ++ entry_of m n ∷ []) ns (one_more es (entry_of m n) s (form_sorted m (sorted [] es s) (form_of n)))
+    sorted_from (es ++ entry_of m n ∷ []) ns
+    (one_more es (entry_of m n) s (form_sorted m (sorted [] es s) (form_of n)))
 
 pub all_sorted : (items : List Item) (ns : List Node) → Sorted (table_meaning items ns)
 all_sorted items ns = sorted items (entries ns) (sorted_from [] ns (λ i. tt))

@@ -20,7 +20,8 @@ one_at xs ns n i e u = subst (λ ys. (i < length ys) × ((d : Node) → form_of 
 
 -- The node's entry is known whatever the items are.
 known_alone : (items : List Item) (ns : List Node) (n : Node) →
-    IsTrue (known_entry (entry_of (table_meaning items ns) n)) → IsTrue (known_entry (entry_of (table_meaning [] ns) n))
+    IsTrue (known_entry (entry_of (table_meaning items ns) n)) →
+    IsTrue (known_entry (entry_of (table_meaning [] ns) n))
 known_alone items ns n k = subst (λ x. IsTrue (known_entry x)) (same_entry items [] ns n) k
 
 pub invariant_of-self : goal.invariant_of-self
@@ -30,7 +31,8 @@ invariant_of-self c =
     let k = known_alone c.args.self.now.items.items ns c.args.node c.requires in
     record {
       known_all =
-          subst AllKnown (sym c.push.ensures.items) (known_if ns c.args.node (is_ok c.push.result) c.args.self.now.known_all k);
+          subst AllKnown (sym c.push.ensures.items)
+          (known_if ns c.args.node (is_ok c.push.result) c.args.self.now.known_all k);
       distinct =
           subst AllDistinct (sym c.push.ensures.items)
           (distinct_if ns c.args.node (is_ok c.push.result) c.args.self.now.distinct k u);

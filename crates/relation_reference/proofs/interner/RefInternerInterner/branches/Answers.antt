@@ -6,17 +6,23 @@ use Rattle.relation_reference.proofs.Table.{key_in, key_sort, key_read, not_bran
 use Rattle.relation_reference.proofs.interner.RefInternerInterner.branches.Goals as goal
 
 pub index-requires : goal.index-requires
-index-requires c = subst (λ n. (c.args.branches.now.0).0 < n) (sym c.args.self.now.nodes.ok.0)
-    (key_in c.args.self.now.items.items c.args.self.now.nodes.items branches_node (c.args.branches.now.0).0 c.requires)
+index-requires c =
+    let items = c.args.self.now.items.items in
+    let ns = c.args.self.now.nodes.items in
+    subst (λ n. (c.args.branches.now.0).0 < n) (sym c.args.self.now.nodes.ok.0)
+    (key_in items ns branches_node (c.args.branches.now.0).0 c.requires)
 
 pub unreachable-requires : goal.unreachable-requires
 unreachable-requires c =
+    let items = c.args.self.now.items.items in
+    let ns = c.args.self.now.nodes.items in
     not_branches c.index.result.now c.in_default.not-Branches
-    (key_sort c.args.self.now.items.items c.args.self.now.nodes.items branches_node (c.args.branches.now.0).0 c.requires
-    c.index.result.now c.index.ensures)
+    (key_sort items ns branches_node (c.args.branches.now.0).0 c.requires c.index.result.now c.index.ensures)
 
 pub returns : goal.returns
 returns c =
-    key_read c.args.self.now.items.items c.args.self.now.nodes.items branches_node (c.args.branches.now.0).0 c.requires
-    c.index.result.now c.index.ensures (branches_form c.in-Branches.list.items) (ap form_of c.in-Branches.is) ∙
-    ap (list_tree (table_meaning c.args.self.now.items.items c.args.self.now.nodes.items).const_) (sym c.as_slice.ensures.value)
+    let items = c.args.self.now.items.items in
+    let ns = c.args.self.now.nodes.items in
+    key_read items ns branches_node (c.args.branches.now.0).0 c.requires c.index.result.now c.index.ensures
+    (branches_form c.in-Branches.list.items) (ap form_of c.in-Branches.is) ∙
+    ap (list_tree (table_meaning items ns).const_) (sym c.as_slice.ensures.value)

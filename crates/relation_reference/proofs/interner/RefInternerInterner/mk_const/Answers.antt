@@ -9,30 +9,44 @@ use Rattle.relation_reference.proofs.interner.RefInternerInterner.mk_const.Goals
 
 pub returns-clause-grown : goal.returns-clause-grown
 returns-clause-grown c =
-    grows c.args.self.now.items.items c.args.self.now.nodes.items c.add.new.self.items.items c.add.new.self.nodes.items
-    (Const c.args.kind) (ap (λ v. v.items) c.in_ok-number.ensures.items) c.in_ok-number.ensures.added
+    let items = c.args.self.now.items.items in
+    let ns = c.args.self.now.nodes.items in
+    let more = c.add.new.self.items.items in
+    let ms = c.add.new.self.nodes.items in
+    grows items ns more ms (Const c.args.kind)
+    (ap (λ v. v.items) c.in_ok-number.ensures.items) c.in_ok-number.ensures.added
 
 pub returns-clause-made : goal.returns-clause-made
 returns-clause-made c =
-    made c.add.new.self.items.items c.add.new.self.nodes.items const_node
-    (const_tree (table_meaning c.args.self.now.items.items c.args.self.now.nodes.items) c.args.kind) (c.in_ok-number.number).0 c.in_ok-number.ensures.number
+    let items = c.args.self.now.items.items in
+    let ns = c.args.self.now.nodes.items in
+    let more = c.add.new.self.items.items in
+    let ms = c.add.new.self.nodes.items in
+    made more ms const_node (const_tree (table_meaning items ns) c.args.kind)
+    (c.in_ok-number.number).0 c.in_ok-number.ensures.number
 
 pub returns-clause-sure : goal.returns-clause-sure
 returns-clause-sure c = subst (λ t. IsTrue (known t)) (sym (returns-clause-made c)) c.requires
 
 pub returns-clause-there : goal.returns-clause-there
-returns-clause-there c = λ k e.
-    let at = stands c.args.self.now.items.items c.args.self.now.nodes.items const_node
-    (const_tree (table_meaning c.args.self.now.items.items c.args.self.now.nodes.items) c.args.kind) (k.0).0
-    c.requires e in (
+returns-clause-there c =
+    let items = c.args.self.now.items.items in
+    let ns = c.args.self.now.nodes.items in
+    let more = c.add.new.self.items.items in
+    let ms = c.add.new.self.nodes.items in
+    λ k e.
+    let at = stands items ns const_node (const_tree (table_meaning items ns) c.args.kind)
+    (k.0).0 c.requires e in (
       refl,
-      same_meaning c.args.self.now.items.items c.args.self.now.nodes.items c.add.new.self.items.items c.add.new.self.nodes.items
-          (ap (λ v. v.items) c.in_ok-number.ensures.items) (c.in_ok-number.ensures.there (k.0).0 at).1,
+      same_meaning items ns more ms (ap (λ v. v.items) c.in_ok-number.ensures.items)
+          (c.in_ok-number.ensures.there (k.0).0 at).1,
     )
 
 pub returns-in_err-number-clause-there : goal.returns-in_err-number-clause-there
-returns-in_err-number-clause-there c = λ k e.
-    let at = stands c.args.self.now.items.items c.args.self.now.nodes.items const_node
-    (const_tree (table_meaning c.args.self.now.items.items c.args.self.now.nodes.items) c.args.kind) (k.0).0
-    c.requires e in
+returns-in_err-number-clause-there c =
+    let items = c.args.self.now.items.items in
+    let ns = c.args.self.now.nodes.items in
+    λ k e.
+    let at = stands items ns const_node (const_tree (table_meaning items ns) c.args.kind)
+    (k.0).0 c.requires e in
     absurd (false≢true (c.in_err-number.ensures.there (k.0).0 at).0)

@@ -6,17 +6,23 @@ use Rattle.relation_reference.proofs.Table.{key_in, key_sort, key_read, not_regi
 use Rattle.relation_reference.proofs.interner.RefInternerInterner.region_kind.Goals as goal
 
 pub index-requires : goal.index-requires
-index-requires c = subst (λ n. (c.args.region.now.0).0 < n) (sym c.args.self.now.nodes.ok.0)
-    (key_in c.args.self.now.items.items c.args.self.now.nodes.items region_node (c.args.region.now.0).0 c.requires)
+index-requires c =
+    let items = c.args.self.now.items.items in
+    let ns = c.args.self.now.nodes.items in
+    subst (λ n. (c.args.region.now.0).0 < n) (sym c.args.self.now.nodes.ok.0)
+    (key_in items ns region_node (c.args.region.now.0).0 c.requires)
 
 pub unreachable-requires : goal.unreachable-requires
 unreachable-requires c =
+    let items = c.args.self.now.items.items in
+    let ns = c.args.self.now.nodes.items in
     not_region c.index.result.now c.in_default.not-Region
-    (key_sort c.args.self.now.items.items c.args.self.now.nodes.items region_node (c.args.region.now.0).0 c.requires
-    c.index.result.now c.index.ensures)
+    (key_sort items ns region_node (c.args.region.now.0).0 c.requires c.index.result.now c.index.ensures)
 
 pub returns : goal.returns
 returns c =
-    key_read c.args.self.now.items.items c.args.self.now.nodes.items region_node (c.args.region.now.0).0 c.requires
-    c.index.result.now c.index.ensures (region_form c.in-Region.kind) (ap form_of c.in-Region.is) ∙
-    ap (region_tree (table_meaning c.args.self.now.items.items c.args.self.now.nodes.items)) (sym c.dup.ensures)
+    let items = c.args.self.now.items.items in
+    let ns = c.args.self.now.nodes.items in
+    key_read items ns region_node (c.args.region.now.0).0 c.requires c.index.result.now c.index.ensures
+    (region_form c.in-Region.kind) (ap form_of c.in-Region.is) ∙
+    ap (region_tree (table_meaning items ns)) (sym c.dup.ensures)
