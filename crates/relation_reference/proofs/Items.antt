@@ -32,7 +32,7 @@ use Rattle.relation_reference.specs.declared.interner.items.Item.{Item}
 use Rattle.relation_reference.specs.declared.interner.node.Node.{Node}
 use Rattle.relation_reference.specs.Forms.{Form, ty_form, region_form, const_form, valtree_form, args_form, tys_form}
 use Rattle.relation_reference.specs.Forms.{branches_form, environment_form, form_of}
-use Rattle.relation_reference.specs.Adding.{SameTerms, OthersStand}
+use Rattle.relation_reference.specs.Adding.{SameTerms, OthersStand, HasNoGenerics}
 use Rattle.relation_reference.specs.Items.{variances_at}
 use Rattle.relation_reference.specs.Nodes.{Entry, entry, meaning_of, form_sort, form_tree, entry_of, entries}
 use Rattle.relation_reference.specs.Nodes.{table_meaning}
@@ -121,6 +121,15 @@ pub variances_past : (items : List Item) (i : ℕ) → length items ≤ i → va
 variances_past items i h =
     get_or_past (map (λ x. (x.variances).items) items) i []
     (subst (λ n. n ≤ i) (sym (length-map items (λ x. (x.variances).items))) h)
+
+-- An id that no item has.
+pub no_generics : (items : List Item) (ns : List Node) (d : ItemId) → length items ≤ d.0 →
+    HasNoGenerics (table_meaning items ns) d
+unfolding meaning_of
+no_generics items ns d h = record {
+  generics = ap length (variances_past items d.0 h);
+  variances = variances_past items d.0 h;
+}
 
 -- A list and one more element, read elsewhere than at its end.
 elsewhere : {A : Type 0} (xs : List A) (x d : A) (i : ℕ) → i ≢ length xs → get_or (xs ++ x ∷ []) i d ≡ get_or xs i d

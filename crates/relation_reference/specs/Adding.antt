@@ -1,5 +1,5 @@
 -- What adding an item changes.
-use Rattle.std.specs.Prelude.{◌≡◌, ◌≢◌, ℕ, length}
+use Rattle.std.specs.Prelude.{◌≡◌, ◌≢◌, ℕ, [], length}
 use Rattle.relation_terms.specs.Meaning.{Meaning}
 use Rattle.relation_terms.specs.declared.terms.keys.TyKey.{TyKey}
 use Rattle.relation_terms.specs.declared.terms.keys.RegionKey.{RegionKey}
@@ -46,3 +46,8 @@ module _ {Key Id Name : Type 0} (m n : Meaning Key Id Name) where
   pub record OthersStand (d : Id) : Type 0 where
     pub generics : (e : Id) → e ≢ d → n.generics e ≡ m.generics e
     pub variances : (e : Id) → e ≢ d → n.variances e ≡ m.variances e
+
+-- The id has no generic parameters.
+pub record HasNoGenerics {Key Id Name : Type 0} (m : Meaning Key Id Name) (d : Id) : Type 0 where
+  pub generics : m.generics d ≡ 0
+  pub variances : m.variances d ≡ []

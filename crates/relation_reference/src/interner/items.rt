@@ -66,7 +66,7 @@ pub struct Item {
 }
 
 impl RefInterner {
-    ghost use Rattle.relation_reference.specs.Adding.{item_count, SameTerms, OthersStand};
+    ghost use Rattle.relation_reference.specs.Adding.{item_count, SameTerms, OthersStand, HasNoGenerics};
 
     /// How many items were added.
     pub fn item_count(&self) -> usize
@@ -88,6 +88,7 @@ impl RefInterner {
     ) -> Result<ItemId, OutOfMemory>
         ensures number { IfOk result (λ d. d.0 ≡ item_count self.old) }
         ensures one_more { IfOk result (λ d. item_count self.new ≡ suc (item_count self.old)) }
+        ensures fresh { IfOk result (λ d. HasNoGenerics (⟦<RefInterner as Interner>⟧.meaning self.old) d) }
         ensures terms { SameTerms (⟦<RefInterner as Interner>⟧.meaning self.old) (⟦<RefInterner as Interner>⟧.meaning self.new) }
         ensures generics { IfOk result (λ d. (⟦<RefInterner as Interner>⟧.meaning self.new).generics d ≡ length variances.items) }
         ensures variances { IfOk result (λ d. (⟦<RefInterner as Interner>⟧.meaning self.new).variances d ≡ variances.items) }

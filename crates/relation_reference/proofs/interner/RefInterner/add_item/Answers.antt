@@ -1,5 +1,12 @@
-use Rattle.relation_reference.proofs.Items.{same_terms, new_variances, new_generics, others_stand}
+use Rattle.std.proofs.Common.{◌≤◌, subst, sym, length, le_refl}
+use Rattle.relation_reference.proofs.Items.{same_terms, no_generics, new_variances, new_generics, others_stand}
 use Rattle.relation_reference.proofs.interner.RefInterner.add_item.Goals as goal
+
+pub returns-clause-fresh : goal.returns-clause-fresh
+returns-clause-fresh c =
+    let items = c.args.self.now.items.items in
+    no_generics items c.args.self.now.nodes.items (record { 0 = c.item_count-number.result })
+    (subst (λ n. length items ≤ n) (sym c.item_count-number.ensures) (le_refl (length items)))
 
 pub returns-clause-terms : goal.returns-clause-terms
 returns-clause-terms c = same_terms c.args.self.now.items.items c.push.new.self.items c.args.self.now.nodes.items
