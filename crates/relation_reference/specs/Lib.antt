@@ -5,3 +5,5 @@ pub mod Empty
 pub mod Places
 pub mod Laws
 pub mod Adding
+pub mod Tables
+pub mod Answers

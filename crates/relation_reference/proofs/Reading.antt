@@ -1,0 +1,78 @@
+-- Reading the tables.
+use Rattle.std.proofs.Common.{◌≡◌, ℕ, ◌<◌, IsTrue, refl, sym, ap, ◌∙◌, subst, length, get_or}
+use Rattle.std.proofs.lemmas.List.{get_or-map, length-map}
+use Rattle.relation_terms.specs.Heads.{type_var, variable}
+use Rattle.relation_terms.specs.Trees.{Tree, leaf, nil, known}
+use Rattle.relation_terms.specs.Meaning.{Meaning, kind_tree}
+use Rattle.relation_terms.specs.declared.terms.ty_kind.TyKind.{TyKind}
+use Rattle.relation_terms.specs.declared.terms.ty_kind.TyKind.TheVariants.{Bool, Char, Int, Uint, Slice, Tuple, Ref, Infer}
+use Rattle.relation_terms.specs.declared.terms.ty_kind.InferTy.{InferTy}
+use Rattle.type_relations.specs.Stores.{Store, unbound, same_as, bound_to, entry_of, entry_term, IsMade, IsSound, IsTermIn}
+use Rattle.type_relations.specs.Errors.{IsReadAs, itself}
+use Rattle.type_relations.proofs.Standing.{made_of_term, term_of_made}
+use Rattle.type_relations.proofs.ReadAs.{read_then, read_same, read_bound}
+use Rattle.relation_reference.specs.declared.context.inner.TypeVariable.{TypeVariable}
+use Rattle.relation_reference.specs.declared.context.inner.InferCtxtInner.{InferCtxtInner}
+use Rattle.relation_reference.specs.Tables.{IsFormed, store_of, IsLawful}
+use Rattle.relation_reference.specs.Answers.{LeadsTo, here, next, IsShallow, root, formed}
+
+-- What a variable leads to is what it is read as.
+leads_read : (st : Store) (n m : ℕ) (t : Tree) → LeadsTo st n m → IsReadAs st (leaf (variable type_var m)) t → IsReadAs st (leaf (variable type_var n)) t
+leads_read st n m t (here e) r = subst (λ z. IsReadAs st (leaf (variable type_var z)) t) (sym e) r
+leads_read st n m t (next {p = p} e l) r = read_then st (leaf (variable type_var n)) (leaf (variable type_var p)) t (read_same st n p e) (leads_read st p m t l r)
+
+pub leads_on : (st : Store) (n m p : ℕ) → LeadsTo st n m → entry_of st type_var m ≡ same_as p → LeadsTo st n p
+leads_on st n m p (here e) q = next (ap (entry_of st type_var) e ∙ q) (here refl)
+leads_on st n m p (next {p = r} e l) q = next e (leads_on st r m p l q)
+
+-- The other is a variable of the context.
+pub leads_made : (st : Store) → IsSound st → (n p : ℕ) → entry_of st type_var n ≡ same_as p → IsMade st type_var p
+leads_made st g n p e = made_of_term st type_var p (g.bindings type_var n (leaf (variable type_var p)) (ap (entry_term type_var) e)).is_in
+
+-- A form that is no variable.
+pub formed_kind : {Key Id Name : Type 0} (m : Meaning Key Id Name) (k : TyKind Key) → ((i : InferTy) → k ≡ Infer i → ⊥) → IsFormed (kind_tree m k)
+formed_kind m Bool h = refl
+formed_kind m Char h = refl
+formed_kind m (Int w) h = refl
+formed_kind m (Uint w) h = refl
+formed_kind m (Slice t) h = refl
+formed_kind m (Tuple ts) h = refl
+formed_kind m (Ref r t u) h = refl
+formed_kind m (Infer i) h = absurd (h i refl)
+
+-- The number of type variables.
+pub made_of_table : {Key Id Name : Type 0} (m : Meaning Key Id Name) (x : InferCtxtInner Key) (n : ℕ) → n < length x.types.items → IsMade (store_of m x) type_var n
+made_of_table m x n h = subst (λ z. n < z) (sym (length-map x.types.items _)) h
+
+pub table_of_made : {Key Id Name : Type 0} (m : Meaning Key Id Name) (x : InferCtxtInner Key) (n : ℕ) → IsMade (store_of m x) type_var n → n < length x.types.items
+table_of_made m x n h = subst (λ z. n < z) (length-map x.types.items _) h
+
+-- The key beside a variable.
+pub key_of : {Key Id Name : Type 0} (m : Meaning Key Id Name) (x : InferCtxtInner Key) → IsLawful m x → (n : ℕ) (d : TypeVariable Key) → n < length x.types.items → m.ty ((get_or x.types.items n d).key) ≡ leaf (variable type_var n)
+key_of m x l n d h = sym (get_or-map (λ v. m.ty v.key) x.types.items n d nil h) ∙ l.keyed n h
+
+-- What is found for a variable.
+module _ {Key Id Name : Type 0} (m : Meaning Key Id Name) (x : InferCtxtInner Key) (l : IsLawful m x) where
+  abbrev st : Store
+  st = store_of m x
+
+  pub made_of_key : (t : Tree) (n : ℕ) → t ≡ leaf (variable type_var n) → IsTermIn st t → n < length x.types.items
+  made_of_key t n e h = table_of_made m x n (made_of_term st type_var n (subst (IsTermIn st) e h))
+
+  pub root_read : (t u : Tree) (n r : ℕ) → t ≡ leaf (variable type_var n) → LeadsTo st n r → u ≡ leaf (variable type_var r) → IsReadAs st t u
+  root_read t u n r e d q = subst (λ z. IsReadAs st z u) (sym e) (leads_read st n r u d (itself (sym q)))
+
+  pub bound_read : (t u : Tree) (n r : ℕ) → t ≡ leaf (variable type_var n) → LeadsTo st n r → bound_to u ≡ entry_of st type_var r → IsReadAs st t u
+  bound_read t u n r e d q = subst (λ z. IsReadAs st z u) (sym e) (leads_read st n r u d (read_bound st r u (sym q)))
+
+  pub root_shallow : (u : Tree) (r : ℕ) → u ≡ leaf (variable type_var r) → unbound ≡ entry_of st type_var r → IsShallow st u
+  root_shallow u r e q = root r e (ap (entry_term type_var) (sym q))
+
+  pub bound_shallow : (u : Tree) (r : ℕ) → bound_to u ≡ entry_of st type_var r → IsShallow st u
+  bound_shallow u r q = formed (l.formed r u (sym q))
+
+  pub root_in : (u : Tree) (r : ℕ) → u ≡ leaf (variable type_var r) → r < length x.types.items → IsTermIn st u
+  root_in u r e h = subst (IsTermIn st) (sym e) (term_of_made st type_var r (made_of_table m x r h))
+
+  pub root_known : (u : Tree) (r : ℕ) → u ≡ leaf (variable type_var r) → IsTrue (known u)
+  root_known u r e = subst (λ t. IsTrue (known t)) (sym e) refl

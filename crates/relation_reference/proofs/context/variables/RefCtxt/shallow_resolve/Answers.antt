@@ -1,0 +1,78 @@
+use Rattle.std.proofs.Common.{◌≡◌, sym, ap, ◌∙◌, subst, IsTrue}
+use Rattle.relation_terms.specs.Trees.{known}
+use Rattle.type_relations.specs.Errors.{itself}
+use Rattle.type_relations.proofs.ReadAs.{read_resolves}
+use Rattle.relation_reference.specs.Tables.{store_of, IsFormed}
+use Rattle.relation_reference.specs.Answers.{formed}
+use Rattle.relation_reference.proofs.Grows.{known_bound, known_of_term}
+use Rattle.relation_reference.proofs.Reading.{formed_kind, key_of, made_of_key, root_read, bound_read, root_shallow, bound_shallow, root_known}
+use Rattle.relation_reference.proofs.context.variables.RefCtxt.shallow_resolve.Goals as goal
+
+pub root_ty_var-root-requires-clause-made : goal.root_ty_var-root-requires-clause-made
+root_ty_var-root-requires-clause-made g c =
+    let m = g.I.Interner.meaning c.args.self.now.interner in
+    made_of_key m c.args.self.now.inner c.requires.lawful (m.ty c.args.ty.now) _ (c.in-Infer.ensures ∙ c.ty_vid.ensures) c.requires.ty_in
+
+pub returns-in-Known-clause-sure : goal.returns-in-Known-clause-sure
+returns-in-Known-clause-sure g c =
+    let m = g.I.Interner.meaning c.args.self.now.interner in
+    let x = c.args.self.now.inner in
+    known_of_term (store_of m x) (m.ty c.in-Known.bound) (known_bound m x c.requires.lawful c.root_ty_var-root.result.0 (m.ty c.in-Known.bound) (sym c.in-Known.ensures))
+
+pub returns-in-Known-clause-reads : goal.returns-in-Known-clause-reads
+returns-in-Known-clause-reads g c =
+    let m = g.I.Interner.meaning c.args.self.now.interner in
+    bound_read m c.args.self.now.inner c.requires.lawful (m.ty c.args.ty.now) (m.ty c.in-Known.bound) _ c.root_ty_var-root.result.0 (c.in-Infer.ensures ∙ c.ty_vid.ensures) c.root_ty_var-root.ensures.leads c.in-Known.ensures
+
+pub returns-in-Known-clause-resolves : goal.returns-in-Known-clause-resolves
+returns-in-Known-clause-resolves g c =
+    let m = g.I.Interner.meaning c.args.self.now.interner in
+    read_resolves (store_of m c.args.self.now.inner) c.requires.lawful.sound (m.ty c.args.ty.now) (m.ty c.in-Known.bound)
+    (bound_read m c.args.self.now.inner c.requires.lawful (m.ty c.args.ty.now) (m.ty c.in-Known.bound) _ c.root_ty_var-root.result.0 (c.in-Infer.ensures ∙ c.ty_vid.ensures) c.root_ty_var-root.ensures.leads c.in-Known.ensures)
+
+pub returns-in-Known-clause-shallow : goal.returns-in-Known-clause-shallow
+returns-in-Known-clause-shallow g c =
+    let m = g.I.Interner.meaning c.args.self.now.interner in
+    bound_shallow m c.args.self.now.inner c.requires.lawful (m.ty c.in-Known.bound) c.root_ty_var-root.result.0 c.in-Known.ensures
+
+pub returns-in-Unknown-clause-sure : goal.returns-in-Unknown-clause-sure
+returns-in-Unknown-clause-sure g c =
+    let m = g.I.Interner.meaning c.args.self.now.interner in
+    let x = c.args.self.now.inner in
+    root_known m x c.requires.lawful (m.ty c.dup-in-Unknown.result) c.root_ty_var-root.result.0
+    (ap m.ty c.dup-in-Unknown.ensures ∙ ap (λ v. m.ty v.key) c.index.ensures ∙ key_of m x c.requires.lawful c.root_ty_var-root.result.0 c.index.result.now c.root_ty_var-root.ensures.made)
+
+pub returns-in-Unknown-clause-reads : goal.returns-in-Unknown-clause-reads
+returns-in-Unknown-clause-reads g c =
+    let m = g.I.Interner.meaning c.args.self.now.interner in
+    let x = c.args.self.now.inner in
+    root_read m x c.requires.lawful (m.ty c.args.ty.now) (m.ty c.dup-in-Unknown.result) _ c.root_ty_var-root.result.0 (c.in-Infer.ensures ∙ c.ty_vid.ensures) c.root_ty_var-root.ensures.leads
+    (ap m.ty c.dup-in-Unknown.ensures ∙ ap (λ v. m.ty v.key) c.index.ensures ∙ key_of m x c.requires.lawful c.root_ty_var-root.result.0 c.index.result.now c.root_ty_var-root.ensures.made)
+
+pub returns-in-Unknown-clause-resolves : goal.returns-in-Unknown-clause-resolves
+returns-in-Unknown-clause-resolves g c =
+    let m = g.I.Interner.meaning c.args.self.now.interner in
+    let x = c.args.self.now.inner in
+    read_resolves (store_of m x) c.requires.lawful.sound (m.ty c.args.ty.now) (m.ty c.dup-in-Unknown.result)
+    (root_read m x c.requires.lawful (m.ty c.args.ty.now) (m.ty c.dup-in-Unknown.result) _ c.root_ty_var-root.result.0 (c.in-Infer.ensures ∙ c.ty_vid.ensures) c.root_ty_var-root.ensures.leads
+    (ap m.ty c.dup-in-Unknown.ensures ∙ ap (λ v. m.ty v.key) c.index.ensures ∙ key_of m x c.requires.lawful c.root_ty_var-root.result.0 c.index.result.now c.root_ty_var-root.ensures.made))
+
+pub returns-in-Unknown-clause-shallow : goal.returns-in-Unknown-clause-shallow
+returns-in-Unknown-clause-shallow g c =
+    let m = g.I.Interner.meaning c.args.self.now.interner in
+    let x = c.args.self.now.inner in
+    root_shallow m x c.requires.lawful (m.ty c.dup-in-Unknown.result) c.root_ty_var-root.result.0
+    (ap m.ty c.dup-in-Unknown.ensures ∙ ap (λ v. m.ty v.key) c.index.ensures ∙ key_of m x c.requires.lawful c.root_ty_var-root.result.0 c.index.result.now c.root_ty_var-root.ensures.made)
+    c.in-Unknown.ensures
+
+pub returns-in_default : goal.returns-in_default
+returns-in_default g c =
+    let m = g.I.Interner.meaning c.args.self.now.interner in
+    let st = store_of m c.args.self.now.inner in
+    let same : m.ty c.args.ty.now ≡ m.ty c.dup.result = ap m.ty (sym c.dup.ensures) in
+    record {
+      sure = subst (λ t. IsTrue (known t)) same c.requires.ty_known;
+      reads = itself same;
+      resolves = read_resolves st c.requires.lawful.sound (m.ty c.args.ty.now) (m.ty c.dup.result) (itself same);
+      shallow = formed (subst IsFormed (sym c.ty_kind.ensures ∙ same) (formed_kind m c.ty_kind.result c.in_default.not-Infer));
+    }

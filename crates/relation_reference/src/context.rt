@@ -1,0 +1,13 @@
+//! An inference context over plain tables, and relating in it.
+
+mod inner;
+mod pairing;
+mod recording;
+mod relating;
+mod resolving;
+mod solver;
+mod variables;
+
+pub use inner::{InferCtxtInner, TypeVariable, TypeVariableValue};
+pub(crate) use pairing::PairedParts;
+pub use variables::RefCtxt;

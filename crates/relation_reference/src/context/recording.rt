@@ -1,0 +1,158 @@
+//! Recording in a context: new variables, variables that are one, constraints on regions.
+ghost use Rattle.std.specs.Prelude.{◌≡◌, ℕ, ◌<◌, IsTrue, IfOk, OnErr, OnOk, length, min, max, map, slice_set};
+ghost use Rattle.relation_terms.specs.Heads.{type_var, region_var, variable};
+ghost use Rattle.relation_terms.specs.Trees.{leaf, known};
+ghost use Rattle.relation_terms.specs.Meaning.{Extends};
+ghost use Rattle.type_relations.specs.Stores.{unbound, entry_of, universe_of, IsRegionIn, equal_constraint};
+ghost use Rattle.type_relations.specs.Steps.{Equates, MakesVariable, AddsConstraint, IsLater};
+ghost use Rattle.type_relations.specs.Measures.{Goes};
+ghost use Rattle.relation_reference.specs.Tables.{store_of, IsLawful};
+ghost use Rattle.relation_reference.specs.Answers.{Unites};
+
+use crate::context::{RefCtxt, TypeVariable, TypeVariableValue};
+use relation_terms::predicate::{RegionConstraint, RegionEqPredicate};
+use relation_terms::terms::{
+    Dup, InferTy, Interner, OutOfMemory, Region, RegionKind, RegionVid, Ty, TyKind, TyVid,
+    UniverseIndex,
+};
+
+fn smaller(a: usize, b: usize) -> usize
+    ensures { result ≡ min a b }
+{
+    if a < b { a } else { b }
+}
+
+impl<I: Interner> RefCtxt<I> {
+    /// A new type variable in the current universe. Variables are numbered from 0 as they are made.
+    ///
+    /// After `OutOfMemory` no variable was made.
+    pub fn next_ty_infer(&mut self) -> Result<Ty<I>, OutOfMemory>
+        requires { IsLawful (I.meaning self.old.interner) self.old.inner }
+        ensures lawful { IsLawful (I.meaning self.new.interner) self.new.inner }
+        ensures grown { Extends (I.meaning self.old.interner) (I.meaning self.new.interner) }
+        ensures later { IsLater (store_of (I.meaning self.old.interner) self.old.inner) (store_of (I.meaning self.new.interner) self.new.inner) }
+        ensures sure { IfOk result (λ t. IsTrue (known ((I.meaning self.new.interner).ty t))) }
+        ensures means { IfOk result (λ t. (I.meaning self.new.interner).ty t ≡ leaf (variable type_var (length self.old.inner.types.items))) }
+        ensures makes { OnOk result (MakesVariable (store_of (I.meaning self.old.interner) self.old.inner) (store_of (I.meaning self.new.interner) self.new.inner) type_var (length self.old.inner.types.items) self.old.inner.universe.0) }
+        ensures refused { OnErr result (store_of (I.meaning self.new.interner) self.new.inner ≡ store_of (I.meaning self.old.interner) self.old.inner) }
+    {
+        let number = self.inner.types.len();
+        let universe = self.inner.universe;
+        let key = self
+            .interner
+            .mk_ty(TyKind::Infer(InferTy::TyVar(TyVid(number))))?;
+        self.inner.types.push(TypeVariable {
+            key: key.dup(),
+            value: TypeVariableValue::Unknown,
+            universe,
+        })?;
+        Ok(key)
+    }
+
+    /// A new region variable in the current universe. Variables are numbered from 0 as they are made.
+    ///
+    /// After `OutOfMemory` no variable was made.
+    pub fn next_region_infer(&mut self) -> Result<Region<I>, OutOfMemory>
+        requires { IsLawful (I.meaning self.old.interner) self.old.inner }
+        ensures lawful { IsLawful (I.meaning self.new.interner) self.new.inner }
+        ensures grown { Extends (I.meaning self.old.interner) (I.meaning self.new.interner) }
+        ensures later { IsLater (store_of (I.meaning self.old.interner) self.old.inner) (store_of (I.meaning self.new.interner) self.new.inner) }
+        ensures sure { IfOk result (λ r. IsTrue (known ((I.meaning self.new.interner).region r))) }
+        ensures means { IfOk result (λ r. (I.meaning self.new.interner).region r ≡ leaf (variable region_var (length self.old.inner.regions.items))) }
+        ensures makes { OnOk result (MakesVariable (store_of (I.meaning self.old.interner) self.old.inner) (store_of (I.meaning self.new.interner) self.new.inner) region_var (length self.old.inner.regions.items) self.old.inner.universe.0) }
+        ensures refused { OnErr result (store_of (I.meaning self.new.interner) self.new.inner ≡ store_of (I.meaning self.old.interner) self.old.inner) }
+    {
+        let number = self.inner.regions.len();
+        let universe = self.inner.universe;
+        let key = self
+            .interner
+            .mk_region(RegionKind::ReVar(RegionVid(number)))?;
+        self.inner.regions.push(universe)?;
+        Ok(key)
+    }
+
+    // Records that two regions outlive each other, also where both are one.
+    pub(crate) fn equate_regions(&mut self, a: &Region<I>, b: &Region<I>) -> Result<(), OutOfMemory>
+        requires lawful { IsLawful (I.meaning self.old.interner) self.old.inner }
+        requires a_in { IsRegionIn (store_of (I.meaning self.old.interner) self.old.inner) ((I.meaning self.old.interner).region a.now) }
+        requires b_in { IsRegionIn (store_of (I.meaning self.old.interner) self.old.inner) ((I.meaning self.old.interner).region b.now) }
+        ensures interner { self.new.interner ≡ self.old.interner }
+        ensures lawful { IsLawful (I.meaning self.old.interner) self.new.inner }
+        ensures adds { OnOk result (AddsConstraint (store_of (I.meaning self.old.interner) self.old.inner) (store_of (I.meaning self.old.interner) self.new.inner) (equal_constraint ((I.meaning self.old.interner).region a.now) ((I.meaning self.old.interner).region b.now))) }
+        ensures refused { OnErr result (store_of (I.meaning self.old.interner) self.new.inner ≡ store_of (I.meaning self.old.interner) self.old.inner) }
+        ensures goes { Goes 0 (store_of (I.meaning self.old.interner) self.old.inner) (store_of (I.meaning self.old.interner) self.new.inner) }
+        ensures unites { OnOk result (Unites (store_of (I.meaning self.old.interner) self.old.inner) (store_of (I.meaning self.old.interner) self.new.inner) ((I.meaning self.old.interner).region a.now) ((I.meaning self.old.interner).region b.now)) }
+    {
+        let equal = RegionEqPredicate(a.dup(), b.dup());
+        self.inner.constraints.push(RegionConstraint::Eq(equal))?;
+        Ok(())
+    }
+
+    // The universe of a type variable.
+    pub(crate) fn universe_of_ty(&self, v: usize) -> UniverseIndex
+        requires { v < length self.now.inner.types.items }
+        ensures { result.0 ≡ universe_of (store_of (I.meaning self.now.interner) self.now.inner) type_var v }
+    {
+        self.inner.types[v].universe
+    }
+
+    // Makes a free variable lead to one of a smaller number, which gets the smaller of both universes.
+    fn link_to(&mut self, child: usize, root: usize)
+        requires lawful { IsLawful (I.meaning self.old.interner) self.old.inner }
+        requires made { child < length self.old.inner.types.items }
+        requires smaller { root < child }
+        requires child_unbound { entry_of (store_of (I.meaning self.old.interner) self.old.inner) type_var child ≡ unbound }
+        requires root_unbound { entry_of (store_of (I.meaning self.old.interner) self.old.inner) type_var root ≡ unbound }
+        ensures interner { self.new.interner ≡ self.old.interner }
+        ensures lawful { IsLawful (I.meaning self.old.interner) self.new.inner }
+        ensures equates { Equates (store_of (I.meaning self.old.interner) self.old.inner) (store_of (I.meaning self.old.interner) self.new.inner) type_var child root }
+    {
+        let below = self.universe_of_ty(child);
+        let above = self.universe_of_ty(root);
+        let lower = UniverseIndex(smaller(below.0, above.0));
+        self.record(child, TypeVariableValue::SameAs(TyVid(root)), below);
+        self.record(root, TypeVariableValue::Unknown, lower);
+    }
+
+    // Makes two free variables one: the smaller number is the root, with the smaller of both universes. One variable
+    // with itself changes nothing.
+    pub(crate) fn equate_ty_vids_raw(&mut self, a: TyVid, b: TyVid)
+        requires lawful { IsLawful (I.meaning self.old.interner) self.old.inner }
+        requires a_made { a.0 < length self.old.inner.types.items }
+        requires b_made { b.0 < length self.old.inner.types.items }
+        requires a_unbound { entry_of (store_of (I.meaning self.old.interner) self.old.inner) type_var a.0 ≡ unbound }
+        requires b_unbound { entry_of (store_of (I.meaning self.old.interner) self.old.inner) type_var b.0 ≡ unbound }
+        ensures interner { self.new.interner ≡ self.old.interner }
+        ensures lawful { IsLawful (I.meaning self.old.interner) self.new.inner }
+        ensures same { a.0 ≡ b.0 → self.new.inner ≡ self.old.inner }
+        ensures equates { (a.0 ≡ b.0 → ⊥) → Equates (store_of (I.meaning self.old.interner) self.old.inner) (store_of (I.meaning self.old.interner) self.new.inner) type_var (max a.0 b.0) (min a.0 b.0) }
+    {
+        if a.0 < b.0 {
+            self.link_to(b.0, a.0);
+        } else if b.0 < a.0 {
+            self.link_to(a.0, b.0);
+        }
+    }
+
+    // Writes what is recorded of a variable, and its universe.
+    pub(crate) fn record(
+        &mut self,
+        v: usize,
+        value: TypeVariableValue<I::Key>,
+        universe: UniverseIndex,
+    )
+        requires { v < length self.old.inner.types.items }
+        ensures interner { self.new.interner ≡ self.old.interner }
+        ensures keys { map (λ t. t.key) self.new.inner.types.items ≡ map (λ t. t.key) self.old.inner.types.items }
+        ensures values { map (λ t. t.value) self.new.inner.types.items ≡ slice_set (map (λ t. t.value) self.old.inner.types.items) v value }
+        ensures universes { map (λ t. t.universe) self.new.inner.types.items ≡ slice_set (map (λ t. t.universe) self.old.inner.types.items) v universe }
+        ensures regions { self.new.inner.regions.items ≡ self.old.inner.regions.items }
+        ensures constraints { self.new.inner.constraints.items ≡ self.old.inner.constraints.items }
+        ensures universe { self.new.inner.universe ≡ self.old.inner.universe }
+        ensures budget { self.new.inner.budget ≡ self.old.inner.budget }
+    {
+        let entry = &mut self.inner.types[v];
+        entry.value = value;
+        entry.universe = universe;
+    }
+}
