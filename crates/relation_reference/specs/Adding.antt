@@ -1,5 +1,5 @@
 -- What adding an item changes.
-use Rattle.std.specs.Prelude.{◌≡◌, ◌≢◌, ℕ, [], length}
+use Rattle.std.specs.Prelude.{◌≡◌, ◌≢◌, ℕ, List, [], length}
 use Rattle.relation_terms.specs.Meaning.{Meaning}
 use Rattle.relation_terms.specs.declared.terms.keys.TyKey.{TyKey}
 use Rattle.relation_terms.specs.declared.terms.keys.RegionKey.{RegionKey}
@@ -15,11 +15,24 @@ use Rattle.relation_terms.specs.declared.terms.keys.BoundVarsKey.{BoundVarsKey}
 use Rattle.relation_terms.specs.declared.terms.keys.PredicateKey.{PredicateKey}
 use Rattle.relation_terms.specs.declared.terms.keys.ClauseKey.{ClauseKey}
 use Rattle.relation_terms.specs.declared.terms.keys.ParamEnvKey.{ParamEnvKey}
+use Rattle.relation_reference.specs.declared.interner.keys.NodeKey.{NodeKey}
+use Rattle.relation_reference.specs.declared.interner.keys.ItemId.{ItemId}
+use Rattle.relation_reference.specs.declared.interner.keys.SymbolId.{SymbolId}
+use Rattle.relation_reference.specs.declared.interner.items.Item.{Item}
 use Rattle.relation_reference.specs.declared.interner.RefInterner.{RefInterner}
+use Rattle.relation_reference.specs.Nodes.{table_meaning}
+
+-- What the keys and ids of an interner mean.
+abbrev pub meaning_in : RefInterner → Meaning NodeKey ItemId SymbolId
+meaning_in s = table_meaning s.items.items s.nodes.items
+
+-- The items that were added, in order.
+abbrev pub items_of : RefInterner → List Item
+items_of s = s.items.items
 
 -- How many items were added.
 abbrev pub item_count : RefInterner → ℕ
-item_count s = length s.items.items
+item_count s = length (items_of s)
 
 module _ {Key Id Name : Type 0} (m n : Meaning Key Id Name) where
   -- Each key has one tree by both, and each id and each name one number.

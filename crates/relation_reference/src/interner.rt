@@ -86,9 +86,10 @@ impl Interner for RefInterner {
     ghost use Rattle.relation_terms.specs.declared.terms.keys.ParamEnvKey.{ParamEnvKey};
     ghost use Rattle.relation_reference.specs.declared.interner.keys.NodeKey.{NodeKey};
     ghost use Rattle.relation_reference.specs.Nodes.{ty_node, region_node, const_node, valtree_node, args_node, tys_node, branches_node, environment_node};
+    ghost use Rattle.relation_reference.specs.Adding.{meaning_in};
     ghost use Rattle.relation_reference.specs.Laws.{sort_law, same_law, same_name_law, same_id_law};
 
-    ghost meaning = { λ s. table_meaning s.items.items s.nodes.items };
+    ghost meaning = { λ s. meaning_in s };
 
     fn alloc(&self) -> Global {
         self.alloc

@@ -1,5 +1,5 @@
 //! Items, and how one is added.
-ghost use Rattle.std.specs.Prelude.{◌≡◌, suc, IfOk, OnErr, length};
+ghost use Rattle.std.specs.Prelude.{◌≡◌, ◌++◌, ◌∷◌, [], suc, IfOk, OnErr, length};
 
 use crate::interner::{ItemId, RefInterner, SymbolId};
 use relation_terms::terms::{Interner, OutOfMemory, TraitId, Variance};
@@ -66,7 +66,7 @@ pub struct Item {
 }
 
 impl RefInterner {
-    ghost use Rattle.relation_reference.specs.Adding.{item_count, SameTerms, OthersStand, HasNoGenerics};
+    ghost use Rattle.relation_reference.specs.Adding.{items_of, item_count, SameTerms, OthersStand, HasNoGenerics};
 
     /// How many items were added.
     pub fn item_count(&self) -> usize
@@ -87,6 +87,7 @@ impl RefInterner {
         variances: Vec<Variance>,
     ) -> Result<ItemId, OutOfMemory>
         ensures number { IfOk result (λ d. d.0 ≡ item_count self.old) }
+        ensures recorded { IfOk result (λ d. items_of self.new ≡ items_of self.old ++ record { kind = kind; name = name; variances = variances } ∷ []) }
         ensures one_more { IfOk result (λ d. item_count self.new ≡ suc (item_count self.old)) }
         ensures fresh { IfOk result (λ d. HasNoGenerics (⟦<RefInterner as Interner>⟧.meaning self.old) d) }
         ensures terms { SameTerms (⟦<RefInterner as Interner>⟧.meaning self.old) (⟦<RefInterner as Interner>⟧.meaning self.new) }
@@ -94,7 +95,7 @@ impl RefInterner {
         ensures variances { IfOk result (λ d. (⟦<RefInterner as Interner>⟧.meaning self.new).variances d ≡ variances.items) }
         ensures others { IfOk result (λ d. OthersStand (⟦<RefInterner as Interner>⟧.meaning self.old) (⟦<RefInterner as Interner>⟧.meaning self.new) d) }
         ensures refused { OnErr result (⟦<RefInterner as Interner>⟧.meaning self.new ≡ ⟦<RefInterner as Interner>⟧.meaning self.old) }
-        ensures none_more { OnErr result (item_count self.new ≡ item_count self.old) }
+        ensures none_recorded { OnErr result (items_of self.new ≡ items_of self.old) }
     {
         let number = self.item_count();
         self.items.push(Item {
