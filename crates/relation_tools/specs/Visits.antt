@@ -1,0 +1,48 @@
+-- What a visitor goes over.
+use Rattle.std.specs.Prelude.{◌≡◌, Bool, true, false}
+use Rattle.std.specs.declared.ops.ControlFlow.{ControlFlow}
+use Rattle.std.specs.declared.ops.ControlFlow.TheVariants.{Continue, Break}
+use Rattle.relation_terms.specs.Heads.{Sort, region_sort, type_sort, const_sort, Leaf, Head, leaf_sort, head_sort}
+use Rattle.relation_terms.specs.Trees.{Tree, leaf, node, bind, nil, cons}
+use Rattle.relation_tools.specs.declared.visit.Visit.{Visit}
+use Rattle.relation_tools.specs.declared.visit.Visit.TheVariants.{Enter, Skip, Stop}
+
+-- Types, regions and constants: the terms that a visitor is asked about.
+abbrev pub visited_sort : Sort → Bool
+visited_sort region_sort = true
+visited_sort type_sort = true
+visited_sort const_sort = true
+visited_sort s = false
+
+-- The tree is such a term.
+abbrev pub is_visited : Tree → Bool
+is_visited (leaf l) = visited_sort (leaf_sort l)
+is_visited (node h ts) = visited_sort (head_sort h)
+is_visited t = false
+
+-- The list of the parts of a tree.
+abbrev pub parts : Tree → Tree
+parts (node h ts) = ts
+parts t = nil
+
+-- Whether a visit goes on or was stopped.
+abbrev pub Flow : Type 0
+Flow = ControlFlow (Unit {0}) (Unit {0})
+
+-- From one visitor, over a tree, to another: the visitor is asked about each type, region and constant before its
+-- parts, and what it enters it goes over part by part, in order, until it stops.
+pub data Walks {V : Type 0} (visits : V → Tree → V → Visit → Type 0) : V → Tree → V → Flow → Type 0 where
+  -- a term whose parts are gone over, one whose parts are not, and one that is the last
+  entered : {v w x : V} {t : Tree} {r : Flow} → is_visited t ≡ true → visits v t w Enter →
+      Walks visits w (parts t) x r → Walks visits v t x r
+  skipped : {v w : V} {t : Tree} → is_visited t ≡ true → visits v t w Skip → Walks visits v t w (Continue tt)
+  stopped : {v w : V} {t : Tree} → is_visited t ≡ true → visits v t w Stop → Walks visits v t w (Break tt)
+  -- what stands between a term and its parts, which no visitor is asked about
+  passed_leaf : {v : V} {l : Leaf} → is_visited (leaf l) ≡ false → Walks visits v (leaf l) v (Continue tt)
+  passed : {v w : V} {h : Head} {ts : Tree} {r : Flow} → is_visited (node h ts) ≡ false → Walks visits v ts w r →
+      Walks visits v (node h ts) w r
+  -- a list, part by part
+  no_part : {v : V} → Walks visits v nil v (Continue tt)
+  last_part : {v w : V} {t ts : Tree} → Walks visits v t w (Break tt) → Walks visits v (cons t ts) w (Break tt)
+  next_part : {v w x : V} {t ts : Tree} {r : Flow} → Walks visits v t w (Continue tt) → Walks visits w ts x r →
+      Walks visits v (cons t ts) x r
