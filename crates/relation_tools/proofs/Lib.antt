@@ -1,1 +1,2 @@
 pub mod Visiting
+pub mod Errors

@@ -4,6 +4,13 @@ use Rattle.std.specs.declared.ops.ControlFlow.{ControlFlow}
 use Rattle.std.specs.declared.ops.ControlFlow.TheVariants.{Continue, Break}
 use Rattle.relation_terms.specs.Heads.{Sort, region_sort, type_sort, const_sort, Leaf, Head, leaf_sort, head_sort}
 use Rattle.relation_terms.specs.Trees.{Tree, leaf, node, bind, nil, cons}
+use Rattle.relation_terms.specs.Meaning.{Meaning}
+use Rattle.relation_tools.specs.declared.error.ExpectedFound.{ExpectedFound}
+use Rattle.relation_tools.specs.declared.error.TypeError.{TypeError}
+use Rattle.relation_tools.specs.declared.error.TypeError.TheVariants.{ArraySize, RegionsDoesNotOutlive}
+use Rattle.relation_tools.specs.declared.error.TypeError.TheVariants.{RegionsInsufficientlyPolymorphic, Sorts}
+use Rattle.relation_tools.specs.declared.error.TypeError.TheVariants.{ArgumentSorts, CyclicTy, CyclicConst}
+use Rattle.relation_tools.specs.declared.error.TypeError.TheVariants.{ConstMismatch}
 use Rattle.relation_tools.specs.declared.visit.Visit.{Visit}
 use Rattle.relation_tools.specs.declared.visit.Visit.TheVariants.{Enter, Skip, Stop}
 
@@ -46,3 +53,20 @@ pub data Walks {V : Type 0} (visits : V → Tree → V → Visit → Type 0) : V
   last_part : {v w : V} {t ts : Tree} → Walks visits v t w (Break tt) → Walks visits v (cons t ts) w (Break tt)
   next_part : {v w x : V} {t ts : Tree} {r : Flow} → Walks visits v t w (Continue tt) → Walks visits w ts x r →
       Walks visits v (cons t ts) x r
+
+-- The trees of both of a pair, the expected one first.
+abbrev pub pair_tree : {A : Type 0} → (A → Tree) → ExpectedFound A → Tree
+pair_tree tree pair = cons (tree pair.expected) (cons (tree pair.found) nil)
+
+-- What a visit of an error goes over: the types, regions and constants that it names, in order. Lists of existential
+-- predicates can't be read yet, and are left out.
+abbrev pub error_tree : {Key Id Name : Type 0} → Meaning Key Id Name → TypeError Key Id Name → Tree
+error_tree m (ArraySize sizes) = pair_tree m.const_ sizes
+error_tree m (RegionsDoesNotOutlive r s) = cons (m.region r) (cons (m.region s) nil)
+error_tree m (RegionsInsufficientlyPolymorphic b r) = m.region r
+error_tree m (Sorts types) = pair_tree m.ty types
+error_tree m (ArgumentSorts types i) = pair_tree m.ty types
+error_tree m (CyclicTy t) = m.ty t
+error_tree m (CyclicConst c) = m.const_ c
+error_tree m (ConstMismatch constants) = pair_tree m.const_ constants
+error_tree m e = nil
