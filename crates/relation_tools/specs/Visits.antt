@@ -1,8 +1,10 @@
 -- What a visitor goes over.
-use Rattle.std.specs.Prelude.{◌≡◌, Bool, true, false}
+use Rattle.std.specs.Prelude.{◌≡◌, ℕ, suc, Bool, true, false, not, cond, ◌||◌, nat_lt}
 use Rattle.std.specs.declared.ops.ControlFlow.{ControlFlow}
 use Rattle.std.specs.declared.ops.ControlFlow.TheVariants.{Continue, Break}
-use Rattle.relation_terms.specs.Heads.{Sort, region_sort, type_sort, const_sort, Leaf, Head, leaf_sort, head_sort}
+use Rattle.relation_terms.specs.Heads.{Sort, region_sort, type_sort, const_sort, leaf_sort, head_sort, region_var}
+use Rattle.relation_terms.specs.Heads.{Atom, type_param, type_error, fresh_type, fresh_int, fresh_float, Head, alias}
+use Rattle.relation_terms.specs.Heads.{Leaf, variable, bound, atom}
 use Rattle.relation_terms.specs.Trees.{Tree, leaf, node, bind, nil, cons}
 use Rattle.relation_terms.specs.Meaning.{Meaning}
 use Rattle.relation_tools.specs.declared.error.ExpectedFound.{ExpectedFound}
@@ -70,3 +72,56 @@ error_tree m (CyclicTy t) = m.ty t
 error_tree m (CyclicConst c) = m.const_ c
 error_tree m (ConstMismatch constants) = pair_tree m.const_ constants
 error_tree m e = nil
+
+-- Some leaf has a property, which is told how many binders stand around the leaf, `depth` of them around the tree.
+abbrev pub has_leaf : (ℕ → Leaf → Bool) → ℕ → Tree → Bool
+has_leaf p depth (leaf l) = p depth l
+has_leaf p depth (node h ts) = has_leaf p depth ts
+has_leaf p depth (bind ks t) = has_leaf p (suc depth) t
+has_leaf p depth nil = false
+has_leaf p depth (cons t ts) = has_leaf p depth t || has_leaf p depth ts
+
+-- A variable that is bound by none of the binders around it.
+abbrev pub is_escaping : ℕ → Leaf → Bool
+is_escaping depth (bound k d i) = not (nat_lt d depth)
+is_escaping depth l = false
+
+-- An inference variable of any kind but region.
+abbrev pub is_non_region_infer : ℕ → Leaf → Bool
+is_non_region_infer depth (variable region_var n) = false
+is_non_region_infer depth (variable k n) = true
+is_non_region_infer depth l = false
+
+-- A variable stands in the tree that a binder outside the tree binds.
+abbrev pub has_escaping_bound_vars : Tree → Bool
+has_escaping_bound_vars t = has_leaf is_escaping 0 t
+
+-- An inference variable of any kind but region stands in the tree.
+abbrev pub has_non_region_infer : Tree → Bool
+has_non_region_infer t = has_leaf is_non_region_infer 0 t
+
+-- The tree is itself such a leaf.
+abbrev pub found_here : (ℕ → Leaf → Bool) → Tree → Bool
+found_here p (leaf l) = p 0 l
+found_here p t = false
+
+-- A visitor that stops at such a leaf and enters all else.
+abbrev pub Searches : {V : Type 0} → (ℕ → Leaf → Bool) → V → Tree → V → Visit → Type 0
+Searches p v t w a = a ≡ cond (found_here p t) Stop Enter
+
+-- A form without parts that no instantiation changes into another, and no error.
+abbrev pub rigid_atom : Atom → Bool
+rigid_atom (type_param i n) = false
+rigid_atom type_error = false
+rigid_atom (fresh_type n) = false
+rigid_atom (fresh_int n) = false
+rigid_atom (fresh_float n) = false
+rigid_atom x = true
+
+-- The outermost form of a type is its own, whatever is instantiated or normalised: it is no parameter, placeholder,
+-- variable, alias or error, and not bound.
+abbrev pub is_rigid : Tree → Bool
+is_rigid (leaf (atom x)) = rigid_atom x
+is_rigid (node (alias k d) ts) = false
+is_rigid (node h ts) = true
+is_rigid t = false
