@@ -93,12 +93,12 @@ is_non_region_infer depth (variable k n) = true
 is_non_region_infer depth l = false
 
 -- A variable stands in the tree that a binder outside the tree binds.
-abbrev pub has_escaping_bound_vars : Tree → Bool
-has_escaping_bound_vars t = has_leaf is_escaping 0 t
+abbrev pub bound_var_escapes : Tree → Bool
+bound_var_escapes t = has_leaf is_escaping 0 t
 
 -- An inference variable of any kind but region stands in the tree.
-abbrev pub has_non_region_infer : Tree → Bool
-has_non_region_infer t = has_leaf is_non_region_infer 0 t
+abbrev pub non_region_infer_stands : Tree → Bool
+non_region_infer_stands t = has_leaf is_non_region_infer 0 t
 
 -- The tree is itself such a leaf.
 abbrev pub found_here : (ℕ → Leaf → Bool) → Tree → Bool
