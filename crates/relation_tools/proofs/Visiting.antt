@@ -1,10 +1,12 @@
 -- The steps of a walk, and the lists that it goes over.
-use Rattle.std.proofs.Common.{◌≡◌, ◌⊎◌, inl, inr, ℕ, zero, suc, ◌+◌, ◌*◌, ◌<◌, ◌≤◌, IsTrue, true, ◌&&◌, refl, sym, ◌∙◌, ap, subst}
+use Rattle.std.proofs.Common.{◌≡◌, ◌⊎◌, inl, inr, ℕ, zero, suc, ◌+◌, ◌*◌, ◌<◌, ◌≤◌, IsTrue, true, ◌&&◌, refl, sym}
+use Rattle.std.proofs.Common.{◌∙◌, ap, subst}
 use Rattle.std.proofs.Common.{arith, List, [], ◌∷◌, length, get_or, drop}
 use Rattle.std.proofs.lemmas.Bool.{and_parts}
 use Rattle.std.proofs.lemmas.List.{drop_more, drop_all}
 use Rattle.std.specs.declared.ops.ControlFlow.TheVariants.{Continue, Break}
-use Rattle.relation_terms.specs.Heads.{Sort, region_sort, type_sort, const_sort, Admits, leaf_sort, Head, head_sort, array, value_type}
+use Rattle.relation_terms.specs.Heads.{Sort, region_sort, type_sort, const_sort, Admits, leaf_sort, Head, head_sort}
+use Rattle.relation_terms.specs.Heads.{array, value_type}
 use Rattle.relation_terms.specs.Trees.{Tree, leaf, node, bind, nil, cons, known, size, list_tree, IsTerm}
 use Rattle.relation_terms.specs.Meaning.{Meaning, kind_tree, const_tree}
 use Rattle.relation_terms.specs.declared.terms.enums.IntTy.{IntTy}
@@ -20,7 +22,8 @@ use Rattle.relation_terms.specs.declared.terms.ty_kind.InferTy.TheVariants.{TyVa
 use Rattle.relation_terms.specs.declared.terms.ty_kind.TyKind.{TyKind}
 use Rattle.relation_terms.specs.declared.terms.ty_kind.TyKind.TheVariants.{Bool, Char, Int, Uint, Float, Foreign}
 use Rattle.relation_terms.specs.declared.terms.ty_kind.TyKind.TheVariants.{Str, Never, Infer}
-use Rattle.relation_terms.specs.declared.terms.ty_kind.TyKind.TheVariants.{Param as TyParam, Placeholder as TyPlaceholder}
+use Rattle.relation_terms.specs.declared.terms.ty_kind.TyKind.TheVariants.{Param as TyParam}
+use Rattle.relation_terms.specs.declared.terms.ty_kind.TyKind.TheVariants.{Placeholder as TyPlaceholder}
 use Rattle.relation_terms.specs.declared.terms.const_kind.ParamConst.{ParamConst}
 use Rattle.relation_terms.specs.declared.terms.const_kind.ConstKind.{ConstKind}
 use Rattle.relation_terms.specs.declared.terms.const_kind.ConstKind.TheVariants.{Param as ConstParam}
@@ -173,7 +176,8 @@ module _ {Key Id Name : Type 0} (m : Meaning Key Id Name) where
   leaf_kind f (inr (inr (inr (inr (inr (inr (inr (inl e)))))))) = ap (λ g. parts (kind_tree m g)) e
   leaf_kind f (inr (inr (inr (inr (inr (inr (inr (inr (inl p))))))))) = ap (λ g. parts (kind_tree m g)) p.1
   leaf_kind f (inr (inr (inr (inr (inr (inr (inr (inr (inr (inl p)))))))))) = ap (λ g. parts (kind_tree m g)) p.1
-  leaf_kind f (inr (inr (inr (inr (inr (inr (inr (inr (inr (inr p)))))))))) = ap (λ g. parts (kind_tree m g)) p.1 ∙ no_parts_of_infer p.0
+  leaf_kind f (inr (inr (inr (inr (inr (inr (inr (inr (inr (inr p)))))))))) = ap (λ g. parts (kind_tree m g)) p.1 ∙
+      no_parts_of_infer p.0
 
   leaf_const : (f : ConstKind Key Name) → IsLeafConst f → parts (const_tree m f) ≡ nil
   leaf_const f (inl p) = ap (λ g. parts (const_tree m g)) p.1

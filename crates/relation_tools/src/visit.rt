@@ -12,10 +12,9 @@ mod flags;
 mod visitable;
 mod walk;
 
+pub use flags::{has_escaping_bound_vars, has_non_region_infer, is_known_rigid};
 use relation_terms::terms::{Const, Interner, Region, Ty};
 use std::ops::ControlFlow;
-
-pub use flags::{has_escaping_bound_vars, has_non_region_infer, is_known_rigid};
 pub use walk::{
     super_visit_const, super_visit_ty, visit_arg_with, visit_args_with, visit_branches_with,
     visit_const_with, visit_region_with, visit_ty_with, visit_tys_with, visit_valtree_with,

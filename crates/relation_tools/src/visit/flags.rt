@@ -79,7 +79,8 @@ impl<I: Interner> TypeVisitor<I> for FindsEscaping {
     fn visit_region(&mut self, cx: &I, region: &Region<I>) -> Visit {
         let kind = cx.region_kind(region);
         match &kind {
-            RegionKind::ReStatic | RegionKind::ReEarlyParam(_) | RegionKind::ReVar(_) => Visit::Enter,
+            RegionKind::ReStatic | RegionKind::ReEarlyParam(_) | RegionKind::ReVar(_) =>
+                Visit::Enter,
         }
     }
 

@@ -8,4 +8,5 @@ returns g c =
     let t = g.T.TypeVisitable.tree (g.I.Interner.meaning c.args.cx.now) c.args.term.now in
     let r = c.visit_with.result in
     c.is_break.ensures ∙
-    found (non_region_infer_stands t) r (searched is_non_region_infer infer_visited (record {}) c.visit_with.new.visitor t r c.visit_with.ensures)
+    found (non_region_infer_stands t) r (searched is_non_region_infer infer_visited (record {})
+        c.visit_with.new.visitor t r c.visit_with.ensures)

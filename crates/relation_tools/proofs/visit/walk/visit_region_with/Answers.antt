@@ -13,4 +13,5 @@ returns-in-Enter g c =
 pub returns-in-Stop : goal.returns-in-Stop
 returns-in-Stop g c =
     let sorted = g.met.I.Interner.is_region c.args.cx.now c.args.region.now c.requires in
-    when_stopped (g.V.TypeVisitor.visits c.args.cx.now) _ _ _ _ (visited_region _ sorted) c.in-Stop.is c.visit_region.ensures
+    when_stopped (g.V.TypeVisitor.visits c.args.cx.now) _ _ _ _ (visited_region _ sorted) c.in-Stop.is
+        c.visit_region.ensures
