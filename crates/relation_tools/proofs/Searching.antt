@@ -7,7 +7,6 @@ use Rattle.relation_terms.specs.Heads.{type_kind, region_kind, const_kind, bound
 use Rattle.relation_terms.specs.Heads.{type_var, int_var, float_var, const_var, region_var}
 use Rattle.relation_terms.specs.Heads.{Leaf, variable, bound, placeholder, atom, unknown}
 use Rattle.relation_terms.specs.Trees.{Tree, leaf, node, bind, nil, cons}
-use Rattle.relation_tools.specs.declared.visit.Visit.{Visit}
 use Rattle.relation_tools.specs.declared.visit.Visit.TheVariants.{Enter, Skip, Stop}
 use Rattle.relation_tools.specs.Visits.{is_visited, parts, Flow, Walks, entered, skipped, stopped}
 use Rattle.relation_tools.specs.Visits.{passed_leaf, passed, no_part, last_part, next_part}

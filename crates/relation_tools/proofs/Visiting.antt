@@ -1,5 +1,5 @@
 -- The steps of a walk, and the lists that it goes over.
-use Rattle.std.proofs.Common.{◌≡◌, ◌⊎◌, inl, inr, ℕ, zero, suc, ◌+◌, ◌*◌, ◌<◌, ◌≤◌, IsTrue, true, ◌&&◌, refl, sym}
+use Rattle.std.proofs.Common.{◌≡◌, ◌⊎◌, inl, inr, ℕ, zero, suc, ◌+◌, ◌<◌, ◌≤◌, IsTrue, true, refl, sym}
 use Rattle.std.proofs.Common.{◌∙◌, ap, subst}
 use Rattle.std.proofs.Common.{arith, List, [], ◌∷◌, length, get_or, drop}
 use Rattle.std.proofs.lemmas.Bool.{and_parts}
@@ -7,7 +7,7 @@ use Rattle.std.proofs.lemmas.List.{drop_more, drop_all}
 use Rattle.std.specs.declared.ops.ControlFlow.TheVariants.{Continue, Break}
 use Rattle.relation_terms.specs.Heads.{Sort, region_sort, type_sort, const_sort, Admits, leaf_sort, Head, head_sort}
 use Rattle.relation_terms.specs.Heads.{array, value_type}
-use Rattle.relation_terms.specs.Trees.{Tree, leaf, node, bind, nil, cons, known, size, list_tree, IsTerm}
+use Rattle.relation_terms.specs.Trees.{Tree, leaf, node, nil, cons, known, size, list_tree, IsTerm}
 use Rattle.relation_terms.specs.Meaning.{Meaning, kind_tree, const_tree}
 use Rattle.relation_terms.specs.declared.terms.enums.IntTy.{IntTy}
 use Rattle.relation_terms.specs.declared.terms.enums.UintTy.{UintTy}
@@ -31,7 +31,7 @@ use Rattle.relation_terms.specs.declared.terms.const_kind.ConstKind.TheVariants.
 use Rattle.relation_tools.specs.declared.visit.Visit.{Visit}
 use Rattle.relation_tools.specs.declared.visit.Visit.TheVariants.{Enter, Skip, Stop}
 use Rattle.relation_tools.specs.Visits.{visited_sort, is_visited, parts, Flow, Walks, entered, skipped, stopped}
-use Rattle.relation_tools.specs.Visits.{passed_leaf, passed, no_part, last_part, next_part}
+use Rattle.relation_tools.specs.Visits.{passed, no_part, last_part, next_part}
 
 -- A visitor is asked about types, regions and constants.
 type_asked : (s : Sort) → Admits type_sort s → visited_sort s ≡ true

@@ -9,4 +9,4 @@ returns g c =
     let r = c.visit_with.result in
     c.is_break.ensures ∙
     found (bound_var_escapes t) r (searched is_escaping bound_visited (record {}) c.visit_with.new.visitor t r
-        c.visit_with.ensures)
+    c.visit_with.ensures)

@@ -9,4 +9,4 @@ returns g c =
     let r = c.visit_with.result in
     c.is_break.ensures ∙
     found (non_region_infer_stands t) r (searched is_non_region_infer infer_visited (record {})
-        c.visit_with.new.visitor t r c.visit_with.ensures)
+    c.visit_with.new.visitor t r c.visit_with.ensures)

@@ -1,4 +1,4 @@
-use Rattle.std.proofs.Common.{ℕ, ◌+◌, ◌*◌, drop}
+use Rattle.std.proofs.Common.{◌+◌, ◌*◌, drop}
 use Rattle.relation_terms.specs.Trees.{size, list_tree}
 use Rattle.relation_terms.specs.Meaning.{arg_tree}
 use Rattle.relation_tools.specs.Visits.{Flow, Walks}

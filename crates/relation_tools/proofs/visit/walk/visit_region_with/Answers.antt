@@ -1,4 +1,3 @@
-use Rattle.std.proofs.Common.{subst}
 use Rattle.relation_tools.proofs.Visiting.{visited_region, when_region_left, when_stopped}
 use Rattle.relation_tools.proofs.visit.walk.visit_region_with.Goals as goal
 
@@ -14,4 +13,4 @@ pub returns-in-Stop : goal.returns-in-Stop
 returns-in-Stop g c =
     let sorted = g.met.I.Interner.is_region c.args.cx.now c.args.region.now c.requires in
     when_stopped (g.V.TypeVisitor.visits c.args.cx.now) _ _ _ _ (visited_region _ sorted) c.in-Stop.is
-        c.visit_region.ensures
+    c.visit_region.ensures
