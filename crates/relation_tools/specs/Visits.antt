@@ -39,7 +39,8 @@ abbrev pub Flow : Type 0
 Flow = ControlFlow (Unit {0}) (Unit {0})
 
 -- From one visitor, over a tree, to another: the visitor is asked about each type, region and constant before its
--- parts, and what it enters it goes over part by part, in order, until it stops.
+-- parts, and what it enters it goes over part by part, in order, until it stops. No form that an interner reads has a
+-- binder yet, and there is no rule for one.
 pub data Walks {V : Type 0} (visits : V → Tree → V → Visit → Type 0) : V → Tree → V → Flow → Type 0 where
   -- a term whose parts are gone over, one whose parts are not, and one that is the last
   entered : {v w x : V} {t : Tree} {r : Flow} → is_visited t ≡ true → visits v t w Enter →
