@@ -75,9 +75,9 @@ module _ (p : ℕ → Leaf → Bool) where
       searched f w x ts r n ∙ ap flow (sym (in_list t ts false none))
 
 -- What `is_break` tells of a search.
-pub found : (b : Bool) (f : Flow) → f ≡ flow b → is_some (break_value f) ≡ b
-found true f e = ap (λ x. is_some (break_value x)) e
-found false f e = ap (λ x. is_some (break_value x)) e
+pub found : (b r : Bool) (f : Flow) → r ≡ is_some (break_value f) → f ≡ flow b → r ≡ b
+found true r f o e = o ∙ ap (λ x. is_some (break_value x)) e
+found false r f o e = o ∙ ap (λ x. is_some (break_value x)) e
 
 -- A visitor is asked about every inference variable and every bound one.
 pub infer_visited : (l : Leaf) → is_visited (leaf l) ≡ false → is_non_region_infer 0 l ≡ false

@@ -6,7 +6,7 @@ use Rattle.std.proofs.lemmas.Bool.{and_parts}
 use Rattle.std.proofs.lemmas.List.{drop_more, drop_all}
 use Rattle.std.specs.declared.ops.ControlFlow.TheVariants.{Continue, Break}
 use Rattle.relation_terms.specs.Heads.{Sort, region_sort, type_sort, const_sort, Admits, leaf_sort, Head, head_sort}
-use Rattle.relation_terms.specs.Heads.{array, value_type}
+use Rattle.relation_terms.specs.Heads.{array, value_type, value_branch}
 use Rattle.relation_terms.specs.Trees.{Tree, leaf, node, nil, cons, known, size, list_tree, IsTerm}
 use Rattle.relation_terms.specs.Meaning.{Meaning, kind_tree, const_tree}
 use Rattle.relation_terms.specs.declared.terms.enums.IntTy.{IntTy}
@@ -111,6 +111,11 @@ module _ {V : Type 0} (visits : V → Tree → V → Visit → Type 0) where
   pub over_type : (v w : V) (t : Tree) (r : Flow) → Walks visits v t w r →
       Walks visits v (node value_type (cons t nil)) w r
   over_type v w t r p = passed refl (over_one v w t r p)
+
+  -- Over what a value is made of.
+  pub over_branches : (v w : V) (ts : Tree) (r : Flow) → Walks visits v ts w r →
+      Walks visits v (node value_branch ts) w r
+  over_branches v w ts r p = passed refl p
 
   -- The first part is the last.
   pub over_first : (v w : V) (t ts : Tree) (q r : Flow) → Walks visits v t w q → q ≡ Break tt → r ≡ Break tt →

@@ -13,11 +13,12 @@ use Rattle.relation_terms.specs.Meaning.{kind_tree, const_tree, valtree_tree, ar
 use Rattle.relation_terms.specs.declared.terms.ty_kind.TyKind.TheVariants.{Array, Slice, RawPtr, Ref}
 use Rattle.relation_terms.specs.declared.terms.const_kind.ConstKind.TheVariants.{Value}
 use Rattle.relation_terms.specs.declared.terms.const_kind.ValTreeKind.TheVariants.{Leaf, Branch}
-use Rattle.relation_tools.specs.Visits.{passed_leaf, passed}
+use Rattle.relation_tools.specs.Visits.{passed_leaf}
 use Rattle.relation_tools.proofs.Visiting.{visited_type, visited_const, when_entered, when_skipped, when_stopped}
 use Rattle.relation_tools.proofs.Visiting.{over_one, over_two, over_first, over_form, over_parts}
 use Rattle.relation_tools.proofs.Visiting.{over_type}
-use Rattle.relation_tools.proofs.Visiting.{over_rest, over_last, over_end, no_parts_of_type, no_parts_of_const}
+use Rattle.relation_tools.proofs.Visiting.{over_branches, over_rest, over_last, over_end, no_parts_of_type}
+use Rattle.relation_tools.proofs.Visiting.{no_parts_of_const}
 use Rattle.relation_tools.proofs.Visiting.{part_known, part_size}
 use Rattle.relation_tools.proofs.visit.walk.+walk.Goals as goal
 
@@ -232,10 +233,13 @@ pub visit_valtree_with-returns : goal.visit_valtree_with-returns
 visit_valtree_with-returns g t c =
     let m = g.I.Interner.meaning c.args.cx.now in
     let visits = g.V.TypeVisitor.visits c.args.cx.now in
-    over_form visits (valtree_tree m) c.args.visitor.now c.visit_branches_with.new.visitor (m.valtree
-    c.args.value.now) c.valtree_kind-kind.result
-    (Branch c.in-Branch.branches) c.visit_branches_with.result c.valtree_kind-kind.ensures c.in-Branch.is (passed
-    refl c.visit_branches_with.ensures)
+    let t = m.valtree c.args.value.now in
+    let v = c.args.visitor.now in
+    let w = c.visit_branches_with.new.visitor in
+    let ts = m.branches c.in-Branch.branches in
+    let r = c.visit_branches_with.result in
+    over_form visits (valtree_tree m) v w t c.valtree_kind-kind.result (Branch c.in-Branch.branches) r
+    c.valtree_kind-kind.ensures c.in-Branch.is (over_branches visits v w ts r c.visit_branches_with.ensures)
 
 pub visit_args_with-loop-arg-preserved : goal.visit_args_with-loop-arg-preserved
 visit_args_with-loop-arg-preserved g t c =
