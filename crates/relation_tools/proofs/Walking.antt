@@ -1,10 +1,10 @@
 -- Where a visitor goes one way at each tree, so does its walk.
-use Rattle.std.proofs.Common.{◌≡◌, refl, true, false, sym, ◌∙◌, subst, ap}
+use Rattle.std.proofs.Common.{◌≡◌, refl, subst}
 use Rattle.std.specs.declared.ops.ControlFlow.TheVariants.{Continue, Break}
 use Rattle.relation_terms.specs.Trees.{Tree, leaf, node, nil, cons}
 use Rattle.relation_tools.specs.declared.visit.Visit.{Visit}
 use Rattle.relation_tools.specs.declared.visit.Visit.TheVariants.{Enter, Skip, Stop}
-use Rattle.relation_tools.specs.Visits.{is_visited, parts, Flow, Walks, entered, skipped, stopped}
+use Rattle.relation_tools.specs.Visits.{parts, Flow, Walks, entered, skipped, stopped}
 use Rattle.relation_tools.specs.Visits.{passed_leaf, passed, no_part, last_part, next_part}
 
 module _ {V : Type 0} (visits : V → Tree → V → Visit → Type 0)
