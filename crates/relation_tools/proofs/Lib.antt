@@ -1,0 +1,4 @@
+pub mod Visiting
+pub mod Errors
+pub mod Searching
+pub mod Walking
