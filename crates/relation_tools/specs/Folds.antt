@@ -1,7 +1,8 @@
 -- Folds of trees: what a folder puts for the types, regions and constants of a tree, and what comes of the whole.
-use Rattle.std.specs.Prelude.{IsTrue, Bool, true, false, Option, Some, None}
+use Rattle.std.specs.Prelude.{◌≡◌, IsTrue, Bool, true, false, Option, Some, None}
 use Rattle.relation_terms.specs.Heads.{Sort, region_sort, type_sort, const_sort, leaf_sort, head_sort}
 use Rattle.relation_terms.specs.Trees.{Tree, leaf, node, bind, nil, cons, known}
+use Rattle.relation_terms.specs.Meaning.{Meaning, Extends}
 use Rattle.relation_tools.specs.declared.fold.Fold.{Fold}
 use Rattle.relation_tools.specs.declared.fold.Fold.TheVariants.{Descend, Replace}
 
@@ -40,3 +41,11 @@ answered tree (Replace by) = Some (tree by)
 abbrev pub KnownAnswer : {K : Type 0} → (K → Tree) → Fold K → Type 0
 KnownAnswer tree Descend = Unit {0}
 KnownAnswer tree (Replace by) = IsTrue (known (tree by))
+
+-- From one meaning and folder to others: the interner only grew, the folder is ready, and it puts what it put.
+pub record Steps {Key Id Name F : Type 0} (Ready : Meaning Key Id Name → F → Type 0)
+    (puts : Meaning Key Id Name → F → Tree → Option Tree) (m : Meaning Key Id Name) (f : F) (n : Meaning Key Id Name)
+    (g : F) : Type 0 where
+  pub grown : Extends m n
+  pub ready : Ready n g
+  pub kept : (t : Tree) → puts n g t ≡ puts m f t

@@ -2,9 +2,17 @@
 ghost use Rattle.std.specs.Prelude.{◌≡◌, IsTrue, IfOk, Option};
 ghost use Rattle.relation_terms.specs.Trees.{Tree, known};
 ghost use Rattle.relation_terms.specs.Meaning.{Meaning, Extends};
-ghost use Rattle.relation_tools.specs.Folds.{folded, answered, KnownAnswer};
+ghost use Rattle.relation_tools.specs.Folds.{Steps, folded, answered, KnownAnswer};
 
 use relation_terms::terms::{Const, Interner, OutOfMemory, Region, Ty};
+
+mod lists;
+mod walk;
+
+pub use walk::{
+    fold_arg_with, fold_args_with, fold_branches_with, fold_const_with, fold_region_with,
+    fold_ty_with, fold_tys_with, fold_valtree_with, super_fold_const, super_fold_ty,
+};
 
 /// What a folder answers at a type, a region or a constant.
 #[derive(PartialEq, Eq, Debug, Drop)]
@@ -30,9 +38,7 @@ pub trait TypeFolder<I: Interner> {
     fn fold_ty(&mut self, cx: &mut I, ty: &Ty<I>) -> Result<Fold<Ty<I>>, OutOfMemory>
         requires known { IsTrue (known ((I.meaning cx.old).ty ty.now)) }
         requires ready { ready (I.meaning cx.old) self.old }
-        ensures grown { Extends (I.meaning cx.old) (I.meaning cx.new) }
-        ensures stays_ready { ready (I.meaning cx.new) self.new }
-        ensures kept { (t : Tree) → replaces (I.meaning cx.new) self.new t ≡ replaces (I.meaning cx.old) self.old t }
+        ensures steps { Steps ready replaces (I.meaning cx.old) self.old (I.meaning cx.new) self.new }
         ensures sure { IfOk result (λ a. KnownAnswer (I.meaning cx.new).ty a) }
         ensures made { IfOk result (λ a. replaces (I.meaning cx.old) self.old ((I.meaning cx.old).ty ty.now) ≡ answered (I.meaning cx.new).ty a) };
 
@@ -40,9 +46,7 @@ pub trait TypeFolder<I: Interner> {
     fn fold_region(&mut self, cx: &mut I, region: &Region<I>) -> Result<Fold<Region<I>>, OutOfMemory>
         requires known { IsTrue (known ((I.meaning cx.old).region region.now)) }
         requires ready { ready (I.meaning cx.old) self.old }
-        ensures grown { Extends (I.meaning cx.old) (I.meaning cx.new) }
-        ensures stays_ready { ready (I.meaning cx.new) self.new }
-        ensures kept { (t : Tree) → replaces (I.meaning cx.new) self.new t ≡ replaces (I.meaning cx.old) self.old t }
+        ensures steps { Steps ready replaces (I.meaning cx.old) self.old (I.meaning cx.new) self.new }
         ensures sure { IfOk result (λ a. KnownAnswer (I.meaning cx.new).region a) }
         ensures made { IfOk result (λ a. replaces (I.meaning cx.old) self.old ((I.meaning cx.old).region region.now) ≡ answered (I.meaning cx.new).region a) };
 
@@ -50,9 +54,7 @@ pub trait TypeFolder<I: Interner> {
     fn fold_const(&mut self, cx: &mut I, constant: &Const<I>) -> Result<Fold<Const<I>>, OutOfMemory>
         requires known { IsTrue (known ((I.meaning cx.old).const_ constant.now)) }
         requires ready { ready (I.meaning cx.old) self.old }
-        ensures grown { Extends (I.meaning cx.old) (I.meaning cx.new) }
-        ensures stays_ready { ready (I.meaning cx.new) self.new }
-        ensures kept { (t : Tree) → replaces (I.meaning cx.new) self.new t ≡ replaces (I.meaning cx.old) self.old t }
+        ensures steps { Steps ready replaces (I.meaning cx.old) self.old (I.meaning cx.new) self.new }
         ensures sure { IfOk result (λ a. KnownAnswer (I.meaning cx.new).const_ a) }
         ensures made { IfOk result (λ a. replaces (I.meaning cx.old) self.old ((I.meaning cx.old).const_ constant.now) ≡ answered (I.meaning cx.new).const_ a) };
 
@@ -71,9 +73,7 @@ pub trait TypeFoldable<I: Interner> {
     fn fold_with<F: TypeFolder<I>>(&self, cx: &mut I, folder: &mut F) -> Result<Self, OutOfMemory>
         requires known { IsTrue (known (tree (I.meaning cx.old) self.now)) }
         requires ready { F.ready (I.meaning cx.old) folder.old }
-        ensures grown { Extends (I.meaning cx.old) (I.meaning cx.new) }
-        ensures stays_ready { F.ready (I.meaning cx.new) folder.new }
-        ensures kept { (t : Tree) → F.replaces (I.meaning cx.new) folder.new t ≡ F.replaces (I.meaning cx.old) folder.old t }
+        ensures steps { Steps F.ready F.replaces (I.meaning cx.old) folder.old (I.meaning cx.new) folder.new }
         ensures sure { IfOk result (λ x. IsTrue (known (tree (I.meaning cx.new) x))) }
         ensures made { IfOk result (λ x. tree (I.meaning cx.new) x ≡ folded (F.replaces (I.meaning cx.old) folder.old) (tree (I.meaning cx.old) self.now)) };
 }

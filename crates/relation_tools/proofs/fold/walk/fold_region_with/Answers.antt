@@ -1,0 +1,38 @@
+use Rattle.std.proofs.Common.{refl, sym, ap, ◌∙◌, subst, IsTrue}
+use Rattle.relation_terms.specs.Heads.{region_sort}
+use Rattle.relation_terms.specs.Trees.{known}
+use Rattle.relation_terms.proofs.Stays.{knows_as}
+use Rattle.relation_tools.specs.Folds.{KnownAnswer, answered}
+use Rattle.relation_tools.proofs.Folding.{folded_put, region_left}
+use Rattle.relation_tools.proofs.fold.walk.fold_region_with.Goals as goal
+
+pub returns-in-Replace : goal.returns-in-Replace
+returns-in-Replace g c =
+    let m = g.I.Interner.meaning c.args.cx.now in
+    let n = g.I.Interner.meaning c.fold_region.new.cx in
+    let p = g.F.TypeFolder.replaces m c.args.folder.now in
+    let k = c.args.region.now in
+    let r = c.in_ok-by.ensures in
+    record {
+      steps = r.steps;
+      sure = subst (λ a. KnownAnswer n.region a) c.in-Replace.is r.sure;
+      made = sym (folded_put region_sort refl p (m.region k) (n.region c.in-Replace.by)
+          (g.met.I.Interner.is_region c.args.cx.now k c.requires.known)
+          (r.made ∙ ap (answered n.region) c.in-Replace.is));
+    }
+
+pub returns-in-Descend : goal.returns-in-Descend
+returns-in-Descend g c =
+    let m = g.I.Interner.meaning c.args.cx.now in
+    let n = g.I.Interner.meaning c.fold_region.new.cx in
+    let p = g.F.TypeFolder.replaces m c.args.folder.now in
+    let k = c.args.region.now in
+    let r = c.in_ok-by.ensures in
+    let stay = r.steps.grown.region k c.requires.known in
+    let same = ap n.region c.dup.ensures ∙ stay in
+    record {
+      steps = r.steps;
+      sure = knows_as (m.region k) (n.region c.dup.result) same c.requires.known;
+      made = same ∙ sym (region_left p (m.region k) (g.met.I.Interner.is_region c.args.cx.now k c.requires.known)
+          (r.made ∙ ap (answered n.region) c.in-Descend.is));
+    }
