@@ -182,7 +182,8 @@ module _ (p : Tree → Option Tree) (h : Head) (w : Tree) where
       node h (cons t' (cons u' nil)) ≡ folded_parts p w
   two_made t u t' u' e q r = ap₂ (λ x y. node h (cons x (cons y nil))) q r ∙ ap (folded_parts p) (sym e)
 
-  -- The second part of a form, when the first is folded.
+-- The second part of a form, when the first is folded.
+module _ (h : Head) (w : Tree) where
   pub second_small : (t u u' : Tree) → w ≡ node h (cons t (cons u nil)) → u' ≡ u → 4 * size u' + 2 < 4 * size w
   second_small t u u' e q =
       let small : 4 * size u + 2 < 4 * size (node h (cons t (cons u nil))) = omega arith in
@@ -193,11 +194,11 @@ module _ (p : Tree → Option Tree) (h : Head) (w : Tree) where
       let parts : IsTrue (known t && (known u && true)) = subst (λ x. IsTrue (known x)) e k in
       (and_parts (known u) true (and_parts (known t) (known u && true) parts).1).0
 
-pub two_known : (t u : Tree) → IsTrue (known t) → IsTrue (known u) → IsTrue (known t && (known u && true))
-two_known t u h k = both_known (known t) (known u && true) h (both_known (known u) true k refl)
+pub two_known : {a b : Bool} → IsTrue a → IsTrue b → IsTrue (a && (b && true))
+two_known {a = a} {b = b} h k = both_known a (b && true) h (both_known b true k refl)
 
-pub one_known : (t : Tree) → IsTrue (known t) → IsTrue (known t && true)
-one_known t h = both_known (known t) true h refl
+pub one_known : {a : Bool} → IsTrue a → IsTrue (a && true)
+one_known {a = a} h = both_known a true h refl
 
 -- What is made of a part after the steps is what is made of it before them.
 pub later : {Key Id Name F : Type 0} {Ready : Meaning Key Id Name → F → Type 0}

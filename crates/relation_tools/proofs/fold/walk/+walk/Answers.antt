@@ -1,9 +1,9 @@
-use Rattle.std.proofs.Common.{rules, arith, refl, sym, ap, ◌∙◌, ◌≡◌, IsTrue, ◌+◌, ◌*◌, ◌<◌, [], ◌∷◌, ◌++◌, take, length, subst}
+use Rattle.std.proofs.Common.{rules, arith, refl, sym, ap, ◌∙◌, ◌≡◌, IsTrue, ◌+◌, ◌*◌, ◌<◌, [], ◌∷◌, ◌++◌, take, length, subst, subst₂}
 use Rattle.std.proofs.lemmas.List.{take_more}
 use Rattle.relation_terms.specs.Heads.{type_sort, const_sort, adt, fn_def, closure, coroutine_closure, coroutine}
 use Rattle.relation_terms.specs.Heads.{coroutine_witness, array, slice, tuple, raw_ptr, ref, expression, value, value_type}
 use Rattle.relation_terms.specs.Heads.{value_branch, value_leaf, atom}
-use Rattle.relation_terms.specs.Trees.{leaf, node, nil, cons, known, size}
+use Rattle.relation_terms.specs.Trees.{leaf, node, nil, cons, known, size, list_tree}
 use Rattle.relation_terms.specs.Meaning.{kind_tree, const_tree, valtree_tree, arg_tree}
 use Rattle.relation_terms.proofs.Stays.{knows_as, stays_arg}
 use Rattle.relation_tools.specs.Folds.{KnownAnswer, answered, folded, folded_parts}
@@ -235,7 +235,7 @@ fold_kind-returns-in_ok-fold_ty_with-in-Slice g t c =
     let r = c.in_ok-fold_ty_with-in-Slice.ensures in
     record {
       steps = r.steps;
-      sure = one_known _ r.sure;
+      sure = one_known r.sure;
       made = one_made p slice (kind_tree m c.args.kind) (m.ty c.in-Slice.element) _ (ap (kind_tree m) c.in-Slice.is) r.made;
     }
 
@@ -247,7 +247,7 @@ fold_kind-returns-in_ok-fold_ty_with-in-RawPtr g t c =
     let r = c.in_ok-fold_ty_with-in-RawPtr.ensures in
     record {
       steps = r.steps;
-      sure = one_known _ r.sure;
+      sure = one_known r.sure;
       made = one_made p (raw_ptr c.in-RawPtr.mutability) (kind_tree m c.args.kind) (m.ty c.in-RawPtr.pointee) _ (ap (kind_tree m) c.in-RawPtr.is) r.made;
     }
 
@@ -255,7 +255,7 @@ pub fold_kind-fold_const_with-requires : goal.fold_kind-fold_const_with-requires
 fold_kind-fold_const_with-requires g t c κs within =
     let m = g.I.Interner.meaning c.args.cx.now in
     let p = g.F.TypeFolder.replaces m c.args.folder.now in
-    let n = g.I.Interner.meaning c.fold_ty_with-element.new.cx in
+    let n = g.I.Interner.meaning c.fold_ty_with.new.cx in
     let d = c.decreases in
     let s = c.in_ok-element-in-Array.ensures.steps in
     let u = c.in-Array.length in
@@ -289,20 +289,20 @@ fold_kind-returns-in_ok-fold_const_with-in-Array g t c =
     let is = ap (kind_tree m) c.in-Array.is in
     let k : IsTrue (known (m.const_ u)) = second_known array (kind_tree m c.args.kind) (m.ty c.in-Array.element) (m.const_ u) is c.requires.known in
     let e = a.ensures.steps.grown.const_ u k in
-    let stay = b.ensures.steps.grown.ty a.field-0 a.ensures.sure in
-    let x : IsTrue (known (o.ty a.field-0)) = knows_as _ (o.ty a.field-0) stay a.ensures.sure in
+    let stay = b.ensures.steps.grown.ty a.element a.ensures.sure in
+    let x : IsTrue (known (o.ty a.element)) = knows_as _ (o.ty a.element) stay a.ensures.sure in
     let q = stay ∙ a.ensures.made in
     record {
       steps = steps_on a.ensures.steps b.ensures.steps;
-      sure = two_known (o.ty a.field-0) _ x b.ensures.sure;
-      made = two_made p array (kind_tree m c.args.kind) (m.ty c.in-Array.element) (m.const_ u) (o.ty a.field-0) _ is q (later c.in_ok-element-in-Array.ensures.steps (m.const_ u) _ _ e b.ensures.made);
+      sure = two_known x b.ensures.sure;
+      made = two_made p array (kind_tree m c.args.kind) (m.ty c.in-Array.element) (m.const_ u) (o.ty a.element) _ is q (later c.in_ok-element-in-Array.ensures.steps (m.const_ u) _ _ e b.ensures.made);
     }
 
 pub fold_kind-fold_ty_with-requires-in-Ref : goal.fold_kind-fold_ty_with-requires-in-Ref
 fold_kind-fold_ty_with-requires-in-Ref g t c κs within =
     let m = g.I.Interner.meaning c.args.cx.now in
     let p = g.F.TypeFolder.replaces m c.args.folder.now in
-    let n = g.I.Interner.meaning c.fold_region_with-region.new.cx in
+    let n = g.I.Interner.meaning c.fold_region_with.new.cx in
     let d = c.decreases in
     let s = c.in_ok-region-in-Ref.ensures.steps in
     let u = c.in-Ref.pointee in
@@ -327,27 +327,27 @@ pub fold_kind-returns-in_ok-fold_ty_with-in-Ref : goal.fold_kind-returns-in_ok-f
 fold_kind-returns-in_ok-fold_ty_with-in-Ref g t c =
     let m = g.I.Interner.meaning c.args.cx.now in
     let p = g.F.TypeFolder.replaces m c.args.folder.now in
-    let o = g.I.Interner.meaning c.fold_ty_with.new.cx in
+    let o = g.I.Interner.meaning c.fold_ty_with-in-Ref.new.cx in
     let a = c.in_ok-region-in-Ref in
     let b = c.in_ok-fold_ty_with-in-Ref in
     let u = c.in-Ref.pointee in
     let is = ap (kind_tree m) c.in-Ref.is in
     let k : IsTrue (known (m.ty u)) = second_known (ref c.in-Ref.mutability) (kind_tree m c.args.kind) (m.region c.in-Ref.region) (m.ty u) is c.requires.known in
     let e = a.ensures.steps.grown.ty u k in
-    let stay = b.ensures.steps.grown.region a.field-0 a.ensures.sure in
-    let x : IsTrue (known (o.region a.field-0)) = knows_as _ (o.region a.field-0) stay a.ensures.sure in
+    let stay = b.ensures.steps.grown.region a.region a.ensures.sure in
+    let x : IsTrue (known (o.region a.region)) = knows_as _ (o.region a.region) stay a.ensures.sure in
     let q = stay ∙ a.ensures.made in
     record {
       steps = steps_on a.ensures.steps b.ensures.steps;
-      sure = two_known (o.region a.field-0) _ x b.ensures.sure;
-      made = two_made p (ref c.in-Ref.mutability) (kind_tree m c.args.kind) (m.region c.in-Ref.region) (m.ty u) (o.region a.field-0) _ is q (later c.in_ok-region-in-Ref.ensures.steps (m.ty u) _ _ e b.ensures.made);
+      sure = two_known x b.ensures.sure;
+      made = two_made p (ref c.in-Ref.mutability) (kind_tree m c.args.kind) (m.region c.in-Ref.region) (m.ty u) (o.region a.region) _ is q (later c.in_ok-region-in-Ref.ensures.steps (m.ty u) _ _ e b.ensures.made);
     }
 
 pub fold_const_kind-fold_valtree_with-requires : goal.fold_const_kind-fold_valtree_with-requires
 fold_const_kind-fold_valtree_with-requires g t c κs within =
     let m = g.I.Interner.meaning c.args.cx.now in
     let p = g.F.TypeFolder.replaces m c.args.folder.now in
-    let n = g.I.Interner.meaning c.fold_ty_with-ty.new.cx in
+    let n = g.I.Interner.meaning c.fold_ty_with.new.cx in
     let d = c.decreases in
     let s = c.in_ok-ty-in-Value.ensures.steps in
     let u = c.in-Value.value in
@@ -381,13 +381,13 @@ fold_const_kind-returns-in_ok-fold_valtree_with-in-Value g t c =
     let is = ap (const_tree m) c.in-Value.is in
     let k : IsTrue (known (m.valtree u)) = second_known value (const_tree m c.args.kind) (node value_type (cons (m.ty c.in-Value.ty) nil)) (m.valtree u) is c.requires.known in
     let e = a.ensures.steps.grown.valtree u k in
-    let stay = b.ensures.steps.grown.ty a.field-0 a.ensures.sure in
-    let x : IsTrue (known (o.ty a.field-0)) = knows_as _ (o.ty a.field-0) stay a.ensures.sure in
+    let stay = b.ensures.steps.grown.ty a.ty a.ensures.sure in
+    let x : IsTrue (known (o.ty a.ty)) = knows_as _ (o.ty a.ty) stay a.ensures.sure in
     let q = stay ∙ a.ensures.made in
     record {
       steps = steps_on a.ensures.steps b.ensures.steps;
-      sure = two_known (node value_type (cons (o.ty a.field-0) nil)) _ (one_known (o.ty a.field-0) x) b.ensures.sure;
-      made = two_made p value (const_tree m c.args.kind) (node value_type (cons (m.ty c.in-Value.ty) nil)) (m.valtree u) (node value_type (cons (o.ty a.field-0) nil)) _ is (ap (λ z. node value_type (cons z nil)) q) (later c.in_ok-ty-in-Value.ensures.steps (m.valtree u) _ _ e b.ensures.made);
+      sure = two_known (one_known x) b.ensures.sure;
+      made = two_made p value (const_tree m c.args.kind) (node value_type (cons (m.ty c.in-Value.ty) nil)) (m.valtree u) (node value_type (cons (o.ty a.ty) nil)) _ is (ap (λ z. node value_type (cons z nil)) q) (later c.in_ok-ty-in-Value.ensures.steps (m.valtree u) _ _ e b.ensures.made);
     }
 
 pub fold_kind-returns-in_default : goal.fold_kind-returns-in_default
@@ -504,13 +504,19 @@ fold_args_with-fold_arg_with-requires g t c κs within =
     let items = c.deref-arg-items.result.now in
     let i = c.loop-arg.arg-index in
     let x = c.arg-item.result in
-    let k : IsTrue (known ((arg_tree m) x)) = search (rules, part_known) in
+    let read = c.args-2 in
+    let whole : m.args c.args.args.now ≡ list_tree (arg_tree m) items =
+        read.ensures ∙ ap (list_tree (arg_tree m)) (sym (c.deref-arg-items.ensures.value ∙ c.in_ok-list.ensures)) in
+    let less = c.loop-arg-test.true in
+    let k : IsTrue (known ((arg_tree m) x)) = subst (λ z. IsTrue (known ((arg_tree m) z))) (sym c.arg-item.is)
+        (part_known (arg_tree m) items i x less (subst (λ z. IsTrue (known z)) whole c.requires.known)) in
     let e : (arg_tree n) x ≡ (arg_tree m) x = stays_arg s.grown x k in
     let d = c.decreases in
     let l : IsTrue (known ((arg_tree n) x)) = knows_as ((arg_tree m) x) ((arg_tree n) x) e k in
-    let less : size ((arg_tree m) x) < size (m.args c.args.args.now) = search (rules, part_size) in
+    let below : size ((arg_tree m) x) < size (m.args c.args.args.now) =
+        subst₂ (λ z w. size ((arg_tree m) z) < size w) (sym c.arg-item.is) (sym whole) (part_size (arg_tree m) items i x less) in
     let same : size ((arg_tree n) x) ≡ size ((arg_tree m) x) = ap size e in
-    let small : 4 * size ((arg_tree n) x) + 3 < 4 * size (m.args c.args.args.now) = omega (arith, less, same) in
+    let small : 4 * size ((arg_tree n) x) + 3 < 4 * size (m.args c.args.args.now) = omega (arith, below, same) in
     let r = s.ready in
     search rules
 
@@ -523,14 +529,18 @@ fold_args_with-loop-arg-preserved g t c =
     let items = c.deref-arg-items.result.now in
     let i = c.loop-arg.arg-index in
     let x = c.arg-item.result in
-    let k : IsTrue (known ((arg_tree m) x)) = search (rules, part_known) in
+    let read = c.args-2 in
+    let whole : m.args c.args.args.now ≡ list_tree (arg_tree m) items =
+        read.ensures ∙ ap (list_tree (arg_tree m)) (sym (c.deref-arg-items.ensures.value ∙ c.in_ok-list.ensures)) in
+    let less = c.loop-arg-test.true in
+    let k : IsTrue (known ((arg_tree m) x)) = subst (λ z. IsTrue (known ((arg_tree m) z))) (sym c.arg-item.is)
+        (part_known (arg_tree m) items i x less (subst (λ z. IsTrue (known z)) whole c.requires.known)) in
     let e : (arg_tree n) x ≡ (arg_tree m) x = stays_arg s.grown x k in
     let o = g.I.Interner.meaning c.fold_arg_with.new.cx in
     let r = c.in_ok-fold_arg_with.ensures in
     let y = c.in_ok-fold_arg_with.field-0 in
     let made : (arg_tree o) y ≡ folded p ((arg_tree m) x) = later s ((arg_tree m) x) ((arg_tree n) x) ((arg_tree o) y) e r.made in
     let is = c.arg-item.is in
-    let less : i < length items = search rules in
     let more : take (i + 1) items ≡ take i items ++ x ∷ [] =
         take_more items i x less ∙ ap (λ z. take i items ++ z ∷ []) (sym is) in
     record {
@@ -557,13 +567,19 @@ fold_tys_with-fold_ty_with-requires g t c κs within =
     let items = c.deref-ty-items.result.now in
     let i = c.loop-ty.ty-index in
     let x = c.ty-item.result in
-    let k : IsTrue (known (m.ty x)) = search (rules, part_known) in
+    let read = c.tys in
+    let whole : m.tys c.args.tys.now ≡ list_tree m.ty items =
+        read.ensures ∙ ap (list_tree m.ty) (sym (c.deref-ty-items.ensures.value ∙ c.in_ok-list.ensures)) in
+    let less = c.loop-ty-test.true in
+    let k : IsTrue (known (m.ty x)) = subst (λ z. IsTrue (known (m.ty z))) (sym c.ty-item.is)
+        (part_known m.ty items i x less (subst (λ z. IsTrue (known z)) whole c.requires.known)) in
     let e : n.ty x ≡ m.ty x = s.grown.ty x k in
     let d = c.decreases in
     let l : IsTrue (known (n.ty x)) = knows_as (m.ty x) (n.ty x) e k in
-    let less : size (m.ty x) < size (m.tys c.args.tys.now) = search (rules, part_size) in
+    let below : size (m.ty x) < size (m.tys c.args.tys.now) =
+        subst₂ (λ z w. size (m.ty z) < size w) (sym c.ty-item.is) (sym whole) (part_size m.ty items i x less) in
     let same : size (n.ty x) ≡ size (m.ty x) = ap size e in
-    let small : 4 * size (n.ty x) + 3 < 4 * size (m.tys c.args.tys.now) = omega (arith, less, same) in
+    let small : 4 * size (n.ty x) + 3 < 4 * size (m.tys c.args.tys.now) = omega (arith, below, same) in
     let r = s.ready in
     search rules
 
@@ -576,14 +592,18 @@ fold_tys_with-loop-ty-preserved g t c =
     let items = c.deref-ty-items.result.now in
     let i = c.loop-ty.ty-index in
     let x = c.ty-item.result in
-    let k : IsTrue (known (m.ty x)) = search (rules, part_known) in
+    let read = c.tys in
+    let whole : m.tys c.args.tys.now ≡ list_tree m.ty items =
+        read.ensures ∙ ap (list_tree m.ty) (sym (c.deref-ty-items.ensures.value ∙ c.in_ok-list.ensures)) in
+    let less = c.loop-ty-test.true in
+    let k : IsTrue (known (m.ty x)) = subst (λ z. IsTrue (known (m.ty z))) (sym c.ty-item.is)
+        (part_known m.ty items i x less (subst (λ z. IsTrue (known z)) whole c.requires.known)) in
     let e : n.ty x ≡ m.ty x = s.grown.ty x k in
     let o = g.I.Interner.meaning c.fold_ty_with.new.cx in
     let r = c.in_ok-fold_ty_with.ensures in
     let y = c.in_ok-fold_ty_with.field-0 in
     let made : o.ty y ≡ folded p (m.ty x) = later s (m.ty x) (n.ty x) (o.ty y) e r.made in
     let is = c.ty-item.is in
-    let less : i < length items = search rules in
     let more : take (i + 1) items ≡ take i items ++ x ∷ [] =
         take_more items i x less ∙ ap (λ z. take i items ++ z ∷ []) (sym is) in
     record {
@@ -610,13 +630,19 @@ fold_branches_with-fold_const_with-requires g t c κs within =
     let items = c.deref-constant-items.result.now in
     let i = c.loop-constant.constant-index in
     let x = c.constant-item.result in
-    let k : IsTrue (known (m.const_ x)) = search (rules, part_known) in
+    let read = c.branches in
+    let whole : m.branches c.args.branches.now ≡ list_tree m.const_ items =
+        read.ensures ∙ ap (list_tree m.const_) (sym (c.deref-constant-items.ensures.value ∙ c.in_ok-list.ensures)) in
+    let less = c.loop-constant-test.true in
+    let k : IsTrue (known (m.const_ x)) = subst (λ z. IsTrue (known (m.const_ z))) (sym c.constant-item.is)
+        (part_known m.const_ items i x less (subst (λ z. IsTrue (known z)) whole c.requires.known)) in
     let e : n.const_ x ≡ m.const_ x = s.grown.const_ x k in
     let d = c.decreases in
     let l : IsTrue (known (n.const_ x)) = knows_as (m.const_ x) (n.const_ x) e k in
-    let less : size (m.const_ x) < size (m.branches c.args.branches.now) = search (rules, part_size) in
+    let below : size (m.const_ x) < size (m.branches c.args.branches.now) =
+        subst₂ (λ z w. size (m.const_ z) < size w) (sym c.constant-item.is) (sym whole) (part_size m.const_ items i x less) in
     let same : size (n.const_ x) ≡ size (m.const_ x) = ap size e in
-    let small : 4 * size (n.const_ x) + 3 < 4 * size (m.branches c.args.branches.now) = omega (arith, less, same) in
+    let small : 4 * size (n.const_ x) + 3 < 4 * size (m.branches c.args.branches.now) = omega (arith, below, same) in
     let r = s.ready in
     search rules
 
@@ -629,14 +655,18 @@ fold_branches_with-loop-constant-preserved g t c =
     let items = c.deref-constant-items.result.now in
     let i = c.loop-constant.constant-index in
     let x = c.constant-item.result in
-    let k : IsTrue (known (m.const_ x)) = search (rules, part_known) in
+    let read = c.branches in
+    let whole : m.branches c.args.branches.now ≡ list_tree m.const_ items =
+        read.ensures ∙ ap (list_tree m.const_) (sym (c.deref-constant-items.ensures.value ∙ c.in_ok-list.ensures)) in
+    let less = c.loop-constant-test.true in
+    let k : IsTrue (known (m.const_ x)) = subst (λ z. IsTrue (known (m.const_ z))) (sym c.constant-item.is)
+        (part_known m.const_ items i x less (subst (λ z. IsTrue (known z)) whole c.requires.known)) in
     let e : n.const_ x ≡ m.const_ x = s.grown.const_ x k in
     let o = g.I.Interner.meaning c.fold_const_with.new.cx in
     let r = c.in_ok-fold_const_with.ensures in
     let y = c.in_ok-fold_const_with.field-0 in
     let made : o.const_ y ≡ folded p (m.const_ x) = later s (m.const_ x) (n.const_ x) (o.const_ y) e r.made in
     let is = c.constant-item.is in
-    let less : i < length items = search rules in
     let more : take (i + 1) items ≡ take i items ++ x ∷ [] =
         take_more items i x less ∙ ap (λ z. take i items ++ z ∷ []) (sym is) in
     record {
