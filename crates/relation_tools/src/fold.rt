@@ -6,6 +6,7 @@ ghost use Rattle.relation_tools.specs.Folds.{Steps, folded, answered, KnownAnswe
 
 use relation_terms::terms::{Const, Interner, OutOfMemory, Region, Ty};
 
+mod foldable;
 mod lists;
 mod walk;
 
@@ -64,16 +65,22 @@ pub trait TypeFolder<I: Interner> {
     ghost replaces_on: { (m n : Meaning I.Key I.Id I.Name) → Extends m n → (f : Self) → ready m f → (t : Tree) → replaces n f t ≡ replaces m f t };
 }
 
-/// A term, or what has terms.
+/// What has types, regions or constants: a key of a term, or a form over keys.
 pub trait TypeFoldable<I: Interner> {
-    // What it means.
+    // The tree, or the list of trees, that it means.
     ghost tree: { Meaning I.Key I.Id I.Name → Self → Tree };
 
-    /// The term that the folder makes of it.
+    /// What the folder makes of it. Each type, region and constant that the folder replaces stands as the folder gave it,
+    /// and all others over their folded parts.
+    ///
+    /// Answers `OutOfMemory` where a growth was refused, in the folder too.
     fn fold_with<F: TypeFolder<I>>(&self, cx: &mut I, folder: &mut F) -> Result<Self, OutOfMemory>
         requires known { IsTrue (known (tree (I.meaning cx.old) self.now)) }
         requires ready { F.ready (I.meaning cx.old) folder.old }
         ensures steps { Steps F.ready F.replaces (I.meaning cx.old) folder.old (I.meaning cx.new) folder.new }
         ensures sure { IfOk result (λ x. IsTrue (known (tree (I.meaning cx.new) x))) }
         ensures made { IfOk result (λ x. tree (I.meaning cx.new) x ≡ folded (F.replaces (I.meaning cx.old) folder.old) (tree (I.meaning cx.old) self.now)) };
+
+    // What is known keeps its tree while the interner grows.
+    ghost stays: { (m n : Meaning I.Key I.Id I.Name) → Extends m n → (x : Self) → IsTrue (known (tree m x)) → tree n x ≡ tree m x };
 }
