@@ -1,6 +1,6 @@
 -- What a folder makes of a term, part by part, in an interner that grows meanwhile.
 use Rattle.std.proofs.Common.{ℕ, zero, suc, ◌+◌, ◌<◌, ◌≡◌, IsTrue, Bool, true, false, ◌&&◌, List, [], ◌∷◌, ◌++◌}
-use Rattle.std.proofs.Common.{◌*◌, length, get_or, Option, Some, None, Result, Ok, Err, IfOk, refl}
+use Rattle.std.proofs.Common.{◌*◌, ◌≤◌, length, get_or, take, Option, Some, None, Result, Ok, Err, IfOk, refl}
 use Rattle.std.proofs.Common.{ap, ap₂, sym, ◌∙◌, subst, subst₂, arith}
 use Rattle.std.proofs.lemmas.Bool.{and_parts}
 use Rattle.relation_terms.specs.Heads.{Sort, region_sort, type_sort, const_sort, Admits, leaf_sort, head_sort, Head, array}
@@ -165,10 +165,22 @@ module _ {A : Type 0} (puts : Tree → Option Tree) (f g : A → Tree) where
           ap₂ (λ z zs. cons z zs) head (pushed h xs ys x y tail p)
       pushed h xs ys x y e p = absurd (cc)
 
+-- A list is all of its first members, once the place is past the last.
+pub take_all : {A : Type 0} (xs : List A) (i : ℕ) → length xs ≤ i → take i xs ≡ xs
+take_all [] zero h = refl
+take_all [] (suc i) h = refl
+take_all (x ∷ xs) zero h = absurd (omega arith)
+take_all (x ∷ xs) (suc i) h = ap (λ z. x ∷ z) (take_all xs i (omega arith))
+
 -- What is said of a success follows from what is said of it otherwise.
 pub if_ok : {A E : Type 0} {P Q : A → Type 0} (r : Result A E) → ((x : A) → P x → Q x) → IfOk r P → IfOk r Q
 if_ok (Ok x) f p = f x p
 if_ok (Err e) f p = p
+
+pub if_ok_both : {A E : Type 0} {P Q R : A → Type 0} (r : Result A E) → ((x : A) → P x → Q x → R x) → IfOk r P →
+    IfOk r Q → IfOk r R
+if_ok_both (Ok x) f p q = f x p q
+if_ok_both (Err e) f p q = p
 
 -- What is made of a form's parts.
 module _ (p : Tree → Option Tree) (h : Head) (w : Tree) where

@@ -20,6 +20,7 @@ pub fn fold_ty_with<I: Interner, F: TypeFolder<I>>(cx: &mut I, ty: &Ty<I>, folde
     ensures steps { Steps F.ready F.replaces (I.meaning cx.old) folder.old (I.meaning cx.new) folder.new }
     ensures sure { IfOk result (λ k. IsTrue (known ((I.meaning cx.new).ty k))) }
     ensures made { IfOk result (λ k. (I.meaning cx.new).ty k ≡ folded (F.replaces (I.meaning cx.old) folder.old) ((I.meaning cx.old).ty ty.now)) }
+    ensures same { IfOk result (λ k. folded (F.replaces (I.meaning cx.old) folder.old) ((I.meaning cx.old).ty ty.now) ≡ (I.meaning cx.old).ty ty.now → IsTrue (I.Key.eq k.0 ty.now.0)) }
 {
     match folder.fold_ty(cx, ty)? {
         Fold::Replace(by) => Ok(by),
@@ -34,6 +35,7 @@ pub fn fold_region_with<I: Interner, F: TypeFolder<I>>(cx: &mut I, region: &Regi
     ensures steps { Steps F.ready F.replaces (I.meaning cx.old) folder.old (I.meaning cx.new) folder.new }
     ensures sure { IfOk result (λ k. IsTrue (known ((I.meaning cx.new).region k))) }
     ensures made { IfOk result (λ k. (I.meaning cx.new).region k ≡ folded (F.replaces (I.meaning cx.old) folder.old) ((I.meaning cx.old).region region.now)) }
+    ensures same { IfOk result (λ k. folded (F.replaces (I.meaning cx.old) folder.old) ((I.meaning cx.old).region region.now) ≡ (I.meaning cx.old).region region.now → IsTrue (I.Key.eq k.0 region.now.0)) }
 {
     match folder.fold_region(cx, region)? {
         Fold::Replace(by) => Ok(by),
@@ -50,6 +52,7 @@ pub fn fold_const_with<I: Interner, F: TypeFolder<I>>(cx: &mut I, constant: &Con
     ensures steps { Steps F.ready F.replaces (I.meaning cx.old) folder.old (I.meaning cx.new) folder.new }
     ensures sure { IfOk result (λ k. IsTrue (known ((I.meaning cx.new).const_ k))) }
     ensures made { IfOk result (λ k. (I.meaning cx.new).const_ k ≡ folded (F.replaces (I.meaning cx.old) folder.old) ((I.meaning cx.old).const_ constant.now)) }
+    ensures same { IfOk result (λ k. folded (F.replaces (I.meaning cx.old) folder.old) ((I.meaning cx.old).const_ constant.now) ≡ (I.meaning cx.old).const_ constant.now → IsTrue (I.Key.eq k.0 constant.now.0)) }
 {
     match folder.fold_const(cx, constant)? {
         Fold::Replace(by) => Ok(by),
@@ -197,6 +200,7 @@ pub fn fold_args_with<I: Interner, F: TypeFolder<I>>(cx: &mut I, args: &GenericA
     ensures steps { Steps F.ready F.replaces (I.meaning cx.old) folder.old (I.meaning cx.new) folder.new }
     ensures sure { IfOk result (λ k. IsTrue (known ((I.meaning cx.new).args k))) }
     ensures made { IfOk result (λ k. (I.meaning cx.new).args k ≡ folded (F.replaces (I.meaning cx.old) folder.old) ((I.meaning cx.old).args args.now)) }
+    ensures same { IfOk result (λ k. folded (F.replaces (I.meaning cx.old) folder.old) ((I.meaning cx.old).args args.now) ≡ (I.meaning cx.old).args args.now → IsTrue (I.Key.eq k.0 args.now.0)) }
 {
     let list = copied(cx.args(args), cx.alloc())?;
     let mut made = Vec::new(cx.alloc());
@@ -216,6 +220,7 @@ pub fn fold_tys_with<I: Interner, F: TypeFolder<I>>(cx: &mut I, tys: &Tys<I>, fo
     ensures steps { Steps F.ready F.replaces (I.meaning cx.old) folder.old (I.meaning cx.new) folder.new }
     ensures sure { IfOk result (λ k. IsTrue (known ((I.meaning cx.new).tys k))) }
     ensures made { IfOk result (λ k. (I.meaning cx.new).tys k ≡ folded (F.replaces (I.meaning cx.old) folder.old) ((I.meaning cx.old).tys tys.now)) }
+    ensures same { IfOk result (λ k. folded (F.replaces (I.meaning cx.old) folder.old) ((I.meaning cx.old).tys tys.now) ≡ (I.meaning cx.old).tys tys.now → IsTrue (I.Key.eq k.0 tys.now.0)) }
 {
     let list = copied(cx.tys(tys), cx.alloc())?;
     let mut made = Vec::new(cx.alloc());

@@ -1,15 +1,15 @@
-use Rattle.std.proofs.Common.{rules, arith, refl, sym, ap, ◌∙◌, ◌≡◌, IsTrue, ◌+◌, ◌*◌, ◌<◌, [], ◌∷◌, ◌++◌, take, length, subst, subst₂}
+use Rattle.std.proofs.Common.{rules, arith, refl, sym, ap, ◌∙◌, ◌≡◌, IsTrue, IfOk, ◌+◌, ◌*◌, ◌<◌, ◌≤◌, [], ◌∷◌, ◌++◌, take, length, subst, subst₂}
 use Rattle.std.proofs.lemmas.List.{take_more}
 use Rattle.relation_terms.specs.Heads.{type_sort, const_sort, adt, fn_def, closure, coroutine_closure, coroutine}
 use Rattle.relation_terms.specs.Heads.{coroutine_witness, array, slice, tuple, raw_ptr, ref, expression, value, value_type}
 use Rattle.relation_terms.specs.Heads.{value_branch, value_leaf, atom}
 use Rattle.relation_terms.specs.Trees.{leaf, node, nil, cons, known, size, list_tree}
-use Rattle.relation_terms.specs.Meaning.{kind_tree, const_tree, valtree_tree, arg_tree}
-use Rattle.relation_terms.proofs.Stays.{knows_as, stays_arg}
+use Rattle.relation_terms.specs.Meaning.{Extends, kind_tree, const_tree, valtree_tree, arg_tree}
+use Rattle.relation_terms.proofs.Stays.{knows_as, stays_arg, extends_on}
 use Rattle.relation_tools.specs.Folds.{KnownAnswer, answered, folded, folded_parts}
-use Rattle.relation_tools.proofs.Folding.{folded_put, folded_left, parts_later, steps_on, steps_grown, steps_none, if_ok}
+use Rattle.relation_tools.proofs.Folding.{folded_put, folded_left, parts_later, steps_on, steps_grown, steps_none, if_ok, if_ok_both}
 use Rattle.relation_tools.proofs.Folding.{list_made, one_made, two_made, second_small, second_known, two_known, one_known}
-use Rattle.relation_tools.proofs.Folding.{later, leaf_made, const_leaf_made, listed_next, part_known, part_size}
+use Rattle.relation_tools.proofs.Folding.{later, leaf_made, const_leaf_made, listed_next, part_known, part_size, take_all}
 use Rattle.relation_tools.proofs.fold.walk.+walk.Goals as goal
 
 pub fold_ty_with-super_fold_ty-requires : goal.fold_ty_with-super_fold_ty-requires
@@ -32,12 +32,17 @@ fold_ty_with-returns-in-Replace g t c =
     let p = g.F.TypeFolder.replaces m c.args.folder.now in
     let n = g.I.Interner.meaning c.fold_ty.new.cx in
     let r = c.in_ok-by.ensures in
+    let by = c.in-Replace.by in
+    let stay : n.ty c.args.ty.now ≡ m.ty c.args.ty.now = r.steps.grown.ty c.args.ty.now c.requires.known in
+    let sure : IsTrue (known (n.ty by)) = subst (λ a. KnownAnswer n.ty a) c.in-Replace.is r.sure in
+    let made : n.ty by ≡ folded p (m.ty c.args.ty.now) = sym (folded_put type_sort refl p (m.ty c.args.ty.now) (n.ty by)
+        (g.met.I.Interner.is_ty c.args.cx.now c.args.ty.now c.requires.known) (r.made ∙ ap (answered n.ty) c.in-Replace.is)) in
     record {
       steps = r.steps;
-      sure = subst (λ a. KnownAnswer n.ty a) c.in-Replace.is r.sure;
-      made = sym (folded_put type_sort refl p (m.ty c.args.ty.now) (n.ty c.in-Replace.by)
-          (g.met.I.Interner.is_ty c.args.cx.now c.args.ty.now c.requires.known)
-          (r.made ∙ ap (answered n.ty) c.in-Replace.is));
+      sure = sure;
+      made = made;
+      same = λ q. (g.met.I.Interner.same_ty c.fold_ty.new.cx by c.args.ty.now sure
+          (knows_as (m.ty c.args.ty.now) (n.ty c.args.ty.now) stay c.requires.known)).1 (made ∙ (q ∙ sym stay));
     }
 
 pub fold_ty_with-returns-in-Descend : goal.fold_ty_with-returns-in-Descend
@@ -53,10 +58,17 @@ fold_ty_with-returns-in-Descend g t c =
         (r.made ∙ ap (answered n.ty) c.in-Descend.is) in
     let parts : folded_parts q (n.ty c.args.ty.now) ≡ folded_parts p (m.ty c.args.ty.now) =
         parts_later p q r.steps.kept (m.ty c.args.ty.now) (n.ty c.args.ty.now) stay in
+    let steps = steps_on r.steps c.super_fold_ty.ensures.steps in
+    let o = g.I.Interner.meaning c.super_fold_ty.new.cx in
+    let later : o.ty c.args.ty.now ≡ m.ty c.args.ty.now = steps.grown.ty c.args.ty.now c.requires.known in
+    let made : IfOk c.super_fold_ty.result (λ x. o.ty x ≡ folded p (m.ty c.args.ty.now)) =
+        if_ok c.super_fold_ty.result (λ x e. e ∙ (parts ∙ sym left)) c.super_fold_ty.ensures.made in
     record {
-      steps = steps_on r.steps c.super_fold_ty.ensures.steps;
+      steps = steps;
       sure = c.super_fold_ty.ensures.sure;
-      made = if_ok c.super_fold_ty.result (λ x e. e ∙ (parts ∙ sym left)) c.super_fold_ty.ensures.made;
+      made = made;
+      same = if_ok_both c.super_fold_ty.result (λ x h e q. (g.met.I.Interner.same_ty c.super_fold_ty.new.cx x c.args.ty.now h
+          (knows_as (m.ty c.args.ty.now) (o.ty c.args.ty.now) later c.requires.known)).1 (e ∙ (q ∙ sym later))) c.super_fold_ty.ensures.sure made;
     }
 
 pub fold_const_with-super_fold_const-requires : goal.fold_const_with-super_fold_const-requires
@@ -79,12 +91,17 @@ fold_const_with-returns-in-Replace g t c =
     let p = g.F.TypeFolder.replaces m c.args.folder.now in
     let n = g.I.Interner.meaning c.fold_const.new.cx in
     let r = c.in_ok-by.ensures in
+    let by = c.in-Replace.by in
+    let stay : n.const_ c.args.constant.now ≡ m.const_ c.args.constant.now = r.steps.grown.const_ c.args.constant.now c.requires.known in
+    let sure : IsTrue (known (n.const_ by)) = subst (λ a. KnownAnswer n.const_ a) c.in-Replace.is r.sure in
+    let made : n.const_ by ≡ folded p (m.const_ c.args.constant.now) = sym (folded_put const_sort refl p (m.const_ c.args.constant.now) (n.const_ by)
+        (g.met.I.Interner.is_const c.args.cx.now c.args.constant.now c.requires.known) (r.made ∙ ap (answered n.const_) c.in-Replace.is)) in
     record {
       steps = r.steps;
-      sure = subst (λ a. KnownAnswer n.const_ a) c.in-Replace.is r.sure;
-      made = sym (folded_put const_sort refl p (m.const_ c.args.constant.now) (n.const_ c.in-Replace.by)
-          (g.met.I.Interner.is_const c.args.cx.now c.args.constant.now c.requires.known)
-          (r.made ∙ ap (answered n.const_) c.in-Replace.is));
+      sure = sure;
+      made = made;
+      same = λ q. (g.met.I.Interner.same_const c.fold_const.new.cx by c.args.constant.now sure
+          (knows_as (m.const_ c.args.constant.now) (n.const_ c.args.constant.now) stay c.requires.known)).1 (made ∙ (q ∙ sym stay));
     }
 
 pub fold_const_with-returns-in-Descend : goal.fold_const_with-returns-in-Descend
@@ -100,10 +117,17 @@ fold_const_with-returns-in-Descend g t c =
         (r.made ∙ ap (answered n.const_) c.in-Descend.is) in
     let parts : folded_parts q (n.const_ c.args.constant.now) ≡ folded_parts p (m.const_ c.args.constant.now) =
         parts_later p q r.steps.kept (m.const_ c.args.constant.now) (n.const_ c.args.constant.now) stay in
+    let steps = steps_on r.steps c.super_fold_const.ensures.steps in
+    let o = g.I.Interner.meaning c.super_fold_const.new.cx in
+    let later : o.const_ c.args.constant.now ≡ m.const_ c.args.constant.now = steps.grown.const_ c.args.constant.now c.requires.known in
+    let made : IfOk c.super_fold_const.result (λ x. o.const_ x ≡ folded p (m.const_ c.args.constant.now)) =
+        if_ok c.super_fold_const.result (λ x e. e ∙ (parts ∙ sym left)) c.super_fold_const.ensures.made in
     record {
-      steps = steps_on r.steps c.super_fold_const.ensures.steps;
+      steps = steps;
       sure = c.super_fold_const.ensures.sure;
-      made = if_ok c.super_fold_const.result (λ x e. e ∙ (parts ∙ sym left)) c.super_fold_const.ensures.made;
+      made = made;
+      same = if_ok_both c.super_fold_const.result (λ x h e q. (g.met.I.Interner.same_const c.super_fold_const.new.cx x c.args.constant.now h
+          (knows_as (m.const_ c.args.constant.now) (o.const_ c.args.constant.now) later c.requires.known)).1 (e ∙ (q ∙ sym later))) c.super_fold_const.ensures.sure made;
     }
 
 pub super_fold_ty-returns-in_err-made-clause-steps :
@@ -549,6 +573,29 @@ fold_args_with-loop-arg-preserved g t c =
           r.sure more c.in_ok-push.ensures.items;
     }
 
+pub fold_args_with-returns-clause-same : goal.fold_args_with-returns-clause-same
+fold_args_with-returns-clause-same g t c =
+    let m = g.I.Interner.meaning c.args.cx.now in
+    let p = g.F.TypeFolder.replaces m c.args.folder.now in
+    let o = g.I.Interner.meaning c.mk_args.new.self in
+    let k = c.args.args.now in
+    let x = c.in_ok-folded.folded in
+    let grown : Extends m o = extends_on c.loop-arg.invariant.steps.grown c.in_ok-folded.ensures.grown in
+    let stay : o.args k ≡ m.args k = grown.args k c.requires.known in
+    let n = g.I.Interner.meaning c.loop-arg.cx in
+    let items = c.deref-arg-items.result.now in
+    let read = c.args-2 in
+    let whole : m.args k ≡ list_tree (arg_tree m) items =
+        read.ensures ∙ ap (list_tree (arg_tree m)) (sym (c.deref-arg-items.ensures.value ∙ c.in_ok-list.ensures)) in
+    let over : length items ≤ c.loop-arg.arg-index = (let h = c.loop-arg-test.false in omega (arith, h)) in
+    let all : take c.loop-arg.arg-index items ≡ items = take_all items c.loop-arg.arg-index over in
+    let rest : folded p (list_tree (arg_tree m) (take c.loop-arg.arg-index items)) ≡ folded p (m.args k) =
+        ap (λ z. folded p (list_tree (arg_tree m) z)) all ∙ ap (folded p) (sym whole) in
+    let made : o.args x ≡ folded p (m.args k) =
+        c.in_ok-folded.ensures.made ∙ (ap (list_tree (arg_tree n)) c.deref.ensures.value ∙ (c.loop-arg.invariant.listed.same ∙ rest)) in
+    λ q. (g.met.I.Interner.same_args c.mk_args.new.self x k c.in_ok-folded.ensures.sure
+        (knows_as (m.args k) (o.args k) stay c.requires.known)).1 (made ∙ (q ∙ sym stay))
+
 pub fold_args_with-returns-in_err-folded-clause-steps :
     goal.fold_args_with-returns-in_err-folded-clause-steps
 fold_args_with-returns-in_err-folded-clause-steps g t c =
@@ -611,6 +658,29 @@ fold_tys_with-loop-ty-preserved g t c =
       listed = listed_next p m.ty n.ty o.ty _ _ _ _ x y c.loop-ty.invariant.listed (r.steps.grown.ty) made
           r.sure more c.in_ok-push.ensures.items;
     }
+
+pub fold_tys_with-returns-clause-same : goal.fold_tys_with-returns-clause-same
+fold_tys_with-returns-clause-same g t c =
+    let m = g.I.Interner.meaning c.args.cx.now in
+    let p = g.F.TypeFolder.replaces m c.args.folder.now in
+    let o = g.I.Interner.meaning c.mk_type_list.new.self in
+    let k = c.args.tys.now in
+    let x = c.in_ok-folded.folded in
+    let grown : Extends m o = extends_on c.loop-ty.invariant.steps.grown c.in_ok-folded.ensures.grown in
+    let stay : o.tys k ≡ m.tys k = grown.tys k c.requires.known in
+    let n = g.I.Interner.meaning c.loop-ty.cx in
+    let items = c.deref-ty-items.result.now in
+    let read = c.tys in
+    let whole : m.tys k ≡ list_tree m.ty items =
+        read.ensures ∙ ap (list_tree m.ty) (sym (c.deref-ty-items.ensures.value ∙ c.in_ok-list.ensures)) in
+    let over : length items ≤ c.loop-ty.ty-index = (let h = c.loop-ty-test.false in omega (arith, h)) in
+    let all : take c.loop-ty.ty-index items ≡ items = take_all items c.loop-ty.ty-index over in
+    let rest : folded p (list_tree m.ty (take c.loop-ty.ty-index items)) ≡ folded p (m.tys k) =
+        ap (λ z. folded p (list_tree m.ty z)) all ∙ ap (folded p) (sym whole) in
+    let made : o.tys x ≡ folded p (m.tys k) =
+        c.in_ok-folded.ensures.made ∙ (ap (list_tree n.ty) c.deref.ensures.value ∙ (c.loop-ty.invariant.listed.same ∙ rest)) in
+    λ q. (g.met.I.Interner.same_tys c.mk_type_list.new.self x k c.in_ok-folded.ensures.sure
+        (knows_as (m.tys k) (o.tys k) stay c.requires.known)).1 (made ∙ (q ∙ sym stay))
 
 pub fold_tys_with-returns-in_err-folded-clause-steps :
     goal.fold_tys_with-returns-in_err-folded-clause-steps
