@@ -5,7 +5,7 @@ use Rattle.relation_terms.specs.Heads.{type_var, variable}
 use Rattle.relation_terms.specs.Trees.{Tree, leaf, nil, known}
 use Rattle.relation_terms.specs.Meaning.{Meaning, kind_tree}
 use Rattle.relation_terms.specs.declared.terms.ty_kind.TyKind.{TyKind}
-use Rattle.relation_terms.specs.declared.terms.ty_kind.TyKind.TheVariants.{Bool, Char, Int, Uint, Slice, Tuple, Ref, Infer}
+use Rattle.relation_terms.specs.declared.terms.ty_kind.TyKind.TheVariants.{Infer}
 use Rattle.relation_terms.specs.declared.terms.ty_kind.InferTy.{InferTy}
 use Rattle.type_relations.specs.Stores.{Store, unbound, same_as, bound_to, entry_of, entry_term, IsMade, IsSound, IsTermIn}
 use Rattle.type_relations.specs.Errors.{IsReadAs, itself}
@@ -30,15 +30,10 @@ pub leads_made : (st : Store) → IsSound st → (n p : ℕ) → entry_of st typ
 leads_made st g n p e = made_of_term st type_var p (g.bindings type_var n (leaf (variable type_var p)) (ap (entry_term type_var) e)).is_in
 
 -- A form that is no variable.
-pub formed_kind : {Key Id Name : Type 0} (m : Meaning Key Id Name) (k : TyKind Key) → ((i : InferTy) → k ≡ Infer i → ⊥) → IsFormed (kind_tree m k)
-formed_kind m Bool h = refl
-formed_kind m Char h = refl
-formed_kind m (Int w) h = refl
-formed_kind m (Uint w) h = refl
-formed_kind m (Slice t) h = refl
-formed_kind m (Tuple ts) h = refl
-formed_kind m (Ref r t u) h = refl
+pub formed_kind : {Key Id Name : Type 0} (m : Meaning Key Id Name) (k : TyKind Key Id Name) → ((i : InferTy) → k ≡ Infer i → ⊥) →
+    IsFormed (kind_tree m k)
 formed_kind m (Infer i) h = absurd (h i refl)
+formed_kind m k h = refl
 
 -- The number of type variables.
 pub made_of_table : {Key Id Name : Type 0} (m : Meaning Key Id Name) (x : InferCtxtInner Key) (n : ℕ) → n < length x.types.items → IsMade (store_of m x) type_var n

@@ -3,23 +3,24 @@ use Rattle.std.proofs.Common.{◌≡◌, ℕ, zero, suc, ◌+◌, ◌<◌, refl,
 use Rattle.std.proofs.lemmas.Bool.{false≢true}
 use Rattle.std.specs.Result.{IsErr, IsErrAnd}
 use native.Mathlib.Decide.{ℕ_discrete}
-use Rattle.relation_terms.specs.Heads.{type_sort, slice, tuple, ref}
+use Rattle.relation_terms.specs.Heads.{Sort, Admits, type_sort, Head, head_sort, expression, value, value_type, value_branch, host_effect, subtype}
+use Rattle.relation_terms.specs.Heads.{region_outlives, type_outlives, projection, const_has_type, well_formed, const_evaluatable, coerce, normalizes_to}
+use Rattle.relation_terms.specs.Heads.{alias_relate, environment}
 use Rattle.relation_terms.specs.Trees.{Tree, leaf, node, bind, nil, cons, Assign, apply, IsList, IsTerm, AreTerms, count, nth}
 use Rattle.relation_terms.specs.Meaning.{Meaning}
 use Rattle.relation_terms.specs.declared.terms.enums.Variance.TheVariants.{Invariant}
-use Rattle.relation_terms.specs.declared.terms.enums.Mutability.{Mutability}
-use Rattle.relation_terms.specs.declared.terms.enums.Mutability.TheVariants.{Mut, Not}
 use Rattle.relation_tools.specs.declared.error.RelateFault.{RelateFault}
 use Rattle.relation_tools.specs.declared.error.RelateFault.TheVariants.{Memory, Budget, Unrelated}
 use Rattle.relation_tools.specs.Faults.{KnowsFault}
-use Rattle.type_relations.specs.Relation.{Items, Interpretation, Rel, at, parts, same, forms, no_parts, next_part}
+use Rattle.type_relations.specs.Relation.{Items, Interpretation, Rel, at, parts, same, anything, atoms, forms, no_parts, next_part, part_at, IsRelatedHead, sort_of}
 use Rattle.type_relations.specs.Stores.{Store, Satisfies, OnlyShrinks, IsTermIn, IsRegionIn, IsSound}
 use Rattle.type_relations.specs.Steps.{IsLater}
 use Rattle.type_relations.specs.Outcomes.{NoEqualTerms}
-use Rattle.type_relations.specs.Errors.{IsReadAs, ErrorOf, of_entries, of_parts}
+use Rattle.type_relations.specs.Errors.{IsReadAs, ErrorOf, of_entries, AreOfOneForm, over_parts, parameters, AreOfOneConst, AreOfOneValue, values, expressions, const_parameters, one_value, as_many_branches}
 use Rattle.type_relations.proofs.ReadAs.{read_value, read_later}
-use Rattle.relation_reference.proofs.Resolving.{term_first}
-use Rattle.relation_reference.specs.Answers.{Unites, UnitesAll, Answered, AnsweredAll, IsFront}
+use Rattle.relation_reference.specs.Tables.{IsFormed}
+use Rattle.relation_reference.specs.Parts.{parts_of, const_parts_of, branches_of}
+use Rattle.relation_reference.specs.Answers.{Unites, Answered, IsFront}
 
 pub same_unites : (st : Store) (a b : Tree) → a ≡ b → Unites st st a b
 same_unites st a b e = record { relates = λ c v w s h. same (ap (apply s) e); keeps = λ w s h q. h }
@@ -41,58 +42,18 @@ module _ {Key Id Name : Type 0} (m : Meaning Key Id Name) where
     of_entries (read_later before after g l a a' p) (read_later before after g l b b' q) h.1,
   )
 
-  -- Forms.
-  module _ (before after : Store) (x y : Tree) where
-    slice_forms : {X : Type 0} (r : Result X (RelateFault Key Id Name)) → Answered m before after x y r → Answered m before after (node slice (cons x nil)) (node slice (cons y nil)) r
-    slice_forms (Ok v) h = record { relates = λ c u w s sat. forms tt refl (next_part (h.relates c u w s sat) no_parts); keeps = λ w s sat q. h.keeps w s sat (cc) }
-    slice_forms (Err Memory) h = tt
-    slice_forms (Err Budget) h = h
-    slice_forms (Err (Unrelated f)) h = (λ w s sat q. h.0 w s sat (cc), of_parts 0 refl refl refl (omega arith) h.1)
-
-    pub slice_answered : {X : Type 0} (a b : Tree) (r : Result X (RelateFault Key Id Name)) → a ≡ node slice (cons x nil) → b ≡ node slice (cons y nil) → Answered m before after x y r → Answered m before after a b r
-    slice_answered a b r e d h = subst₂ (λ u v. Answered m before after u v r) (sym e) (sym d) (slice_forms r h)
-
-    tuple_forms : {X : Type 0} (r : Result X (RelateFault Key Id Name)) → count x ≡ count y → AnsweredAll m before after x y r → Answered m before after (node tuple x) (node tuple y) r
-    tuple_forms (Ok v) n h = record { relates = λ c u w s sat. forms tt refl (h.relates c u w s sat); keeps = λ w s sat q. h.keeps w s sat (cc) }
-    tuple_forms (Err Memory) n h = tt
-    tuple_forms (Err Budget) n h = h
-    tuple_forms (Err (Unrelated f)) n h = (λ w s sat q. h.0 w s sat (cc), (let (i, j, e) = h.1 in of_parts i refl refl n j e))
-
-    pub tuple_answered : {X : Type 0} (a b : Tree) (r : Result X (RelateFault Key Id Name)) → a ≡ node tuple x → b ≡ node tuple y → count x ≡ count y → AnsweredAll m before after x y r → Answered m before after a b r
-    tuple_answered a b r e d n h = subst₂ (λ u v. Answered m before after u v r) (sym e) (sym d) (tuple_forms r n h)
-
-  module _ (before middle after : Store) (p q x y : Tree) (shrinks : OnlyShrinks middle after) (f : Unites before middle p q) where
-    ref_unites : (u : Mutability) → Unites middle after x y → Unites before after (node (ref u) (cons p (cons x nil))) (node (ref u) (cons q (cons y nil)))
-    ref_unites Mut h = record {
-      relates = λ c v w s sat. forms tt refl (next_part (f.relates c v w s (shrinks w s sat)) (next_part (h.relates c v w s sat) no_parts));
-      keeps = λ w s sat z. h.keeps w s (f.keeps w s sat (cc)) (cc);
-    }
-    ref_unites Not h = record {
-      relates = λ c v w s sat. forms tt refl (next_part (f.relates c v w s (shrinks w s sat)) (next_part (h.relates c v w s sat) no_parts));
-      keeps = λ w s sat z. h.keeps w s (f.keeps w s sat (cc)) (cc);
-    }
-
-    ref_forms : {X : Type 0} (u : Mutability) (r : Result X (RelateFault Key Id Name)) → Answered m middle after x y r → Answered m before after (node (ref u) (cons p (cons x nil))) (node (ref u) (cons q (cons y nil))) r
-    ref_forms u (Ok v) h = ref_unites u h
-    ref_forms u (Err Memory) h = tt
-    ref_forms u (Err Budget) h = h
-    ref_forms u (Err (Unrelated e)) h = (λ w s sat z. h.0 w s (f.keeps w s sat (cc)) (cc), of_parts 1 refl refl refl (omega arith) h.1)
-
-    pub ref_answered : {X : Type 0} (u : Mutability) (a b : Tree) (r : Result X (RelateFault Key Id Name)) → a ≡ node (ref u) (cons p (cons x nil)) → b ≡ node (ref u) (cons q (cons y nil)) → Answered m middle after x y r → Answered m before after a b r
-    ref_answered u a b r e d h = subst₂ (λ i j. Answered m before after i j r) (sym e) (sym d) (ref_forms u r h)
-
 -- Lists.
-count_applied : (s : Assign) (ts : Tree) → IsList ts → count (apply s ts) ≡ count ts
+pub count_applied : (s : Assign) (ts : Tree) → IsList ts → count (apply s ts) ≡ count ts
 count_applied s nil l = refl
 count_applied s (cons t ts) l = ap suc (count_applied s ts l)
 count_applied s (leaf x) l = absurd l
 count_applied s (node h x) l = absurd l
 count_applied s (bind ks x) l = absurd l
 
-pub tuples_apart : (st : Store) (ts us a b : Tree) → a ≡ node tuple ts → b ≡ node tuple us → IsList ts → IsList us → (count ts ≡ count us → ⊥) → NoEqualTerms st a b
-tuples_apart st ts us a b p q l m differ = λ w s sat e. differ (sym (count_applied s ts l) ∙ ap count (inside s (sym (ap (apply s) p) ∙ e ∙ ap (apply s) q)) ∙ count_applied s us m)
+pub lists_apart : (st : Store) (h k : Head) (ts us a b : Tree) → a ≡ node h ts → b ≡ node k us → IsList ts → IsList us → (count ts ≡ count us → ⊥) → NoEqualTerms st a b
+lists_apart st h k ts us a b p q l m differ = λ w s sat e. differ (sym (count_applied s ts l) ∙ ap count (inside s (sym (ap (apply s) p) ∙ e ∙ ap (apply s) q)) ∙ count_applied s us m)
   where
-    inside : (s : Assign) → node tuple (apply s ts) ≡ node tuple (apply s us) → apply s ts ≡ apply s us
+    inside : (s : Assign) → node h (apply s ts) ≡ node k (apply s us) → apply s ts ≡ apply s us
     inside s e = cc
 
 nth_applied : (s : Assign) (ts : Tree) (i : ℕ) → i < count ts → nth i (apply s ts) ≡ apply s (nth i ts)
@@ -106,18 +67,40 @@ nth_applied s nil i h = absurd (omega arith)
 pub nths_same : (s : Assign) (ts us : Tree) (i : ℕ) → i < count ts → i < count us → apply s ts ≡ apply s us → apply s (nth i ts) ≡ apply s (nth i us)
 nths_same s ts us i h k e = sym (nth_applied s ts i h) ∙ ap (nth i) e ∙ nth_applied s us i k
 
-all_related : (c : Items) (w : Interpretation) (e : Tree) (k : ℕ) (s : Assign) (ts us : Tree) → IsList ts → IsList us → count ts ≡ count us
-    → ((j : ℕ) → j < count ts → Rel c w e (at Invariant) (apply s (nth j ts)) (apply s (nth j us))) → Rel c w e (parts tuple k Invariant) (apply s ts) (apply s us)
-all_related c w e k s nil nil l m n h = no_parts
-all_related c w e k s (cons t ts) (cons u us) l m n h = next_part (h 0 (omega arith)) (all_related c w e (suc k) s ts us l m (omega arith) (λ j q. h (suc j) (omega arith)))
-all_related c w e k s nil (cons u us) l m n h = absurd (omega arith)
-all_related c w e k s (cons t ts) nil l m n h = absurd (omega arith)
-all_related c w e k s (leaf x) us l m n h = absurd l
-all_related c w e k s (node a x) us l m n h = absurd l
-all_related c w e k s (bind ks x) us l m n h = absurd l
-all_related c w e k s ts (leaf x) l m n h = absurd m
-all_related c w e k s ts (node a x) l m n h = absurd m
-all_related c w e k s ts (bind ks x) l m n h = absurd m
+-- Parts that are related pairwise make forms related, at invariance.
+related_head : (h : Head) → head_sort h ≡ type_sort → IsRelatedHead h
+related_head (host_effect c) e = absurd (cc)
+related_head (subtype x) e = absurd (cc)
+related_head region_outlives e = absurd (cc)
+related_head type_outlives e = absurd (cc)
+related_head projection e = absurd (cc)
+related_head const_has_type e = absurd (cc)
+related_head well_formed e = absurd (cc)
+related_head const_evaluatable e = absurd (cc)
+related_head coerce e = absurd (cc)
+related_head normalizes_to e = absurd (cc)
+related_head (alias_relate d) e = absurd (cc)
+related_head environment e = absurd (cc)
+related_head h e = tt
+
+invariant_head : (c : Items) (h : Head) (i : ℕ) → head_sort h ≡ type_sort → part_at c h i Invariant ≡ Invariant
+invariant_head c value_type i e = absurd (cc)
+invariant_head c h i e = refl
+
+all_related : (c : Items) (w : Interpretation) (e : Tree) (h : Head) (k : ℕ) (s : Assign) → ((i : ℕ) → part_at c h i Invariant ≡ Invariant) → (ts us : Tree) → IsList ts → IsList us → count ts ≡ count us
+    → ((j : ℕ) → j < count ts → Rel c w e (at Invariant) (apply s (nth j ts)) (apply s (nth j us))) → Rel c w e (parts h k Invariant) (apply s ts) (apply s us)
+all_related c w e h k s v nil nil l m n r = no_parts
+all_related c w e h k s v (cons t ts) (cons u us) l m n r =
+    next_part (subst (λ z. Rel c w e (at z) (apply s t) (apply s u)) (sym (v k)) (r 0 (omega (arith))))
+    (all_related c w e h (suc k) s v ts us l m (omega (arith)) (λ j q. r (suc j) (omega (arith))))
+all_related c w e h k s v nil (cons u us) l m n r = absurd (omega (arith))
+all_related c w e h k s v (cons t ts) nil l m n r = absurd (omega (arith))
+all_related c w e h k s v (leaf x) us l m n r = absurd l
+all_related c w e h k s v (node a x) us l m n r = absurd l
+all_related c w e h k s v (bind ks x) us l m n r = absurd l
+all_related c w e h k s v ts (leaf x) l m n r = absurd m
+all_related c w e h k s v ts (node a x) l m n r = absurd m
+all_related c w e h k s v ts (bind ks x) l m n r = absurd m
 
 pub front_none : (r : Store) (ts us : Tree) → IsFront r r 0 ts us
 front_none r ts us = record { relates = λ c e w s j h sat. absurd (omega arith); keeps = λ w s sat e. sat }
@@ -133,19 +116,94 @@ module _ (r q : Store) (i : ℕ) (ts us x y : Tree) (h : i < count ts) (k : i < 
       go c v w s j l sat (yes is) = subst (λ z. Rel c w v (at Invariant) (apply s (nth z ts)) (apply s (nth z us))) (sym is) (subst₂ (λ a b. Rel c w v (at Invariant) (apply s a) (apply s b)) e d (u.relates c v w s sat))
       go c v w s j l sat (no not) = f.relates c v w s j (omega arith) (shrinks w s sat)
 
-  front_apart : NoEqualTerms q x y → NoEqualTerms r ts us
+  pub front_apart : NoEqualTerms q x y → NoEqualTerms r ts us
   front_apart u = λ w s sat z. u w s (f.keeps w s sat z) (ap (apply s) e ∙ nths_same s ts us i h k z ∙ sym (ap (apply s) d))
 
-  pub front_error : {Key Id Name : Type 0} (m : Meaning Key Id Name) (X Y : Type 0) (p : Store) (a : RelateFault Key Id Name) → Answered {X = X} m q p x y (Err a) → AnsweredAll {X = Y} m r p ts us (Err a)
-  front_error m X Y p Memory u = tt
-  front_error m X Y p Budget u = u
-  front_error m X Y p (Unrelated b) u = (front_apart u.0, (i, h, subst₂ (ErrorOf m p b) e d u.1))
+-- Terms of one form that are one have the same parts.
+pub parts_equal : (a b : Tree) → AreOfOneForm a b → (s : Assign) → apply s a ≡ apply s b → apply s (parts_of a) ≡ apply s (parts_of b)
+parts_equal a b (over_parts {h} {ts} {us} d e n) s q =
+    let z : apply s (node h ts) ≡ apply s (node h us) = sym (ap (apply s) d) ∙ q ∙ ap (apply s) e in
+    let w : apply s ts ≡ apply s us = cc in
+    ap (λ t. apply s (parts_of t)) d ∙ w ∙ sym (ap (λ t. apply s (parts_of t)) e)
+parts_equal a b (parameters d e p) s q = ap (λ t. apply s (parts_of t)) d ∙ sym (ap (λ t. apply s (parts_of t)) e)
 
-pub front_all : (r q : Store) (i : ℕ) (ts us : Tree) → i ≡ count ts → i ≡ count us → IsList ts → IsList us → IsFront r q i ts us → UnitesAll r q ts us
-front_all r q i ts us h k l m f = record {
-  relates = λ c e w s sat. all_related c w e 0 s ts us l m (sym h ∙ k) (λ j b. f.relates c e w s j (omega arith) sat);
-  keeps = f.keeps;
-}
+pub const_parts_equal : (a b : Tree) → AreOfOneConst a b → (s : Assign) → apply s a ≡ apply s b → apply s (const_parts_of a) ≡ apply s (const_parts_of b)
+const_parts_equal a b (values {t} {u} {v} {w} d e o) s q =
+    let z : apply s (node value (cons (node value_type (cons t nil)) (cons v nil))) ≡ apply s (node value (cons (node value_type (cons u nil)) (cons w nil))) = sym (ap (apply s) d) ∙ q ∙ ap (apply s) e in
+    let y : apply s v ≡ apply s w = cc in
+    ap (λ t. apply s (const_parts_of t)) d ∙ branches_equal v w o y ∙ sym (ap (λ t. apply s (const_parts_of t)) e)
+  where
+    branches_equal : (v w : Tree) → AreOfOneValue v w → apply s v ≡ apply s w → apply s (branches_of v) ≡ apply s (branches_of w)
+    branches_equal v w (one_value e) q = ap (λ t. apply s (branches_of t)) e
+    branches_equal v w (as_many_branches {ts} {us} d e n) q =
+        let z : apply s (node value_branch ts) ≡ apply s (node value_branch us) = sym (ap (apply s) d) ∙ q ∙ ap (apply s) e in
+        let y : apply s ts ≡ apply s us = cc in
+        ap (λ t. apply s (branches_of t)) d ∙ y ∙ sym (ap (λ t. apply s (branches_of t)) e)
+const_parts_equal a b (expressions {k} {ts} {us} d e n) s q =
+    let z : apply s (node (expression k) ts) ≡ apply s (node (expression k) us) = sym (ap (apply s) d) ∙ q ∙ ap (apply s) e in
+    let y : apply s ts ≡ apply s us = cc in
+    ap (λ t. apply s (const_parts_of t)) d ∙ y ∙ sym (ap (λ t. apply s (const_parts_of t)) e)
+const_parts_equal a b (const_parameters d e p) s q = ap (λ t. apply s (const_parts_of t)) d ∙ sym (ap (λ t. apply s (const_parts_of t)) e)
+
+-- They have as many.
+pub parts_counted : (a b : Tree) → AreOfOneForm a b → count (parts_of a) ≡ count (parts_of b)
+parts_counted a b (over_parts d e n) = ap (λ t. count (parts_of t)) d ∙ n ∙ sym (ap (λ t. count (parts_of t)) e)
+parts_counted a b (parameters d e p) = ap (λ t. count (parts_of t)) d ∙ sym (ap (λ t. count (parts_of t)) e)
+
+pub const_parts_counted : (a b : Tree) → AreOfOneConst a b → count (const_parts_of a) ≡ count (const_parts_of b)
+const_parts_counted a b (values d e (one_value o)) = ap (λ t. count (const_parts_of t)) d ∙ ap (λ t. count (branches_of t)) o ∙ sym (ap (λ t. count (const_parts_of t)) e)
+const_parts_counted a b (values d e (as_many_branches p q n)) =
+    ap (λ t. count (const_parts_of t)) d ∙ ap (λ t. count (branches_of t)) p ∙ n ∙ sym (ap (λ t. count (branches_of t)) q) ∙ sym (ap (λ t. count (const_parts_of t)) e)
+const_parts_counted a b (expressions d e n) = ap (λ t. count (const_parts_of t)) d ∙ n ∙ sym (ap (λ t. count (const_parts_of t)) e)
+const_parts_counted a b (const_parameters d e p) = ap (λ t. count (const_parts_of t)) d ∙ sym (ap (λ t. count (const_parts_of t)) e)
+
+-- All parts of two types of one form were made one.
+module _ (r q : Store) (a b : Tree) where
+  pub forms_unite : (i : ℕ) → IsFormed a → AreOfOneForm a b → i ≡ count (parts_of a) → i ≡ count (parts_of b) → IsList (parts_of a) → IsList (parts_of b) → IsFront r q i (parts_of a) (parts_of b) → Unites r q a b
+  forms_unite i g (over_parts {h} {ts} {us} d e n) x y l m f = subst₂ (Unites r q) (sym d) (sym e)
+      (node_unites h ts us (subst IsFormed d g) (subst (λ z. i ≡ count (parts_of z)) d x) (subst (λ z. i ≡ count (parts_of z)) e y)
+      (subst (λ z. IsList (parts_of z)) d l) (subst (λ z. IsList (parts_of z)) e m) (subst₂ (λ z v. IsFront r q i (parts_of z) (parts_of v)) d e f))
+    where
+      node_unites : (h : Head) (ts us : Tree) → head_sort h ≡ type_sort → i ≡ count ts → i ≡ count us → IsList ts → IsList us → IsFront r q i ts us → Unites r q (node h ts) (node h us)
+      node_unites h ts us g x y l m f = record {
+        relates = λ c e w s sat. forms (related_head h g) refl (all_related c w e h 0 s (λ j. invariant_head c h j g) ts us l m (sym x ∙ y) (λ j k. f.relates c e w s j (omega (arith, x)) sat));
+        keeps = λ w s sat e. f.keeps w s sat (parts_equal (node h ts) (node h us) (over_parts refl refl (sym x ∙ y)) s e);
+      }
+  forms_unite i g (parameters {x} {y} d e p) n o l m f = record {
+    relates = λ c v w s sat. subst₂ (λ z u. Rel c w v (at Invariant) (apply s z) (apply s u)) (sym d) (sym e) (atoms p);
+    keeps = λ w s sat z. f.keeps w s sat (subst₂ (λ t u. apply s (parts_of t) ≡ apply s (parts_of u)) (sym d) (sym e) refl);
+  }
+
+  -- The same of constants.
+  value_parts : (c : Items) (w : Interpretation) (e : Tree) (s : Assign) (t u v x : Tree) → Rel c w e (at Invariant) (apply s v) (apply s x)
+      → Rel c w e (at Invariant) (apply s (node value (cons (node value_type (cons t nil)) (cons v nil)))) (apply s (node value (cons (node value_type (cons u nil)) (cons x nil))))
+  value_parts c w e s t u v x h = forms tt refl (next_part (forms tt refl (next_part (anything refl) no_parts)) (next_part h no_parts))
+
+  pub consts_unite : (i : ℕ) → AreOfOneConst a b → i ≡ count (const_parts_of a) → IsList (const_parts_of a) → IsList (const_parts_of b) → IsFront r q i (const_parts_of a) (const_parts_of b) → Unites r q a b
+  consts_unite i o n l m f = record { relates = related o; keeps = λ w s sat z. f.keeps w s sat (const_parts_equal a b o s z) }
+    where
+      related : AreOfOneConst a b → (c : Items) (e : Tree) (w : Interpretation) (s : Assign) → Satisfies w q s → Rel c w e (at Invariant) (apply s a) (apply s b)
+      related (values {t} {u} {v} {w = x} d e (one_value z)) c k w s sat = subst₂ (λ y j. Rel c w k (at Invariant) (apply s y) (apply s j)) (sym d) (sym e) (value_parts c w k s t u v x (same (ap (apply s) z)))
+      related (values {t} {u} {v} {w = x} d e (as_many_branches {ts} {us} j k y)) c g w s sat =
+          let as_ts : const_parts_of a ≡ ts = ap const_parts_of d ∙ ap branches_of j in
+          let as_us : const_parts_of b ≡ us = ap const_parts_of e ∙ ap branches_of k in
+          subst₂ (λ y j. Rel c w g (at Invariant) (apply s y) (apply s j)) (sym d) (sym e) (value_parts c w g s t u v x
+          (subst₂ (λ y j. Rel c w g (at Invariant) (apply s y) (apply s j)) (sym j) (sym k)
+          (forms tt refl (all_related c w g value_branch 0 s (λ p. refl) ts us (subst IsList as_ts l) (subst IsList as_us m) y
+          (λ p z. subst₂ (λ y j. Rel c w g (at Invariant) (apply s (nth p y)) (apply s (nth p j))) as_ts as_us (f.relates c g w s p (let h = ap count as_ts in omega (arith, n, h, z)) sat))))))
+      related (expressions {k} {ts} {us} d e y) c g w s sat =
+          let as_ts : const_parts_of a ≡ ts = ap const_parts_of d in
+          let as_us : const_parts_of b ≡ us = ap const_parts_of e in
+          subst₂ (λ y j. Rel c w g (at Invariant) (apply s y) (apply s j)) (sym d) (sym e)
+          (forms tt refl (all_related c w g (expression k) 0 s (λ p. refl) ts us (subst IsList as_ts l) (subst IsList as_us m) y
+          (λ p z. subst₂ (λ y j. Rel c w g (at Invariant) (apply s (nth p y)) (apply s (nth p j))) as_ts as_us (f.relates c g w s p (let h = ap count as_ts in omega (arith, n, h, z)) sat))))
+      related (const_parameters d e p) c v w s sat = subst₂ (λ z u. Rel c w v (at Invariant) (apply s z) (apply s u)) (sym d) (sym e) (atoms p)
+
+-- The sort of what a term comes to.
+pub sort_is : (k : Sort) (t : Tree) → IsTerm k t → Admits k (sort_of t)
+sort_is k (leaf l) h = h
+sort_is k (node g ts) h = h.0
+sort_is k t h = absurd h
 
 -- A fault that is passed on.
 module _ {Key Id Name : Type 0} (m : Meaning Key Id Name) where
@@ -161,22 +219,6 @@ module _ {Key Id Name : Type 0} (m : Meaning Key Id Name) where
   pub passed_known : {X : Type 0} (r : Result X (RelateFault Key Id Name)) (f : RelateFault Key Id Name) → IsErr r → IsErrAnd r (λ e. e ≡ f) → KnowsFault m f → IfErr r (KnowsFault m)
   passed_known (Ok x) f h p k = absurd (false≢true h)
   passed_known (Err e) f h p k = subst (KnowsFault m) (sym p) k
-
-  all_answered : (X Y : Type 0) (before after : Store) (a b : Tree) (f : RelateFault Key Id Name) → AnsweredAll {X = Y} m before after a b (Err f) → AnsweredAll {X = X} m before after a b (Err f)
-  all_answered X Y before after a b Memory h = tt
-  all_answered X Y before after a b Budget h = h
-  all_answered X Y before after a b (Unrelated e) h = h
-
-  pub error_answered_all : {X : Type 0} (Y : Type 0) (before after : Store) (a b : Tree) (r : Result X (RelateFault Key Id Name)) (f : RelateFault Key Id Name) → IsErr r → IsErrAnd r (λ e. e ≡ f) → AnsweredAll {X = Y} m before after a b (Err f) → AnsweredAll m before after a b r
-  error_answered_all {X} Y before after a b (Ok x) f h p u = absurd (false≢true h)
-  error_answered_all {X} Y before after a b (Err e) f h p u = subst (λ z. AnsweredAll {X = X} m before after a b (Err z)) (sym p) (all_answered X Y before after a b f u)
-
--- The region of a reference is one of the context.
-pub region_in : (st : Store) (u : Mutability) (r x t : Tree) → t ≡ node (ref u) (cons r (cons x nil)) → IsTerm type_sort t → IsTermIn st t → IsRegionIn st r
-region_in st u r x t e s p = (h.1.0, term_first st (ref u) r x t e p)
-  where
-    h : IsTerm type_sort (node (ref u) (cons r (cons x nil)))
-    h = subst (IsTerm type_sort) e s
 
 pub terms_list : (t : Tree) → AreTerms type_sort t → IsList t
 terms_list nil h = tt

@@ -15,7 +15,24 @@ use Rattle.relation_reference.specs.Answers.{IsShallow, root, formed}
 use Rattle.relation_terms.proofs.Stays.{stays_list}
 use Rattle.relation_terms.specs.declared.terms.keys.TyKey.{TyKey}
 use Rattle.relation_terms.specs.declared.terms.keys.TysKey.{TysKey}
-use Rattle.relation_reference.proofs.Lists.{no_region_head, firsts, snoc, list_push, firsts_more, apply_snoc, push_known}
+use Rattle.relation_terms.specs.Heads.{value, value_type}
+use Rattle.relation_terms.specs.Meaning.{kind_tree}
+use Rattle.relation_terms.specs.declared.terms.enums.Mutability.{Mutability}
+use Rattle.relation_terms.specs.declared.terms.keys.ConstKey.{ConstKey}
+use Rattle.relation_terms.specs.declared.terms.keys.RegionKey.{RegionKey}
+use Rattle.relation_terms.specs.declared.terms.ty_kind.TyKind.{TyKind}
+use Rattle.relation_terms.specs.declared.terms.ty_kind.TyKind.TheVariants.{Bool as BoolTy, Char, Int, Uint, Float, Adt}
+use Rattle.relation_terms.specs.declared.terms.ty_kind.TyKind.TheVariants.{Foreign, Str, Array, Slice, RawPtr, Ref}
+use Rattle.relation_terms.specs.declared.terms.ty_kind.TyKind.TheVariants.{FnDef, Closure, CoroutineClosure}
+use Rattle.relation_terms.specs.declared.terms.ty_kind.TyKind.TheVariants.{Coroutine, CoroutineWitness, Never, Tuple}
+use Rattle.relation_terms.specs.declared.terms.ty_kind.TyKind.TheVariants.{Infer, Param as TyParam}
+use Rattle.relation_terms.specs.declared.terms.ty_kind.TyKind.TheVariants.{Placeholder as TyPlaceholder}
+use Rattle.std.specs.Prelude.{Result, IfOk}
+use Rattle.relation_terms.specs.declared.terms.keys.ArgsKey.{ArgsKey}
+use Rattle.relation_reference.specs.declared.context.forms.ItemTy.{ItemTy}
+use Rattle.relation_reference.specs.Parts.{IsNoItem, item_head, item_kind}
+use Rattle.relation_reference.proofs.Parts.{over_item, in_nth, nth_size as size_nth}
+use Rattle.relation_reference.proofs.Lists.{no_region_head, firsts, firsts_all, snoc, list_push, firsts_more, apply_snoc, push_known, both_known}
 use Rattle.relation_reference.proofs.Grows.{store_grows, lawful_grows}
 
 -- Parts of a known type are known.
@@ -48,26 +65,6 @@ pub term_second : (st : Store) (h : Head) (r x t : Tree) → t ≡ node h (cons 
 unfolding IsTermIn InContext
 term_second st h r x t e p = let q : IsTermIn st (node h (cons r (cons x nil))) = subst (IsTermIn st) e p in (q.0.1.0, q.1.1.0, q.2.1.0)
 
-nth_leaves : (P : Leaf → Type 0) (ts : Tree) (i : ℕ) → i < count ts → Leaves P ts → Leaves P (nth i ts)
-nth_leaves P (cons t ts) zero h p = p.0
-nth_leaves P (cons t ts) (suc i) h p = nth_leaves P ts i (omega arith) p.1
-nth_leaves P (leaf l) i h p = absurd (omega arith)
-nth_leaves P (node a l) i h p = absurd (omega arith)
-nth_leaves P (bind ks l) i h p = absurd (omega arith)
-nth_leaves P nil i h p = absurd (omega arith)
-
-nth_within : (ts : Tree) (i : ℕ) → i < count ts → StaysWithin 0 ts → StaysWithin 0 (nth i ts)
-nth_within (cons t ts) zero h p = p.0
-nth_within (cons t ts) (suc i) h p = nth_within ts i (omega arith) p.1
-nth_within (leaf l) i h p = absurd (omega arith)
-nth_within (node a l) i h p = absurd (omega arith)
-nth_within (bind ks l) i h p = absurd (omega arith)
-nth_within nil i h p = absurd (omega arith)
-
-pub term_nth : (st : Store) (ts : Tree) (i : ℕ) → i < count ts → IsTermIn st ts → IsTermIn st (nth i ts)
-unfolding IsTermIn InContext
-term_nth st ts i h p = (nth_leaves (IsMadeLeaf st) ts i h p.0, nth_within ts i h p.1, nth_leaves (IsNamable st.universe) ts i h p.2)
-
 -- They are smaller.
 pub weight_slice : (st : Store) (h : Head) (x t : Tree) → t ≡ node h (cons x nil) → weight st t ≡ weight st x + 3
 unfolding weight
@@ -82,12 +79,7 @@ unfolding weight
 weight_pair st h r x t e = ap (λ u. size (apply (resolved st) u)) e ∙ omega arith
 
 nth_size : (s : Assign) (ts : Tree) (i : ℕ) → i < count ts → size (apply s (nth i ts)) < size (apply s ts)
-nth_size s (cons t ts) zero h = omega arith
-nth_size s (cons t ts) (suc i) h = let e = nth_size s ts i (omega arith) in omega arith
-nth_size s (leaf l) i h = absurd (omega arith)
-nth_size s (node a l) i h = absurd (omega arith)
-nth_size s (bind ks l) i h = absurd (omega arith)
-nth_size s nil i h = absurd (omega arith)
+nth_size s ts i h = size_nth s ts i h
 
 pub weight_nth : (st : Store) (ts : Tree) (i : ℕ) → i < count ts → weight st (nth i ts) < weight st ts
 unfolding weight
@@ -112,53 +104,137 @@ region_resolved st g (bind ks t) h = absurd h
 region_resolved st g nil h = absurd h
 region_resolved st g (cons t u) h = absurd h
 
--- What a type comes to, by what it is resolved to shallowly.
-module _ (st : Store) (g : IsSound st) (t u : Tree) (same : (s : Assign) → MeetsBindings st s → apply s t ≡ apply s u) where
-  pub atom_resolves : (l : Leaf) → apply (resolved st) (leaf l) ≡ leaf l → u ≡ leaf l → u ≡ apply (resolved st) t
-  atom_resolves l o e = e ∙ sym o ∙ sym (ap (apply (resolved st)) e) ∙ sym (resolved_alike st g t u same)
+-- What forms come to, by what their parts come to.
+module _ (s : Assign) (h : Head) where
+  pub list_comes : (x y u : Tree) → u ≡ node h x → y ≡ apply s x → node h y ≡ apply s u
+  list_comes x y u e q = ap (node h) q ∙ sym (ap (apply s) e)
 
-  pub variable_resolves : IsShallow st u → (v : InferTy) → u ≡ infer_tree v → u ≡ apply (resolved st) t
-  variable_resolves (root n e f) v h = e ∙ sym (resolved_free st type_var n f) ∙ sym (ap (apply (resolved st)) e) ∙ sym (resolved_alike st g t u same)
-  variable_resolves (formed f) (TyVar n) h = absurd (subst IsFormed h f)
+  pub slice_comes : (x y u : Tree) → u ≡ node h (cons x nil) → y ≡ apply s x → node h (cons y nil) ≡ apply s u
+  slice_comes x y u e q = ap (λ z. node h (cons z nil)) q ∙ sym (ap (apply s) e)
 
-  pub part_resolves : (v w : Tree) → u ≡ v → w ≡ apply (resolved st) v → w ≡ apply (resolved st) t
-  part_resolves v w e h = h ∙ sym (ap (apply (resolved st)) e) ∙ sym (resolved_alike st g t u same)
+  pub pair_comes : (r x q y u : Tree) → u ≡ node h (cons r (cons x nil)) → q ≡ apply s r → y ≡ apply s x →
+      node h (cons q (cons y nil)) ≡ apply s u
+  pair_comes r x q y u e d f = ap₂ (λ w z. node h (cons w (cons z nil))) d f ∙ sym (ap (apply s) e)
 
-  pub falls : (k n : ℕ) → k < weight st u → 2 * k + 1 < 2 * weight st t + 1
-  falls k n h = let e = weight_alike st g t u same in omega (arith, e, h)
+pub value_comes : (s : Assign) (t v x y u : Tree) → u ≡ node value (cons (node value_type (cons t nil)) (cons v nil)) →
+    x ≡ apply s t → y ≡ apply s v → node value (cons (node value_type (cons x nil)) (cons y nil)) ≡ apply s u
+value_comes s t v x y u e d f = ap₂ (λ w z. node value (cons (node value_type (cons w nil)) (cons z nil))) d f ∙ sym (ap (apply s) e)
 
-  pub falls_list : (k n : ℕ) → k < weight st u → 2 * k < 2 * weight st t + 1
-  falls_list k n h = let e = weight_alike st g t u same in omega (arith, e, h)
+pub leaf_comes : (s : Assign) (l : Leaf) (u : Tree) → u ≡ leaf l → apply s (leaf l) ≡ leaf l → u ≡ apply s u
+leaf_comes s l u e o = e ∙ sym o ∙ sym (ap (apply s) e)
 
--- A list that is resolved element by element while the interner grows: `n` is what keys mean before an element was
--- resolved, `o` after it.
-module _ {Key Id Name : Type 0} {m n o : Meaning Key Id Name} (first : Extends m n) (step : Extends n o) (x y : InferCtxtInner Key) (l : IsLawful m x) (same : y ≡ x) (ts : TysKey Key) (ts_known : IsTrue (known (m.tys ts))) where
+-- What was made where it is what was to be made.
+pub made_as : {A E : Type 0} (r : Result A E) (f : A → Tree) (a b : Tree) → a ≡ b → IfOk r (λ k. f k ≡ a) → IfOk r (λ k. f k ≡ b)
+made_as r f a b e h = subst (λ z. IfOk r (λ k. f k ≡ z)) e h
+
+-- A value's type and value tree.
+pub known_value : (t v u : Tree) → u ≡ node value (cons (node value_type (cons t nil)) (cons v nil)) → IsTrue (known u) → IsTrue (known t) × IsTrue (known v)
+known_value t v u e k =
+    let p = and_parts (known t && true) (known v && true) (subst (λ z. IsTrue (known z)) e k) in
+    ((and_parts (known t) true p.0).0, (and_parts (known v) true p.1).0)
+
+pub term_value : (st : Store) (t v u : Tree) → u ≡ node value (cons (node value_type (cons t nil)) (cons v nil)) → IsTermIn st u → IsTermIn st t × IsTermIn st v
+unfolding IsTermIn InContext
+term_value st t v u e p =
+    let q : IsTermIn st (node value (cons (node value_type (cons t nil)) (cons v nil))) = subst (IsTermIn st) e p in
+    ((q.0.0.0, q.1.0.0, q.2.0.0), (q.0.1.0, q.1.1.0, q.2.1.0))
+
+pub weight_value : (st : Store) (t v u : Tree) → u ≡ node value (cons (node value_type (cons t nil)) (cons v nil)) → weight st u ≡ weight st t + weight st v + 7
+unfolding weight
+weight_value st t v u e = ap (λ z. size (apply (resolved st) z)) e ∙ omega arith
+
+pub known_one : (x : Tree) → IsTrue (known x) → IsTrue (known (cons x nil))
+known_one x k = both_known (known x) true k refl
+
+pub known_two : (x y : Tree) → IsTrue (known x) → IsTrue (known y) → IsTrue (known (cons x (cons y nil)))
+known_two x y k l = both_known (known x) (known (cons y nil)) k (known_one y l)
+
+-- A form without parts comes to itself, where its variable has no term.
+pub form_kept : {Key Id Name : Type 0} (m : Meaning Key Id Name) (st : Store) (k : TyKind Key Id Name) → IsShallow st (kind_tree m k) → IsNoItem k →
+    ((t : TyKey Key) → k ≡ Slice t → ⊥) → ((t : TyKey Key) (u : Mutability) → k ≡ RawPtr t u → ⊥) →
+    ((t : TyKey Key) (c : ConstKey Key) → k ≡ Array t c → ⊥) → ((t : TysKey Key) → k ≡ Tuple t → ⊥) →
+    ((r : RegionKey Key) (t : TyKey Key) (u : Mutability) → k ≡ Ref r t u → ⊥) → kind_tree m k ≡ apply (resolved st) (kind_tree m k)
+form_kept m st BoolTy s i a b c d e = refl
+form_kept m st Char s i a b c d e = refl
+form_kept m st (Int w) s i a b c d e = refl
+form_kept m st (Uint w) s i a b c d e = refl
+form_kept m st (Float w) s i a b c d e = refl
+form_kept m st (Adt x y) s i a b c d e = absurd i
+form_kept m st (Foreign x) s i a b c d e = refl
+form_kept m st Str s i a b c d e = refl
+form_kept m st (Array t z) s i a b c d e = absurd (c t z refl)
+form_kept m st (Slice t) s i a b c d e = absurd (a t refl)
+form_kept m st (RawPtr t u) s i a b c d e = absurd (b t u refl)
+form_kept m st (Ref r t u) s i a b c d e = absurd (e r t u refl)
+form_kept m st (FnDef x y) s i a b c d e = absurd i
+form_kept m st (Closure x y) s i a b c d e = absurd i
+form_kept m st (CoroutineClosure x y) s i a b c d e = absurd i
+form_kept m st (Coroutine x y) s i a b c d e = absurd i
+form_kept m st (CoroutineWitness x y) s i a b c d e = absurd i
+form_kept m st Never s i a b c d e = refl
+form_kept m st (Tuple ts) s i a b c d e = absurd (d ts refl)
+form_kept m st (TyParam p) s i a b c d e = refl
+form_kept m st (TyPlaceholder p) s i a b c d e = refl
+form_kept m st (Infer (TyVar v)) (root n q f) i a b c d e = q ∙ sym (resolved_free st type_var n f) ∙ sym (ap (apply (resolved st)) q)
+form_kept m st (Infer (TyVar v)) (formed f) i a b c d e = absurd f
+
+-- What a form was resolved to while the interner grew: `n` is what keys mean after a part was resolved, `u` a tree as
+-- it was and `v` as it is then.
+module _ {Key Id Name : Type 0} {m n : Meaning Key Id Name} (first : Extends m n) (x y : InferCtxtInner Key) (l : IsLawful m x) (same : y ≡ x) where
   pub store_now : store_of n y ≡ store_of m x
   store_now = ap (store_of n) same ∙ store_grows first x l
 
   pub lawful_now : IsLawful n y
   lawful_now = subst (IsLawful n) (sym same) (lawful_grows first x l)
 
-  pub list_now : n.tys ts ≡ m.tys ts
-  list_now = first.tys ts ts_known
+  module _ (u v : Tree) (now : v ≡ u) where
+    pub in_now : IsTermIn (store_of m x) u → IsTermIn (store_of n y) v
+    in_now p = subst₂ IsTermIn (sym store_now) (sym now) p
 
-  -- The element at a place.
-  pub element_in : (i : ℕ) (k : TyKey Key) → i < count (m.tys ts) → n.ty k ≡ nth i (n.tys ts) → IsTermIn (store_of m x) (m.tys ts) → IsTermIn (store_of n y) (n.ty k)
-  element_in i k h e p = subst₂ IsTermIn (sym store_now) (sym (e ∙ ap (nth i) list_now)) (term_nth (store_of m x) (m.tys ts) i h p)
+    pub weight_now : weight (store_of n y) v ≡ weight (store_of m x) u
+    weight_now = ap₂ weight store_now now
 
-  pub element_falls : (i : ℕ) (k : TyKey Key) → i < count (m.tys ts) → n.ty k ≡ nth i (n.tys ts) → weight (store_of n y) (n.ty k) < weight (store_of m x) (m.tys ts)
-  element_falls i k h e = subst₂ (λ st t. weight st t < weight (store_of m x) (m.tys ts)) (sym store_now) (sym (e ∙ ap (nth i) list_now)) (weight_nth (store_of m x) (m.tys ts) i h)
+    pub comes_now : (r : Tree) → r ≡ apply (resolved (store_of n y)) v → r ≡ apply (resolved (store_of m x)) u
+    comes_now r q = q ∙ ap₂ (λ st t. apply (resolved st) t) store_now now
 
-  pub one_more_resolved : (i : ℕ) (k r : TyKey Key) (done more : List (TyKey Key)) → i < count (m.tys ts) → n.ty k ≡ nth i (n.tys ts)
-      → o.ty r ≡ apply (resolved (store_of n y)) (n.ty k) → IsTrue (known (list_tree n.ty done)) → more ≡ done ++ r ∷ []
-      → list_tree n.ty done ≡ apply (resolved (store_of m x)) (firsts i (m.tys ts)) → list_tree o.ty more ≡ apply (resolved (store_of m x)) (firsts (i + 1) (m.tys ts))
-  one_more_resolved i k r done more h e q s p f =
-      ap (list_tree o.ty) p ∙ list_push o.ty done r
-      ∙ ap₂ snoc (stays_list n.ty o.ty done (λ z. step.ty z) s ∙ f) (q ∙ ap₂ (λ st t. apply (resolved st) t) store_now (e ∙ ap (nth i) list_now))
-      ∙ sym (apply_snoc (resolved (store_of m x)) i (m.tys ts) (nth i (m.tys ts)))
-      ∙ ap (apply (resolved (store_of m x))) (sym (firsts_more i (m.tys ts) h))
-      ∙ ap (λ z. apply (resolved (store_of m x)) (firsts z (m.tys ts))) (let z : suc i ≡ i + 1 = omega arith in z)
+    -- The element at a place of a list.
+    pub element_in : (i : ℕ) (e : Tree) → i < count u → e ≡ nth i v → IsTermIn (store_of m x) u → IsTermIn (store_of n y) e
+    element_in i e h q p = subst₂ IsTermIn (sym store_now) (sym (q ∙ ap (nth i) now)) (in_nth (store_of m x) u i h p)
 
-  pub one_more_known : (r : TyKey Key) (done more : List (TyKey Key)) → IsTrue (known (list_tree n.ty done)) → IsTrue (known (o.ty r)) → more ≡ done ++ r ∷ [] → IsTrue (known (list_tree o.ty more))
-  one_more_known r done more s k p = subst (λ l. IsTrue (known (list_tree o.ty l))) (sym p)
-      (push_known o.ty done r (subst (λ t. IsTrue (known t)) (sym (stays_list n.ty o.ty done (λ z. step.ty z) s)) s) k)
+    pub element_falls : (i : ℕ) (e : Tree) → i < count u → e ≡ nth i v → weight (store_of n y) e < weight (store_of m x) u
+    element_falls i e h q = subst₂ (λ st t. weight st t < weight (store_of m x) u) (sym store_now) (sym (q ∙ ap (nth i) now)) (weight_nth (store_of m x) u i h)
+
+    -- One more element was resolved: `f` is what elements mean before, `g` after.
+    pub one_more_resolved : {K : Type 0} (f g : K → Tree) → ((k : K) → IsTrue (known (f k)) → g k ≡ f k) → (i : ℕ) (e : Tree) (r : K) (done more : List K) → i < count u → e ≡ nth i v
+        → g r ≡ apply (resolved (store_of n y)) e → IsTrue (known (list_tree f done)) → more ≡ done ++ r ∷ []
+        → list_tree f done ≡ apply (resolved (store_of m x)) (firsts i u) → list_tree g more ≡ apply (resolved (store_of m x)) (firsts (i + 1) u)
+    one_more_resolved f g step i e r done more h q z s p d =
+        ap (list_tree g) p ∙ list_push g done r
+        ∙ ap₂ snoc (stays_list f g done step s ∙ d) (z ∙ ap₂ (λ st t. apply (resolved st) t) store_now (q ∙ ap (nth i) now))
+        ∙ sym (apply_snoc (resolved (store_of m x)) i u (nth i u))
+        ∙ ap (apply (resolved (store_of m x))) (sym (firsts_more i u h))
+        ∙ ap (λ w. apply (resolved (store_of m x)) (firsts w u)) (let w : suc i ≡ i + 1 = omega arith in w)
+
+pub one_more_known : {K : Type 0} (f g : K → Tree) → ((k : K) → IsTrue (known (f k)) → g k ≡ f k) → (r : K) (done more : List K) → IsTrue (known (list_tree f done)) → IsTrue (known (g r)) →
+    more ≡ done ++ r ∷ [] → IsTrue (known (list_tree g more))
+one_more_known f g step r done more s k p = subst (λ l. IsTrue (known (list_tree g l))) (sym p)
+    (push_known g done r (subst (λ t. IsTrue (known t)) (sym (stays_list f g done step s)) s) k)
+
+-- All elements were resolved.
+pub all_resolved : (s : Assign) (a b u : Tree) (i k : ℕ) → b ≡ a → a ≡ apply s (firsts i u) → i ≡ count u → IsList u → b ≡ apply s u
+all_resolved s a b u i k e f h l = e ∙ f ∙ ap (λ z. apply s (firsts z u)) h ∙ ap (apply s) (firsts_all u l)
+
+-- What a form over an item comes to, by what its arguments come to.
+module _ {Key Id Name : Type 0} {m n : Meaning Key Id Name} (first : Extends m n) (s : Assign) (i : ItemTy Key Id) (a : ArgsKey Key)
+    (k : TyKind Key Id Name) (made : k ≡ item_kind (record { form = i.form; def_id = i.def_id; args = a })) where
+  made_over : kind_tree n k ≡ node (item_head i.form (n.id i.def_id)) (n.args a)
+  made_over = over_item n (record { form = i.form; def_id = i.def_id; args = a }) k (kind_tree n k) refl made
+
+  pub item_known : IsTrue (known (n.args a)) → IsTrue (known (kind_tree n k))
+  item_known h = subst (λ z. IsTrue (known z)) (sym made_over) h
+
+  pub item_comes : (u : Tree) → u ≡ node (item_head i.form (m.id i.def_id)) (m.args i.args) → n.args a ≡ apply s (m.args i.args) → kind_tree n k ≡ apply s u
+  item_comes u e q = made_over ∙ ap (λ d. node (item_head i.form d) (n.args a)) (first.id i.def_id) ∙ list_comes s (item_head i.form (m.id i.def_id)) (m.args i.args) (n.args a) u e q
+
+pub term_nth : (st : Store) (ts : Tree) (i : ℕ) → i < count ts → IsTermIn st ts → IsTermIn st (nth i ts)
+term_nth st ts i h p = in_nth st ts i h p

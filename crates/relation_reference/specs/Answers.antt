@@ -1,25 +1,23 @@
 -- What calls over a context show.
 use Rattle.std.specs.Prelude.{◌≡◌, ℕ, ◌<◌, Result, Ok, Err, None}
-use Rattle.relation_terms.specs.Heads.{type_var, variable, slice, tuple, ref}
-use Rattle.relation_terms.specs.Trees.{Tree, leaf, node, nil, cons, Assign, apply, Occurs, count, nth}
+use Rattle.relation_terms.specs.Heads.{type_var, variable, array, value}
+use Rattle.relation_terms.specs.Trees.{Tree, leaf, node, Assign, apply, Occurs, nth}
 use Rattle.relation_terms.specs.declared.terms.enums.Variance.TheVariants.{Invariant}
 use Rattle.relation_tools.specs.declared.error.TypeError.{TypeError}
-use Rattle.relation_tools.specs.declared.error.TypeError.TheVariants.{CyclicTy}
+use Rattle.relation_tools.specs.declared.error.TypeError.TheVariants.{CyclicTy, ArraySize, ConstMismatch}
 use Rattle.relation_tools.specs.declared.error.RelateFault.{RelateFault}
 use Rattle.relation_tools.specs.declared.error.RelateFault.TheVariants.{Memory, Budget, Unrelated}
-use Rattle.type_relations.specs.Relation.{Items, Interpretation, Rel, at, parts}
+use Rattle.type_relations.specs.Relation.{Items, Interpretation, Rel, at}
 use Rattle.relation_terms.specs.Meaning.{Meaning}
-use Rattle.relation_terms.specs.declared.terms.enums.Mutability.{Mutability}
 use Rattle.relation_terms.specs.declared.terms.keys.TyKey.{TyKey}
-use Rattle.relation_terms.specs.declared.terms.ty_kind.TyKind.{TyKind}
-use Rattle.relation_terms.specs.declared.terms.ty_kind.TyKind.TheVariants.{Bool, Char, Int, Uint, Infer}
+use Rattle.relation_terms.specs.declared.terms.keys.ConstKey.{ConstKey}
+use Rattle.relation_terms.specs.declared.terms.generic_arg.GenericArgKind.{GenericArgKind}
+use Rattle.relation_terms.specs.declared.terms.generic_arg.GenericArgKind.TheVariants.{Const}
+use Rattle.relation_tools.specs.declared.error.ExpectedFound.{ExpectedFound}
 use Rattle.type_relations.specs.Stores.{Store, same_as, entry_of, bound_term, resolved, Satisfies}
 use Rattle.type_relations.specs.Steps.{BindsTo, ChangesNothing, Instantiates, RefusesToInstantiate}
 use Rattle.type_relations.specs.Outcomes.{NoEqualTerms}
 use Rattle.type_relations.specs.Errors.{ErrorOf}
-use Rattle.relation_reference.specs.declared.context.pairing.PairedParts.{PairedParts}
-use Rattle.relation_reference.specs.declared.context.pairing.PairedParts.TheVariants.{None as NoParts, Elements}
-use Rattle.relation_reference.specs.declared.context.pairing.PairedParts.TheVariants.{Members, References}
 use Rattle.relation_reference.specs.Tables.{IsFormed}
 
 -- From a variable the entries lead to another of the same class.
@@ -42,22 +40,11 @@ pub record Unites (before after : Store) (a b : Tree) : Type 0 where
       Rel c w e (at Invariant) (apply s a) (apply s b)
   pub keeps : (w : Interpretation) (s : Assign) → Satisfies w before s → apply s a ≡ apply s b → Satisfies w after s
 
--- The same of two lists of a tuple's parts.
-pub record UnitesAll (before after : Store) (a b : Tree) : Type 0 where
-  pub relates : (c : Items) (e : Tree) (w : Interpretation) (s : Assign) → Satisfies w after s →
-      Rel c w e (parts tuple 0 Invariant) (apply s a) (apply s b)
-  pub keeps : (w : Interpretation) (s : Assign) → Satisfies w before s → apply s a ≡ apply s b → Satisfies w after s
-
 -- The first places of two lists were made one.
 pub record IsFront (before after : Store) (i : ℕ) (a b : Tree) : Type 0 where
   pub relates : (c : Items) (e : Tree) (w : Interpretation) (s : Assign) (j : ℕ) → j < i → Satisfies w after s →
       Rel c w e (at Invariant) (apply s (nth j a)) (apply s (nth j b))
   pub keeps : (w : Interpretation) (s : Assign) → Satisfies w before s → apply s a ≡ apply s b → Satisfies w after s
-
--- The error is one of a pair at some place of two lists.
-abbrev pub ErrorOfPlace : {Key Id Name : Type 0} → Meaning Key Id Name → Store → TypeError Key Id Name → Tree →
-    Tree → Type 0
-ErrorOfPlace m st e a b = (i : ℕ) × (i < count a) × ErrorOf m st e (nth i a) (nth i b)
 
 -- What binding a root to a type answers: it is bound to what the type comes to; or nothing is bound, since the root
 -- stands there below a form, or no instantiation is left, or memory ran out.
@@ -87,29 +74,33 @@ Answered m before after a b (Err (Unrelated e)) = NoEqualTerms before a b × Err
 Answered m before after a b (Err Budget) = after.budget ≡ 0
 Answered m before after a b (Err Memory) = Unit {0}
 
--- The same of two lists of a tuple's parts.
-abbrev pub AnsweredAll : {X Key Id Name : Type 0} → Meaning Key Id Name → Store → Store → Tree → Tree →
-    Result X (RelateFault Key Id Name) → Type 0
-AnsweredAll m before after a b (Ok x) = UnitesAll before after a b
-AnsweredAll m before after a b (Err (Unrelated e)) = NoEqualTerms before a b × ErrorOfPlace m after e a b
-AnsweredAll m before after a b (Err Budget) = after.budget ≡ 0
-AnsweredAll m before after a b (Err Memory) = Unit {0}
+-- The fault of a part is the fault of the type that it is a part of: all but constants that differ as the lengths of
+-- two arrays.
+abbrev pub IsNoLength : {Key : Type 0} → Tree → GenericArgKind Key → GenericArgKind Key → Type 0
+IsNoLength (node array ts) (Const c) (Const d) = ⊥
+IsNoLength t x y = Unit {0}
 
--- Two outermost forms are one that has no parts.
-abbrev pub IsOneLeaf : {K : Type 0} → TyKind K → TyKind K → Type 0
-IsOneLeaf Bool Bool = Unit {0}
-IsOneLeaf Char Char = Unit {0}
-IsOneLeaf (Int x) (Int y) = x ≡ y
-IsOneLeaf (Uint x) (Uint y) = x ≡ y
-IsOneLeaf (Infer x) (Infer y) = x ≡ y
-IsOneLeaf k l = ⊥
+abbrev pub IsPassedOn : {Key Id Name : Type 0} → RelateFault Key Id Name → Tree → GenericArgKind Key →
+    GenericArgKind Key → Type 0
+IsPassedOn (Unrelated (ConstMismatch p)) t x y = IsNoLength t x y
+IsPassedOn f t x y = Unit {0}
 
--- The parts are those of two types of one form.
-abbrev pub ArePartsOf : {Key Id Name : Type 0} → Meaning Key Id Name → Tree → Tree → PairedParts Key → Type 0
-ArePartsOf m a b NoParts = a ≡ b
-ArePartsOf m a b (Elements x y) = (a ≡ node slice (cons (m.ty x) nil)) × (b ≡ node slice (cons (m.ty y) nil))
-ArePartsOf m a b (Members xs ys) = (a ≡ node tuple (m.tys xs)) × (b ≡ node tuple (m.tys ys)) ×
-    (count (m.tys xs) ≡ count (m.tys ys))
-ArePartsOf m a b (References rs xs) = (u : Mutability) ×
-    (a ≡ node (ref u) (cons (m.region rs.0) (cons (m.ty xs.0) nil))) ×
-    (b ≡ node (ref u) (cons (m.region rs.1) (cons (m.ty xs.1) nil)))
+-- What a fault of two parts of types is as the types' own.
+pub data IsFaultOfTy {Key Id Name : Type 0} (t : Tree) (x y : GenericArgKind Key) (f r : RelateFault Key Id Name)
+    : Type 0 where
+  passed : r ≡ f → IsPassedOn f t x y → IsFaultOfTy t x y f r
+  sized : {ts : Tree} (c d : ConstKey Key) (p : ExpectedFound (ConstKey Key)) → t ≡ node array ts → x ≡ Const c →
+      y ≡ Const d → f ≡ Unrelated (ConstMismatch p) → r ≡ Unrelated (ArraySize (record { expected = c; found = d })) →
+      IsFaultOfTy t x y f r
+
+-- The fault of a part of a constant is the constant's, but that terms that differ make the whole values differ.
+abbrev pub IsPassedOnConst : {Key Id Name : Type 0} → RelateFault Key Id Name → Tree → Type 0
+IsPassedOnConst (Unrelated e) (node value ts) = ⊥
+IsPassedOnConst f t = Unit {0}
+
+-- What a fault of two parts of constants is as the constants' own.
+pub data IsFaultOfConst {Key Id Name : Type 0} (t : Tree) (c d : ConstKey Key) (f r : RelateFault Key Id Name)
+    : Type 0 where
+  passed_const : r ≡ f → IsPassedOnConst f t → IsFaultOfConst t c d f r
+  whole : {ts : Tree} (e : TypeError Key Id Name) → t ≡ node value ts → f ≡ Unrelated e →
+      r ≡ Unrelated (ConstMismatch (record { expected = c; found = d })) → IsFaultOfConst t c d f r

@@ -6,4 +6,5 @@ pub mod Places
 pub mod Laws
 pub mod Adding
 pub mod Tables
+pub mod Parts
 pub mod Answers

@@ -1,7 +1,9 @@
 //! An inference context over plain tables, and relating in it.
 
+mod comparing;
+mod forms;
 mod inner;
-mod pairing;
+mod parts;
 mod recording;
 mod relating;
 mod resolving;
@@ -9,5 +11,5 @@ mod solver;
 mod variables;
 
 pub use inner::{InferCtxtInner, TypeVariable, TypeVariableValue};
-pub(crate) use pairing::PairedParts;
+pub(crate) use forms::{ItemForm, ItemTy};
 pub use variables::RefCtxt;

@@ -1,2 +1,6 @@
 pub mod Faults
+<<<<<<< HEAD
 pub mod Visits
+=======
+pub mod Folds
+>>>>>>> h-fold

@@ -103,6 +103,15 @@ depth_later {n} {r} {q} g m k h = let e : depth q.budget m + g.spent ≤ depth (
 pub element_under : {n : ℕ} {r q : Store} (g : Goes n r q) (m N : ℕ) → m ≤ grown g.spent N → 4 * depth q.budget m + 2 < 4 * depth r.budget N + 3
 element_under g m N h = let d = depth_later g m N h in omega arith
 
+-- Two parts, after the parts before them.
+pub part_under : {n : ℕ} {r q : Store} → (g : Goes n r q) (N : ℕ) (t u : Tree) → n < N → weight r t + weight r u < n →
+    4 * depth q.budget (weight q t + weight q u) + 3 < 4 * depth r.budget N + 1
+part_under {n} {r} {q} g N t u above below =
+    let up : weight q t + weight q u ≤ grown g.spent n = pair_grown g n t u (omega (arith)) below in
+    let d : depth q.budget (weight q t + weight q u) ≤ depth r.budget n = depth_later g _ n up in
+    let e : depth r.budget n < depth r.budget N = depth-strict r.budget n N above in
+    omega (arith, d, e)
+
 -- A second pair, smaller by two, after a first part of the work.
 pub second_under : {n : ℕ} {r q : Store} → (g : Goes n r q) (N : ℕ) (t u : Tree) → n + (weight r t + weight r u) + 1 < N → 4 * depth q.budget (weight q t + weight q u) + 3 < 4 * depth r.budget N + 1
 second_under {n} {r} {q} g N t u below =

@@ -1,20 +1,66 @@
 -- Which error comes of relating two types.
 use Rattle.std.specs.Prelude.{◌≡◌, ◌≢◌, ◌⊎◌, ℕ, zero, ◌<◌, Some}
 use Rattle.relation_terms.specs.declared.terms.keys.TyKey.{TyKey}
-use Rattle.relation_terms.specs.Heads.{VarKind, type_var, Head, tuple, raw_ptr, ref, variable}
-use Rattle.relation_terms.specs.Trees.{Tree, leaf, node, apply, count, nth, Occurs}
+use Rattle.relation_terms.specs.declared.terms.keys.ConstKey.{ConstKey}
+use Rattle.relation_terms.specs.Heads.{const_sort, VarKind, type_var, Atom, Head, array, tuple, raw_ptr, ref, expression, value}
+use Rattle.relation_terms.specs.Heads.{value_type, value_branch, Leaf, variable, atom}
+use Rattle.relation_terms.specs.Trees.{Tree, leaf, node, nil, cons, apply, count, nth, Occurs}
 use Rattle.relation_terms.specs.Meaning.{Meaning}
+use Rattle.relation_tools.specs.declared.error.ExpectedFound.{ExpectedFound}
 use Rattle.relation_tools.specs.declared.error.TypeError.{TypeError}
-use Rattle.relation_tools.specs.declared.error.TypeError.TheVariants.{Mutability, TupleSize, Sorts, CyclicTy}
+use Rattle.relation_tools.specs.declared.error.TypeError.TheVariants.{Mismatch, Mutability, TupleSize, ArraySize}
+use Rattle.relation_tools.specs.declared.error.TypeError.TheVariants.{Sorts, CyclicTy, ConstMismatch}
+use Rattle.type_relations.specs.Relation.{plain_atom, sort_of}
 use Rattle.type_relations.specs.Stores.{Store, bound_term, resolved}
+
+-- Two forms without parts that are one but for a parameter's name.
+abbrev pub AreAlikeLeaves : Leaf → Leaf → Type 0
+AreAlikeLeaves (atom x) (atom y) = plain_atom x ≡ plain_atom y
+AreAlikeLeaves x y = x ≡ y
 
 -- Two types are of one outermost form, whatever their parts, the number of these, and mutability.
 abbrev pub AreAlike : Tree → Tree → Type 0
-AreAlike (leaf x) (leaf y) = x ≡ y
+AreAlike (leaf x) (leaf y) = AreAlikeLeaves x y
 AreAlike (node (ref u) ts) (node (ref v) us) = Unit {0}
 AreAlike (node (raw_ptr u) ts) (node (raw_ptr v) us) = Unit {0}
 AreAlike (node h ts) (node k us) = h ≡ k
 AreAlike t u = ⊥
+
+-- Two types of one outermost form with as many parts; or two parameters of one index.
+pub data AreOfOneForm (a b : Tree) : Type 0 where
+  over_parts : {h : Head} {ts us : Tree} → a ≡ node h ts → b ≡ node h us → count ts ≡ count us → AreOfOneForm a b
+  parameters : {x y : Atom} → a ≡ leaf (atom x) → b ≡ leaf (atom y) → plain_atom x ≡ plain_atom y → AreOfOneForm a b
+
+-- Two value trees that are one, or have as many branches.
+pub data AreOfOneValue (a b : Tree) : Type 0 where
+  one_value : a ≡ b → AreOfOneValue a b
+  as_many_branches : {ts us : Tree} → a ≡ node value_branch ts → b ≡ node value_branch us → count ts ≡ count us →
+      AreOfOneValue a b
+
+-- Two constants of one outermost form with as many parts, the types of values apart; or two parameters of one index.
+pub data AreOfOneConst (a b : Tree) : Type 0 where
+  values : {t u v w : Tree} → a ≡ node value (cons (node value_type (cons t nil)) (cons v nil)) →
+      b ≡ node value (cons (node value_type (cons u nil)) (cons w nil)) → AreOfOneValue v w → AreOfOneConst a b
+  expressions : {k : ℕ} {ts us : Tree} → a ≡ node (expression k) ts → b ≡ node (expression k) us →
+      count ts ≡ count us → AreOfOneConst a b
+  const_parameters : {x y : Atom} → a ≡ leaf (atom x) → b ≡ leaf (atom y) → plain_atom x ≡ plain_atom y →
+      AreOfOneConst a b
+
+-- Two constants are of one outermost form; of expressions the operations and the number of arguments may differ.
+abbrev pub AreAlikeConsts : Tree → Tree → Type 0
+AreAlikeConsts (leaf x) (leaf y) = AreAlikeLeaves x y
+AreAlikeConsts (node (expression k) ts) (node (expression l) us) = Unit {0}
+AreAlikeConsts (node value (cons t (cons v nil))) (node value (cons u (cons w nil))) = AreOfOneValue v w
+AreAlikeConsts t u = ⊥
+
+-- An error of two parts is the whole's error too. Not so of the lengths of two arrays, where constants that differ are
+-- sizes that differ, and of what values are made of, where the whole values differ.
+abbrev pub IsHandedOn : {Key Id Name : Type 0} → TypeError Key Id Name → Head → Tree → Tree → Type 0
+IsHandedOn e value t u = ⊥
+IsHandedOn e value_type t u = ⊥
+IsHandedOn e value_branch t u = ⊥
+IsHandedOn (ConstMismatch p) array t u = sort_of t ≡ const_sort → sort_of u ≡ const_sort → ⊥
+IsHandedOn e h t u = Unit {0}
 
 -- The variable stands in the term, which is not the variable itself.
 abbrev pub IsCycle : ℕ → Tree → Type 0
@@ -41,18 +87,39 @@ module _ {Key Id Name : Type 0} (m : Meaning Key Id Name) where
         count ts ≢ count us → FormError x y (TupleSize (record { expected = count ts; found = count us }))
     empty_tuple : {ts us : Tree} → m.ty x ≡ node tuple ts → m.ty y ≡ node tuple us → count ts ≢ count us →
         (count ts ≡ zero) ⊎ (count us ≡ zero) → FormError x y (Sorts (record { expected = x; found = y }))
+    as_many : {h : Head} {ts us : Tree} → m.ty x ≡ node h ts → m.ty y ≡ node h us → h ≢ tuple →
+        count ts ≢ count us → FormError x y (Sorts (record { expected = x; found = y }))
     sorts : (AreAlike (m.ty x) (m.ty y) → ⊥) → FormError x y (Sorts (record { expected = x; found = y }))
 
-  -- The error comes of a pair that is met when two types are related: of two types, as read, that differ in form; of
-  -- what they are read as by what is recorded; of two parts at one place of one form; or of a variable that stands in
-  -- what the other type comes to.
-  pub data ErrorOf (st : Store) (e : TypeError Key Id Name) : Tree → Tree → Type 0 where
-    of_forms : {a b : Tree} (x y : TyKey Key) → m.ty x ≡ a → m.ty y ≡ b → IsNoVariable a → IsNoVariable b →
+  -- The outermost forms of two constants differ, and the error that says how.
+  pub data ConstFormError (x y : ConstKey Key) : TypeError Key Id Name → Type 0 where
+    const_mismatch : (AreAlikeConsts (m.const_ x) (m.const_ y) → ⊥) →
+        ConstFormError x y (ConstMismatch (record { expected = x; found = y }))
+    operations : {k l : ℕ} {ts us : Tree} → m.const_ x ≡ node (expression k) ts → m.const_ y ≡ node (expression l) us →
+        (k ≢ l) ⊎ (count ts ≢ count us) → ConstFormError x y Mismatch
+
+  -- The error comes of a pair that is met when two terms are related: of two types or constants, as read, that differ in
+  -- form; of what they are read as by what is recorded; of two arguments of different kinds; of two parts at one place of
+  -- one form, as the whole's error; or of a variable that stands in what the other type comes to.
+  pub data ErrorOf (st : Store) : TypeError Key Id Name → Tree → Tree → Type 0 where
+    of_forms : {e : _} {a b : Tree} (x y : TyKey Key) → m.ty x ≡ a → m.ty y ≡ b → IsNoVariable a → IsNoVariable b →
         FormError x y e → ErrorOf st e a b
-    of_entries : {a b t u : Tree} → IsReadAs st a t → IsReadAs st b u → ErrorOf st e t u → ErrorOf st e a b
-    of_parts : {h : Head} {a b ts us : Tree} (i : ℕ) → a ≡ node h ts → b ≡ node h us → count ts ≡ count us →
-        i < count ts → ErrorOf st e (nth i ts) (nth i us) → ErrorOf st e a b
-    of_cycle : {a b : Tree} (n : ℕ) (k : TyKey Key) → a ≡ leaf (variable type_var n) → m.ty k ≡ apply (resolved st) b →
-        IsCycle n (m.ty k) → e ≡ CyclicTy k → ErrorOf st e a b
-    of_cycle_back : {a b : Tree} (n : ℕ) (k : TyKey Key) → b ≡ leaf (variable type_var n) →
+    of_const_forms : {e : _} {a b : Tree} (x y : ConstKey Key) → m.const_ x ≡ a → m.const_ y ≡ b → IsNoVariable a →
+        IsNoVariable b → ConstFormError x y e → ErrorOf st e a b
+    of_kinds : {a b : Tree} → sort_of a ≢ sort_of b → ErrorOf st Mismatch a b
+    of_entries : {e : _} {a b t u : Tree} → IsReadAs st a t → IsReadAs st b u → ErrorOf st e t u → ErrorOf st e a b
+    of_parts : {e : _} {h : Head} {a b ts us : Tree} (i : ℕ) → a ≡ node h ts → b ≡ node h us → count ts ≡ count us →
+        i < count ts → IsHandedOn e h (nth i ts) (nth i us) → ErrorOf st e (nth i ts) (nth i us) → ErrorOf st e a b
+    of_length : {p : ExpectedFound (ConstKey Key)} {a b ts us : Tree} (x y : ConstKey Key) (i : ℕ) → a ≡ node array ts →
+        b ≡ node array us → count ts ≡ count us → i < count ts → nth i ts ≡ m.const_ x → nth i us ≡ m.const_ y →
+        ErrorOf st (ConstMismatch p) (nth i ts) (nth i us) →
+        ErrorOf st (ArraySize (record { expected = x; found = y })) a b
+    of_branches : {e : _} {t u ts us : Tree} (x y : ConstKey Key) (i : ℕ) →
+        m.const_ x ≡ node value (cons t (cons (node value_branch ts) nil)) →
+        m.const_ y ≡ node value (cons u (cons (node value_branch us) nil)) → count ts ≡ count us → i < count ts →
+        ErrorOf st e (nth i ts) (nth i us) →
+        ErrorOf st (ConstMismatch (record { expected = x; found = y })) (m.const_ x) (m.const_ y)
+    of_cycle : {e : _} {a b : Tree} (n : ℕ) (k : TyKey Key) → a ≡ leaf (variable type_var n) →
+        m.ty k ≡ apply (resolved st) b → IsCycle n (m.ty k) → e ≡ CyclicTy k → ErrorOf st e a b
+    of_cycle_back : {e : _} {a b : Tree} (n : ℕ) (k : TyKey Key) → b ≡ leaf (variable type_var n) →
         m.ty k ≡ apply (resolved st) a → IsCycle n (m.ty k) → e ≡ CyclicTy k → ErrorOf st e a b

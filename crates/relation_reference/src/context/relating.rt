@@ -1,17 +1,21 @@
 //! Relating types in a context.
 ghost use Rattle.std.specs.Prelude.{◌≡◌, ◌+◌, IsTrue, IfErr};
 ghost use Rattle.std.specs.Result.{IsOk};
-ghost use Rattle.relation_terms.specs.Trees.{known, count};
-ghost use Rattle.relation_terms.specs.Meaning.{Extends};
+ghost use Rattle.relation_terms.specs.Trees.{known};
+ghost use Rattle.relation_terms.specs.Meaning.{Extends, arg_tree};
 ghost use Rattle.type_relations.specs.Stores.{IsTermIn, weight};
 ghost use Rattle.type_relations.specs.Measures.{Goes};
 ghost use Rattle.relation_tools.specs.Faults.{KnowsFault};
 ghost use Rattle.relation_reference.specs.Tables.{store_of, IsLawful, IsFormed};
-ghost use Rattle.relation_reference.specs.Answers.{Answered, AnsweredAll};
+ghost use Rattle.relation_reference.specs.Answers.{Answered, IsFaultOfTy, IsFaultOfConst};
 
-use crate::context::{PairedParts, RefCtxt};
-use relation_terms::terms::{Interner, Ty, Tys};
-use relation_tools::error::RelateFaultOf;
+use crate::context::RefCtxt;
+use crate::context::comparing::{compare_consts, compare_tys};
+use crate::context::parts::{const_part, const_parts_count, part, parts_count};
+use relation_terms::terms::{
+    Const, ConstKind, Dup, GenericArg, GenericArgKind, Interner, Ty, TyKind,
+};
+use relation_tools::error::{ExpectedFound, RelateFault, RelateFaultOf, TypeError};
 
 impl<I: Interner> RefCtxt<I> {
     // Relates two types.
@@ -57,6 +61,7 @@ impl<I: Interner> RefCtxt<I> {
 
     // Relates two types that are no variables by their outermost forms and their parts.
     #[cycle(relate)]
+    #[tactic(none)]
     fn structurally_relate_tys(&mut self, a: &Ty<I>, b: &Ty<I>) -> Result<(), RelateFaultOf<I>>
         requires lawful { IsLawful (I.meaning self.old.interner) self.old.inner }
         requires a_known { IsTrue (known ((I.meaning self.old.interner).ty a.now)) }
@@ -71,38 +76,140 @@ impl<I: Interner> RefCtxt<I> {
         ensures answers { Answered (I.meaning self.new.interner) (store_of (I.meaning self.old.interner) self.old.inner) (store_of (I.meaning self.new.interner) self.new.inner) ((I.meaning self.old.interner).ty a.now) ((I.meaning self.old.interner).ty b.now) result }
         ensures why_known { IfErr result (KnowsFault (I.meaning self.new.interner)) }
     {
-        match self.paired_parts(a, b)? {
-            PairedParts::None => Ok(()),
-            PairedParts::Elements(x, y) => self.relate_tys(&x, &y),
-            PairedParts::Members(xs, ys) => self.relate_members(&xs, &ys),
-            PairedParts::References { regions, pointees } => {
-                self.equate_regions(&regions.0, &regions.1)?;
-                self.relate_tys(&pointees.0, &pointees.1)
+        if a == b {
+            return Ok(());
+        }
+        compare_tys(&self.interner, a, b)?;
+        let n = parts_count(&self.interner, a);
+        for i in 0..n {
+            let x = part(&self.interner, a, i);
+            let y = part(&self.interner, b, i);
+            if let Err(fault) = self.relate_arg(&x, &y) {
+                return Err(of_ty(&self.interner, a, &x, &y, fault));
+            }
+        }
+        Ok(())
+    }
+
+    // Relates two arguments.
+    #[cycle(relate)]
+    #[tactic(none)]
+    fn relate_arg(
+        &mut self,
+        a: &GenericArg<I>,
+        b: &GenericArg<I>,
+    ) -> Result<(), RelateFaultOf<I>>
+        requires lawful { IsLawful (I.meaning self.old.interner) self.old.inner }
+        requires a_known { IsTrue (known (arg_tree (I.meaning self.old.interner) a.now)) }
+        requires b_known { IsTrue (known (arg_tree (I.meaning self.old.interner) b.now)) }
+        requires a_in { IsTermIn (store_of (I.meaning self.old.interner) self.old.inner) (arg_tree (I.meaning self.old.interner) a.now) }
+        requires b_in { IsTermIn (store_of (I.meaning self.old.interner) self.old.inner) (arg_tree (I.meaning self.old.interner) b.now) }
+        ensures lawful { IsLawful (I.meaning self.new.interner) self.new.inner }
+        ensures grown { Extends (I.meaning self.old.interner) (I.meaning self.new.interner) }
+        ensures goes { Goes (weight (store_of (I.meaning self.old.interner) self.old.inner) (arg_tree (I.meaning self.old.interner) a.now) + weight (store_of (I.meaning self.old.interner) self.old.inner) (arg_tree (I.meaning self.old.interner) b.now)) (store_of (I.meaning self.old.interner) self.old.inner) (store_of (I.meaning self.new.interner) self.new.inner) }
+        ensures answers { Answered (I.meaning self.new.interner) (store_of (I.meaning self.old.interner) self.old.inner) (store_of (I.meaning self.new.interner) self.new.inner) (arg_tree (I.meaning self.old.interner) a.now) (arg_tree (I.meaning self.old.interner) b.now) result }
+        ensures why_known { IfErr result (KnowsFault (I.meaning self.new.interner)) }
+    {
+        match a {
+            GenericArgKind::Lifetime(a) => {
+                let GenericArgKind::Lifetime(b) = b else {
+                    return Err(RelateFault::Unrelated(TypeError::Mismatch));
+                };
+                self.equate_regions(a, b)?;
+                Ok(())
+            }
+            GenericArgKind::Ty(a) => {
+                let GenericArgKind::Ty(b) = b else {
+                    return Err(RelateFault::Unrelated(TypeError::Mismatch));
+                };
+                self.relate_tys(a, b)
+            }
+            GenericArgKind::Const(a) => {
+                let GenericArgKind::Const(b) = b else {
+                    return Err(RelateFault::Unrelated(TypeError::Mismatch));
+                };
+                self.structurally_relate_consts(a, b)
             }
         }
     }
 
-    // Relates the members of two tuples of one length by position.
+    // Relates two constants by their outermost forms and their parts. The types of values are not looked at.
     #[cycle(relate)]
-    fn relate_members(&mut self, a: &Tys<I>, b: &Tys<I>) -> Result<(), RelateFaultOf<I>>
+    #[tactic(none)]
+    fn structurally_relate_consts(
+        &mut self,
+        a: &Const<I>,
+        b: &Const<I>,
+    ) -> Result<(), RelateFaultOf<I>>
         requires lawful { IsLawful (I.meaning self.old.interner) self.old.inner }
-        requires a_known { IsTrue (known ((I.meaning self.old.interner).tys a.now)) }
-        requires b_known { IsTrue (known ((I.meaning self.old.interner).tys b.now)) }
-        requires a_in { IsTermIn (store_of (I.meaning self.old.interner) self.old.inner) ((I.meaning self.old.interner).tys a.now) }
-        requires b_in { IsTermIn (store_of (I.meaning self.old.interner) self.old.inner) ((I.meaning self.old.interner).tys b.now) }
-        requires as_many { count ((I.meaning self.old.interner).tys a.now) ≡ count ((I.meaning self.old.interner).tys b.now) }
+        requires a_known { IsTrue (known ((I.meaning self.old.interner).const_ a.now)) }
+        requires b_known { IsTrue (known ((I.meaning self.old.interner).const_ b.now)) }
+        requires a_in { IsTermIn (store_of (I.meaning self.old.interner) self.old.inner) ((I.meaning self.old.interner).const_ a.now) }
+        requires b_in { IsTermIn (store_of (I.meaning self.old.interner) self.old.inner) ((I.meaning self.old.interner).const_ b.now) }
         ensures lawful { IsLawful (I.meaning self.new.interner) self.new.inner }
         ensures grown { Extends (I.meaning self.old.interner) (I.meaning self.new.interner) }
-        ensures goes { Goes (weight (store_of (I.meaning self.old.interner) self.old.inner) ((I.meaning self.old.interner).tys a.now) + weight (store_of (I.meaning self.old.interner) self.old.inner) ((I.meaning self.old.interner).tys b.now)) (store_of (I.meaning self.old.interner) self.old.inner) (store_of (I.meaning self.new.interner) self.new.inner) }
-        ensures answers { AnsweredAll (I.meaning self.new.interner) (store_of (I.meaning self.old.interner) self.old.inner) (store_of (I.meaning self.new.interner) self.new.inner) ((I.meaning self.old.interner).tys a.now) ((I.meaning self.old.interner).tys b.now) result }
+        ensures goes { Goes (weight (store_of (I.meaning self.old.interner) self.old.inner) ((I.meaning self.old.interner).const_ a.now) + weight (store_of (I.meaning self.old.interner) self.old.inner) ((I.meaning self.old.interner).const_ b.now)) (store_of (I.meaning self.old.interner) self.old.inner) (store_of (I.meaning self.new.interner) self.new.inner) }
+        ensures answers { Answered (I.meaning self.new.interner) (store_of (I.meaning self.old.interner) self.old.inner) (store_of (I.meaning self.new.interner) self.new.inner) ((I.meaning self.old.interner).const_ a.now) ((I.meaning self.old.interner).const_ b.now) result }
         ensures why_known { IfErr result (KnowsFault (I.meaning self.new.interner)) }
     {
-        let n = self.count_of(a);
+        if a == b {
+            return Ok(());
+        }
+        compare_consts(&self.interner, a, b)?;
+        let n = const_parts_count(&self.interner, a);
         for i in 0..n {
-            let x = self.element(a, i);
-            let y = self.element(b, i);
-            self.relate_tys(&x, &y)?;
+            let x = const_part(&self.interner, a, i);
+            let y = const_part(&self.interner, b, i);
+            if let Err(fault) = self.relate_arg(&x, &y) {
+                return Err(of_const(&self.interner, a, b, fault));
+            }
         }
         Ok(())
     }
+}
+
+// The fault of two types where one of their parts has failed: lengths of arrays that differ are sizes that differ.
+#[tactic(none)]
+fn of_ty<I: Interner>(
+    cx: &I,
+    ty: &Ty<I>,
+    x: &GenericArg<I>,
+    y: &GenericArg<I>,
+    fault: RelateFaultOf<I>,
+) -> RelateFaultOf<I>
+    requires { IsTrue (known ((I.meaning cx.now).ty ty.now)) }
+    ensures { IsFaultOfTy ((I.meaning cx.now).ty ty.now) x.now y.now fault result }
+{
+    let RelateFault::Unrelated(TypeError::ConstMismatch(_)) = &fault else {
+        return fault;
+    };
+    let TyKind::Array(..) = cx.ty_kind(ty) else {
+        return fault;
+    };
+    let GenericArgKind::Const(x) = x else {
+        return fault;
+    };
+    let GenericArgKind::Const(y) = y else {
+        return fault;
+    };
+    RelateFault::Unrelated(TypeError::ArraySize(ExpectedFound::new(x.dup(), y.dup())))
+}
+
+// The fault of two constants where one of their parts has failed: where branches differ the whole values differ.
+fn of_const<I: Interner>(
+    cx: &I,
+    a: &Const<I>,
+    b: &Const<I>,
+    fault: RelateFaultOf<I>,
+) -> RelateFaultOf<I>
+    requires { IsTrue (known ((I.meaning cx.now).const_ a.now)) }
+    ensures { IsFaultOfConst ((I.meaning cx.now).const_ a.now) a.now b.now fault result }
+{
+    let RelateFault::Unrelated(_) = &fault else {
+        return fault;
+    };
+    let ConstKind::Value(..) = cx.const_kind(a) else {
+        return fault;
+    };
+    RelateFault::Unrelated(TypeError::ConstMismatch(ExpectedFound::new(a.dup(), b.dup())))
 }

@@ -2,16 +2,21 @@
 ghost use Rattle.std.specs.Prelude.{◌≡◌, ℕ, ◌+◌, ◌<◌, IsTrue, IsFalse, IfOk, IfErr, IfSome, IfNone, length};
 ghost use Rattle.relation_terms.specs.Heads.{type_var, variable};
 ghost use Rattle.relation_terms.specs.Trees.{leaf, known, apply, count, nth, Occurs, IsList};
-ghost use Rattle.relation_terms.specs.Meaning.{Extends};
+ghost use Rattle.relation_terms.specs.Meaning.{Extends, arg_tree, kind_tree};
 ghost use Rattle.type_relations.specs.Stores.{unbound, entry_of, resolved, weight, IsTermIn};
 ghost use Rattle.type_relations.specs.Measures.{Goes};
 ghost use Rattle.relation_tools.specs.Faults.{KnowsFault};
 ghost use Rattle.relation_reference.specs.Tables.{store_of, IsLawful, IsFormed};
-ghost use Rattle.relation_reference.specs.Answers.{Instantiated, StepsByInstantiating};
+ghost use Rattle.relation_reference.specs.Answers.{IsShallow, Instantiated, StepsByInstantiating};
 
+use crate::context::forms::{item_of, kind_of_item};
+use crate::context::parts::{const_part, const_parts_count, part, parts_count};
 use crate::context::variables::ty_vid;
 use crate::context::{RefCtxt, TypeVariableValue};
-use relation_terms::terms::{Dup, Interner, OutOfMemory, Ty, TyKind, TyVid, Tys};
+use relation_terms::terms::{
+    Branches, Const, ConstKind, Dup, GenericArg, GenericArgKind, GenericArgs, Interner, OutOfMemory,
+    Ty, TyForm, TyKind, TyVid, Tys, ValTree, ValTreeKind,
+};
 use relation_tools::error::{RelateFault, RelateFaultOf, TypeError};
 
 // Whether a type variable stands in a type.
@@ -21,26 +26,45 @@ fn occurs<I: Interner>(cx: &I, ty: &Ty<I>, var: TyVid) -> bool
     ensures stands { IsTrue result → Occurs type_var var.0 ((I.meaning cx.now).ty ty.now) }
     ensures absent { IsFalse result → Occurs type_var var.0 ((I.meaning cx.now).ty ty.now) → ⊥ }
 {
-    match cx.ty_kind(ty) {
-        TyKind::Bool => false,
-        TyKind::Char => false,
-        TyKind::Int(_) => false,
-        TyKind::Uint(_) => false,
-        TyKind::Slice(element) => occurs(cx, &element, var),
-        TyKind::Tuple(members) => occurs_in_list(cx, &members, var),
-        TyKind::Ref(_, pointee, _) => occurs(cx, &pointee, var),
-        TyKind::Infer(other) => ty_vid(other).0 == var.0,
+    if let TyKind::Infer(other) = cx.ty_kind(ty) {
+        return ty_vid(other).0 == var.0;
+    }
+    for i in 0..parts_count(cx, ty) {
+        if occurs_in_arg(cx, &part(cx, ty, i), var) {
+            return true;
+        }
+    }
+    false
+}
+
+// Whether it stands in an argument.
+#[cycle(occurs)]
+fn occurs_in_arg<I: Interner>(cx: &I, arg: &GenericArg<I>, var: TyVid) -> bool
+    requires { IsTrue (known (arg_tree (I.meaning cx.now) arg.now)) }
+    ensures stands { IsTrue result → Occurs type_var var.0 (arg_tree (I.meaning cx.now) arg.now) }
+    ensures absent { IsFalse result → Occurs type_var var.0 (arg_tree (I.meaning cx.now) arg.now) → ⊥ }
+{
+    match arg {
+        GenericArgKind::Lifetime(_) => false,
+        GenericArgKind::Ty(ty) => occurs(cx, ty, var),
+        GenericArgKind::Const(constant) => occurs_in_const(cx, constant, var),
     }
 }
 
+// Whether it stands in a constant, the types of values among its parts.
 #[cycle(occurs)]
-fn occurs_in_list<I: Interner>(cx: &I, tys: &Tys<I>, var: TyVid) -> bool
-    requires { IsTrue (known ((I.meaning cx.now).tys tys.now)) }
-    ensures stands { IsTrue result → Occurs type_var var.0 ((I.meaning cx.now).tys tys.now) }
-    ensures absent { IsFalse result → Occurs type_var var.0 ((I.meaning cx.now).tys tys.now) → ⊥ }
+fn occurs_in_const<I: Interner>(cx: &I, constant: &Const<I>, var: TyVid) -> bool
+    requires { IsTrue (known ((I.meaning cx.now).const_ constant.now)) }
+    ensures stands { IsTrue result → Occurs type_var var.0 ((I.meaning cx.now).const_ constant.now) }
+    ensures absent { IsFalse result → Occurs type_var var.0 ((I.meaning cx.now).const_ constant.now) → ⊥ }
 {
-    for ty in cx.tys(tys) {
-        if occurs(cx, ty, var) {
+    if let ConstKind::Value(ty, _) = cx.const_kind(constant) {
+        if occurs(cx, &ty, var) {
+            return true;
+        }
+    }
+    for i in 0..const_parts_count(cx, constant) {
+        if occurs_in_arg(cx, &const_part(cx, constant, i), var) {
             return true;
         }
     }
@@ -67,8 +91,47 @@ impl<I: Interner> RefCtxt<I> {
         self.interner.tys(tys)[i].dup()
     }
 
+    // The number of elements of a list.
+    fn args_count(&self, args: &GenericArgs<I>) -> usize
+        requires { IsTrue (known ((I.meaning self.now.interner).args args.now)) }
+        ensures counts { result ≡ count ((I.meaning self.now.interner).args args.now) }
+        ensures is_list { IsList ((I.meaning self.now.interner).args args.now) }
+    {
+        self.interner.args(args).len()
+    }
+
+    // The element at a place of a list.
+    fn arg(&self, args: &GenericArgs<I>, i: usize) -> GenericArg<I>
+        requires args_known { IsTrue (known ((I.meaning self.now.interner).args args.now)) }
+        requires in_bounds { i < count ((I.meaning self.now.interner).args args.now) }
+        ensures sure { IsTrue (known (arg_tree (I.meaning self.now.interner) result)) }
+        ensures means { arg_tree (I.meaning self.now.interner) result ≡ nth i ((I.meaning self.now.interner).args args.now) }
+    {
+        self.interner.args(args)[i].dup()
+    }
+
+    // The number of elements of a list.
+    fn branches_count(&self, branches: &Branches<I>) -> usize
+        requires { IsTrue (known ((I.meaning self.now.interner).branches branches.now)) }
+        ensures counts { result ≡ count ((I.meaning self.now.interner).branches branches.now) }
+        ensures is_list { IsList ((I.meaning self.now.interner).branches branches.now) }
+    {
+        self.interner.branches(branches).len()
+    }
+
+    // The element at a place of a list.
+    fn branch(&self, branches: &Branches<I>, i: usize) -> Const<I>
+        requires branches_known { IsTrue (known ((I.meaning self.now.interner).branches branches.now)) }
+        requires in_bounds { i < count ((I.meaning self.now.interner).branches branches.now) }
+        ensures sure { IsTrue (known ((I.meaning self.now.interner).const_ result)) }
+        ensures means { (I.meaning self.now.interner).const_ result ≡ nth i ((I.meaning self.now.interner).branches branches.now) }
+    {
+        self.interner.branches(branches)[i].dup()
+    }
+
     // The type with each variable that has a term replaced by it, at every depth, and each other by its root.
     #[cycle(resolve)]
+    #[tactic(none)]
     pub(crate) fn resolve_vars_if_possible(&mut self, ty: &Ty<I>) -> Result<Ty<I>, OutOfMemory>
         requires lawful { IsLawful (I.meaning self.old.interner) self.old.inner }
         requires ty_known { IsTrue (known ((I.meaning self.old.interner).ty ty.now)) }
@@ -79,33 +142,58 @@ impl<I: Interner> RefCtxt<I> {
         ensures resolves { IfOk result (λ t. (I.meaning self.new.interner).ty t ≡ apply (resolved (store_of (I.meaning self.old.interner) self.old.inner)) ((I.meaning self.old.interner).ty ty.now)) }
     {
         let ty = self.shallow_resolve(ty);
-        match self.interner.ty_kind(&ty) {
-            TyKind::Bool => Ok(ty),
-            TyKind::Char => Ok(ty),
-            TyKind::Int(_) => Ok(ty),
-            TyKind::Uint(_) => Ok(ty),
-            TyKind::Infer(_) => Ok(ty),
+        let kind = self.interner.ty_kind(&ty);
+        self.resolve_parts(&ty, &kind)
+    }
+
+    // The same of a type of a form that is resolved shallowly already.
+    #[cycle(resolve)]
+    #[tactic(none)]
+    fn resolve_parts(&mut self, ty: &Ty<I>, kind: &TyForm<I>) -> Result<Ty<I>, OutOfMemory>
+        requires lawful { IsLawful (I.meaning self.old.interner) self.old.inner }
+        requires ty_known { IsTrue (known ((I.meaning self.old.interner).ty ty.now)) }
+        requires ty_in { IsTermIn (store_of (I.meaning self.old.interner) self.old.inner) ((I.meaning self.old.interner).ty ty.now) }
+        requires shallow { IsShallow (store_of (I.meaning self.old.interner) self.old.inner) ((I.meaning self.old.interner).ty ty.now) }
+        requires of_form { (I.meaning self.old.interner).ty ty.now ≡ kind_tree (I.meaning self.old.interner) kind.now }
+        ensures inner { self.new.inner ≡ self.old.inner }
+        ensures grown { Extends (I.meaning self.old.interner) (I.meaning self.new.interner) }
+        ensures sure { IfOk result (λ t. IsTrue (known ((I.meaning self.new.interner).ty t))) }
+        ensures resolves { IfOk result (λ t. (I.meaning self.new.interner).ty t ≡ apply (resolved (store_of (I.meaning self.old.interner) self.old.inner)) ((I.meaning self.old.interner).ty ty.now)) }
+    {
+        if let Some(item) = item_of(kind) {
+            let args = self.resolve_args(&item.args)?;
+            let kind = kind_of_item(item.form, item.def_id, args);
+            return self.interner.mk_ty(kind);
+        }
+        match kind {
             TyKind::Slice(element) => {
-                let element = self.resolve_vars_if_possible(&element)?;
-                let made = self.interner.mk_ty(TyKind::Slice(element))?;
-                Ok(made)
+                let element = self.resolve_vars_if_possible(element)?;
+                self.interner.mk_ty(TyKind::Slice(element))
+            }
+            TyKind::RawPtr(pointee, mutability) => {
+                let pointee = self.resolve_vars_if_possible(pointee)?;
+                self.interner.mk_ty(TyKind::RawPtr(pointee, *mutability))
+            }
+            TyKind::Array(element, length) => {
+                let element = self.resolve_vars_if_possible(element)?;
+                let length = self.resolve_const(length)?;
+                self.interner.mk_ty(TyKind::Array(element, length))
             }
             TyKind::Tuple(members) => {
-                let members = self.resolve_list(&members)?;
-                let made = self.interner.mk_ty(TyKind::Tuple(members))?;
-                Ok(made)
+                let members = self.resolve_list(members)?;
+                self.interner.mk_ty(TyKind::Tuple(members))
             }
             TyKind::Ref(region, pointee, mutability) => {
-                let pointee = self.resolve_vars_if_possible(&pointee)?;
-                let made = self
-                    .interner
-                    .mk_ty(TyKind::Ref(region, pointee, mutability))?;
-                Ok(made)
+                let pointee = self.resolve_vars_if_possible(pointee)?;
+                self.interner
+                    .mk_ty(TyKind::Ref(region.dup(), pointee, *mutability))
             }
+            _ => Ok(ty.dup()),
         }
     }
 
     #[cycle(resolve)]
+    #[tactic(none)]
     fn resolve_list(&mut self, tys: &Tys<I>) -> Result<Tys<I>, OutOfMemory>
         requires lawful { IsLawful (I.meaning self.old.interner) self.old.inner }
         requires tys_known { IsTrue (known ((I.meaning self.old.interner).tys tys.now)) }
@@ -122,8 +210,119 @@ impl<I: Interner> RefCtxt<I> {
             let ty = self.resolve_vars_if_possible(&ty)?;
             list.push(ty)?;
         }
-        let made = self.interner.mk_type_list(list.as_slice())?;
-        Ok(made)
+        self.interner.mk_type_list(list.as_slice())
+    }
+
+    #[cycle(resolve)]
+    #[tactic(none)]
+    fn resolve_arg(&mut self, arg: &GenericArg<I>) -> Result<GenericArg<I>, OutOfMemory>
+        requires lawful { IsLawful (I.meaning self.old.interner) self.old.inner }
+        requires arg_known { IsTrue (known (arg_tree (I.meaning self.old.interner) arg.now)) }
+        requires arg_in { IsTermIn (store_of (I.meaning self.old.interner) self.old.inner) (arg_tree (I.meaning self.old.interner) arg.now) }
+        ensures inner { self.new.inner ≡ self.old.inner }
+        ensures grown { Extends (I.meaning self.old.interner) (I.meaning self.new.interner) }
+        ensures sure { IfOk result (λ t. IsTrue (known (arg_tree (I.meaning self.new.interner) t))) }
+        ensures resolves { IfOk result (λ t. arg_tree (I.meaning self.new.interner) t ≡ apply (resolved (store_of (I.meaning self.old.interner) self.old.inner)) (arg_tree (I.meaning self.old.interner) arg.now)) }
+    {
+        match arg {
+            GenericArgKind::Lifetime(region) => Ok(GenericArgKind::Lifetime(region.dup())),
+            GenericArgKind::Ty(ty) => {
+                let ty = self.resolve_vars_if_possible(ty)?;
+                Ok(GenericArgKind::Ty(ty))
+            }
+            GenericArgKind::Const(constant) => {
+                let constant = self.resolve_const(constant)?;
+                Ok(GenericArgKind::Const(constant))
+            }
+        }
+    }
+
+    #[cycle(resolve)]
+    #[tactic(none)]
+    fn resolve_args(&mut self, args: &GenericArgs<I>) -> Result<GenericArgs<I>, OutOfMemory>
+        requires lawful { IsLawful (I.meaning self.old.interner) self.old.inner }
+        requires args_known { IsTrue (known ((I.meaning self.old.interner).args args.now)) }
+        requires args_in { IsTermIn (store_of (I.meaning self.old.interner) self.old.inner) ((I.meaning self.old.interner).args args.now) }
+        ensures inner { self.new.inner ≡ self.old.inner }
+        ensures grown { Extends (I.meaning self.old.interner) (I.meaning self.new.interner) }
+        ensures sure { IfOk result (λ t. IsTrue (known ((I.meaning self.new.interner).args t))) }
+        ensures resolves { IfOk result (λ t. (I.meaning self.new.interner).args t ≡ apply (resolved (store_of (I.meaning self.old.interner) self.old.inner)) ((I.meaning self.old.interner).args args.now)) }
+    {
+        let count = self.args_count(args);
+        let mut list = Vec::new(self.interner.alloc());
+        for i in 0..count {
+            let arg = self.arg(args, i);
+            let arg = self.resolve_arg(&arg)?;
+            list.push(arg)?;
+        }
+        self.interner.mk_args(list.as_slice())
+    }
+
+    #[cycle(resolve)]
+    #[tactic(none)]
+    fn resolve_const(&mut self, constant: &Const<I>) -> Result<Const<I>, OutOfMemory>
+        requires lawful { IsLawful (I.meaning self.old.interner) self.old.inner }
+        requires constant_known { IsTrue (known ((I.meaning self.old.interner).const_ constant.now)) }
+        requires constant_in { IsTermIn (store_of (I.meaning self.old.interner) self.old.inner) ((I.meaning self.old.interner).const_ constant.now) }
+        ensures inner { self.new.inner ≡ self.old.inner }
+        ensures grown { Extends (I.meaning self.old.interner) (I.meaning self.new.interner) }
+        ensures sure { IfOk result (λ t. IsTrue (known ((I.meaning self.new.interner).const_ t))) }
+        ensures resolves { IfOk result (λ t. (I.meaning self.new.interner).const_ t ≡ apply (resolved (store_of (I.meaning self.old.interner) self.old.inner)) ((I.meaning self.old.interner).const_ constant.now)) }
+    {
+        match self.interner.const_kind(constant) {
+            ConstKind::Param(_) => Ok(constant.dup()),
+            ConstKind::Placeholder(_) => Ok(constant.dup()),
+            ConstKind::Value(ty, value) => {
+                let ty = self.resolve_vars_if_possible(&ty)?;
+                let value = self.resolve_value(&value)?;
+                self.interner.mk_const(ConstKind::Value(ty, value))
+            }
+            ConstKind::Expr(kind, args) => {
+                let args = self.resolve_args(&args)?;
+                self.interner.mk_const(ConstKind::Expr(kind, args))
+            }
+        }
+    }
+
+    #[cycle(resolve)]
+    #[tactic(none)]
+    fn resolve_value(&mut self, value: &ValTree<I>) -> Result<ValTree<I>, OutOfMemory>
+        requires lawful { IsLawful (I.meaning self.old.interner) self.old.inner }
+        requires value_known { IsTrue (known ((I.meaning self.old.interner).valtree value.now)) }
+        requires value_in { IsTermIn (store_of (I.meaning self.old.interner) self.old.inner) ((I.meaning self.old.interner).valtree value.now) }
+        ensures inner { self.new.inner ≡ self.old.inner }
+        ensures grown { Extends (I.meaning self.old.interner) (I.meaning self.new.interner) }
+        ensures sure { IfOk result (λ t. IsTrue (known ((I.meaning self.new.interner).valtree t))) }
+        ensures resolves { IfOk result (λ t. (I.meaning self.new.interner).valtree t ≡ apply (resolved (store_of (I.meaning self.old.interner) self.old.inner)) ((I.meaning self.old.interner).valtree value.now)) }
+    {
+        match self.interner.valtree_kind(value) {
+            ValTreeKind::Leaf { .. } => Ok(value.dup()),
+            ValTreeKind::Branch(branches) => {
+                let branches = self.resolve_branches(&branches)?;
+                self.interner.mk_valtree(ValTreeKind::Branch(branches))
+            }
+        }
+    }
+
+    #[cycle(resolve)]
+    #[tactic(none)]
+    fn resolve_branches(&mut self, branches: &Branches<I>) -> Result<Branches<I>, OutOfMemory>
+        requires lawful { IsLawful (I.meaning self.old.interner) self.old.inner }
+        requires branches_known { IsTrue (known ((I.meaning self.old.interner).branches branches.now)) }
+        requires branches_in { IsTermIn (store_of (I.meaning self.old.interner) self.old.inner) ((I.meaning self.old.interner).branches branches.now) }
+        ensures inner { self.new.inner ≡ self.old.inner }
+        ensures grown { Extends (I.meaning self.old.interner) (I.meaning self.new.interner) }
+        ensures sure { IfOk result (λ t. IsTrue (known ((I.meaning self.new.interner).branches t))) }
+        ensures resolves { IfOk result (λ t. (I.meaning self.new.interner).branches t ≡ apply (resolved (store_of (I.meaning self.old.interner) self.old.inner)) ((I.meaning self.old.interner).branches branches.now)) }
+    {
+        let count = self.branches_count(branches);
+        let mut list = Vec::new(self.interner.alloc());
+        for i in 0..count {
+            let branch = self.branch(branches, i);
+            let branch = self.resolve_const(&branch)?;
+            list.push(branch)?;
+        }
+        self.interner.mk_branches(list.as_slice())
     }
 
     // The variable that a type is, or none.

@@ -1,29 +1,83 @@
-use Rattle.std.proofs.Common.{rules, sym, subst, subst₂, arith, IsTrue, ◌<◌, refl}
+use Rattle.std.proofs.Common.{rules, ◌≡◌, ◌∙◌, ◌+◌, ◌*◌, sym, ap, subst, arith, ◌<◌, refl}
+use Rattle.std.proofs.lemmas.Bool.{true≢false, false≢true}
 use Rattle.relation_terms.specs.Heads.{type_var}
-use Rattle.relation_terms.specs.Trees.{known, size, Occurs}
-use Rattle.relation_reference.proofs.Lists.{part_known, part_size, part_occurs, none_occurs}
+use Rattle.relation_terms.specs.Trees.{known, size, Occurs, IsTerm}
+use Rattle.relation_terms.specs.Meaning.{arg_tree, const_tree}
+use Rattle.relation_terms.specs.declared.terms.keys.TyKey.{TyKey}
+use Rattle.relation_terms.specs.declared.terms.keys.ValTreeKey.{ValTreeKey}
+use Rattle.relation_terms.specs.declared.terms.const_kind.ConstKind.TheVariants.{Value}
+use Rattle.relation_reference.specs.Parts.{parts_of, const_parts_of}
+use Rattle.relation_reference.specs.Tables.{IsFormed}
+use Rattle.relation_reference.proofs.Parts.{size_part, size_const_part, occurs_nth, occurs_parts, occurs_const_parts, nowhere, occurs_formed, nowhere_in_const, kind_formed, only_type}
+use Rattle.relation_reference.proofs.context.resolving.+occurs.Goals.{occurs_in_const-in-Value+else-occurs, occurs_in_const-in_default+in-Param-1, occurs_in_const-in_default+in-Placeholder-1, occurs_in_const-in_default+in-Expr-1, occurs_in_const-in_default+in-Value-1}
 use Rattle.relation_reference.proofs.context.resolving.+occurs.Goals as goal
 
-pub occurs_in_list-occurs-requires : goal.occurs_in_list-occurs-requires
-occurs_in_list-occurs-requires g t c κs within =
+pub occurs-occurs_in_arg-requires : goal.occurs-occurs_in_arg-requires
+occurs-occurs_in_arg-requires g t c κs within =
     let m = g.I.Interner.meaning c.args.cx.now in
-    let xs = c.tys-ty-items.result.now in
     let d = c.decreases in
-    let small : size (m.ty c.ty-item.result) < size (m.tys c.args.tys.now) =
-    subst₂ (λ k u. size (m.ty k) < size u) (sym c.ty-item.is) (sym c.tys-ty-items.ensures) (part_size m.ty xs c.loop-ty.ty-index c.ty-item.result c.loop-ty-test.true) in
-    let sure : IsTrue (known (m.ty c.ty-item.result)) =
-    subst (λ k. IsTrue (known (m.ty k))) (sym c.ty-item.is) (part_known m.ty xs c.loop-ty.ty-index c.ty-item.result c.loop-ty-test.true (subst (λ u. IsTrue (known u)) c.tys-ty-items.ensures c.requires)) in
+    let a = c.part.ensures.means in
+    let small : 2 * size (arg_tree m c.part.result) + 1 < 2 * size (m.ty c.args.ty.now) =
+        (let e = ap size a in let f = size_part (m.ty c.args.ty.now) c.loop-i.i (omega (arith, c.loop-i-test.true, c.parts_count-i-end.ensures.counts)) in omega (arith, e, f)) in
+    let sure = c.part.ensures.sure in
     search rules
 
-pub occurs_in_list-returns-then-occurs-clause-stands : goal.occurs_in_list-returns-then-occurs-clause-stands
-occurs_in_list-returns-then-occurs-clause-stands g t c _ =
+pub occurs-returns-then-occurs_in_arg : goal.occurs-returns-then-occurs_in_arg
+occurs-returns-then-occurs_in_arg g t c =
     let m = g.I.Interner.meaning c.args.cx.now in
-    let xs = c.tys-ty-items.result.now in
-    subst (Occurs type_var c.args.var.0) (sym c.tys-ty-items.ensures) (part_occurs m.ty xs c.args.var.0 c.loop-ty.ty-index c.ty-item.result c.loop-ty-test.true
-    (subst (λ k. Occurs type_var c.args.var.0 (m.ty k)) c.ty-item.is (c.if-occurs.ensures.stands refl)))
+    let u = m.ty c.args.ty.now in
+    record {
+      stands = λ h. occurs_parts type_var c.args.var.0 u (occurs_nth type_var c.args.var.0 (parts_of u) c.loop-i.i
+          (omega (arith, c.loop-i-test.true, c.parts_count-i-end.ensures.counts))
+          (subst (Occurs type_var c.args.var.0) c.part.ensures.means (c.occurs_in_arg.ensures.stands c.if-occurs_in_arg.true)));
+      absent = λ h o. true≢false h;
+    }
 
-pub occurs_in_list-returns-clause-absent : goal.occurs_in_list-returns-clause-absent
-occurs_in_list-returns-clause-absent g t c _ o =
+pub occurs-returns : goal.occurs-returns
+occurs-returns g t c =
     let m = g.I.Interner.meaning c.args.cx.now in
-    let xs = c.tys-ty-items.result.now in
-    none_occurs m.ty xs c.args.var.0 (λ i d h. c.loop-ty.invariant i d (omega (arith, h, c.loop-ty-test.false))) (subst (Occurs type_var c.args.var.0) c.tys-ty-items.ensures o)
+    let u = m.ty c.args.ty.now in
+    let is_formed = subst IsFormed (sym c.ty_kind.ensures) (kind_formed m c.ty_kind.result c.in_default.not-Infer) in
+    record {
+      stands = λ h. absurd (false≢true h);
+      absent = λ h o. nowhere type_var c.args.var.0 (parts_of u) c.parts_count-i-end.ensures.is_list
+          (λ i j. c.loop-i.invariant i (omega (arith, j, c.loop-i-test.false, c.parts_count-i-end.ensures.counts)))
+          (occurs_formed c.args.var.0 u is_formed o);
+    }
+
+pub occurs_in_const-occurs_in_arg-requires : goal.occurs_in_const-occurs_in_arg-requires
+occurs_in_const-occurs_in_arg-requires g t c κs within =
+    let m = g.I.Interner.meaning c.args.cx.now in
+    let d = c.decreases in
+    let a = c.const_part.ensures.means in
+    let small : 2 * size (arg_tree m c.const_part.result) + 1 < 2 * size (m.const_ c.args.constant.now) =
+        (let e = ap size a in let f = size_const_part (m.const_ c.args.constant.now) c.loop-i.i (omega (arith, c.loop-i-test.true, c.const_parts_count-i-end.ensures.counts)) in omega (arith, e, f)) in
+    let sure = c.const_part.ensures.sure in
+    search rules
+
+pub occurs_in_const-returns-then-occurs_in_arg-clause-stands : goal.occurs_in_const-returns-then-occurs_in_arg-clause-stands
+occurs_in_const-returns-then-occurs_in_arg-clause-stands g t c h =
+    let m = g.I.Interner.meaning c.args.cx.now in
+    let u = m.const_ c.args.constant.now in
+    occurs_const_parts type_var c.args.var.0 u (occurs_nth type_var c.args.var.0 (const_parts_of u) c.loop-i.i
+        (omega (arith, c.loop-i-test.true, c.const_parts_count-i-end.ensures.counts))
+        (subst (Occurs type_var c.args.var.0) c.const_part.ensures.means (c.occurs_in_arg.ensures.stands c.if-occurs_in_arg.true)))
+
+pub occurs_in_const-returns-clause-absent : goal.occurs_in_const-returns-clause-absent
+occurs_in_const-returns-clause-absent g t c h o =
+    let m = g.I.Interner.meaning c.args.cx.now in
+    let u = m.const_ c.args.constant.now in
+    let n = c.args.var.0 in
+    let k = c.const_kind.result in
+    let e : u ≡ const_tree m k = c.const_kind.ensures in
+    let in_type : (ty : TyKey g.row.I-Key.Denot) (v : ValTreeKey g.row.I-Key.Denot) → k ≡ Value ty v → Occurs type_var n (m.ty ty) → ⊥ =
+        elim c.match-const_kind.branch [
+          occurs_in_const-in-Value+else-occurs w ↦ only_type m n k w.in-Value.ty w.in-Value.field-1 w.in-Value.is (w.occurs.ensures.absent w.if-occurs.false)
+        | occurs_in_const-in_default+in-Param-1 w ↦ λ ty v q. absurd (w.in_default.not-Value ty v q)
+        | occurs_in_const-in_default+in-Placeholder-1 w ↦ λ ty v q. absurd (w.in_default.not-Value ty v q)
+        | occurs_in_const-in_default+in-Expr-1 w ↦ λ ty v q. absurd (w.in_default.not-Value ty v q)
+        | occurs_in_const-in_default+in-Value-1 w ↦ λ ty v q. absurd (w.in_default.not-Value ty v q) ] in
+    let in_parts : Occurs type_var n (const_parts_of u) → ⊥ = nowhere type_var n (const_parts_of u) c.const_parts_count-i-end.ensures.is_list
+        (λ i j. c.loop-i.invariant i (omega (arith, j, c.loop-i-test.false, c.const_parts_count-i-end.ensures.counts))) in
+    nowhere_in_const m n k (subst (IsTerm _) e (g.met.I.Interner.is_const c.args.cx.now c.args.constant.now c.requires)) in_type
+        (λ p. in_parts (subst (λ z. Occurs type_var n (const_parts_of z)) (sym e) p)) (subst (Occurs type_var n) e o)

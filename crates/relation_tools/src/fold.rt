@@ -1,0 +1,86 @@
+//! Folds: a term built anew, where a folder puts other types, regions and constants for those that it has.
+ghost use Rattle.std.specs.Prelude.{◌≡◌, IsTrue, IfOk, Option};
+ghost use Rattle.relation_terms.specs.Trees.{Tree, known};
+ghost use Rattle.relation_terms.specs.Meaning.{Meaning, Extends};
+ghost use Rattle.relation_tools.specs.Folds.{Steps, folded, answered, KnownAnswer};
+
+use relation_terms::terms::{Const, Interner, OutOfMemory, Region, Ty};
+
+mod foldable;
+mod lists;
+mod walk;
+
+pub use walk::{
+    fold_arg_with, fold_args_with, fold_branches_with, fold_const_with, fold_region_with,
+    fold_ty_with, fold_tys_with, fold_valtree_with, super_fold_const, super_fold_ty,
+};
+
+/// What a folder answers at a type, a region or a constant.
+#[derive(PartialEq, Eq, Debug, Drop)]
+pub enum Fold<T> {
+    /// Nothing is put for the term, and its parts are folded.
+    Descend,
+    /// This term stands in the place of the given one, as it is.
+    Replace(T),
+}
+
+/// What puts terms for the types, regions and constants of a term.
+///
+/// A folder is asked at each of them from the outside inwards, and never folds by itself: `fold_with` goes into the parts
+/// where the folder says so. Its answer depends on the term alone.
+pub trait TypeFolder<I: Interner> {
+    // What the folder needs to find in an interner.
+    ghost ready: { Meaning I.Key I.Id I.Name → Self → Type 0 };
+
+    // What it puts for a tree, if anything.
+    ghost replaces: { Meaning I.Key I.Id I.Name → Self → Tree → Option Tree };
+
+    /// What stands in the place of a type.
+    fn fold_ty(&mut self, cx: &mut I, ty: &Ty<I>) -> Result<Fold<Ty<I>>, OutOfMemory>
+        requires known { IsTrue (known ((I.meaning cx.old).ty ty.now)) }
+        requires ready { ready (I.meaning cx.old) self.old }
+        ensures steps { Steps ready replaces (I.meaning cx.old) self.old (I.meaning cx.new) self.new }
+        ensures sure { IfOk result (λ a. KnownAnswer (I.meaning cx.new).ty a) }
+        ensures made { IfOk result (λ a. replaces (I.meaning cx.old) self.old ((I.meaning cx.old).ty ty.now) ≡ answered (I.meaning cx.new).ty a) };
+
+    /// What stands in the place of a region.
+    fn fold_region(&mut self, cx: &mut I, region: &Region<I>) -> Result<Fold<Region<I>>, OutOfMemory>
+        requires known { IsTrue (known ((I.meaning cx.old).region region.now)) }
+        requires ready { ready (I.meaning cx.old) self.old }
+        ensures steps { Steps ready replaces (I.meaning cx.old) self.old (I.meaning cx.new) self.new }
+        ensures sure { IfOk result (λ a. KnownAnswer (I.meaning cx.new).region a) }
+        ensures made { IfOk result (λ a. replaces (I.meaning cx.old) self.old ((I.meaning cx.old).region region.now) ≡ answered (I.meaning cx.new).region a) };
+
+    /// What stands in the place of a constant.
+    fn fold_const(&mut self, cx: &mut I, constant: &Const<I>) -> Result<Fold<Const<I>>, OutOfMemory>
+        requires known { IsTrue (known ((I.meaning cx.old).const_ constant.now)) }
+        requires ready { ready (I.meaning cx.old) self.old }
+        ensures steps { Steps ready replaces (I.meaning cx.old) self.old (I.meaning cx.new) self.new }
+        ensures sure { IfOk result (λ a. KnownAnswer (I.meaning cx.new).const_ a) }
+        ensures made { IfOk result (λ a. replaces (I.meaning cx.old) self.old ((I.meaning cx.old).const_ constant.now) ≡ answered (I.meaning cx.new).const_ a) };
+
+    // A folder that is ready stays so while the interner grows, and puts the same.
+    ghost ready_on: { (m n : Meaning I.Key I.Id I.Name) → Extends m n → (f : Self) → ready m f → ready n f };
+
+    ghost replaces_on: { (m n : Meaning I.Key I.Id I.Name) → Extends m n → (f : Self) → ready m f → (t : Tree) → replaces n f t ≡ replaces m f t };
+}
+
+/// What has types, regions or constants: a key of a term, or a form over keys.
+pub trait TypeFoldable<I: Interner> {
+    // The tree, or the list of trees, that it means.
+    ghost tree: { Meaning I.Key I.Id I.Name → Self → Tree };
+
+    /// What the folder makes of it. Each type, region and constant that the folder replaces stands as the folder gave it,
+    /// and all others over their folded parts.
+    ///
+    /// Answers `OutOfMemory` where a growth was refused, in the folder too.
+    fn fold_with<F: TypeFolder<I>>(&self, cx: &mut I, folder: &mut F) -> Result<Self, OutOfMemory>
+        requires known { IsTrue (known (tree (I.meaning cx.old) self.now)) }
+        requires ready { F.ready (I.meaning cx.old) folder.old }
+        ensures steps { Steps F.ready F.replaces (I.meaning cx.old) folder.old (I.meaning cx.new) folder.new }
+        ensures sure { IfOk result (λ x. IsTrue (known (tree (I.meaning cx.new) x))) }
+        ensures made { IfOk result (λ x. tree (I.meaning cx.new) x ≡ folded (F.replaces (I.meaning cx.old) folder.old) (tree (I.meaning cx.old) self.now)) };
+
+    // What is known keeps its tree while the interner grows.
+    ghost stays: { (m n : Meaning I.Key I.Id I.Name) → Extends m n → (x : Self) → IsTrue (known (tree m x)) → tree n x ≡ tree m x };
+}
