@@ -1,8 +1,5 @@
-<<<<<<< HEAD
 pub mod Visiting
 pub mod Errors
 pub mod Searching
 pub mod Walking
-=======
 pub mod Folding
->>>>>>> h-fold

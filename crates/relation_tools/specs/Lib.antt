@@ -1,6 +1,3 @@
 pub mod Faults
-<<<<<<< HEAD
 pub mod Visits
-=======
 pub mod Folds
->>>>>>> h-fold
