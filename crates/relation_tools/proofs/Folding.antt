@@ -3,24 +3,25 @@ use Rattle.std.proofs.Common.{ℕ, zero, suc, ◌+◌, ◌<◌, ◌≡◌, IsTru
 use Rattle.std.proofs.Common.{◌*◌, ◌≤◌, length, get_or, take, Option, Some, None, Result, Ok, Err, IfOk, refl}
 use Rattle.std.proofs.Common.{ap, ap₂, sym, ◌∙◌, subst, subst₂, arith}
 use Rattle.std.proofs.lemmas.Bool.{and_parts}
-use Rattle.relation_terms.specs.Heads.{Sort, region_sort, type_sort, const_sort, Admits, leaf_sort, head_sort, Head, array}
+use Rattle.relation_terms.specs.Heads.{Sort, region_sort, type_sort, const_sort, Admits, leaf_sort, head_sort, Head}
+use Rattle.relation_terms.specs.Heads.{array}
 use Rattle.relation_terms.specs.Trees.{Tree, leaf, node, bind, nil, cons, known, list_tree, size, IsTerm}
 use Rattle.relation_terms.specs.Meaning.{Meaning, Extends, kind_tree, const_tree}
 use Rattle.relation_terms.specs.declared.terms.ty_kind.TyKind.{TyKind}
-use Rattle.relation_terms.specs.declared.terms.ty_kind.TyKind.TheVariants.{Bool as TyBool, Char, Int, Uint, Float, Adt, Foreign}
+use Rattle.relation_terms.specs.declared.terms.ty_kind.TyKind.TheVariants.{Bool as TyBool, Char, Int, Uint, Float}
+use Rattle.relation_terms.specs.declared.terms.ty_kind.TyKind.TheVariants.{Adt, Foreign}
 use Rattle.relation_terms.specs.declared.terms.ty_kind.TyKind.TheVariants.{Str, Array, Slice, RawPtr, Ref, FnDef}
 use Rattle.relation_terms.specs.declared.terms.ty_kind.TyKind.TheVariants.{Closure, CoroutineClosure, Coroutine}
 use Rattle.relation_terms.specs.declared.terms.ty_kind.TyKind.TheVariants.{CoroutineWitness, Never, Tuple, Infer}
-use Rattle.relation_terms.specs.declared.terms.ty_kind.TyKind.TheVariants.{Param as TyParam, Placeholder as TyPlaceholder}
+use Rattle.relation_terms.specs.declared.terms.ty_kind.TyKind.TheVariants.{Param as TyParam}
+use Rattle.relation_terms.specs.declared.terms.ty_kind.TyKind.TheVariants.{Placeholder as TyPlaceholder}
 use Rattle.relation_terms.specs.declared.terms.ty_kind.InferTy.TheVariants.{TyVar}
 use Rattle.relation_terms.specs.declared.terms.const_kind.ConstKind.{ConstKind}
 use Rattle.relation_terms.specs.declared.terms.const_kind.ConstKind.TheVariants.{Param as ConstParam}
 use Rattle.relation_terms.specs.declared.terms.const_kind.ConstKind.TheVariants.{Placeholder as ConstPlaceholder}
 use Rattle.relation_terms.specs.declared.terms.const_kind.ConstKind.TheVariants.{Value, Expr}
 use Rattle.relation_terms.proofs.Stays.{extends_on, stays_same, stays_list, knows_as}
-use Rattle.relation_tools.specs.Folds.{Steps, asks, put_or, folded, folded_parts, answered}
-use Rattle.relation_tools.specs.declared.fold.Fold.{Fold}
-use Rattle.relation_tools.specs.declared.fold.Fold.TheVariants.{Descend, Replace}
+use Rattle.relation_tools.specs.Folds.{Steps, asks, put_or, folded, folded_parts}
 
 -- Folders that put the same make the same.
 pub folded_alike : (f g : Tree → Option Tree) → ((t : Tree) → g t ≡ f t) → (t : Tree) → folded g t ≡ folded f t
@@ -111,7 +112,7 @@ module _ {Key Id Name F : Type 0} {Ready : Meaning Key Id Name → F → Type 0}
   }
 
   pub steps_none : (m : Meaning Key Id Name) (f : F) → Ready m f → Steps Ready puts m f m f
-  steps_none m f r = record { grown = stays_same m; ready = r; kept = λ x. refl; }
+  steps_none m f r = record { grown = stays_same m; ready = r; kept = λ x. refl }
 
 -- A list whose members are made of the members of another.
 pub record Listed {A : Type 0} (puts : Tree → Option Tree) (f g : A → Tree) (xs ys : List A) : Type 0 where
@@ -184,7 +185,8 @@ if_ok_both (Err e) f p q = p
 
 -- What is made of a form's parts.
 module _ (p : Tree → Option Tree) (h : Head) (w : Tree) where
-  pub list_made : (h' : Head) (ts us : Tree) → h' ≡ h → w ≡ node h ts → us ≡ folded p ts → node h' us ≡ folded_parts p w
+  pub list_made : (h' : Head) (ts us : Tree) → h' ≡ h → w ≡ node h ts → us ≡ folded p ts → node h' us ≡ folded_parts
+      p w
   list_made h' ts us i e q = ap₂ (λ x y. node x y) i q ∙ ap (folded_parts p) (sym e)
 
   pub one_made : (t u : Tree) → w ≡ node h (cons t nil) → u ≡ folded p t → node h (cons u nil) ≡ folded_parts p w

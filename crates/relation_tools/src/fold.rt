@@ -44,7 +44,11 @@ pub trait TypeFolder<I: Interner> {
         ensures made { IfOk result (λ a. replaces (I.meaning cx.old) self.old ((I.meaning cx.old).ty ty.now) ≡ answered (I.meaning cx.new).ty a) };
 
     /// What stands in the place of a region.
-    fn fold_region(&mut self, cx: &mut I, region: &Region<I>) -> Result<Fold<Region<I>>, OutOfMemory>
+    fn fold_region(
+        &mut self,
+        cx: &mut I,
+        region: &Region<I>,
+    ) -> Result<Fold<Region<I>>, OutOfMemory>
         requires known { IsTrue (known ((I.meaning cx.old).region region.now)) }
         requires ready { ready (I.meaning cx.old) self.old }
         ensures steps { Steps ready replaces (I.meaning cx.old) self.old (I.meaning cx.new) self.new }

@@ -1,15 +1,13 @@
 //! What can be folded: keys of terms, generic arguments, terms of projections, and pairs in errors.
-ghost use Rattle.std.specs.Prelude.{true, ◌&&◌};
-ghost use Rattle.std.proofs.Common.{ap₂};
-ghost use Rattle.std.proofs.lemmas.Bool.{and_parts};
+ghost use Rattle.std.specs.Prelude.{[], ◌∷◌};
 ghost use Rattle.relation_terms.specs.Meaning.{arg_tree, term_tree};
-ghost use Rattle.relation_terms.specs.Trees.{nil, cons, known};
-ghost use Rattle.relation_terms.proofs.Stays.{stays_arg, stays_term};
+ghost use Rattle.relation_terms.specs.Trees.{list_tree};
+ghost use Rattle.relation_terms.proofs.Stays.{stays_arg, stays_list, stays_term};
 
 use crate::error::ExpectedFound;
 use crate::fold::{
-    fold_arg_with, fold_args_with, fold_branches_with, fold_const_with, fold_region_with,
-    fold_ty_with, fold_tys_with, fold_valtree_with, TypeFoldable, TypeFolder,
+    TypeFoldable, TypeFolder, fold_arg_with, fold_args_with, fold_branches_with, fold_const_with,
+    fold_region_with, fold_ty_with, fold_tys_with, fold_valtree_with,
 };
 use relation_terms::terms::{
     ArgsKey, BranchesKey, ConstKey, GenericArgKind, Interner, OutOfMemory, RegionKey, TermKind,
@@ -102,7 +100,9 @@ impl<I: Interner> TypeFoldable<I> for TermKind<I::Key> {
     fn fold_with<F: TypeFolder<I>>(&self, cx: &mut I, folder: &mut F) -> Result<Self, OutOfMemory> {
         match self {
             TermKind::Ty(ty) => Ok(TermKind::Ty(fold_ty_with(cx, ty, folder)?)),
-            TermKind::Const(constant) => Ok(TermKind::Const(fold_const_with(cx, constant, folder)?)),
+            TermKind::Const(constant) => Ok(TermKind::Const(fold_const_with(
+                cx, constant, folder,
+            )?)),
         }
     }
 
@@ -110,7 +110,7 @@ impl<I: Interner> TypeFoldable<I> for TermKind<I::Key> {
 }
 
 impl<I: Interner, T: TypeFoldable<I> + Drop> TypeFoldable<I> for ExpectedFound<T> {
-    ghost tree = { λ m p. cons (T.tree m p.expected) (cons (T.tree m p.found) nil) };
+    ghost tree = { λ m p. list_tree (T.tree m) (p.expected ∷ p.found ∷ []) };
 
     fn fold_with<F: TypeFolder<I>>(&self, cx: &mut I, folder: &mut F) -> Result<Self, OutOfMemory> {
         let expected = self.expected.fold_with(cx, folder)?;
@@ -118,5 +118,5 @@ impl<I: Interner, T: TypeFoldable<I> + Drop> TypeFoldable<I> for ExpectedFound<T
         Ok(ExpectedFound { expected, found })
     }
 
-    ghost stays = { λ m n e p h. ap₂ (λ x y. cons x (cons y nil)) (T.stays m n e p.expected (and_parts (known (T.tree m p.expected)) (known (T.tree m p.found) && true) h).0) (T.stays m n e p.found (and_parts (known (T.tree m p.found)) true (and_parts (known (T.tree m p.expected)) (known (T.tree m p.found) && true) h).1).0) };
+    ghost stays = { λ m n e p h. stays_list (T.tree m) (T.tree n) (p.expected ∷ p.found ∷ []) (T.stays m n e) h };
 }

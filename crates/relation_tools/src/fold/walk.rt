@@ -14,7 +14,11 @@ use relation_terms::terms::{
 /// What the folder makes of a type: what it puts for it, or else the type with its parts folded.
 #[cycle(walk)]
 #[tactic(auto, using(crate::proofs::Folding::steps_on, crate::proofs::Folding::part_known))]
-pub fn fold_ty_with<I: Interner, F: TypeFolder<I>>(cx: &mut I, ty: &Ty<I>, folder: &mut F) -> Result<Ty<I>, OutOfMemory>
+pub fn fold_ty_with<I: Interner, F: TypeFolder<I>>(
+    cx: &mut I,
+    ty: &Ty<I>,
+    folder: &mut F,
+) -> Result<Ty<I>, OutOfMemory>
     requires known { IsTrue (known ((I.meaning cx.old).ty ty.now)) }
     requires ready { F.ready (I.meaning cx.old) folder.old }
     ensures steps { Steps F.ready F.replaces (I.meaning cx.old) folder.old (I.meaning cx.new) folder.new }
@@ -29,7 +33,11 @@ pub fn fold_ty_with<I: Interner, F: TypeFolder<I>>(cx: &mut I, ty: &Ty<I>, folde
 }
 
 /// What the folder makes of a region.
-pub fn fold_region_with<I: Interner, F: TypeFolder<I>>(cx: &mut I, region: &Region<I>, folder: &mut F) -> Result<Region<I>, OutOfMemory>
+pub fn fold_region_with<I: Interner, F: TypeFolder<I>>(
+    cx: &mut I,
+    region: &Region<I>,
+    folder: &mut F,
+) -> Result<Region<I>, OutOfMemory>
     requires known { IsTrue (known ((I.meaning cx.old).region region.now)) }
     requires ready { F.ready (I.meaning cx.old) folder.old }
     ensures steps { Steps F.ready F.replaces (I.meaning cx.old) folder.old (I.meaning cx.new) folder.new }
@@ -46,7 +54,11 @@ pub fn fold_region_with<I: Interner, F: TypeFolder<I>>(cx: &mut I, region: &Regi
 /// What the folder makes of a constant: what it puts for it, or else the constant with its parts folded.
 #[cycle(walk)]
 #[tactic(auto, using(crate::proofs::Folding::steps_on, crate::proofs::Folding::part_known))]
-pub fn fold_const_with<I: Interner, F: TypeFolder<I>>(cx: &mut I, constant: &Const<I>, folder: &mut F) -> Result<Const<I>, OutOfMemory>
+pub fn fold_const_with<I: Interner, F: TypeFolder<I>>(
+    cx: &mut I,
+    constant: &Const<I>,
+    folder: &mut F,
+) -> Result<Const<I>, OutOfMemory>
     requires known { IsTrue (known ((I.meaning cx.old).const_ constant.now)) }
     requires ready { F.ready (I.meaning cx.old) folder.old }
     ensures steps { Steps F.ready F.replaces (I.meaning cx.old) folder.old (I.meaning cx.new) folder.new }
@@ -63,7 +75,11 @@ pub fn fold_const_with<I: Interner, F: TypeFolder<I>>(cx: &mut I, constant: &Con
 /// The type with its parts folded, whatever the folder puts for the type itself.
 #[cycle(walk)]
 #[tactic(auto, using(crate::proofs::Folding::steps_on, crate::proofs::Folding::part_known))]
-pub fn super_fold_ty<I: Interner, F: TypeFolder<I>>(cx: &mut I, ty: &Ty<I>, folder: &mut F) -> Result<Ty<I>, OutOfMemory>
+pub fn super_fold_ty<I: Interner, F: TypeFolder<I>>(
+    cx: &mut I,
+    ty: &Ty<I>,
+    folder: &mut F,
+) -> Result<Ty<I>, OutOfMemory>
     requires known { IsTrue (known ((I.meaning cx.old).ty ty.now)) }
     requires ready { F.ready (I.meaning cx.old) folder.old }
     ensures steps { Steps F.ready F.replaces (I.meaning cx.old) folder.old (I.meaning cx.new) folder.new }
@@ -78,7 +94,11 @@ pub fn super_fold_ty<I: Interner, F: TypeFolder<I>>(cx: &mut I, ty: &Ty<I>, fold
 // The form with its parts folded.
 #[cycle(walk)]
 #[tactic(auto, using(crate::proofs::Folding::steps_on, crate::proofs::Folding::part_known))]
-fn fold_kind<I: Interner, F: TypeFolder<I>>(cx: &mut I, kind: TyForm<I>, folder: &mut F) -> Result<TyForm<I>, OutOfMemory>
+fn fold_kind<I: Interner, F: TypeFolder<I>>(
+    cx: &mut I,
+    kind: TyForm<I>,
+    folder: &mut F,
+) -> Result<TyForm<I>, OutOfMemory>
     requires known { IsTrue (known (kind_tree (I.meaning cx.old) kind)) }
     requires ready { F.ready (I.meaning cx.old) folder.old }
     ensures steps { Steps F.ready F.replaces (I.meaning cx.old) folder.old (I.meaning cx.new) folder.new }
@@ -118,7 +138,11 @@ fn fold_kind<I: Interner, F: TypeFolder<I>>(cx: &mut I, kind: TyForm<I>, folder:
 /// The constant with its parts folded, whatever the folder puts for the constant itself.
 #[cycle(walk)]
 #[tactic(auto, using(crate::proofs::Folding::steps_on, crate::proofs::Folding::part_known))]
-pub fn super_fold_const<I: Interner, F: TypeFolder<I>>(cx: &mut I, constant: &Const<I>, folder: &mut F) -> Result<Const<I>, OutOfMemory>
+pub fn super_fold_const<I: Interner, F: TypeFolder<I>>(
+    cx: &mut I,
+    constant: &Const<I>,
+    folder: &mut F,
+) -> Result<Const<I>, OutOfMemory>
     requires known { IsTrue (known ((I.meaning cx.old).const_ constant.now)) }
     requires ready { F.ready (I.meaning cx.old) folder.old }
     ensures steps { Steps F.ready F.replaces (I.meaning cx.old) folder.old (I.meaning cx.new) folder.new }
@@ -133,7 +157,11 @@ pub fn super_fold_const<I: Interner, F: TypeFolder<I>>(cx: &mut I, constant: &Co
 // The form with its parts folded.
 #[cycle(walk)]
 #[tactic(auto, using(crate::proofs::Folding::steps_on, crate::proofs::Folding::part_known))]
-fn fold_const_kind<I: Interner, F: TypeFolder<I>>(cx: &mut I, kind: ConstForm<I>, folder: &mut F) -> Result<ConstForm<I>, OutOfMemory>
+fn fold_const_kind<I: Interner, F: TypeFolder<I>>(
+    cx: &mut I,
+    kind: ConstForm<I>,
+    folder: &mut F,
+) -> Result<ConstForm<I>, OutOfMemory>
     requires known { IsTrue (known (const_tree (I.meaning cx.old) kind)) }
     requires ready { F.ready (I.meaning cx.old) folder.old }
     ensures steps { Steps F.ready F.replaces (I.meaning cx.old) folder.old (I.meaning cx.new) folder.new }
@@ -145,7 +173,10 @@ fn fold_const_kind<I: Interner, F: TypeFolder<I>>(cx: &mut I, kind: ConstForm<I>
             let ty = fold_ty_with(cx, &ty, folder)?;
             Ok(ConstKind::Value(ty, fold_valtree_with(cx, &value, folder)?))
         }
-        ConstKind::Expr(kind, args) => Ok(ConstKind::Expr(kind, fold_args_with(cx, &args, folder)?)),
+        ConstKind::Expr(kind, args) => Ok(ConstKind::Expr(
+            kind,
+            fold_args_with(cx, &args, folder)?,
+        )),
         leaf => Ok(leaf),
     }
 }
@@ -153,7 +184,11 @@ fn fold_const_kind<I: Interner, F: TypeFolder<I>>(cx: &mut I, kind: ConstForm<I>
 /// The value tree with its constants folded.
 #[cycle(walk)]
 #[tactic(auto, using(crate::proofs::Folding::steps_on, crate::proofs::Folding::part_known))]
-pub fn fold_valtree_with<I: Interner, F: TypeFolder<I>>(cx: &mut I, valtree: &ValTree<I>, folder: &mut F) -> Result<ValTree<I>, OutOfMemory>
+pub fn fold_valtree_with<I: Interner, F: TypeFolder<I>>(
+    cx: &mut I,
+    valtree: &ValTree<I>,
+    folder: &mut F,
+) -> Result<ValTree<I>, OutOfMemory>
     requires known { IsTrue (known ((I.meaning cx.old).valtree valtree.now)) }
     requires ready { F.ready (I.meaning cx.old) folder.old }
     ensures steps { Steps F.ready F.replaces (I.meaning cx.old) folder.old (I.meaning cx.new) folder.new }
@@ -173,7 +208,11 @@ pub fn fold_valtree_with<I: Interner, F: TypeFolder<I>>(cx: &mut I, valtree: &Va
 /// What the folder makes of a generic argument.
 #[cycle(walk)]
 #[tactic(auto, using(crate::proofs::Folding::steps_on, crate::proofs::Folding::part_known))]
-pub fn fold_arg_with<I: Interner, F: TypeFolder<I>>(cx: &mut I, arg: &GenericArg<I>, folder: &mut F) -> Result<GenericArg<I>, OutOfMemory>
+pub fn fold_arg_with<I: Interner, F: TypeFolder<I>>(
+    cx: &mut I,
+    arg: &GenericArg<I>,
+    folder: &mut F,
+) -> Result<GenericArg<I>, OutOfMemory>
     requires known { IsTrue (known (arg_tree (I.meaning cx.old) arg.now)) }
     requires ready { F.ready (I.meaning cx.old) folder.old }
     ensures steps { Steps F.ready F.replaces (I.meaning cx.old) folder.old (I.meaning cx.new) folder.new }
@@ -194,7 +233,11 @@ pub fn fold_arg_with<I: Interner, F: TypeFolder<I>>(cx: &mut I, arg: &GenericArg
 /// The list with each generic argument folded.
 #[cycle(walk)]
 #[tactic(auto, using(crate::proofs::Folding::steps_on, crate::proofs::Folding::part_known))]
-pub fn fold_args_with<I: Interner, F: TypeFolder<I>>(cx: &mut I, args: &GenericArgs<I>, folder: &mut F) -> Result<GenericArgs<I>, OutOfMemory>
+pub fn fold_args_with<I: Interner, F: TypeFolder<I>>(
+    cx: &mut I,
+    args: &GenericArgs<I>,
+    folder: &mut F,
+) -> Result<GenericArgs<I>, OutOfMemory>
     requires known { IsTrue (known ((I.meaning cx.old).args args.now)) }
     requires ready { F.ready (I.meaning cx.old) folder.old }
     ensures steps { Steps F.ready F.replaces (I.meaning cx.old) folder.old (I.meaning cx.new) folder.new }
@@ -214,7 +257,11 @@ pub fn fold_args_with<I: Interner, F: TypeFolder<I>>(cx: &mut I, args: &GenericA
 /// The list with each type folded.
 #[cycle(walk)]
 #[tactic(auto, using(crate::proofs::Folding::steps_on, crate::proofs::Folding::part_known))]
-pub fn fold_tys_with<I: Interner, F: TypeFolder<I>>(cx: &mut I, tys: &Tys<I>, folder: &mut F) -> Result<Tys<I>, OutOfMemory>
+pub fn fold_tys_with<I: Interner, F: TypeFolder<I>>(
+    cx: &mut I,
+    tys: &Tys<I>,
+    folder: &mut F,
+) -> Result<Tys<I>, OutOfMemory>
     requires known { IsTrue (known ((I.meaning cx.old).tys tys.now)) }
     requires ready { F.ready (I.meaning cx.old) folder.old }
     ensures steps { Steps F.ready F.replaces (I.meaning cx.old) folder.old (I.meaning cx.new) folder.new }
@@ -234,7 +281,11 @@ pub fn fold_tys_with<I: Interner, F: TypeFolder<I>>(cx: &mut I, tys: &Tys<I>, fo
 /// The list with each constant folded.
 #[cycle(walk)]
 #[tactic(auto, using(crate::proofs::Folding::steps_on, crate::proofs::Folding::part_known))]
-pub fn fold_branches_with<I: Interner, F: TypeFolder<I>>(cx: &mut I, branches: &Branches<I>, folder: &mut F) -> Result<Branches<I>, OutOfMemory>
+pub fn fold_branches_with<I: Interner, F: TypeFolder<I>>(
+    cx: &mut I,
+    branches: &Branches<I>,
+    folder: &mut F,
+) -> Result<Branches<I>, OutOfMemory>
     requires known { IsTrue (known ((I.meaning cx.old).branches branches.now)) }
     requires ready { F.ready (I.meaning cx.old) folder.old }
     ensures steps { Steps F.ready F.replaces (I.meaning cx.old) folder.old (I.meaning cx.new) folder.new }

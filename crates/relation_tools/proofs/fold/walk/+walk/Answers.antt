@@ -1,15 +1,20 @@
-use Rattle.std.proofs.Common.{rules, arith, refl, sym, ap, ◌∙◌, ◌≡◌, IsTrue, IfOk, ◌+◌, ◌*◌, ◌<◌, ◌≤◌, [], ◌∷◌, ◌++◌, take, length, subst, subst₂}
+use Rattle.std.proofs.Common.{rules, arith, refl, sym, ap, ◌∙◌, ◌≡◌, IsTrue, IfOk, ◌+◌, ◌*◌, ◌<◌, ◌≤◌, [], ◌∷◌, ◌++◌}
+use Rattle.std.proofs.Common.{take, length, subst, subst₂}
 use Rattle.std.proofs.lemmas.List.{take_more}
 use Rattle.relation_terms.specs.Heads.{type_sort, const_sort, adt, fn_def, closure, coroutine_closure, coroutine}
-use Rattle.relation_terms.specs.Heads.{coroutine_witness, array, slice, tuple, raw_ptr, ref, expression, value, value_type}
+use Rattle.relation_terms.specs.Heads.{coroutine_witness, array, slice, tuple, raw_ptr, ref, expression, value}
+use Rattle.relation_terms.specs.Heads.{value_type}
 use Rattle.relation_terms.specs.Heads.{value_branch, value_leaf, atom}
 use Rattle.relation_terms.specs.Trees.{leaf, node, nil, cons, known, size, list_tree}
 use Rattle.relation_terms.specs.Meaning.{Extends, kind_tree, const_tree, valtree_tree, arg_tree}
 use Rattle.relation_terms.proofs.Stays.{knows_as, stays_arg, extends_on}
 use Rattle.relation_tools.specs.Folds.{KnownAnswer, answered, folded, folded_parts}
-use Rattle.relation_tools.proofs.Folding.{folded_put, folded_left, parts_later, steps_on, steps_grown, steps_none, if_ok, if_ok_both}
-use Rattle.relation_tools.proofs.Folding.{list_made, one_made, two_made, second_small, second_known, two_known, one_known}
-use Rattle.relation_tools.proofs.Folding.{later, leaf_made, const_leaf_made, listed_next, part_known, part_size, take_all}
+use Rattle.relation_tools.proofs.Folding.{folded_put, folded_left, parts_later, steps_on, steps_grown, steps_none}
+use Rattle.relation_tools.proofs.Folding.{if_ok, if_ok_both}
+use Rattle.relation_tools.proofs.Folding.{list_made, one_made, two_made, second_small, second_known, two_known}
+use Rattle.relation_tools.proofs.Folding.{one_known}
+use Rattle.relation_tools.proofs.Folding.{later, leaf_made, const_leaf_made, listed_next, part_known, part_size}
+use Rattle.relation_tools.proofs.Folding.{take_all}
 use Rattle.relation_tools.proofs.fold.walk.+walk.Goals as goal
 
 pub fold_ty_with-super_fold_ty-requires : goal.fold_ty_with-super_fold_ty-requires
@@ -20,9 +25,10 @@ fold_ty_with-super_fold_ty-requires g t c κs within =
     let d = c.decreases in
     let s = c.in_ok-by.ensures.steps in
     let e : n.ty c.args.ty.now ≡ m.ty c.args.ty.now = s.grown.ty c.args.ty.now c.requires.known in
-    let k : IsTrue (known (n.ty c.args.ty.now)) = knows_as (m.ty c.args.ty.now) (n.ty c.args.ty.now) e c.requires.known in
+    let k : IsTrue (known (n.ty c.args.ty.now)) = knows_as (m.ty c.args.ty.now) (n.ty c.args.ty.now) e
+    c.requires.known in
     let small : 4 * size (n.ty c.args.ty.now) + 1 < 4 * size (m.ty c.args.ty.now) + 2 =
-        subst (λ x. 4 * size x + 1 < 4 * size (m.ty c.args.ty.now) + 2) (sym e) (omega arith) in
+    subst (λ x. 4 * size x + 1 < 4 * size (m.ty c.args.ty.now) + 2) (sym e) (omega arith) in
     let r = s.ready in
     search rules
 
@@ -35,8 +41,10 @@ fold_ty_with-returns-in-Replace g t c =
     let by = c.in-Replace.by in
     let stay : n.ty c.args.ty.now ≡ m.ty c.args.ty.now = r.steps.grown.ty c.args.ty.now c.requires.known in
     let sure : IsTrue (known (n.ty by)) = subst (λ a. KnownAnswer n.ty a) c.in-Replace.is r.sure in
-    let made : n.ty by ≡ folded p (m.ty c.args.ty.now) = sym (folded_put type_sort refl p (m.ty c.args.ty.now) (n.ty by)
-        (g.met.I.Interner.is_ty c.args.cx.now c.args.ty.now c.requires.known) (r.made ∙ ap (answered n.ty) c.in-Replace.is)) in
+    let made : n.ty by ≡ folded p (m.ty c.args.ty.now) = sym (folded_put type_sort refl p (m.ty c.args.ty.now) (n.ty
+    by)
+    (g.met.I.Interner.is_ty c.args.cx.now c.args.ty.now c.requires.known) (r.made ∙ ap (answered n.ty)
+    c.in-Replace.is)) in
     record {
       steps = r.steps;
       sure = sure;
@@ -54,21 +62,24 @@ fold_ty_with-returns-in-Descend g t c =
     let r = c.in_ok-by.ensures in
     let stay : n.ty c.args.ty.now ≡ m.ty c.args.ty.now = r.steps.grown.ty c.args.ty.now c.requires.known in
     let left : folded p (m.ty c.args.ty.now) ≡ folded_parts p (m.ty c.args.ty.now) =
-        folded_left type_sort p (m.ty c.args.ty.now) (g.met.I.Interner.is_ty c.args.cx.now c.args.ty.now c.requires.known)
-        (r.made ∙ ap (answered n.ty) c.in-Descend.is) in
+    folded_left type_sort p (m.ty c.args.ty.now) (g.met.I.Interner.is_ty c.args.cx.now c.args.ty.now
+    c.requires.known)
+    (r.made ∙ ap (answered n.ty) c.in-Descend.is) in
     let parts : folded_parts q (n.ty c.args.ty.now) ≡ folded_parts p (m.ty c.args.ty.now) =
-        parts_later p q r.steps.kept (m.ty c.args.ty.now) (n.ty c.args.ty.now) stay in
+    parts_later p q r.steps.kept (m.ty c.args.ty.now) (n.ty c.args.ty.now) stay in
     let steps = steps_on r.steps c.super_fold_ty.ensures.steps in
     let o = g.I.Interner.meaning c.super_fold_ty.new.cx in
     let later : o.ty c.args.ty.now ≡ m.ty c.args.ty.now = steps.grown.ty c.args.ty.now c.requires.known in
     let made : IfOk c.super_fold_ty.result (λ x. o.ty x ≡ folded p (m.ty c.args.ty.now)) =
-        if_ok c.super_fold_ty.result (λ x e. e ∙ (parts ∙ sym left)) c.super_fold_ty.ensures.made in
+    if_ok c.super_fold_ty.result (λ x e. e ∙ (parts ∙ sym left)) c.super_fold_ty.ensures.made in
     record {
       steps = steps;
       sure = c.super_fold_ty.ensures.sure;
       made = made;
-      same = if_ok_both c.super_fold_ty.result (λ x h e q. (g.met.I.Interner.same_ty c.super_fold_ty.new.cx x c.args.ty.now h
-          (knows_as (m.ty c.args.ty.now) (o.ty c.args.ty.now) later c.requires.known)).1 (e ∙ (q ∙ sym later))) c.super_fold_ty.ensures.sure made;
+      same = if_ok_both c.super_fold_ty.result (λ x h e q. (g.met.I.Interner.same_ty c.super_fold_ty.new.cx x
+          c.args.ty.now h
+          (knows_as (m.ty c.args.ty.now) (o.ty c.args.ty.now) later c.requires.known)).1 (e ∙ (q ∙ sym later)))
+          c.super_fold_ty.ensures.sure made;
     }
 
 pub fold_const_with-super_fold_const-requires : goal.fold_const_with-super_fold_const-requires
@@ -78,10 +89,12 @@ fold_const_with-super_fold_const-requires g t c κs within =
     let n = g.I.Interner.meaning c.fold_const.new.cx in
     let d = c.decreases in
     let s = c.in_ok-by.ensures.steps in
-    let e : n.const_ c.args.constant.now ≡ m.const_ c.args.constant.now = s.grown.const_ c.args.constant.now c.requires.known in
-    let k : IsTrue (known (n.const_ c.args.constant.now)) = knows_as (m.const_ c.args.constant.now) (n.const_ c.args.constant.now) e c.requires.known in
+    let e : n.const_ c.args.constant.now ≡ m.const_ c.args.constant.now = s.grown.const_ c.args.constant.now
+    c.requires.known in
+    let k : IsTrue (known (n.const_ c.args.constant.now)) = knows_as (m.const_ c.args.constant.now) (n.const_
+    c.args.constant.now) e c.requires.known in
     let small : 4 * size (n.const_ c.args.constant.now) + 1 < 4 * size (m.const_ c.args.constant.now) + 2 =
-        subst (λ x. 4 * size x + 1 < 4 * size (m.const_ c.args.constant.now) + 2) (sym e) (omega arith) in
+    subst (λ x. 4 * size x + 1 < 4 * size (m.const_ c.args.constant.now) + 2) (sym e) (omega arith) in
     let r = s.ready in
     search rules
 
@@ -92,16 +105,20 @@ fold_const_with-returns-in-Replace g t c =
     let n = g.I.Interner.meaning c.fold_const.new.cx in
     let r = c.in_ok-by.ensures in
     let by = c.in-Replace.by in
-    let stay : n.const_ c.args.constant.now ≡ m.const_ c.args.constant.now = r.steps.grown.const_ c.args.constant.now c.requires.known in
+    let stay : n.const_ c.args.constant.now ≡ m.const_ c.args.constant.now = r.steps.grown.const_ c.args.constant.now
+    c.requires.known in
     let sure : IsTrue (known (n.const_ by)) = subst (λ a. KnownAnswer n.const_ a) c.in-Replace.is r.sure in
-    let made : n.const_ by ≡ folded p (m.const_ c.args.constant.now) = sym (folded_put const_sort refl p (m.const_ c.args.constant.now) (n.const_ by)
-        (g.met.I.Interner.is_const c.args.cx.now c.args.constant.now c.requires.known) (r.made ∙ ap (answered n.const_) c.in-Replace.is)) in
+    let made : n.const_ by ≡ folded p (m.const_ c.args.constant.now) = sym (folded_put const_sort refl p (m.const_
+    c.args.constant.now) (n.const_ by)
+    (g.met.I.Interner.is_const c.args.cx.now c.args.constant.now c.requires.known) (r.made ∙ ap (answered
+    n.const_) c.in-Replace.is)) in
     record {
       steps = r.steps;
       sure = sure;
       made = made;
       same = λ q. (g.met.I.Interner.same_const c.fold_const.new.cx by c.args.constant.now sure
-          (knows_as (m.const_ c.args.constant.now) (n.const_ c.args.constant.now) stay c.requires.known)).1 (made ∙ (q ∙ sym stay));
+          (knows_as (m.const_ c.args.constant.now) (n.const_ c.args.constant.now) stay c.requires.known)).1 (made ∙
+          (q ∙ sym stay));
     }
 
 pub fold_const_with-returns-in-Descend : goal.fold_const_with-returns-in-Descend
@@ -111,29 +128,35 @@ fold_const_with-returns-in-Descend g t c =
     let n = g.I.Interner.meaning c.fold_const.new.cx in
     let q = g.F.TypeFolder.replaces n c.fold_const.new.self in
     let r = c.in_ok-by.ensures in
-    let stay : n.const_ c.args.constant.now ≡ m.const_ c.args.constant.now = r.steps.grown.const_ c.args.constant.now c.requires.known in
+    let stay : n.const_ c.args.constant.now ≡ m.const_ c.args.constant.now = r.steps.grown.const_ c.args.constant.now
+    c.requires.known in
     let left : folded p (m.const_ c.args.constant.now) ≡ folded_parts p (m.const_ c.args.constant.now) =
-        folded_left const_sort p (m.const_ c.args.constant.now) (g.met.I.Interner.is_const c.args.cx.now c.args.constant.now c.requires.known)
-        (r.made ∙ ap (answered n.const_) c.in-Descend.is) in
+    folded_left const_sort p (m.const_ c.args.constant.now) (g.met.I.Interner.is_const c.args.cx.now
+    c.args.constant.now c.requires.known)
+    (r.made ∙ ap (answered n.const_) c.in-Descend.is) in
     let parts : folded_parts q (n.const_ c.args.constant.now) ≡ folded_parts p (m.const_ c.args.constant.now) =
-        parts_later p q r.steps.kept (m.const_ c.args.constant.now) (n.const_ c.args.constant.now) stay in
+    parts_later p q r.steps.kept (m.const_ c.args.constant.now) (n.const_ c.args.constant.now) stay in
     let steps = steps_on r.steps c.super_fold_const.ensures.steps in
     let o = g.I.Interner.meaning c.super_fold_const.new.cx in
-    let later : o.const_ c.args.constant.now ≡ m.const_ c.args.constant.now = steps.grown.const_ c.args.constant.now c.requires.known in
+    let later : o.const_ c.args.constant.now ≡ m.const_ c.args.constant.now = steps.grown.const_ c.args.constant.now
+    c.requires.known in
     let made : IfOk c.super_fold_const.result (λ x. o.const_ x ≡ folded p (m.const_ c.args.constant.now)) =
-        if_ok c.super_fold_const.result (λ x e. e ∙ (parts ∙ sym left)) c.super_fold_const.ensures.made in
+    if_ok c.super_fold_const.result (λ x e. e ∙ (parts ∙ sym left)) c.super_fold_const.ensures.made in
     record {
       steps = steps;
       sure = c.super_fold_const.ensures.sure;
       made = made;
-      same = if_ok_both c.super_fold_const.result (λ x h e q. (g.met.I.Interner.same_const c.super_fold_const.new.cx x c.args.constant.now h
-          (knows_as (m.const_ c.args.constant.now) (o.const_ c.args.constant.now) later c.requires.known)).1 (e ∙ (q ∙ sym later))) c.super_fold_const.ensures.sure made;
+      same = if_ok_both c.super_fold_const.result (λ x h e q. (g.met.I.Interner.same_const c.super_fold_const.new.cx
+          x c.args.constant.now h
+          (knows_as (m.const_ c.args.constant.now) (o.const_ c.args.constant.now) later c.requires.known)).1 (e ∙ (q
+          ∙ sym later))) c.super_fold_const.ensures.sure made;
     }
 
 pub super_fold_ty-returns-in_err-made-clause-steps :
     goal.super_fold_ty-returns-in_err-made-clause-steps
 super_fold_ty-returns-in_err-made-clause-steps g t c =
-    steps_grown g.met.F.TypeFolder.ready_on g.met.F.TypeFolder.replaces_on c.in_ok-kind.ensures.steps c.in_err-made.ensures.grown
+    steps_grown g.met.F.TypeFolder.ready_on g.met.F.TypeFolder.replaces_on c.in_ok-kind.ensures.steps
+    c.in_err-made.ensures.grown
 
 pub super_fold_ty-returns : goal.super_fold_ty-returns
 super_fold_ty-returns g t c =
@@ -141,7 +164,8 @@ super_fold_ty-returns g t c =
     let p = g.F.TypeFolder.replaces m c.args.folder.now in
     let r = c.in_ok-made.ensures in
     record {
-      steps = steps_grown g.met.F.TypeFolder.ready_on g.met.F.TypeFolder.replaces_on c.in_ok-kind.ensures.steps r.grown;
+      steps = steps_grown g.met.F.TypeFolder.ready_on g.met.F.TypeFolder.replaces_on c.in_ok-kind.ensures.steps
+          r.grown;
       sure = r.sure;
       made = r.made ∙ (c.in_ok-kind.ensures.made ∙ ap (folded_parts p) (sym c.ty_kind.ensures));
     }
@@ -149,7 +173,8 @@ super_fold_ty-returns g t c =
 pub super_fold_const-returns-in_err-made-clause-steps :
     goal.super_fold_const-returns-in_err-made-clause-steps
 super_fold_const-returns-in_err-made-clause-steps g t c =
-    steps_grown g.met.F.TypeFolder.ready_on g.met.F.TypeFolder.replaces_on c.in_ok-kind.ensures.steps c.in_err-made.ensures.grown
+    steps_grown g.met.F.TypeFolder.ready_on g.met.F.TypeFolder.replaces_on c.in_ok-kind.ensures.steps
+    c.in_err-made.ensures.grown
 
 pub super_fold_const-returns : goal.super_fold_const-returns
 super_fold_const-returns g t c =
@@ -157,7 +182,8 @@ super_fold_const-returns g t c =
     let p = g.F.TypeFolder.replaces m c.args.folder.now in
     let r = c.in_ok-made.ensures in
     record {
-      steps = steps_grown g.met.F.TypeFolder.ready_on g.met.F.TypeFolder.replaces_on c.in_ok-kind.ensures.steps r.grown;
+      steps = steps_grown g.met.F.TypeFolder.ready_on g.met.F.TypeFolder.replaces_on c.in_ok-kind.ensures.steps
+          r.grown;
       sure = r.sure;
       made = r.made ∙ (c.in_ok-kind.ensures.made ∙ ap (folded_parts p) (sym c.const_kind.ensures));
     }
@@ -209,8 +235,10 @@ fold_kind-returns-in_ok-fold_args_with-in-CoroutineClosure g t c =
     record {
       steps = r.steps;
       sure = r.sure;
-      made = list_made p (coroutine_closure (m.id c.in-CoroutineClosure.def.0)) (kind_tree m c.args.kind) _ (m.args c.in-CoroutineClosure.args) _
-          (ap (λ x. coroutine_closure x) (r.steps.grown.id c.in-CoroutineClosure.def.0)) (ap (kind_tree m) c.in-CoroutineClosure.is) r.made;
+      made = list_made p (coroutine_closure (m.id c.in-CoroutineClosure.def.0)) (kind_tree m c.args.kind) _ (m.args
+          c.in-CoroutineClosure.args) _
+          (ap (λ x. coroutine_closure x) (r.steps.grown.id c.in-CoroutineClosure.def.0)) (ap (kind_tree m)
+          c.in-CoroutineClosure.is) r.made;
     }
 
 pub fold_kind-returns-in_ok-fold_args_with-in-Coroutine :
@@ -222,7 +250,8 @@ fold_kind-returns-in_ok-fold_args_with-in-Coroutine g t c =
     record {
       steps = r.steps;
       sure = r.sure;
-      made = list_made p (coroutine (m.id c.in-Coroutine.def.0)) (kind_tree m c.args.kind) _ (m.args c.in-Coroutine.args) _
+      made = list_made p (coroutine (m.id c.in-Coroutine.def.0)) (kind_tree m c.args.kind) _ (m.args
+          c.in-Coroutine.args) _
           (ap (λ x. coroutine x) (r.steps.grown.id c.in-Coroutine.def.0)) (ap (kind_tree m) c.in-Coroutine.is) r.made;
     }
 
@@ -235,8 +264,10 @@ fold_kind-returns-in_ok-fold_args_with-in-CoroutineWitness g t c =
     record {
       steps = r.steps;
       sure = r.sure;
-      made = list_made p (coroutine_witness (m.id c.in-CoroutineWitness.def.0)) (kind_tree m c.args.kind) _ (m.args c.in-CoroutineWitness.args) _
-          (ap (λ x. coroutine_witness x) (r.steps.grown.id c.in-CoroutineWitness.def.0)) (ap (kind_tree m) c.in-CoroutineWitness.is) r.made;
+      made = list_made p (coroutine_witness (m.id c.in-CoroutineWitness.def.0)) (kind_tree m c.args.kind) _ (m.args
+          c.in-CoroutineWitness.args) _
+          (ap (λ x. coroutine_witness x) (r.steps.grown.id c.in-CoroutineWitness.def.0)) (ap (kind_tree m)
+          c.in-CoroutineWitness.is) r.made;
     }
 
 pub fold_kind-returns-in_ok-fold_tys_with-in-Tuple :
@@ -260,7 +291,8 @@ fold_kind-returns-in_ok-fold_ty_with-in-Slice g t c =
     record {
       steps = r.steps;
       sure = one_known r.sure;
-      made = one_made p slice (kind_tree m c.args.kind) (m.ty c.in-Slice.element) _ (ap (kind_tree m) c.in-Slice.is) r.made;
+      made = one_made p slice (kind_tree m c.args.kind) (m.ty c.in-Slice.element) _ (ap (kind_tree m) c.in-Slice.is)
+          r.made;
     }
 
 pub fold_kind-returns-in_ok-fold_ty_with-in-RawPtr :
@@ -272,7 +304,8 @@ fold_kind-returns-in_ok-fold_ty_with-in-RawPtr g t c =
     record {
       steps = r.steps;
       sure = one_known r.sure;
-      made = one_made p (raw_ptr c.in-RawPtr.mutability) (kind_tree m c.args.kind) (m.ty c.in-RawPtr.pointee) _ (ap (kind_tree m) c.in-RawPtr.is) r.made;
+      made = one_made p (raw_ptr c.in-RawPtr.mutability) (kind_tree m c.args.kind) (m.ty c.in-RawPtr.pointee) _ (ap
+          (kind_tree m) c.in-RawPtr.is) r.made;
     }
 
 pub fold_kind-fold_const_with-requires : goal.fold_kind-fold_const_with-requires
@@ -284,10 +317,12 @@ fold_kind-fold_const_with-requires g t c κs within =
     let s = c.in_ok-element-in-Array.ensures.steps in
     let u = c.in-Array.length in
     let is = ap (kind_tree m) c.in-Array.is in
-    let k : IsTrue (known (m.const_ u)) = second_known array (kind_tree m c.args.kind) (m.ty c.in-Array.element) (m.const_ u) is c.requires.known in
+    let k : IsTrue (known (m.const_ u)) = second_known array (kind_tree m c.args.kind) (m.ty c.in-Array.element)
+    (m.const_ u) is c.requires.known in
     let e : n.const_ u ≡ m.const_ u = s.grown.const_ u k in
     let l : IsTrue (known (n.const_ u)) = knows_as (m.const_ u) (n.const_ u) e k in
-    let small : 4 * size (n.const_ u) + 2 < 4 * size (kind_tree m c.args.kind) = second_small array (kind_tree m c.args.kind) (m.ty c.in-Array.element) (m.const_ u) (n.const_ u) is e in
+    let small : 4 * size (n.const_ u) + 2 < 4 * size (kind_tree m c.args.kind) = second_small array (kind_tree m
+    c.args.kind) (m.ty c.in-Array.element) (m.const_ u) (n.const_ u) is e in
     let r = s.ready in
     search rules
 
@@ -311,7 +346,8 @@ fold_kind-returns-in_ok-fold_const_with-in-Array g t c =
     let b = c.in_ok-fold_const_with-in-Array in
     let u = c.in-Array.length in
     let is = ap (kind_tree m) c.in-Array.is in
-    let k : IsTrue (known (m.const_ u)) = second_known array (kind_tree m c.args.kind) (m.ty c.in-Array.element) (m.const_ u) is c.requires.known in
+    let k : IsTrue (known (m.const_ u)) = second_known array (kind_tree m c.args.kind) (m.ty c.in-Array.element)
+    (m.const_ u) is c.requires.known in
     let e = a.ensures.steps.grown.const_ u k in
     let stay = b.ensures.steps.grown.ty a.element a.ensures.sure in
     let x : IsTrue (known (o.ty a.element)) = knows_as _ (o.ty a.element) stay a.ensures.sure in
@@ -319,7 +355,8 @@ fold_kind-returns-in_ok-fold_const_with-in-Array g t c =
     record {
       steps = steps_on a.ensures.steps b.ensures.steps;
       sure = two_known x b.ensures.sure;
-      made = two_made p array (kind_tree m c.args.kind) (m.ty c.in-Array.element) (m.const_ u) (o.ty a.element) _ is q (later c.in_ok-element-in-Array.ensures.steps (m.const_ u) _ _ e b.ensures.made);
+      made = two_made p array (kind_tree m c.args.kind) (m.ty c.in-Array.element) (m.const_ u) (o.ty a.element) _ is
+          q (later c.in_ok-element-in-Array.ensures.steps (m.const_ u) _ _ e b.ensures.made);
     }
 
 pub fold_kind-fold_ty_with-requires-in-Ref : goal.fold_kind-fold_ty_with-requires-in-Ref
@@ -331,10 +368,12 @@ fold_kind-fold_ty_with-requires-in-Ref g t c κs within =
     let s = c.in_ok-region-in-Ref.ensures.steps in
     let u = c.in-Ref.pointee in
     let is = ap (kind_tree m) c.in-Ref.is in
-    let k : IsTrue (known (m.ty u)) = second_known (ref c.in-Ref.mutability) (kind_tree m c.args.kind) (m.region c.in-Ref.region) (m.ty u) is c.requires.known in
+    let k : IsTrue (known (m.ty u)) = second_known (ref c.in-Ref.mutability) (kind_tree m c.args.kind) (m.region
+    c.in-Ref.region) (m.ty u) is c.requires.known in
     let e : n.ty u ≡ m.ty u = s.grown.ty u k in
     let l : IsTrue (known (n.ty u)) = knows_as (m.ty u) (n.ty u) e k in
-    let small : 4 * size (n.ty u) + 2 < 4 * size (kind_tree m c.args.kind) = second_small (ref c.in-Ref.mutability) (kind_tree m c.args.kind) (m.region c.in-Ref.region) (m.ty u) (n.ty u) is e in
+    let small : 4 * size (n.ty u) + 2 < 4 * size (kind_tree m c.args.kind) = second_small (ref c.in-Ref.mutability)
+    (kind_tree m c.args.kind) (m.region c.in-Ref.region) (m.ty u) (n.ty u) is e in
     let r = s.ready in
     search rules
 
@@ -356,7 +395,8 @@ fold_kind-returns-in_ok-fold_ty_with-in-Ref g t c =
     let b = c.in_ok-fold_ty_with-in-Ref in
     let u = c.in-Ref.pointee in
     let is = ap (kind_tree m) c.in-Ref.is in
-    let k : IsTrue (known (m.ty u)) = second_known (ref c.in-Ref.mutability) (kind_tree m c.args.kind) (m.region c.in-Ref.region) (m.ty u) is c.requires.known in
+    let k : IsTrue (known (m.ty u)) = second_known (ref c.in-Ref.mutability) (kind_tree m c.args.kind) (m.region
+    c.in-Ref.region) (m.ty u) is c.requires.known in
     let e = a.ensures.steps.grown.ty u k in
     let stay = b.ensures.steps.grown.region a.region a.ensures.sure in
     let x : IsTrue (known (o.region a.region)) = knows_as _ (o.region a.region) stay a.ensures.sure in
@@ -364,7 +404,8 @@ fold_kind-returns-in_ok-fold_ty_with-in-Ref g t c =
     record {
       steps = steps_on a.ensures.steps b.ensures.steps;
       sure = two_known x b.ensures.sure;
-      made = two_made p (ref c.in-Ref.mutability) (kind_tree m c.args.kind) (m.region c.in-Ref.region) (m.ty u) (o.region a.region) _ is q (later c.in_ok-region-in-Ref.ensures.steps (m.ty u) _ _ e b.ensures.made);
+      made = two_made p (ref c.in-Ref.mutability) (kind_tree m c.args.kind) (m.region c.in-Ref.region) (m.ty u)
+          (o.region a.region) _ is q (later c.in_ok-region-in-Ref.ensures.steps (m.ty u) _ _ e b.ensures.made);
     }
 
 pub fold_const_kind-fold_valtree_with-requires : goal.fold_const_kind-fold_valtree_with-requires
@@ -376,10 +417,12 @@ fold_const_kind-fold_valtree_with-requires g t c κs within =
     let s = c.in_ok-ty-in-Value.ensures.steps in
     let u = c.in-Value.value in
     let is = ap (const_tree m) c.in-Value.is in
-    let k : IsTrue (known (m.valtree u)) = second_known value (const_tree m c.args.kind) (node value_type (cons (m.ty c.in-Value.ty) nil)) (m.valtree u) is c.requires.known in
+    let k : IsTrue (known (m.valtree u)) = second_known value (const_tree m c.args.kind) (node value_type (cons (m.ty
+    c.in-Value.ty) nil)) (m.valtree u) is c.requires.known in
     let e : n.valtree u ≡ m.valtree u = s.grown.valtree u k in
     let l : IsTrue (known (n.valtree u)) = knows_as (m.valtree u) (n.valtree u) e k in
-    let small : 4 * size (n.valtree u) + 2 < 4 * size (const_tree m c.args.kind) = second_small value (const_tree m c.args.kind) (node value_type (cons (m.ty c.in-Value.ty) nil)) (m.valtree u) (n.valtree u) is e in
+    let small : 4 * size (n.valtree u) + 2 < 4 * size (const_tree m c.args.kind) = second_small value (const_tree m
+    c.args.kind) (node value_type (cons (m.ty c.in-Value.ty) nil)) (m.valtree u) (n.valtree u) is e in
     let r = s.ready in
     search rules
 
@@ -403,7 +446,8 @@ fold_const_kind-returns-in_ok-fold_valtree_with-in-Value g t c =
     let b = c.in_ok-fold_valtree_with-in-Value in
     let u = c.in-Value.value in
     let is = ap (const_tree m) c.in-Value.is in
-    let k : IsTrue (known (m.valtree u)) = second_known value (const_tree m c.args.kind) (node value_type (cons (m.ty c.in-Value.ty) nil)) (m.valtree u) is c.requires.known in
+    let k : IsTrue (known (m.valtree u)) = second_known value (const_tree m c.args.kind) (node value_type (cons (m.ty
+    c.in-Value.ty) nil)) (m.valtree u) is c.requires.known in
     let e = a.ensures.steps.grown.valtree u k in
     let stay = b.ensures.steps.grown.ty a.ty a.ensures.sure in
     let x : IsTrue (known (o.ty a.ty)) = knows_as _ (o.ty a.ty) stay a.ensures.sure in
@@ -411,7 +455,9 @@ fold_const_kind-returns-in_ok-fold_valtree_with-in-Value g t c =
     record {
       steps = steps_on a.ensures.steps b.ensures.steps;
       sure = two_known (one_known x) b.ensures.sure;
-      made = two_made p value (const_tree m c.args.kind) (node value_type (cons (m.ty c.in-Value.ty) nil)) (m.valtree u) (node value_type (cons (o.ty a.ty) nil)) _ is (ap (λ z. node value_type (cons z nil)) q) (later c.in_ok-ty-in-Value.ensures.steps (m.valtree u) _ _ e b.ensures.made);
+      made = two_made p value (const_tree m c.args.kind) (node value_type (cons (m.ty c.in-Value.ty) nil)) (m.valtree
+          u) (node value_type (cons (o.ty a.ty) nil)) _ is (ap (λ z. node value_type (cons z nil)) q) (later
+          c.in_ok-ty-in-Value.ensures.steps (m.valtree u) _ _ e b.ensures.made);
     }
 
 pub fold_kind-returns-in_default : goal.fold_kind-returns-in_default
@@ -422,7 +468,8 @@ fold_kind-returns-in_default g t c =
     record {
       steps = steps_none m c.args.folder.now c.requires.ready;
       sure = c.requires.known;
-      made = leaf_made m p c.args.kind n.not-Adt n.not-Array n.not-Slice n.not-RawPtr n.not-Ref n.not-FnDef n.not-Closure
+      made = leaf_made m p c.args.kind n.not-Adt n.not-Array n.not-Slice n.not-RawPtr n.not-Ref n.not-FnDef
+          n.not-Closure
           n.not-CoroutineClosure n.not-Coroutine n.not-CoroutineWitness n.not-Tuple;
     }
 
@@ -456,7 +503,7 @@ fold_valtree_with-returns-in-Leaf g t c =
     let p = g.F.TypeFolder.replaces m c.args.folder.now in
     let v = c.args.valtree.now in
     let e : m.valtree v ≡ leaf (atom (value_leaf c.in-Leaf.bits c.in-Leaf.size)) =
-        c.valtree_kind.ensures ∙ ap (valtree_tree m) c.in-Leaf.is in
+    c.valtree_kind.ensures ∙ ap (valtree_tree m) c.in-Leaf.is in
     record {
       steps = steps_none m c.args.folder.now c.requires.ready;
       sure = subst (λ x. IsTrue (known (m.valtree x))) (sym c.dup.ensures) c.requires.known;
@@ -466,7 +513,8 @@ fold_valtree_with-returns-in-Leaf g t c =
 pub fold_valtree_with-returns-in_err-made-in-Branch-clause-steps :
     goal.fold_valtree_with-returns-in_err-made-in-Branch-clause-steps
 fold_valtree_with-returns-in_err-made-in-Branch-clause-steps g t c =
-    steps_grown g.met.F.TypeFolder.ready_on g.met.F.TypeFolder.replaces_on c.in_ok-branches-in-Branch.ensures.steps c.in_err-made-in-Branch.ensures.grown
+    steps_grown g.met.F.TypeFolder.ready_on g.met.F.TypeFolder.replaces_on c.in_ok-branches-in-Branch.ensures.steps
+    c.in_err-made-in-Branch.ensures.grown
 
 pub fold_valtree_with-returns-in_ok-made-in-Branch :
     goal.fold_valtree_with-returns-in_ok-made-in-Branch
@@ -476,7 +524,7 @@ fold_valtree_with-returns-in_ok-made-in-Branch g t c =
     let a = c.in_ok-branches-in-Branch.ensures in
     let b = c.in_ok-made-in-Branch.ensures in
     let e : m.valtree c.args.valtree.now ≡ node value_branch (m.branches c.in-Branch.branches) =
-        c.valtree_kind.ensures ∙ ap (valtree_tree m) c.in-Branch.is in
+    c.valtree_kind.ensures ∙ ap (valtree_tree m) c.in-Branch.is in
     record {
       steps = steps_grown g.met.F.TypeFolder.ready_on g.met.F.TypeFolder.replaces_on a.steps b.grown;
       sure = b.sure;
@@ -530,15 +578,16 @@ fold_args_with-fold_arg_with-requires g t c κs within =
     let x = c.arg-item.result in
     let read = c.args-2 in
     let whole : m.args c.args.args.now ≡ list_tree (arg_tree m) items =
-        read.ensures ∙ ap (list_tree (arg_tree m)) (sym (c.deref-arg-items.ensures.value ∙ c.in_ok-list.ensures)) in
+    read.ensures ∙ ap (list_tree (arg_tree m)) (sym (c.deref-arg-items.ensures.value ∙ c.in_ok-list.ensures)) in
     let less = c.loop-arg-test.true in
     let k : IsTrue (known ((arg_tree m) x)) = subst (λ z. IsTrue (known ((arg_tree m) z))) (sym c.arg-item.is)
-        (part_known (arg_tree m) items i x less (subst (λ z. IsTrue (known z)) whole c.requires.known)) in
+    (part_known (arg_tree m) items i x less (subst (λ z. IsTrue (known z)) whole c.requires.known)) in
     let e : (arg_tree n) x ≡ (arg_tree m) x = stays_arg s.grown x k in
     let d = c.decreases in
     let l : IsTrue (known ((arg_tree n) x)) = knows_as ((arg_tree m) x) ((arg_tree n) x) e k in
     let below : size ((arg_tree m) x) < size (m.args c.args.args.now) =
-        subst₂ (λ z w. size ((arg_tree m) z) < size w) (sym c.arg-item.is) (sym whole) (part_size (arg_tree m) items i x less) in
+    subst₂ (λ z w. size ((arg_tree m) z) < size w) (sym c.arg-item.is) (sym whole) (part_size (arg_tree m) items
+    i x less) in
     let same : size ((arg_tree n) x) ≡ size ((arg_tree m) x) = ap size e in
     let small : 4 * size ((arg_tree n) x) + 3 < 4 * size (m.args c.args.args.now) = omega (arith, below, same) in
     let r = s.ready in
@@ -555,21 +604,23 @@ fold_args_with-loop-arg-preserved g t c =
     let x = c.arg-item.result in
     let read = c.args-2 in
     let whole : m.args c.args.args.now ≡ list_tree (arg_tree m) items =
-        read.ensures ∙ ap (list_tree (arg_tree m)) (sym (c.deref-arg-items.ensures.value ∙ c.in_ok-list.ensures)) in
+    read.ensures ∙ ap (list_tree (arg_tree m)) (sym (c.deref-arg-items.ensures.value ∙ c.in_ok-list.ensures)) in
     let less = c.loop-arg-test.true in
     let k : IsTrue (known ((arg_tree m) x)) = subst (λ z. IsTrue (known ((arg_tree m) z))) (sym c.arg-item.is)
-        (part_known (arg_tree m) items i x less (subst (λ z. IsTrue (known z)) whole c.requires.known)) in
+    (part_known (arg_tree m) items i x less (subst (λ z. IsTrue (known z)) whole c.requires.known)) in
     let e : (arg_tree n) x ≡ (arg_tree m) x = stays_arg s.grown x k in
     let o = g.I.Interner.meaning c.fold_arg_with.new.cx in
     let r = c.in_ok-fold_arg_with.ensures in
     let y = c.in_ok-fold_arg_with.field-0 in
-    let made : (arg_tree o) y ≡ folded p ((arg_tree m) x) = later s ((arg_tree m) x) ((arg_tree n) x) ((arg_tree o) y) e r.made in
+    let made : (arg_tree o) y ≡ folded p ((arg_tree m) x) = later s ((arg_tree m) x) ((arg_tree n) x) ((arg_tree o)
+    y) e r.made in
     let is = c.arg-item.is in
     let more : take (i + 1) items ≡ take i items ++ x ∷ [] =
-        take_more items i x less ∙ ap (λ z. take i items ++ z ∷ []) (sym is) in
+    take_more items i x less ∙ ap (λ z. take i items ++ z ∷ []) (sym is) in
     record {
       steps = steps_on s r.steps;
-      listed = listed_next p (arg_tree m) (arg_tree n) (arg_tree o) _ _ _ _ x y c.loop-arg.invariant.listed (λ z k. stays_arg r.steps.grown z k) made
+      listed = listed_next p (arg_tree m) (arg_tree n) (arg_tree o) _ _ _ _ x y c.loop-arg.invariant.listed (λ z k.
+          stays_arg r.steps.grown z k) made
           r.sure more c.in_ok-push.ensures.items;
     }
 
@@ -586,24 +637,27 @@ fold_args_with-returns-clause-same g t c =
     let items = c.deref-arg-items.result.now in
     let read = c.args-2 in
     let whole : m.args k ≡ list_tree (arg_tree m) items =
-        read.ensures ∙ ap (list_tree (arg_tree m)) (sym (c.deref-arg-items.ensures.value ∙ c.in_ok-list.ensures)) in
+    read.ensures ∙ ap (list_tree (arg_tree m)) (sym (c.deref-arg-items.ensures.value ∙ c.in_ok-list.ensures)) in
     let over : length items ≤ c.loop-arg.arg-index = (let h = c.loop-arg-test.false in omega (arith, h)) in
     let all : take c.loop-arg.arg-index items ≡ items = take_all items c.loop-arg.arg-index over in
     let rest : folded p (list_tree (arg_tree m) (take c.loop-arg.arg-index items)) ≡ folded p (m.args k) =
-        ap (λ z. folded p (list_tree (arg_tree m) z)) all ∙ ap (folded p) (sym whole) in
+    ap (λ z. folded p (list_tree (arg_tree m) z)) all ∙ ap (folded p) (sym whole) in
     let made : o.args x ≡ folded p (m.args k) =
-        c.in_ok-folded.ensures.made ∙ (ap (list_tree (arg_tree n)) c.deref.ensures.value ∙ (c.loop-arg.invariant.listed.same ∙ rest)) in
+    c.in_ok-folded.ensures.made ∙ (ap (list_tree (arg_tree n)) c.deref.ensures.value ∙
+    (c.loop-arg.invariant.listed.same ∙ rest)) in
     λ q. (g.met.I.Interner.same_args c.mk_args.new.self x k c.in_ok-folded.ensures.sure
-        (knows_as (m.args k) (o.args k) stay c.requires.known)).1 (made ∙ (q ∙ sym stay))
+    (knows_as (m.args k) (o.args k) stay c.requires.known)).1 (made ∙ (q ∙ sym stay))
 
 pub fold_args_with-returns-in_err-folded-clause-steps :
     goal.fold_args_with-returns-in_err-folded-clause-steps
 fold_args_with-returns-in_err-folded-clause-steps g t c =
-    steps_grown g.met.F.TypeFolder.ready_on g.met.F.TypeFolder.replaces_on c.loop-arg.invariant.steps c.in_err-folded.ensures.grown
+    steps_grown g.met.F.TypeFolder.ready_on g.met.F.TypeFolder.replaces_on c.loop-arg.invariant.steps
+    c.in_err-folded.ensures.grown
 
 pub fold_args_with-returns-clause-steps : goal.fold_args_with-returns-clause-steps
 fold_args_with-returns-clause-steps g t c =
-    steps_grown g.met.F.TypeFolder.ready_on g.met.F.TypeFolder.replaces_on c.loop-arg.invariant.steps c.in_ok-folded.ensures.grown
+    steps_grown g.met.F.TypeFolder.ready_on g.met.F.TypeFolder.replaces_on c.loop-arg.invariant.steps
+    c.in_ok-folded.ensures.grown
 
 pub fold_tys_with-fold_ty_with-requires : goal.fold_tys_with-fold_ty_with-requires
 fold_tys_with-fold_ty_with-requires g t c κs within =
@@ -616,15 +670,15 @@ fold_tys_with-fold_ty_with-requires g t c κs within =
     let x = c.ty-item.result in
     let read = c.tys in
     let whole : m.tys c.args.tys.now ≡ list_tree m.ty items =
-        read.ensures ∙ ap (list_tree m.ty) (sym (c.deref-ty-items.ensures.value ∙ c.in_ok-list.ensures)) in
+    read.ensures ∙ ap (list_tree m.ty) (sym (c.deref-ty-items.ensures.value ∙ c.in_ok-list.ensures)) in
     let less = c.loop-ty-test.true in
     let k : IsTrue (known (m.ty x)) = subst (λ z. IsTrue (known (m.ty z))) (sym c.ty-item.is)
-        (part_known m.ty items i x less (subst (λ z. IsTrue (known z)) whole c.requires.known)) in
+    (part_known m.ty items i x less (subst (λ z. IsTrue (known z)) whole c.requires.known)) in
     let e : n.ty x ≡ m.ty x = s.grown.ty x k in
     let d = c.decreases in
     let l : IsTrue (known (n.ty x)) = knows_as (m.ty x) (n.ty x) e k in
     let below : size (m.ty x) < size (m.tys c.args.tys.now) =
-        subst₂ (λ z w. size (m.ty z) < size w) (sym c.ty-item.is) (sym whole) (part_size m.ty items i x less) in
+    subst₂ (λ z w. size (m.ty z) < size w) (sym c.ty-item.is) (sym whole) (part_size m.ty items i x less) in
     let same : size (n.ty x) ≡ size (m.ty x) = ap size e in
     let small : 4 * size (n.ty x) + 3 < 4 * size (m.tys c.args.tys.now) = omega (arith, below, same) in
     let r = s.ready in
@@ -641,10 +695,10 @@ fold_tys_with-loop-ty-preserved g t c =
     let x = c.ty-item.result in
     let read = c.tys in
     let whole : m.tys c.args.tys.now ≡ list_tree m.ty items =
-        read.ensures ∙ ap (list_tree m.ty) (sym (c.deref-ty-items.ensures.value ∙ c.in_ok-list.ensures)) in
+    read.ensures ∙ ap (list_tree m.ty) (sym (c.deref-ty-items.ensures.value ∙ c.in_ok-list.ensures)) in
     let less = c.loop-ty-test.true in
     let k : IsTrue (known (m.ty x)) = subst (λ z. IsTrue (known (m.ty z))) (sym c.ty-item.is)
-        (part_known m.ty items i x less (subst (λ z. IsTrue (known z)) whole c.requires.known)) in
+    (part_known m.ty items i x less (subst (λ z. IsTrue (known z)) whole c.requires.known)) in
     let e : n.ty x ≡ m.ty x = s.grown.ty x k in
     let o = g.I.Interner.meaning c.fold_ty_with.new.cx in
     let r = c.in_ok-fold_ty_with.ensures in
@@ -652,7 +706,7 @@ fold_tys_with-loop-ty-preserved g t c =
     let made : o.ty y ≡ folded p (m.ty x) = later s (m.ty x) (n.ty x) (o.ty y) e r.made in
     let is = c.ty-item.is in
     let more : take (i + 1) items ≡ take i items ++ x ∷ [] =
-        take_more items i x less ∙ ap (λ z. take i items ++ z ∷ []) (sym is) in
+    take_more items i x less ∙ ap (λ z. take i items ++ z ∷ []) (sym is) in
     record {
       steps = steps_on s r.steps;
       listed = listed_next p m.ty n.ty o.ty _ _ _ _ x y c.loop-ty.invariant.listed (r.steps.grown.ty) made
@@ -672,24 +726,27 @@ fold_tys_with-returns-clause-same g t c =
     let items = c.deref-ty-items.result.now in
     let read = c.tys in
     let whole : m.tys k ≡ list_tree m.ty items =
-        read.ensures ∙ ap (list_tree m.ty) (sym (c.deref-ty-items.ensures.value ∙ c.in_ok-list.ensures)) in
+    read.ensures ∙ ap (list_tree m.ty) (sym (c.deref-ty-items.ensures.value ∙ c.in_ok-list.ensures)) in
     let over : length items ≤ c.loop-ty.ty-index = (let h = c.loop-ty-test.false in omega (arith, h)) in
     let all : take c.loop-ty.ty-index items ≡ items = take_all items c.loop-ty.ty-index over in
     let rest : folded p (list_tree m.ty (take c.loop-ty.ty-index items)) ≡ folded p (m.tys k) =
-        ap (λ z. folded p (list_tree m.ty z)) all ∙ ap (folded p) (sym whole) in
+    ap (λ z. folded p (list_tree m.ty z)) all ∙ ap (folded p) (sym whole) in
     let made : o.tys x ≡ folded p (m.tys k) =
-        c.in_ok-folded.ensures.made ∙ (ap (list_tree n.ty) c.deref.ensures.value ∙ (c.loop-ty.invariant.listed.same ∙ rest)) in
+    c.in_ok-folded.ensures.made ∙ (ap (list_tree n.ty) c.deref.ensures.value ∙ (c.loop-ty.invariant.listed.same ∙
+    rest)) in
     λ q. (g.met.I.Interner.same_tys c.mk_type_list.new.self x k c.in_ok-folded.ensures.sure
-        (knows_as (m.tys k) (o.tys k) stay c.requires.known)).1 (made ∙ (q ∙ sym stay))
+    (knows_as (m.tys k) (o.tys k) stay c.requires.known)).1 (made ∙ (q ∙ sym stay))
 
 pub fold_tys_with-returns-in_err-folded-clause-steps :
     goal.fold_tys_with-returns-in_err-folded-clause-steps
 fold_tys_with-returns-in_err-folded-clause-steps g t c =
-    steps_grown g.met.F.TypeFolder.ready_on g.met.F.TypeFolder.replaces_on c.loop-ty.invariant.steps c.in_err-folded.ensures.grown
+    steps_grown g.met.F.TypeFolder.ready_on g.met.F.TypeFolder.replaces_on c.loop-ty.invariant.steps
+    c.in_err-folded.ensures.grown
 
 pub fold_tys_with-returns-clause-steps : goal.fold_tys_with-returns-clause-steps
 fold_tys_with-returns-clause-steps g t c =
-    steps_grown g.met.F.TypeFolder.ready_on g.met.F.TypeFolder.replaces_on c.loop-ty.invariant.steps c.in_ok-folded.ensures.grown
+    steps_grown g.met.F.TypeFolder.ready_on g.met.F.TypeFolder.replaces_on c.loop-ty.invariant.steps
+    c.in_ok-folded.ensures.grown
 
 pub fold_branches_with-fold_const_with-requires : goal.fold_branches_with-fold_const_with-requires
 fold_branches_with-fold_const_with-requires g t c κs within =
@@ -702,15 +759,16 @@ fold_branches_with-fold_const_with-requires g t c κs within =
     let x = c.constant-item.result in
     let read = c.branches in
     let whole : m.branches c.args.branches.now ≡ list_tree m.const_ items =
-        read.ensures ∙ ap (list_tree m.const_) (sym (c.deref-constant-items.ensures.value ∙ c.in_ok-list.ensures)) in
+    read.ensures ∙ ap (list_tree m.const_) (sym (c.deref-constant-items.ensures.value ∙ c.in_ok-list.ensures)) in
     let less = c.loop-constant-test.true in
     let k : IsTrue (known (m.const_ x)) = subst (λ z. IsTrue (known (m.const_ z))) (sym c.constant-item.is)
-        (part_known m.const_ items i x less (subst (λ z. IsTrue (known z)) whole c.requires.known)) in
+    (part_known m.const_ items i x less (subst (λ z. IsTrue (known z)) whole c.requires.known)) in
     let e : n.const_ x ≡ m.const_ x = s.grown.const_ x k in
     let d = c.decreases in
     let l : IsTrue (known (n.const_ x)) = knows_as (m.const_ x) (n.const_ x) e k in
     let below : size (m.const_ x) < size (m.branches c.args.branches.now) =
-        subst₂ (λ z w. size (m.const_ z) < size w) (sym c.constant-item.is) (sym whole) (part_size m.const_ items i x less) in
+    subst₂ (λ z w. size (m.const_ z) < size w) (sym c.constant-item.is) (sym whole) (part_size m.const_ items i x
+    less) in
     let same : size (n.const_ x) ≡ size (m.const_ x) = ap size e in
     let small : 4 * size (n.const_ x) + 3 < 4 * size (m.branches c.args.branches.now) = omega (arith, below, same) in
     let r = s.ready in
@@ -727,10 +785,10 @@ fold_branches_with-loop-constant-preserved g t c =
     let x = c.constant-item.result in
     let read = c.branches in
     let whole : m.branches c.args.branches.now ≡ list_tree m.const_ items =
-        read.ensures ∙ ap (list_tree m.const_) (sym (c.deref-constant-items.ensures.value ∙ c.in_ok-list.ensures)) in
+    read.ensures ∙ ap (list_tree m.const_) (sym (c.deref-constant-items.ensures.value ∙ c.in_ok-list.ensures)) in
     let less = c.loop-constant-test.true in
     let k : IsTrue (known (m.const_ x)) = subst (λ z. IsTrue (known (m.const_ z))) (sym c.constant-item.is)
-        (part_known m.const_ items i x less (subst (λ z. IsTrue (known z)) whole c.requires.known)) in
+    (part_known m.const_ items i x less (subst (λ z. IsTrue (known z)) whole c.requires.known)) in
     let e : n.const_ x ≡ m.const_ x = s.grown.const_ x k in
     let o = g.I.Interner.meaning c.fold_const_with.new.cx in
     let r = c.in_ok-fold_const_with.ensures in
@@ -738,18 +796,21 @@ fold_branches_with-loop-constant-preserved g t c =
     let made : o.const_ y ≡ folded p (m.const_ x) = later s (m.const_ x) (n.const_ x) (o.const_ y) e r.made in
     let is = c.constant-item.is in
     let more : take (i + 1) items ≡ take i items ++ x ∷ [] =
-        take_more items i x less ∙ ap (λ z. take i items ++ z ∷ []) (sym is) in
+    take_more items i x less ∙ ap (λ z. take i items ++ z ∷ []) (sym is) in
     record {
       steps = steps_on s r.steps;
-      listed = listed_next p m.const_ n.const_ o.const_ _ _ _ _ x y c.loop-constant.invariant.listed (r.steps.grown.const_) made
+      listed = listed_next p m.const_ n.const_ o.const_ _ _ _ _ x y c.loop-constant.invariant.listed
+          (r.steps.grown.const_) made
           r.sure more c.in_ok-push.ensures.items;
     }
 
 pub fold_branches_with-returns-in_err-folded-clause-steps :
     goal.fold_branches_with-returns-in_err-folded-clause-steps
 fold_branches_with-returns-in_err-folded-clause-steps g t c =
-    steps_grown g.met.F.TypeFolder.ready_on g.met.F.TypeFolder.replaces_on c.loop-constant.invariant.steps c.in_err-folded.ensures.grown
+    steps_grown g.met.F.TypeFolder.ready_on g.met.F.TypeFolder.replaces_on c.loop-constant.invariant.steps
+    c.in_err-folded.ensures.grown
 
 pub fold_branches_with-returns-clause-steps : goal.fold_branches_with-returns-clause-steps
 fold_branches_with-returns-clause-steps g t c =
-    steps_grown g.met.F.TypeFolder.ready_on g.met.F.TypeFolder.replaces_on c.loop-constant.invariant.steps c.in_ok-folded.ensures.grown
+    steps_grown g.met.F.TypeFolder.ready_on g.met.F.TypeFolder.replaces_on c.loop-constant.invariant.steps
+    c.in_ok-folded.ensures.grown

@@ -17,7 +17,8 @@ returns-in-Replace g c =
     let stay : n.region k ≡ m.region k = r.steps.grown.region k c.requires.known in
     let sure : IsTrue (known (n.region by)) = subst (λ a. KnownAnswer n.region a) c.in-Replace.is r.sure in
     let made : n.region by ≡ folded p (m.region k) = sym (folded_put region_sort refl p (m.region k) (n.region by)
-        (g.met.I.Interner.is_region c.args.cx.now k c.requires.known) (r.made ∙ ap (answered n.region) c.in-Replace.is)) in
+    (g.met.I.Interner.is_region c.args.cx.now k c.requires.known) (r.made ∙ ap (answered n.region)
+    c.in-Replace.is)) in
     record {
       steps = r.steps;
       sure = sure;
@@ -36,7 +37,7 @@ returns-in-Descend g c =
     let stay = r.steps.grown.region k c.requires.known in
     let copy : n.region c.dup.result ≡ m.region k = ap n.region c.dup.ensures ∙ stay in
     let sure : IsTrue (known (n.region c.dup.result)) =
-        knows_as (m.region k) (n.region c.dup.result) copy c.requires.known in
+    knows_as (m.region k) (n.region c.dup.result) copy c.requires.known in
     record {
       steps = r.steps;
       sure = sure;
