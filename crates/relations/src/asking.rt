@@ -10,7 +10,7 @@ ghost use Rattle.relation_reference.specs.Tables.{store_of, IsLawful};
 ghost use Rattle.relations.specs.Types.{written_tree, has_all};
 ghost use Rattle.relations.specs.declared.written.BuildFault.TheVariants.{Missing};
 
-use crate::printing::write_answer;
+use crate::printing::{Texts, write_answer};
 use crate::written::{BuildFault, Parameter, Written, build};
 use relation_reference::context::RefCtxt;
 use relation_terms::terms::{Interner, OutOfMemory, ParamEnv, Span, Ty, Variance};
@@ -108,7 +108,11 @@ fn ask_pair<I: Interner, W: Write>(
         Ok((param_env, lhs, rhs)) => {
             let span = ctx.interner.dummy_span();
             let answer = relate(ctx, param_env, lhs, rhs, span);
-            write_answer(ctx, parameters, &answer, out)
+            let texts = Texts {
+                names: parameters,
+                items: &[],
+            };
+            write_answer(ctx, &texts, &answer, out)
         }
     }
 }
