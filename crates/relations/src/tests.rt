@@ -2,7 +2,7 @@
 mod printing;
 
 use crate::asking::{Question, ask, build_pair, relate};
-use crate::rows::{PARAMETERS, run};
+use crate::rows::{PARAMETERS, TEXTS, run};
 use crate::written::{Written, WrittenRegion};
 use relation_reference::context::RefCtxt;
 use relation_reference::interner::{ItemId, NoSpan, NodeKey, RefInterner};
@@ -202,7 +202,7 @@ fn several_calls_on_one_context(rt: HostRuntime) -> Result<(), Fail> {
         };
         let mut text = String::new(rt.alloc());
         let cx = RefInterner::new(rt.alloc());
-        ask(cx, &PARAMETERS, &question, &mut text)?;
+        ask(cx, &TEXTS, &question, &mut text)?;
         assert_eq!(rt; text.as_str(), *answers);
     }
     Ok(())

@@ -299,46 +299,51 @@ fn constants_print_their_values(rt: HostRuntime) -> Result<(), Fail> {
 }
 
 // Whether an error prints as that text.
-fn prints<I: Interner>(cx: &I, error: TypeErrorOf<I>, expected: &str) -> Result<bool, fmt::Error>
+fn prints<I: Interner>(
+    cx: &I,
+    texts: &TextsOf<I>,
+    error: TypeErrorOf<I>,
+    expected: &str,
+) -> Result<bool, fmt::Error>
     requires { KnowsError (I.meaning cx.now) error }
 {
     let mut text = String::new(cx.alloc());
-    let texts = Texts {
-        names: &[],
-        items: &[],
-    };
-    write_error(cx, &texts, &error, &mut text)?;
+    write_error(cx, texts, &error, &mut text)?;
     Ok(text.as_str() == expected)
 }
 
-fn small_parts_print<I: Interner>(cx: &I) -> Result<bool, fmt::Error> {
+fn small_parts_print<I: Interner>(cx: &I, texts: &TextsOf<I>) -> Result<bool, fmt::Error> {
     let sizes = TypeError::TupleSize(ExpectedFound::new(2, 3));
     let polarities = ExpectedFound::new(PredicatePolarity::Positive, PredicatePolarity::Negative);
     let safeties = ExpectedFound::new(Safety::Unsafe, Safety::Safe);
     let conventions = ExpectedFound::new(ExternAbi::Rust, ExternAbi::C);
     let variadic = TypeError::VariadicMismatch(ExpectedFound::new(true, false));
     Ok(
-        prints(cx, TypeError::ForceInlineCast, "ForceInlineCast")?
-            && prints(cx, TypeError::Mismatch, "Mismatch")?
+        prints(cx, texts, TypeError::ForceInlineCast, "ForceInlineCast")?
+            && prints(cx, texts, TypeError::Mismatch, "Mismatch")?
             && prints(
                 cx,
+                texts,
                 TypeError::ArgumentMutability(1),
                 "ArgumentMutability(1)",
             )?
-            && prints(cx, sizes, "TupleSize(2, 3)")?
-            && prints(cx, variadic, "VariadicMismatch(true, false)")?
+            && prints(cx, texts, sizes, "TupleSize(2, 3)")?
+            && prints(cx, texts, variadic, "VariadicMismatch(true, false)")?
             && prints(
                 cx,
+                texts,
                 TypeError::PolarityMismatch(polarities),
                 "PolarityMismatch(Positive, Negative)",
             )?
             && prints(
                 cx,
+                texts,
                 TypeError::SafetyMismatch(safeties),
                 "SafetyMismatch(Unsafe, Safe)",
             )?
             && prints(
                 cx,
+                texts,
                 TypeError::AbiMismatch(conventions),
                 "AbiMismatch(Rust, C)",
             )?,
@@ -346,34 +351,34 @@ fn small_parts_print<I: Interner>(cx: &I) -> Result<bool, fmt::Error> {
 }
 
 #[tactic(auto, using(relation_terms::proofs::Stays::knows_ty, relation_terms::proofs::Stays::knows_region))]
-fn terms_print<I: Interner>(cx: &mut I) -> Result<bool, Fail> {
+fn terms_print<I: Interner>(cx: &mut I, texts: &TextsOf<I>) -> Result<bool, Fail> {
     let longer = cx.mk_region(RegionKind::ReStatic)?;
     let shorter = cx.mk_region(RegionKind::ReVar(RegionVid(0)))?;
     let regions = TypeError::RegionsDoesNotOutlive(longer, shorter);
-    let outlives = prints(cx, regions, "RegionsDoesNotOutlive('static, '?0)")?;
+    let outlives = prints(cx, texts, regions, "RegionsDoesNotOutlive('static, '?0)")?;
     let expected = cx.mk_ty(TyKind::Bool)?;
     let found = cx.mk_ty(TyKind::Char)?;
     let types = TypeError::ArgumentSorts(ExpectedFound::new(expected, found), 1);
-    Ok(outlives && prints(cx, types, "ArgumentSorts(bool, char, 1)")?)
+    Ok(outlives && prints(cx, texts, types, "ArgumentSorts(bool, char, 1)")?)
 }
 
 #[tactic(auto, using(relation_terms::proofs::Stays::knows_ty, relation_terms::proofs::Stays::knows_const))]
-fn constants_print<I: Interner>(cx: &mut I) -> Result<bool, Fail> {
+fn constants_print<I: Interner>(cx: &mut I, texts: &TextsOf<I>) -> Result<bool, Fail> {
     let first = make_length(cx, 2)?;
     let second = make_length(cx, 3)?;
     let cyclic = TypeError::CyclicConst(first.dup());
     let sizes = TypeError::ArraySize(ExpectedFound::new(first.dup(), second.dup()));
     let differ = TypeError::ConstMismatch(ExpectedFound::new(first, second));
-    Ok(prints(cx, cyclic, "CyclicConst(2)")?
-        && prints(cx, sizes, "ArraySize(2, 3)")?
-        && prints(cx, differ, "ConstMismatch(2, 3)")?)
+    Ok(prints(cx, texts, cyclic, "CyclicConst(2)")?
+        && prints(cx, texts, sizes, "ArraySize(2, 3)")?
+        && prints(cx, texts, differ, "ConstMismatch(2, 3)")?)
 }
 
 #[test]
 fn errors_print_their_parts(rt: HostRuntime) -> Result<(), Fail> {
     let mut cx = RefInterner::new(rt.alloc());
-    assert!(rt; small_parts_print(&cx)?);
-    assert!(rt; terms_print(&mut cx)?);
-    assert!(rt; constants_print(&mut cx)?);
+    assert!(rt; small_parts_print(&cx, &TEXTS)?);
+    assert!(rt; terms_print(&mut cx, &TEXTS)?);
+    assert!(rt; constants_print(&mut cx, &TEXTS)?);
     Ok(())
 }
