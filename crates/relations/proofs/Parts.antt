@@ -19,6 +19,7 @@ module _ {A : Type 0} (f : A → Tree) where
   -- The same of what is known to be a part, and of what is known to be the whole.
   pub part_of : (t : Tree) (xs : List A) (i : ℕ) (x : A) → x ≡ get_or xs i x → t ≡ list_tree f xs → i < length xs →
       IsTrue (known t) → IsTrue (known (f x)) × (size (f x) < size t)
-  part_of t xs i x e q h k =
-      (subst (λ y. IsTrue (known (f y))) (sym e) (known_part xs i x h (subst (λ u. IsTrue (known u)) q k)),
-      subst₂ (λ y u. size (f y) < size u) (sym e) (sym q) (size_part xs i x h))
+  part_of t xs i x e q h k = (
+    subst (λ y. IsTrue (known (f y))) (sym e) (known_part xs i x h (subst (λ u. IsTrue (known u)) q k)),
+    subst₂ (λ y u. size (f y) < size u) (sym e) (sym q) (size_part xs i x h),
+  )

@@ -16,8 +16,8 @@ use relation_tools::error::{
     ExpectedFound, OutOfMemory, RelateFault, RelateFaultOf, TypeError, TypeErrorOf,
 };
 use std::alloc::{AllocError, Global};
-use std::test::Fail;
 use std::io;
+use std::test::Fail;
 
 const U8: Written = Written::Uint(UintTy::U8);
 

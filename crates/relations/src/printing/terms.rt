@@ -238,7 +238,12 @@ pub fn write_const<I: Interner, W: Write>(
 {
     match cx.const_kind(constant) {
         ConstKind::Param(named) => out.write_str(name_text(texts.names, &named.name, "_")),
-        ConstKind::Placeholder(of) => write_placeholder(texts.names, of.universe, &of.bound.name, out),
+        ConstKind::Placeholder(of) => write_placeholder(
+            texts.names,
+            of.universe,
+            &of.bound.name,
+            out,
+        ),
         ConstKind::Value(_, value) => write_valtree(cx, texts, &value, out),
         ConstKind::Expr(kind, args) => {
             let number = kind.0;

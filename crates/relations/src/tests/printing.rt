@@ -142,10 +142,12 @@ fn pointers_print<I: Interner>(cx: &mut I, texts: &TextsOf<I>) -> Result<bool, F
     let unique = TyKind::Ref(region, pointee.dup(), Mutability::Mut);
     let constant = TyKind::RawPtr(pointee.dup(), Mutability::Not);
     let mutable = TyKind::RawPtr(pointee, Mutability::Mut);
-    Ok(ty_prints(cx, texts, shared, "&'static str")?
-        && ty_prints(cx, texts, unique, "&'static mut str")?
-        && ty_prints(cx, texts, constant, "*const str")?
-        && ty_prints(cx, texts, mutable, "*mut str")?)
+    Ok(
+        ty_prints(cx, texts, shared, "&'static str")?
+            && ty_prints(cx, texts, unique, "&'static mut str")?
+            && ty_prints(cx, texts, constant, "*const str")?
+            && ty_prints(cx, texts, mutable, "*mut str")?,
+    )
 }
 
 #[tactic(auto, using(relation_terms::proofs::Stays::knows_ty, relation_terms::proofs::Stays::knows_const))]
@@ -195,9 +197,11 @@ fn items_print<I: Interner>(
     let adt = TyKind::Adt(AdtId(id.dup()), args.dup());
     let function = TyKind::FnDef(FunctionId(id.dup()), args.dup());
     let closure = TyKind::Closure(ClosureId(id.dup()), args.dup());
-    Ok(ty_prints(cx, texts, adt, expected)?
-        && ty_prints(cx, texts, function, expected)?
-        && ty_prints(cx, texts, closure, expected)?)
+    Ok(
+        ty_prints(cx, texts, adt, expected)?
+            && ty_prints(cx, texts, function, expected)?
+            && ty_prints(cx, texts, closure, expected)?,
+    )
 }
 
 // The same of the forms of coroutines.
@@ -214,9 +218,11 @@ fn coroutines_print<I: Interner>(
     let closure = TyKind::CoroutineClosure(CoroutineClosureId(id.dup()), args.dup());
     let coroutine = TyKind::Coroutine(CoroutineId(id.dup()), args.dup());
     let witness = TyKind::CoroutineWitness(CoroutineId(id.dup()), args.dup());
-    Ok(ty_prints(cx, texts, closure, expected)?
-        && ty_prints(cx, texts, coroutine, expected)?
-        && ty_prints(cx, texts, witness, expected)?)
+    Ok(
+        ty_prints(cx, texts, closure, expected)?
+            && ty_prints(cx, texts, coroutine, expected)?
+            && ty_prints(cx, texts, witness, expected)?,
+    )
 }
 
 fn placeholders_print<I: Interner>(
@@ -248,11 +254,7 @@ fn expressions_print<I: Interner>(cx: &mut I, texts: &TextsOf<I>) -> Result<bool
 }
 
 #[tactic(auto, using(relation_terms::proofs::Stays::knows_const, relation_terms::proofs::Stays::knows_ty, relation_terms::proofs::Stays::knows_valtree))]
-fn values_print<I: Interner>(
-    cx: &mut I,
-    texts: &TextsOf<I>,
-    name: &I::Name,
-) -> Result<bool, Fail> {
+fn values_print<I: Interner>(cx: &mut I, texts: &TextsOf<I>, name: &I::Name) -> Result<bool, Fail> {
     let name = name.dup();
     let parameter = cx.mk_const(ConstKind::Param(ParamConst { index: 0, name }))?;
     let number = make_length(cx, u128::MAX)?;
@@ -369,9 +371,11 @@ fn constants_print<I: Interner>(cx: &mut I, texts: &TextsOf<I>) -> Result<bool, 
     let cyclic = TypeError::CyclicConst(first.dup());
     let sizes = TypeError::ArraySize(ExpectedFound::new(first.dup(), second.dup()));
     let differ = TypeError::ConstMismatch(ExpectedFound::new(first, second));
-    Ok(prints(cx, texts, cyclic, "CyclicConst(2)")?
-        && prints(cx, texts, sizes, "ArraySize(2, 3)")?
-        && prints(cx, texts, differ, "ConstMismatch(2, 3)")?)
+    Ok(
+        prints(cx, texts, cyclic, "CyclicConst(2)")?
+            && prints(cx, texts, sizes, "ArraySize(2, 3)")?
+            && prints(cx, texts, differ, "ConstMismatch(2, 3)")?,
+    )
 }
 
 #[test]
