@@ -10,7 +10,7 @@ ghost use Rattle.relation_reference.specs.Tables.{store_of, IsLawful};
 ghost use Rattle.relations.specs.Types.{written_tree, has_all};
 ghost use Rattle.relations.specs.declared.written.BuildFault.TheVariants.{Missing};
 
-use crate::printing::write_answer;
+use crate::printing::{TextsOf, write_answer};
 use crate::written::{BuildFault, Parameter, Written, build};
 use relation_reference::context::RefCtxt;
 use relation_terms::terms::{Interner, OutOfMemory, ParamEnv, Span, Ty, Variance};
@@ -95,20 +95,20 @@ pub fn relate<C: RelateExt>(
 // Relates a pair, and writes the answer.
 fn ask_pair<I: Interner, W: Write>(
     ctx: &mut RefCtxt<I>,
-    parameters: &[Parameter<I::Name>],
+    texts: &TextsOf<I>,
     pair: &(Written, Written),
     out: &mut W,
 ) -> fmt::Result
     requires { IsLawful (I.meaning ctx.old.interner) ctx.old.inner }
     ensures { IsLawful (I.meaning ctx.new.interner) ctx.new.inner }
 {
-    match build_pair(ctx, parameters, pair) {
+    match build_pair(ctx, texts.names, pair) {
         Err(BuildFault::Memory) => out.write_str("memory"),
         Err(BuildFault::Missing) => out.write_str("missing"),
         Ok((param_env, lhs, rhs)) => {
             let span = ctx.interner.dummy_span();
             let answer = relate(ctx, param_env, lhs, rhs, span);
-            write_answer(ctx, parameters, &answer, out)
+            write_answer(ctx, texts, &answer, out)
         }
     }
 }
@@ -116,7 +116,7 @@ fn ask_pair<I: Interner, W: Write>(
 /// Asks a question of a new context over the interner, and writes its answers, each after ` | ` but the first.
 pub fn ask<I: Interner + Drop, W: Write>(
     interner: I,
-    parameters: &[Parameter<I::Name>],
+    texts: &TextsOf<I>,
     question: &Question,
     out: &mut W,
 ) -> fmt::Result {
@@ -129,7 +129,7 @@ pub fn ask<I: Interner + Drop, W: Write>(
         if any {
             out.write_str(" | ")?;
         }
-        ask_pair(&mut ctx, parameters, pair, out)?;
+        ask_pair(&mut ctx, texts, pair, out)?;
         if question.budget.is_some() {
             let left = ctx.budget_left();
             write!(out, "; left={left}")?;

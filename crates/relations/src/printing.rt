@@ -6,129 +6,17 @@ ghost use Rattle.relation_tools.specs.Faults.{KnowsBoth, KnowsError, KnowsFault}
 ghost use Rattle.type_relations.specs.Stores.{ConstraintIn, entry_of, bound_to};
 ghost use Rattle.relation_reference.specs.Tables.{store_of, constraint_of, IsLawful};
 
-use crate::written::Parameter;
+mod names;
+mod terms;
+
+pub use names::{ItemText, Texts, TextsOf};
 use relation_reference::context::{RefCtxt, TypeVariableValue};
 use relation_terms::predicate::RegionConstraint;
-use relation_terms::terms::{
-    Dup, GenericArgKind, InferTy, IntTy, Interner, Mutability, Region, RegionKind, Ty, TyKind, Tys,
-    UintTy,
-};
+use relation_terms::terms::{Const, Dup, Interner, Ty};
 use relation_tools::error::{ExpectedFound, RelateFault, TypeError, TypeErrorOf};
 use std::fmt::{self, Write};
+pub use terms::{write_arg, write_const, write_region, write_ty};
 use type_relations::relate::solver_relating::RelateGoals;
-
-// The name of a signed integer type.
-fn int_name(width: IntTy) -> &'static str {
-    match width {
-        IntTy::Isize => "isize",
-        IntTy::I8 => "i8",
-        IntTy::I16 => "i16",
-        IntTy::I32 => "i32",
-        IntTy::I64 => "i64",
-        IntTy::I128 => "i128",
-    }
-}
-
-// The name of an unsigned integer type.
-fn uint_name(width: UintTy) -> &'static str {
-    match width {
-        UintTy::Usize => "usize",
-        UintTy::U8 => "u8",
-        UintTy::U16 => "u16",
-        UintTy::U32 => "u32",
-        UintTy::U64 => "u64",
-        UintTy::U128 => "u128",
-    }
-}
-
-/// Writes a region. A parameter that has no text is `'_`.
-pub fn write_region<I: Interner, W: Write>(
-    cx: &I,
-    parameters: &[Parameter<I::Name>],
-    region: &Region<I>,
-    out: &mut W,
-) -> fmt::Result
-    requires { IsTrue (known ((I.meaning cx.now).region region.now)) }
-{
-    match cx.region_kind(region) {
-        RegionKind::ReStatic => out.write_str("'static"),
-        RegionKind::ReVar(variable) => {
-            let number = variable.0;
-            write!(out, "'?{number}")
-        }
-        RegionKind::ReEarlyParam(named) => {
-            for parameter in parameters {
-                if parameter.name == named.name {
-                    return out.write_str(parameter.text);
-                }
-            }
-            out.write_str("'_")
-        }
-    }
-}
-
-/// Writes a type.
-#[cycle(write_ty)]
-#[tactic(auto, using(crate::proofs::Parts::size_part, crate::proofs::Parts::known_part))]
-pub fn write_ty<I: Interner, W: Write>(
-    cx: &I,
-    parameters: &[Parameter<I::Name>],
-    ty: &Ty<I>,
-    out: &mut W,
-) -> fmt::Result
-    requires { IsTrue (known ((I.meaning cx.now).ty ty.now)) }
-{
-    match cx.ty_kind(ty) {
-        TyKind::Bool => out.write_str("bool"),
-        TyKind::Char => out.write_str("char"),
-        TyKind::Int(width) => out.write_str(int_name(width)),
-        TyKind::Uint(width) => out.write_str(uint_name(width)),
-        TyKind::Infer(InferTy::TyVar(variable)) => {
-            let number = variable.0;
-            write!(out, "?{number}")
-        }
-        TyKind::Slice(element) => {
-            out.write_str("[")?;
-            write_ty(cx, parameters, &element, out)?;
-            out.write_str("]")
-        }
-        TyKind::Tuple(members) => write_tuple(cx, parameters, &members, out),
-        TyKind::Ref(region, pointee, mutability) => {
-            out.write_str("&")?;
-            write_region(cx, parameters, &region, out)?;
-            match mutability {
-                Mutability::Not => out.write_str(" ")?,
-                Mutability::Mut => out.write_str(" mut ")?,
-            }
-            write_ty(cx, parameters, &pointee, out)
-        }
-    }
-}
-
-// Writes a tuple: a lone member has a comma behind it.
-#[cycle(write_ty)]
-#[tactic(auto, using(crate::proofs::Parts::size_part, crate::proofs::Parts::known_part))]
-fn write_tuple<I: Interner, W: Write>(
-    cx: &I,
-    parameters: &[Parameter<I::Name>],
-    members: &Tys<I>,
-    out: &mut W,
-) -> fmt::Result
-    requires { IsTrue (known ((I.meaning cx.now).tys members.now)) }
-{
-    let types = cx.tys(members);
-    out.write_str("(")?;
-    for (place, ty) in types.iter().enumerate() {
-        if place > 0 {
-            out.write_str(", ")?;
-        }
-        write_ty(cx, parameters, ty, out)?;
-    }
-    if types.len() == 1 {
-        out.write_str(",")?;
-    }
-    out.write_str(")")
-}
 
 // The name of an error.
 fn error_name<X, D, N>(error: &TypeError<X, D, N>) -> &'static str {
@@ -163,22 +51,36 @@ fn error_name<X, D, N>(error: &TypeError<X, D, N>) -> &'static str {
 // Writes two types with a comma between.
 fn write_types<I: Interner, W: Write>(
     cx: &I,
-    parameters: &[Parameter<I::Name>],
+    texts: &TextsOf<I>,
     types: &ExpectedFound<Ty<I>>,
     out: &mut W,
 ) -> fmt::Result
     requires { KnowsBoth (I.meaning cx.now).ty types.now }
 {
-    write_ty(cx, parameters, &types.expected, out)?;
+    write_ty(cx, texts, &types.expected, out)?;
     out.write_str(", ")?;
-    write_ty(cx, parameters, &types.found, out)
+    write_ty(cx, texts, &types.found, out)
 }
 
-// Writes the types and regions that an error names, in parentheses. Constants, ids, lists and regions of a binder have
+// Writes two constants with a comma between.
+fn write_consts<I: Interner, W: Write>(
+    cx: &I,
+    texts: &TextsOf<I>,
+    constants: &ExpectedFound<Const<I>>,
+    out: &mut W,
+) -> fmt::Result
+    requires { KnowsBoth (I.meaning cx.now).const_ constants.now }
+{
+    write_const(cx, texts, &constants.expected, out)?;
+    out.write_str(", ")?;
+    write_const(cx, texts, &constants.found, out)
+}
+
+// Writes the types, regions and constants that an error names, in parentheses. Ids, lists and regions of a binder have
 // no text yet: of an error that names one nothing is written.
 fn write_error_terms<I: Interner, W: Write>(
     cx: &I,
-    parameters: &[Parameter<I::Name>],
+    texts: &TextsOf<I>,
     error: &TypeErrorOf<I>,
     out: &mut W,
 ) -> fmt::Result
@@ -187,24 +89,34 @@ fn write_error_terms<I: Interner, W: Write>(
     match error {
         TypeError::RegionsDoesNotOutlive(longer, shorter) => {
             out.write_str("(")?;
-            write_region(cx, parameters, longer, out)?;
+            write_region(cx, texts, longer, out)?;
             out.write_str(", ")?;
-            write_region(cx, parameters, shorter, out)?;
+            write_region(cx, texts, shorter, out)?;
             out.write_str(")")
         }
         TypeError::Sorts(types) => {
             out.write_str("(")?;
-            write_types(cx, parameters, types, out)?;
+            write_types(cx, texts, types, out)?;
             out.write_str(")")
         }
         TypeError::ArgumentSorts(types, place) => {
             out.write_str("(")?;
-            write_types(cx, parameters, types, out)?;
+            write_types(cx, texts, types, out)?;
             write!(out, ", {place})")
         }
         TypeError::CyclicTy(ty) => {
             out.write_str("(")?;
-            write_ty(cx, parameters, ty, out)?;
+            write_ty(cx, texts, ty, out)?;
+            out.write_str(")")
+        }
+        TypeError::ArraySize(constants) | TypeError::ConstMismatch(constants) => {
+            out.write_str("(")?;
+            write_consts(cx, texts, constants, out)?;
+            out.write_str(")")
+        }
+        TypeError::CyclicConst(constant) => {
+            out.write_str("(")?;
+            write_const(cx, texts, constant, out)?;
             out.write_str(")")
         }
         _ => Ok(()),
@@ -214,7 +126,7 @@ fn write_error_terms<I: Interner, W: Write>(
 /// Writes why two terms do not relate: the error's name and, of its parts, those that have a text.
 pub fn write_error<I: Interner, W: Write>(
     cx: &I,
-    parameters: &[Parameter<I::Name>],
+    texts: &TextsOf<I>,
     error: &TypeErrorOf<I>,
     out: &mut W,
 ) -> fmt::Result
@@ -228,14 +140,14 @@ pub fn write_error<I: Interner, W: Write>(
         TypeError::VariadicMismatch(pair) => write!(out, "({}, {})", pair.expected, pair.found),
         TypeError::TupleSize(pair) => write!(out, "({}, {})", pair.expected, pair.found),
         TypeError::ArgumentMutability(place) => write!(out, "({place})"),
-        _ => write_error_terms(cx, parameters, error, out),
+        _ => write_error_terms(cx, texts, error, out),
     }
 }
 
-// Writes a constraint on regions. No constant has a form yet.
+// Writes a constraint on regions.
 fn write_constraint<I: Interner, W: Write>(
     ctx: &RefCtxt<I>,
-    parameters: &[Parameter<I::Name>],
+    texts: &TextsOf<I>,
     constraint: &RegionConstraint<I::Key>,
     out: &mut W,
 ) -> fmt::Result
@@ -244,18 +156,14 @@ fn write_constraint<I: Interner, W: Write>(
     let cx = &ctx.interner;
     match constraint {
         RegionConstraint::Eq(equal) => {
-            write_region(cx, parameters, &equal.0, out)?;
+            write_region(cx, texts, &equal.0, out)?;
             out.write_str(" == ")?;
-            write_region(cx, parameters, &equal.1, out)
+            write_region(cx, texts, &equal.1, out)
         }
         RegionConstraint::Outlives(outlives) => {
-            match &outlives.0 {
-                GenericArgKind::Lifetime(region) => write_region(cx, parameters, region, out)?,
-                GenericArgKind::Ty(ty) => write_ty(cx, parameters, ty, out)?,
-                GenericArgKind::Const(_) => out.write_str("_")?,
-            }
+            write_arg(cx, texts, &outlives.0, out)?;
             out.write_str(": ")?;
-            write_region(cx, parameters, &outlives.1, out)
+            write_region(cx, texts, &outlives.1, out)
         }
     }
 }
@@ -263,7 +171,7 @@ fn write_constraint<I: Interner, W: Write>(
 // Writes the constraints that a context has recorded, if any.
 fn write_constraints<I: Interner, W: Write>(
     ctx: &RefCtxt<I>,
-    parameters: &[Parameter<I::Name>],
+    texts: &TextsOf<I>,
     out: &mut W,
 ) -> fmt::Result
     requires { IsLawful (I.meaning ctx.now.interner) ctx.now.inner }
@@ -271,7 +179,7 @@ fn write_constraints<I: Interner, W: Write>(
     let mut any = false;
     for constraint in ctx.region_constraints() {
         out.write_str(if any { ", " } else { "; regions=[" })?;
-        write_constraint(ctx, parameters, constraint, out)?;
+        write_constraint(ctx, texts, constraint, out)?;
         any = true;
     }
     if any { out.write_str("]") } else { Ok(()) }
@@ -295,7 +203,7 @@ fn bound_type<I: Interner>(ctx: &RefCtxt<I>, number: usize) -> Option<Ty<I>>
 // Writes the roots that are bound to a type, if any, each with its type.
 fn write_bound<I: Interner, W: Write>(
     ctx: &RefCtxt<I>,
-    parameters: &[Parameter<I::Name>],
+    texts: &TextsOf<I>,
     out: &mut W,
 ) -> fmt::Result
     requires { IsLawful (I.meaning ctx.now.interner) ctx.now.inner }
@@ -305,7 +213,7 @@ fn write_bound<I: Interner, W: Write>(
         if let Some(ty) = bound_type(ctx, number) {
             out.write_str(if any { ", " } else { "; bound=[" })?;
             write!(out, "?{number}=")?;
-            write_ty(&ctx.interner, parameters, &ty, out)?;
+            write_ty(&ctx.interner, texts, &ty, out)?;
             any = true;
         }
     }
@@ -315,7 +223,7 @@ fn write_bound<I: Interner, W: Write>(
 /// Writes what a relation answered, and then what its context has recorded.
 pub fn write_answer<I: Interner, W: Write>(
     ctx: &RefCtxt<I>,
-    parameters: &[Parameter<I::Name>],
+    texts: &TextsOf<I>,
     answer: &RelateGoals<I>,
     out: &mut W,
 ) -> fmt::Result
@@ -328,9 +236,9 @@ pub fn write_answer<I: Interner, W: Write>(
         Err(RelateFault::Budget) => out.write_str("budget")?,
         Err(RelateFault::Unrelated(error)) => {
             out.write_str("err ")?;
-            write_error(&ctx.interner, parameters, error, out)?;
+            write_error(&ctx.interner, texts, error, out)?;
         }
     }
-    write_constraints(ctx, parameters, out)?;
-    write_bound(ctx, parameters, out)
+    write_constraints(ctx, texts, out)?;
+    write_bound(ctx, texts, out)
 }

@@ -3,8 +3,9 @@ ghost use Rattle.std.specs.Prelude.{◌≡◌, ◌<◌, ◌≤◌, ◌↔◌, Is
 ghost use Rattle.relations.specs.Named.{IsRow};
 
 use crate::asking::{Question, ask};
+use crate::printing::Texts;
 use crate::written::{Parameter, Written};
-use relation_reference::interner::{RefInterner, SymbolId};
+use relation_reference::interner::{ItemId, RefInterner, SymbolId};
 use relation_terms::terms::UintTy;
 use std::alloc::Global;
 use std::fmt::{self, Write};
@@ -29,6 +30,12 @@ pub const PARAMETERS: [Parameter<SymbolId>; 2] = [
         text: "'b",
     },
 ];
+
+/// The texts that the answers are written with. No row names an item.
+pub const TEXTS: Texts<'static, ItemId, SymbolId> = Texts {
+    names: &PARAMETERS,
+    items: &[],
+};
 
 const U8: Written = Written::Uint(UintTy::U8);
 
@@ -97,7 +104,7 @@ fn answers(alloc: Global, questions: &[Question]) -> Result<String, fmt::Error> 
         if !text.is_empty() {
             text.write_str(" | ")?;
         }
-        ask(RefInterner::new(alloc), &PARAMETERS, question, &mut text)?;
+        ask(RefInterner::new(alloc), &TEXTS, question, &mut text)?;
     }
     Ok(text)
 }

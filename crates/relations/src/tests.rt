@@ -1,25 +1,23 @@
-//! What a run prints and answers, what several calls on one context leave, and how errors print.
-ghost use Rattle.relation_tools.specs.Faults.{KnowsError};
+//! What a run prints and answers, and what several calls on one context leave.
+mod printing;
 
 use crate::asking::{Question, ask, build_pair, relate};
-use crate::printing::{write_error, write_ty};
-use crate::rows::{PARAMETERS, run};
+use crate::rows::{PARAMETERS, TEXTS, run};
 use crate::written::{Written, WrittenRegion};
 use relation_reference::context::RefCtxt;
 use relation_reference::interner::{ItemId, NoSpan, NodeKey, RefInterner};
 use relation_terms::predicate::{OutlivesPredicate, RegionConstraint, RegionEqPredicate};
 use relation_terms::terms::{
     AlternativesKey, ArgsKey, BoundVarsKey, BranchesKey, ClauseKey, ConstKey, Dup,
-    ExistentialPredicatesKey, ExternAbi, GenericArgKind, Goal, IntTy, Interner, ParamEnvKey,
-    PatKey, PredicateKey, PredicatePolarity, RegionKey, RegionKind, RegionVid, Safety, TyKey,
-    TyKind, TyVid, UintTy, ValTreeKey,
+    ExistentialPredicatesKey, GenericArgKind, Goal, Interner, ParamEnvKey, PatKey, PredicateKey,
+    RegionKey, TyKey, TyVid, UintTy, ValTreeKey,
 };
 use relation_tools::error::{
     ExpectedFound, OutOfMemory, RelateFault, RelateFaultOf, TypeError, TypeErrorOf,
 };
 use std::alloc::{AllocError, Global};
+use std::io;
 use std::test::Fail;
-use std::{fmt, io};
 
 const U8: Written = Written::Uint(UintTy::U8);
 
@@ -204,7 +202,7 @@ fn several_calls_on_one_context(rt: HostRuntime) -> Result<(), Fail> {
         };
         let mut text = String::new(rt.alloc());
         let cx = RefInterner::new(rt.alloc());
-        ask(cx, &PARAMETERS, &question, &mut text)?;
+        ask(cx, &TEXTS, &question, &mut text)?;
         assert_eq!(rt; text.as_str(), *answers);
     }
     Ok(())
@@ -278,93 +276,4 @@ fn faults_of_growths_and_errors(rt: HostRuntime) {
     let error: TypeErrorOf<RefInterner> = TypeError::CyclicTy(TyKey(NodeKey(1)));
     let fault = RelateFault::from(error.dup());
     assert!(rt; fault == RelateFault::Unrelated(error));
-}
-
-const INTEGERS: [(TyKind<NodeKey>, &str); 12] = [
-    (TyKind::Int(IntTy::Isize), "isize"),
-    (TyKind::Int(IntTy::I8), "i8"),
-    (TyKind::Int(IntTy::I16), "i16"),
-    (TyKind::Int(IntTy::I32), "i32"),
-    (TyKind::Int(IntTy::I64), "i64"),
-    (TyKind::Int(IntTy::I128), "i128"),
-    (TyKind::Uint(UintTy::Usize), "usize"),
-    (TyKind::Uint(UintTy::U8), "u8"),
-    (TyKind::Uint(UintTy::U16), "u16"),
-    (TyKind::Uint(UintTy::U32), "u32"),
-    (TyKind::Uint(UintTy::U64), "u64"),
-    (TyKind::Uint(UintTy::U128), "u128"),
-];
-
-#[test]
-fn integer_types_print_their_names(rt: HostRuntime) -> Result<(), Fail> {
-    for (kind, name) in &INTEGERS {
-        let mut cx = RefInterner::new(rt.alloc());
-        let ty = cx.mk_ty(kind.dup())?;
-        let mut text = String::new(rt.alloc());
-        write_ty(&cx, &PARAMETERS, &ty, &mut text)?;
-        assert_eq!(rt; text.as_str(), *name);
-    }
-    Ok(())
-}
-
-// Whether an error prints as that text.
-fn prints<I: Interner>(cx: &I, error: TypeErrorOf<I>, expected: &str) -> Result<bool, fmt::Error>
-    requires { KnowsError (I.meaning cx.now) error }
-{
-    let mut text = String::new(cx.alloc());
-    write_error(cx, &[], &error, &mut text)?;
-    Ok(text.as_str() == expected)
-}
-
-fn small_parts_print<I: Interner>(cx: &I) -> Result<bool, fmt::Error> {
-    let sizes = TypeError::TupleSize(ExpectedFound::new(2, 3));
-    let polarities = ExpectedFound::new(PredicatePolarity::Positive, PredicatePolarity::Negative);
-    let safeties = ExpectedFound::new(Safety::Unsafe, Safety::Safe);
-    let conventions = ExpectedFound::new(ExternAbi::Rust, ExternAbi::C);
-    let variadic = TypeError::VariadicMismatch(ExpectedFound::new(true, false));
-    Ok(
-        prints(cx, TypeError::ForceInlineCast, "ForceInlineCast")?
-            && prints(
-                cx,
-                TypeError::ArgumentMutability(1),
-                "ArgumentMutability(1)",
-            )?
-            && prints(cx, sizes, "TupleSize(2, 3)")?
-            && prints(cx, variadic, "VariadicMismatch(true, false)")?
-            && prints(
-                cx,
-                TypeError::PolarityMismatch(polarities),
-                "PolarityMismatch(Positive, Negative)",
-            )?
-            && prints(
-                cx,
-                TypeError::SafetyMismatch(safeties),
-                "SafetyMismatch(Unsafe, Safe)",
-            )?
-            && prints(
-                cx,
-                TypeError::AbiMismatch(conventions),
-                "AbiMismatch(Rust, C)",
-            )?,
-    )
-}
-
-#[tactic(auto, using(relation_terms::proofs::Stays::knows_ty, relation_terms::proofs::Stays::knows_region))]
-fn terms_print<I: Interner>(cx: &mut I) -> Result<bool, Fail> {
-    let longer = cx.mk_region(RegionKind::ReStatic)?;
-    let shorter = cx.mk_region(RegionKind::ReVar(RegionVid(0)))?;
-    let regions = TypeError::RegionsDoesNotOutlive(longer, shorter);
-    let outlives = prints(cx, regions, "RegionsDoesNotOutlive('static, '?0)")?;
-    let expected = cx.mk_ty(TyKind::Bool)?;
-    let found = cx.mk_ty(TyKind::Char)?;
-    let types = TypeError::ArgumentSorts(ExpectedFound::new(expected, found), 1);
-    Ok(outlives && prints(cx, types, "ArgumentSorts(bool, char, 1)")?)
-}
-
-#[test]
-fn errors_print_their_parts(rt: HostRuntime) -> Result<(), Fail> {
-    let mut cx = RefInterner::new(rt.alloc());
-    assert!(rt; small_parts_print(&cx)?);
-    assert!(rt; terms_print(&mut cx)?);
-    Ok(())
 }

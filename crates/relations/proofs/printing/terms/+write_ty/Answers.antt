@@ -1,0 +1,15 @@
+use Rattle.std.proofs.Common.{rules}
+use Rattle.relation_terms.specs.Meaning.{arg_tree}
+use Rattle.relations.proofs.Parts.{part_of}
+use Rattle.relations.proofs.printing.terms.+write_ty.Goals as goal
+
+pub write_args-write_arg-requires : goal.write_args-write_arg-requires
+write_args-write_arg-requires g t c κs within =
+    let m = g.I.Interner.meaning c.args.cx.now in
+    let d = c.decreases in
+    let part =
+    part_of (arg_tree m) (m.args c.args.args.now) c.args-arg-items.result.now c.loop-place.place c.arg-item.result
+    c.arg-item.is c.args-arg-items.ensures c.loop-place-test.true c.requires in
+    let sure = part.0 in
+    let small = part.1 in
+    search rules

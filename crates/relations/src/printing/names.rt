@@ -1,0 +1,86 @@
+//! The texts of names, of items and of the small enums.
+use crate::written::Parameter;
+use relation_terms::terms::{FloatTy, IntTy, Keys, Mutability, UintTy};
+
+/// An item's id in an interner, and its text.
+#[derive(Drop)]
+pub struct ItemText<D> {
+    pub id: D,
+    pub text: &'static str,
+}
+
+/// The texts of names and of items, as the caller hands them in.
+#[derive(Drop)]
+pub struct Texts<'a, D, N> {
+    pub names: &'a [Parameter<N>],
+    pub items: &'a [ItemText<D>],
+}
+
+/// The texts of an interner's names and items.
+pub type TextsOf<'a, I> = Texts<'a, <I as Keys>::Id, <I as Keys>::Name>;
+
+// The text of a name, or else the given one.
+pub(super) fn name_text<N: PartialEq>(
+    names: &[Parameter<N>],
+    name: &N,
+    otherwise: &'static str,
+) -> &'static str {
+    for named in names {
+        if named.name == *name {
+            return named.text;
+        }
+    }
+    otherwise
+}
+
+// The text of an item. One that has no text is `_`.
+pub(super) fn item_text<D: PartialEq>(items: &[ItemText<D>], id: &D) -> &'static str {
+    for item in items {
+        if item.id == *id {
+            return item.text;
+        }
+    }
+    "_"
+}
+
+// The name of a signed integer type.
+pub(super) fn int_name(width: IntTy) -> &'static str {
+    match width {
+        IntTy::Isize => "isize",
+        IntTy::I8 => "i8",
+        IntTy::I16 => "i16",
+        IntTy::I32 => "i32",
+        IntTy::I64 => "i64",
+        IntTy::I128 => "i128",
+    }
+}
+
+// The name of an unsigned integer type.
+pub(super) fn uint_name(width: UintTy) -> &'static str {
+    match width {
+        UintTy::Usize => "usize",
+        UintTy::U8 => "u8",
+        UintTy::U16 => "u16",
+        UintTy::U32 => "u32",
+        UintTy::U64 => "u64",
+        UintTy::U128 => "u128",
+    }
+}
+
+// The name of a float type.
+pub(super) fn float_name(width: FloatTy) -> &'static str {
+    match width {
+        FloatTy::F16 => "f16",
+        FloatTy::F32 => "f32",
+        FloatTy::F64 => "f64",
+        FloatTy::F128 => "f128",
+    }
+}
+
+// What stands before the type that a raw pointer leads to.
+pub(super) fn pointer_name(mutability: Mutability) -> &'static str {
+    match mutability {
+        Mutability::Not => "*const ",
+        Mutability::Mut => "*mut ",
+    }
+}
