@@ -4,8 +4,11 @@ use Rattle.std.proofs.lemmas.Bool.{false≢true}
 use Rattle.std.specs.Result.{IsErr, IsErrAnd}
 use Rattle.relation_terms.specs.Heads.{Sort, Admits, region_sort, type_sort, const_sort, VarKind, var_sort, type_var, region_var, const_var, int_var, float_var}
 use Rattle.relation_terms.specs.Heads.{Head, head_sort, array, expression, value, value_type, value_branch, Leaf, variable, bound, placeholder, atom, unknown}
-use Rattle.relation_terms.specs.Trees.{Tree, leaf, node, bind, nil, cons, Assign, apply, IsList, IsTerm, Fits, count, nth, known}
-use Rattle.relation_terms.specs.Meaning.{Meaning, Extends, arg_tree}
+use Rattle.relation_terms.specs.Trees.{Tree, leaf, node, bind, nil, cons, Assign, apply, IsList, IsTerm, Fits, count, nth, known, size}
+use Rattle.relation_terms.specs.Meaning.{Meaning, Extends, arg_tree, kind_tree}
+use Rattle.relation_terms.specs.declared.terms.ty_kind.TyKind.{TyKind}
+use Rattle.relation_terms.specs.declared.terms.ty_kind.TyKind.TheVariants.{Array, Infer}
+use Rattle.relation_terms.specs.declared.terms.ty_kind.InferTy.TheVariants.{TyVar}
 use Rattle.relation_terms.specs.declared.terms.keys.TyKey.{TyKey}
 use Rattle.relation_terms.specs.declared.terms.keys.RegionKey.{RegionKey}
 use Rattle.relation_terms.specs.declared.terms.keys.ConstKey.{ConstKey}
@@ -19,14 +22,15 @@ use Rattle.relation_tools.specs.declared.error.RelateFault.{RelateFault}
 use Rattle.relation_tools.specs.declared.error.RelateFault.TheVariants.{Memory, Budget, Unrelated}
 use Rattle.relation_tools.specs.Faults.{KnowsFault}
 use Rattle.type_relations.specs.Relation.{Interpretation, sort_of}
-use Rattle.type_relations.specs.Stores.{Store, Satisfies, IsAssignment, IsMade, MayStandFor, IsTermIn, InContext, IsMadeLeaf}
+use Rattle.type_relations.specs.Stores.{Store, Satisfies, IsAssignment, IsMade, MayStandFor, IsTermIn, InContext, IsMadeLeaf, weight, resolved}
 use Rattle.type_relations.specs.Outcomes.{NoEqualTerms}
 use Rattle.type_relations.specs.Errors.{ErrorOf, IsHandedOn, of_kinds, of_parts, of_length, of_branches, AreOfOneForm, over_parts, parameters}
 use Rattle.type_relations.specs.Errors.{AreOfOneConst, AreOfOneValue, values, expressions, const_parameters, one_value, as_many_branches}
 use Rattle.type_relations.proofs.Standing.{stands_term}
 use Rattle.relation_reference.specs.Tables.{IsFormed}
 use Rattle.relation_reference.specs.Parts.{parts_of, const_parts_of, branches_of}
-use Rattle.relation_reference.specs.Answers.{Answered, IsFront, IsPassedOn, IsNoLength, IsFaultOfTy, passed, sized, IsPassedOnConst, IsFaultOfConst, passed_const, whole}
+use Rattle.relation_reference.specs.Answers.{Answered, IsFront, IsPassedOn, IsNoLength, IsFaultOfTy, passed, sized, IsPassedOnConst, IsFaultOfConst, passed_const, whole, IsResultOfTy, IsResultOfConst, Unites}
+use Rattle.relation_reference.proofs.Parts.{parts_size, const_parts_size}
 use Rattle.relation_reference.proofs.Relating.{sort_is, parts_equal, const_parts_equal, front_apart}
 
 -- A fault is said in the same words of whatever is answered.
@@ -138,6 +142,14 @@ module _ {Key Id Name : Type 0} (p : Meaning Key Id Name) (r q : Store) (c d : C
       apart none = λ ww s' sat e'. front_apart r q i (const_parts_of (p.const_ c)) (const_parts_of (p.const_ d)) x y l m z w u none ww s' sat (const_parts_equal (p.const_ c) (p.const_ d) (expressions j k n) s' e')
   const_fails W V st (Unrelated f) g (expressions {k = op} {ts} {us} j k n) l m z w u (whole {ts = vs} e o is eq) h = absurd (let y' = sym j ∙ o in cc)
 
+-- The same, of trees that are the constants'.
+pub consts_fail : {Key Id Name : Type 0} (p : Meaning Key Id Name) (r q : Store) (c d : ConstKey Key) (i : ℕ) (x y a b : Tree) → p.const_ c ≡ a → p.const_ d ≡ b → (W V : Type 0) (st : Store) (f g : RelateFault Key Id Name) → AreOfOneConst a b
+    → i < count (const_parts_of a) → i < count (const_parts_of b) → x ≡ nth i (const_parts_of a) → y ≡ nth i (const_parts_of b) → IsFront r q i (const_parts_of a) (const_parts_of b) → IsFaultOfConst a c d f g → Answered {X = W} p q st x y (Err f) → Answered {X = V} p r st a b (Err g)
+consts_fail p r q c d i x y a b j k W V st f g o l m z w u t h =
+    subst₂ (λ a b. Answered {X = V} p r st a b (Err g)) j k (const_fails p r q c d i x y W V st f g (subst₂ AreOfOneConst (sym j) (sym k) o)
+    (subst (λ v. i < count (const_parts_of v)) (sym j) l) (subst (λ v. i < count (const_parts_of v)) (sym k) m) (z ∙ ap (λ v. nth i (const_parts_of v)) (sym j)) (w ∙ ap (λ v. nth i (const_parts_of v)) (sym k))
+    (subst₂ (λ a b. IsFront r q i (const_parts_of a) (const_parts_of b)) (sym j) (sym k) u) (subst (λ v. IsFaultOfConst v c d f g) (sym j) t) h)
+
 -- Arguments of different kinds.
 abbrev pub AreOfTwoKinds : {Key : Type 0} → GenericArgKind Key → GenericArgKind Key → Type 0
 AreOfTwoKinds (Lifetime r) (Lifetime s) = ⊥
@@ -222,3 +234,100 @@ module _ {Key Id Name : Type 0} (m : Meaning Key Id Name) (sorted : Sorted m) wh
     of_kinds (λ e. two_sorts X Y (sort_of (arg_tree m X)) (sort_of (arg_tree m Y)) o (at_top (kind_sort X) _ (kind_top X) (sort_is (kind_sort X) (arg_tree m X) (kind_term X k)))
         (at_top (kind_sort Y) _ (kind_top Y) (sort_is (kind_sort Y) (arg_tree m Y) (kind_term Y l))) e),
   )
+
+-- A fault that is passed on.
+no_left : {Key : Type 0} (t : Tree) (x y : GenericArgKind Key) → ((c : ConstKey Key) → x ≡ Const c → ⊥) → IsNoLength t x y
+no_left (node array ts) (Const c) (Const d) o = absurd (o c refl)
+no_left t x y o = tt
+
+no_right : {Key : Type 0} (t : Tree) (x y : GenericArgKind Key) → ((c : ConstKey Key) → y ≡ Const c → ⊥) → IsNoLength t x y
+no_right (node array ts) (Const c) (Const d) o = absurd (o d refl)
+no_right t x y o = tt
+
+module _ {Key Id Name : Type 0} where
+  no_array : (m : Meaning Key Id Name) (k : TyKind Key Id Name) (x y : GenericArgKind Key) → ((u : TyKey Key) (c : ConstKey Key) → k ≡ Array u c → ⊥) → IsNoLength (kind_tree m k) x y
+  no_array m (Array u c) x y o = absurd (o u c refl)
+  no_array m (Infer (TyVar v)) x y o = tt
+  no_array m k x y o = tt
+
+  of_no_length : (f : RelateFault Key Id Name) (t : Tree) (x y : GenericArgKind Key) → IsNoLength t x y → IsPassedOn f t x y
+  of_no_length (Unrelated (ConstMismatch p)) t x y h = h
+  of_no_length f t x y h = tt
+
+  pub passed_tree : (m : Meaning Key Id Name) (k : TyKind Key Id Name) (t : Tree) (x y : GenericArgKind Key) (f : RelateFault Key Id Name) → t ≡ kind_tree m k → ((u : TyKey Key) (c : ConstKey Key) → k ≡ Array u c → ⊥) → IsPassedOn f t x y
+  passed_tree m k t x y f e o = of_no_length f t x y (subst (λ z. IsNoLength z x y) (sym e) (no_array m k x y o))
+
+  pub passed_left : (f : RelateFault Key Id Name) (t : Tree) (x y : GenericArgKind Key) → ((c : ConstKey Key) → x ≡ Const c → ⊥) → IsPassedOn f t x y
+  passed_left f t x y o = of_no_length f t x y (no_left t x y o)
+
+  pub passed_right : (f : RelateFault Key Id Name) (t : Tree) (x y : GenericArgKind Key) → ((c : ConstKey Key) → y ≡ Const c → ⊥) → IsPassedOn f t x y
+  passed_right f t x y o = of_no_length f t x y (no_right t x y o)
+
+  other_error : (e : TypeError Key Id Name) (t : Tree) (x y : GenericArgKind Key) → ((p : ExpectedFound (ConstKey Key)) → e ≡ ConstMismatch p → ⊥) → IsPassedOn (Unrelated e) t x y
+  other_error (ConstMismatch p) t x y o = absurd (o p refl)
+  other_error e t x y o = tt
+
+  pub passed_error : (f : RelateFault Key Id Name) (e : TypeError Key Id Name) (t : Tree) (x y : GenericArgKind Key) → f ≡ Unrelated e → ((p : ExpectedFound (ConstKey Key)) → e ≡ ConstMismatch p → ⊥) → IsPassedOn f t x y
+  passed_error f e t x y q o = subst (λ z. IsPassedOn z t x y) (sym q) (other_error e t x y o)
+
+  pub passed_fault : (f : RelateFault Key Id Name) (t : Tree) (x y : GenericArgKind Key) → ((e : TypeError Key Id Name) → f ≡ Unrelated e → ⊥) → IsPassedOn f t x y
+  passed_fault (Unrelated e) t x y o = absurd (o e refl)
+  passed_fault f t x y o = tt
+
+-- The parts of a term weigh no more than it, and less where there are any.
+one_size : (t : Tree) → 0 < size t
+one_size (leaf l) = omega (arith)
+one_size (node h ts) = omega (arith)
+one_size (bind ks t) = omega (arith)
+one_size nil = omega (arith)
+one_size (cons t ts) = omega (arith)
+
+parts_most : (s : Assign) (t : Tree) → size (apply s (parts_of t)) ≤ size (apply s t)
+parts_most s (node h ts) = omega (arith)
+parts_most s (leaf l) = (let e = one_size (apply s (leaf l)) in omega (arith, e))
+parts_most s (bind ks t) = omega (arith)
+parts_most s nil = omega (arith)
+parts_most s (cons t ts) = omega (arith)
+
+branches_most : (s : Assign) (v : Tree) → size (apply s (branches_of v)) ≤ size (apply s v)
+branches_most s (node value_branch ts) = omega (arith)
+branches_most s v = (let e = one_size (apply s v) in omega (arith, e))
+
+const_parts_most : (s : Assign) (c : Tree) → size (apply s (const_parts_of c)) ≤ size (apply s c)
+const_parts_most s (node (expression k) ts) = omega (arith)
+const_parts_most s (node value (cons t (cons v nil))) = (let e = branches_most s v in omega (arith, e))
+const_parts_most s c = (let e = one_size (apply s c) in omega (arith, e))
+
+pub weight_parts : (st : Store) (t : Tree) → 0 < count (parts_of t) → weight st (parts_of t) < weight st t
+unfolding weight
+weight_parts st t h = parts_size (resolved st) t h
+
+pub weight_parts_most : (st : Store) (t : Tree) → weight st (parts_of t) ≤ weight st t
+unfolding weight
+weight_parts_most st t = parts_most (resolved st) t
+
+pub weight_const_parts : (st : Store) (t : Tree) → 0 < count (const_parts_of t) → weight st (const_parts_of t) < weight st t
+unfolding weight
+weight_const_parts st t h = const_parts_size (resolved st) t h
+
+pub weight_const_parts_most : (st : Store) (t : Tree) → weight st (const_parts_of t) ≤ weight st t
+unfolding weight
+weight_const_parts_most st t = const_parts_most (resolved st) t
+
+-- What the answer of two parts was, by what the whole answers.
+module _ {A Key Id Name : Type 0} where
+  pub failed_ty : (B : Type 0) (t : Tree) (x y : GenericArgKind Key) (a : Result A (RelateFault Key Id Name)) (e : RelateFault Key Id Name) → IsResultOfTy {B = B} t x y a (Err e) → (f : RelateFault Key Id Name) × (a ≡ Err f) × IsFaultOfTy t x y f e
+  failed_ty B t x y (Ok u) e h = absurd h
+  failed_ty B t x y (Err f) e h = (f, refl, h)
+
+  pub failed_const : (B : Type 0) (t : Tree) (c d : ConstKey Key) (a : Result A (RelateFault Key Id Name)) (e : RelateFault Key Id Name) → IsResultOfConst {B = B} t c d a (Err e) → (f : RelateFault Key Id Name) × (a ≡ Err f) × IsFaultOfConst t c d f e
+  failed_const B t c d (Ok u) e h = absurd h
+  failed_const B t c d (Err f) e h = (f, refl, h)
+
+  pub united_ty : {B : Type 0} (m : Meaning Key Id Name) (before after : Store) (t p q : Tree) (x y : GenericArgKind Key) (a : Result A (RelateFault Key Id Name)) (u : B) → IsResultOfTy t x y a (Ok u) → Answered m before after p q a → Unites before after p q
+  united_ty m before after t p q x y (Ok v) u h k = k
+  united_ty m before after t p q x y (Err f) u h k = absurd h
+
+  pub united_const : {B : Type 0} (m : Meaning Key Id Name) (before after : Store) (t p q : Tree) (c d : ConstKey Key) (a : Result A (RelateFault Key Id Name)) (u : B) → IsResultOfConst t c d a (Ok u) → Answered m before after p q a → Unites before after p q
+  united_const m before after t p q c d (Ok v) u h k = k
+  united_const m before after t p q c d (Err f) u h k = absurd h

@@ -2,10 +2,13 @@
 use Rattle.std.proofs.Common.{◌≡◌, ◌⊎◌, ℕ, zero, suc, ◌+◌, ◌<◌, ◌≤◌, refl, sym, ap, ap₂, ◌∙◌, subst, arith, inl, inr}
 use Rattle.std.proofs.Common.{Bool, ◌&&◌, IsTrue, true, Option, Some, None, List, [], ◌∷◌, length, get_or}
 use Rattle.std.proofs.lemmas.Bool.{and_parts}
-use Rattle.relation_terms.specs.Heads.{VarKind, Head, Leaf, Sort, Part, term_of, binder_of, row, head_parts, expression}
+use Rattle.relation_terms.specs.Heads.{VarKind, Head, Leaf, Sort, Part, term_of, binder_of, row, head_parts}
+use Rattle.relation_terms.specs.Heads.{expression}
 use Rattle.relation_terms.specs.Heads.{Admits, head_sort, type_var, value_sort, const_sort}
-use Rattle.relation_terms.specs.Heads.{array, value, value_branch, Shape, one, variable, bound, placeholder, atom, unknown}
-use Rattle.relation_terms.specs.Trees.{Tree, leaf, node, bind, nil, cons, Assign, apply, Leaves, Occurs, size, count, nth}
+use Rattle.relation_terms.specs.Heads.{array, value, value_branch, Shape, one, variable, bound, placeholder, atom}
+use Rattle.relation_terms.specs.Heads.{unknown}
+use Rattle.relation_terms.specs.Trees.{Tree, leaf, node, bind, nil, cons, Assign, apply, Leaves, Occurs, size, count}
+use Rattle.relation_terms.specs.Trees.{nth}
 use Rattle.relation_terms.specs.Trees.{known, list_tree, IsList, IsTerm, Fits}
 use Rattle.relation_terms.specs.Meaning.{Meaning, kind_tree, const_tree, valtree_tree}
 use Rattle.relation_terms.specs.declared.terms.keys.TyKey.{TyKey}
@@ -18,7 +21,8 @@ use Rattle.relation_terms.specs.declared.terms.const_kind.ConstKind.TheVariants.
 use Rattle.relation_terms.specs.declared.terms.const_kind.ConstKind.TheVariants.{Placeholder as ConstPlaceholder}
 use Rattle.relation_terms.specs.declared.terms.const_kind.ValTreeKind.TheVariants.{Branch}
 use Rattle.relation_terms.specs.declared.terms.ty_kind.TyKind.{TyKind}
-use Rattle.relation_terms.specs.declared.terms.ty_kind.TyKind.TheVariants.{Bool as BoolTy, Char, Int, Uint, Float, Adt}
+use Rattle.relation_terms.specs.declared.terms.ty_kind.TyKind.TheVariants.{Bool as BoolTy, Char, Int, Uint, Float}
+use Rattle.relation_terms.specs.declared.terms.ty_kind.TyKind.TheVariants.{Adt}
 use Rattle.relation_terms.specs.declared.terms.ty_kind.TyKind.TheVariants.{Foreign, Str, Array, Slice, RawPtr, Ref}
 use Rattle.relation_terms.specs.declared.terms.ty_kind.TyKind.TheVariants.{FnDef, Closure, CoroutineClosure}
 use Rattle.relation_terms.specs.declared.terms.ty_kind.TyKind.TheVariants.{Coroutine, CoroutineWitness, Never, Tuple}
@@ -40,7 +44,8 @@ use Rattle.relation_reference.proofs.Lists.{list_count, list_is, list_nth, part_
 
 -- The tree of a form over an item.
 module _ {Key Id Name : Type 0} (m : Meaning Key Id Name) where
-  form_tree : (f : ItemForm) (t : ItemTy Key Id) → kind_tree m (kind_of f t) ≡ node (item_head f (m.id t.def_id)) (m.args t.args)
+  form_tree : (f : ItemForm) (t : ItemTy Key Id) → kind_tree m (kind_of f t) ≡ node (item_head f (m.id t.def_id))
+      (m.args t.args)
   form_tree AdtForm t = refl
   form_tree FnDefForm t = refl
   form_tree ClosureForm t = refl
@@ -48,7 +53,8 @@ module _ {Key Id Name : Type 0} (m : Meaning Key Id Name) where
   form_tree CoroutineForm t = refl
   form_tree WitnessForm t = refl
 
-  pub item_tree : (t : ItemTy Key Id) → kind_tree m (item_kind t) ≡ node (item_head t.form (m.id t.def_id)) (m.args t.args)
+  pub item_tree : (t : ItemTy Key Id) → kind_tree m (item_kind t) ≡ node (item_head t.form (m.id t.def_id))
+      (m.args t.args)
   item_tree t = form_tree t.form t
 
   -- What a type of such a form is, and its parts.
@@ -71,7 +77,8 @@ module _ {K : Type 0} (f : K → Tree) (xs : List K) (u : Tree) (i : u ≡ list_
   pub slice_below : (w : Tree) → w ≡ u → (n : ℕ) → n < count w → n < length xs
   slice_below w e n h = omega (arith, slice_counts w e)
 
-  pub slice_sure : (w : Tree) → w ≡ u → IsTrue (known w) → (n : ℕ) (d x : K) → n < count w → x ≡ get_or xs n d → IsTrue (known (f x))
+  pub slice_sure : (w : Tree) → w ≡ u → IsTrue (known w) → (n : ℕ) (d x : K) → n < count w → x ≡ get_or xs n d →
+      IsTrue (known (f x))
   slice_sure w e k n d x h q = subst (λ z. IsTrue (known (f z))) (sym q)
       (part_known f xs n d (slice_below w e n h) (subst (λ t. IsTrue (known t)) (e ∙ i) k))
 
@@ -119,7 +126,8 @@ known_branches v k = refl
 
 pub known_const_parts : (c : Tree) → IsTrue (known c) → IsTrue (known (const_parts_of c))
 known_const_parts (node (expression x) ts) k = k
-known_const_parts (node value (cons t (cons v nil))) k = known_branches v (and_parts (known v) true (and_parts (known t) (known v && true) k).1).0
+known_const_parts (node value (cons t (cons v nil))) k =
+    known_branches v (and_parts (known v) true (and_parts (known t) (known v && true) k).1).0
 known_const_parts c k = refl
 
 -- What a constant's parts are of: of its own list, or of its value's.
@@ -146,7 +154,8 @@ in_parts st (bind ks t) p = (tt, tt, tt)
 in_parts st nil p = p
 in_parts st (cons t ts) p = (tt, tt, tt)
 
-in_branches : (st : Store) (t u : Tree) → IsTermIn st (node value (cons t (cons (node value_branch u) nil))) → IsTermIn st u
+in_branches : (st : Store) (t u : Tree) → IsTermIn st (node value (cons t (cons (node value_branch u) nil))) →
+    IsTermIn st u
 unfolding IsTermIn InContext
 in_branches st t u p = (p.0.1.0, p.1.1.0, p.2.1.0)
 
@@ -184,12 +193,15 @@ within_nth nil i h p = absurd (omega arith)
 
 pub in_nth : (st : Store) (ts : Tree) (i : ℕ) → i < count ts → IsTermIn st ts → IsTermIn st (nth i ts)
 unfolding IsTermIn InContext
-in_nth st ts i h p = (leaves_nth (IsMadeLeaf st) ts i h p.0, within_nth ts i h p.1, leaves_nth (IsNamable st.universe) ts i h p.2)
+in_nth st ts i h p = (leaves_nth (IsMadeLeaf st) ts i h p.0, within_nth ts i h p.1, leaves_nth
+    (IsNamable st.universe) ts i h p.2)
 
-pub in_part : (st : Store) (t : Tree) (i : ℕ) → i < count (parts_of t) → IsTermIn st t → IsTermIn st (nth i (parts_of t))
+pub in_part : (st : Store) (t : Tree) (i : ℕ) → i < count (parts_of t) → IsTermIn st t →
+    IsTermIn st (nth i (parts_of t))
 in_part st t i h p = in_nth st (parts_of t) i h (in_parts st t p)
 
-pub in_const_part : (st : Store) (c : Tree) (i : ℕ) → i < count (const_parts_of c) → IsTermIn st c → IsTermIn st (nth i (const_parts_of c))
+pub in_const_part : (st : Store) (c : Tree) (i : ℕ) → i < count (const_parts_of c) → IsTermIn st c →
+    IsTermIn st (nth i (const_parts_of c))
 in_const_part st c i h p = in_nth st (const_parts_of c) i h (in_const_parts st c p)
 
 -- A part is smaller, and so is what it comes to.
@@ -208,15 +220,18 @@ parts_size s (bind ks t) c = absurd (omega arith)
 parts_size s nil c = absurd (omega arith)
 parts_size s (cons t ts) c = absurd (omega arith)
 
-over_size : (s : Assign) (c : Tree) → OverParts c → 0 < count (const_parts_of c) → size (apply s (const_parts_of c)) < size (apply s c)
+over_size : (s : Assign) (c : Tree) → OverParts c → 0 < count (const_parts_of c) →
+    size (apply s (const_parts_of c)) < size (apply s c)
 over_size s c (of_expression k e) h = let q = ap (λ u. size (apply s u)) e in omega arith
 over_size s c (of_branches t e) h = let q = ap (λ u. size (apply s u)) e in omega arith
 over_size s c (of_none e) h = let q = ap count e in absurd (omega arith)
 
-pub const_parts_size : (s : Assign) (c : Tree) → 0 < count (const_parts_of c) → size (apply s (const_parts_of c)) < size (apply s c)
+pub const_parts_size : (s : Assign) (c : Tree) → 0 < count (const_parts_of c) →
+    size (apply s (const_parts_of c)) < size (apply s c)
 const_parts_size s c h = over_size s c (over_parts c) h
 
-pub weight_part : (st : Store) (t : Tree) (i : ℕ) → i < count (parts_of t) → weight st (nth i (parts_of t)) < weight st t
+pub weight_part : (st : Store) (t : Tree) (i : ℕ) → i < count (parts_of t) →
+    weight st (nth i (parts_of t)) < weight st t
 unfolding weight
 weight_part st t i h =
     let a = nth_size (resolved st) (parts_of t) i h in
@@ -344,7 +359,8 @@ occurs_value n (cons t ts) f o = absurd f
 
 -- It stands in a constant only in a value's type and in the parts.
 pub nowhere_in_const : {Key Id Name : Type 0} (m : Meaning Key Id Name) (n : ℕ) (k : ConstKind Key Name) →
-    IsTerm const_sort (const_tree m k) → ((t : TyKey Key) (v : ValTreeKey Key) → k ≡ Value t v → Occurs type_var n (m.ty t) → ⊥) →
+    IsTerm const_sort (const_tree m k) → ((t : TyKey Key) (v : ValTreeKey Key) → k ≡ Value t v →
+        Occurs type_var n (m.ty t) → ⊥) →
     (Occurs type_var n (const_parts_of (const_tree m k)) → ⊥) → Occurs type_var n (const_tree m k) → ⊥
 nowhere_in_const m n (ConstParam p) f t h o = subst (IsTerm const_sort) o f
 nowhere_in_const m n (ConstPlaceholder p) f t h o = subst (IsTerm const_sort) o f
@@ -385,6 +401,8 @@ abbrev type_in : {Key Id Name : Type 0} → Meaning Key Id Name → ConstKind Ke
 type_in m (Value t v) = m.ty t
 type_in m k = nil
 
-pub only_type : {Key Id Name : Type 0} (m : Meaning Key Id Name) (n : ℕ) (k : ConstKind Key Name) (t : TyKey Key) (v : ValTreeKey Key) →
-    k ≡ Value t v → (Occurs type_var n (m.ty t) → ⊥) → (u : TyKey Key) (w : ValTreeKey Key) → k ≡ Value u w → Occurs type_var n (m.ty u) → ⊥
+pub only_type : {Key Id Name : Type 0} (m : Meaning Key Id Name) (n : ℕ) (k : ConstKind Key Name) (t : TyKey Key)
+    (v : ValTreeKey Key) →
+    k ≡ Value t v → (Occurs type_var n (m.ty t) → ⊥) → (u : TyKey Key) (w : ValTreeKey Key) → k ≡ Value u w →
+        Occurs type_var n (m.ty u) → ⊥
 only_type m n k t v e a u w q o = a (subst (Occurs type_var n) (ap (type_in m) (sym q ∙ e)) o)

@@ -104,3 +104,17 @@ pub data IsFaultOfConst {Key Id Name : Type 0} (t : Tree) (c d : ConstKey Key) (
   passed_const : r ≡ f → IsPassedOnConst f t → IsFaultOfConst t c d f r
   whole : {ts : Tree} (e : TypeError Key Id Name) → t ≡ node value ts → f ≡ Unrelated e →
       r ≡ Unrelated (ConstMismatch (record { expected = c; found = d })) → IsFaultOfConst t c d f r
+
+-- What two types answer by what two of their parts have answered.
+abbrev pub IsResultOfTy : {A B Key Id Name : Type 0} → Tree → GenericArgKind Key → GenericArgKind Key →
+    Result A (RelateFault Key Id Name) → Result B (RelateFault Key Id Name) → Type 0
+IsResultOfTy t x y (Ok u) (Ok v) = Unit {0}
+IsResultOfTy t x y (Err f) (Err r) = IsFaultOfTy t x y f r
+IsResultOfTy t x y a b = ⊥
+
+-- What two constants answer by what two of their parts have answered.
+abbrev pub IsResultOfConst : {A B Key Id Name : Type 0} → Tree → ConstKey Key → ConstKey Key →
+    Result A (RelateFault Key Id Name) → Result B (RelateFault Key Id Name) → Type 0
+IsResultOfConst t c d (Ok u) (Ok v) = Unit {0}
+IsResultOfConst t c d (Err f) (Err r) = IsFaultOfConst t c d f r
+IsResultOfConst t c d a b = ⊥

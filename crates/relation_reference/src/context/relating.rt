@@ -7,7 +7,7 @@ ghost use Rattle.type_relations.specs.Stores.{IsTermIn, weight};
 ghost use Rattle.type_relations.specs.Measures.{Goes};
 ghost use Rattle.relation_tools.specs.Faults.{KnowsFault};
 ghost use Rattle.relation_reference.specs.Tables.{store_of, IsLawful, IsFormed};
-ghost use Rattle.relation_reference.specs.Answers.{Answered, IsFaultOfTy, IsFaultOfConst};
+ghost use Rattle.relation_reference.specs.Answers.{Answered, IsFaultOfTy, IsFaultOfConst, IsResultOfTy, IsResultOfConst};
 
 use crate::context::RefCtxt;
 use crate::context::comparing::{compare_consts, compare_tys};
@@ -61,7 +61,6 @@ impl<I: Interner> RefCtxt<I> {
 
     // Relates two types that are no variables by their outermost forms and their parts.
     #[cycle(relate)]
-    #[tactic(none)]
     fn structurally_relate_tys(&mut self, a: &Ty<I>, b: &Ty<I>) -> Result<(), RelateFaultOf<I>>
         requires lawful { IsLawful (I.meaning self.old.interner) self.old.inner }
         requires a_known { IsTrue (known ((I.meaning self.old.interner).ty a.now)) }
@@ -84,16 +83,14 @@ impl<I: Interner> RefCtxt<I> {
         for i in 0..n {
             let x = part(&self.interner, a, i);
             let y = part(&self.interner, b, i);
-            if let Err(fault) = self.relate_arg(&x, &y) {
-                return Err(of_ty(&self.interner, a, &x, &y, fault));
-            }
+            let related = self.relate_arg(&x, &y);
+            in_ty(&self.interner, a, &x, &y, related)?;
         }
         Ok(())
     }
 
     // Relates two arguments.
     #[cycle(relate)]
-    #[tactic(none)]
     fn relate_arg(
         &mut self,
         a: &GenericArg<I>,
@@ -135,7 +132,6 @@ impl<I: Interner> RefCtxt<I> {
 
     // Relates two constants by their outermost forms and their parts. The types of values are not looked at.
     #[cycle(relate)]
-    #[tactic(none)]
     fn structurally_relate_consts(
         &mut self,
         a: &Const<I>,
@@ -160,16 +156,14 @@ impl<I: Interner> RefCtxt<I> {
         for i in 0..n {
             let x = const_part(&self.interner, a, i);
             let y = const_part(&self.interner, b, i);
-            if let Err(fault) = self.relate_arg(&x, &y) {
-                return Err(of_const(&self.interner, a, b, fault));
-            }
+            let related = self.relate_arg(&x, &y);
+            in_const(&self.interner, a, b, related)?;
         }
         Ok(())
     }
 }
 
 // The fault of two types where one of their parts has failed: lengths of arrays that differ are sizes that differ.
-#[tactic(none)]
 fn of_ty<I: Interner>(
     cx: &I,
     ty: &Ty<I>,
@@ -180,7 +174,10 @@ fn of_ty<I: Interner>(
     requires { IsTrue (known ((I.meaning cx.now).ty ty.now)) }
     ensures { IsFaultOfTy ((I.meaning cx.now).ty ty.now) x.now y.now fault result }
 {
-    let RelateFault::Unrelated(TypeError::ConstMismatch(_)) = &fault else {
+    let RelateFault::Unrelated(error) = &fault else {
+        return fault;
+    };
+    let TypeError::ConstMismatch(_) = error else {
         return fault;
     };
     let TyKind::Array(..) = cx.ty_kind(ty) else {
@@ -212,4 +209,37 @@ fn of_const<I: Interner>(
         return fault;
     };
     RelateFault::Unrelated(TypeError::ConstMismatch(ExpectedFound::new(a.dup(), b.dup())))
+}
+
+// What two types answer where two of their parts have answered that.
+fn in_ty<I: Interner>(
+    cx: &I,
+    ty: &Ty<I>,
+    x: &GenericArg<I>,
+    y: &GenericArg<I>,
+    related: Result<(), RelateFaultOf<I>>,
+) -> Result<(), RelateFaultOf<I>>
+    requires { IsTrue (known ((I.meaning cx.now).ty ty.now)) }
+    ensures { IsResultOfTy ((I.meaning cx.now).ty ty.now) x.now y.now related result }
+{
+    match related {
+        Ok(()) => Ok(()),
+        Err(fault) => Err(of_ty(cx, ty, x, y, fault)),
+    }
+}
+
+// What two constants answer where two of their parts have answered that.
+fn in_const<I: Interner>(
+    cx: &I,
+    a: &Const<I>,
+    b: &Const<I>,
+    related: Result<(), RelateFaultOf<I>>,
+) -> Result<(), RelateFaultOf<I>>
+    requires { IsTrue (known ((I.meaning cx.now).const_ a.now)) }
+    ensures { IsResultOfConst ((I.meaning cx.now).const_ a.now) a.now b.now related result }
+{
+    match related {
+        Ok(()) => Ok(()),
+        Err(fault) => Err(of_const(cx, a, b, fault)),
+    }
 }

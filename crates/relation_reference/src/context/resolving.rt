@@ -14,8 +14,8 @@ use crate::context::parts::{const_part, const_parts_count, part, parts_count};
 use crate::context::variables::ty_vid;
 use crate::context::{RefCtxt, TypeVariableValue};
 use relation_terms::terms::{
-    Branches, Const, ConstKind, Dup, GenericArg, GenericArgKind, GenericArgs, Interner, OutOfMemory,
-    Ty, TyForm, TyKind, TyVid, Tys, ValTree, ValTreeKind,
+    Branches, Const, ConstKind, Dup, GenericArg, GenericArgKind, GenericArgs, Interner,
+    OutOfMemory, Ty, TyForm, TyKind, TyVid, Tys, ValTree, ValTreeKind,
 };
 use relation_tools::error::{RelateFault, RelateFaultOf, TypeError};
 
@@ -131,7 +131,6 @@ impl<I: Interner> RefCtxt<I> {
 
     // The type with each variable that has a term replaced by it, at every depth, and each other by its root.
     #[cycle(resolve)]
-    #[tactic(none)]
     pub(crate) fn resolve_vars_if_possible(&mut self, ty: &Ty<I>) -> Result<Ty<I>, OutOfMemory>
         requires lawful { IsLawful (I.meaning self.old.interner) self.old.inner }
         requires ty_known { IsTrue (known ((I.meaning self.old.interner).ty ty.now)) }
@@ -148,7 +147,6 @@ impl<I: Interner> RefCtxt<I> {
 
     // The same of a type of a form that is resolved shallowly already.
     #[cycle(resolve)]
-    #[tactic(none)]
     fn resolve_parts(&mut self, ty: &Ty<I>, kind: &TyForm<I>) -> Result<Ty<I>, OutOfMemory>
         requires lawful { IsLawful (I.meaning self.old.interner) self.old.inner }
         requires ty_known { IsTrue (known ((I.meaning self.old.interner).ty ty.now)) }
@@ -193,7 +191,6 @@ impl<I: Interner> RefCtxt<I> {
     }
 
     #[cycle(resolve)]
-    #[tactic(none)]
     fn resolve_list(&mut self, tys: &Tys<I>) -> Result<Tys<I>, OutOfMemory>
         requires lawful { IsLawful (I.meaning self.old.interner) self.old.inner }
         requires tys_known { IsTrue (known ((I.meaning self.old.interner).tys tys.now)) }
@@ -214,7 +211,6 @@ impl<I: Interner> RefCtxt<I> {
     }
 
     #[cycle(resolve)]
-    #[tactic(none)]
     fn resolve_arg(&mut self, arg: &GenericArg<I>) -> Result<GenericArg<I>, OutOfMemory>
         requires lawful { IsLawful (I.meaning self.old.interner) self.old.inner }
         requires arg_known { IsTrue (known (arg_tree (I.meaning self.old.interner) arg.now)) }
@@ -238,7 +234,6 @@ impl<I: Interner> RefCtxt<I> {
     }
 
     #[cycle(resolve)]
-    #[tactic(none)]
     fn resolve_args(&mut self, args: &GenericArgs<I>) -> Result<GenericArgs<I>, OutOfMemory>
         requires lawful { IsLawful (I.meaning self.old.interner) self.old.inner }
         requires args_known { IsTrue (known ((I.meaning self.old.interner).args args.now)) }
@@ -259,7 +254,6 @@ impl<I: Interner> RefCtxt<I> {
     }
 
     #[cycle(resolve)]
-    #[tactic(none)]
     fn resolve_const(&mut self, constant: &Const<I>) -> Result<Const<I>, OutOfMemory>
         requires lawful { IsLawful (I.meaning self.old.interner) self.old.inner }
         requires constant_known { IsTrue (known ((I.meaning self.old.interner).const_ constant.now)) }
@@ -285,7 +279,6 @@ impl<I: Interner> RefCtxt<I> {
     }
 
     #[cycle(resolve)]
-    #[tactic(none)]
     fn resolve_value(&mut self, value: &ValTree<I>) -> Result<ValTree<I>, OutOfMemory>
         requires lawful { IsLawful (I.meaning self.old.interner) self.old.inner }
         requires value_known { IsTrue (known ((I.meaning self.old.interner).valtree value.now)) }
@@ -305,7 +298,6 @@ impl<I: Interner> RefCtxt<I> {
     }
 
     #[cycle(resolve)]
-    #[tactic(none)]
     fn resolve_branches(&mut self, branches: &Branches<I>) -> Result<Branches<I>, OutOfMemory>
         requires lawful { IsLawful (I.meaning self.old.interner) self.old.inner }
         requires branches_known { IsTrue (known ((I.meaning self.old.interner).branches branches.now)) }

@@ -8,8 +8,13 @@ use Rattle.relation_terms.specs.declared.terms.keys.ValTreeKey.{ValTreeKey}
 use Rattle.relation_terms.specs.declared.terms.const_kind.ConstKind.TheVariants.{Value}
 use Rattle.relation_reference.specs.Parts.{parts_of, const_parts_of}
 use Rattle.relation_reference.specs.Tables.{IsFormed}
-use Rattle.relation_reference.proofs.Parts.{size_part, size_const_part, occurs_nth, occurs_parts, occurs_const_parts, nowhere, occurs_formed, nowhere_in_const, kind_formed, only_type}
-use Rattle.relation_reference.proofs.context.resolving.+occurs.Goals.{occurs_in_const-in-Value+else-occurs, occurs_in_const-in_default+in-Param-1, occurs_in_const-in_default+in-Placeholder-1, occurs_in_const-in_default+in-Expr-1, occurs_in_const-in_default+in-Value-1}
+use Rattle.relation_reference.proofs.Parts.{size_part, size_const_part, occurs_nth, occurs_parts, occurs_const_parts}
+use Rattle.relation_reference.proofs.Parts.{nowhere, occurs_formed, nowhere_in_const, kind_formed, only_type}
+use Rattle.relation_reference.proofs.context.resolving.+occurs.Goals.{occurs_in_const-in-Value+else-occurs}
+use Rattle.relation_reference.proofs.context.resolving.+occurs.Goals.{occurs_in_const-in_default+in-Param-1}
+use Rattle.relation_reference.proofs.context.resolving.+occurs.Goals.{occurs_in_const-in_default+in-Placeholder-1}
+use Rattle.relation_reference.proofs.context.resolving.+occurs.Goals.{occurs_in_const-in_default+in-Expr-1}
+use Rattle.relation_reference.proofs.context.resolving.+occurs.Goals.{occurs_in_const-in_default+in-Value-1}
 use Rattle.relation_reference.proofs.context.resolving.+occurs.Goals as goal
 
 pub occurs-occurs_in_arg-requires : goal.occurs-occurs_in_arg-requires
@@ -18,7 +23,8 @@ occurs-occurs_in_arg-requires g t c κs within =
     let d = c.decreases in
     let a = c.part.ensures.means in
     let small : 2 * size (arg_tree m c.part.result) + 1 < 2 * size (m.ty c.args.ty.now) =
-        (let e = ap size a in let f = size_part (m.ty c.args.ty.now) c.loop-i.i (omega (arith, c.loop-i-test.true, c.parts_count-i-end.ensures.counts)) in omega (arith, e, f)) in
+    (let e = ap size a in let f = size_part (m.ty c.args.ty.now) c.loop-i.i
+        (omega (arith, c.loop-i-test.true, c.parts_count-i-end.ensures.counts)) in omega (arith, e, f)) in
     let sure = c.part.ensures.sure in
     search rules
 
@@ -29,7 +35,8 @@ occurs-returns-then-occurs_in_arg g t c =
     record {
       stands = λ h. occurs_parts type_var c.args.var.0 u (occurs_nth type_var c.args.var.0 (parts_of u) c.loop-i.i
           (omega (arith, c.loop-i-test.true, c.parts_count-i-end.ensures.counts))
-          (subst (Occurs type_var c.args.var.0) c.part.ensures.means (c.occurs_in_arg.ensures.stands c.if-occurs_in_arg.true)));
+          (subst (Occurs type_var c.args.var.0) c.part.ensures.means
+              (c.occurs_in_arg.ensures.stands c.if-occurs_in_arg.true)));
       absent = λ h o. true≢false h;
     }
 
@@ -51,17 +58,20 @@ occurs_in_const-occurs_in_arg-requires g t c κs within =
     let d = c.decreases in
     let a = c.const_part.ensures.means in
     let small : 2 * size (arg_tree m c.const_part.result) + 1 < 2 * size (m.const_ c.args.constant.now) =
-        (let e = ap size a in let f = size_const_part (m.const_ c.args.constant.now) c.loop-i.i (omega (arith, c.loop-i-test.true, c.const_parts_count-i-end.ensures.counts)) in omega (arith, e, f)) in
+    (let e = ap size a in let f = size_const_part (m.const_ c.args.constant.now) c.loop-i.i
+        (omega (arith, c.loop-i-test.true, c.const_parts_count-i-end.ensures.counts)) in omega (arith, e, f)) in
     let sure = c.const_part.ensures.sure in
     search rules
 
-pub occurs_in_const-returns-then-occurs_in_arg-clause-stands : goal.occurs_in_const-returns-then-occurs_in_arg-clause-stands
+pub occurs_in_const-returns-then-occurs_in_arg-clause-stands :
+    goal.occurs_in_const-returns-then-occurs_in_arg-clause-stands
 occurs_in_const-returns-then-occurs_in_arg-clause-stands g t c h =
     let m = g.I.Interner.meaning c.args.cx.now in
     let u = m.const_ c.args.constant.now in
     occurs_const_parts type_var c.args.var.0 u (occurs_nth type_var c.args.var.0 (const_parts_of u) c.loop-i.i
-        (omega (arith, c.loop-i-test.true, c.const_parts_count-i-end.ensures.counts))
-        (subst (Occurs type_var c.args.var.0) c.const_part.ensures.means (c.occurs_in_arg.ensures.stands c.if-occurs_in_arg.true)))
+    (omega (arith, c.loop-i-test.true, c.const_parts_count-i-end.ensures.counts))
+    (subst (Occurs type_var c.args.var.0) c.const_part.ensures.means
+        (c.occurs_in_arg.ensures.stands c.if-occurs_in_arg.true)))
 
 pub occurs_in_const-returns-clause-absent : goal.occurs_in_const-returns-clause-absent
 occurs_in_const-returns-clause-absent g t c h o =
@@ -70,14 +80,19 @@ occurs_in_const-returns-clause-absent g t c h o =
     let n = c.args.var.0 in
     let k = c.const_kind.result in
     let e : u ≡ const_tree m k = c.const_kind.ensures in
-    let in_type : (ty : TyKey g.row.I-Key.Denot) (v : ValTreeKey g.row.I-Key.Denot) → k ≡ Value ty v → Occurs type_var n (m.ty ty) → ⊥ =
-        elim c.match-const_kind.branch [
-          occurs_in_const-in-Value+else-occurs w ↦ only_type m n k w.in-Value.ty w.in-Value.field-1 w.in-Value.is (w.occurs.ensures.absent w.if-occurs.false)
-        | occurs_in_const-in_default+in-Param-1 w ↦ λ ty v q. absurd (w.in_default.not-Value ty v q)
-        | occurs_in_const-in_default+in-Placeholder-1 w ↦ λ ty v q. absurd (w.in_default.not-Value ty v q)
-        | occurs_in_const-in_default+in-Expr-1 w ↦ λ ty v q. absurd (w.in_default.not-Value ty v q)
-        | occurs_in_const-in_default+in-Value-1 w ↦ λ ty v q. absurd (w.in_default.not-Value ty v q) ] in
-    let in_parts : Occurs type_var n (const_parts_of u) → ⊥ = nowhere type_var n (const_parts_of u) c.const_parts_count-i-end.ensures.is_list
-        (λ i j. c.loop-i.invariant i (omega (arith, j, c.loop-i-test.false, c.const_parts_count-i-end.ensures.counts))) in
-    nowhere_in_const m n k (subst (IsTerm _) e (g.met.I.Interner.is_const c.args.cx.now c.args.constant.now c.requires)) in_type
-        (λ p. in_parts (subst (λ z. Occurs type_var n (const_parts_of z)) (sym e) p)) (subst (Occurs type_var n) e o)
+    let in_type : (ty : TyKey g.row.I-Key.Denot) (v : ValTreeKey g.row.I-Key.Denot) → k ≡ Value ty v →
+        Occurs type_var n (m.ty ty) → ⊥ =
+    elim c.match-const_kind.branch [
+      | occurs_in_const-in-Value+else-occurs w ↦ only_type m n k w.in-Value.ty w.in-Value.field-1 w.in-Value.is
+          (w.occurs.ensures.absent w.if-occurs.false)
+      | occurs_in_const-in_default+in-Param-1 w ↦ λ ty v q. absurd (w.in_default.not-Value ty v q)
+      | occurs_in_const-in_default+in-Placeholder-1 w ↦ λ ty v q. absurd (w.in_default.not-Value ty v q)
+      | occurs_in_const-in_default+in-Expr-1 w ↦ λ ty v q. absurd (w.in_default.not-Value ty v q)
+      | occurs_in_const-in_default+in-Value-1 w ↦ λ ty v q. absurd (w.in_default.not-Value ty v q)
+    ] in
+    let in_parts : Occurs type_var n (const_parts_of u) → ⊥ =
+        nowhere type_var n (const_parts_of u) c.const_parts_count-i-end.ensures.is_list
+    (λ i j. c.loop-i.invariant i (omega (arith, j, c.loop-i-test.false, c.const_parts_count-i-end.ensures.counts))) in
+    nowhere_in_const m n k (subst (IsTerm _) e (g.met.I.Interner.is_const c.args.cx.now c.args.constant.now
+        c.requires)) in_type
+    (λ p. in_parts (subst (λ z. Occurs type_var n (const_parts_of z)) (sym e) p)) (subst (Occurs type_var n) e o)

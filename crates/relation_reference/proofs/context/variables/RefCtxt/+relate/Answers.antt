@@ -1,6 +1,6 @@
 use Rattle.std.proofs.Common.{rules, refl, ◌≡◌, ◌+◌, ◌*◌, ◌≤◌, ◌<◌, IsTrue, subst, sym, ap, ap₂, ◌∙◌, arith, subst₂}
 use Rattle.std.proofs.lemmas.Bool.{false≢true}
-use Rattle.relation_terms.specs.Heads.{type_var, slice, tuple, ref, variable}
+use Rattle.relation_terms.specs.Heads.{type_sort, type_var, variable}
 use Rattle.relation_terms.specs.Trees.{leaf, known, count, nth}
 use Rattle.relation_terms.proofs.Stays.{stays_same, extends_on}
 use Rattle.type_relations.specs.Stores.{weight, IsTermIn}
@@ -10,10 +10,14 @@ use Rattle.type_relations.proofs.ReadAs.{read_weight}
 use Rattle.type_relations.proofs.Standing.{later_term}
 use Rattle.type_relations.proofs.Going.{under, goes_nowhere, goes_within, goes_then, pair_grown, part_under}
 use Rattle.relation_reference.specs.Tables.{store_of, IsLawful}
-use Rattle.relation_reference.specs.Answers.{Answered, Unites}
+use Rattle.relation_reference.specs.Answers.{Answered, Unites, IsFaultOfTy, IsFaultOfConst}
+use Rattle.relation_tools.specs.Faults.{KnowsFault}
+use Rattle.std.specs.Prelude.{IfErr}
 use Rattle.relation_reference.specs.Parts.{parts_of, const_parts_of}
 use Rattle.relation_reference.proofs.Comparing.{form_answered, form_known, const_form_answered, const_form_known, parts_of_list, const_parts_list}
-use Rattle.relation_reference.proofs.Failing.{ty_fails, const_fails, ty_fault_known, const_fault_known, no_lifetime, no_ty, no_const_arg, kinds_fail}
+use Rattle.relation_reference.proofs.Failing.{ty_fails, consts_fail, ty_fault_known, const_fault_known, AreOfTwoKinds, no_lifetime, no_ty, no_const_arg, kinds_fail}
+use Rattle.relation_reference.proofs.Failing.{failed_ty, failed_const, united_ty, united_const, weight_parts, weight_parts_most, weight_const_parts, weight_const_parts_most}
+use Rattle.relation_reference.proofs.Resolving.{weight_nth}
 use Rattle.relation_reference.proofs.Parts.{in_part, in_const_part, weight_part, weight_const_part}
 use Rattle.relation_terms.specs.Meaning.{Extends, arg_tree}
 use Rattle.relation_terms.proofs.Sorted.{Sorted}
@@ -311,3 +315,708 @@ relate_tys-returns g t c =
       same = λ e. absurd (false≢true (c.if-eq.ensures ∙ (g.met.I.Interner.same_ty c.args.self.now.interner c.args.a.now c.args.b.now c.requires.a_known c.requires.b_known).1 e));
     }
 
+pub relate_arg-returns-in_default : goal.relate_arg-returns-in_default
+relate_arg-returns-in_default g t c =
+    let m = g.I.Interner.meaning c.args.self.now.interner in
+    let st = store_of m c.args.self.now.inner in
+    let X = c.args.a.now in
+    let Y = c.args.b.now in
+    let sorted : Sorted m = record { ty = g.met.I.Interner.is_ty c.args.self.now.interner; region = g.met.I.Interner.is_region c.args.self.now.interner; tys = g.met.I.Interner.are_tys c.args.self.now.interner; const_ = g.met.I.Interner.is_const c.args.self.now.interner; valtree = g.met.I.Interner.is_valtree c.args.self.now.interner; args = g.met.I.Interner.are_args c.args.self.now.interner; branches = g.met.I.Interner.are_branches c.args.self.now.interner } in
+    record {
+      lawful = c.requires.lawful;
+      grown = stays_same m;
+      goes = goes_nowhere (weight st (arg_tree m X) + weight st (arg_tree m Y)) st;
+      answers = kinds_fail m sorted (Unit {0}) st X Y (subst (λ z. AreOfTwoKinds z Y) (sym c.in-Lifetime.is) (no_lifetime c.in-Lifetime.a Y c.in_default.not-Lifetime)) c.requires.a_known c.requires.b_known c.requires.a_in c.requires.b_in;
+      why_known = tt;
+    }
+
+pub relate_arg-returns-in_default-b : goal.relate_arg-returns-in_default-b
+relate_arg-returns-in_default-b g t c =
+    let m = g.I.Interner.meaning c.args.self.now.interner in
+    let st = store_of m c.args.self.now.inner in
+    let X = c.args.a.now in
+    let Y = c.args.b.now in
+    let sorted : Sorted m = record { ty = g.met.I.Interner.is_ty c.args.self.now.interner; region = g.met.I.Interner.is_region c.args.self.now.interner; tys = g.met.I.Interner.are_tys c.args.self.now.interner; const_ = g.met.I.Interner.is_const c.args.self.now.interner; valtree = g.met.I.Interner.is_valtree c.args.self.now.interner; args = g.met.I.Interner.are_args c.args.self.now.interner; branches = g.met.I.Interner.are_branches c.args.self.now.interner } in
+    record {
+      lawful = c.requires.lawful;
+      grown = stays_same m;
+      goes = goes_nowhere (weight st (arg_tree m X) + weight st (arg_tree m Y)) st;
+      answers = kinds_fail m sorted (Unit {0}) st X Y (subst (λ z. AreOfTwoKinds z Y) (sym c.in-Ty.is) (no_ty c.in-Ty.a Y c.in_default-b.not-Ty)) c.requires.a_known c.requires.b_known c.requires.a_in c.requires.b_in;
+      why_known = tt;
+    }
+
+pub relate_arg-returns-in_default-b-2 : goal.relate_arg-returns-in_default-b-2
+relate_arg-returns-in_default-b-2 g t c =
+    let m = g.I.Interner.meaning c.args.self.now.interner in
+    let st = store_of m c.args.self.now.inner in
+    let X = c.args.a.now in
+    let Y = c.args.b.now in
+    let sorted : Sorted m = record { ty = g.met.I.Interner.is_ty c.args.self.now.interner; region = g.met.I.Interner.is_region c.args.self.now.interner; tys = g.met.I.Interner.are_tys c.args.self.now.interner; const_ = g.met.I.Interner.is_const c.args.self.now.interner; valtree = g.met.I.Interner.is_valtree c.args.self.now.interner; args = g.met.I.Interner.are_args c.args.self.now.interner; branches = g.met.I.Interner.are_branches c.args.self.now.interner } in
+    record {
+      lawful = c.requires.lawful;
+      grown = stays_same m;
+      goes = goes_nowhere (weight st (arg_tree m X) + weight st (arg_tree m Y)) st;
+      answers = kinds_fail m sorted (Unit {0}) st X Y (subst (λ z. AreOfTwoKinds z Y) (sym c.in-Const.is) (no_const_arg c.in-Const.a Y c.in_default-b-2.not-Const)) c.requires.a_known c.requires.b_known c.requires.a_in c.requires.b_in;
+      why_known = tt;
+    }
+
+pub relate_arg-equate_regions-requires-clause-a_in : goal.relate_arg-equate_regions-requires-clause-a_in
+relate_arg-equate_regions-requires-clause-a_in g t c =
+    let m = g.I.Interner.meaning c.args.self.now.interner in
+    let st = store_of m c.args.self.now.inner in
+    let X = c.args.a.now in
+    let Y = c.args.b.now in
+    let sorted : Sorted m = record { ty = g.met.I.Interner.is_ty c.args.self.now.interner; region = g.met.I.Interner.is_region c.args.self.now.interner; tys = g.met.I.Interner.are_tys c.args.self.now.interner; const_ = g.met.I.Interner.is_const c.args.self.now.interner; valtree = g.met.I.Interner.is_valtree c.args.self.now.interner; args = g.met.I.Interner.are_args c.args.self.now.interner; branches = g.met.I.Interner.are_branches c.args.self.now.interner } in
+    let k : IsTrue (known (m.region c.in-Lifetime.a)) = subst (λ z. IsTrue (known (arg_tree m z))) c.in-Lifetime.is c.requires.a_known in
+    (g.met.I.Interner.is_region c.args.self.now.interner c.in-Lifetime.a k, subst (λ z. IsTermIn st (arg_tree m z)) c.in-Lifetime.is c.requires.a_in)
+
+pub relate_arg-equate_regions-requires-clause-b_in : goal.relate_arg-equate_regions-requires-clause-b_in
+relate_arg-equate_regions-requires-clause-b_in g t c =
+    let m = g.I.Interner.meaning c.args.self.now.interner in
+    let st = store_of m c.args.self.now.inner in
+    let X = c.args.a.now in
+    let Y = c.args.b.now in
+    let sorted : Sorted m = record { ty = g.met.I.Interner.is_ty c.args.self.now.interner; region = g.met.I.Interner.is_region c.args.self.now.interner; tys = g.met.I.Interner.are_tys c.args.self.now.interner; const_ = g.met.I.Interner.is_const c.args.self.now.interner; valtree = g.met.I.Interner.is_valtree c.args.self.now.interner; args = g.met.I.Interner.are_args c.args.self.now.interner; branches = g.met.I.Interner.are_branches c.args.self.now.interner } in
+    let k : IsTrue (known (m.region c.in-Lifetime-b.b)) = subst (λ z. IsTrue (known (arg_tree m z))) c.in-Lifetime-b.is c.requires.b_known in
+    (g.met.I.Interner.is_region c.args.self.now.interner c.in-Lifetime-b.b k, subst (λ z. IsTermIn st (arg_tree m z)) c.in-Lifetime-b.is c.requires.b_in)
+
+pub relate_arg-returns-in_err-equate_regions-in-Lifetime-clause-goes : goal.relate_arg-returns-in_err-equate_regions-in-Lifetime-clause-goes
+relate_arg-returns-in_err-equate_regions-in-Lifetime-clause-goes g t c =
+    let m = g.I.Interner.meaning c.args.self.now.interner in
+    let st = store_of m c.args.self.now.inner in
+    let X = c.args.a.now in
+    let Y = c.args.b.now in
+    let sorted : Sorted m = record { ty = g.met.I.Interner.is_ty c.args.self.now.interner; region = g.met.I.Interner.is_region c.args.self.now.interner; tys = g.met.I.Interner.are_tys c.args.self.now.interner; const_ = g.met.I.Interner.is_const c.args.self.now.interner; valtree = g.met.I.Interner.is_valtree c.args.self.now.interner; args = g.met.I.Interner.are_args c.args.self.now.interner; branches = g.met.I.Interner.are_branches c.args.self.now.interner } in
+    let new = c.equate_regions.new.self.inner in
+    let n = g.I.Interner.meaning c.equate_regions.new.self.interner in
+    let e : n ≡ m = ap g.I.Interner.meaning c.equate_regions.ensures.interner in
+    subst (λ z. Goes (weight st (arg_tree m X) + weight st (arg_tree m Y)) st (store_of z new)) (sym e) (goes_within (omega arith) c.equate_regions.ensures.goes)
+
+pub relate_arg-returns-in_ok-equate_regions-in-Lifetime-clause-goes : goal.relate_arg-returns-in_ok-equate_regions-in-Lifetime-clause-goes
+relate_arg-returns-in_ok-equate_regions-in-Lifetime-clause-goes g t c =
+    let m = g.I.Interner.meaning c.args.self.now.interner in
+    let st = store_of m c.args.self.now.inner in
+    let X = c.args.a.now in
+    let Y = c.args.b.now in
+    let sorted : Sorted m = record { ty = g.met.I.Interner.is_ty c.args.self.now.interner; region = g.met.I.Interner.is_region c.args.self.now.interner; tys = g.met.I.Interner.are_tys c.args.self.now.interner; const_ = g.met.I.Interner.is_const c.args.self.now.interner; valtree = g.met.I.Interner.is_valtree c.args.self.now.interner; args = g.met.I.Interner.are_args c.args.self.now.interner; branches = g.met.I.Interner.are_branches c.args.self.now.interner } in
+    let new = c.equate_regions.new.self.inner in
+    let n = g.I.Interner.meaning c.equate_regions.new.self.interner in
+    let e : n ≡ m = ap g.I.Interner.meaning c.equate_regions.ensures.interner in
+    subst (λ z. Goes (weight st (arg_tree m X) + weight st (arg_tree m Y)) st (store_of z new)) (sym e) (goes_within (omega arith) c.equate_regions.ensures.goes)
+
+pub relate_arg-returns-in_ok-equate_regions-in-Lifetime-clause-answers : goal.relate_arg-returns-in_ok-equate_regions-in-Lifetime-clause-answers
+relate_arg-returns-in_ok-equate_regions-in-Lifetime-clause-answers g t c =
+    let m = g.I.Interner.meaning c.args.self.now.interner in
+    let st = store_of m c.args.self.now.inner in
+    let X = c.args.a.now in
+    let Y = c.args.b.now in
+    let sorted : Sorted m = record { ty = g.met.I.Interner.is_ty c.args.self.now.interner; region = g.met.I.Interner.is_region c.args.self.now.interner; tys = g.met.I.Interner.are_tys c.args.self.now.interner; const_ = g.met.I.Interner.is_const c.args.self.now.interner; valtree = g.met.I.Interner.is_valtree c.args.self.now.interner; args = g.met.I.Interner.are_args c.args.self.now.interner; branches = g.met.I.Interner.are_branches c.args.self.now.interner } in
+    let new = c.equate_regions.new.self.inner in
+    let n = g.I.Interner.meaning c.equate_regions.new.self.interner in
+    let e : n ≡ m = ap g.I.Interner.meaning c.equate_regions.ensures.interner in
+    subst (λ z. Unites st (store_of z new) (arg_tree m X) (arg_tree m Y)) (sym e)
+    (subst₂ (λ x y. Unites st (store_of m new) (arg_tree m x) (arg_tree m y)) (sym c.in-Lifetime.is) (sym c.in-Lifetime-b.is) c.in_ok-equate_regions-in-Lifetime.ensures.unites)
+
+pub relate_arg-relate_tys-requires : goal.relate_arg-relate_tys-requires
+relate_arg-relate_tys-requires g t c κs within =
+    let m = g.I.Interner.meaning c.args.self.now.interner in
+    let st = store_of m c.args.self.now.inner in
+    let X = c.args.a.now in
+    let Y = c.args.b.now in
+    let d = c.decreases in
+    let small : 4 * depth c.args.self.now.inner.budget (weight st (m.ty c.in-Ty.a) + weight st (m.ty c.in-Ty-b.b)) + 2 < 4 * depth c.args.self.now.inner.budget (weight st (arg_tree m X) + weight st (arg_tree m Y)) + 3 =
+    subst₂ (λ x y. 4 * depth c.args.self.now.inner.budget (weight st (arg_tree m x) + weight st (arg_tree m y)) + 2 < 4 * depth c.args.self.now.inner.budget (weight st (arg_tree m X) + weight st (arg_tree m Y)) + 3) c.in-Ty.is c.in-Ty-b.is (omega arith) in
+    let lawful = c.requires.lawful in
+    let a_sure : IsTrue (known (m.ty c.in-Ty.a)) = subst (λ z. IsTrue (known (arg_tree m z))) c.in-Ty.is c.requires.a_known in
+    let b_sure : IsTrue (known (m.ty c.in-Ty-b.b)) = subst (λ z. IsTrue (known (arg_tree m z))) c.in-Ty-b.is c.requires.b_known in
+    let a_in : IsTermIn st (m.ty c.in-Ty.a) = subst (λ z. IsTermIn st (arg_tree m z)) c.in-Ty.is c.requires.a_in in
+    let b_in : IsTermIn st (m.ty c.in-Ty-b.b) = subst (λ z. IsTermIn st (arg_tree m z)) c.in-Ty-b.is c.requires.b_in in
+    search rules
+
+pub relate_arg-returns-in-Ty-b : goal.relate_arg-returns-in-Ty-b
+relate_arg-returns-in-Ty-b g t c =
+    let m = g.I.Interner.meaning c.args.self.now.interner in
+    let st = store_of m c.args.self.now.inner in
+    let done = c.relate_tys.ensures in
+    let p = g.I.Interner.meaning c.relate_tys.new.self.interner in
+    let last = store_of p c.relate_tys.new.self.inner in
+    record {
+      lawful = done.lawful;
+      grown = done.grown;
+      goes = subst₂ (λ x y. Goes (weight st (arg_tree m x) + weight st (arg_tree m y)) st last) (sym c.in-Ty.is) (sym c.in-Ty-b.is) done.goes;
+      answers = subst₂ (λ x y. Answered p st last (arg_tree m x) (arg_tree m y) c.relate_tys.result) (sym c.in-Ty.is) (sym c.in-Ty-b.is) done.answers;
+      why_known = done.why_known;
+    }
+
+pub relate_arg-structurally_relate_consts-requires : goal.relate_arg-structurally_relate_consts-requires
+relate_arg-structurally_relate_consts-requires g t c κs within =
+    let m = g.I.Interner.meaning c.args.self.now.interner in
+    let st = store_of m c.args.self.now.inner in
+    let X = c.args.a.now in
+    let Y = c.args.b.now in
+    let d = c.decreases in
+    let small : 4 * depth c.args.self.now.inner.budget (weight st (m.const_ c.in-Const.a) + weight st (m.const_ c.in-Const-b.b)) + 1 < 4 * depth c.args.self.now.inner.budget (weight st (arg_tree m X) + weight st (arg_tree m Y)) + 3 =
+    subst₂ (λ x y. 4 * depth c.args.self.now.inner.budget (weight st (arg_tree m x) + weight st (arg_tree m y)) + 1 < 4 * depth c.args.self.now.inner.budget (weight st (arg_tree m X) + weight st (arg_tree m Y)) + 3) c.in-Const.is c.in-Const-b.is (omega arith) in
+    let lawful = c.requires.lawful in
+    let a_sure : IsTrue (known (m.const_ c.in-Const.a)) = subst (λ z. IsTrue (known (arg_tree m z))) c.in-Const.is c.requires.a_known in
+    let b_sure : IsTrue (known (m.const_ c.in-Const-b.b)) = subst (λ z. IsTrue (known (arg_tree m z))) c.in-Const-b.is c.requires.b_known in
+    let a_in : IsTermIn st (m.const_ c.in-Const.a) = subst (λ z. IsTermIn st (arg_tree m z)) c.in-Const.is c.requires.a_in in
+    let b_in : IsTermIn st (m.const_ c.in-Const-b.b) = subst (λ z. IsTermIn st (arg_tree m z)) c.in-Const-b.is c.requires.b_in in
+    search rules
+
+pub relate_arg-returns-in-Const-b : goal.relate_arg-returns-in-Const-b
+relate_arg-returns-in-Const-b g t c =
+    let m = g.I.Interner.meaning c.args.self.now.interner in
+    let st = store_of m c.args.self.now.inner in
+    let done = c.structurally_relate_consts.ensures in
+    let p = g.I.Interner.meaning c.structurally_relate_consts.new.self.interner in
+    let last = store_of p c.structurally_relate_consts.new.self.inner in
+    record {
+      lawful = done.lawful;
+      grown = done.grown;
+      goes = subst₂ (λ x y. Goes (weight st (arg_tree m x) + weight st (arg_tree m y)) st last) (sym c.in-Const.is) (sym c.in-Const-b.is) done.goes;
+      answers = subst₂ (λ x y. Answered p st last (arg_tree m x) (arg_tree m y) c.structurally_relate_consts.result) (sym c.in-Const.is) (sym c.in-Const-b.is) done.answers;
+      why_known = done.why_known;
+    }
+
+pub structurally_relate_tys-part-x-requires : goal.structurally_relate_tys-part-x-requires
+structurally_relate_tys-part-x-requires g t c =
+    let m = g.I.Interner.meaning c.args.self.now.interner in
+    let st = store_of m c.args.self.now.inner in
+    let a = m.ty c.args.a.now in
+    let b = m.ty c.args.b.now in
+    let ts = parts_of a in
+    let us = parts_of b in
+    let n = g.I.Interner.meaning c.loop-i.self.interner in
+    let now = store_of n c.loop-i.self.inner in
+    let inv = c.loop-i.invariant in
+    let i = c.loop-i.i in
+    let la : n.ty c.args.a.now ≡ a = inv.grown.ty c.args.a.now c.requires.a_known in
+    let lb : n.ty c.args.b.now ≡ b = inv.grown.ty c.args.b.now c.requires.b_known in
+    let less : i < count ts = (let test = c.loop-i-test.true in let k = inv.counts_a in omega arith) in
+    let less' : i < count us = (let test = c.loop-i-test.true in let k = inv.counts_b in omega arith) in
+    record { ty_known = subst (λ z. IsTrue (known z)) (sym la) c.requires.a_known; in_bounds = subst (λ z. i < count (parts_of z)) (sym la) less }
+
+pub structurally_relate_tys-part-y-requires : goal.structurally_relate_tys-part-y-requires
+structurally_relate_tys-part-y-requires g t c =
+    let m = g.I.Interner.meaning c.args.self.now.interner in
+    let st = store_of m c.args.self.now.inner in
+    let a = m.ty c.args.a.now in
+    let b = m.ty c.args.b.now in
+    let ts = parts_of a in
+    let us = parts_of b in
+    let n = g.I.Interner.meaning c.loop-i.self.interner in
+    let now = store_of n c.loop-i.self.inner in
+    let inv = c.loop-i.invariant in
+    let i = c.loop-i.i in
+    let la : n.ty c.args.a.now ≡ a = inv.grown.ty c.args.a.now c.requires.a_known in
+    let lb : n.ty c.args.b.now ≡ b = inv.grown.ty c.args.b.now c.requires.b_known in
+    let less : i < count ts = (let test = c.loop-i-test.true in let k = inv.counts_a in omega arith) in
+    let less' : i < count us = (let test = c.loop-i-test.true in let k = inv.counts_b in omega arith) in
+    record { ty_known = subst (λ z. IsTrue (known z)) (sym lb) c.requires.b_known; in_bounds = subst (λ z. i < count (parts_of z)) (sym lb) less' }
+
+pub structurally_relate_tys-relate_arg-related-requires : goal.structurally_relate_tys-relate_arg-related-requires
+structurally_relate_tys-relate_arg-related-requires g t c κs within =
+    let m = g.I.Interner.meaning c.args.self.now.interner in
+    let st = store_of m c.args.self.now.inner in
+    let a = m.ty c.args.a.now in
+    let b = m.ty c.args.b.now in
+    let ts = parts_of a in
+    let us = parts_of b in
+    let n = g.I.Interner.meaning c.loop-i.self.interner in
+    let now = store_of n c.loop-i.self.inner in
+    let inv = c.loop-i.invariant in
+    let i = c.loop-i.i in
+    let la : n.ty c.args.a.now ≡ a = inv.grown.ty c.args.a.now c.requires.a_known in
+    let lb : n.ty c.args.b.now ≡ b = inv.grown.ty c.args.b.now c.requires.b_known in
+    let less : i < count ts = (let test = c.loop-i-test.true in let k = inv.counts_a in omega arith) in
+    let less' : i < count us = (let test = c.loop-i-test.true in let k = inv.counts_b in omega arith) in
+    let x = arg_tree n c.part-x.result in
+    let y = arg_tree n c.part-y.result in
+    let ex : x ≡ nth i ts = c.part-x.ensures.means ∙ ap (λ z. nth i (parts_of z)) la in
+    let ey : y ≡ nth i us = c.part-y.ensures.means ∙ ap (λ z. nth i (parts_of z)) lb in
+    let N = weight st a + weight st b in
+    let K = weight st ts + weight st us in
+    let below : weight st (nth i ts) + weight st (nth i us) < K = (let wx = weight_nth st ts i less in let wy = weight_nth st us i less' in omega arith) in
+    let above : K < N = (let wa = weight_parts st a (omega (arith, less)) in let wb = weight_parts st b (omega (arith, less')) in omega arith) in
+    let d = c.decreases in
+    let small : 4 * depth c.loop-i.self.inner.budget (weight now x + weight now y) + 3 < 4 * depth c.args.self.now.inner.budget N + 1 =
+    subst₂ (λ p q. 4 * depth c.loop-i.self.inner.budget (weight now p + weight now q) + 3 < 4 * depth c.args.self.now.inner.budget N + 1) (sym ex) (sym ey) (part_under inv.goes N (nth i ts) (nth i us) above below) in
+    let lawful = inv.lawful in
+    let x_sure = c.part-x.ensures.sure in
+    let y_sure = c.part-y.ensures.sure in
+    let later = inv.goes.later in
+    let x_in : IsTermIn now x = subst (IsTermIn now) (sym ex) (later_term st now later.grows later.universe_stands (nth i ts) (in_part st a i less c.requires.a_in)) in
+    let y_in : IsTermIn now y = subst (IsTermIn now) (sym ey) (later_term st now later.grows later.universe_stands (nth i us) (in_part st b i less' c.requires.b_in)) in
+    search rules
+
+pub structurally_relate_tys-in_ty-requires : goal.structurally_relate_tys-in_ty-requires
+structurally_relate_tys-in_ty-requires g t c =
+    let m = g.I.Interner.meaning c.args.self.now.interner in
+    let st = store_of m c.args.self.now.inner in
+    let a = m.ty c.args.a.now in
+    let b = m.ty c.args.b.now in
+    let ts = parts_of a in
+    let us = parts_of b in
+    let n = g.I.Interner.meaning c.loop-i.self.interner in
+    let now = store_of n c.loop-i.self.inner in
+    let inv = c.loop-i.invariant in
+    let i = c.loop-i.i in
+    let la : n.ty c.args.a.now ≡ a = inv.grown.ty c.args.a.now c.requires.a_known in
+    let lb : n.ty c.args.b.now ≡ b = inv.grown.ty c.args.b.now c.requires.b_known in
+    let less : i < count ts = (let test = c.loop-i-test.true in let k = inv.counts_a in omega arith) in
+    let less' : i < count us = (let test = c.loop-i-test.true in let k = inv.counts_b in omega arith) in
+    let x = arg_tree n c.part-x.result in
+    let y = arg_tree n c.part-y.result in
+    let ex : x ≡ nth i ts = c.part-x.ensures.means ∙ ap (λ z. nth i (parts_of z)) la in
+    let ey : y ≡ nth i us = c.part-y.ensures.means ∙ ap (λ z. nth i (parts_of z)) lb in
+    let N = weight st a + weight st b in
+    let K = weight st ts + weight st us in
+    let below : weight st (nth i ts) + weight st (nth i us) < K = (let wx = weight_nth st ts i less in let wy = weight_nth st us i less' in omega arith) in
+    let above : K < N = (let wa = weight_parts st a (omega (arith, less)) in let wb = weight_parts st b (omega (arith, less')) in omega arith) in
+    let p = g.I.Interner.meaning c.relate_arg-related.new.self.interner in
+    let last = store_of p c.relate_arg-related.new.self.inner in
+    let done = c.relate_arg-related.ensures in
+    let up : weight now x + weight now y ≤ grown inv.goes.spent K = subst₂ (λ p q. weight now p + weight now q ≤ grown inv.goes.spent K) (sym ex) (sym ey) (pair_grown inv.goes K (nth i ts) (nth i us) (omega arith) below) in
+    let gone : Goes K st last = goes_then inv.goes done.goes up in
+    let stands : p.ty c.args.a.now ≡ a = done.grown.ty c.args.a.now (subst (λ z. IsTrue (known z)) (sym la) c.requires.a_known) ∙ la in
+    subst (λ z. IsTrue (known z)) (sym stands) c.requires.a_known
+
+pub structurally_relate_tys-returns-in_err-in_ty : goal.structurally_relate_tys-returns-in_err-in_ty
+structurally_relate_tys-returns-in_err-in_ty g t c =
+    let m = g.I.Interner.meaning c.args.self.now.interner in
+    let st = store_of m c.args.self.now.inner in
+    let a = m.ty c.args.a.now in
+    let b = m.ty c.args.b.now in
+    let ts = parts_of a in
+    let us = parts_of b in
+    let n = g.I.Interner.meaning c.loop-i.self.interner in
+    let now = store_of n c.loop-i.self.inner in
+    let inv = c.loop-i.invariant in
+    let i = c.loop-i.i in
+    let la : n.ty c.args.a.now ≡ a = inv.grown.ty c.args.a.now c.requires.a_known in
+    let lb : n.ty c.args.b.now ≡ b = inv.grown.ty c.args.b.now c.requires.b_known in
+    let less : i < count ts = (let test = c.loop-i-test.true in let k = inv.counts_a in omega arith) in
+    let less' : i < count us = (let test = c.loop-i-test.true in let k = inv.counts_b in omega arith) in
+    let x = arg_tree n c.part-x.result in
+    let y = arg_tree n c.part-y.result in
+    let ex : x ≡ nth i ts = c.part-x.ensures.means ∙ ap (λ z. nth i (parts_of z)) la in
+    let ey : y ≡ nth i us = c.part-y.ensures.means ∙ ap (λ z. nth i (parts_of z)) lb in
+    let N = weight st a + weight st b in
+    let K = weight st ts + weight st us in
+    let below : weight st (nth i ts) + weight st (nth i us) < K = (let wx = weight_nth st ts i less in let wy = weight_nth st us i less' in omega arith) in
+    let above : K < N = (let wa = weight_parts st a (omega (arith, less)) in let wb = weight_parts st b (omega (arith, less')) in omega arith) in
+    let p = g.I.Interner.meaning c.relate_arg-related.new.self.interner in
+    let last = store_of p c.relate_arg-related.new.self.inner in
+    let done = c.relate_arg-related.ensures in
+    let up : weight now x + weight now y ≤ grown inv.goes.spent K = subst₂ (λ p q. weight now p + weight now q ≤ grown inv.goes.spent K) (sym ex) (sym ey) (pair_grown inv.goes K (nth i ts) (nth i us) (omega arith) below) in
+    let gone : Goes K st last = goes_then inv.goes done.goes up in
+    let stands : p.ty c.args.a.now ≡ a = done.grown.ty c.args.a.now (subst (λ z. IsTrue (known z)) (sym la) c.requires.a_known) ∙ la in
+    let e = c.in_err-in_ty.field-0.0 in
+    let sorted : Sorted n = record { ty = g.met.I.Interner.is_ty c.loop-i.self.interner; region = g.met.I.Interner.is_region c.loop-i.self.interner; tys = g.met.I.Interner.are_tys c.loop-i.self.interner; const_ = g.met.I.Interner.is_const c.loop-i.self.interner; valtree = g.met.I.Interner.is_valtree c.loop-i.self.interner; args = g.met.I.Interner.are_args c.loop-i.self.interner; branches = g.met.I.Interner.are_branches c.loop-i.self.interner } in
+    let (f, why, fault) = failed_ty (Unit {0}) (p.ty c.args.a.now) c.part-x.result c.part-y.result c.relate_arg-related.result e c.in_err-in_ty.ensures in
+    record {
+      lawful = done.lawful;
+      grown = extends_on inv.grown done.grown;
+      goes = goes_within (omega (arith, above)) gone;
+      answers = error_answered p (Unit {0}) st last a b c.from_residual-in_err-in_ty.result e c.from_residual-in_err-in_ty.ensures.0 c.from_residual-in_err-in_ty.ensures.1
+          (ty_fails n p done.grown sorted st now a b i c.part-x.result c.part-y.result c.part-x.ensures.sure c.part-y.ensures.sure x y refl refl (Unit {0}) (Unit {0}) last f e c.requires.a_formed c.in_ok-compare_tys.ensures.alike less less' ex ey inv.front
+          (subst (λ z. IsFaultOfTy z c.part-x.result c.part-y.result f e) stands fault) (subst (Answered p now last x y) why done.answers));
+      why_known = passed_known p c.from_residual-in_err-in_ty.result e c.from_residual-in_err-in_ty.ensures.0 c.from_residual-in_err-in_ty.ensures.1
+          (ty_fault_known p (p.ty c.args.a.now) c.part-x.result c.part-y.result f e (knows_arg done.grown c.part-x.result c.part-x.ensures.sure) (knows_arg done.grown c.part-y.result c.part-y.ensures.sure) fault (subst (λ z. IfErr z (KnowsFault p)) why done.why_known));
+    }
+
+pub structurally_relate_tys-loop-i-preserved : goal.structurally_relate_tys-loop-i-preserved
+structurally_relate_tys-loop-i-preserved g t c =
+    let m = g.I.Interner.meaning c.args.self.now.interner in
+    let st = store_of m c.args.self.now.inner in
+    let a = m.ty c.args.a.now in
+    let b = m.ty c.args.b.now in
+    let ts = parts_of a in
+    let us = parts_of b in
+    let n = g.I.Interner.meaning c.loop-i.self.interner in
+    let now = store_of n c.loop-i.self.inner in
+    let inv = c.loop-i.invariant in
+    let i = c.loop-i.i in
+    let la : n.ty c.args.a.now ≡ a = inv.grown.ty c.args.a.now c.requires.a_known in
+    let lb : n.ty c.args.b.now ≡ b = inv.grown.ty c.args.b.now c.requires.b_known in
+    let less : i < count ts = (let test = c.loop-i-test.true in let k = inv.counts_a in omega arith) in
+    let less' : i < count us = (let test = c.loop-i-test.true in let k = inv.counts_b in omega arith) in
+    let x = arg_tree n c.part-x.result in
+    let y = arg_tree n c.part-y.result in
+    let ex : x ≡ nth i ts = c.part-x.ensures.means ∙ ap (λ z. nth i (parts_of z)) la in
+    let ey : y ≡ nth i us = c.part-y.ensures.means ∙ ap (λ z. nth i (parts_of z)) lb in
+    let N = weight st a + weight st b in
+    let K = weight st ts + weight st us in
+    let below : weight st (nth i ts) + weight st (nth i us) < K = (let wx = weight_nth st ts i less in let wy = weight_nth st us i less' in omega arith) in
+    let above : K < N = (let wa = weight_parts st a (omega (arith, less)) in let wb = weight_parts st b (omega (arith, less')) in omega arith) in
+    let p = g.I.Interner.meaning c.relate_arg-related.new.self.interner in
+    let last = store_of p c.relate_arg-related.new.self.inner in
+    let done = c.relate_arg-related.ensures in
+    let up : weight now x + weight now y ≤ grown inv.goes.spent K = subst₂ (λ p q. weight now p + weight now q ≤ grown inv.goes.spent K) (sym ex) (sym ey) (pair_grown inv.goes K (nth i ts) (nth i us) (omega arith) below) in
+    let gone : Goes K st last = goes_then inv.goes done.goes up in
+    let stands : p.ty c.args.a.now ≡ a = done.grown.ty c.args.a.now (subst (λ z. IsTrue (known z)) (sym la) c.requires.a_known) ∙ la in
+    record {
+      lawful = done.lawful;
+      grown = extends_on inv.grown done.grown;
+      goes = gone;
+      counts_a = inv.counts_a;
+      counts_b = inv.counts_b;
+      a_list = inv.a_list;
+      b_list = inv.b_list;
+      front = front_more st now i ts us x y less less' ex ey inv.front last done.goes.later.shrinks (united_ty p now last (p.ty c.args.a.now) x y c.part-x.result c.part-y.result c.relate_arg-related.result _ c.in_ok-in_ty.ensures done.answers);
+    }
+
+pub structurally_relate_tys-loop-i-init : goal.structurally_relate_tys-loop-i-init
+structurally_relate_tys-loop-i-init g t c =
+    let m = g.I.Interner.meaning c.args.self.now.interner in
+    let st = store_of m c.args.self.now.inner in
+    let a = m.ty c.args.a.now in
+    let b = m.ty c.args.b.now in
+    let ts = parts_of a in
+    let us = parts_of b in
+    record {
+      lawful = c.requires.lawful;
+      grown = stays_same m;
+      goes = goes_nowhere (weight st ts + weight st us) st;
+      counts_a = c.parts_count-n.ensures.counts;
+      counts_b = c.parts_count-n.ensures.counts ∙ parts_counted a b c.in_ok-compare_tys.ensures.alike;
+      a_list = c.parts_count-n.ensures.is_list;
+      b_list = parts_of_list type_sort b (g.met.I.Interner.is_ty c.args.self.now.interner c.args.b.now c.requires.b_known);
+      front = front_none st ts us;
+    }
+
+pub structurally_relate_tys-returns : goal.structurally_relate_tys-returns
+structurally_relate_tys-returns g t c =
+    let m = g.I.Interner.meaning c.args.self.now.interner in
+    let st = store_of m c.args.self.now.inner in
+    let a = m.ty c.args.a.now in
+    let b = m.ty c.args.b.now in
+    let ts = parts_of a in
+    let us = parts_of b in
+    let n = g.I.Interner.meaning c.loop-i.self.interner in
+    let now = store_of n c.loop-i.self.inner in
+    let inv = c.loop-i.invariant in
+    let i = c.loop-i.i in
+    let last : i ≡ c.parts_count-n.result = (let q = c.loop-i.auto.i-end in let r = c.loop-i-test.false in omega arith) in
+    record {
+      lawful = inv.lawful;
+      grown = inv.grown;
+      goes = goes_within (let wa = weight_parts_most st a in let wb = weight_parts_most st b in omega arith) inv.goes;
+      answers = forms_unite st now a b i c.requires.a_formed c.in_ok-compare_tys.ensures.alike (last ∙ inv.counts_a) (last ∙ inv.counts_b) inv.a_list inv.b_list inv.front;
+      why_known = tt;
+    }
+
+pub structurally_relate_tys-returns-then-eq : goal.structurally_relate_tys-returns-then-eq
+structurally_relate_tys-returns-then-eq g t c =
+    let m = g.I.Interner.meaning c.args.self.now.interner in
+    let st = store_of m c.args.self.now.inner in
+    let a = m.ty c.args.a.now in
+    let b = m.ty c.args.b.now in
+    let ts = parts_of a in
+    let us = parts_of b in
+    record {
+      lawful = c.requires.lawful;
+      grown = stays_same m;
+      goes = goes_nowhere (weight st a + weight st b) st;
+      answers = same_unites st a b ((g.met.I.Interner.same_ty c.args.self.now.interner c.args.a.now c.args.b.now c.requires.a_known c.requires.b_known).0 (sym c.if-eq.ensures));
+      why_known = tt;
+    }
+
+pub structurally_relate_tys-compare_tys-requires : goal.structurally_relate_tys-compare_tys-requires
+structurally_relate_tys-compare_tys-requires g t c =
+    record {
+      a_known = c.requires.a_known;
+      b_known = c.requires.b_known;
+      differ = λ e. false≢true (c.if-eq.ensures ∙ (g.met.I.Interner.same_ty c.args.self.now.interner c.args.a.now c.args.b.now c.requires.a_known c.requires.b_known).1 e);
+    }
+
+pub structurally_relate_tys-returns-in_err-compare_tys : goal.structurally_relate_tys-returns-in_err-compare_tys
+structurally_relate_tys-returns-in_err-compare_tys g t c =
+    let m = g.I.Interner.meaning c.args.self.now.interner in
+    let st = store_of m c.args.self.now.inner in
+    let a = m.ty c.args.a.now in
+    let b = m.ty c.args.b.now in
+    let ts = parts_of a in
+    let us = parts_of b in
+    let why = c.in_err-compare_tys.ensures in
+    let a_is = g.met.I.Interner.is_ty c.args.self.now.interner c.args.a.now c.requires.a_known in
+    let b_is = g.met.I.Interner.is_ty c.args.self.now.interner c.args.b.now c.requires.b_known in
+    record {
+      lawful = c.requires.lawful;
+      grown = stays_same m;
+      goes = goes_nowhere (weight st a + weight st b) st;
+      answers = form_answered m st c.args.a.now c.args.b.now c.in_err-compare_tys.field-0.0 c.requires.a_formed c.requires.b_formed a_is b_is why.errors c.from_residual.result c.from_residual.ensures;
+      why_known = form_known m c.args.a.now c.args.b.now c.in_err-compare_tys.field-0.0 c.requires.a_known c.requires.b_known why.errors c.from_residual.result c.from_residual.ensures;
+    }
+
+pub structurally_relate_consts-const_part-x-requires : goal.structurally_relate_consts-const_part-x-requires
+structurally_relate_consts-const_part-x-requires g t c =
+    let m = g.I.Interner.meaning c.args.self.now.interner in
+    let st = store_of m c.args.self.now.inner in
+    let a = m.const_ c.args.a.now in
+    let b = m.const_ c.args.b.now in
+    let ts = const_parts_of a in
+    let us = const_parts_of b in
+    let n = g.I.Interner.meaning c.loop-i.self.interner in
+    let now = store_of n c.loop-i.self.inner in
+    let inv = c.loop-i.invariant in
+    let i = c.loop-i.i in
+    let la : n.const_ c.args.a.now ≡ a = inv.grown.const_ c.args.a.now c.requires.a_known in
+    let lb : n.const_ c.args.b.now ≡ b = inv.grown.const_ c.args.b.now c.requires.b_known in
+    let less : i < count ts = (let test = c.loop-i-test.true in let k = inv.counts_a in omega arith) in
+    let less' : i < count us = (let test = c.loop-i-test.true in let k = inv.counts_b in omega arith) in
+    record { constant_known = subst (λ z. IsTrue (known z)) (sym la) c.requires.a_known; in_bounds = subst (λ z. i < count (const_parts_of z)) (sym la) less }
+
+pub structurally_relate_consts-const_part-y-requires : goal.structurally_relate_consts-const_part-y-requires
+structurally_relate_consts-const_part-y-requires g t c =
+    let m = g.I.Interner.meaning c.args.self.now.interner in
+    let st = store_of m c.args.self.now.inner in
+    let a = m.const_ c.args.a.now in
+    let b = m.const_ c.args.b.now in
+    let ts = const_parts_of a in
+    let us = const_parts_of b in
+    let n = g.I.Interner.meaning c.loop-i.self.interner in
+    let now = store_of n c.loop-i.self.inner in
+    let inv = c.loop-i.invariant in
+    let i = c.loop-i.i in
+    let la : n.const_ c.args.a.now ≡ a = inv.grown.const_ c.args.a.now c.requires.a_known in
+    let lb : n.const_ c.args.b.now ≡ b = inv.grown.const_ c.args.b.now c.requires.b_known in
+    let less : i < count ts = (let test = c.loop-i-test.true in let k = inv.counts_a in omega arith) in
+    let less' : i < count us = (let test = c.loop-i-test.true in let k = inv.counts_b in omega arith) in
+    record { constant_known = subst (λ z. IsTrue (known z)) (sym lb) c.requires.b_known; in_bounds = subst (λ z. i < count (const_parts_of z)) (sym lb) less' }
+
+pub structurally_relate_consts-relate_arg-related-requires : goal.structurally_relate_consts-relate_arg-related-requires
+structurally_relate_consts-relate_arg-related-requires g t c κs within =
+    let m = g.I.Interner.meaning c.args.self.now.interner in
+    let st = store_of m c.args.self.now.inner in
+    let a = m.const_ c.args.a.now in
+    let b = m.const_ c.args.b.now in
+    let ts = const_parts_of a in
+    let us = const_parts_of b in
+    let n = g.I.Interner.meaning c.loop-i.self.interner in
+    let now = store_of n c.loop-i.self.inner in
+    let inv = c.loop-i.invariant in
+    let i = c.loop-i.i in
+    let la : n.const_ c.args.a.now ≡ a = inv.grown.const_ c.args.a.now c.requires.a_known in
+    let lb : n.const_ c.args.b.now ≡ b = inv.grown.const_ c.args.b.now c.requires.b_known in
+    let less : i < count ts = (let test = c.loop-i-test.true in let k = inv.counts_a in omega arith) in
+    let less' : i < count us = (let test = c.loop-i-test.true in let k = inv.counts_b in omega arith) in
+    let x = arg_tree n c.const_part-x.result in
+    let y = arg_tree n c.const_part-y.result in
+    let ex : x ≡ nth i ts = c.const_part-x.ensures.means ∙ ap (λ z. nth i (const_parts_of z)) la in
+    let ey : y ≡ nth i us = c.const_part-y.ensures.means ∙ ap (λ z. nth i (const_parts_of z)) lb in
+    let N = weight st a + weight st b in
+    let K = weight st ts + weight st us in
+    let below : weight st (nth i ts) + weight st (nth i us) < K = (let wx = weight_nth st ts i less in let wy = weight_nth st us i less' in omega arith) in
+    let above : K < N = (let wa = weight_const_parts st a (omega (arith, less)) in let wb = weight_const_parts st b (omega (arith, less')) in omega arith) in
+    let d = c.decreases in
+    let small : 4 * depth c.loop-i.self.inner.budget (weight now x + weight now y) + 3 < 4 * depth c.args.self.now.inner.budget N + 1 =
+    subst₂ (λ p q. 4 * depth c.loop-i.self.inner.budget (weight now p + weight now q) + 3 < 4 * depth c.args.self.now.inner.budget N + 1) (sym ex) (sym ey) (part_under inv.goes N (nth i ts) (nth i us) above below) in
+    let lawful = inv.lawful in
+    let x_sure = c.const_part-x.ensures.sure in
+    let y_sure = c.const_part-y.ensures.sure in
+    let later = inv.goes.later in
+    let x_in : IsTermIn now x = subst (IsTermIn now) (sym ex) (later_term st now later.grows later.universe_stands (nth i ts) (in_const_part st a i less c.requires.a_in)) in
+    let y_in : IsTermIn now y = subst (IsTermIn now) (sym ey) (later_term st now later.grows later.universe_stands (nth i us) (in_const_part st b i less' c.requires.b_in)) in
+    search rules
+
+pub structurally_relate_consts-in_const-requires : goal.structurally_relate_consts-in_const-requires
+structurally_relate_consts-in_const-requires g t c =
+    let m = g.I.Interner.meaning c.args.self.now.interner in
+    let st = store_of m c.args.self.now.inner in
+    let a = m.const_ c.args.a.now in
+    let b = m.const_ c.args.b.now in
+    let ts = const_parts_of a in
+    let us = const_parts_of b in
+    let n = g.I.Interner.meaning c.loop-i.self.interner in
+    let now = store_of n c.loop-i.self.inner in
+    let inv = c.loop-i.invariant in
+    let i = c.loop-i.i in
+    let la : n.const_ c.args.a.now ≡ a = inv.grown.const_ c.args.a.now c.requires.a_known in
+    let lb : n.const_ c.args.b.now ≡ b = inv.grown.const_ c.args.b.now c.requires.b_known in
+    let less : i < count ts = (let test = c.loop-i-test.true in let k = inv.counts_a in omega arith) in
+    let less' : i < count us = (let test = c.loop-i-test.true in let k = inv.counts_b in omega arith) in
+    let x = arg_tree n c.const_part-x.result in
+    let y = arg_tree n c.const_part-y.result in
+    let ex : x ≡ nth i ts = c.const_part-x.ensures.means ∙ ap (λ z. nth i (const_parts_of z)) la in
+    let ey : y ≡ nth i us = c.const_part-y.ensures.means ∙ ap (λ z. nth i (const_parts_of z)) lb in
+    let N = weight st a + weight st b in
+    let K = weight st ts + weight st us in
+    let below : weight st (nth i ts) + weight st (nth i us) < K = (let wx = weight_nth st ts i less in let wy = weight_nth st us i less' in omega arith) in
+    let above : K < N = (let wa = weight_const_parts st a (omega (arith, less)) in let wb = weight_const_parts st b (omega (arith, less')) in omega arith) in
+    let p = g.I.Interner.meaning c.relate_arg-related.new.self.interner in
+    let last = store_of p c.relate_arg-related.new.self.inner in
+    let done = c.relate_arg-related.ensures in
+    let up : weight now x + weight now y ≤ grown inv.goes.spent K = subst₂ (λ p q. weight now p + weight now q ≤ grown inv.goes.spent K) (sym ex) (sym ey) (pair_grown inv.goes K (nth i ts) (nth i us) (omega arith) below) in
+    let gone : Goes K st last = goes_then inv.goes done.goes up in
+    let stands : p.const_ c.args.a.now ≡ a = done.grown.const_ c.args.a.now (subst (λ z. IsTrue (known z)) (sym la) c.requires.a_known) ∙ la in
+    subst (λ z. IsTrue (known z)) (sym stands) c.requires.a_known
+
+pub structurally_relate_consts-returns-in_err-in_const : goal.structurally_relate_consts-returns-in_err-in_const
+structurally_relate_consts-returns-in_err-in_const g t c =
+    let m = g.I.Interner.meaning c.args.self.now.interner in
+    let st = store_of m c.args.self.now.inner in
+    let a = m.const_ c.args.a.now in
+    let b = m.const_ c.args.b.now in
+    let ts = const_parts_of a in
+    let us = const_parts_of b in
+    let n = g.I.Interner.meaning c.loop-i.self.interner in
+    let now = store_of n c.loop-i.self.inner in
+    let inv = c.loop-i.invariant in
+    let i = c.loop-i.i in
+    let la : n.const_ c.args.a.now ≡ a = inv.grown.const_ c.args.a.now c.requires.a_known in
+    let lb : n.const_ c.args.b.now ≡ b = inv.grown.const_ c.args.b.now c.requires.b_known in
+    let less : i < count ts = (let test = c.loop-i-test.true in let k = inv.counts_a in omega arith) in
+    let less' : i < count us = (let test = c.loop-i-test.true in let k = inv.counts_b in omega arith) in
+    let x = arg_tree n c.const_part-x.result in
+    let y = arg_tree n c.const_part-y.result in
+    let ex : x ≡ nth i ts = c.const_part-x.ensures.means ∙ ap (λ z. nth i (const_parts_of z)) la in
+    let ey : y ≡ nth i us = c.const_part-y.ensures.means ∙ ap (λ z. nth i (const_parts_of z)) lb in
+    let N = weight st a + weight st b in
+    let K = weight st ts + weight st us in
+    let below : weight st (nth i ts) + weight st (nth i us) < K = (let wx = weight_nth st ts i less in let wy = weight_nth st us i less' in omega arith) in
+    let above : K < N = (let wa = weight_const_parts st a (omega (arith, less)) in let wb = weight_const_parts st b (omega (arith, less')) in omega arith) in
+    let p = g.I.Interner.meaning c.relate_arg-related.new.self.interner in
+    let last = store_of p c.relate_arg-related.new.self.inner in
+    let done = c.relate_arg-related.ensures in
+    let up : weight now x + weight now y ≤ grown inv.goes.spent K = subst₂ (λ p q. weight now p + weight now q ≤ grown inv.goes.spent K) (sym ex) (sym ey) (pair_grown inv.goes K (nth i ts) (nth i us) (omega arith) below) in
+    let gone : Goes K st last = goes_then inv.goes done.goes up in
+    let stands : p.const_ c.args.a.now ≡ a = done.grown.const_ c.args.a.now (subst (λ z. IsTrue (known z)) (sym la) c.requires.a_known) ∙ la in
+    let stands' : p.const_ c.args.b.now ≡ b = done.grown.const_ c.args.b.now (subst (λ z. IsTrue (known z)) (sym lb) c.requires.b_known) ∙ lb in
+    let e = c.in_err-in_const.field-0.0 in
+    let (f, why, fault) = failed_const (Unit {0}) (p.const_ c.args.a.now) c.args.a.now c.args.b.now c.relate_arg-related.result e c.in_err-in_const.ensures in
+    record {
+      lawful = done.lawful;
+      grown = extends_on inv.grown done.grown;
+      goes = goes_within (omega (arith, above)) gone;
+      answers = error_answered p (Unit {0}) st last a b c.from_residual-in_err-in_const.result e c.from_residual-in_err-in_const.ensures.0 c.from_residual-in_err-in_const.ensures.1
+          (consts_fail p st now c.args.a.now c.args.b.now i x y a b stands stands' (Unit {0}) (Unit {0}) last f e c.in_ok-compare_consts.ensures.alike less less' ex ey inv.front
+          (subst (λ z. IsFaultOfConst z c.args.a.now c.args.b.now f e) stands fault) (subst (Answered p now last x y) why done.answers));
+      why_known = passed_known p c.from_residual-in_err-in_const.result e c.from_residual-in_err-in_const.ensures.0 c.from_residual-in_err-in_const.ensures.1
+          (const_fault_known p (p.const_ c.args.a.now) c.args.a.now c.args.b.now f e (subst (λ z. IsTrue (known z)) (sym stands) c.requires.a_known) (subst (λ z. IsTrue (known z)) (sym stands') c.requires.b_known) fault (subst (λ z. IfErr z (KnowsFault p)) why done.why_known));
+    }
+
+pub structurally_relate_consts-loop-i-preserved : goal.structurally_relate_consts-loop-i-preserved
+structurally_relate_consts-loop-i-preserved g t c =
+    let m = g.I.Interner.meaning c.args.self.now.interner in
+    let st = store_of m c.args.self.now.inner in
+    let a = m.const_ c.args.a.now in
+    let b = m.const_ c.args.b.now in
+    let ts = const_parts_of a in
+    let us = const_parts_of b in
+    let n = g.I.Interner.meaning c.loop-i.self.interner in
+    let now = store_of n c.loop-i.self.inner in
+    let inv = c.loop-i.invariant in
+    let i = c.loop-i.i in
+    let la : n.const_ c.args.a.now ≡ a = inv.grown.const_ c.args.a.now c.requires.a_known in
+    let lb : n.const_ c.args.b.now ≡ b = inv.grown.const_ c.args.b.now c.requires.b_known in
+    let less : i < count ts = (let test = c.loop-i-test.true in let k = inv.counts_a in omega arith) in
+    let less' : i < count us = (let test = c.loop-i-test.true in let k = inv.counts_b in omega arith) in
+    let x = arg_tree n c.const_part-x.result in
+    let y = arg_tree n c.const_part-y.result in
+    let ex : x ≡ nth i ts = c.const_part-x.ensures.means ∙ ap (λ z. nth i (const_parts_of z)) la in
+    let ey : y ≡ nth i us = c.const_part-y.ensures.means ∙ ap (λ z. nth i (const_parts_of z)) lb in
+    let N = weight st a + weight st b in
+    let K = weight st ts + weight st us in
+    let below : weight st (nth i ts) + weight st (nth i us) < K = (let wx = weight_nth st ts i less in let wy = weight_nth st us i less' in omega arith) in
+    let above : K < N = (let wa = weight_const_parts st a (omega (arith, less)) in let wb = weight_const_parts st b (omega (arith, less')) in omega arith) in
+    let p = g.I.Interner.meaning c.relate_arg-related.new.self.interner in
+    let last = store_of p c.relate_arg-related.new.self.inner in
+    let done = c.relate_arg-related.ensures in
+    let up : weight now x + weight now y ≤ grown inv.goes.spent K = subst₂ (λ p q. weight now p + weight now q ≤ grown inv.goes.spent K) (sym ex) (sym ey) (pair_grown inv.goes K (nth i ts) (nth i us) (omega arith) below) in
+    let gone : Goes K st last = goes_then inv.goes done.goes up in
+    let stands : p.const_ c.args.a.now ≡ a = done.grown.const_ c.args.a.now (subst (λ z. IsTrue (known z)) (sym la) c.requires.a_known) ∙ la in
+    record {
+      lawful = done.lawful;
+      grown = extends_on inv.grown done.grown;
+      goes = gone;
+      counts_a = inv.counts_a;
+      counts_b = inv.counts_b;
+      a_list = inv.a_list;
+      b_list = inv.b_list;
+      front = front_more st now i ts us x y less less' ex ey inv.front last done.goes.later.shrinks (united_const p now last (p.const_ c.args.a.now) x y c.args.a.now c.args.b.now c.relate_arg-related.result _ c.in_ok-in_const.ensures done.answers);
+    }
+
+pub structurally_relate_consts-loop-i-init : goal.structurally_relate_consts-loop-i-init
+structurally_relate_consts-loop-i-init g t c =
+    let m = g.I.Interner.meaning c.args.self.now.interner in
+    let st = store_of m c.args.self.now.inner in
+    let a = m.const_ c.args.a.now in
+    let b = m.const_ c.args.b.now in
+    let ts = const_parts_of a in
+    let us = const_parts_of b in
+    record {
+      lawful = c.requires.lawful;
+      grown = stays_same m;
+      goes = goes_nowhere (weight st ts + weight st us) st;
+      counts_a = c.const_parts_count-n.ensures.counts;
+      counts_b = c.const_parts_count-n.ensures.counts ∙ const_parts_counted a b c.in_ok-compare_consts.ensures.alike;
+      a_list = c.const_parts_count-n.ensures.is_list;
+      b_list = const_parts_list b (g.met.I.Interner.is_const c.args.self.now.interner c.args.b.now c.requires.b_known);
+      front = front_none st ts us;
+    }
+
+pub structurally_relate_consts-returns : goal.structurally_relate_consts-returns
+structurally_relate_consts-returns g t c =
+    let m = g.I.Interner.meaning c.args.self.now.interner in
+    let st = store_of m c.args.self.now.inner in
+    let a = m.const_ c.args.a.now in
+    let b = m.const_ c.args.b.now in
+    let ts = const_parts_of a in
+    let us = const_parts_of b in
+    let n = g.I.Interner.meaning c.loop-i.self.interner in
+    let now = store_of n c.loop-i.self.inner in
+    let inv = c.loop-i.invariant in
+    let i = c.loop-i.i in
+    let last : i ≡ c.const_parts_count-n.result = (let q = c.loop-i.auto.i-end in let r = c.loop-i-test.false in omega arith) in
+    record {
+      lawful = inv.lawful;
+      grown = inv.grown;
+      goes = goes_within (let wa = weight_const_parts_most st a in let wb = weight_const_parts_most st b in omega arith) inv.goes;
+      answers = consts_unite st now a b i c.in_ok-compare_consts.ensures.alike (last ∙ inv.counts_a) inv.a_list inv.b_list inv.front;
+      why_known = tt;
+    }
+
+pub structurally_relate_consts-returns-then-eq : goal.structurally_relate_consts-returns-then-eq
+structurally_relate_consts-returns-then-eq g t c =
+    let m = g.I.Interner.meaning c.args.self.now.interner in
+    let st = store_of m c.args.self.now.inner in
+    let a = m.const_ c.args.a.now in
+    let b = m.const_ c.args.b.now in
+    let ts = const_parts_of a in
+    let us = const_parts_of b in
+    record {
+      lawful = c.requires.lawful;
+      grown = stays_same m;
+      goes = goes_nowhere (weight st a + weight st b) st;
+      answers = same_unites st a b ((g.met.I.Interner.same_const c.args.self.now.interner c.args.a.now c.args.b.now c.requires.a_known c.requires.b_known).0 (sym c.if-eq.ensures));
+      why_known = tt;
+    }
+
+pub structurally_relate_consts-compare_consts-requires : goal.structurally_relate_consts-compare_consts-requires
+structurally_relate_consts-compare_consts-requires g t c =
+    record {
+      a_known = c.requires.a_known;
+      b_known = c.requires.b_known;
+      differ = λ e. false≢true (c.if-eq.ensures ∙ (g.met.I.Interner.same_const c.args.self.now.interner c.args.a.now c.args.b.now c.requires.a_known c.requires.b_known).1 e);
+    }
+
+pub structurally_relate_consts-returns-in_err-compare_consts : goal.structurally_relate_consts-returns-in_err-compare_consts
+structurally_relate_consts-returns-in_err-compare_consts g t c =
+    let m = g.I.Interner.meaning c.args.self.now.interner in
+    let st = store_of m c.args.self.now.inner in
+    let a = m.const_ c.args.a.now in
+    let b = m.const_ c.args.b.now in
+    let ts = const_parts_of a in
+    let us = const_parts_of b in
+    let why = c.in_err-compare_consts.ensures in
+    let a_is = g.met.I.Interner.is_const c.args.self.now.interner c.args.a.now c.requires.a_known in
+    let b_is = g.met.I.Interner.is_const c.args.self.now.interner c.args.b.now c.requires.b_known in
+    record {
+      lawful = c.requires.lawful;
+      grown = stays_same m;
+      goes = goes_nowhere (weight st a + weight st b) st;
+      answers = const_form_answered m st c.args.a.now c.args.b.now c.in_err-compare_consts.field-0.0 why.a_formed why.b_formed a_is b_is why.errors c.from_residual.result c.from_residual.ensures;
+      why_known = const_form_known m c.args.a.now c.args.b.now c.in_err-compare_consts.field-0.0 c.requires.a_known c.requires.b_known why.errors c.from_residual.result c.from_residual.ensures;
+    }

@@ -6,12 +6,14 @@ use Rattle.relation_reference.proofs.context.variables.RefCtxt.arg.Goals as goal
 pub bounds-args-i : goal.bounds-args-i
 bounds-args-i g c =
     let m = g.I.Interner.meaning c.args.self.now.interner in
-    slice_below (arg_tree m) c.args-2.result.now (m.args c.args.args.now) c.args-2.ensures (m.args c.args.args.now) refl c.args.i c.requires.in_bounds
+    slice_below (arg_tree m) c.args-2.result.now (m.args c.args.args.now) c.args-2.ensures (m.args c.args.args.now)
+        refl c.args.i c.requires.in_bounds
 
 pub offset_bounds-args-i : goal.offset_bounds-args-i
 offset_bounds-args-i g c =
     let m = g.I.Interner.meaning c.args.self.now.interner in
-    let h : c.args.i < length c.args-2.result.now = slice_below (arg_tree m) c.args-2.result.now (m.args c.args.args.now) c.args-2.ensures (m.args c.args.args.now) refl c.args.i c.requires.in_bounds in
+    let h : c.args.i < length c.args-2.result.now = slice_below (arg_tree m) c.args-2.result.now
+        (m.args c.args.args.now) c.args-2.ensures (m.args c.args.args.now) refl c.args.i c.requires.in_bounds in
     omega (arith, h)
 
 pub returns : goal.returns
@@ -20,6 +22,8 @@ returns g c =
     let at = c.index-args-i.result in
     let is = c.dup.ensures ∙ c.index-args-i.is in
     record {
-      sure = slice_sure (arg_tree m) c.args-2.result.now (m.args c.args.args.now) c.args-2.ensures (m.args c.args.args.now) refl c.requires.args_known c.args.i at c.dup.result c.requires.in_bounds is;
-      means = slice_nth (arg_tree m) c.args-2.result.now (m.args c.args.args.now) c.args-2.ensures (m.args c.args.args.now) refl c.args.i at c.dup.result c.requires.in_bounds is;
+      sure = slice_sure (arg_tree m) c.args-2.result.now (m.args c.args.args.now) c.args-2.ensures
+          (m.args c.args.args.now) refl c.requires.args_known c.args.i at c.dup.result c.requires.in_bounds is;
+      means = slice_nth (arg_tree m) c.args-2.result.now (m.args c.args.args.now) c.args-2.ensures
+          (m.args c.args.args.now) refl c.args.i at c.dup.result c.requires.in_bounds is;
     }

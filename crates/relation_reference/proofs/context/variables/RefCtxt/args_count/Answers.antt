@@ -7,6 +7,8 @@ pub returns : goal.returns
 returns g c =
     let m = g.I.Interner.meaning c.args.self.now.interner in
     record {
-      counts = slice_counts (arg_tree m) c.args-2.result.now (m.args c.args.args.now) c.args-2.ensures (m.args c.args.args.now) refl;
-      is_list = slice_list (arg_tree m) c.args-2.result.now (m.args c.args.args.now) c.args-2.ensures (m.args c.args.args.now) refl;
+      counts = slice_counts (arg_tree m) c.args-2.result.now (m.args c.args.args.now) c.args-2.ensures
+          (m.args c.args.args.now) refl;
+      is_list = slice_list (arg_tree m) c.args-2.result.now (m.args c.args.args.now) c.args-2.ensures
+          (m.args c.args.args.now) refl;
     }

@@ -6,6 +6,8 @@ pub returns : goal.returns
 returns g c =
     let m = g.I.Interner.meaning c.args.self.now.interner in
     record {
-      counts = slice_counts m.const_ c.branches.result.now (m.branches c.args.branches.now) c.branches.ensures (m.branches c.args.branches.now) refl;
-      is_list = slice_list m.const_ c.branches.result.now (m.branches c.args.branches.now) c.branches.ensures (m.branches c.args.branches.now) refl;
+      counts = slice_counts m.const_ c.branches.result.now (m.branches c.args.branches.now) c.branches.ensures
+          (m.branches c.args.branches.now) refl;
+      is_list = slice_list m.const_ c.branches.result.now (m.branches c.args.branches.now) c.branches.ensures
+          (m.branches c.args.branches.now) refl;
     }
