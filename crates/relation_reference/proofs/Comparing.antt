@@ -32,7 +32,7 @@ use Rattle.relation_tools.specs.declared.error.RelateFault.TheVariants.{Unrelate
 use Rattle.relation_tools.specs.Faults.{KnowsError, KnowsFault}
 use Rattle.type_relations.specs.Relation.{plain_atom}
 use Rattle.type_relations.specs.Stores.{Store}
-use Rattle.type_relations.specs.Errors.{AreOfOneForm, over_parts, AreAlike, AreAlikeLeaves, AreAlikeConsts, AreOfOneValue, one_value, as_many_branches, IsNoVariable}
+use Rattle.type_relations.specs.Errors.{AreOfOneForm, over_parts, one_leaf, AreAlike, AreAlikeLeaves, AreAlikeConsts, AreOfOneValue, one_value, as_many_branches, IsNoVariable}
 use Rattle.type_relations.specs.Errors.{FormError, mutability, pointer_mutability, tuple_size, empty_tuple, as_many, sorts, of_forms}
 use Rattle.type_relations.specs.Errors.{ConstFormError, const_mismatch, operations, of_const_forms}
 use Rattle.type_relations.specs.Outcomes.{NoEqualTerms}
@@ -285,6 +285,11 @@ module _ {Key Id Name : Type 0} (m : Meaning Key Id Name) where
   unlike_alone k x y e p differ is i a b c d f g =
       let (l, q, plain) = alone_kind k i a b c d f g in
       unlike_as x y (leaf l) (m.ty y) e (p ∙ q) refl (λ h. differ (p ∙ q ∙ alone l (m.ty y) plain h)) is
+
+  -- Where the two are one, they are of one form without parts.
+  pub one_alone : (k : TyKind Key Id Name) (a b : Tree) → a ≡ kind_tree m k → a ≡ b → IsNoItem k → ((x : TyKey Key) → k ≡ Slice x → ⊥) → ((x : TyKey Key) (c : ConstKey Key) → k ≡ Array x c → ⊥) → ((x : TysKey Key) → k ≡ Tuple x → ⊥)
+      → ((x : TyKey Key) (u : Mutability) → k ≡ RawPtr x u → ⊥) → ((r : RegionKey Key) (x : TyKey Key) (u : Mutability) → k ≡ Ref r x u → ⊥) → ((p : ParamTy Name) → k ≡ TyParam p → ⊥) → AreOfOneForm a b
+  one_alone k x y p e i a b c d f g = (let (l, q, plain) = alone_kind k i a b c d f g in one_leaf (p ∙ q) (sym e ∙ p ∙ q))
 
   pub lengths_error : (i j : ℕ) (ts us : Tree) (x y : TyKey Key) (e : TypeError Key Id Name) → m.ty x ≡ node tuple ts → m.ty y ≡ node tuple us → i ≡ count ts → j ≡ count us → i ≢ j →
       (0 < i → 0 < j → e ≡ TupleSize (record { expected = i; found = j })) → ((i ≡ 0) ⊎ (j ≡ 0) → e ≡ Sorts (record { expected = x; found = y })) → FormError m x y e

@@ -24,7 +24,7 @@ use Rattle.relation_tools.specs.Faults.{KnowsFault}
 use Rattle.type_relations.specs.Relation.{Interpretation, sort_of}
 use Rattle.type_relations.specs.Stores.{Store, Satisfies, IsAssignment, IsMade, MayStandFor, IsTermIn, InContext, IsMadeLeaf, weight, resolved}
 use Rattle.type_relations.specs.Outcomes.{NoEqualTerms}
-use Rattle.type_relations.specs.Errors.{ErrorOf, IsHandedOn, of_kinds, of_parts, of_length, of_branches, AreOfOneForm, over_parts, parameters}
+use Rattle.type_relations.specs.Errors.{ErrorOf, IsHandedOn, of_kinds, of_parts, of_length, of_branches, AreOfOneForm, over_parts, one_leaf, parameters}
 use Rattle.type_relations.specs.Errors.{AreOfOneConst, AreOfOneValue, values, expressions, const_parameters, one_value, as_many_branches}
 use Rattle.type_relations.proofs.Standing.{stands_term}
 use Rattle.relation_reference.specs.Tables.{IsFormed}
@@ -78,6 +78,7 @@ module _ {Key Id Name : Type 0} (n p : Meaning Key Id Name) (e : Extends n p) (s
     ty_fails W V st Memory g t o l m z w u (sized c d v j k j' is y') h = absurd (cc)
     ty_fails W V st Budget g t o l m z w u (passed is y') h = fault_answered p V r st a b g Budget is h
     ty_fails W V st Budget g t o l m z w u (sized c d v j k j' is y') h = absurd (cc)
+    ty_fails W V st (Unrelated f) g t (one_leaf j k) l m z w u o h = absurd (let c : count (parts_of a) ≡ 0 = ap (λ z. count (parts_of z)) j in omega (arith, c, l))
     ty_fails W V st (Unrelated f) g t (parameters j k v) l m z w u o h = absurd (let c : count (parts_of a) ≡ 0 = ap (λ z. count (parts_of z)) j in omega (arith, c, l))
     ty_fails W V st (Unrelated f) g t (over_parts {h = hd} {ts} {us} j k v) l m z w u (passed is o) h = fault_answered p V r st a b g (Unrelated f) is (
       apart h.0,

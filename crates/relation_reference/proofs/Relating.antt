@@ -16,7 +16,7 @@ use Rattle.type_relations.specs.Relation.{Items, Interpretation, Rel, at, parts,
 use Rattle.type_relations.specs.Stores.{Store, Satisfies, OnlyShrinks, IsTermIn, IsRegionIn, IsSound}
 use Rattle.type_relations.specs.Steps.{IsLater}
 use Rattle.type_relations.specs.Outcomes.{NoEqualTerms}
-use Rattle.type_relations.specs.Errors.{IsReadAs, ErrorOf, of_entries, AreOfOneForm, over_parts, parameters, AreOfOneConst, AreOfOneValue, values, expressions, const_parameters, one_value, as_many_branches}
+use Rattle.type_relations.specs.Errors.{IsReadAs, ErrorOf, of_entries, AreOfOneForm, over_parts, one_leaf, parameters, AreOfOneConst, AreOfOneValue, values, expressions, const_parameters, one_value, as_many_branches}
 use Rattle.type_relations.proofs.ReadAs.{read_value, read_later}
 use Rattle.relation_reference.specs.Tables.{IsFormed}
 use Rattle.relation_reference.specs.Parts.{parts_of, const_parts_of, branches_of}
@@ -125,6 +125,7 @@ parts_equal a b (over_parts {h} {ts} {us} d e n) s q =
     let z : apply s (node h ts) ≡ apply s (node h us) = sym (ap (apply s) d) ∙ q ∙ ap (apply s) e in
     let w : apply s ts ≡ apply s us = cc in
     ap (λ t. apply s (parts_of t)) d ∙ w ∙ sym (ap (λ t. apply s (parts_of t)) e)
+parts_equal a b (one_leaf d e) s q = ap (λ t. apply s (parts_of t)) d ∙ sym (ap (λ t. apply s (parts_of t)) e)
 parts_equal a b (parameters d e p) s q = ap (λ t. apply s (parts_of t)) d ∙ sym (ap (λ t. apply s (parts_of t)) e)
 
 pub const_parts_equal : (a b : Tree) → AreOfOneConst a b → (s : Assign) → apply s a ≡ apply s b → apply s (const_parts_of a) ≡ apply s (const_parts_of b)
@@ -148,6 +149,7 @@ const_parts_equal a b (const_parameters d e p) s q = ap (λ t. apply s (const_pa
 -- They have as many.
 pub parts_counted : (a b : Tree) → AreOfOneForm a b → count (parts_of a) ≡ count (parts_of b)
 parts_counted a b (over_parts d e n) = ap (λ t. count (parts_of t)) d ∙ n ∙ sym (ap (λ t. count (parts_of t)) e)
+parts_counted a b (one_leaf d e) = ap (λ t. count (parts_of t)) d ∙ sym (ap (λ t. count (parts_of t)) e)
 parts_counted a b (parameters d e p) = ap (λ t. count (parts_of t)) d ∙ sym (ap (λ t. count (parts_of t)) e)
 
 pub const_parts_counted : (a b : Tree) → AreOfOneConst a b → count (const_parts_of a) ≡ count (const_parts_of b)
@@ -169,6 +171,10 @@ module _ (r q : Store) (a b : Tree) where
         relates = λ c e w s sat. forms (related_head h g) refl (all_related c w e h 0 s (λ j. invariant_head c h j g) ts us l m (sym x ∙ y) (λ j k. f.relates c e w s j (omega (arith, x)) sat));
         keeps = λ w s sat e. f.keeps w s sat (parts_equal (node h ts) (node h us) (over_parts refl refl (sym x ∙ y)) s e);
       }
+  forms_unite i g (one_leaf d e) n o l m f = record {
+    relates = λ c v w s sat. same (ap (apply s) (d ∙ sym e));
+    keeps = λ w s sat z. f.keeps w s sat (parts_equal a b (one_leaf d e) s z);
+  }
   forms_unite i g (parameters {x} {y} d e p) n o l m f = record {
     relates = λ c v w s sat. subst₂ (λ z u. Rel c w v (at Invariant) (apply s z) (apply s u)) (sym d) (sym e) (atoms p);
     keeps = λ w s sat z. f.keeps w s sat (subst₂ (λ t u. apply s (parts_of t) ≡ apply s (parts_of u)) (sym d) (sym e) refl);

@@ -26,9 +26,10 @@ AreAlike (node (raw_ptr u) ts) (node (raw_ptr v) us) = Unit {0}
 AreAlike (node h ts) (node k us) = h ≡ k
 AreAlike t u = ⊥
 
--- Two types of one outermost form with as many parts; or two parameters of one index.
+-- Two types of one outermost form with as many parts; or one form without parts; or two parameters of one index.
 pub data AreOfOneForm (a b : Tree) : Type 0 where
   over_parts : {h : Head} {ts us : Tree} → a ≡ node h ts → b ≡ node h us → count ts ≡ count us → AreOfOneForm a b
+  one_leaf : {l : Leaf} → a ≡ leaf l → b ≡ leaf l → AreOfOneForm a b
   parameters : {x y : Atom} → a ≡ leaf (atom x) → b ≡ leaf (atom y) → plain_atom x ≡ plain_atom y → AreOfOneForm a b
 
 -- Two value trees that are one, or have as many branches.

@@ -1,4 +1,4 @@
-//! Comparing the outermost forms of two terms that are not one.
+//! Comparing the outermost forms of two terms.
 ghost use Rattle.std.specs.Prelude.{◌≡◌, ◌≢◌, ◌⊎◌, ◌<◌, IsTrue, IsFalse, OnOk, IfErr};
 ghost use Rattle.relation_terms.specs.Trees.{known};
 ghost use Rattle.relation_terms.specs.Meaning.{kind_tree};
@@ -15,7 +15,6 @@ use relation_tools::error::{ExpectedFound, TypeError, TypeErrorOf};
 pub(crate) fn compare_tys<I: Interner>(cx: &I, a: &Ty<I>, b: &Ty<I>) -> Result<(), TypeErrorOf<I>>
     requires a_known { IsTrue (known ((I.meaning cx.now).ty a.now)) }
     requires b_known { IsTrue (known ((I.meaning cx.now).ty b.now)) }
-    requires differ { (I.meaning cx.now).ty a.now ≢ (I.meaning cx.now).ty b.now }
     ensures alike { OnOk result (AreOfOneForm ((I.meaning cx.now).ty a.now) ((I.meaning cx.now).ty b.now)) }
     ensures errors { IfErr result (FormError (I.meaning cx.now) a.now b.now) }
 {
@@ -75,7 +74,12 @@ pub(crate) fn compare_tys<I: Interner>(cx: &I, a: &Ty<I>, b: &Ty<I>) -> Result<(
             }
             Ok(())
         }
-        _ => Err(unlike::<I>(a, b)),
+        _ => {
+            if a != b {
+                return Err(unlike::<I>(a, b));
+            }
+            Ok(())
+        }
     }
 }
 

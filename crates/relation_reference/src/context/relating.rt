@@ -75,9 +75,6 @@ impl<I: Interner> RefCtxt<I> {
         ensures answers { Answered (I.meaning self.new.interner) (store_of (I.meaning self.old.interner) self.old.inner) (store_of (I.meaning self.new.interner) self.new.inner) ((I.meaning self.old.interner).ty a.now) ((I.meaning self.old.interner).ty b.now) result }
         ensures why_known { IfErr result (KnowsFault (I.meaning self.new.interner)) }
     {
-        if a == b {
-            return Ok(());
-        }
         compare_tys(&self.interner, a, b)?;
         let n = parts_count(&self.interner, a);
         for i in 0..n {

@@ -3,7 +3,7 @@ use Rattle.relation_terms.specs.Meaning.{kind_tree}
 use Rattle.relation_terms.specs.Heads.{raw_ptr, ref, type_param}
 use Rattle.relation_terms.specs.Trees.{node, nil, cons, count}
 use Rattle.type_relations.specs.Errors.{over_parts, parameters, mutability, pointer_mutability}
-use Rattle.relation_reference.proofs.Comparing.{unlike_slice, unlike_array, unlike_tuple, unlike_raw, unlike_ref, unlike_param, unlike_alone}
+use Rattle.relation_reference.proofs.Comparing.{unlike_slice, unlike_array, unlike_tuple, unlike_raw, unlike_ref, unlike_param, unlike_alone, one_alone}
 use Rattle.relation_reference.proofs.Comparing.{lengths_error}
 use Rattle.relation_reference.proofs.Lists.{list_count}
 use Rattle.relation_reference.proofs.context.comparing.compare_tys.Goals as goal
@@ -112,11 +112,18 @@ returns-in-Param-clause-alike g c =
     let m = g.I.Interner.meaning c.args.cx.now in
     parameters (c.ty_kind-left.ensures ∙ ap (kind_tree m) c.in-Param.is) (c.ty_kind-right.ensures ∙ ap (kind_tree m) c.in-Param-right.is) (ap (λ i. type_param i 0) c.if-parameter-other.false)
 
-pub returns : goal.returns
-returns g c =
+pub returns-then-ne-3-clause-errors : goal.returns-then-ne-3-clause-errors
+returns-then-ne-3-clause-errors g c =
     let m = g.I.Interner.meaning c.args.cx.now in
-    record {
-      alike = tt;
-      errors = unlike_alone m c.ty_kind-left.result c.args.a.now c.args.b.now c.unlike-in_default-left.result c.ty_kind-left.ensures c.requires.differ c.unlike-in_default-left.ensures c.in_default.ensures.is_none
-          c.in_default-left.not-Slice c.in_default-left.not-Array c.in_default-left.not-Tuple c.in_default-left.not-RawPtr c.in_default-left.not-Ref c.in_default-left.not-Param;
-    }
+    let differ : m.ty c.args.a.now ≢ m.ty c.args.b.now = (λ e. (let t = c.if-ne-3.true in let h = c.ne-in_default-left.ensures in let k = c.if-ne-3.ensures in
+    let l = (g.met.I.Interner.same_ty c.args.cx.now c.args.a.now c.args.b.now c.requires.a_known c.requires.b_known).1 e in search rules)) in
+    unlike_alone m c.ty_kind-left.result c.args.a.now c.args.b.now c.unlike-then-ne-3.result c.ty_kind-left.ensures differ c.unlike-then-ne-3.ensures
+    c.in_default.ensures.is_none c.in_default-left.not-Slice c.in_default-left.not-Array c.in_default-left.not-Tuple c.in_default-left.not-RawPtr c.in_default-left.not-Ref c.in_default-left.not-Param
+
+pub returns-clause-alike : goal.returns-clause-alike
+returns-clause-alike g c =
+    let m = g.I.Interner.meaning c.args.cx.now in
+    let one : m.ty c.args.a.now ≡ m.ty c.args.b.now = (g.met.I.Interner.same_ty c.args.cx.now c.args.a.now c.args.b.now c.requires.a_known c.requires.b_known).0
+    (let t = c.if-ne-3.false in let h = c.ne-in_default-left.ensures in let k = c.if-ne-3.ensures in search rules) in
+    one_alone m c.ty_kind-left.result (m.ty c.args.a.now) (m.ty c.args.b.now) c.ty_kind-left.ensures one
+    c.in_default.ensures.is_none c.in_default-left.not-Slice c.in_default-left.not-Array c.in_default-left.not-Tuple c.in_default-left.not-RawPtr c.in_default-left.not-Ref c.in_default-left.not-Param

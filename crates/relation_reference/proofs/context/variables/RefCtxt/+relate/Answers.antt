@@ -707,30 +707,6 @@ structurally_relate_tys-returns g t c =
       why_known = tt;
     }
 
-pub structurally_relate_tys-returns-then-eq : goal.structurally_relate_tys-returns-then-eq
-structurally_relate_tys-returns-then-eq g t c =
-    let m = g.I.Interner.meaning c.args.self.now.interner in
-    let st = store_of m c.args.self.now.inner in
-    let a = m.ty c.args.a.now in
-    let b = m.ty c.args.b.now in
-    let ts = parts_of a in
-    let us = parts_of b in
-    record {
-      lawful = c.requires.lawful;
-      grown = stays_same m;
-      goes = goes_nowhere (weight st a + weight st b) st;
-      answers = same_unites st a b ((g.met.I.Interner.same_ty c.args.self.now.interner c.args.a.now c.args.b.now c.requires.a_known c.requires.b_known).0 (sym c.if-eq.ensures));
-      why_known = tt;
-    }
-
-pub structurally_relate_tys-compare_tys-requires : goal.structurally_relate_tys-compare_tys-requires
-structurally_relate_tys-compare_tys-requires g t c =
-    record {
-      a_known = c.requires.a_known;
-      b_known = c.requires.b_known;
-      differ = λ e. false≢true (c.if-eq.ensures ∙ (g.met.I.Interner.same_ty c.args.self.now.interner c.args.a.now c.args.b.now c.requires.a_known c.requires.b_known).1 e);
-    }
-
 pub structurally_relate_tys-returns-in_err-compare_tys : goal.structurally_relate_tys-returns-in_err-compare_tys
 structurally_relate_tys-returns-in_err-compare_tys g t c =
     let m = g.I.Interner.meaning c.args.self.now.interner in
