@@ -193,8 +193,12 @@ within_nth nil i h p = absurd (omega arith)
 
 pub in_nth : (st : Store) (ts : Tree) (i : ℕ) → i < count ts → IsTermIn st ts → IsTermIn st (nth i ts)
 unfolding IsTermIn InContext
-in_nth st ts i h p = (leaves_nth (IsMadeLeaf st) ts i h p.0, within_nth ts i h p.1, leaves_nth
-    (IsNamable st.universe) ts i h p.2)
+in_nth st ts i h p = (
+  leaves_nth (IsMadeLeaf st) ts i h p.0,
+  within_nth ts i h p.1,
+  leaves_nth
+      (IsNamable st.universe) ts i h p.2,
+)
 
 pub in_part : (st : Store) (t : Tree) (i : ℕ) → i < count (parts_of t) → IsTermIn st t →
     IsTermIn st (nth i (parts_of t))
@@ -360,7 +364,7 @@ occurs_value n (cons t ts) f o = absurd f
 -- It stands in a constant only in a value's type and in the parts.
 pub nowhere_in_const : {Key Id Name : Type 0} (m : Meaning Key Id Name) (n : ℕ) (k : ConstKind Key Name) →
     IsTerm const_sort (const_tree m k) → ((t : TyKey Key) (v : ValTreeKey Key) → k ≡ Value t v →
-        Occurs type_var n (m.ty t) → ⊥) →
+    Occurs type_var n (m.ty t) → ⊥) →
     (Occurs type_var n (const_parts_of (const_tree m k)) → ⊥) → Occurs type_var n (const_tree m k) → ⊥
 nowhere_in_const m n (ConstParam p) f t h o = subst (IsTerm const_sort) o f
 nowhere_in_const m n (ConstPlaceholder p) f t h o = subst (IsTerm const_sort) o f
@@ -404,5 +408,5 @@ type_in m k = nil
 pub only_type : {Key Id Name : Type 0} (m : Meaning Key Id Name) (n : ℕ) (k : ConstKind Key Name) (t : TyKey Key)
     (v : ValTreeKey Key) →
     k ≡ Value t v → (Occurs type_var n (m.ty t) → ⊥) → (u : TyKey Key) (w : ValTreeKey Key) → k ≡ Value u w →
-        Occurs type_var n (m.ty u) → ⊥
+    Occurs type_var n (m.ty u) → ⊥
 only_type m n k t v e a u w q o = a (subst (Occurs type_var n) (ap (type_in m) (sym q ∙ e)) o)

@@ -174,7 +174,7 @@ pub form_kept : {Key Id Name : Type 0} (m : Meaning Key Id Name) (st : Store) (k
     ((t : TyKey Key) → k ≡ Slice t → ⊥) → ((t : TyKey Key) (u : Mutability) → k ≡ RawPtr t u → ⊥) →
     ((t : TyKey Key) (c : ConstKey Key) → k ≡ Array t c → ⊥) → ((t : TysKey Key) → k ≡ Tuple t → ⊥) →
     ((r : RegionKey Key) (t : TyKey Key) (u : Mutability) → k ≡ Ref r t u → ⊥) →
-        kind_tree m k ≡ apply (resolved st) (kind_tree m k)
+    kind_tree m k ≡ apply (resolved st) (kind_tree m k)
 form_kept m st BoolTy s i a b c d e = refl
 form_kept m st Char s i a b c d e = refl
 form_kept m st (Int w) s i a b c d e = refl
@@ -235,11 +235,11 @@ module _ {Key Id Name : Type 0} {m n : Meaning Key Id Name} (first : Extends m n
         (i : ℕ) (e : Tree) (r : K) (done more : List K) → i < count u → e ≡ nth i v
         → g r ≡ apply (resolved (store_of n y)) e → IsTrue (known (list_tree f done)) → more ≡ done ++ r ∷ []
         → list_tree f done ≡ apply (resolved (store_of m x)) (firsts i u) →
-            list_tree g more ≡ apply (resolved (store_of m x)) (firsts (i + 1) u)
+        list_tree g more ≡ apply (resolved (store_of m x)) (firsts (i + 1) u)
     one_more_resolved f g step i e r done more h q z s p d =
         ap (list_tree g) p ∙ list_push g done r
         ∙ ap₂ snoc (stays_list f g done step s ∙ d) (z ∙
-            ap₂ (λ st t. apply (resolved st) t) store_now (q ∙ ap (nth i) now))
+        ap₂ (λ st t. apply (resolved st) t) store_now (q ∙ ap (nth i) now))
         ∙ sym (apply_snoc (resolved (store_of m x)) i u (nth i u))
         ∙ ap (apply (resolved (store_of m x))) (sym (firsts_more i u h))
         ∙ ap (λ w. apply (resolved (store_of m x)) (firsts w u)) (let w : suc i ≡ i + 1 = omega arith in w)

@@ -10,6 +10,6 @@ mod resolving;
 mod solver;
 mod variables;
 
-pub use inner::{InferCtxtInner, TypeVariable, TypeVariableValue};
 pub(crate) use forms::{ItemForm, ItemTy};
+pub use inner::{InferCtxtInner, TypeVariable, TypeVariableValue};
 pub use variables::RefCtxt;

@@ -88,11 +88,7 @@ impl<I: Interner> RefCtxt<I> {
 
     // Relates two arguments.
     #[cycle(relate)]
-    fn relate_arg(
-        &mut self,
-        a: &GenericArg<I>,
-        b: &GenericArg<I>,
-    ) -> Result<(), RelateFaultOf<I>>
+    fn relate_arg(&mut self, a: &GenericArg<I>, b: &GenericArg<I>) -> Result<(), RelateFaultOf<I>>
         requires lawful { IsLawful (I.meaning self.old.interner) self.old.inner }
         requires a_known { IsTrue (known (arg_tree (I.meaning self.old.interner) a.now)) }
         requires b_known { IsTrue (known (arg_tree (I.meaning self.old.interner) b.now)) }

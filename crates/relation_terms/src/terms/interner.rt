@@ -13,8 +13,8 @@ ghost use Rattle.relation_terms.specs.declared.terms.keys.BranchesKey.{BranchesK
 ghost use Rattle.relation_terms.specs.declared.terms.keys.ParamEnvKey.{ParamEnvKey};
 
 use crate::terms::{
-    Branches, Const, ConstForm, GenericArg, GenericArgs, ItemOf, Keys, ParamEnv, Region, RegionForm,
-    Span, Ty, TyForm, Tys, ValTree, ValTreeForm, Variance,
+    Branches, Const, ConstForm, GenericArg, GenericArgs, ItemOf, Keys, ParamEnv, Region,
+    RegionForm, Span, Ty, TyForm, Tys, ValTree, ValTreeForm, Variance,
 };
 use std::alloc::{AllocError, AllocFailed, Global};
 

@@ -8,7 +8,7 @@ pub returns-in-Expr : goal.returns-in-Expr
 returns-in-Expr g c =
     let m = g.I.Interner.meaning c.args.cx.now in
     let over = expression_parts m c.in-Expr.field-0 c.in-Expr.args (m.const_ c.args.constant.now)
-        (c.const_kind.ensures ∙ ap (const_tree m) c.in-Expr.is) in
+    (c.const_kind.ensures ∙ ap (const_tree m) c.in-Expr.is) in
     record {
       counts = slice_counts (arg_tree m) c.args-in-Expr.result.now (m.args c.in-Expr.args) c.args-in-Expr.ensures _
           over;
@@ -20,8 +20,8 @@ pub returns-in-Branch : goal.returns-in-Branch
 returns-in-Branch g c =
     let m = g.I.Interner.meaning c.args.cx.now in
     let over = value_branches m c.in-Value.field-0 c.in-Value.value c.in-Branch.branches
-        (m.const_ c.args.constant.now) (c.const_kind.ensures ∙ ap (const_tree m) c.in-Value.is)
-            (c.valtree_kind.ensures ∙ ap (valtree_tree m) c.in-Branch.is) in
+    (m.const_ c.args.constant.now) (c.const_kind.ensures ∙ ap (const_tree m) c.in-Value.is)
+    (c.valtree_kind.ensures ∙ ap (valtree_tree m) c.in-Branch.is) in
     record {
       counts = slice_counts m.const_ c.branches.result.now (m.branches c.in-Branch.branches) c.branches.ensures _
           over;

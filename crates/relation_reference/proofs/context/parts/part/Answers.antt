@@ -11,19 +11,19 @@ bounds-args-i g c =
     let m = g.I.Interner.meaning c.args.cx.now in
     let item = c.in-Some.item in
     let over = item_parts m item c.ty_kind-kind.result (m.ty c.args.ty.now) c.ty_kind-kind.ensures
-        c.in-Some.ensures.is in
+    c.in-Some.ensures.is in
     slice_below (arg_tree m) c.args-in-Some.result.now (m.args item.args) c.args-in-Some.ensures _ over c.args.i
-        c.requires.in_bounds
+    c.requires.in_bounds
 
 pub offset_bounds-args-i : goal.offset_bounds-args-i
 offset_bounds-args-i g c =
     let m = g.I.Interner.meaning c.args.cx.now in
     let item = c.in-Some.item in
     let over = item_parts m item c.ty_kind-kind.result (m.ty c.args.ty.now) c.ty_kind-kind.ensures
-        c.in-Some.ensures.is in
+    c.in-Some.ensures.is in
     let h : c.args.i < length c.args-in-Some.result.now =
-        slice_below (arg_tree m) c.args-in-Some.result.now (m.args item.args) c.args-in-Some.ensures _ over c.args.i
-            c.requires.in_bounds in
+    slice_below (arg_tree m) c.args-in-Some.result.now (m.args item.args) c.args-in-Some.ensures _ over c.args.i
+    c.requires.in_bounds in
     omega (arith, h)
 
 pub returns-in-Some : goal.returns-in-Some
@@ -54,7 +54,7 @@ offset_bounds-tys-i g c =
     let ts = m.tys c.in-Tuple.members in
     let over = parts_are tuple ts (m.ty c.args.ty.now) (c.ty_kind-kind.ensures ∙ ap (kind_tree m) c.in-Tuple.is) in
     let h : c.args.i < length c.tys.result.now = slice_below m.ty c.tys.result.now ts c.tys.ensures _ over c.args.i
-        c.requires.in_bounds in
+    c.requires.in_bounds in
     omega (arith, h)
 
 pub returns-in-Tuple : goal.returns-in-Tuple

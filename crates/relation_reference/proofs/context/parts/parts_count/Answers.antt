@@ -9,7 +9,7 @@ returns-in-Some g c =
     let m = g.I.Interner.meaning c.args.cx.now in
     let item = c.in-Some.item in
     let over = item_parts m item c.ty_kind-kind.result (m.ty c.args.ty.now) c.ty_kind-kind.ensures
-        c.in-Some.ensures.is in
+    c.in-Some.ensures.is in
     record {
       counts = slice_counts (arg_tree m) c.args-in-Some.result.now (m.args item.args) c.args-in-Some.ensures _ over;
       is_list = slice_list (arg_tree m) c.args-in-Some.result.now (m.args item.args) c.args-in-Some.ensures _ over;

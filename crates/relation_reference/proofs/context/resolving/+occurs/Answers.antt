@@ -24,7 +24,7 @@ occurs-occurs_in_arg-requires g t c κs within =
     let a = c.part.ensures.means in
     let small : 2 * size (arg_tree m c.part.result) + 1 < 2 * size (m.ty c.args.ty.now) =
     (let e = ap size a in let f = size_part (m.ty c.args.ty.now) c.loop-i.i
-        (omega (arith, c.loop-i-test.true, c.parts_count-i-end.ensures.counts)) in omega (arith, e, f)) in
+    (omega (arith, c.loop-i-test.true, c.parts_count-i-end.ensures.counts)) in omega (arith, e, f)) in
     let sure = c.part.ensures.sure in
     search rules
 
@@ -36,7 +36,7 @@ occurs-returns-then-occurs_in_arg g t c =
       stands = λ h. occurs_parts type_var c.args.var.0 u (occurs_nth type_var c.args.var.0 (parts_of u) c.loop-i.i
           (omega (arith, c.loop-i-test.true, c.parts_count-i-end.ensures.counts))
           (subst (Occurs type_var c.args.var.0) c.part.ensures.means
-              (c.occurs_in_arg.ensures.stands c.if-occurs_in_arg.true)));
+          (c.occurs_in_arg.ensures.stands c.if-occurs_in_arg.true)));
       absent = λ h o. true≢false h;
     }
 
@@ -59,7 +59,7 @@ occurs_in_const-occurs_in_arg-requires g t c κs within =
     let a = c.const_part.ensures.means in
     let small : 2 * size (arg_tree m c.const_part.result) + 1 < 2 * size (m.const_ c.args.constant.now) =
     (let e = ap size a in let f = size_const_part (m.const_ c.args.constant.now) c.loop-i.i
-        (omega (arith, c.loop-i-test.true, c.const_parts_count-i-end.ensures.counts)) in omega (arith, e, f)) in
+    (omega (arith, c.loop-i-test.true, c.const_parts_count-i-end.ensures.counts)) in omega (arith, e, f)) in
     let sure = c.const_part.ensures.sure in
     search rules
 
@@ -71,7 +71,7 @@ occurs_in_const-returns-then-occurs_in_arg-clause-stands g t c h =
     occurs_const_parts type_var c.args.var.0 u (occurs_nth type_var c.args.var.0 (const_parts_of u) c.loop-i.i
     (omega (arith, c.loop-i-test.true, c.const_parts_count-i-end.ensures.counts))
     (subst (Occurs type_var c.args.var.0) c.const_part.ensures.means
-        (c.occurs_in_arg.ensures.stands c.if-occurs_in_arg.true)))
+    (c.occurs_in_arg.ensures.stands c.if-occurs_in_arg.true)))
 
 pub occurs_in_const-returns-clause-absent : goal.occurs_in_const-returns-clause-absent
 occurs_in_const-returns-clause-absent g t c h o =
@@ -81,7 +81,7 @@ occurs_in_const-returns-clause-absent g t c h o =
     let k = c.const_kind.result in
     let e : u ≡ const_tree m k = c.const_kind.ensures in
     let in_type : (ty : TyKey g.row.I-Key.Denot) (v : ValTreeKey g.row.I-Key.Denot) → k ≡ Value ty v →
-        Occurs type_var n (m.ty ty) → ⊥ =
+    Occurs type_var n (m.ty ty) → ⊥ =
     elim c.match-const_kind.branch [
       | occurs_in_const-in-Value+else-occurs w ↦ only_type m n k w.in-Value.ty w.in-Value.field-1 w.in-Value.is
           (w.occurs.ensures.absent w.if-occurs.false)
@@ -91,8 +91,8 @@ occurs_in_const-returns-clause-absent g t c h o =
       | occurs_in_const-in_default+in-Value-1 w ↦ λ ty v q. absurd (w.in_default.not-Value ty v q)
     ] in
     let in_parts : Occurs type_var n (const_parts_of u) → ⊥ =
-        nowhere type_var n (const_parts_of u) c.const_parts_count-i-end.ensures.is_list
+    nowhere type_var n (const_parts_of u) c.const_parts_count-i-end.ensures.is_list
     (λ i j. c.loop-i.invariant i (omega (arith, j, c.loop-i-test.false, c.const_parts_count-i-end.ensures.counts))) in
     nowhere_in_const m n k (subst (IsTerm _) e (g.met.I.Interner.is_const c.args.cx.now c.args.constant.now
-        c.requires)) in_type
+    c.requires)) in_type
     (λ p. in_parts (subst (λ z. Occurs type_var n (const_parts_of z)) (sym e) p)) (subst (Occurs type_var n) e o)

@@ -21,4 +21,4 @@ invariant-occurs-loop-i g l =
 abbrev pub invariant-occurs_in_const-loop-i : goal.invariant-occurs_in_const-loop-i
 invariant-occurs_in_const-loop-i g l =
     (j : ℕ) → j < l.i → Occurs type_var l.var.0 (nth j (const_parts_of
-        ((g.I.Interner.meaning l.cx).const_ l.constant))) → ⊥
+    ((g.I.Interner.meaning l.cx).const_ l.constant))) → ⊥

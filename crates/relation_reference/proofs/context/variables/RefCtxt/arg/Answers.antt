@@ -7,13 +7,13 @@ pub bounds-args-i : goal.bounds-args-i
 bounds-args-i g c =
     let m = g.I.Interner.meaning c.args.self.now.interner in
     slice_below (arg_tree m) c.args-2.result.now (m.args c.args.args.now) c.args-2.ensures (m.args c.args.args.now)
-        refl c.args.i c.requires.in_bounds
+    refl c.args.i c.requires.in_bounds
 
 pub offset_bounds-args-i : goal.offset_bounds-args-i
 offset_bounds-args-i g c =
     let m = g.I.Interner.meaning c.args.self.now.interner in
     let h : c.args.i < length c.args-2.result.now = slice_below (arg_tree m) c.args-2.result.now
-        (m.args c.args.args.now) c.args-2.ensures (m.args c.args.args.now) refl c.args.i c.requires.in_bounds in
+    (m.args c.args.args.now) c.args-2.ensures (m.args c.args.args.now) refl c.args.i c.requires.in_bounds in
     omega (arith, h)
 
 pub returns : goal.returns

@@ -6,14 +6,14 @@ pub bounds-branches-i : goal.bounds-branches-i
 bounds-branches-i g c =
     let m = g.I.Interner.meaning c.args.self.now.interner in
     slice_below m.const_ c.branches.result.now (m.branches c.args.branches.now) c.branches.ensures
-        (m.branches c.args.branches.now) refl c.args.i c.requires.in_bounds
+    (m.branches c.args.branches.now) refl c.args.i c.requires.in_bounds
 
 pub offset_bounds-branches-i : goal.offset_bounds-branches-i
 offset_bounds-branches-i g c =
     let m = g.I.Interner.meaning c.args.self.now.interner in
     let h : c.args.i < length c.branches.result.now = slice_below m.const_ c.branches.result.now
-        (m.branches c.args.branches.now) c.branches.ensures (m.branches c.args.branches.now) refl c.args.i
-            c.requires.in_bounds in
+    (m.branches c.args.branches.now) c.branches.ensures (m.branches c.args.branches.now) refl c.args.i
+    c.requires.in_bounds in
     omega (arith, h)
 
 pub returns : goal.returns
@@ -24,7 +24,7 @@ returns g c =
     record {
       sure = slice_sure m.const_ c.branches.result.now (m.branches c.args.branches.now) c.branches.ensures
           (m.branches c.args.branches.now) refl c.requires.branches_known c.args.i at c.dup.result
-              c.requires.in_bounds is;
+          c.requires.in_bounds is;
       means = slice_nth m.const_ c.branches.result.now (m.branches c.args.branches.now) c.branches.ensures
           (m.branches c.args.branches.now) refl c.args.i at c.dup.result c.requires.in_bounds is;
     }
