@@ -114,21 +114,21 @@ same_entry items more ns n = ap (entry (form_sort (form_of n))) (same_form items
 
 -- The variances of an item that is there, and of none.
 pub variances_there : (items : List Item) (i : ℕ) (d : Item) → i < length items →
-    variances_at items (record { 0 = i }) ≡ ((get_or items i d).variances).items
+    variances_at items i ≡ ((get_or items i d).variances).items
 variances_there items i d h = get_or-map (λ x. (x.variances).items) items i d [] h
 
-pub variances_past : (items : List Item) (i : ℕ) → length items ≤ i → variances_at items (record { 0 = i }) ≡ []
+pub variances_past : (items : List Item) (i : ℕ) → length items ≤ i → variances_at items i ≡ []
 variances_past items i h =
     get_or_past (map (λ x. (x.variances).items) items) i []
     (subst (λ n. n ≤ i) (sym (length-map items (λ x. (x.variances).items))) h)
 
 -- An id that no item has.
-pub no_generics : (items : List Item) (ns : List Node) (d : ItemId) → length items ≤ d.0 →
+pub no_generics : (items : List Item) (ns : List Node) (d : ℕ) → length items ≤ d →
     HasNoGenerics (table_meaning items ns) d
 unfolding meaning_of
 no_generics items ns d h = record {
-  generics = ap length (variances_past items d.0 h);
-  variances = variances_past items d.0 h;
+  generics = ap length (variances_past items d h);
+  variances = variances_past items d h;
 }
 
 -- A list and one more element, read elsewhere than at its end.
@@ -149,16 +149,16 @@ module _ (items : List Item) (x : Item) where
   grown : map declared (items ++ x ∷ []) ≡ map declared items ++ declared x ∷ []
   grown = map-append declared items (x ∷ [])
 
-  variances_new : variances_at (items ++ x ∷ []) (record { 0 = length items }) ≡ (x.variances).items
+  variances_new : variances_at (items ++ x ∷ []) (length items) ≡ (x.variances).items
   variances_new =
       ap (λ vs. get_or vs (length items) []) grown ∙
       ap (λ n. get_or (map declared items ++ declared x ∷ []) n []) (sym (length-map items declared)) ∙
       get_or-append_seam (map declared items) (declared x) [] []
 
-  variances_other : (e : ItemId) → e.0 ≢ length items → variances_at (items ++ x ∷ []) e ≡ variances_at items e
+  variances_other : (e : ℕ) → e ≢ length items → variances_at (items ++ x ∷ []) e ≡ variances_at items e
   variances_other e n =
-      ap (λ vs. get_or vs e.0 []) grown ∙
-      elsewhere (map declared items) (declared x) [] e.0 (λ p. n (p ∙ length-map items declared))
+      ap (λ vs. get_or vs e []) grown ∙
+      elsewhere (map declared items) (declared x) [] e (λ p. n (p ∙ length-map items declared))
 
 -- The terms are the same with any items.
 pub same_terms : (items more : List Item) (ns : List Node) → SameTerms (table_meaning items ns) (table_meaning more ns)
@@ -183,23 +183,20 @@ same_terms items more ns = record {
 }
 
 -- What an item that was added leaves.
-module _ (items more : List Item) (x : Item) (ns : List Node) (d : ItemId) (added : more ≡ items ++ x ∷ [])
-    (number : d.0 ≡ length items) where
-  at_number : d ≡ record { 0 = length items }
-  at_number = ap (λ n. record { 0 = n }) number
-
+module _ (items more : List Item) (x : Item) (ns : List Node) (d : ℕ) (added : more ≡ items ++ x ∷ [])
+    (number : d ≡ length items) where
   pub new_variances : (table_meaning more ns).variances d ≡ (x.variances).items
   unfolding meaning_of
-  new_variances = ap₂ (λ ys e. variances_at ys e) added at_number ∙ variances_new items x
+  new_variances = ap₂ (λ ys e. variances_at ys e) added number ∙ variances_new items x
 
   pub new_generics : (table_meaning more ns).generics d ≡ length (x.variances).items
   unfolding meaning_of
   new_generics = ap length new_variances
 
-  other_variances : (e : ItemId) → e ≢ d → variances_at more e ≡ variances_at items e
+  other_variances : (e : ℕ) → e ≢ d → variances_at more e ≡ variances_at items e
   other_variances e n =
       ap (λ ys. variances_at ys e) added ∙
-      variances_other items x e (λ p. n (ap (λ i. record { 0 = i }) (p ∙ sym number)))
+      variances_other items x e (λ p. n (p ∙ sym number))
 
   pub others_stand : OthersStand (table_meaning items ns) (table_meaning more ns) d
   unfolding meaning_of

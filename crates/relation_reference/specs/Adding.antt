@@ -55,12 +55,12 @@ module _ {Key Id Name : Type 0} (m n : Meaning Key Id Name) where
     pub id : (d : Id) → n.id d ≡ m.id d
     pub name : (s : Name) → n.name s ≡ m.name s
 
-  -- All ids but one have the generic parameters that they had.
-  pub record OthersStand (d : Id) : Type 0 where
-    pub generics : (e : Id) → e ≢ d → n.generics e ≡ m.generics e
-    pub variances : (e : Id) → e ≢ d → n.variances e ≡ m.variances e
+  -- The items of all numbers but one have the generic parameters that they had.
+  pub record OthersStand (d : ℕ) : Type 0 where
+    pub generics : (e : ℕ) → e ≢ d → n.generics e ≡ m.generics e
+    pub variances : (e : ℕ) → e ≢ d → n.variances e ≡ m.variances e
 
--- The id has no generic parameters.
-pub record HasNoGenerics {Key Id Name : Type 0} (m : Meaning Key Id Name) (d : Id) : Type 0 where
+-- The item of a number has no generic parameters.
+pub record HasNoGenerics {Key Id Name : Type 0} (m : Meaning Key Id Name) (d : ℕ) : Type 0 where
   pub generics : m.generics d ≡ 0
   pub variances : m.variances d ≡ []

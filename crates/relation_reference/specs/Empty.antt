@@ -1,5 +1,5 @@
 -- An interner that knows nothing.
-use Rattle.std.specs.Prelude.{◌≡◌, IsFalse, IsNone, []}
+use Rattle.std.specs.Prelude.{◌≡◌, ℕ, IsFalse, IsNone, []}
 use Rattle.relation_terms.specs.Trees.{known}
 use Rattle.relation_terms.specs.Meaning.{Meaning}
 use Rattle.relation_terms.specs.declared.terms.keys.TyKey.{TyKey}
@@ -33,5 +33,5 @@ pub record KnowsNone {Key Id Name : Type 0} (m : Meaning Key Id Name) : Type 0 w
   pub predicate : (k : PredicateKey Key) → IsFalse (known (m.predicate k))
   pub clause : (k : ClauseKey Key) → IsFalse (known (m.clause k))
   pub param_env : (k : ParamEnvKey Key) → IsFalse (known (m.param_env k))
-  pub generics : (d : Id) → m.generics d ≡ 0
-  pub variances : (d : Id) → m.variances d ≡ []
+  pub generics : (n : ℕ) → m.generics n ≡ 0
+  pub variances : (n : ℕ) → m.variances n ≡ []

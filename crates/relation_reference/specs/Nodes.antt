@@ -58,8 +58,8 @@ meaning_of items es = record {
   param_env = λ k. tree_as environment_node (slice_index_or es (k.0).0 no_entry);
   id = λ d. d.0;
   name = λ s. s.0;
-  generics = λ d. length (variances_at items d);
-  variances = λ d. variances_at items d;
+  generics = λ n. length (variances_at items n);
+  variances = λ n. variances_at items n;
 }
 
 -- The sort of a form.

@@ -46,8 +46,8 @@ use Rattle.relation_terms.specs.declared.terms.generic_arg.GenericArgKind.TheVar
 use Rattle.relation_terms.specs.declared.terms.generic_arg.TermKind.{TermKind}
 use Rattle.relation_terms.specs.declared.terms.generic_arg.TermKind.TheVariants.{Ty as TyTerm, Const as ConstTerm}
 
--- The tree of each key, the list of lists' trees, the number of each id and name, and of each item how many generic
--- parameters it has and the variances that are declared of them. What an interner does not know has a tree with the
+-- The tree of each key, the list of lists' trees, the number of each id and name, and of the item of a number how
+-- many generic parameters it has and the variances that are declared of them. What an interner does not know has a tree with the
 -- leaf `unknown`, and of a binder's variables none.
 pub record Meaning (Key Id Name : Type 0) : Type 0 where
   pub ty : TyKey Key → Tree
@@ -66,8 +66,8 @@ pub record Meaning (Key Id Name : Type 0) : Type 0 where
   pub param_env : ParamEnvKey Key → Tree
   pub id : Id → ℕ
   pub name : Name → ℕ
-  pub generics : Id → ℕ
-  pub variances : Id → List Variance
+  pub generics : ℕ → ℕ
+  pub variances : ℕ → List Variance
 
 -- The second has all that the first knows, and by the same trees.
 pub record Extends {Key Id Name : Type 0} (m n : Meaning Key Id Name) : Type 0 where
@@ -88,8 +88,8 @@ pub record Extends {Key Id Name : Type 0} (m n : Meaning Key Id Name) : Type 0 w
   pub param_env : (k : ParamEnvKey Key) → IsTrue (known (m.param_env k)) → n.param_env k ≡ m.param_env k
   pub id : (d : Id) → n.id d ≡ m.id d
   pub name : (s : Name) → n.name s ≡ m.name s
-  pub generics : (d : Id) → n.generics d ≡ m.generics d
-  pub variances : (d : Id) → n.variances d ≡ m.variances d
+  pub generics : (i : ℕ) → n.generics i ≡ m.generics i
+  pub variances : (i : ℕ) → n.variances i ≡ m.variances i
 
 -- The tree of a variable.
 abbrev pub infer_tree : InferTy → Tree

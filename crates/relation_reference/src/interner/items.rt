@@ -89,11 +89,11 @@ impl RefInterner {
         ensures number { IfOk result (λ d. d.0 ≡ item_count self.old) }
         ensures recorded { IfOk result (λ d. items_of self.new ≡ items_of self.old ++ record { kind = kind; name = name; variances = variances } ∷ []) }
         ensures one_more { IfOk result (λ d. item_count self.new ≡ suc (item_count self.old)) }
-        ensures fresh { IfOk result (λ d. HasNoGenerics (⟦<RefInterner as Interner>⟧.meaning self.old) d) }
+        ensures fresh { IfOk result (λ d. HasNoGenerics (⟦<RefInterner as Interner>⟧.meaning self.old) d.0) }
         ensures terms { SameTerms (⟦<RefInterner as Interner>⟧.meaning self.old) (⟦<RefInterner as Interner>⟧.meaning self.new) }
-        ensures generics { IfOk result (λ d. (⟦<RefInterner as Interner>⟧.meaning self.new).generics d ≡ length variances.items) }
-        ensures variances { IfOk result (λ d. (⟦<RefInterner as Interner>⟧.meaning self.new).variances d ≡ variances.items) }
-        ensures others { IfOk result (λ d. OthersStand (⟦<RefInterner as Interner>⟧.meaning self.old) (⟦<RefInterner as Interner>⟧.meaning self.new) d) }
+        ensures generics { IfOk result (λ d. (⟦<RefInterner as Interner>⟧.meaning self.new).generics d.0 ≡ length variances.items) }
+        ensures variances { IfOk result (λ d. (⟦<RefInterner as Interner>⟧.meaning self.new).variances d.0 ≡ variances.items) }
+        ensures others { IfOk result (λ d. OthersStand (⟦<RefInterner as Interner>⟧.meaning self.old) (⟦<RefInterner as Interner>⟧.meaning self.new) d.0) }
         ensures refused { OnErr result (⟦<RefInterner as Interner>⟧.meaning self.new ≡ ⟦<RefInterner as Interner>⟧.meaning self.old) }
         ensures none_recorded { OnErr result (items_of self.new ≡ items_of self.old) }
     {

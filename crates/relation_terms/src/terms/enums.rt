@@ -1,4 +1,6 @@
 //! The small enums that terms are made with.
+ghost use Rattle.std.specs.Prelude.{◌≡◌};
+ghost use Rattle.relation_terms.specs.Variances.{xform};
 
 /// How a part varies with the whole.
 #[derive(Clone, Copy, PartialEq, Eq, Hash, Debug)]
@@ -11,6 +13,26 @@ pub enum Variance {
     Contravariant,
     /// `A<T>` is a subtype of `A<U>` for all `T` and `U`.
     Bivariant,
+}
+
+impl Variance {
+    /// The variance of a part where the part varies by `v` with what itself stands at this variance.
+    ///
+    /// The function argument of a contravariant place is covariant again; nothing inside an invariant or a bivariant place
+    /// is anything else.
+    pub fn xform(self, v: Variance) -> Variance
+        ensures { result ≡ xform self v }
+    {
+        match self {
+            Variance::Covariant => v,
+            Variance::Contravariant => match v {
+                Variance::Covariant => Variance::Contravariant,
+                Variance::Contravariant => Variance::Covariant,
+                Variance::Invariant | Variance::Bivariant => v,
+            },
+            Variance::Invariant | Variance::Bivariant => self,
+        }
+    }
 }
 
 /// Whether what a pointer leads to may be changed.

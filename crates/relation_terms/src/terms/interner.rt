@@ -85,11 +85,11 @@ pub trait Interner: Keys {
 
     /// How many generic parameters an item has.
     fn generics_count(&self, def_id: &ItemOf<Self>) -> usize
-        ensures { result ≡ (meaning self.now).generics (def_id.now).0 };
+        ensures { result ≡ (meaning self.now).generics ((meaning self.now).id (def_id.now).0) };
 
     /// The variances that are declared of an item's generic parameters.
     fn variances_of(&self, def_id: &ItemOf<Self>) -> &[Variance]
-        ensures { result.now ≡ (meaning self.now).variances (def_id.now).0 };
+        ensures { result.now ≡ (meaning self.now).variances ((meaning self.now).id (def_id.now).0) };
 
     /// The type of an outermost form.
     fn mk_ty(&mut self, kind: TyForm<Self>) -> Result<Ty<Self>, OutOfMemory>
