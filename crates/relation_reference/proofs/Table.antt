@@ -69,8 +69,8 @@ extends_append items es fs = record {
   param_env = λ k h. keeps environment_node es fs (k.0).0 h;
   id = λ d. refl;
   name = λ s. refl;
-  generics = λ d. refl;
-  variances = λ d. refl;
+  generics = refl;
+  variances = refl;
 }
 
 pub entries_snoc : (es : List Entry) (ns : List Node) (n : Node) →

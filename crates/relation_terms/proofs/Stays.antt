@@ -57,8 +57,8 @@ stays_same m = record {
   param_env = λ k h. refl;
   id = λ k. refl;
   name = λ k. refl;
-  generics = λ d. refl;
-  variances = λ d. refl;
+  generics = refl;
+  variances = refl;
 }
 
 -- A step and the steps after it, at one key.
@@ -87,8 +87,8 @@ module _ {Key Id Name : Type 0} {m n o : Meaning Key Id Name} where
     param_env = λ k. on m.param_env n.param_env o.param_env k (e.param_env k) (f.param_env k);
     id = λ d. f.id d ∙ e.id d;
     name = λ s. f.name s ∙ e.name s;
-    generics = λ d. f.generics d ∙ e.generics d;
-    variances = λ d. f.variances d ∙ e.variances d;
+    generics = f.generics ∙ e.generics;
+    variances = f.variances ∙ e.variances;
   }
 
 -- What is known stays known.

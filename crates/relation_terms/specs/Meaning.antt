@@ -88,8 +88,8 @@ pub record Extends {Key Id Name : Type 0} (m n : Meaning Key Id Name) : Type 0 w
   pub param_env : (k : ParamEnvKey Key) → IsTrue (known (m.param_env k)) → n.param_env k ≡ m.param_env k
   pub id : (d : Id) → n.id d ≡ m.id d
   pub name : (s : Name) → n.name s ≡ m.name s
-  pub generics : (i : ℕ) → n.generics i ≡ m.generics i
-  pub variances : (i : ℕ) → n.variances i ≡ m.variances i
+  pub generics : n.generics ≡ m.generics
+  pub variances : n.variances ≡ m.variances
 
 -- The tree of a variable.
 abbrev pub infer_tree : InferTy → Tree

@@ -13,3 +13,5 @@ pub mod StoreLaws
 pub mod RegionTerms
 pub mod Measures
 pub mod Decided
+pub mod DiagInfo
+pub mod Lawful

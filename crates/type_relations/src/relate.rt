@@ -1,3 +1,68 @@
 //! Relations on terms.
+ghost use Rattle.std.specs.Prelude.{◌≡◌};
+ghost use Rattle.type_relations.specs.DiagInfo.{first_invariant};
 
 pub mod solver_relating;
+mod type_relation;
+
+use relation_terms::terms::{Keys, TyKey, Variance};
+pub use type_relation::TypeRelation;
+
+/// What comes of two terms in one step of a relation.
+#[derive(Drop)]
+pub enum Step<T> {
+    /// They are related, and this is the answer.
+    Done(T),
+    /// These two are related by their outermost forms and their parts, and what comes of that is the answer.
+    Parts { a: T, b: T },
+    /// `x` and `y` are related at the variance, seen from the ambient one, and then `a` is the answer. The terms are read
+    /// as `a` and `b`.
+    Again {
+        a: T,
+        b: T,
+        x: T,
+        y: T,
+        variance: Variance,
+    },
+}
+
+/// Whether aliases are related by their items and arguments, or by a goal that is left to the solver.
+#[derive(Clone, Copy, PartialEq, Eq, Debug)]
+pub enum StructurallyRelateAliases {
+    Yes,
+    No,
+}
+
+/// Why two terms are related at invariance, for whoever explains an error. No answer of relating looks at it.
+#[derive(PartialEq, Eq, Debug, Drop)]
+pub enum VarianceDiagInfo<X> {
+    /// Nothing is known.
+    None,
+    /// They stand inside a type that is invariant in its parameter of this number.
+    Invariant { ty: TyKey<X>, param_index: u32 },
+}
+
+/// The same, over the keys of an interner.
+pub type VarianceDiagInfoOf<I> = VarianceDiagInfo<<I as Keys>::Key>;
+
+impl<X: Drop> VarianceDiagInfo<X> {
+    /// What is known of a part of what this is known of: the outermost type that is invariant.
+    pub fn xform(self, other: VarianceDiagInfo<X>) -> VarianceDiagInfo<X>
+        ensures { result ≡ first_invariant self other }
+    {
+        match self {
+            VarianceDiagInfo::None => other,
+            VarianceDiagInfo::Invariant { ty, param_index } => {
+                VarianceDiagInfo::Invariant { ty, param_index }
+            }
+        }
+    }
+}
+
+impl<X> Default for VarianceDiagInfo<X> {
+    fn default() -> VarianceDiagInfo<X>
+        ensures { result ≡ VarianceDiagInfo.None }
+    {
+        VarianceDiagInfo::None
+    }
+}

@@ -1,0 +1,18 @@
+-- What is known for an error's explanation where types are nested.
+use Rattle.std.specs.Prelude.{◌≡◌}
+use Rattle.type_relations.specs.declared.relate.VarianceDiagInfo.{VarianceDiagInfo}
+use Rattle.type_relations.specs.declared.relate.VarianceDiagInfo.TheVariants.{None, Invariant}
+
+-- The first that says something.
+abbrev pub first_invariant : {Key : Type 0} → VarianceDiagInfo Key → VarianceDiagInfo Key → VarianceDiagInfo Key
+first_invariant None other = other
+first_invariant (Invariant ty i) other = Invariant ty i
+
+-- Of three in a row it is the same from the left and from the right.
+abbrev pub NestingIsAssociative : Type 1
+NestingIsAssociative = (Key : Type 0) (a b c : VarianceDiagInfo Key) →
+    first_invariant (first_invariant a b) c ≡ first_invariant a (first_invariant b c)
+
+-- Knowing nothing changes nothing, on either side.
+abbrev pub NothingIsUnit : Type 1
+NothingIsUnit = (Key : Type 0) (a : VarianceDiagInfo Key) → (first_invariant None a ≡ a) × (first_invariant a None ≡ a)

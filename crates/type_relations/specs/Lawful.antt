@@ -1,0 +1,212 @@
+-- What contracts see of a relation in steps, and what its steps and the calls over it do.
+use Rattle.std.specs.Prelude.{◌≡◌, ◌≢◌, ℕ, suc, ◌+◌, ◌≤◌, ◌<◌, List, ◌++◌, All, IsTrue, Result, Ok, Err, get_or, None}
+use Rattle.relation_terms.specs.declared.terms.enums.Variance.{Variance}
+use Rattle.relation_terms.specs.declared.terms.enums.Variance.TheVariants.{Invariant, Bivariant}
+use Rattle.relation_terms.specs.Heads.{Head, type_sort, const_sort, Leaf, variable, bound, placeholder, atom, leaf_sort}
+use Rattle.relation_terms.specs.Heads.{atom_sort, head_sort}
+use Rattle.relation_terms.specs.Trees.{Tree, leaf, node, IsList, known, count, nth}
+use Rattle.relation_terms.specs.Meaning.{Meaning, Extends as ExtendsMeaning}
+use Rattle.relation_terms.specs.Variances.{xform}
+use Rattle.relation_tools.specs.declared.error.TypeError.{TypeError}
+use Rattle.relation_tools.specs.declared.error.RelateFault.{RelateFault}
+use Rattle.relation_tools.specs.declared.error.RelateFault.TheVariants.{Memory, Budget, Unrelated}
+use Rattle.relation_tools.specs.Faults.{KnowsError}
+use Rattle.type_relations.specs.declared.relate.Step.{Step}
+use Rattle.type_relations.specs.declared.relate.Step.TheVariants.{Done, Parts, Again}
+use Rattle.type_relations.specs.Relation.{Items, Interpretation, Way, at, part_at}
+use Rattle.type_relations.specs.Stores.{Store, Satisfies, IsTermIn, weight}
+use Rattle.type_relations.specs.Goals.{Goal, GoalInContext, IsQuiet, Relates}
+use Rattle.type_relations.specs.Steps.{IsLater}
+use Rattle.type_relations.specs.Outcomes.{Outcome, StepsTo, NeverOne, Exact, ExactStep, NoUnifier}
+use Rattle.type_relations.specs.Headline.{IsFirstOrderPair}
+use Rattle.type_relations.specs.FirstOrder.{IsFirstOrderStore}
+use Rattle.type_relations.specs.Errors.{ErrorOf}
+use Rattle.type_relations.specs.Measures.{Goes, grown}
+
+-- The variances that a table declares of items' parameters, by the items' numbers; of any other parameter, invariance.
+abbrev pub declared_by : (ℕ → List Variance) → Items
+declared_by table = record { declared = λ d i. get_or (table d) i Invariant; of_alias = λ d. None }
+
+-- A relation as it stands: what the keys of its interner mean; what it has recorded; the goals that it has registered,
+-- and the environment in which they are to hold; the variance at which it relates; and its own invariant.
+pub record State (Key Id Name : Type 0) : Type 1 where
+  pub meaning : Meaning Key Id Name
+  pub store : Store
+  pub goals : List Goal
+  pub environment : Tree
+  pub ambient : Variance
+  pub lawful : Type 0
+
+-- The declared variances of a relation's items.
+abbrev pub items_in : {Key Id Name : Type 0} → State Key Id Name → Items
+items_in r = declared_by (r.meaning).variances
+
+-- What a relation takes and gives: which terms it takes at a variance, what it may answer for the left side of a pair by
+-- what is recorded, and whether it promises to be exact.
+pub record Manner : Type 1 where
+  pub takes : Variance → Tree → Type 0
+  pub answers : Store → Tree → Tree → Type 0
+  pub is_exact : Type 0
+
+-- A manner is lawful: the parts of what is taken are taken; a term may stand for itself, a form over answers for its
+-- parts for the form; and what may be answered may be answered later.
+pub record IsManner (M : Manner) : Type 0 where
+  pub takes_parts : (c : Items) (h : Head) (ts : Tree) (i : ℕ) (v : Variance) → i < count ts →
+      M.takes v (node h ts) → M.takes (part_at c h i v) (nth i ts)
+  pub answers_itself : (st : Store) (t : Tree) → M.answers st t t
+  pub answers_forms : (st : Store) (h : Head) (ts us : Tree) → IsList ts → IsList us → count ts ≡ count us →
+      ((i : ℕ) → i < count ts → M.answers st (nth i ts) (nth i us)) → M.answers st (node h ts) (node h us)
+  pub answers_later : (before after : Store) (t u : Tree) → IsLater before after → M.answers before t u →
+      M.answers after t u
+
+-- A type with an outermost form: no variable and no bound variable.
+abbrev pub HasTypeForm : Tree → Type 0
+HasTypeForm (leaf (atom x)) = atom_sort x ≡ type_sort
+HasTypeForm (leaf (placeholder k u n)) = leaf_sort (placeholder k u n) ≡ type_sort
+HasTypeForm (node h ts) = head_sort h ≡ type_sort
+HasTypeForm t = ⊥
+
+-- The same of a constant.
+abbrev pub HasConstForm : Tree → Type 0
+HasConstForm (leaf (atom x)) = atom_sort x ≡ const_sort
+HasConstForm (leaf (placeholder k u n)) = leaf_sort (placeholder k u n) ≡ const_sort
+HasConstForm (node h ts) = head_sort h ≡ const_sort
+HasConstForm t = ⊥
+
+module _ {Key Id Name : Type 0} where
+  -- Only the variance at which a relation relates was changed.
+  pub record Turned (v : Variance) (r q : State Key Id Name) : Type 0 where
+    pub meaning : q.meaning ≡ r.meaning
+    pub store : q.store ≡ r.store
+    pub goals : q.goals ≡ r.goals
+    pub environment : q.environment ≡ r.environment
+    pub ambient : q.ambient ≡ v
+    pub lawful : r.lawful → q.lawful
+
+  -- Only the interner's keys were added to.
+  pub record WithMeaning (r : State Key Id Name) (m : Meaning Key Id Name) (q : State Key Id Name) : Type 0 where
+    pub meaning : q.meaning ≡ m
+    pub store : q.store ≡ r.store
+    pub goals : q.goals ≡ r.goals
+    pub environment : q.environment ≡ r.environment
+    pub ambient : q.ambient ≡ r.ambient
+    pub lawful : r.lawful → q.lawful
+
+  -- From one state to another with a pair of size `n` related, or a part of the work for it done: keys mean what they
+  -- meant, all that was recorded and registered stands, and the variance is as it was.
+  pub record Passes (n : ℕ) (r q : State Key Id Name) : Type 0 where
+    pub extends : ExtendsMeaning r.meaning q.meaning
+    pub goes : Goes n r.store q.store
+    pub added : List Goal
+    pub lengthens : q.goals ≡ r.goals ++ added
+    pub goals_in : All (GoalInContext q.store) added
+    pub environment : q.environment ≡ r.environment
+    pub ambient : q.ambient ≡ r.ambient
+    pub lawful : r.lawful → q.lawful
+
+  -- Two known terms of the relation's context that it takes at a variance, which is not bivariance.
+  pub record Asked (M : Manner) (r : State Key Id Name) (v : Variance) (a b : Tree) : Type 0 where
+    pub left_known : IsTrue (known a)
+    pub right_known : IsTrue (known b)
+    pub left_in : IsTermIn r.store a
+    pub right_in : IsTermIn r.store b
+    pub left_taken : M.takes v a
+    pub right_taken : M.takes v b
+    pub decides : v ≢ Bivariant
+
+  -- What a fault says of two terms: a type error that no assignment makes them one, and which error it is, over known
+  -- terms; a spent budget that nothing is left of it; want of memory nothing.
+  abbrev pub Refuses : State Key Id Name → State Key Id Name → Variance → Tree → Tree → RelateFault Key Id Name → Type 0
+  Refuses r q v a b (Unrelated e) = NeverOne (at v) r.store a b × ErrorOf q.meaning q.store e a b × KnowsError q.meaning e
+  Refuses r q v a b Budget = (q.store).budget ≡ 0
+  Refuses r q v a b Memory = Unit {0}
+
+  -- What an answer says of two terms at a variance: they are related, no equal pair is lost, and a known term is answered.
+  pub record Answers (M : Manner) (r q : State Key Id Name) (added : List Goal) (v : Variance) (a b t : Tree) : Type 0 where
+    pub outcome : Outcome (items_in r) r.environment (at v) r.store q.store r.goals added a b
+    pub answer : M.answers q.store a t
+    pub known : IsTrue (known t)
+
+  -- What a result says of two terms.
+  abbrev pub Verdict : {X : Type 0} → Manner → State Key Id Name → State Key Id Name → List Goal → Variance → Tree →
+      Tree → (X → Tree) → Result X (RelateFault Key Id Name) → Type 0
+  Verdict M r q added v a b tree (Ok x) = Answers M r q added v a b (tree x)
+  Verdict M r q added v a b tree (Err f) = Refuses r q v a b f
+
+  -- Two terms were related at a variance.
+  pub record Related {X : Type 0} (M : Manner) (r q : State Key Id Name) (v : Variance) (a b : Tree) (tree : X → Tree)
+      (result : Result X (RelateFault Key Id Name)) : Type 0 where
+    pub passes : Passes (weight r.store a + weight r.store b) r q
+    pub verdict : Verdict M r q passes.added v a b tree result
+
+  -- A step led from one pair to another, at a variance: what relates the second relates the first, no equal pair is
+  -- lost, and an error of the second is one of the first.
+  pub record Leads (r q : State Key Id Name) (added : List Goal) (a b : Tree) (v : Variance) (x y : Tree) : Type 0 where
+    pub steps : StepsTo (items_in r) r.environment r.store q.store r.goals added (at r.ambient) a b (at v) x y
+    pub errors : (m : Meaning Key Id Name) (st : Store) (e : TypeError Key Id Name) → IsLater q.store st →
+        ErrorOf m st e x y → ErrorOf m st e a b
+
+  -- A step to two forms that are to be related by their parts, which costs nothing of the budget.
+  pub record LeadsToParts (M : Manner) (IsForm : Tree → Type 0) (r q : State Key Id Name) (added : List Goal)
+      (a b x y : Tree) : Type 0 where
+    pub leads : Leads r q added a b r.ambient x y
+    pub asked : Asked M q r.ambient x y
+    pub left_form : IsForm x
+    pub right_form : IsForm y
+    pub answers : (st : Store) (t : Tree) → IsLater q.store st → M.answers st x t → M.answers st a t
+    pub same_budget : (q.store).budget ≡ (r.store).budget
+    pub not_larger : weight q.store x + weight q.store y ≤ weight r.store a + weight r.store b
+
+  -- A step to another pair that is to be related at a variance, for one of the budget. What was asked about is read as
+  -- two terms, of which the left one is the answer.
+  pub record LeadsAgain (M : Manner) (r q : State Key Id Name) (added : List Goal) (a b read_left read_right : Tree)
+      (v : Variance) (x y : Tree) : Type 0 where
+    pub leads : Leads r q added a b (xform r.ambient v) x y
+    pub read_leads : Leads r q added read_left read_right (xform r.ambient v) x y
+    pub read_asked : Asked M q r.ambient read_left read_right
+    pub asked : Asked M q (xform r.ambient v) x y
+    pub answers : (st : Store) → IsLater q.store st → M.answers st a read_left
+    pub falls : (r.store).budget ≡ suc (q.store).budget
+    pub not_larger : weight q.store x + weight q.store y ≤ grown 1 (weight r.store a + weight r.store b)
+
+  -- What a step's result says of two terms.
+  abbrev pub StepVerdict : {K : Type 0} → Manner → (Tree → Type 0) → State Key Id Name → State Key Id Name →
+      List Goal → Tree → Tree → (K → Tree) → Result (Step K) (RelateFault Key Id Name) → Type 0
+  StepVerdict M F r q added a b tree (Ok (Done t)) = Answers M r q added r.ambient a b (tree t)
+  StepVerdict M F r q added a b tree (Ok (Parts x y)) = LeadsToParts M F r q added a b (tree x) (tree y)
+  StepVerdict M F r q added a b tree (Ok (Again k l x y v)) =
+      LeadsAgain M r q added a b (tree k) (tree l) v (tree x) (tree y)
+  StepVerdict M F r q added a b tree (Err f) = Refuses r q r.ambient a b f
+
+  -- What it says besides where the relation promises to be exact, of first-order terms and records at invariance: the
+  -- record stays first-order, and up to erasure just the solutions that unify the pair that is left, or the terms, stay.
+  abbrev pub ExactVerdict : {K : Type 0} → State Key Id Name → State Key Id Name → Tree → Tree → (K → Tree) →
+      Result (Step K) (RelateFault Key Id Name) → Type 0
+  ExactVerdict r q a b tree (Ok (Done t)) = IsFirstOrderStore q.store × Exact r.store q.store a b
+  ExactVerdict r q a b tree (Ok (Parts x y)) = IsFirstOrderPair q.store (tree x) (tree y) ×
+      ExactStep r.store q.store a b (tree x) (tree y)
+  ExactVerdict r q a b tree (Ok (Again k l x y v)) = IsFirstOrderPair q.store (tree x) (tree y) ×
+      ExactStep r.store q.store a b (tree x) (tree y)
+  ExactVerdict r q a b tree (Err (Unrelated e)) = NoUnifier r.store a b
+  ExactVerdict r q a b tree (Err f) = Unit {0}
+
+  -- A step was taken.
+  pub record Stepped {K : Type 0} (M : Manner) (F : Tree → Type 0) (r q : State Key Id Name) (a b : Tree) (tree : K → Tree)
+      (result : Result (Step K) (RelateFault Key Id Name)) : Type 0 where
+    pub passes : Passes (weight r.store a + weight r.store b) r q
+    pub verdict : StepVerdict M F r q passes.added a b tree result
+    pub exact : M.is_exact → r.ambient ≡ Invariant → IsFirstOrderPair r.store a b →
+        ExactVerdict r q a b tree result
+
+  -- Something was noted: the record keeps all its assignments, nothing of the budget is spent, no goal that was added
+  -- asks anything of two terms, and a fault is no type error.
+  abbrev pub IsNoTypeError : {X : Type 0} → Result X (RelateFault Key Id Name) → Type 0
+  IsNoTypeError (Err (Unrelated e)) = ⊥
+  IsNoTypeError r = Unit {0}
+
+  pub record Noted {X : Type 0} (r q : State Key Id Name) (result : Result X (RelateFault Key Id Name)) : Type 0 where
+    pub passes : Passes 0 r q
+    pub keeps : (w : Interpretation) (s : _) → Satisfies w r.store s → Satisfies w q.store s
+    pub quiet : All IsQuiet passes.added
+    pub same_budget : (q.store).budget ≡ (r.store).budget
+    pub no_type_error : IsNoTypeError result

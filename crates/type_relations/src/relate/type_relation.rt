@@ -1,0 +1,101 @@
+//! Relations in steps, none of which relates anything by itself.
+ghost use Rattle.std.specs.Prelude.{◌≡◌, IfSome, IfNone};
+ghost use Rattle.std.specs.Borrow.{sem, Lends};
+ghost use Rattle.relation_terms.specs.Meaning.{Extends};
+ghost use Rattle.relation_terms.specs.declared.terms.enums.Variance.{Variance};
+ghost use Rattle.relation_terms.specs.declared.terms.enums.Variance.TheVariants.{Invariant};
+ghost use Rattle.type_relations.specs.Stores.{IsSound};
+ghost use Rattle.type_relations.specs.Goals.{Relates};
+ghost use Rattle.type_relations.specs.Lawful.{State, Manner, IsManner, HasTypeForm, HasConstForm, Turned, Asked, Related, Stepped, Noted, items_in, WithMeaning};
+
+use crate::relate::Step;
+use relation_terms::terms::{Const, GenericArgs, Interner, ItemOf, Region, Ty, Variance};
+use relation_tools::error::RelateResult;
+
+/// A relation of types, regions and constants, at an ambient variance.
+///
+/// It is given in steps: each answers what comes of two terms, or which two are to be related next. No step relates
+/// these itself, so one recursion serves all relations, and what it does follows from what the steps do.
+///
+/// The steps ask for terms that the relation's interner knows, that are the relation's own and that it takes at the
+/// ambient variance, which is not `Bivariant`.
+pub trait TypeRelation<I: Interner> {
+    // The relation as it stands.
+    ghost state: { Self → State I.Key I.Id I.Name };
+
+    // The relation with another interner.
+    ghost with_interner: { Self → I → Self };
+
+    // Which terms it takes, and what it may answer.
+    ghost manner: { Manner };
+
+    /// The interner of the terms.
+    fn cx(&self) -> &I
+        ensures { I.meaning result.now ≡ (state self.now).meaning };
+
+    /// The interner, to make terms.
+    fn cx_mut(&mut self) -> &mut I
+        ensures* writes_back { sem 𝓛 (Lends Self.row I.row self.entry result (with_interner self.entry.now)) }
+        ensures value { I.meaning result.now ≡ (state self.old).meaning };
+
+    /// The variance at which terms are related.
+    fn ambient(&self) -> Variance
+        ensures { result ≡ (state self.now).ambient };
+
+    /// Relates at this variance from now on.
+    fn set_ambient(&mut self, v: Variance)
+        ensures { Turned v (state self.old) (state self.new) };
+
+    /// The variances at which the arguments of an item's types are related: those that the item declares; or none, for
+    /// all of them invariantly, where the ambient variance is `Invariant`.
+    fn item_variances(&self, def_id: &ItemOf<I>) -> Option<&[Variance]>
+        ensures declared { IfSome result (λ vs. vs.now ≡ (state self.now).meaning.variances ((state self.now).meaning.id (def_id.now).0)) }
+        ensures none { IfNone result ((state self.now).ambient ≡ Invariant) };
+
+    /// What comes of two types.
+    fn tys(&mut self, a: &Ty<I>, b: &Ty<I>) -> RelateResult<I, Step<Ty<I>>>
+        requires lawful { (state self.old).lawful }
+        requires asked { Asked manner (state self.old) (state self.old).ambient ((state self.old).meaning.ty a.now) ((state self.old).meaning.ty b.now) }
+        ensures { Stepped manner HasTypeForm (state self.old) (state self.new) ((state self.old).meaning.ty a.now) ((state self.old).meaning.ty b.now) (state self.new).meaning.ty result };
+
+    /// What comes of two constants.
+    fn consts(&mut self, a: &Const<I>, b: &Const<I>) -> RelateResult<I, Step<Const<I>>>
+        requires lawful { (state self.old).lawful }
+        requires asked { Asked manner (state self.old) (state self.old).ambient ((state self.old).meaning.const_ a.now) ((state self.old).meaning.const_ b.now) }
+        ensures { Stepped manner HasConstForm (state self.old) (state self.new) ((state self.old).meaning.const_ a.now) ((state self.old).meaning.const_ b.now) (state self.new).meaning.const_ result };
+
+    /// Relates two regions.
+    fn regions(&mut self, a: &Region<I>, b: &Region<I>) -> RelateResult<I, Region<I>>
+        requires lawful { (state self.old).lawful }
+        requires asked { Asked manner (state self.old) (state self.old).ambient ((state self.old).meaning.region a.now) ((state self.old).meaning.region b.now) }
+        ensures { Related manner (state self.old) (state self.new) (state self.old).ambient ((state self.old).meaning.region a.now) ((state self.old).meaning.region b.now) (state self.new).meaning.region result };
+
+    /// Takes note that two types, as `tys` read them, were related.
+    fn tys_done(&mut self, a: &Ty<I>, b: &Ty<I>) -> RelateResult<I, ()>
+        requires lawful { (state self.old).lawful }
+        requires asked { Asked manner (state self.old) (state self.old).ambient ((state self.old).meaning.ty a.now) ((state self.old).meaning.ty b.now) }
+        requires related { Relates (items_in (state self.old)) (state self.old).store (state self.old).goals (state self.old).environment (state self.old).ambient ((state self.old).meaning.ty a.now) ((state self.old).meaning.ty b.now) }
+        ensures { Noted (state self.old) (state self.new) result };
+
+    /// Takes note that the arguments of two types over one item were related at the variances that it declares.
+    fn ty_args_done(
+        &mut self,
+        a_ty: &Ty<I>,
+        b_ty: &Ty<I>,
+        def_id: &ItemOf<I>,
+        a_args: &GenericArgs<I>,
+        b_args: &GenericArgs<I>,
+    ) -> RelateResult<I, ()>
+        requires lawful { (state self.old).lawful }
+        requires asked { Asked manner (state self.old) (state self.old).ambient ((state self.old).meaning.ty a_ty.now) ((state self.old).meaning.ty b_ty.now) }
+        ensures { Noted (state self.old) (state self.new) result };
+
+    // What a lawful relation has recorded is sound.
+    ghost sound: { (r : Self) → (state r).lawful → IsSound (state r).store };
+
+    // What it takes and answers goes through forms.
+    ghost takes_forms: { IsManner manner };
+
+    // Making terms changes nothing but what is known.
+    ghost grows: { (r : Self) (cx : I) → Extends (state r).meaning (I.meaning cx) → (state r).lawful → WithMeaning (state r) (I.meaning cx) (state (with_interner r cx)) };
+}
