@@ -15,6 +15,7 @@ pub mod Composing
 pub mod Opening
 pub mod Exactness
 pub mod Going
+pub mod Passing
 pub mod Equating
 pub mod Empty
 pub mod StoreCalls

@@ -198,15 +198,17 @@ module _ {Key Id Name : Type 0} where
     pub exact : M.is_exact → r.ambient ≡ Invariant → IsFirstOrderPair r.store a b →
         ExactVerdict r q a b tree result
 
-  -- Something was noted: the record keeps all its assignments, nothing of the budget is spent, no goal that was added
-  -- asks anything of two terms, and a fault is no type error.
-  abbrev pub IsNoTypeError : {X : Type 0} → Result X (RelateFault Key Id Name) → Type 0
-  IsNoTypeError (Err (Unrelated e)) = ⊥
-  IsNoTypeError r = Unit {0}
+  -- A fault is want of memory.
+  abbrev pub OnlyMemory : {X : Type 0} → Result X (RelateFault Key Id Name) → Type 0
+  OnlyMemory (Ok x) = Unit {0}
+  OnlyMemory (Err Memory) = Unit {0}
+  OnlyMemory (Err f) = ⊥
 
+  -- Something was noted: the record keeps all its assignments, nothing of the budget is spent, no goal that was added
+  -- asks anything of two terms, and a fault is want of memory.
   pub record Noted {X : Type 0} (r q : State Key Id Name) (result : Result X (RelateFault Key Id Name)) : Type 0 where
     pub passes : Passes 0 r q
     pub keeps : (w : Interpretation) (s : _) → Satisfies w r.store s → Satisfies w q.store s
     pub quiet : All IsQuiet passes.added
     pub same_budget : (q.store).budget ≡ (r.store).budget
-    pub no_type_error : IsNoTypeError result
+    pub fault : OnlyMemory result

@@ -1,0 +1,280 @@
+-- Steps and calls over a relation, one after another.
+use Rattle.std.proofs.Common.{◌≡◌, ℕ, suc, ◌+◌, ◌*◌, ◌≤◌, ◌<◌, refl, sym, ap, ◌∙◌, subst, subst₂, arith, List, [], ◌++◌, All, IsTrue, Result, Ok, Err}
+use Rattle.std.proofs.Common.{append_assoc, get_or}
+use Rattle.std.proofs.lemmas.List.{append-nil}
+use Rattle.std.proofs.lemmas.List.Elements.{All-nil, All-append}
+use Rattle.relation_terms.specs.declared.terms.enums.Variance.{Variance}
+use Rattle.relation_terms.specs.Trees.{Tree, Assign, known}
+use Rattle.relation_terms.specs.declared.terms.enums.Variance.TheVariants.{Bivariant}
+use Rattle.relation_terms.specs.Meaning.{Meaning, Extends as ExtendsMeaning}
+use Rattle.relation_terms.specs.Variances.{xform}
+use Rattle.relation_terms.proofs.Stays.{stays_same, extends_on}
+use Rattle.relation_tools.specs.declared.error.RelateFault.{RelateFault}
+use Rattle.relation_tools.specs.declared.error.RelateFault.TheVariants.{Memory, Budget, Unrelated}
+use Rattle.type_relations.specs.Relation.{Items, Way, at, anything}
+use Rattle.relation_tools.specs.Faults.{KnowsError}
+use Rattle.type_relations.specs.Errors.{ErrorOf}
+use Rattle.type_relations.specs.Stores.{Store, weight}
+use Rattle.type_relations.specs.Goals.{Goal, GoalInContext, Holds, Asked as Asks, asked, asks_too_much, asks_nothing, IsQuiet, AsksNoPair, HasOneTree, MakesOneTree}
+use Rattle.type_relations.specs.Outcomes.{Outcome, NeverOne}
+use Rattle.type_relations.specs.Measures.{grown, Goes}
+use Rattle.type_relations.specs.Lawful.{State, Manner, IsManner, Passes, Asked, Refuses, Answers, Verdict, Related, Leads}
+use Rattle.type_relations.specs.Lawful.{LeadsToParts, LeadsAgain, Noted, Turned, OnlyMemory, declared_by, items_in}
+use Rattle.type_relations.proofs.Going.{goes_nowhere, goes_within, goes_then, le_grown, later_itself, later_through}
+use Rattle.type_relations.proofs.Composing.{steps_compose, goals_both, first_goals}
+use Rattle.type_relations.proofs.Standing.{later_term}
+
+-- An outcome over other items, in another environment, after other goals, which are the same.
+moved : {c d : Items} {e k : Tree} {gs hs : List Goal} (way : Way) (before after : Store) (added : List Goal)
+    (a b : Tree) → c ≡ d → e ≡ k → gs ≡ hs → Outcome c e way before after gs added a b →
+    Outcome d k way before after hs added a b
+moved {c} {d} {e} {k} {gs} {hs} way before after added a b p q s f =
+    subst (λ z. Outcome z k way before after hs added a b) p
+    (subst (λ z. Outcome c z way before after hs added a b) q
+    (subst (λ z. Outcome c e way before after z added a b) s f))
+
+module _ {Key Id Name : Type 0} where
+  unfoldable pub passes_nowhere : (n : ℕ) (r : State Key Id Name) → Passes n r r
+  passes_nowhere n r = record {
+    extends = stays_same r.meaning;
+    goes = goes_nowhere n r.store;
+    added = [];
+    lengthens = sym (append-nil r.goals);
+    goals_in = All-nil (GoalInContext r.store);
+    environment = refl;
+    ambient = refl;
+    lawful = λ l. l;
+  }
+
+  unfoldable pub passes_within : {n m : ℕ} {r q : State Key Id Name} → n ≤ m → Passes n r q → Passes m r q
+  passes_within h g = record {
+    extends = g.extends;
+    goes = goes_within h g.goes;
+    added = g.added;
+    lengthens = g.lengthens;
+    goals_in = g.goals_in;
+    environment = g.environment;
+    ambient = g.ambient;
+    lawful = g.lawful;
+  }
+
+  unfoldable pub passes_then : {n m : ℕ} {r q p : State Key Id Name} → (g : Passes n r q) → Passes m q p →
+      m ≤ grown (g.goes).spent n → Passes n r p
+  passes_then {n} {m} {r} {q} {p} g f h = record {
+    extends = extends_on g.extends f.extends;
+    goes = goes_then g.goes f.goes h;
+    added = g.added ++ f.added;
+    lengthens = f.lengthens ∙ ap (λ gs. gs ++ f.added) g.lengthens ∙ append_assoc r.goals g.added f.added;
+    goals_in = goals_both q.store p.store g.added f.added (f.goes).later g.goals_in f.goals_in;
+    environment = f.environment ∙ g.environment;
+    ambient = f.ambient ∙ g.ambient;
+    lawful = λ l. f.lawful (g.lawful l);
+  }
+
+  -- Items declare what they declared.
+  pub same_items : {n : ℕ} {r q : State Key Id Name} → Passes n r q → items_in q ≡ items_in r
+  same_items g = ap declared_by (g.extends).variances
+
+  pub asked_later : {n : ℕ} {r q : State Key Id Name} (M : Manner) (v : Variance) (a b : Tree) → Passes n r q →
+      Asked M r v a b → Asked M q v a b
+  asked_later {n} {r} {q} M v a b g k =
+      let l = (g.goes).later in record {
+        left_known = k.left_known;
+        right_known = k.right_known;
+        left_in = later_term r.store q.store l.grows l.universe_stands a k.left_in;
+        right_in = later_term r.store q.store l.grows l.universe_stands b k.right_in;
+        left_taken = k.left_taken;
+        right_taken = k.right_taken;
+        decides = k.decides;
+      }
+
+  -- An outcome after other work, seen from before it.
+  pub outcome_seen : {n : ℕ} {r q : State Key Id Name} (g : Passes n r q) (way : Way) (after : Store) (added : List Goal)
+      (a b : Tree) → Outcome (items_in q) q.environment way q.store after q.goals added a b →
+      Outcome (items_in r) r.environment way q.store after (r.goals ++ g.added) added a b
+  outcome_seen {q = q} g way after added a b f =
+      moved way q.store after added a b (same_items g) g.environment g.lengthens f
+
+  -- What comes of the pair that a step left comes of the pair that it was asked about.
+  pub led_outcome : {n m : ℕ} {r q p : State Key Id Name} (g : Passes n r q) (f : Passes m q p) (a b x y : Tree)
+      (v : Variance) → Leads r q g.added a b v x y →
+      Outcome (items_in q) q.environment (at v) q.store p.store q.goals f.added x y →
+      Outcome (items_in r) r.environment (at r.ambient) r.store p.store r.goals (g.added ++ f.added) a b
+  led_outcome {r = r} {q = q} {p = p} g f a b x y v l o =
+      (steps_compose (items_in r) r.environment (at r.ambient) (at v) r.store q.store p.store r.goals g.added f.added
+      a b x y l.steps).0 (outcome_seen g (at v) p.store f.added x y o)
+
+  pub led_refuses : {n m : ℕ} {r q p : State Key Id Name} (g : Passes n r q) (f : Passes m q p) (a b x y : Tree)
+      (v : Variance) → Leads r q g.added a b v x y → (e : RelateFault Key Id Name) → Refuses q p v x y e →
+      Refuses r p r.ambient a b e
+  led_refuses {r = r} {q = q} {p = p} g f a b x y v l (Unrelated e) h = (
+    (steps_compose (items_in r) r.environment (at r.ambient) (at v) r.store q.store p.store r.goals g.added f.added
+    a b x y l.steps).1 h.0,
+    l.errors p.meaning p.store e (f.goes).later h.1,
+    h.2,
+  )
+  led_refuses g f a b x y v l Budget h = h
+  led_refuses g f a b x y v l Memory h = tt
+
+  -- The two forms to which a step led were related by their parts.
+  pub parts_related : {X : Type 0} {r q p : State Key Id Name} (M : Manner) (F : Tree → Type 0) (a b x y : Tree)
+      (tree : X → Tree) (result : Result X (RelateFault Key Id Name))
+      (g : Passes (weight r.store a + weight r.store b) r q) → LeadsToParts M F r q g.added a b x y →
+      Related M q p r.ambient x y tree result → Related M r p r.ambient a b tree result
+  unfolding passes_then
+  parts_related {X} {r} {q} {p} M F a b x y tree result g l f =
+      record { passes = passes_then g f.passes small; verdict = verdict result f.verdict }
+    where
+      small : weight q.store x + weight q.store y ≤ grown (g.goes).spent (weight r.store a + weight r.store b)
+      small =
+          let h = le_grown (g.goes).spent (weight r.store a + weight r.store b) in
+          let n = l.not_larger in omega arith
+
+      verdict : (res : Result X (RelateFault Key Id Name)) →
+          Verdict M q p (f.passes).added r.ambient x y tree res →
+          Verdict M r p (g.added ++ (f.passes).added) r.ambient a b tree res
+      verdict (Ok t) v = record {
+        outcome = led_outcome g f.passes a b x y r.ambient l.leads v.outcome;
+        answer = l.answers p.store (tree t) ((f.passes).goes).later v.answer;
+        known = v.known;
+      }
+      verdict (Err e) v = led_refuses g f.passes a b x y r.ambient l.leads e v
+
+  -- The pair to which a step led was related, and the left term as read is the answer.
+  module _ {r q : State Key Id Name} (M : Manner) (a b k l x y : Tree) (v : Variance)
+      (g : Passes (weight r.store a + weight r.store b) r q) (led : LeadsAgain M r q g.added a b k l v x y) where
+    one_spent : (g.goes).spent ≡ 1
+    one_spent = let c = (g.goes).counts in let f = led.falls in omega arith
+
+    small : weight q.store x + weight q.store y ≤ grown (g.goes).spent (weight r.store a + weight r.store b)
+    small = subst (λ n. weight q.store x + weight q.store y ≤ grown n (weight r.store a + weight r.store b))
+        (sym one_spent) led.not_larger
+
+    pub again_related : {X Y : Type 0} {p : State Key Id Name} (tree : X → Tree) (t : X) (answer : Y → Tree) (z : Y) → answer z ≡ k →
+        Related M q p (xform r.ambient v) x y tree (Ok t) → Related M r p r.ambient a b answer (Ok z)
+    unfolding passes_then
+    again_related {p = p} tree t answer z e f = record {
+      passes = passes_then g f.passes small;
+      verdict = record {
+        outcome = led_outcome g f.passes a b x y (xform r.ambient v) led.leads (f.verdict).outcome;
+        answer = subst (M.answers p.store a) (sym e) (led.answers p.store ((f.passes).goes).later);
+        known = subst (λ u. IsTrue (known u)) (sym e) (led.read_asked).left_known;
+      };
+    }
+
+    pub again_refused : {X Y : Type 0} {p : State Key Id Name} (tree : X → Tree) (answer : Y → Tree) (e : RelateFault Key Id Name) →
+        Related M q p (xform r.ambient v) x y tree (Err e) → Related M r p r.ambient a b answer (Err e)
+    unfolding passes_then
+    again_refused tree answer e f = record {
+      passes = passes_then g f.passes small;
+      verdict = led_refuses g f.passes a b x y (xform r.ambient v) led.leads e f.verdict;
+    }
+
+  -- What is noted after two terms were related leaves them so.
+  module _ {X Y : Type 0} {r q p : State Key Id Name} (M : Manner) (is : IsManner M) (v : Variance) (a b : Tree)
+      (tree : X → Tree) (t : X) (f : Related M r q v a b tree (Ok t)) (note : Result Y (RelateFault Key Id Name))
+      (h : Noted q p note) where
+    both : Passes (weight r.store a + weight r.store b) r p
+    both = passes_then f.passes h.passes (omega arith)
+
+    one_tree : (s : Assign) (g : Goal) → IsQuiet g → MakesOneTree s g
+    one_tree s g quiet = still (asked g.predicate) quiet
+      where
+        still : (q : Asks) → AsksNoPair q → HasOneTree s q
+        still asks_too_much h = tt
+        still asks_nothing h = tt
+        still q h = absurd h
+
+    outcome : Outcome (items_in r) r.environment (at v) r.store p.store r.goals ((f.passes).added ++ (h.passes).added) a b
+    outcome = record {
+      later = later_through ((f.passes).goes).later ((h.passes).goes).later;
+      goals_in = goals_both q.store p.store (f.passes).added (h.passes).added ((h.passes).goes).later
+          (f.passes).goals_in (h.passes).goals_in;
+      relates = λ w s sat all. ((f.verdict).outcome).relates w s (((h.passes).goes).later.shrinks w s sat)
+          (first_goals (Holds (items_in r) w s) r.goals (f.passes).added (h.passes).added all);
+      keeps = λ w s sat one. let z = ((f.verdict).outcome).keeps w s sat one in
+          (z.0, z.1, (h.keeps w z.0 z.2.0, All-append (MakesOneTree z.0) (f.passes).added (h.passes).added z.2.1
+          (λ k d i. one_tree z.0 (get_or (h.passes).added k d) (h.quiet k d i))));
+    }
+
+    pub noted_related : (answer : X → Tree) → answer t ≡ tree t → Related M r p v a b answer (Ok t)
+    unfolding passes_then both
+    noted_related answer e = record {
+      passes = both;
+      verdict = record {
+        outcome = outcome;
+        answer = subst (M.answers p.store a) (sym e)
+            (is.answers_later q.store p.store a (tree t) ((h.passes).goes).later (f.verdict).answer);
+        known = subst (λ u. IsTrue (known u)) (sym e) (f.verdict).known;
+      };
+    }
+
+    pub noted_refused : {Z : Type 0} (answer : Z → Tree) (e : RelateFault Key Id Name) → note ≡ Err e →
+        Related {X = Z} M r p v a b answer (Err e)
+    unfolding passes_then both
+    noted_refused answer e n = record { passes = both; verdict = refuses e (subst OnlyMemory n h.fault) }
+      where
+        refuses : (e : RelateFault Key Id Name) → OnlyMemory {X = Y} (Err e) → Refuses r p v a b e
+        refuses Memory k = tt
+        refuses e k = absurd k
+
+  -- Another ambient variance, and the old one again.
+  module _ {X : Type 0} {r t q u : State Key Id Name} (M : Manner) (v : Variance) (a b : Tree) (tree : X → Tree)
+      (there : Turned v r t) (back : Turned r.ambient q u) where
+    turned_passes : Passes (weight t.store a + weight t.store b) t q → Passes (weight r.store a + weight r.store b) r u
+    turned_passes f = record {
+      extends = subst₂ (λ m n. ExtendsMeaning m n) there.meaning (sym back.meaning) f.extends;
+      goes = subst₂ (λ s z. Goes (weight s a + weight s b) s z) there.store (sym back.store) f.goes;
+      added = f.added;
+      lengthens = back.goals ∙ f.lengthens ∙ ap (λ gs. gs ++ f.added) there.goals;
+      goals_in = subst (λ s. All (GoalInContext s) f.added) (sym back.store) f.goals_in;
+      environment = back.environment ∙ f.environment ∙ there.environment;
+      ambient = back.ambient;
+      lawful = λ l. back.lawful (f.lawful (there.lawful l));
+    }
+
+    turned_refuses : (e : RelateFault Key Id Name) → Refuses t q v a b e → Refuses r u v a b e
+    turned_refuses (Unrelated e) h = (
+      subst (λ s. NeverOne (at v) s a b) there.store h.0,
+      subst₂ (λ m s. ErrorOf m s e a b) (sym back.meaning) (sym back.store) h.1,
+      subst (λ m. KnowsError m e) (sym back.meaning) h.2,
+    )
+    turned_refuses Budget h = ap (λ s. s.budget) back.store ∙ h
+    turned_refuses Memory h = tt
+
+    turned_answers : (added : List Goal) (z : Tree) → Answers M t q added v a b z → Answers M r u added v a b z
+    turned_answers added z h = record {
+      outcome = subst₂ (λ s k. Outcome (items_in r) r.environment (at v) s k r.goals added a b) there.store (sym back.store)
+          (moved (at v) t.store q.store added a b (ap (λ m. declared_by m.variances) there.meaning) there.environment
+          there.goals h.outcome);
+      answer = subst (λ s. M.answers s a z) (sym back.store) h.answer;
+      known = h.known;
+    }
+
+    pub turned : (result : Result X (RelateFault Key Id Name)) → Related M t q v a b tree result →
+        Related M r u v a b tree result
+    unfolding turned_passes
+    turned result f = record { passes = turned_passes f.passes; verdict = verdict result f.verdict }
+      where
+        verdict : (res : Result X (RelateFault Key Id Name)) → Verdict M t q (f.passes).added v a b tree res →
+            Verdict M r u (f.passes).added v a b tree res
+        verdict (Ok x) h = turned_answers (f.passes).added (tree x) h
+        verdict (Err e) h = turned_refuses e h
+
+  -- Nothing is to be done at bivariance.
+  pub unlooked : {X : Type 0} (M : Manner) (is : IsManner M) (r : State Key Id Name) (v : Variance) (a b : Tree)
+      (tree : X → Tree) (x : X) → v ≡ Bivariant → IsTrue (known a) → tree x ≡ a → Related M r r v a b tree (Ok x)
+  unfolding passes_nowhere
+  unlooked M is r v a b tree x e k same = record {
+    passes = passes_nowhere (weight r.store a + weight r.store b) r;
+    verdict = record {
+      outcome = record {
+        later = later_itself r.store;
+        goals_in = All-nil (GoalInContext r.store);
+        relates = λ w s sat all. anything e;
+        keeps = λ w s sat one. (s, (λ k n h. refl), (sat, All-nil (MakesOneTree s)));
+      };
+      answer = subst (M.answers r.store a) (sym same) (is.answers_itself r.store a);
+      known = subst (λ u. IsTrue (known u)) (sym same) k;
+    };
+  }
