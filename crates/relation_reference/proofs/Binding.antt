@@ -24,7 +24,8 @@ use Rattle.type_relations.proofs.Going.{goes_nowhere}
 use Rattle.type_relations.proofs.Equating.{bound_sound, bound_goes, bound_value, bound_keeps}
 use Rattle.relation_reference.specs.declared.context.inner.TypeVariableValue.TheVariants.{Known}
 use Rattle.relation_reference.specs.declared.context.inner.InferCtxtInner.{InferCtxtInner}
-use Rattle.relation_reference.specs.Tables.{IsFormed, store_of, IsLawful}
+use Rattle.relation_reference.specs.Tables.{store_of, IsLawful}
+use Rattle.type_relations.specs.Parts.{IsFormed}
 use Rattle.relation_reference.specs.Answers.{Unites, Answered, Instantiated, StepsByInstantiating}
 use Rattle.relation_reference.proofs.Grows.{store_grows, lawful_grows}
 use Rattle.relation_reference.proofs.Writing.{binds_to, bind_lawful}

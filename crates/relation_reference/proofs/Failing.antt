@@ -27,11 +27,14 @@ use Rattle.type_relations.specs.Outcomes.{NoEqualTerms}
 use Rattle.type_relations.specs.Errors.{ErrorOf, IsHandedOn, of_kinds, of_parts, of_length, of_branches, AreOfOneForm, over_parts, one_leaf, parameters}
 use Rattle.type_relations.specs.Errors.{AreOfOneConst, AreOfOneValue, values, expressions, const_parameters, one_value, as_many_branches}
 use Rattle.type_relations.proofs.Standing.{stands_term}
-use Rattle.relation_reference.specs.Tables.{IsFormed}
-use Rattle.relation_reference.specs.Parts.{parts_of, const_parts_of, branches_of}
-use Rattle.relation_reference.specs.Answers.{Answered, IsFront, IsPassedOn, IsNoLength, IsFaultOfTy, passed, sized, IsPassedOnConst, IsFaultOfConst, passed_const, whole, IsResultOfTy, IsResultOfConst, Unites}
-use Rattle.relation_reference.proofs.Parts.{parts_size, const_parts_size}
-use Rattle.relation_reference.proofs.Relating.{sort_is, parts_equal, const_parts_equal, front_apart}
+use Rattle.type_relations.specs.Parts.{IsFormed}
+use Rattle.type_relations.specs.Parts.{parts_of, const_parts_of, branches_of}
+use Rattle.type_relations.specs.Handing.{IsPassedOn, IsNoLength, IsFaultOfTy, passed, sized, IsPassedOnConst, IsFaultOfConst, passed_const, whole, IsResultOfTy, IsResultOfConst}
+use Rattle.relation_reference.specs.Answers.{Answered, IsFront, Unites}
+use Rattle.type_relations.proofs.Parts.{parts_size, const_parts_size}
+use Rattle.type_relations.proofs.OneParts.{sort_is, parts_equal, const_parts_equal}
+use Rattle.relation_reference.proofs.Relating.{front_apart}
+use Rattle.type_relations.proofs.Handing.{AreOfTwoKinds, AtTop, at_top, value_top, ty_fault_known, const_fault_known}
 
 -- A fault is said in the same words of whatever is answered.
 fault_answered : {Key Id Name : Type 0} (m : Meaning Key Id Name) (X : Type 0) (before after : Store) (a b : Tree) (r f : RelateFault Key Id Name) → r ≡ f → Answered {X = X} m before after a b (Err f) → Answered {X = X} m before after a b (Err r)
@@ -97,15 +100,6 @@ module _ {Key Id Name : Type 0} (n p : Meaning Key Id Name) (e : Extends n p) (s
         apart : NoEqualTerms q x y → NoEqualTerms r a b
         apart none = λ ww s' sat e'. front_apart r q i (parts_of a) (parts_of b) x y l m z w u none ww s' sat (parts_equal a b (over_parts j k v) s' e')
 
--- The fault names what is known.
-pub ty_fault_known : {Key Id Name : Type 0} (p : Meaning Key Id Name) (t : Tree) (X Y : GenericArgKind Key) (f g : RelateFault Key Id Name) → IsTrue (known (arg_tree p X)) → IsTrue (known (arg_tree p Y)) → IsFaultOfTy t X Y f g → KnowsFault p f → KnowsFault p g
-ty_fault_known p t X Y f g k l (passed is o) h = subst (KnowsFault p) (sym is) h
-ty_fault_known p t X Y f g k l (sized c d o i x y is e) h = subst (KnowsFault p) (sym e) (subst (λ z. IsTrue (known (arg_tree p z))) x k, subst (λ z. IsTrue (known (arg_tree p z))) y l)
-
-pub const_fault_known : {Key Id Name : Type 0} (p : Meaning Key Id Name) (t : Tree) (c d : ConstKey Key) (f g : RelateFault Key Id Name) → IsTrue (known (p.const_ c)) → IsTrue (known (p.const_ d)) → IsFaultOfConst t c d f g → KnowsFault p f → KnowsFault p g
-const_fault_known p t c d f g k l (passed_const is o) h = subst (KnowsFault p) (sym is) h
-const_fault_known p t c d f g k l (whole e i is q) h = subst (KnowsFault p) (sym q) (k, l)
-
 -- The same of constants.
 module _ {Key Id Name : Type 0} (p : Meaning Key Id Name) (r q : Store) (c d : ConstKey Key) (i : ℕ) (x y : Tree) where
   branch_error : (st : Store) (e : TypeError Key Id Name) (t u v w : Tree) → p.const_ c ≡ node value (cons (node value_type (cons t nil)) (cons v nil)) → p.const_ d ≡ node value (cons (node value_type (cons u nil)) (cons w nil)) → AreOfOneValue v w
@@ -151,57 +145,6 @@ consts_fail p r q c d i x y a b j k W V st f g o l m z w u t h =
     (subst (λ v. i < count (const_parts_of v)) (sym j) l) (subst (λ v. i < count (const_parts_of v)) (sym k) m) (z ∙ ap (λ v. nth i (const_parts_of v)) (sym j)) (w ∙ ap (λ v. nth i (const_parts_of v)) (sym k))
     (subst₂ (λ a b. IsFront r q i (const_parts_of a) (const_parts_of b)) (sym j) (sym k) u) (subst (λ v. IsFaultOfConst v c d f g) (sym j) t) h)
 
--- Arguments of different kinds.
-abbrev pub AreOfTwoKinds : {Key : Type 0} → GenericArgKind Key → GenericArgKind Key → Type 0
-AreOfTwoKinds (Lifetime r) (Lifetime s) = ⊥
-AreOfTwoKinds (Ty t) (Ty u) = ⊥
-AreOfTwoKinds (Const c) (Const d) = ⊥
-AreOfTwoKinds x y = Unit {0}
-
-pub no_lifetime : {Key : Type 0} (r : RegionKey Key) (Y : GenericArgKind Key) → ((s : RegionKey Key) → Y ≡ Lifetime s → ⊥) → AreOfTwoKinds (Lifetime r) Y
-no_lifetime r (Lifetime s) o = o s refl
-no_lifetime r Y o = tt
-
-pub no_ty : {Key : Type 0} (t : TyKey Key) (Y : GenericArgKind Key) → ((s : TyKey Key) → Y ≡ Ty s → ⊥) → AreOfTwoKinds (Ty t) Y
-no_ty t (Ty s) o = o s refl
-no_ty t Y o = tt
-
-pub no_const_arg : {Key : Type 0} (t : ConstKey Key) (Y : GenericArgKind Key) → ((s : ConstKey Key) → Y ≡ Const s → ⊥) → AreOfTwoKinds (Const t) Y
-no_const_arg t (Const s) o = o s refl
-no_const_arg t Y o = tt
-
--- The sort of a term is that of what it comes to.
-abbrev AtTop : Sort → Sort → Type 0
-AtTop region_sort k = k ≡ region_sort
-AtTop type_sort k = k ≡ type_sort
-AtTop const_sort k = k ≡ const_sort
-AtTop s k = ⊥
-
-at_top : (s k : Sort) → AtTop s s → Admits s k → AtTop s k
-at_top region_sort region_sort t h = refl
-at_top type_sort type_sort t h = refl
-at_top const_sort const_sort t h = refl
-at_top s k t h = first_of (search h, search t)
-
-value_top : (st : Store) (s : Assign) (k : Sort) (t : Tree) → AtTop k k → IsAssignment st s → InContext st t → IsTerm k t → AtTop k (sort_of (apply s t))
-unfolding InContext
-value_top st s k (leaf (variable v n)) a g c h =
-    let e = at_top k (var_sort v) a h in
-    let f = sort_is (var_sort v) (s v n) (stands_term v (s v n) (g v n c).0) in
-    through k (var_sort v) (sort_of (s v n)) a e f
-  where
-    through : (k j z : Sort) → AtTop k k → AtTop k j → Admits j z → AtTop k z
-    through region_sort j z a e f = at_top region_sort z refl (subst (λ q. Admits q z) e f)
-    through type_sort j z a e f = at_top type_sort z refl (subst (λ q. Admits q z) e f)
-    through const_sort j z a e f = at_top const_sort z refl (subst (λ q. Admits q z) e f)
-    through k j z a e f = absurd a
-value_top st s k (leaf (bound v d i)) a g c h = at_top k _ a h
-value_top st s k (leaf (placeholder v u n)) a g c h = at_top k _ a h
-value_top st s k (leaf (atom x)) a g c h = at_top k _ a h
-value_top st s k (leaf unknown) a g c h = at_top k _ a h
-value_top st s k (node x ts) a g c h = at_top k (head_sort x) a h.0
-value_top st s k t a g c h = absurd h
-
 module _ {Key Id Name : Type 0} (m : Meaning Key Id Name) (sorted : Sorted m) where
   kind_sort : GenericArgKind Key → Sort
   kind_sort (Lifetime r) = region_sort
@@ -235,85 +178,6 @@ module _ {Key Id Name : Type 0} (m : Meaning Key Id Name) (sorted : Sorted m) wh
     of_kinds (λ e. two_sorts X Y (sort_of (arg_tree m X)) (sort_of (arg_tree m Y)) o (at_top (kind_sort X) _ (kind_top X) (sort_is (kind_sort X) (arg_tree m X) (kind_term X k)))
         (at_top (kind_sort Y) _ (kind_top Y) (sort_is (kind_sort Y) (arg_tree m Y) (kind_term Y l))) e),
   )
-
--- A fault that is passed on.
-no_left : {Key : Type 0} (t : Tree) (x y : GenericArgKind Key) → ((c : ConstKey Key) → x ≡ Const c → ⊥) → IsNoLength t x y
-no_left (node array ts) (Const c) (Const d) o = absurd (o c refl)
-no_left t x y o = tt
-
-no_right : {Key : Type 0} (t : Tree) (x y : GenericArgKind Key) → ((c : ConstKey Key) → y ≡ Const c → ⊥) → IsNoLength t x y
-no_right (node array ts) (Const c) (Const d) o = absurd (o d refl)
-no_right t x y o = tt
-
-module _ {Key Id Name : Type 0} where
-  no_array : (m : Meaning Key Id Name) (k : TyKind Key Id Name) (x y : GenericArgKind Key) → ((u : TyKey Key) (c : ConstKey Key) → k ≡ Array u c → ⊥) → IsNoLength (kind_tree m k) x y
-  no_array m (Array u c) x y o = absurd (o u c refl)
-  no_array m (Infer (TyVar v)) x y o = tt
-  no_array m k x y o = tt
-
-  of_no_length : (f : RelateFault Key Id Name) (t : Tree) (x y : GenericArgKind Key) → IsNoLength t x y → IsPassedOn f t x y
-  of_no_length (Unrelated (ConstMismatch p)) t x y h = h
-  of_no_length f t x y h = tt
-
-  pub passed_tree : (m : Meaning Key Id Name) (k : TyKind Key Id Name) (t : Tree) (x y : GenericArgKind Key) (f : RelateFault Key Id Name) → t ≡ kind_tree m k → ((u : TyKey Key) (c : ConstKey Key) → k ≡ Array u c → ⊥) → IsPassedOn f t x y
-  passed_tree m k t x y f e o = of_no_length f t x y (subst (λ z. IsNoLength z x y) (sym e) (no_array m k x y o))
-
-  pub passed_left : (f : RelateFault Key Id Name) (t : Tree) (x y : GenericArgKind Key) → ((c : ConstKey Key) → x ≡ Const c → ⊥) → IsPassedOn f t x y
-  passed_left f t x y o = of_no_length f t x y (no_left t x y o)
-
-  pub passed_right : (f : RelateFault Key Id Name) (t : Tree) (x y : GenericArgKind Key) → ((c : ConstKey Key) → y ≡ Const c → ⊥) → IsPassedOn f t x y
-  passed_right f t x y o = of_no_length f t x y (no_right t x y o)
-
-  other_error : (e : TypeError Key Id Name) (t : Tree) (x y : GenericArgKind Key) → ((p : ExpectedFound (ConstKey Key)) → e ≡ ConstMismatch p → ⊥) → IsPassedOn (Unrelated e) t x y
-  other_error (ConstMismatch p) t x y o = absurd (o p refl)
-  other_error e t x y o = tt
-
-  pub passed_error : (f : RelateFault Key Id Name) (e : TypeError Key Id Name) (t : Tree) (x y : GenericArgKind Key) → f ≡ Unrelated e → ((p : ExpectedFound (ConstKey Key)) → e ≡ ConstMismatch p → ⊥) → IsPassedOn f t x y
-  passed_error f e t x y q o = subst (λ z. IsPassedOn z t x y) (sym q) (other_error e t x y o)
-
-  pub passed_fault : (f : RelateFault Key Id Name) (t : Tree) (x y : GenericArgKind Key) → ((e : TypeError Key Id Name) → f ≡ Unrelated e → ⊥) → IsPassedOn f t x y
-  passed_fault (Unrelated e) t x y o = absurd (o e refl)
-  passed_fault f t x y o = tt
-
--- The parts of a term weigh no more than it, and less where there are any.
-one_size : (t : Tree) → 0 < size t
-one_size (leaf l) = omega (arith)
-one_size (node h ts) = omega (arith)
-one_size (bind ks t) = omega (arith)
-one_size nil = omega (arith)
-one_size (cons t ts) = omega (arith)
-
-parts_most : (s : Assign) (t : Tree) → size (apply s (parts_of t)) ≤ size (apply s t)
-parts_most s (node h ts) = omega (arith)
-parts_most s (leaf l) = (let e = one_size (apply s (leaf l)) in omega (arith, e))
-parts_most s (bind ks t) = omega (arith)
-parts_most s nil = omega (arith)
-parts_most s (cons t ts) = omega (arith)
-
-branches_most : (s : Assign) (v : Tree) → size (apply s (branches_of v)) ≤ size (apply s v)
-branches_most s (node value_branch ts) = omega (arith)
-branches_most s v = (let e = one_size (apply s v) in omega (arith, e))
-
-const_parts_most : (s : Assign) (c : Tree) → size (apply s (const_parts_of c)) ≤ size (apply s c)
-const_parts_most s (node (expression k) ts) = omega (arith)
-const_parts_most s (node value (cons t (cons v nil))) = (let e = branches_most s v in omega (arith, e))
-const_parts_most s c = (let e = one_size (apply s c) in omega (arith, e))
-
-pub weight_parts : (st : Store) (t : Tree) → 0 < count (parts_of t) → weight st (parts_of t) < weight st t
-unfolding weight
-weight_parts st t h = parts_size (resolved st) t h
-
-pub weight_parts_most : (st : Store) (t : Tree) → weight st (parts_of t) ≤ weight st t
-unfolding weight
-weight_parts_most st t = parts_most (resolved st) t
-
-pub weight_const_parts : (st : Store) (t : Tree) → 0 < count (const_parts_of t) → weight st (const_parts_of t) < weight st t
-unfolding weight
-weight_const_parts st t h = const_parts_size (resolved st) t h
-
-pub weight_const_parts_most : (st : Store) (t : Tree) → weight st (const_parts_of t) ≤ weight st t
-unfolding weight
-weight_const_parts_most st t = const_parts_most (resolved st) t
 
 -- What the answer of two parts was, by what the whole answers.
 module _ {A Key Id Name : Type 0} where

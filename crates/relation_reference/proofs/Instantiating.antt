@@ -21,7 +21,7 @@ use Rattle.type_relations.proofs.StoreCalls.{resolved_resolves}
 use Rattle.type_relations.proofs.Going.{depth-mono, goes_nowhere, goes_within, goes_then}
 use Rattle.type_relations.proofs.Equating.{equated_goes, equated_value, equated_keeps}
 use Rattle.relation_reference.specs.Answers.{IsShallow, root, formed, Unites, Answered}
-use Rattle.relation_reference.specs.Tables.{IsFormed}
+use Rattle.type_relations.specs.Parts.{IsFormed}
 use Rattle.relation_reference.proofs.Binding.{binding_sound, binding_equal, binding_goes_at, binding_unites}
 use Rattle.relation_reference.proofs.Relating.{same_unites}
 

@@ -13,7 +13,8 @@ use Rattle.type_relations.proofs.Standing.{made_of_term, term_of_made}
 use Rattle.type_relations.proofs.ReadAs.{read_then, read_same, read_bound}
 use Rattle.relation_reference.specs.declared.context.inner.TypeVariable.{TypeVariable}
 use Rattle.relation_reference.specs.declared.context.inner.InferCtxtInner.{InferCtxtInner}
-use Rattle.relation_reference.specs.Tables.{IsFormed, store_of, IsLawful}
+use Rattle.relation_reference.specs.Tables.{store_of, IsLawful}
+use Rattle.type_relations.specs.Parts.{IsFormed}
 use Rattle.relation_reference.specs.Answers.{LeadsTo, here, next, IsShallow, root, formed}
 
 -- What a variable leads to is what it is read as.

@@ -14,7 +14,8 @@ use Rattle.type_relations.specs.Stores.{Store, entry_term, bound_term, IsNamable
 use Rattle.type_relations.specs.Stores.{InContext, resolved, weight, MeetsBindings}
 use Rattle.type_relations.proofs.Resolved.{resolved_free, resolved_alike, weight_alike}
 use Rattle.relation_reference.specs.declared.context.inner.InferCtxtInner.{InferCtxtInner}
-use Rattle.relation_reference.specs.Tables.{IsFormed, store_of, IsLawful}
+use Rattle.relation_reference.specs.Tables.{store_of, IsLawful}
+use Rattle.type_relations.specs.Parts.{IsFormed}
 use Rattle.relation_reference.specs.Answers.{IsShallow, root, formed}
 use Rattle.relation_terms.proofs.Stays.{stays_list}
 use Rattle.relation_terms.specs.declared.terms.keys.TyKey.{TyKey}
@@ -34,11 +35,11 @@ use Rattle.relation_terms.specs.declared.terms.ty_kind.TyKind.TheVariants.{Infer
 use Rattle.relation_terms.specs.declared.terms.ty_kind.TyKind.TheVariants.{Placeholder as TyPlaceholder}
 use Rattle.std.specs.Prelude.{Result, IfOk}
 use Rattle.relation_terms.specs.declared.terms.keys.ArgsKey.{ArgsKey}
-use Rattle.relation_reference.specs.declared.context.forms.ItemTy.{ItemTy}
-use Rattle.relation_reference.specs.Parts.{IsNoItem, item_head, item_kind}
-use Rattle.relation_reference.proofs.Parts.{over_item, in_nth, nth_size as size_nth}
-use Rattle.relation_reference.proofs.Lists.{no_region_head, firsts, firsts_all, snoc, list_push, firsts_more}
-use Rattle.relation_reference.proofs.Lists.{apply_snoc, push_known, both_known}
+use Rattle.type_relations.specs.declared.relate.forms.ItemTy.{ItemTy}
+use Rattle.type_relations.specs.Parts.{IsNoItem, item_head, item_kind}
+use Rattle.type_relations.proofs.Parts.{over_item, in_nth, nth_size as size_nth}
+use Rattle.type_relations.proofs.Lists.{no_region_head, firsts, firsts_all, snoc, list_push, firsts_more}
+use Rattle.type_relations.proofs.Lists.{apply_snoc, push_known, both_known}
 use Rattle.relation_reference.proofs.Grows.{store_grows, lawful_grows}
 
 -- Parts of a known type are known.

@@ -18,7 +18,7 @@ use Rattle.type_relations.specs.Stores.{Store, same_as, entry_of, bound_term, re
 use Rattle.type_relations.specs.Steps.{BindsTo, ChangesNothing, Instantiates, RefusesToInstantiate}
 use Rattle.type_relations.specs.Outcomes.{NoEqualTerms}
 use Rattle.type_relations.specs.Errors.{ErrorOf}
-use Rattle.relation_reference.specs.Tables.{IsFormed}
+use Rattle.type_relations.specs.Parts.{IsFormed}
 
 -- From a variable the entries lead to another of the same class.
 pub data LeadsTo (st : Store) : ℕ → ℕ → Type 0 where
@@ -73,48 +73,3 @@ Answered m before after a b (Ok x) = Unites before after a b
 Answered m before after a b (Err (Unrelated e)) = NoEqualTerms before a b × ErrorOf m after e a b
 Answered m before after a b (Err Budget) = after.budget ≡ 0
 Answered m before after a b (Err Memory) = Unit {0}
-
--- The fault of a part is the fault of the type that it is a part of: all but constants that differ as the lengths of
--- two arrays.
-abbrev pub IsNoLength : {Key : Type 0} → Tree → GenericArgKind Key → GenericArgKind Key → Type 0
-IsNoLength (node array ts) (Const c) (Const d) = ⊥
-IsNoLength t x y = Unit {0}
-
-abbrev pub IsPassedOn : {Key Id Name : Type 0} → RelateFault Key Id Name → Tree → GenericArgKind Key →
-    GenericArgKind Key → Type 0
-IsPassedOn (Unrelated (ConstMismatch p)) t x y = IsNoLength t x y
-IsPassedOn f t x y = Unit {0}
-
--- What a fault of two parts of types is as the types' own.
-pub data IsFaultOfTy {Key Id Name : Type 0} (t : Tree) (x y : GenericArgKind Key) (f r : RelateFault Key Id Name)
-    : Type 0 where
-  passed : r ≡ f → IsPassedOn f t x y → IsFaultOfTy t x y f r
-  sized : {ts : Tree} (c d : ConstKey Key) (p : ExpectedFound (ConstKey Key)) → t ≡ node array ts → x ≡ Const c →
-      y ≡ Const d → f ≡ Unrelated (ConstMismatch p) → r ≡ Unrelated (ArraySize (record { expected = c; found = d })) →
-      IsFaultOfTy t x y f r
-
--- The fault of a part of a constant is the constant's, but that terms that differ make the whole values differ.
-abbrev pub IsPassedOnConst : {Key Id Name : Type 0} → RelateFault Key Id Name → Tree → Type 0
-IsPassedOnConst (Unrelated e) (node value ts) = ⊥
-IsPassedOnConst f t = Unit {0}
-
--- What a fault of two parts of constants is as the constants' own.
-pub data IsFaultOfConst {Key Id Name : Type 0} (t : Tree) (c d : ConstKey Key) (f r : RelateFault Key Id Name)
-    : Type 0 where
-  passed_const : r ≡ f → IsPassedOnConst f t → IsFaultOfConst t c d f r
-  whole : {ts : Tree} (e : TypeError Key Id Name) → t ≡ node value ts → f ≡ Unrelated e →
-      r ≡ Unrelated (ConstMismatch (record { expected = c; found = d })) → IsFaultOfConst t c d f r
-
--- What two types answer by what two of their parts have answered.
-abbrev pub IsResultOfTy : {A B Key Id Name : Type 0} → Tree → GenericArgKind Key → GenericArgKind Key →
-    Result A (RelateFault Key Id Name) → Result B (RelateFault Key Id Name) → Type 0
-IsResultOfTy t x y (Ok u) (Ok v) = Unit {0}
-IsResultOfTy t x y (Err f) (Err r) = IsFaultOfTy t x y f r
-IsResultOfTy t x y a b = ⊥
-
--- What two constants answer by what two of their parts have answered.
-abbrev pub IsResultOfConst : {A B Key Id Name : Type 0} → Tree → ConstKey Key → ConstKey Key →
-    Result A (RelateFault Key Id Name) → Result B (RelateFault Key Id Name) → Type 0
-IsResultOfConst t c d (Ok u) (Ok v) = Unit {0}
-IsResultOfConst t c d (Err f) (Err r) = IsFaultOfConst t c d f r
-IsResultOfConst t c d a b = ⊥

@@ -6,5 +6,4 @@ pub mod Places
 pub mod Laws
 pub mod Adding
 pub mod Tables
-pub mod Parts
 pub mod Answers

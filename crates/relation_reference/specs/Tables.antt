@@ -27,21 +27,6 @@ by_kind t r d const_var = d
 abbrev pub no_items : Items
 no_items = record { declared = λ d i. Invariant; of_alias = λ d. None }
 
--- A type with an outermost form: no variable and no bound variable.
-abbrev pub IsFormed : Tree → Type 0
-IsFormed (leaf (atom x)) = atom_sort x ≡ type_sort
-IsFormed (leaf (placeholder k u n)) = leaf_sort (placeholder k u n) ≡ type_sort
-IsFormed (node h ts) = head_sort h ≡ type_sort
-IsFormed t = ⊥
-
--- A constant with an outermost form: a parameter, a placeholder, a value, an expression.
-abbrev pub IsFormedConst : Tree → Type 0
-IsFormedConst (leaf (atom x)) = atom_sort x ≡ const_sort
-IsFormedConst (leaf (placeholder k u n)) = leaf_sort (placeholder k u n) ≡ const_sort
-IsFormedConst (node (expression k) ts) = Unit {0}
-IsFormedConst (node value ts) = Unit {0}
-IsFormedConst t = ⊥
-
 module _ {Key Id Name : Type 0} (m : Meaning Key Id Name) where
   -- What is recorded of a variable.
   abbrev pub entry_of_value : TypeVariableValue Key → Entry

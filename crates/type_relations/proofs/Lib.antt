@@ -16,6 +16,12 @@ pub mod Opening
 pub mod Exactness
 pub mod Going
 pub mod Passing
+pub mod Lists
+pub mod Parts
+pub mod OneParts
+pub mod Comparing
+pub mod Handing
+pub mod PartSizes
 pub mod Equating
 pub mod Empty
 pub mod StoreCalls

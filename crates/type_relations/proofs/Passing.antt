@@ -85,7 +85,6 @@ module _ {Key Id Name : Type 0} where
         right_in = later_term r.store q.store l.grows l.universe_stands b k.right_in;
         left_taken = k.left_taken;
         right_taken = k.right_taken;
-        decides = k.decides;
       }
 
   -- An outcome after other work, seen from before it.

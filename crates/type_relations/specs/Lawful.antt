@@ -1,10 +1,9 @@
 -- What contracts see of a relation in steps, and what its steps and the calls over it do.
-use Rattle.std.specs.Prelude.{◌≡◌, ◌≢◌, ℕ, suc, ◌+◌, ◌≤◌, ◌<◌, List, ◌++◌, All, IsTrue, Result, Ok, Err, get_or, None}
+use Rattle.std.specs.Prelude.{◌≡◌, ℕ, suc, ◌+◌, ◌≤◌, ◌<◌, List, ◌++◌, All, IsTrue, Result, Ok, Err, get_or, None}
 use Rattle.relation_terms.specs.declared.terms.enums.Variance.{Variance}
-use Rattle.relation_terms.specs.declared.terms.enums.Variance.TheVariants.{Invariant, Bivariant}
-use Rattle.relation_terms.specs.Heads.{Head, type_sort, const_sort, Leaf, variable, bound, placeholder, atom, leaf_sort}
-use Rattle.relation_terms.specs.Heads.{atom_sort, head_sort}
-use Rattle.relation_terms.specs.Trees.{Tree, leaf, node, IsList, known, count, nth}
+use Rattle.relation_terms.specs.declared.terms.enums.Variance.TheVariants.{Invariant}
+use Rattle.relation_terms.specs.Heads.{Head}
+use Rattle.relation_terms.specs.Trees.{Tree, node, IsList, known, count, nth}
 use Rattle.relation_terms.specs.Meaning.{Meaning, Extends as ExtendsMeaning}
 use Rattle.relation_terms.specs.Variances.{xform}
 use Rattle.relation_tools.specs.declared.error.TypeError.{TypeError}
@@ -59,20 +58,6 @@ pub record IsManner (M : Manner) : Type 0 where
   pub answers_later : (before after : Store) (t u : Tree) → IsLater before after → M.answers before t u →
       M.answers after t u
 
--- A type with an outermost form: no variable and no bound variable.
-abbrev pub HasTypeForm : Tree → Type 0
-HasTypeForm (leaf (atom x)) = atom_sort x ≡ type_sort
-HasTypeForm (leaf (placeholder k u n)) = leaf_sort (placeholder k u n) ≡ type_sort
-HasTypeForm (node h ts) = head_sort h ≡ type_sort
-HasTypeForm t = ⊥
-
--- The same of a constant.
-abbrev pub HasConstForm : Tree → Type 0
-HasConstForm (leaf (atom x)) = atom_sort x ≡ const_sort
-HasConstForm (leaf (placeholder k u n)) = leaf_sort (placeholder k u n) ≡ const_sort
-HasConstForm (node h ts) = head_sort h ≡ const_sort
-HasConstForm t = ⊥
-
 module _ {Key Id Name : Type 0} where
   -- Only the variance at which a relation relates was changed.
   pub record Turned (v : Variance) (r q : State Key Id Name) : Type 0 where
@@ -104,7 +89,7 @@ module _ {Key Id Name : Type 0} where
     pub ambient : q.ambient ≡ r.ambient
     pub lawful : r.lawful → q.lawful
 
-  -- Two known terms of the relation's context that it takes at a variance, which is not bivariance.
+  -- Two known terms of the relation's context that it takes at a variance.
   pub record Asked (M : Manner) (r : State Key Id Name) (v : Variance) (a b : Tree) : Type 0 where
     pub left_known : IsTrue (known a)
     pub right_known : IsTrue (known b)
@@ -112,7 +97,6 @@ module _ {Key Id Name : Type 0} where
     pub right_in : IsTermIn r.store b
     pub left_taken : M.takes v a
     pub right_taken : M.takes v b
-    pub decides : v ≢ Bivariant
 
   -- What a fault says of two terms: a type error that no assignment makes them one, and which error it is, over known
   -- terms; a spent budget that nothing is left of it; want of memory nothing.

@@ -14,4 +14,6 @@ pub mod RegionTerms
 pub mod Measures
 pub mod Decided
 pub mod DiagInfo
+pub mod Parts
+pub mod Handing
 pub mod Lawful

@@ -2,7 +2,13 @@
 ghost use Rattle.std.specs.Prelude.{◌≡◌};
 ghost use Rattle.type_relations.specs.DiagInfo.{first_invariant};
 
+pub mod comparing;
+pub mod forms;
+pub mod handing;
+pub mod parts;
 pub mod solver_relating;
+mod reading;
+pub mod structural;
 mod type_relation;
 
 use relation_terms::terms::{Keys, TyKey, Variance};

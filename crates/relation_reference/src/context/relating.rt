@@ -6,12 +6,14 @@ ghost use Rattle.relation_terms.specs.Meaning.{Extends, arg_tree};
 ghost use Rattle.type_relations.specs.Stores.{IsTermIn, weight};
 ghost use Rattle.type_relations.specs.Measures.{Goes};
 ghost use Rattle.relation_tools.specs.Faults.{KnowsFault};
-ghost use Rattle.relation_reference.specs.Tables.{store_of, IsLawful, IsFormed};
-ghost use Rattle.relation_reference.specs.Answers.{Answered, IsFaultOfTy, IsFaultOfConst, IsResultOfTy, IsResultOfConst};
+ghost use Rattle.relation_reference.specs.Tables.{store_of, IsLawful};
+ghost use Rattle.type_relations.specs.Parts.{IsFormed};
+ghost use Rattle.relation_reference.specs.Answers.{Answered};
 
 use crate::context::RefCtxt;
-use crate::context::comparing::{compare_consts, compare_tys};
-use crate::context::parts::{const_part, const_parts_count, part, parts_count};
+use type_relations::relate::handing::{in_const, in_ty};
+use type_relations::relate::comparing::{compare_consts, compare_tys};
+use type_relations::relate::parts::{const_part, const_parts_count, part, parts_count};
 use relation_terms::terms::{
     Const, ConstKind, Dup, GenericArg, GenericArgKind, Interner, Ty, TyKind,
 };
@@ -153,86 +155,5 @@ impl<I: Interner> RefCtxt<I> {
             in_const(&self.interner, a, b, related)?;
         }
         Ok(())
-    }
-}
-
-// The fault of two types where one of their parts has failed: lengths of arrays that differ are sizes that differ.
-fn of_ty<I: Interner>(
-    cx: &I,
-    ty: &Ty<I>,
-    x: &GenericArg<I>,
-    y: &GenericArg<I>,
-    fault: RelateFaultOf<I>,
-) -> RelateFaultOf<I>
-    requires { IsTrue (known ((I.meaning cx.now).ty ty.now)) }
-    ensures { IsFaultOfTy ((I.meaning cx.now).ty ty.now) x.now y.now fault result }
-{
-    let RelateFault::Unrelated(error) = &fault else {
-        return fault;
-    };
-    let TypeError::ConstMismatch(_) = error else {
-        return fault;
-    };
-    let TyKind::Array(..) = cx.ty_kind(ty) else {
-        return fault;
-    };
-    let GenericArgKind::Const(x) = x else {
-        return fault;
-    };
-    let GenericArgKind::Const(y) = y else {
-        return fault;
-    };
-    RelateFault::Unrelated(TypeError::ArraySize(ExpectedFound::new(x.dup(), y.dup())))
-}
-
-// The fault of two constants where one of their parts has failed: where branches differ the whole values differ.
-fn of_const<I: Interner>(
-    cx: &I,
-    a: &Const<I>,
-    b: &Const<I>,
-    fault: RelateFaultOf<I>,
-) -> RelateFaultOf<I>
-    requires { IsTrue (known ((I.meaning cx.now).const_ a.now)) }
-    ensures { IsFaultOfConst ((I.meaning cx.now).const_ a.now) a.now b.now fault result }
-{
-    let RelateFault::Unrelated(_) = &fault else {
-        return fault;
-    };
-    let ConstKind::Value(..) = cx.const_kind(a) else {
-        return fault;
-    };
-    RelateFault::Unrelated(TypeError::ConstMismatch(ExpectedFound::new(a.dup(), b.dup())))
-}
-
-// What two types answer where two of their parts have answered that.
-fn in_ty<I: Interner>(
-    cx: &I,
-    ty: &Ty<I>,
-    x: &GenericArg<I>,
-    y: &GenericArg<I>,
-    related: Result<(), RelateFaultOf<I>>,
-) -> Result<(), RelateFaultOf<I>>
-    requires { IsTrue (known ((I.meaning cx.now).ty ty.now)) }
-    ensures { IsResultOfTy ((I.meaning cx.now).ty ty.now) x.now y.now related result }
-{
-    match related {
-        Ok(()) => Ok(()),
-        Err(fault) => Err(of_ty(cx, ty, x, y, fault)),
-    }
-}
-
-// What two constants answer where two of their parts have answered that.
-fn in_const<I: Interner>(
-    cx: &I,
-    a: &Const<I>,
-    b: &Const<I>,
-    related: Result<(), RelateFaultOf<I>>,
-) -> Result<(), RelateFaultOf<I>>
-    requires { IsTrue (known ((I.meaning cx.now).const_ a.now)) }
-    ensures { IsResultOfConst ((I.meaning cx.now).const_ a.now) a.now b.now related result }
-{
-    match related {
-        Ok(()) => Ok(()),
-        Err(fault) => Err(of_const(cx, a, b, fault)),
     }
 }

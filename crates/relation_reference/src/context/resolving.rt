@@ -6,11 +6,12 @@ ghost use Rattle.relation_terms.specs.Meaning.{Extends, arg_tree, kind_tree};
 ghost use Rattle.type_relations.specs.Stores.{unbound, entry_of, resolved, weight, IsTermIn};
 ghost use Rattle.type_relations.specs.Measures.{Goes};
 ghost use Rattle.relation_tools.specs.Faults.{KnowsFault};
-ghost use Rattle.relation_reference.specs.Tables.{store_of, IsLawful, IsFormed};
+ghost use Rattle.relation_reference.specs.Tables.{store_of, IsLawful};
+ghost use Rattle.type_relations.specs.Parts.{IsFormed};
 ghost use Rattle.relation_reference.specs.Answers.{IsShallow, Instantiated, StepsByInstantiating};
 
-use crate::context::forms::{item_of, kind_of_item};
-use crate::context::parts::{const_part, const_parts_count, part, parts_count};
+use type_relations::relate::forms::{item_of, kind_of_item};
+use type_relations::relate::parts::{const_part, const_parts_count, part, parts_count};
 use crate::context::variables::ty_vid;
 use crate::context::{RefCtxt, TypeVariableValue};
 use relation_terms::terms::{

@@ -1,12 +1,13 @@
 //! Relations in steps, none of which relates anything by itself.
-ghost use Rattle.std.specs.Prelude.{◌≡◌, IfSome, IfNone};
+ghost use Rattle.std.specs.Prelude.{◌≡◌, ◌≢◌, IfSome, IfNone};
 ghost use Rattle.std.specs.Borrow.{sem, Lends};
 ghost use Rattle.relation_terms.specs.Meaning.{Extends};
 ghost use Rattle.relation_terms.specs.declared.terms.enums.Variance.{Variance};
-ghost use Rattle.relation_terms.specs.declared.terms.enums.Variance.TheVariants.{Invariant};
+ghost use Rattle.relation_terms.specs.declared.terms.enums.Variance.TheVariants.{Invariant, Bivariant};
 ghost use Rattle.type_relations.specs.Stores.{IsSound};
 ghost use Rattle.type_relations.specs.Goals.{Relates};
-ghost use Rattle.type_relations.specs.Lawful.{State, Manner, IsManner, HasTypeForm, HasConstForm, Turned, Asked, Related, Stepped, Noted, items_in, WithMeaning};
+ghost use Rattle.type_relations.specs.Parts.{IsFormed, IsFormedConst};
+ghost use Rattle.type_relations.specs.Lawful.{State, Manner, IsManner, Turned, Asked, Related, Stepped, Noted, items_in, WithMeaning};
 
 use crate::relate::Step;
 use relation_terms::terms::{Const, GenericArgs, Interner, ItemOf, Region, Ty, Variance};
@@ -55,24 +56,28 @@ pub trait TypeRelation<I: Interner> {
     /// What comes of two types.
     fn tys(&mut self, a: &Ty<I>, b: &Ty<I>) -> RelateResult<I, Step<Ty<I>>>
         requires lawful { (state self.old).lawful }
+        requires decides { (state self.old).ambient ≢ Bivariant }
         requires asked { Asked manner (state self.old) (state self.old).ambient ((state self.old).meaning.ty a.now) ((state self.old).meaning.ty b.now) }
-        ensures { Stepped manner HasTypeForm (state self.old) (state self.new) ((state self.old).meaning.ty a.now) ((state self.old).meaning.ty b.now) (state self.new).meaning.ty result };
+        ensures { Stepped manner IsFormed (state self.old) (state self.new) ((state self.old).meaning.ty a.now) ((state self.old).meaning.ty b.now) (state self.new).meaning.ty result };
 
     /// What comes of two constants.
     fn consts(&mut self, a: &Const<I>, b: &Const<I>) -> RelateResult<I, Step<Const<I>>>
         requires lawful { (state self.old).lawful }
+        requires decides { (state self.old).ambient ≢ Bivariant }
         requires asked { Asked manner (state self.old) (state self.old).ambient ((state self.old).meaning.const_ a.now) ((state self.old).meaning.const_ b.now) }
-        ensures { Stepped manner HasConstForm (state self.old) (state self.new) ((state self.old).meaning.const_ a.now) ((state self.old).meaning.const_ b.now) (state self.new).meaning.const_ result };
+        ensures { Stepped manner IsFormedConst (state self.old) (state self.new) ((state self.old).meaning.const_ a.now) ((state self.old).meaning.const_ b.now) (state self.new).meaning.const_ result };
 
     /// Relates two regions.
     fn regions(&mut self, a: &Region<I>, b: &Region<I>) -> RelateResult<I, Region<I>>
         requires lawful { (state self.old).lawful }
+        requires decides { (state self.old).ambient ≢ Bivariant }
         requires asked { Asked manner (state self.old) (state self.old).ambient ((state self.old).meaning.region a.now) ((state self.old).meaning.region b.now) }
         ensures { Related manner (state self.old) (state self.new) (state self.old).ambient ((state self.old).meaning.region a.now) ((state self.old).meaning.region b.now) (state self.new).meaning.region result };
 
     /// Takes note that two types, as `tys` read them, were related.
     fn tys_done(&mut self, a: &Ty<I>, b: &Ty<I>) -> RelateResult<I, ()>
         requires lawful { (state self.old).lawful }
+        requires decides { (state self.old).ambient ≢ Bivariant }
         requires asked { Asked manner (state self.old) (state self.old).ambient ((state self.old).meaning.ty a.now) ((state self.old).meaning.ty b.now) }
         requires related { Relates (items_in (state self.old)) (state self.old).store (state self.old).goals (state self.old).environment (state self.old).ambient ((state self.old).meaning.ty a.now) ((state self.old).meaning.ty b.now) }
         ensures { Noted (state self.old) (state self.new) result };
@@ -87,6 +92,7 @@ pub trait TypeRelation<I: Interner> {
         b_args: &GenericArgs<I>,
     ) -> RelateResult<I, ()>
         requires lawful { (state self.old).lawful }
+        requires decides { (state self.old).ambient ≢ Bivariant }
         requires asked { Asked manner (state self.old) (state self.old).ambient ((state self.old).meaning.ty a_ty.now) ((state self.old).meaning.ty b_ty.now) }
         ensures { Noted (state self.old) (state self.new) result };
 

@@ -6,10 +6,10 @@ use Rattle.relation_terms.specs.Meaning.{arg_tree, const_tree}
 use Rattle.relation_terms.specs.declared.terms.keys.TyKey.{TyKey}
 use Rattle.relation_terms.specs.declared.terms.keys.ValTreeKey.{ValTreeKey}
 use Rattle.relation_terms.specs.declared.terms.const_kind.ConstKind.TheVariants.{Value}
-use Rattle.relation_reference.specs.Parts.{parts_of, const_parts_of}
-use Rattle.relation_reference.specs.Tables.{IsFormed}
-use Rattle.relation_reference.proofs.Parts.{size_part, size_const_part, occurs_nth, occurs_parts, occurs_const_parts}
-use Rattle.relation_reference.proofs.Parts.{nowhere, occurs_formed, nowhere_in_const, kind_formed, only_type}
+use Rattle.type_relations.specs.Parts.{parts_of, const_parts_of}
+use Rattle.type_relations.specs.Parts.{IsFormed}
+use Rattle.type_relations.proofs.Parts.{size_part, size_const_part, occurs_nth, occurs_parts, occurs_const_parts}
+use Rattle.type_relations.proofs.Parts.{nowhere, occurs_formed, nowhere_in_const, kind_formed, only_type}
 use Rattle.relation_reference.proofs.context.resolving.+occurs.Goals.{occurs_in_const-in-Value+else-occurs}
 use Rattle.relation_reference.proofs.context.resolving.+occurs.Goals.{occurs_in_const-in_default+in-Param-1}
 use Rattle.relation_reference.proofs.context.resolving.+occurs.Goals.{occurs_in_const-in_default+in-Placeholder-1}

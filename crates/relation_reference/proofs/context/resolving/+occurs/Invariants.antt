@@ -2,7 +2,7 @@ use Rattle.std.proofs.Common.{ℕ, ◌+◌, ◌*◌, ◌<◌}
 use Rattle.relation_terms.specs.Heads.{type_var}
 use Rattle.relation_terms.specs.Trees.{size, Occurs, nth}
 use Rattle.relation_terms.specs.Meaning.{arg_tree}
-use Rattle.relation_reference.specs.Parts.{parts_of, const_parts_of}
+use Rattle.type_relations.specs.Parts.{parts_of, const_parts_of}
 use Rattle.relation_reference.proofs.context.resolving.+occurs.Given as goal
 
 abbrev pub decreases-occurs : goal.decreases-occurs

@@ -13,12 +13,12 @@ use Rattle.relation_reference.specs.Tables.{store_of, IsLawful}
 use Rattle.relation_reference.specs.Answers.{Answered, Unites, IsFaultOfTy, IsFaultOfConst}
 use Rattle.relation_tools.specs.Faults.{KnowsFault}
 use Rattle.std.specs.Prelude.{IfErr}
-use Rattle.relation_reference.specs.Parts.{parts_of, const_parts_of}
-use Rattle.relation_reference.proofs.Comparing.{form_answered, form_known, const_form_answered, const_form_known, parts_of_list, const_parts_list}
+use Rattle.type_relations.specs.Parts.{parts_of, const_parts_of}
+use Rattle.type_relations.proofs.Comparing.{form_answered, form_known, const_form_answered, const_form_known, parts_of_list, const_parts_list}
 use Rattle.relation_reference.proofs.Failing.{ty_fails, consts_fail, ty_fault_known, const_fault_known, AreOfTwoKinds, no_lifetime, no_ty, no_const_arg, kinds_fail}
 use Rattle.relation_reference.proofs.Failing.{failed_ty, failed_const, united_ty, united_const, weight_parts, weight_parts_most, weight_const_parts, weight_const_parts_most}
 use Rattle.relation_reference.proofs.Resolving.{weight_nth}
-use Rattle.relation_reference.proofs.Parts.{in_part, in_const_part, weight_part, weight_const_part}
+use Rattle.type_relations.proofs.Parts.{in_part, in_const_part, weight_part, weight_const_part}
 use Rattle.relation_terms.specs.Meaning.{Extends, arg_tree}
 use Rattle.relation_terms.proofs.Sorted.{Sorted}
 use Rattle.relation_terms.proofs.Stays.{knows_ty, knows_const, knows_arg, stays_arg}

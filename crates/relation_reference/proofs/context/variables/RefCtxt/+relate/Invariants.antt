@@ -5,7 +5,7 @@ use Rattle.type_relations.specs.Stores.{weight}
 use Rattle.type_relations.specs.Measures.{Goes, depth}
 use Rattle.relation_reference.specs.Tables.{store_of, IsLawful}
 use Rattle.relation_reference.specs.Answers.{IsFront}
-use Rattle.relation_reference.specs.Parts.{parts_of, const_parts_of}
+use Rattle.type_relations.specs.Parts.{parts_of, const_parts_of}
 use Rattle.relation_reference.proofs.context.variables.RefCtxt.+relate.Given as goal
 
 abbrev pub decreases-relate_tys : goal.decreases-relate_tys

@@ -6,10 +6,10 @@ use Rattle.type_relations.specs.Stores.{weight, resolved, IsTermIn}
 use Rattle.relation_terms.proofs.Stays.{stays_same, extends_on, stays_arg, knows_ty, knows_region}
 use Rattle.type_relations.proofs.Resolved.{resolved_alike}
 use Rattle.type_relations.proofs.ReadAs.{read_value, read_weight}
-use Rattle.relation_reference.specs.Parts.{item_head}
+use Rattle.type_relations.specs.Parts.{item_head}
 use Rattle.relation_reference.specs.Tables.{store_of, IsLawful}
 use Rattle.relation_reference.specs.Answers.{IsShallow}
-use Rattle.relation_reference.proofs.Parts.{over_item}
+use Rattle.type_relations.proofs.Parts.{over_item}
 use Rattle.relation_reference.proofs.Resolving.{known_slice, known_first, known_second, known_list, known_value}
 use Rattle.relation_reference.proofs.Resolving.{known_one, known_two, term_slice, term_list, term_first, term_second}
 use Rattle.relation_reference.proofs.Resolving.{term_value}

@@ -3,7 +3,7 @@ use Rattle.relation_terms.specs.Trees.{known, list_tree, count, apply, IsList}
 use Rattle.relation_terms.specs.Meaning.{Extends, arg_tree}
 use Rattle.type_relations.specs.Stores.{weight, resolved}
 use Rattle.relation_reference.specs.Tables.{store_of}
-use Rattle.relation_reference.proofs.Lists.{firsts}
+use Rattle.type_relations.proofs.Lists.{firsts}
 use Rattle.relation_reference.proofs.context.variables.RefCtxt.+resolve.Given as goal
 
 abbrev pub decreases-resolve_vars_if_possible : goal.decreases-resolve_vars_if_possible

@@ -1,5 +1,5 @@
 use Rattle.std.proofs.Common.{◌∙◌, ◌<◌, length, refl, arith}
-use Rattle.relation_reference.proofs.Parts.{slice_below, slice_sure, slice_nth}
+use Rattle.type_relations.proofs.Parts.{slice_below, slice_sure, slice_nth}
 use Rattle.relation_reference.proofs.context.variables.RefCtxt.branch.Goals as goal
 
 pub bounds-branches-i : goal.bounds-branches-i

@@ -1,5 +1,5 @@
 use Rattle.std.proofs.Common.{refl}
-use Rattle.relation_reference.proofs.Parts.{slice_counts, slice_list}
+use Rattle.type_relations.proofs.Parts.{slice_counts, slice_list}
 use Rattle.relation_reference.proofs.context.variables.RefCtxt.branches_count.Goals as goal
 
 pub returns : goal.returns

@@ -1,6 +1,6 @@
 use Rattle.std.proofs.Common.{sym, ap, ◌∙◌, subst}
 use Rattle.relation_terms.specs.Trees.{count, IsList}
-use Rattle.relation_reference.proofs.Lists.{list_count, list_is}
+use Rattle.type_relations.proofs.Lists.{list_count, list_is}
 use Rattle.relation_reference.proofs.context.variables.RefCtxt.count_of.Goals as goal
 
 pub returns-clause-counts : goal.returns-clause-counts

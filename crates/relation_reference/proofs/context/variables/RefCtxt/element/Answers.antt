@@ -1,6 +1,6 @@
 use Rattle.std.proofs.Common.{sym, ap, ◌∙◌, subst, length, arith, IsTrue, ◌<◌}
 use Rattle.relation_terms.specs.Trees.{count, nth, known}
-use Rattle.relation_reference.proofs.Lists.{list_count, list_nth, part_known}
+use Rattle.type_relations.proofs.Lists.{list_count, list_nth, part_known}
 use Rattle.relation_reference.proofs.context.variables.RefCtxt.element.Goals as goal
 
 pub bounds-tys-i : goal.bounds-tys-i

@@ -2,7 +2,8 @@ use Rattle.std.proofs.Common.{◌≡◌, sym, ap, ◌∙◌, subst, IsTrue}
 use Rattle.relation_terms.specs.Trees.{known}
 use Rattle.type_relations.specs.Errors.{itself}
 use Rattle.type_relations.proofs.ReadAs.{read_resolves}
-use Rattle.relation_reference.specs.Tables.{store_of, IsFormed}
+use Rattle.relation_reference.specs.Tables.{store_of}
+use Rattle.type_relations.specs.Parts.{IsFormed}
 use Rattle.relation_reference.specs.Answers.{formed}
 use Rattle.relation_reference.proofs.Grows.{known_bound, known_of_term}
 use Rattle.relation_reference.proofs.Reading.{formed_kind, key_of, made_of_key, root_read, bound_read, root_shallow, bound_shallow, root_known}

@@ -1,0 +1,478 @@
+-- Outermost forms that differ, and the errors that say so.
+use Rattle.std.proofs.Common.{◌≡◌, ◌≢◌, ◌⊎◌, ℕ, zero, suc, ◌<◌, refl, sym, ap, ◌∙◌, arith, inl, inr, subst, subst₂, IsTrue, IfErr, Option, Some, List, [], ◌∷◌, Result, Ok, Err}
+use Rattle.std.specs.Result.{IsErr, IsErrAnd}
+use Rattle.std.proofs.lemmas.Bool.{false≢true}
+use Rattle.relation_terms.specs.Heads.{Head, Sort, Part, Shape, one, row, term_of, binder_of, head_parts, head_sort, leaf_sort, Admits, type_sort, const_sort, value_sort, VarKind, var_sort, type_var, int_var, float_var, const_var, region_var}
+use Rattle.relation_terms.specs.Heads.{array, slice, tuple, raw_ptr, ref, adt, expression, value, value_type, value_branch, Atom, type_param, const_param}
+use Rattle.relation_terms.specs.Heads.{Leaf, atom, variable, bound, placeholder, unknown}
+use Rattle.relation_terms.specs.Trees.{Tree, leaf, node, bind, nil, cons, Assign, apply, IsTerm, Fits, IsList, count, known}
+use Rattle.relation_terms.specs.Meaning.{Meaning, kind_tree, const_tree}
+use Rattle.relation_terms.specs.declared.terms.enums.Mutability.{Mutability}
+use Rattle.relation_terms.specs.declared.terms.keys.TyKey.{TyKey}
+use Rattle.relation_terms.specs.declared.terms.keys.TysKey.{TysKey}
+use Rattle.relation_terms.specs.declared.terms.keys.ConstKey.{ConstKey}
+use Rattle.relation_terms.specs.declared.terms.keys.RegionKey.{RegionKey}
+use Rattle.relation_terms.specs.declared.terms.ty_kind.TyKind.{TyKind}
+use Rattle.relation_terms.specs.declared.terms.ty_kind.TyKind.TheVariants.{Slice, Array, Tuple, RawPtr, Ref, Infer}
+use Rattle.relation_terms.specs.declared.terms.ty_kind.TyKind.TheVariants.{Adt, FnDef, Closure, CoroutineClosure, Coroutine, CoroutineWitness}
+use Rattle.relation_terms.specs.declared.terms.ty_kind.TyKind.TheVariants.{Param as TyParam}
+use Rattle.relation_terms.specs.declared.terms.ty_kind.ParamTy.{ParamTy}
+use Rattle.relation_terms.specs.declared.terms.ty_kind.InferTy.TheVariants.{TyVar}
+use Rattle.relation_terms.specs.declared.terms.const_kind.ConstKind.{ConstKind}
+use Rattle.relation_terms.specs.declared.terms.const_kind.ParamConst.{ParamConst}
+use Rattle.relation_terms.specs.declared.terms.const_kind.ExprKind.{ExprKind}
+use Rattle.relation_terms.specs.declared.terms.keys.ValTreeKey.{ValTreeKey}
+use Rattle.relation_terms.specs.declared.terms.keys.ArgsKey.{ArgsKey}
+use Rattle.relation_terms.specs.declared.terms.const_kind.ConstKind.TheVariants.{Param as ConstParam}
+use Rattle.relation_terms.specs.declared.terms.const_kind.ConstKind.TheVariants.{Placeholder as ConstPlaceholder, Value, Expr}
+use Rattle.relation_tools.specs.declared.error.TypeError.{TypeError}
+use Rattle.relation_tools.specs.declared.error.TypeError.TheVariants.{Mismatch, TupleSize, Sorts, ConstMismatch}
+use Rattle.relation_tools.specs.declared.error.RelateFault.{RelateFault}
+use Rattle.relation_tools.specs.declared.error.RelateFault.TheVariants.{Unrelated}
+use Rattle.relation_tools.specs.Faults.{KnowsError, KnowsFault}
+use Rattle.type_relations.specs.Relation.{plain_atom}
+use Rattle.type_relations.specs.Stores.{Store}
+use Rattle.type_relations.specs.Errors.{AreOfOneForm, over_parts, one_leaf, AreAlike, AreAlikeLeaves, AreAlikeConsts, AreOfOneValue, one_value, as_many_branches, IsNoVariable}
+use Rattle.type_relations.specs.Errors.{FormError, mutability, pointer_mutability, tuple_size, empty_tuple, as_many, sorts, of_forms}
+use Rattle.type_relations.specs.Errors.{ConstFormError, const_mismatch, operations, of_const_forms}
+use Rattle.type_relations.specs.Outcomes.{NoEqualTerms}
+use Rattle.type_relations.specs.Parts.{IsFormed, IsFormedConst}
+use Rattle.type_relations.specs.Parts.{parts_of, const_parts_of, branches_of, item_head, item_kind, kind_of, IsNoItem}
+use Rattle.type_relations.specs.declared.relate.forms.ItemForm.{ItemForm}
+use Rattle.type_relations.specs.declared.relate.forms.ItemForm.TheVariants.{Adt as AdtForm, FnDef as FnDefForm}
+use Rattle.type_relations.specs.declared.relate.forms.ItemForm.TheVariants.{Closure as ClosureForm}
+use Rattle.type_relations.specs.declared.relate.forms.ItemForm.TheVariants.{CoroutineClosure as AsyncForm}
+use Rattle.type_relations.specs.declared.relate.forms.ItemForm.TheVariants.{Coroutine as CoroutineForm}
+use Rattle.type_relations.specs.declared.relate.forms.ItemForm.TheVariants.{CoroutineWitness as WitnessForm}
+use Rattle.type_relations.specs.declared.relate.forms.ItemTy.{ItemTy}
+use Rattle.type_relations.proofs.OneParts.{lists_apart, count_applied}
+
+pub formed_no_variable : (t : Tree) → IsFormed t → IsNoVariable t
+formed_no_variable t h k n e = subst IsFormed e h
+
+pub formed_const_no_variable : (t : Tree) → IsFormedConst t → IsNoVariable t
+formed_const_no_variable t h k n e = subst IsFormedConst e h
+
+-- Value trees with branches that are of one form have as many.
+pub branches_counted : (v w ts us : Tree) → v ≡ node value_branch ts → w ≡ node value_branch us → AreOfOneValue v w → count ts ≡ count us
+branches_counted v w ts us p q (one_value e) = (let h = sym p ∙ e ∙ q in let k : ts ≡ us = cc in ap count k)
+branches_counted v w ts us p q (as_many_branches {ts = xs} {us = ys} d e n) =
+    let h : ts ≡ xs = (let z = sym p ∙ d in cc) in
+    let k : us ≡ ys = (let z = sym q ∙ e in cc) in
+    ap count h ∙ n ∙ sym (ap count k)
+
+-- Parts of a form are a list.
+fits_list : (ps : List Part) (r : Option Part) (ts : Tree) → Fits (row ps r) ts → IsList ts
+fits_list [] r nil f = tt
+fits_list [] (Some p) (cons t ts) f = fits_list [] (Some p) ts f.1
+fits_list (p ∷ ps) r (cons t ts) f = fits_list ps r ts f.1
+fits_list ps r ts f = absurd f
+
+abbrev IsRow : Shape → Type 0
+IsRow (one p) = ⊥
+IsRow (row ps r) = Unit {0}
+
+row_list : (x : Shape) (ts : Tree) → IsRow x → Fits x ts → IsList ts
+row_list (one p) ts o f = absurd o
+row_list (row ps r) ts o f = fits_list ps r ts f
+
+rows : (h : Head) → IsRow (head_parts h)
+rows array = tt
+rows h = tt
+
+parts_list : (h : Head) (ts : Tree) → Fits (head_parts h) ts → IsList ts
+parts_list h ts f = row_list (head_parts h) ts (rows h) f
+
+pub list_of : (h : Head) (s : Sort) (ts a : Tree) → a ≡ node h ts → IsTerm s a → IsList ts
+list_of h s ts a e k = parts_list h ts (let z : IsTerm s (node h ts) = subst (IsTerm s) e k in z.1)
+
+-- The parts of a term are a list.
+pub parts_of_list : (s : Sort) (t : Tree) → IsTerm s t → IsList (parts_of t)
+parts_of_list s (node h ts) k = parts_list h ts k.1
+parts_of_list s t k = tt
+
+branches_list : (v : Tree) → IsTerm value_sort v → IsList (branches_of v)
+branches_list (node value_branch ts) k = parts_list value_branch ts k.1
+branches_list v k = tt
+
+-- What a value is over.
+value_shape : (ts : Tree) → Fits (head_parts value) ts → (t : Tree) × (v : Tree) × (ts ≡ cons t (cons v nil)) × IsTerm value_sort v
+value_shape (cons t (cons v nil)) f = (t, v, refl, f.1.0)
+value_shape (cons t (cons v (cons u us))) f = absurd f.1.1
+value_shape (cons t (cons v (leaf l))) f = absurd f.1.1
+value_shape (cons t (cons v (node h us))) f = absurd f.1.1
+value_shape (cons t (cons v (bind ks u))) f = absurd f.1.1
+value_shape (cons t nil) f = absurd f.1
+value_shape (cons t (leaf l)) f = absurd f.1
+value_shape (cons t (node h us)) f = absurd f.1
+value_shape (cons t (bind ks u)) f = absurd f.1
+value_shape ts f = absurd f
+
+pub const_parts_list : (t : Tree) → IsTerm const_sort t → IsList (const_parts_of t)
+const_parts_list (node (expression k) ts) f = parts_list (expression k) ts f.1
+const_parts_list (node value ts) f = (let (t, v, e, h) = value_shape ts f.1 in subst (λ z. IsList (const_parts_of (node value z))) (sym e) (branches_list v h))
+const_parts_list t f = tt
+
+-- Value trees that an assignment makes one.
+no_value_variable : (k : VarKind) → Admits value_sort (var_sort k) → ⊥
+no_value_variable type_var h = h
+no_value_variable int_var h = h
+no_value_variable float_var h = h
+no_value_variable const_var h = h
+no_value_variable region_var h = h
+
+leaf_stays : (s : Assign) (l : Leaf) → IsTerm value_sort (leaf l) → apply s (leaf l) ≡ leaf l
+leaf_stays s (variable k n) f = absurd (no_value_variable k f)
+leaf_stays s (bound k d i) f = refl
+leaf_stays s (placeholder k u n) f = refl
+leaf_stays s (atom x) f = refl
+leaf_stays s unknown f = refl
+
+value_applied : (s : Assign) (v w : Tree) → IsTerm value_sort v → IsTerm value_sort w → apply s v ≡ apply s w → AreOfOneValue v w
+value_applied s (leaf l) (leaf k) f g e = one_value (sym (leaf_stays s l f) ∙ e ∙ leaf_stays s k g)
+value_applied s (leaf l) (node h us) f g e = absurd (let z = sym (leaf_stays s l f) ∙ e in cc)
+value_applied s (node h ts) (leaf l) f g e = absurd (let z = e ∙ leaf_stays s l g in cc)
+value_applied s (node value_branch ts) (node value_branch us) f g e =
+    let z : apply s ts ≡ apply s us = cc in
+    as_many_branches refl refl (sym (count_applied s ts (parts_list value_branch ts f.1)) ∙ ap count z ∙ count_applied s us (parts_list value_branch us g.1))
+value_applied s v nil f g e = absurd g
+value_applied s v (cons t u) f g e = absurd g
+value_applied s v (bind ks t) f g e = absurd g
+value_applied s (node value_branch ts) (node h us) f g e = absurd g.0
+value_applied s (node h ts) w f g e = absurd f.0
+value_applied s nil w f g e = absurd f
+value_applied s (cons t u) w f g e = absurd f
+value_applied s (bind ks t) w f g e = absurd f
+
+-- A form without parts that is alike to another is the other, but for parameters.
+abbrev IsNoParam : Atom → Type 0
+IsNoParam (type_param i n) = ⊥
+IsNoParam (const_param i n) = ⊥
+IsNoParam x = Unit {0}
+
+plain_alone : (x y : Atom) → IsNoParam x → plain_atom x ≡ plain_atom y → x ≡ y
+plain_alone (type_param i n) y p e = absurd p
+plain_alone (const_param i n) y p e = absurd p
+plain_alone x (type_param i n) p e = absurd (cc)
+plain_alone x (const_param i n) p e = absurd (cc)
+plain_alone x y p e = e
+
+abbrev IsPlainLeaf : Leaf → Type 0
+IsPlainLeaf (atom x) = IsNoParam x
+IsPlainLeaf l = Unit {0}
+
+leaves_alone : (x y : Leaf) → IsPlainLeaf x → AreAlikeLeaves x y → x ≡ y
+leaves_alone (atom x) (atom y) p a = ap atom (plain_alone x y p a)
+leaves_alone x y p a = a
+
+alone : (x : Leaf) (t : Tree) → IsPlainLeaf x → AreAlike (leaf x) t → leaf x ≡ t
+alone x (leaf y) p a = ap leaf (leaves_alone x y p a)
+alone x t p a = absurd a
+
+module _ {Key Id Name : Type 0} (m : Meaning Key Id Name) where
+  -- What a type that is alike to one of a form is.
+  alike_slice : (ts : Tree) (l : TyKind Key Id Name) → AreAlike (node slice ts) (kind_tree m l) → ((y : TyKey Key) → l ≡ Slice y → ⊥) → ⊥
+  alike_slice ts (Slice y) a o = o y refl
+  alike_slice ts (Infer (TyVar v)) a o = a
+  alike_slice ts l a o = first_of (cc, search a)
+
+  alike_array : (ts : Tree) (l : TyKind Key Id Name) → AreAlike (node array ts) (kind_tree m l) → ((y : TyKey Key) (d : ConstKey Key) → l ≡ Array y d → ⊥) → ⊥
+  alike_array ts (Array y d) a o = o y d refl
+  alike_array ts (Infer (TyVar v)) a o = a
+  alike_array ts l a o = first_of (cc, search a)
+
+  alike_tuple : (ts : Tree) (l : TyKind Key Id Name) → AreAlike (node tuple ts) (kind_tree m l) → ((y : TysKey Key) → l ≡ Tuple y → ⊥) → ⊥
+  alike_tuple ts (Tuple y) a o = o y refl
+  alike_tuple ts (Infer (TyVar v)) a o = a
+  alike_tuple ts l a o = first_of (cc, search a)
+
+  alike_raw : (u : Mutability) (ts : Tree) (l : TyKind Key Id Name) → AreAlike (node (raw_ptr u) ts) (kind_tree m l) → ((y : TyKey Key) (v : Mutability) → l ≡ RawPtr y v → ⊥) → ⊥
+  alike_raw u ts (RawPtr y v) a o = o y v refl
+  alike_raw u ts (Infer (TyVar v)) a o = a
+  alike_raw u ts l a o = first_of (cc, search a)
+
+  alike_ref : (u : Mutability) (ts : Tree) (l : TyKind Key Id Name) → AreAlike (node (ref u) ts) (kind_tree m l) → ((q : RegionKey Key) (y : TyKey Key) (v : Mutability) → l ≡ Ref q y v → ⊥) → ⊥
+  alike_ref u ts (Ref q y v) a o = o q y v refl
+  alike_ref u ts (Infer (TyVar v)) a o = a
+  alike_ref u ts l a o = first_of (cc, search a)
+
+  alike_param : (i n : ℕ) (l : TyKind Key Id Name) → AreAlike (leaf (atom (type_param i n))) (kind_tree m l) → ((q : ParamTy Name) → l ≡ TyParam q → i ≡ q.index → ⊥) → ⊥
+  alike_param i n (TyParam q) a o = o q refl (cc)
+  alike_param i n (Infer (TyVar v)) a o = first_of (cc, search a)
+  alike_param i n l a o = first_of (cc, search a)
+
+  alike_item : (f : ItemForm) (n : ℕ) (ts : Tree) (l : TyKind Key Id Name) → IsNoItem l → AreAlike (node (item_head f n) ts) (kind_tree m l) → ⊥
+  alike_item AdtForm n ts (Infer (TyVar v)) o a = a
+  alike_item FnDefForm n ts (Infer (TyVar v)) o a = a
+  alike_item ClosureForm n ts (Infer (TyVar v)) o a = a
+  alike_item AsyncForm n ts (Infer (TyVar v)) o a = a
+  alike_item CoroutineForm n ts (Infer (TyVar v)) o a = a
+  alike_item WitnessForm n ts (Infer (TyVar v)) o a = a
+  alike_item f n ts l o a = first_of (cc, search a, search o)
+
+  pub alike_items : (f g : ItemForm) (n k : ℕ) (ts us : Tree) → AreAlike (node (item_head f n) ts) (node (item_head g k) us) → (f ≡ g) × (n ≡ k)
+  alike_items AdtForm AdtForm n k ts us a = (refl, (cc))
+  alike_items FnDefForm FnDefForm n k ts us a = (refl, (cc))
+  alike_items ClosureForm ClosureForm n k ts us a = (refl, (cc))
+  alike_items AsyncForm AsyncForm n k ts us a = (refl, (cc))
+  alike_items CoroutineForm CoroutineForm n k ts us a = (refl, (cc))
+  alike_items WitnessForm WitnessForm n k ts us a = (refl, (cc))
+  alike_items f g n k ts us a = absurd (cc)
+
+  pub item_tree : (t : ItemTy Key Id) → kind_tree {Name = Name} m (item_kind t) ≡ node (item_head t.form (m.id t.def_id)) (m.args t.args)
+  item_tree t = go t.form t
+    where
+      go : (f : ItemForm) (t : ItemTy Key Id) → kind_tree {Name = Name} m (kind_of f t) ≡ node (item_head f (m.id t.def_id)) (m.args t.args)
+      go AdtForm t = refl
+      go FnDefForm t = refl
+      go ClosureForm t = refl
+      go AsyncForm t = refl
+      go CoroutineForm t = refl
+      go WitnessForm t = refl
+
+  -- The error of two types that are of unlike forms.
+  unlike_as : (x y : TyKey Key) (t u : Tree) (e : TypeError Key Id Name) → m.ty x ≡ t → m.ty y ≡ u → (AreAlike t u → ⊥) → e ≡ Sorts (record { expected = x; found = y }) → FormError m x y e
+  unlike_as x y t u e p q o is = subst (FormError m x y) (sym is) (sorts (λ a. o (subst (λ z. AreAlike z u) p (subst (AreAlike (m.ty x)) q a))))
+
+  module _ (l : TyKind Key Id Name) (x y : TyKey Key) (e : TypeError Key Id Name) (q : m.ty y ≡ kind_tree m l) (is : e ≡ Sorts (record { expected = x; found = y })) where
+    pub unlike_slice : (k : TyKey Key) → m.ty x ≡ kind_tree {Name = Name} m (Slice k) → ((z : TyKey Key) → l ≡ Slice z → ⊥) → FormError m x y e
+    unlike_slice k p o = unlike_as x y (node slice (cons (m.ty k) nil)) (kind_tree m l) e p q (λ a. alike_slice (cons (m.ty k) nil) l a o) is
+
+    pub unlike_array : (k : TyKey Key) (c : ConstKey Key) → m.ty x ≡ kind_tree {Name = Name} m (Array k c) → ((z : TyKey Key) (d : ConstKey Key) → l ≡ Array z d → ⊥) → FormError m x y e
+    unlike_array k c p o = unlike_as x y (node array (cons (m.ty k) (cons (m.const_ c) nil))) (kind_tree m l) e p q (λ a. alike_array (cons (m.ty k) (cons (m.const_ c) nil)) l a o) is
+
+    pub unlike_tuple : (k : TysKey Key) → m.ty x ≡ kind_tree {Name = Name} m (Tuple k) → ((z : TysKey Key) → l ≡ Tuple z → ⊥) → FormError m x y e
+    unlike_tuple k p o = unlike_as x y (node tuple (m.tys k)) (kind_tree m l) e p q (λ a. alike_tuple (m.tys k) l a o) is
+
+    pub unlike_raw : (k : TyKey Key) (u : Mutability) → m.ty x ≡ kind_tree {Name = Name} m (RawPtr k u) → ((z : TyKey Key) (v : Mutability) → l ≡ RawPtr z v → ⊥) → FormError m x y e
+    unlike_raw k u p o = unlike_as x y (node (raw_ptr u) (cons (m.ty k) nil)) (kind_tree m l) e p q (λ a. alike_raw u (cons (m.ty k) nil) l a o) is
+
+    pub unlike_ref : (r : RegionKey Key) (k : TyKey Key) (u : Mutability) → m.ty x ≡ kind_tree {Name = Name} m (Ref r k u) → ((s : RegionKey Key) (z : TyKey Key) (v : Mutability) → l ≡ Ref s z v → ⊥) → FormError m x y e
+    unlike_ref r k u p o = unlike_as x y (node (ref u) (cons (m.region r) (cons (m.ty k) nil))) (kind_tree m l) e p q (λ a. alike_ref u (cons (m.region r) (cons (m.ty k) nil)) l a o) is
+
+    pub unlike_param : (k : ParamTy Name) → m.ty x ≡ kind_tree m (TyParam k) → ((z : ParamTy Name) → l ≡ TyParam z → k.index ≡ z.index → ⊥) → FormError m x y e
+    unlike_param k p o = unlike_as x y (leaf (atom (type_param k.index (m.name k.name)))) (kind_tree m l) e p q (λ a. alike_param k.index (m.name k.name) l a o) is
+
+    pub unlike_item : (t : ItemTy Key Id) → m.ty x ≡ kind_tree {Name = Name} m (item_kind t) → IsNoItem l → FormError m x y e
+    unlike_item t p o = unlike_as x y (node (item_head t.form (m.id t.def_id)) (m.args t.args)) (kind_tree m l) e (p ∙ item_tree t) q (alike_item t.form (m.id t.def_id) (m.args t.args) l o) is
+
+  -- The first is a type without parts, and no parameter.
+  abbrev IsAlone : TyKind Key Id Name → Type 0
+  IsAlone k = (l : Leaf) × (kind_tree m k ≡ leaf l) × IsPlainLeaf l
+
+  alone_kind : (k : TyKind Key Id Name) → IsNoItem k → ((x : TyKey Key) → k ≡ Slice x → ⊥) → ((x : TyKey Key) (c : ConstKey Key) → k ≡ Array x c → ⊥)
+      → ((x : TysKey Key) → k ≡ Tuple x → ⊥) → ((x : TyKey Key) (u : Mutability) → k ≡ RawPtr x u → ⊥) → ((r : RegionKey Key) (x : TyKey Key) (u : Mutability) → k ≡ Ref r x u → ⊥)
+      → ((p : ParamTy Name) → k ≡ TyParam p → ⊥) → IsAlone k
+  alone_kind (Slice x) i a b c d e f = absurd (a x refl)
+  alone_kind (Array x y) i a b c d e f = absurd (b x y refl)
+  alone_kind (Tuple x) i a b c d e f = absurd (c x refl)
+  alone_kind (RawPtr x u) i a b c d e f = absurd (d x u refl)
+  alone_kind (Ref r x u) i a b c d e f = absurd (e r x u refl)
+  alone_kind (TyParam p) i a b c d e f = absurd (f p refl)
+  alone_kind (Infer (TyVar v)) i a b c d e f = (_, refl, tt)
+  alone_kind (Adt q z) i a b c d e f = absurd i
+  alone_kind (FnDef q z) i a b c d e f = absurd i
+  alone_kind (Closure q z) i a b c d e f = absurd i
+  alone_kind (CoroutineClosure q z) i a b c d e f = absurd i
+  alone_kind (Coroutine q z) i a b c d e f = absurd i
+  alone_kind (CoroutineWitness q z) i a b c d e f = absurd i
+  alone_kind k i a b c d e f = (_, refl, tt)
+
+  pub unlike_alone : (k : TyKind Key Id Name) (x y : TyKey Key) (e : TypeError Key Id Name) → m.ty x ≡ kind_tree m k → m.ty x ≢ m.ty y → e ≡ Sorts (record { expected = x; found = y })
+      → IsNoItem k → ((x : TyKey Key) → k ≡ Slice x → ⊥) → ((x : TyKey Key) (c : ConstKey Key) → k ≡ Array x c → ⊥) → ((x : TysKey Key) → k ≡ Tuple x → ⊥)
+      → ((x : TyKey Key) (u : Mutability) → k ≡ RawPtr x u → ⊥) → ((r : RegionKey Key) (x : TyKey Key) (u : Mutability) → k ≡ Ref r x u → ⊥) → ((p : ParamTy Name) → k ≡ TyParam p → ⊥) → FormError m x y e
+  unlike_alone k x y e p differ is i a b c d f g =
+      let (l, q, plain) = alone_kind k i a b c d f g in
+      unlike_as x y (leaf l) (m.ty y) e (p ∙ q) refl (λ h. differ (p ∙ q ∙ alone l (m.ty y) plain h)) is
+
+  -- Where the two are one, they are of one form without parts.
+  pub one_alone : (k : TyKind Key Id Name) (a b : Tree) → a ≡ kind_tree m k → a ≡ b → IsNoItem k → ((x : TyKey Key) → k ≡ Slice x → ⊥) → ((x : TyKey Key) (c : ConstKey Key) → k ≡ Array x c → ⊥) → ((x : TysKey Key) → k ≡ Tuple x → ⊥)
+      → ((x : TyKey Key) (u : Mutability) → k ≡ RawPtr x u → ⊥) → ((r : RegionKey Key) (x : TyKey Key) (u : Mutability) → k ≡ Ref r x u → ⊥) → ((p : ParamTy Name) → k ≡ TyParam p → ⊥) → AreOfOneForm a b
+  one_alone k x y p e i a b c d f g = (let (l, q, plain) = alone_kind k i a b c d f g in one_leaf (p ∙ q) (sym e ∙ p ∙ q))
+
+  pub lengths_error : (i j : ℕ) (ts us : Tree) (x y : TyKey Key) (e : TypeError Key Id Name) → m.ty x ≡ node tuple ts → m.ty y ≡ node tuple us → i ≡ count ts → j ≡ count us → i ≢ j →
+      (0 < i → 0 < j → e ≡ TupleSize (record { expected = i; found = j })) → ((i ≡ 0) ⊎ (j ≡ 0) → e ≡ Sorts (record { expected = x; found = y })) → FormError m x y e
+  lengths_error i j ts us x y e p q ci cj differ sizes empty = go i j refl refl
+    where
+      unequal : count ts ≢ count us
+      unequal z = differ (ci ∙ z ∙ sym cj)
+
+      sized : (e' : TypeError Key Id Name) → e' ≡ TupleSize (record { expected = i; found = j }) → 0 < i → 0 < j → FormError m x y e'
+      sized e' is a b = subst (FormError m x y) (ap (λ z. TupleSize (record { expected = z; found = count us })) (sym ci) ∙ ap (λ z. TupleSize (record { expected = i; found = z })) (sym cj) ∙ sym is)
+          (tuple_size p q (omega (arith, ci, a)) (omega (arith, cj, b)) unequal)
+
+      go : (a b : ℕ) → i ≡ a → j ≡ b → FormError m x y e
+      go zero b h k = subst (FormError m x y) (sym (empty (inl h))) (empty_tuple p q unequal (inl (sym ci ∙ h)))
+      go (suc a) zero h k = subst (FormError m x y) (sym (empty (inr k))) (empty_tuple p q unequal (inr (sym cj ∙ k)))
+      go (suc a) (suc b) h k = sized e (sizes (omega (arith, h)) (omega (arith, k))) (omega (arith, h)) (omega (arith, k))
+
+  -- Two items, or two numbers of arguments.
+  pub items_error : (s t : ItemTy Key Id) (x y : TyKey Key) (e : TypeError Key Id Name) → m.ty x ≡ kind_tree {Name = Name} m (item_kind s) → m.ty y ≡ kind_tree {Name = Name} m (item_kind t)
+      → (s.form ≡ t.form → m.id s.def_id ≡ m.id t.def_id → ⊥) → e ≡ Sorts (record { expected = x; found = y }) → FormError m x y e
+  items_error s t x y e p q o is =
+      unlike_as x y (node (item_head s.form (m.id s.def_id)) (m.args s.args)) (node (item_head t.form (m.id t.def_id)) (m.args t.args)) e (p ∙ item_tree s) (q ∙ item_tree t)
+      (λ a. let h = alike_items s.form t.form (m.id s.def_id) (m.id t.def_id) (m.args s.args) (m.args t.args) a in o h.0 h.1) is
+
+  item_no_tuple : (f : ItemForm) (n : ℕ) → item_head f n ≢ tuple
+  item_no_tuple AdtForm n e = absurd (cc)
+  item_no_tuple FnDefForm n e = absurd (cc)
+  item_no_tuple ClosureForm n e = absurd (cc)
+  item_no_tuple AsyncForm n e = absurd (cc)
+  item_no_tuple CoroutineForm n e = absurd (cc)
+  item_no_tuple WitnessForm n e = absurd (cc)
+
+  pub arguments_error : (s t : ItemTy Key Id) (x y : TyKey Key) (e : TypeError Key Id Name) → m.ty x ≡ kind_tree {Name = Name} m (item_kind s) → m.ty y ≡ kind_tree {Name = Name} m (item_kind t)
+      → s.form ≡ t.form → m.id s.def_id ≡ m.id t.def_id → count (m.args s.args) ≢ count (m.args t.args) → e ≡ Sorts (record { expected = x; found = y }) → FormError m x y e
+  arguments_error s t x y e p q f d o is =
+      subst (FormError m x y) (sym is) (as_many (p ∙ item_tree s)
+      (q ∙ item_tree t ∙ ap (λ z. node (item_head z (m.id t.def_id)) (m.args t.args)) (sym f) ∙ ap (λ z. node (item_head s.form z) (m.args t.args)) (sym d)) (item_no_tuple s.form (m.id s.def_id)) o)
+
+  pub items_alike : (s t : ItemTy Key Id) (a b : Tree) → a ≡ kind_tree {Name = Name} m (item_kind s) → b ≡ kind_tree {Name = Name} m (item_kind t) → s.form ≡ t.form → m.id s.def_id ≡ m.id t.def_id
+      → count (m.args s.args) ≡ count (m.args t.args) → AreOfOneForm a b
+  items_alike s t a b p q f d n = over_parts (p ∙ item_tree s)
+      (q ∙ item_tree t ∙ ap (λ z. node (item_head z (m.id t.def_id)) (m.args t.args)) (sym f) ∙ ap (λ z. node (item_head s.form z) (m.args t.args)) (sym d)) n
+
+  -- Where the forms differ no assignment makes the types one.
+  alike_heads : (h k : Head) (ts us : Tree) → h ≡ k → AreAlike (node h ts) (node k us)
+  alike_heads h k ts us e = subst (λ z. AreAlike (node h ts) (node z us)) e (go h)
+    where
+      go : (h : Head) → AreAlike (node h ts) (node h us)
+      go (ref u) = tt
+      go (raw_ptr u) = tt
+      go h = refl
+
+  alike_applied : (s : Assign) (a b : Tree) → IsFormed a → IsFormed b → apply s a ≡ apply s b → AreAlike a b
+  alike_applied s (leaf (atom x)) (leaf (atom y)) f g e = (let z : x ≡ y = cc in ap plain_atom z)
+  alike_applied s (leaf (atom x)) (leaf (placeholder k u n)) f g e = absurd (cc)
+  alike_applied s (leaf (atom x)) (node k us) f g e = absurd (cc)
+  alike_applied s (leaf (placeholder k u n)) (leaf (atom y)) f g e = absurd (cc)
+  alike_applied s (leaf (placeholder k u n)) (leaf (placeholder l v i)) f g e = cc
+  alike_applied s (leaf (placeholder k u n)) (node h us) f g e = absurd (cc)
+  alike_applied s (node h ts) (leaf (atom y)) f g e = absurd (cc)
+  alike_applied s (node h ts) (leaf (placeholder k u n)) f g e = absurd (cc)
+  alike_applied s (node h ts) (node k us) f g e = alike_heads h k ts us (cc)
+  alike_applied s (leaf (variable v n)) b f g e = absurd f
+  alike_applied s (leaf (bound v d i)) b f g e = absurd f
+  alike_applied s (leaf unknown) b f g e = absurd f
+  alike_applied s (bind ks t) b f g e = absurd f
+  alike_applied s nil b f g e = absurd f
+  alike_applied s (cons t u) b f g e = absurd f
+  alike_applied s a (leaf (variable v n)) f g e = absurd g
+  alike_applied s a (leaf (bound v d i)) f g e = absurd g
+  alike_applied s a (leaf unknown) f g e = absurd g
+  alike_applied s a (bind ks t) f g e = absurd g
+  alike_applied s a nil f g e = absurd g
+  alike_applied s a (cons t u) f g e = absurd g
+
+  pub form_apart : (st : Store) (x y : TyKey Key) (e : TypeError Key Id Name) → IsFormed (m.ty x) → IsFormed (m.ty y) → IsTerm type_sort (m.ty x) → IsTerm type_sort (m.ty y) → FormError m x y e → NoEqualTerms st (m.ty x) (m.ty y)
+  form_apart st x y e f g s t (mutability {ts} {us} p q differ) = λ w a sat z. differ (let h = sym (ap (apply a) p) ∙ z ∙ ap (apply a) q in cc)
+  form_apart st x y e f g s t (pointer_mutability {ts} {us} p q differ) = λ w a sat z. differ (let h = sym (ap (apply a) p) ∙ z ∙ ap (apply a) q in cc)
+  form_apart st x y e f g s t (tuple_size {ts} {us} p q i j differ) = lists_apart st tuple tuple ts us (m.ty x) (m.ty y) p q (list_of tuple type_sort ts (m.ty x) p s) (list_of tuple type_sort us (m.ty y) q t) differ
+  form_apart st x y e f g s t (empty_tuple {ts} {us} p q differ o) = lists_apart st tuple tuple ts us (m.ty x) (m.ty y) p q (list_of tuple type_sort ts (m.ty x) p s) (list_of tuple type_sort us (m.ty y) q t) differ
+  form_apart st x y e f g s t (as_many {h} {ts} {us} p q o differ) = lists_apart st h h ts us (m.ty x) (m.ty y) p q (list_of h type_sort ts (m.ty x) p s) (list_of h type_sort us (m.ty y) q t) differ
+  form_apart st x y e f g s t (sorts o) = λ w a sat z. o (alike_applied a (m.ty x) (m.ty y) f g z)
+
+  pub known_error : (x y : TyKey Key) (e : TypeError Key Id Name) → IsTrue (known (m.ty x)) → IsTrue (known (m.ty y)) → FormError m x y e → KnowsError m e
+  known_error x y e a b (mutability p q o) = tt
+  known_error x y e a b (pointer_mutability p q o) = tt
+  known_error x y e a b (tuple_size p q i j o) = tt
+  known_error x y e a b (empty_tuple p q o i) = (a, b)
+  known_error x y e a b (as_many p q o i) = (a, b)
+  known_error x y e a b (sorts o) = (a, b)
+
+  pub form_known : {X : Type 0} (x y : TyKey Key) (e : TypeError Key Id Name) → IsTrue (known (m.ty x)) → IsTrue (known (m.ty y)) → FormError m x y e
+      → (r : Result X (RelateFault Key Id Name)) → IsErr r × IsErrAnd r (λ f. f ≡ Unrelated e) → IfErr r (KnowsFault m)
+  form_known x y e a b h (Ok v) q = absurd (false≢true q.0)
+  form_known x y e a b h (Err z) q = subst (KnowsFault m) (sym q.1) (known_error x y e a b h)
+
+  -- Constants.
+  pub formed_const : (k : ConstKind Key Name) (x : ConstKey Key) → m.const_ x ≡ const_tree m k → IsFormedConst (m.const_ x)
+  formed_const k x e = subst IsFormedConst (sym e) (go k)
+    where
+      go : (k : ConstKind Key Name) → IsFormedConst (const_tree m k)
+      go (ConstParam p) = refl
+      go (ConstPlaceholder p) = refl
+      go (Value t v) = tt
+      go (Expr x a) = tt
+
+  -- The error of two constants that are of unlike forms.
+  unlike_consts_as : (x y : ConstKey Key) (t u : Tree) (e : TypeError Key Id Name) → m.const_ x ≡ t → m.const_ y ≡ u → (AreAlikeConsts t u → ⊥) → e ≡ ConstMismatch (record { expected = x; found = y }) → ConstFormError m x y e
+  unlike_consts_as x y t u e p q o is = subst (ConstFormError m x y) (sym is) (const_mismatch (λ a. o (subst (λ z. AreAlikeConsts z u) p (subst (AreAlikeConsts (m.const_ x)) q a))))
+
+  abbrev pub IsUnlikeConst : ConstKind Key Name → ConstKind Key Name → Type 0
+  IsUnlikeConst (ConstParam p) (ConstParam q) = p.index ≢ q.index
+  IsUnlikeConst (ConstPlaceholder p) l = const_tree m (ConstPlaceholder p) ≢ const_tree m l
+  IsUnlikeConst (Value t v) (Value u w) = AreOfOneValue (m.valtree v) (m.valtree w) → ⊥
+  IsUnlikeConst (Expr x a) (Expr y b) = ⊥
+  IsUnlikeConst k l = Unit {0}
+
+  unlike_const_trees : (k l : ConstKind Key Name) → IsUnlikeConst k l → AreAlikeConsts (const_tree m k) (const_tree m l) → ⊥
+  unlike_const_trees (ConstParam p) (ConstParam q) o a = o (cc)
+  unlike_const_trees (ConstPlaceholder p) (ConstPlaceholder q) o a = o (ap leaf a)
+  unlike_const_trees (ConstPlaceholder p) l o a = first_of (cc, search a)
+  unlike_const_trees (Value t v) (Value u w) o a = o a
+  unlike_const_trees (Expr x b) (Expr y d) o a = o
+  unlike_const_trees k l o a = first_of (cc, search a)
+
+  pub unlike_const : (k l : ConstKind Key Name) (x y : ConstKey Key) (e : TypeError Key Id Name) → m.const_ x ≡ const_tree m k → m.const_ y ≡ const_tree m l → IsUnlikeConst k l → e ≡ ConstMismatch (record { expected = x; found = y }) → ConstFormError m x y e
+  unlike_const k l x y e p q o is = unlike_consts_as x y (const_tree m k) (const_tree m l) e p q (unlike_const_trees k l o) is
+
+  pub param_const : (p : ParamConst Name) (l : ConstKind Key Name) → ((q : ParamConst Name) → l ≡ ConstParam q → p.index ≡ q.index → ⊥) → IsUnlikeConst (ConstParam p) l
+  param_const p (ConstParam q) o = o q refl
+  param_const p l o = tt
+
+  pub value_const : (t : TyKey Key) (v : ValTreeKey Key) (l : ConstKind Key Name) → ((u : TyKey Key) (w : ValTreeKey Key) → l ≡ Value u w → AreOfOneValue (m.valtree v) (m.valtree w) → ⊥) → IsUnlikeConst (Value t v) l
+  value_const t v (Value u w) o = o u w refl
+  value_const t v l o = tt
+
+  pub expr_const : (k : ExprKind) (a : ArgsKey Key) (l : ConstKind Key Name) → ((j : ExprKind) (b : ArgsKey Key) → l ≡ Expr j b → ⊥) → IsUnlikeConst (Expr k a) l
+  expr_const k a (Expr j b) o = o j b refl
+  expr_const k a l o = tt
+
+  alike_consts_applied : (s : Assign) (a b : Tree) → IsFormedConst a → IsFormedConst b → IsTerm const_sort a → IsTerm const_sort b → apply s a ≡ apply s b → AreAlikeConsts a b
+  alike_consts_applied s (leaf (atom x)) (leaf (atom y)) f g p q e = (let z : x ≡ y = cc in ap plain_atom z)
+  alike_consts_applied s (leaf (placeholder k u n)) (leaf (placeholder l v i)) f g p q e = cc
+  alike_consts_applied s (leaf (atom x)) (leaf (placeholder l v i)) f g p q e = absurd (cc)
+  alike_consts_applied s (leaf (placeholder k u n)) (leaf (atom y)) f g p q e = absurd (cc)
+  alike_consts_applied s (leaf (atom x)) (node h us) f g p q e = absurd (cc)
+  alike_consts_applied s (leaf (placeholder k u n)) (node h us) f g p q e = absurd (cc)
+  alike_consts_applied s (node h ts) (leaf (atom y)) f g p q e = absurd (cc)
+  alike_consts_applied s (node h ts) (leaf (placeholder l v i)) f g p q e = absurd (cc)
+  alike_consts_applied s (node (expression k) ts) (node (expression l) us) f g p q e = tt
+  alike_consts_applied s (node (expression k) ts) (node value us) f g p q e = absurd (cc)
+  alike_consts_applied s (node value ts) (node (expression l) us) f g p q e = absurd (cc)
+  alike_consts_applied s (node value ts) (node value us) f g p q e =
+      let (t, v, d, h) = value_shape ts p.1 in
+      let (u, w, c, k) = value_shape us q.1 in
+      let z : apply s (node value (cons t (cons v nil))) ≡ apply s (node value (cons u (cons w nil))) = ap (λ z. apply s (node value z)) (sym d) ∙ e ∙ ap (λ z. apply s (node value z)) c in
+      let y : apply s v ≡ apply s w = cc in
+      subst₂ (λ i j. AreAlikeConsts (node value i) (node value j)) (sym d) (sym c) (value_applied s v w h k y)
+  alike_consts_applied s (leaf (variable v n)) b f g p q e = absurd f
+  alike_consts_applied s (leaf (bound v d i)) b f g p q e = absurd f
+  alike_consts_applied s (leaf unknown) b f g p q e = absurd f
+  alike_consts_applied s (bind ks t) b f g p q e = absurd f
+  alike_consts_applied s nil b f g p q e = absurd f
+  alike_consts_applied s (cons t u) b f g p q e = absurd f
+  alike_consts_applied s a (leaf (variable v n)) f g p q e = absurd g
+  alike_consts_applied s a (leaf (bound v d i)) f g p q e = absurd g
+  alike_consts_applied s a (leaf unknown) f g p q e = absurd g
+  alike_consts_applied s a (bind ks t) f g p q e = absurd g
+  alike_consts_applied s a nil f g p q e = absurd g
+  alike_consts_applied s a (cons t u) f g p q e = absurd g
+  alike_consts_applied s (node (expression k) ts) (node h us) f g p q e = absurd g
+  alike_consts_applied s (node value ts) (node h us) f g p q e = absurd g
+  alike_consts_applied s (node h ts) b f g p q e = absurd f
+
+  pub const_form_apart : (st : Store) (x y : ConstKey Key) (e : TypeError Key Id Name) → IsFormedConst (m.const_ x) → IsFormedConst (m.const_ y) → IsTerm const_sort (m.const_ x) → IsTerm const_sort (m.const_ y) → ConstFormError m x y e → NoEqualTerms st (m.const_ x) (m.const_ y)
+  const_form_apart st x y e f g s t (const_mismatch o) = λ w a sat z. o (alike_consts_applied a (m.const_ x) (m.const_ y) f g s t z)
+  const_form_apart st x y e f g s t (operations {k} {l} {ts} {us} p q (inl d)) = λ w a sat z. d (let h = sym (ap (apply a) p) ∙ z ∙ ap (apply a) q in cc)
+  const_form_apart st x y e f g s t (operations {k} {l} {ts} {us} p q (inr d)) = lists_apart st (expression k) (expression l) ts us (m.const_ x) (m.const_ y) p q (list_of (expression k) const_sort ts (m.const_ x) p s) (list_of (expression l) const_sort us (m.const_ y) q t) d
+
+  pub known_const_error : (x y : ConstKey Key) (e : TypeError Key Id Name) → IsTrue (known (m.const_ x)) → IsTrue (known (m.const_ y)) → ConstFormError m x y e → KnowsError m e
+  known_const_error x y e a b (const_mismatch o) = (a, b)
+  known_const_error x y e a b (operations p q o) = tt
+
+  pub const_form_known : {X : Type 0} (x y : ConstKey Key) (e : TypeError Key Id Name) → IsTrue (known (m.const_ x)) → IsTrue (known (m.const_ y)) → ConstFormError m x y e
+      → (r : Result X (RelateFault Key Id Name)) → IsErr r × IsErrAnd r (λ f. f ≡ Unrelated e) → IfErr r (KnowsFault m)
+  const_form_known x y e a b h (Ok v) q = absurd (false≢true q.0)
+  const_form_known x y e a b h (Err z) q = subst (KnowsFault m) (sym q.1) (known_const_error x y e a b h)

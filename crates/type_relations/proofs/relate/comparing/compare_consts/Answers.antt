@@ -1,0 +1,81 @@
+use Rattle.std.proofs.Common.{rules, sym, ap, ◌∙◌, ◌≢◌, ◌≡◌, refl, inl, inr}
+use Rattle.relation_terms.specs.Heads.{const_param, expression}
+use Rattle.relation_terms.specs.Meaning.{const_tree, arg_tree}
+use Rattle.relation_terms.specs.Trees.{node, count}
+use Rattle.relation_terms.specs.declared.terms.const_kind.ConstKind.TheVariants.{Param, Placeholder, Value, Expr}
+use Rattle.type_relations.specs.Errors.{values, expressions, const_parameters, operations}
+use Rattle.type_relations.proofs.Comparing.{unlike_const, formed_const, param_const, value_const, expr_const}
+use Rattle.type_relations.proofs.Lists.{list_count}
+use Rattle.type_relations.proofs.relate.comparing.compare_consts.Goals as goal
+
+pub returns-in_default : goal.returns-in_default
+returns-in_default g c =
+    let m = g.I.Interner.meaning c.args.cx.now in
+    record {
+      alike = tt;
+      errors = unlike_const m (Param c.in-Param.parameter) c.const_kind-right.result c.args.a.now c.args.b.now c.unlike_consts.result (c.const_kind.ensures ∙ ap (const_tree m) c.in-Param.is) c.const_kind-right.ensures (param_const m c.in-Param.parameter c.const_kind-right.result (λ q e i. c.in_default.not-Param q e)) c.unlike_consts.ensures;
+      a_formed = formed_const m c.const_kind.result c.args.a.now c.const_kind.ensures;
+      b_formed = formed_const m c.const_kind-right.result c.args.b.now c.const_kind-right.ensures;
+    }
+
+pub returns-in_default-right : goal.returns-in_default-right
+returns-in_default-right g c =
+    let m = g.I.Interner.meaning c.args.cx.now in
+    record {
+      alike = tt;
+      errors = unlike_const m (Value c.in-Value.field-0 c.in-Value.value) c.const_kind-right.result c.args.a.now c.args.b.now c.unlike_consts-in_default-right.result (c.const_kind.ensures ∙ ap (const_tree m) c.in-Value.is) c.const_kind-right.ensures (value_const m c.in-Value.field-0 c.in-Value.value c.const_kind-right.result (λ u w e i. c.in_default-right.not-Value u w e)) c.unlike_consts-in_default-right.ensures;
+      a_formed = formed_const m c.const_kind.result c.args.a.now c.const_kind.ensures;
+      b_formed = formed_const m c.const_kind-right.result c.args.b.now c.const_kind-right.ensures;
+    }
+
+pub returns-in_default-right-2 : goal.returns-in_default-right-2
+returns-in_default-right-2 g c =
+    let m = g.I.Interner.meaning c.args.cx.now in
+    record {
+      alike = tt;
+      errors = unlike_const m (Expr c.in-Expr.kind c.in-Expr.args) c.const_kind-right.result c.args.a.now c.args.b.now c.unlike_consts-in_default-right-2.result (c.const_kind.ensures ∙ ap (const_tree m) c.in-Expr.is) c.const_kind-right.ensures (expr_const m c.in-Expr.kind c.in-Expr.args c.const_kind-right.result c.in_default-right-2.not-Expr) c.unlike_consts-in_default-right-2.ensures;
+      a_formed = formed_const m c.const_kind.result c.args.a.now c.const_kind.ensures;
+      b_formed = formed_const m c.const_kind-right.result c.args.b.now c.const_kind-right.ensures;
+    }
+
+pub returns-then-parameter-other-clause-errors : goal.returns-then-parameter-other-clause-errors
+returns-then-parameter-other-clause-errors g c =
+    let m = g.I.Interner.meaning c.args.cx.now in
+    unlike_const m (Param c.in-Param.parameter) (Param c.in-Param-right.other) c.args.a.now c.args.b.now c.unlike_consts-then-parameter-other.result (c.const_kind.ensures ∙ ap (const_tree m) c.in-Param.is) (c.const_kind-right.ensures ∙ ap (const_tree m) c.in-Param-right.is) c.if-parameter-other.true c.unlike_consts-then-parameter-other.ensures
+
+pub returns-else-parameter-other-clause-alike : goal.returns-else-parameter-other-clause-alike
+returns-else-parameter-other-clause-alike g c =
+    let m = g.I.Interner.meaning c.args.cx.now in
+    const_parameters (c.const_kind.ensures ∙ ap (const_tree m) c.in-Param.is) (c.const_kind-right.ensures ∙ ap (const_tree m) c.in-Param-right.is) (ap (λ i. const_param i 0) c.if-parameter-other.false)
+
+pub returns-in-Placeholder-clause-errors : goal.returns-in-Placeholder-clause-errors
+returns-in-Placeholder-clause-errors g c =
+    let m = g.I.Interner.meaning c.args.cx.now in
+    unlike_const m (Placeholder c.in-Placeholder.field-0) c.const_kind-right.result c.args.a.now c.args.b.now c.unlike_consts-in-Placeholder.result (c.const_kind.ensures ∙ ap (const_tree m) c.in-Placeholder.is) c.const_kind-right.ensures (λ e. c.requires.differ ((c.const_kind.ensures ∙ ap (const_tree m) c.in-Placeholder.is) ∙ e ∙ sym c.const_kind-right.ensures)) c.unlike_consts-in-Placeholder.ensures
+
+pub returns-then-not-is_one_value-clause-errors : goal.returns-then-not-is_one_value-clause-errors
+returns-then-not-is_one_value-clause-errors g c =
+    let m = g.I.Interner.meaning c.args.cx.now in
+    unlike_const m (Value c.in-Value.field-0 c.in-Value.value) (Value c.in-Value-right.field-0 c.in-Value-right.other) c.args.a.now c.args.b.now c.unlike_consts-then-not-is_one_value.result (c.const_kind.ensures ∙ ap (const_tree m) c.in-Value.is) (c.const_kind-right.ensures ∙ ap (const_tree m) c.in-Value-right.is) (c.if-not-is_one_value.ensures.unlike refl) c.unlike_consts-then-not-is_one_value.ensures
+
+pub returns-else-not-is_one_value-clause-alike : goal.returns-else-not-is_one_value-clause-alike
+returns-else-not-is_one_value-clause-alike g c =
+    let m = g.I.Interner.meaning c.args.cx.now in
+    values (c.const_kind.ensures ∙ ap (const_tree m) c.in-Value.is) (c.const_kind-right.ensures ∙ ap (const_tree m) c.in-Value-right.is) (c.if-not-is_one_value.ensures.one refl)
+
+pub returns-then-ne-clause-errors : goal.returns-then-ne-clause-errors
+returns-then-ne-clause-errors g c =
+    let m = g.I.Interner.meaning c.args.cx.now in
+    let differ : c.in-Expr.kind ≢ c.in-Expr-right.other_kind = (λ e. (let t = c.if-ne.true in let h = c.ne.ensures in let k = c.if-ne.ensures in search rules)) in
+    operations (c.const_kind.ensures ∙ ap (const_tree m) c.in-Expr.is) (c.const_kind-right.ensures ∙ ap (const_tree m) c.in-Expr-right.is) (inl (λ e. differ (ap (λ n. record { 0 = n }) e)))
+
+pub returns-then-args-clause-errors : goal.returns-then-args-clause-errors
+returns-then-args-clause-errors g c =
+    let m = g.I.Interner.meaning c.args.cx.now in
+    operations (c.const_kind.ensures ∙ ap (const_tree m) c.in-Expr.is) (c.const_kind-right.ensures ∙ ap (const_tree m) c.in-Expr-right.is) (inr (λ e. c.if-args.true (sym (ap count c.args-in-Expr.ensures ∙ list_count (arg_tree m) c.args-in-Expr.result.now) ∙ e ∙ (ap count c.args-in-Expr-2.ensures ∙ list_count (arg_tree m) c.args-in-Expr-2.result.now))))
+
+pub returns-else-args-clause-alike : goal.returns-else-args-clause-alike
+returns-else-args-clause-alike g c =
+    let m = g.I.Interner.meaning c.args.cx.now in
+    let one : c.in-Expr.kind ≡ c.in-Expr-right.other_kind = (let t = c.if-ne.false in let h = c.ne.ensures in let k = c.if-ne.ensures in search rules) in
+    expressions (c.const_kind.ensures ∙ ap (const_tree m) c.in-Expr.is) ((c.const_kind-right.ensures ∙ ap (const_tree m) c.in-Expr-right.is) ∙ ap (λ k. node (expression k.0) (m.args c.in-Expr-right.other)) (sym one)) ((ap count c.args-in-Expr.ensures ∙ list_count (arg_tree m) c.args-in-Expr.result.now) ∙ c.if-args.false ∙ sym (ap count c.args-in-Expr-2.ensures ∙ list_count (arg_tree m) c.args-in-Expr-2.result.now))

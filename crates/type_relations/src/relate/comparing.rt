@@ -1,0 +1,207 @@
+//! Comparing the outermost forms of two terms.
+ghost use Rattle.std.specs.Prelude.{◌≡◌, ◌≢◌, ◌⊎◌, ◌<◌, IsTrue, IsFalse, OnOk, IfErr};
+ghost use Rattle.relation_terms.specs.Trees.{known};
+ghost use Rattle.relation_terms.specs.Meaning.{kind_tree};
+ghost use Rattle.type_relations.specs.Errors.{FormError, ConstFormError, AreOfOneForm, AreOfOneConst, AreOfOneValue};
+ghost use Rattle.relation_tools.specs.declared.error.TypeError.TheVariants.{Sorts, TupleSize, ConstMismatch};
+ghost use Rattle.type_relations.specs.Parts.{item_kind};
+ghost use Rattle.type_relations.specs.Parts.{IsFormedConst};
+
+use crate::relate::forms::{ItemTy, item_of};
+use relation_terms::terms::{Const, ConstKind, Dup, Interner, Ty, TyKind, ValTree, ValTreeKind};
+use relation_tools::error::{ExpectedFound, TypeError, TypeErrorOf};
+
+// That two types are of one outermost form with as many parts, or how they differ.
+pub fn compare_tys<I: Interner>(cx: &I, a: &Ty<I>, b: &Ty<I>) -> Result<(), TypeErrorOf<I>>
+    requires a_known { IsTrue (known ((I.meaning cx.now).ty a.now)) }
+    requires b_known { IsTrue (known ((I.meaning cx.now).ty b.now)) }
+    ensures alike { OnOk result (AreOfOneForm ((I.meaning cx.now).ty a.now) ((I.meaning cx.now).ty b.now)) }
+    ensures errors { IfErr result (FormError (I.meaning cx.now) a.now b.now) }
+{
+    let right = cx.ty_kind(b);
+    let left = cx.ty_kind(a);
+    if let Some(item) = item_of(&left) {
+        return compare_items(cx, a, b, &item);
+    }
+    match &left {
+        TyKind::Slice(_) => {
+            let TyKind::Slice(_) = &right else {
+                return Err(unlike::<I>(a, b));
+            };
+            Ok(())
+        }
+        TyKind::Array(..) => {
+            let TyKind::Array(..) = &right else {
+                return Err(unlike::<I>(a, b));
+            };
+            Ok(())
+        }
+        TyKind::Tuple(xs) => {
+            let TyKind::Tuple(ys) = &right else {
+                return Err(unlike::<I>(a, b));
+            };
+            let n = cx.tys(xs).len();
+            let m = cx.tys(ys).len();
+            if n != m {
+                return Err(unlike_lengths::<I>(a, b, n, m));
+            }
+            Ok(())
+        }
+        TyKind::RawPtr(_, mutability) => {
+            let TyKind::RawPtr(_, other) = &right else {
+                return Err(unlike::<I>(a, b));
+            };
+            if *mutability != *other {
+                return Err(TypeError::Mutability);
+            }
+            Ok(())
+        }
+        TyKind::Ref(_, _, mutability) => {
+            let TyKind::Ref(_, _, other) = &right else {
+                return Err(unlike::<I>(a, b));
+            };
+            if *mutability != *other {
+                return Err(TypeError::Mutability);
+            }
+            Ok(())
+        }
+        TyKind::Param(parameter) => {
+            let TyKind::Param(other) = &right else {
+                return Err(unlike::<I>(a, b));
+            };
+            if parameter.index != other.index {
+                return Err(unlike::<I>(a, b));
+            }
+            Ok(())
+        }
+        _ => {
+            if a != b {
+                return Err(unlike::<I>(a, b));
+            }
+            Ok(())
+        }
+    }
+}
+
+// The same where the first is over an item: the other is over that item too, in the same form.
+fn compare_items<I: Interner>(
+    cx: &I,
+    a: &Ty<I>,
+    b: &Ty<I>,
+    item: &ItemTy<I::Key, I::Id>,
+) -> Result<(), TypeErrorOf<I>>
+    requires a_known { IsTrue (known ((I.meaning cx.now).ty a.now)) }
+    requires b_known { IsTrue (known ((I.meaning cx.now).ty b.now)) }
+    requires means { (I.meaning cx.now).ty a.now ≡ kind_tree (I.meaning cx.now) (item_kind item.now) }
+    ensures alike { OnOk result (AreOfOneForm ((I.meaning cx.now).ty a.now) ((I.meaning cx.now).ty b.now)) }
+    ensures errors { IfErr result (FormError (I.meaning cx.now) a.now b.now) }
+{
+    let Some(other) = item_of(&cx.ty_kind(b)) else {
+        return Err(unlike::<I>(a, b));
+    };
+    if item.form != other.form {
+        return Err(unlike::<I>(a, b));
+    }
+    if item.def_id != other.def_id {
+        return Err(unlike::<I>(a, b));
+    }
+    if cx.args(&item.args).len() != cx.args(&other.args).len() {
+        return Err(unlike::<I>(a, b));
+    }
+    Ok(())
+}
+
+// That two constants are of one outermost form with as many parts, or how they differ.
+#[tactic(auto, using(crate::proofs::Comparing::formed_const))]
+pub fn compare_consts<I: Interner>(
+    cx: &I,
+    a: &Const<I>,
+    b: &Const<I>,
+) -> Result<(), TypeErrorOf<I>>
+    requires a_known { IsTrue (known ((I.meaning cx.now).const_ a.now)) }
+    requires b_known { IsTrue (known ((I.meaning cx.now).const_ b.now)) }
+    requires differ { (I.meaning cx.now).const_ a.now ≢ (I.meaning cx.now).const_ b.now }
+    ensures alike { OnOk result (AreOfOneConst ((I.meaning cx.now).const_ a.now) ((I.meaning cx.now).const_ b.now)) }
+    ensures errors { IfErr result (ConstFormError (I.meaning cx.now) a.now b.now) }
+    ensures a_formed { IsFormedConst ((I.meaning cx.now).const_ a.now) }
+    ensures b_formed { IsFormedConst ((I.meaning cx.now).const_ b.now) }
+{
+    let right = cx.const_kind(b);
+    match cx.const_kind(a) {
+        ConstKind::Param(parameter) => {
+            let ConstKind::Param(other) = right else {
+                return Err(unlike_consts::<I>(a, b));
+            };
+            if parameter.index != other.index {
+                return Err(unlike_consts::<I>(a, b));
+            }
+            Ok(())
+        }
+        ConstKind::Placeholder(_) => Err(unlike_consts::<I>(a, b)),
+        ConstKind::Value(_, value) => {
+            let ConstKind::Value(_, other) = right else {
+                return Err(unlike_consts::<I>(a, b));
+            };
+            if !is_one_value(cx, &value, &other) {
+                return Err(unlike_consts::<I>(a, b));
+            }
+            Ok(())
+        }
+        ConstKind::Expr(kind, args) => {
+            let ConstKind::Expr(other_kind, other) = right else {
+                return Err(unlike_consts::<I>(a, b));
+            };
+            if kind != other_kind {
+                return Err(TypeError::Mismatch);
+            }
+            if cx.args(&args).len() != cx.args(&other).len() {
+                return Err(TypeError::Mismatch);
+            }
+            Ok(())
+        }
+    }
+}
+
+// Whether two value trees are one, or have as many branches.
+fn is_one_value<I: Interner>(cx: &I, a: &ValTree<I>, b: &ValTree<I>) -> bool
+    requires a_known { IsTrue (known ((I.meaning cx.now).valtree a.now)) }
+    requires b_known { IsTrue (known ((I.meaning cx.now).valtree b.now)) }
+    ensures one { IsTrue result → AreOfOneValue ((I.meaning cx.now).valtree a.now) ((I.meaning cx.now).valtree b.now) }
+    ensures unlike { IsFalse result → AreOfOneValue ((I.meaning cx.now).valtree a.now) ((I.meaning cx.now).valtree b.now) → ⊥ }
+{
+    if a == b {
+        return true;
+    }
+    let ValTreeKind::Branch(branches) = cx.valtree_kind(a) else {
+        return false;
+    };
+    let ValTreeKind::Branch(other) = cx.valtree_kind(b) else {
+        return false;
+    };
+    cx.branches(&branches).len() == cx.branches(&other).len()
+}
+
+// Two types of unlike forms.
+fn unlike<I: Interner>(a: &Ty<I>, b: &Ty<I>) -> TypeErrorOf<I>
+    ensures { result ≡ Sorts (record { expected = a.now; found = b.now }) }
+{
+    TypeError::Sorts(ExpectedFound::new(a.dup(), b.dup()))
+}
+
+// Two tuples of unlike lengths; where one is empty, two types of unlike forms.
+fn unlike_lengths<I: Interner>(a: &Ty<I>, b: &Ty<I>, n: usize, m: usize) -> TypeErrorOf<I>
+    ensures sizes { 0 < n → 0 < m → result ≡ TupleSize (record { expected = n; found = m }) }
+    ensures empty { (n ≡ 0) ⊎ (m ≡ 0) → result ≡ Sorts (record { expected = a.now; found = b.now }) }
+{
+    if n == 0 || m == 0 {
+        return unlike::<I>(a, b);
+    }
+    TypeError::TupleSize(ExpectedFound::new(n, m))
+}
+
+// Two constants of unlike forms.
+fn unlike_consts<I: Interner>(a: &Const<I>, b: &Const<I>) -> TypeErrorOf<I>
+    ensures { result ≡ ConstMismatch (record { expected = a.now; found = b.now }) }
+{
+    TypeError::ConstMismatch(ExpectedFound::new(a.dup(), b.dup()))
+}

@@ -1,0 +1,88 @@
+//! An error of two parts as the error of the two terms that they are parts of.
+ghost use Rattle.std.specs.Prelude.{◌≡◌, IsTrue};
+ghost use Rattle.relation_terms.specs.Trees.{known};
+ghost use Rattle.type_relations.specs.Handing.{IsFaultOfTy, IsFaultOfConst, IsResultOfTy, IsResultOfConst};
+
+use relation_terms::terms::{Const, ConstKind, Dup, GenericArg, GenericArgKind, Interner, Ty, TyKind};
+use relation_tools::error::{ExpectedFound, RelateFault, RelateFaultOf, RelateResult, TypeError};
+
+// The fault of two types where one of their parts has failed: lengths of arrays that differ are sizes that differ.
+fn of_ty<I: Interner>(
+    cx: &I,
+    ty: &Ty<I>,
+    x: &GenericArg<I>,
+    y: &GenericArg<I>,
+    fault: RelateFaultOf<I>,
+) -> RelateFaultOf<I>
+    requires { IsTrue (known ((I.meaning cx.now).ty ty.now)) }
+    ensures { IsFaultOfTy ((I.meaning cx.now).ty ty.now) x.now y.now fault result }
+{
+    let RelateFault::Unrelated(error) = &fault else {
+        return fault;
+    };
+    let TypeError::ConstMismatch(_) = error else {
+        return fault;
+    };
+    let TyKind::Array(..) = cx.ty_kind(ty) else {
+        return fault;
+    };
+    let GenericArgKind::Const(x) = x else {
+        return fault;
+    };
+    let GenericArgKind::Const(y) = y else {
+        return fault;
+    };
+    RelateFault::Unrelated(TypeError::ArraySize(ExpectedFound::new(x.dup(), y.dup())))
+}
+
+// The fault of two constants where one of their parts has failed: where branches differ the whole values differ.
+fn of_const<I: Interner>(
+    cx: &I,
+    a: &Const<I>,
+    b: &Const<I>,
+    fault: RelateFaultOf<I>,
+) -> RelateFaultOf<I>
+    requires { IsTrue (known ((I.meaning cx.now).const_ a.now)) }
+    ensures { IsFaultOfConst ((I.meaning cx.now).const_ a.now) a.now b.now fault result }
+{
+    let RelateFault::Unrelated(_) = &fault else {
+        return fault;
+    };
+    let ConstKind::Value(..) = cx.const_kind(a) else {
+        return fault;
+    };
+    RelateFault::Unrelated(TypeError::ConstMismatch(ExpectedFound::new(a.dup(), b.dup())))
+}
+
+// What two types answer where two of their parts have answered that.
+pub fn in_ty<I: Interner, T>(
+    cx: &I,
+    ty: &Ty<I>,
+    x: &GenericArg<I>,
+    y: &GenericArg<I>,
+    related: RelateResult<I, T>,
+) -> RelateResult<I, T>
+    requires { IsTrue (known ((I.meaning cx.now).ty ty.now)) }
+    ensures { IsResultOfTy ((I.meaning cx.now).ty ty.now) x.now y.now related result }
+{
+    match related {
+        Ok(answer) => Ok(answer),
+        Err(fault) => Err(of_ty(cx, ty, x, y, fault)),
+    }
+}
+
+// What two constants answer where two of their parts have answered that.
+pub fn in_const<I: Interner, T>(
+    cx: &I,
+    a: &Const<I>,
+    b: &Const<I>,
+    related: RelateResult<I, T>,
+) -> RelateResult<I, T>
+    requires { IsTrue (known ((I.meaning cx.now).const_ a.now)) }
+    ensures { IsResultOfConst ((I.meaning cx.now).const_ a.now) a.now b.now related result }
+{
+    match related {
+        Ok(answer) => Ok(answer),
+        Err(fault) => Err(of_const(cx, a, b, fault)),
+    }
+}

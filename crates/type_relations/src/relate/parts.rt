@@ -1,0 +1,90 @@
+//! The parts of types and constants, by their places.
+ghost use Rattle.std.specs.Prelude.{◌≡◌, ◌<◌, IsTrue};
+ghost use Rattle.relation_terms.specs.Trees.{known, count, nth, IsList};
+ghost use Rattle.relation_terms.specs.Meaning.{arg_tree};
+ghost use Rattle.type_relations.specs.Parts.{parts_of, const_parts_of};
+
+use crate::relate::forms::item_of;
+use relation_terms::terms::{
+    Const, ConstKind, Dup, GenericArg, GenericArgKind, Interner, Ty, TyKind, ValTreeKind,
+};
+
+// How many parts a type has.
+pub fn parts_count<I: Interner>(cx: &I, ty: &Ty<I>) -> usize
+    requires { IsTrue (known ((I.meaning cx.now).ty ty.now)) }
+    ensures counts { result ≡ count (parts_of ((I.meaning cx.now).ty ty.now)) }
+    ensures is_list { IsList (parts_of ((I.meaning cx.now).ty ty.now)) }
+{
+    let kind = cx.ty_kind(ty);
+    if let Some(item) = item_of(&kind) {
+        return cx.args(&item.args).len();
+    }
+    match &kind {
+        TyKind::Slice(_) => 1,
+        TyKind::RawPtr(..) => 1,
+        TyKind::Array(..) => 2,
+        TyKind::Ref(..) => 2,
+        TyKind::Tuple(members) => cx.tys(members).len(),
+        _ => 0,
+    }
+}
+
+// The part of a type at a place.
+pub fn part<I: Interner>(cx: &I, ty: &Ty<I>, i: usize) -> GenericArg<I>
+    requires ty_known { IsTrue (known ((I.meaning cx.now).ty ty.now)) }
+    requires in_bounds { i < count (parts_of ((I.meaning cx.now).ty ty.now)) }
+    ensures sure { IsTrue (known (arg_tree (I.meaning cx.now) result)) }
+    ensures means { arg_tree (I.meaning cx.now) result ≡ nth i (parts_of ((I.meaning cx.now).ty ty.now)) }
+{
+    let kind = cx.ty_kind(ty);
+    if let Some(item) = item_of(&kind) {
+        return cx.args(&item.args)[i].dup();
+    }
+    match &kind {
+        TyKind::Slice(element) => GenericArgKind::Ty(element.dup()),
+        TyKind::RawPtr(pointee, _) => GenericArgKind::Ty(pointee.dup()),
+        TyKind::Array(element, _) if i == 0 => GenericArgKind::Ty(element.dup()),
+        TyKind::Array(_, length) => GenericArgKind::Const(length.dup()),
+        TyKind::Ref(region, _, _) if i == 0 => GenericArgKind::Lifetime(region.dup()),
+        TyKind::Ref(_, pointee, _) => GenericArgKind::Ty(pointee.dup()),
+        TyKind::Tuple(members) => GenericArgKind::Ty(cx.tys(members)[i].dup()),
+        _ => unreachable!(),
+    }
+}
+
+// How many parts a constant has: the arguments of an expression, the branches of a value.
+pub fn const_parts_count<I: Interner>(cx: &I, constant: &Const<I>) -> usize
+    requires { IsTrue (known ((I.meaning cx.now).const_ constant.now)) }
+    ensures counts { result ≡ count (const_parts_of ((I.meaning cx.now).const_ constant.now)) }
+    ensures is_list { IsList (const_parts_of ((I.meaning cx.now).const_ constant.now)) }
+{
+    match cx.const_kind(constant) {
+        ConstKind::Expr(_, args) => cx.args(&args).len(),
+        ConstKind::Value(_, value) => match cx.valtree_kind(&value) {
+            ValTreeKind::Branch(branches) => cx.branches(&branches).len(),
+            ValTreeKind::Leaf { .. } => 0,
+        },
+        ConstKind::Param(_) => 0,
+        ConstKind::Placeholder(_) => 0,
+    }
+}
+
+// The part of a constant at a place.
+pub fn const_part<I: Interner>(cx: &I, constant: &Const<I>, i: usize) -> GenericArg<I>
+    requires constant_known { IsTrue (known ((I.meaning cx.now).const_ constant.now)) }
+    requires in_bounds { i < count (const_parts_of ((I.meaning cx.now).const_ constant.now)) }
+    ensures sure { IsTrue (known (arg_tree (I.meaning cx.now) result)) }
+    ensures means { arg_tree (I.meaning cx.now) result ≡ nth i (const_parts_of ((I.meaning cx.now).const_ constant.now)) }
+{
+    match cx.const_kind(constant) {
+        ConstKind::Expr(_, args) => cx.args(&args)[i].dup(),
+        ConstKind::Value(_, value) => match cx.valtree_kind(&value) {
+            ValTreeKind::Branch(branches) => {
+                GenericArgKind::Const(cx.branches(&branches)[i].dup())
+            }
+            ValTreeKind::Leaf { .. } => unreachable!(),
+        },
+        ConstKind::Param(_) => unreachable!(),
+        ConstKind::Placeholder(_) => unreachable!(),
+    }
+}

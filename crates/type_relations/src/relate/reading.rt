@@ -1,0 +1,231 @@
+//! Reading terms through a relation's interner.
+ghost use Rattle.std.specs.Prelude.{◌≡◌, ◌≢◌, ◌<◌, IsTrue, OnOk, IfErr};
+ghost use Rattle.relation_terms.specs.Trees.{known, count, nth, IsList};
+ghost use Rattle.relation_terms.specs.declared.terms.enums.Variance.TheVariants.{Bivariant};
+ghost use Rattle.relation_terms.specs.Variances.{xform};
+ghost use Rattle.relation_terms.specs.Meaning.{arg_tree};
+ghost use Rattle.type_relations.specs.Relation.{part_at, pointee_variance};
+ghost use Rattle.type_relations.specs.Errors.{FormError, ConstFormError, AreOfOneForm, AreOfOneConst};
+ghost use Rattle.type_relations.specs.Parts.{parts_of, const_parts_of, head_of, const_head_of};
+ghost use Rattle.type_relations.specs.Lawful.{Asked, Noted, items_in};
+ghost use Rattle.type_relations.specs.Handing.{IsResultOfTy, IsResultOfConst};
+
+use crate::relate::{TypeRelation, handing};
+use crate::relate::comparing::{compare_consts, compare_tys};
+use crate::relate::parts::{const_part, const_parts_count, part, parts_count};
+use relation_terms::terms::{
+    Const, ConstKind, DefId, Dup, GenericArg, GenericArgs, Interner, ItemOf,
+    Mutability, Ty, TyKind, Variance,
+};
+use relation_tools::error::{RelateResult, TypeErrorOf};
+
+pub(crate) fn compare_tys_of<I: Interner, R: TypeRelation<I>>(
+    r: &R,
+    a: &Ty<I>,
+    b: &Ty<I>,
+) -> Result<(), TypeErrorOf<I>>
+    requires a_known { IsTrue (known ((R.state r.now).meaning.ty a.now)) }
+    requires b_known { IsTrue (known ((R.state r.now).meaning.ty b.now)) }
+    ensures alike { OnOk result (AreOfOneForm ((R.state r.now).meaning.ty a.now) ((R.state r.now).meaning.ty b.now)) }
+    ensures errors { IfErr result (FormError (R.state r.now).meaning a.now b.now) }
+{
+    compare_tys(r.cx(), a, b)
+}
+
+pub(crate) fn compare_consts_of<I: Interner, R: TypeRelation<I>>(
+    r: &R,
+    a: &Const<I>,
+    b: &Const<I>,
+) -> Result<(), TypeErrorOf<I>>
+    requires a_known { IsTrue (known ((R.state r.now).meaning.const_ a.now)) }
+    requires b_known { IsTrue (known ((R.state r.now).meaning.const_ b.now)) }
+    requires differ { (R.state r.now).meaning.const_ a.now ≢ (R.state r.now).meaning.const_ b.now }
+    ensures alike { OnOk result (AreOfOneConst ((R.state r.now).meaning.const_ a.now) ((R.state r.now).meaning.const_ b.now)) }
+    ensures errors { IfErr result (ConstFormError (R.state r.now).meaning a.now b.now) }
+{
+    compare_consts(r.cx(), a, b)
+}
+
+pub(crate) fn parts_count_of<I: Interner, R: TypeRelation<I>>(r: &R, ty: &Ty<I>) -> usize
+    requires { IsTrue (known ((R.state r.now).meaning.ty ty.now)) }
+    ensures counts { result ≡ count (parts_of ((R.state r.now).meaning.ty ty.now)) }
+    ensures is_list { IsList (parts_of ((R.state r.now).meaning.ty ty.now)) }
+{
+    parts_count(r.cx(), ty)
+}
+
+pub(crate) fn part_of<I: Interner, R: TypeRelation<I>>(
+    r: &R,
+    ty: &Ty<I>,
+    i: usize,
+) -> GenericArg<I>
+    requires ty_known { IsTrue (known ((R.state r.now).meaning.ty ty.now)) }
+    requires in_bounds { i < count (parts_of ((R.state r.now).meaning.ty ty.now)) }
+    ensures sure { IsTrue (known (arg_tree (R.state r.now).meaning result)) }
+    ensures means { arg_tree (R.state r.now).meaning result ≡ nth i (parts_of ((R.state r.now).meaning.ty ty.now)) }
+{
+    part(r.cx(), ty, i)
+}
+
+pub(crate) fn const_parts_count_of<I: Interner, R: TypeRelation<I>>(
+    r: &R,
+    constant: &Const<I>,
+) -> usize
+    requires { IsTrue (known ((R.state r.now).meaning.const_ constant.now)) }
+    ensures counts { result ≡ count (const_parts_of ((R.state r.now).meaning.const_ constant.now)) }
+    ensures is_list { IsList (const_parts_of ((R.state r.now).meaning.const_ constant.now)) }
+{
+    const_parts_count(r.cx(), constant)
+}
+
+pub(crate) fn const_part_of<I: Interner, R: TypeRelation<I>>(
+    r: &R,
+    constant: &Const<I>,
+    i: usize,
+) -> GenericArg<I>
+    requires constant_known { IsTrue (known ((R.state r.now).meaning.const_ constant.now)) }
+    requires in_bounds { i < count (const_parts_of ((R.state r.now).meaning.const_ constant.now)) }
+    ensures sure { IsTrue (known (arg_tree (R.state r.now).meaning result)) }
+    ensures means { arg_tree (R.state r.now).meaning result ≡ nth i (const_parts_of ((R.state r.now).meaning.const_ constant.now)) }
+{
+    const_part(r.cx(), constant, i)
+}
+
+// How a pointee varies with its pointer.
+fn pointee(mutability: Mutability) -> Variance
+    ensures { result ≡ pointee_variance mutability }
+{
+    match mutability {
+        Mutability::Not => Variance::Covariant,
+        Mutability::Mut => Variance::Invariant,
+    }
+}
+
+// The variance at which an item's argument is related.
+fn declared_at<I: Interner, R: TypeRelation<I>>(r: &R, def_id: &ItemOf<I>, i: usize) -> Variance
+    ensures { xform (R.state r.now).ambient result ≡ xform (R.state r.now).ambient ((items_in (R.state r.now)).declared ((R.state r.now).meaning.id (def_id.now).0) i) }
+{
+    let Some(variances) = r.item_variances(def_id) else {
+        return Variance::Invariant;
+    };
+    match variances.get(i) {
+        Some(variance) => *variance,
+        None => Variance::Invariant,
+    }
+}
+
+// The variance at which the part of a type at a place is related, seen from the type's own.
+pub(crate) fn variance_at<I: Interner, R: TypeRelation<I>>(
+    r: &R,
+    ty: &Ty<I>,
+    i: usize,
+) -> Variance
+    requires { IsTrue (known ((R.state r.now).meaning.ty ty.now)) }
+    ensures { xform (R.state r.now).ambient result ≡ part_at (items_in (R.state r.now)) (head_of ((R.state r.now).meaning.ty ty.now)) i (R.state r.now).ambient }
+{
+    let kind = r.cx().ty_kind(ty);
+    match &kind {
+        TyKind::Adt(def, _) => declared_at(r, &DefId(def.0.dup()), i),
+        TyKind::FnDef(def, _) => declared_at(r, &DefId(def.0.dup()), i),
+        TyKind::Closure(..)
+        | TyKind::CoroutineClosure(..)
+        | TyKind::Coroutine(..)
+        | TyKind::CoroutineWitness(..) => Variance::Invariant,
+        TyKind::RawPtr(_, mutability) => pointee(*mutability),
+        TyKind::Ref(_, _, mutability) if i > 0 => pointee(*mutability),
+        _ => Variance::Covariant,
+    }
+}
+
+// The variance at which the parts of a constant are related, seen from the constant's own.
+pub(crate) fn const_variance_at<I: Interner, R: TypeRelation<I>>(
+    r: &R,
+    constant: &Const<I>,
+) -> Variance
+    requires { IsTrue (known ((R.state r.now).meaning.const_ constant.now)) }
+    ensures { (i : _) → xform (R.state r.now).ambient result ≡ part_at (items_in (R.state r.now)) (const_head_of ((R.state r.now).meaning.const_ constant.now)) i (R.state r.now).ambient }
+{
+    match r.cx().const_kind(constant) {
+        ConstKind::Expr(..) => Variance::Invariant,
+        ConstKind::Value(..) => Variance::Covariant,
+        ConstKind::Param(_) => Variance::Covariant,
+        ConstKind::Placeholder(_) => Variance::Covariant,
+    }
+}
+
+// What two types answer where two of their parts have answered that.
+pub(crate) fn in_ty<I: Interner, R: TypeRelation<I>>(
+    r: &R,
+    ty: &Ty<I>,
+    x: &GenericArg<I>,
+    y: &GenericArg<I>,
+    related: RelateResult<I, GenericArg<I>>,
+) -> RelateResult<I, GenericArg<I>>
+    requires { IsTrue (known ((R.state r.now).meaning.ty ty.now)) }
+    ensures { IsResultOfTy ((R.state r.now).meaning.ty ty.now) x.now y.now related result }
+{
+    handing::in_ty(r.cx(), ty, x, y, related)
+}
+
+// What two constants answer where two of their parts have answered that.
+pub(crate) fn in_const<I: Interner, R: TypeRelation<I>>(
+    r: &R,
+    a: &Const<I>,
+    b: &Const<I>,
+    related: RelateResult<I, GenericArg<I>>,
+) -> RelateResult<I, GenericArg<I>>
+    requires { IsTrue (known ((R.state r.now).meaning.const_ a.now)) }
+    ensures { IsResultOfConst ((R.state r.now).meaning.const_ a.now) a.now b.now related result }
+{
+    handing::in_const(r.cx(), a, b, related)
+}
+
+// Has the relation take note of arguments that were related at declared variances.
+fn note_declared<I: Interner, R: TypeRelation<I>>(
+    r: &mut R,
+    a: &Ty<I>,
+    b: &Ty<I>,
+    def_id: &ItemOf<I>,
+    a_args: &GenericArgs<I>,
+    b_args: &GenericArgs<I>,
+) -> RelateResult<I, ()>
+    requires lawful { (R.state r.old).lawful }
+    requires decides { (R.state r.old).ambient ≢ Bivariant }
+    requires asked { Asked R.manner (R.state r.old) (R.state r.old).ambient ((R.state r.old).meaning.ty a.now) ((R.state r.old).meaning.ty b.now) }
+    ensures { Noted (R.state r.old) (R.state r.new) result }
+{
+    if r.item_variances(def_id).is_none() {
+        return Ok(());
+    }
+    r.ty_args_done(a, b, def_id, a_args, b_args)
+}
+
+// The same of two types, if they are over an item whose arguments have declared variances.
+pub(crate) fn note_args<I: Interner, R: TypeRelation<I>>(
+    r: &mut R,
+    a: &Ty<I>,
+    b: &Ty<I>,
+) -> RelateResult<I, ()>
+    requires lawful { (R.state r.old).lawful }
+    requires decides { (R.state r.old).ambient ≢ Bivariant }
+    requires asked { Asked R.manner (R.state r.old) (R.state r.old).ambient ((R.state r.old).meaning.ty a.now) ((R.state r.old).meaning.ty b.now) }
+    ensures { Noted (R.state r.old) (R.state r.new) result }
+{
+    let right = r.cx().ty_kind(b);
+    let left = r.cx().ty_kind(a);
+    match &left {
+        TyKind::Adt(def, a_args) => {
+            let TyKind::Adt(_, b_args) = &right else {
+                return Ok(());
+            };
+            note_declared(r, a, b, &DefId(def.0.dup()), a_args, b_args)
+        }
+        TyKind::FnDef(def, a_args) => {
+            let TyKind::FnDef(_, b_args) = &right else {
+                return Ok(());
+            };
+            note_declared(r, a, b, &DefId(def.0.dup()), a_args, b_args)
+        }
+        _ => Ok(()),
+    }
+}

@@ -1,0 +1,196 @@
+//! The recursion over every relation.
+//!
+//! These calls stand beside the relation, whose steps never call them: one proof serves all relations.
+ghost use Rattle.std.specs.Prelude.{◌≡◌, ◌≢◌, IsTrue};
+ghost use Rattle.relation_terms.specs.declared.terms.enums.Variance.TheVariants.{Bivariant};
+ghost use Rattle.relation_terms.specs.Variances.{xform};
+ghost use Rattle.relation_terms.specs.Meaning.{arg_tree};
+ghost use Rattle.type_relations.specs.Parts.{IsFormed, IsFormedConst};
+ghost use Rattle.type_relations.specs.Lawful.{Asked, Related};
+
+use crate::relate::reading::{
+    compare_consts_of, compare_tys_of, const_part_of, const_parts_count_of, const_variance_at,
+    in_const, in_ty, note_args, part_of, parts_count_of, variance_at,
+};
+use crate::relate::{Step, TypeRelation};
+use relation_terms::terms::{
+    Const, Dup, GenericArg, GenericArgKind, Interner, Ty, Variance,
+};
+use relation_tools::error::{RelateFault, RelateResult, TypeError};
+
+/// Relates two types at the ambient variance, as the relation's steps lead.
+#[cycle(relate)]
+pub fn tys<I: Interner, R: TypeRelation<I>>(
+    r: &mut R,
+    a: &Ty<I>,
+    b: &Ty<I>,
+) -> RelateResult<I, Ty<I>>
+    requires lawful { (R.state r.old).lawful }
+    requires decides { (R.state r.old).ambient ≢ Bivariant }
+    requires asked { Asked R.manner (R.state r.old) (R.state r.old).ambient ((R.state r.old).meaning.ty a.now) ((R.state r.old).meaning.ty b.now) }
+    ensures { Related R.manner (R.state r.old) (R.state r.new) (R.state r.old).ambient ((R.state r.old).meaning.ty a.now) ((R.state r.old).meaning.ty b.now) (R.state r.new).meaning.ty result }
+{
+    match r.tys(a, b)? {
+        Step::Done(answer) => Ok(answer),
+        Step::Parts { a, b } => {
+            let answer = structurally_relate_tys(r, &a, &b)?;
+            r.tys_done(&a, &b)?;
+            Ok(answer)
+        }
+        Step::Again {
+            a,
+            b,
+            x,
+            y,
+            variance,
+        } => {
+            relate_with_variance(r, variance, &GenericArgKind::Ty(x), &GenericArgKind::Ty(y))?;
+            r.tys_done(&a, &b)?;
+            Ok(a)
+        }
+    }
+}
+
+/// Relates two constants at the ambient variance, as the relation's steps lead.
+#[cycle(relate)]
+pub fn consts<I: Interner, R: TypeRelation<I>>(
+    r: &mut R,
+    a: &Const<I>,
+    b: &Const<I>,
+) -> RelateResult<I, Const<I>>
+    requires lawful { (R.state r.old).lawful }
+    requires decides { (R.state r.old).ambient ≢ Bivariant }
+    requires asked { Asked R.manner (R.state r.old) (R.state r.old).ambient ((R.state r.old).meaning.const_ a.now) ((R.state r.old).meaning.const_ b.now) }
+    ensures { Related R.manner (R.state r.old) (R.state r.new) (R.state r.old).ambient ((R.state r.old).meaning.const_ a.now) ((R.state r.old).meaning.const_ b.now) (R.state r.new).meaning.const_ result }
+{
+    match r.consts(a, b)? {
+        Step::Done(answer) => Ok(answer),
+        Step::Parts { a, b } => structurally_relate_consts(r, &a, &b),
+        Step::Again {
+            a,
+            b: _,
+            x,
+            y,
+            variance,
+        } => {
+            let x = GenericArgKind::Const(x);
+            let y = GenericArgKind::Const(y);
+            relate_with_variance(r, variance, &x, &y)?;
+            Ok(a)
+        }
+    }
+}
+
+/// Relates two generic arguments at the ambient variance. Two of different kinds are `Mismatch`.
+#[cycle(relate)]
+pub fn relate<I: Interner, R: TypeRelation<I>>(
+    r: &mut R,
+    a: &GenericArg<I>,
+    b: &GenericArg<I>,
+) -> RelateResult<I, GenericArg<I>>
+    requires lawful { (R.state r.old).lawful }
+    requires decides { (R.state r.old).ambient ≢ Bivariant }
+    requires asked { Asked R.manner (R.state r.old) (R.state r.old).ambient (arg_tree (R.state r.old).meaning a.now) (arg_tree (R.state r.old).meaning b.now) }
+    ensures { Related R.manner (R.state r.old) (R.state r.new) (R.state r.old).ambient (arg_tree (R.state r.old).meaning a.now) (arg_tree (R.state r.old).meaning b.now) (arg_tree (R.state r.new).meaning) result }
+{
+    match a {
+        GenericArgKind::Lifetime(a) => {
+            let GenericArgKind::Lifetime(b) = b else {
+                return Err(RelateFault::Unrelated(TypeError::Mismatch));
+            };
+            Ok(GenericArgKind::Lifetime(r.regions(a, b)?))
+        }
+        GenericArgKind::Ty(a) => {
+            let GenericArgKind::Ty(b) = b else {
+                return Err(RelateFault::Unrelated(TypeError::Mismatch));
+            };
+            Ok(GenericArgKind::Ty(tys(r, a, b)?))
+        }
+        GenericArgKind::Const(a) => {
+            let GenericArgKind::Const(b) = b else {
+                return Err(RelateFault::Unrelated(TypeError::Mismatch));
+            };
+            Ok(GenericArgKind::Const(consts(r, a, b)?))
+        }
+    }
+}
+
+/// Relates two generic arguments at a variance, seen from the ambient one, which is put back after it. At bivariance they
+/// are not looked at, and the first is the answer.
+#[cycle(relate)]
+pub fn relate_with_variance<I: Interner, R: TypeRelation<I>>(
+    r: &mut R,
+    variance: Variance,
+    a: &GenericArg<I>,
+    b: &GenericArg<I>,
+) -> RelateResult<I, GenericArg<I>>
+    requires lawful { (R.state r.old).lawful }
+    requires asked { Asked R.manner (R.state r.old) (xform (R.state r.old).ambient variance) (arg_tree (R.state r.old).meaning a.now) (arg_tree (R.state r.old).meaning b.now) }
+    ensures { Related R.manner (R.state r.old) (R.state r.new) (xform (R.state r.old).ambient variance) (arg_tree (R.state r.old).meaning a.now) (arg_tree (R.state r.old).meaning b.now) (arg_tree (R.state r.new).meaning) result }
+{
+    let old = r.ambient();
+    let new = old.xform(variance);
+    if let Variance::Bivariant = new {
+        return Ok(a.dup());
+    }
+    r.set_ambient(new);
+    let answer = relate(r, a, b);
+    r.set_ambient(old);
+    answer
+}
+
+/// Relates two types by their outermost forms and their parts.
+#[cycle(relate)]
+pub fn structurally_relate_tys<I: Interner, R: TypeRelation<I>>(
+    r: &mut R,
+    a: &Ty<I>,
+    b: &Ty<I>,
+) -> RelateResult<I, Ty<I>>
+    requires lawful { (R.state r.old).lawful }
+    requires decides { (R.state r.old).ambient ≢ Bivariant }
+    requires asked { Asked R.manner (R.state r.old) (R.state r.old).ambient ((R.state r.old).meaning.ty a.now) ((R.state r.old).meaning.ty b.now) }
+    requires a_formed { IsFormed ((R.state r.old).meaning.ty a.now) }
+    requires b_formed { IsFormed ((R.state r.old).meaning.ty b.now) }
+    ensures { Related R.manner (R.state r.old) (R.state r.new) (R.state r.old).ambient ((R.state r.old).meaning.ty a.now) ((R.state r.old).meaning.ty b.now) (R.state r.new).meaning.ty result }
+{
+    compare_tys_of::<I, R>(r, a, b)?;
+    let n = parts_count_of::<I, R>(r, a);
+    for i in 0..n {
+        let x = part_of::<I, R>(r, a, i);
+        let y = part_of::<I, R>(r, b, i);
+        let variance = variance_at::<I, R>(r, a, i);
+        let related = relate_with_variance(r, variance, &x, &y);
+        in_ty::<I, R>(r, a, &x, &y, related)?;
+    }
+    note_args(r, a, b)?;
+    Ok(a.dup())
+}
+
+/// Relates two constants by their outermost forms and their parts. The types of values are not looked at.
+#[cycle(relate)]
+pub fn structurally_relate_consts<I: Interner, R: TypeRelation<I>>(
+    r: &mut R,
+    a: &Const<I>,
+    b: &Const<I>,
+) -> RelateResult<I, Const<I>>
+    requires lawful { (R.state r.old).lawful }
+    requires decides { (R.state r.old).ambient ≢ Bivariant }
+    requires asked { Asked R.manner (R.state r.old) (R.state r.old).ambient ((R.state r.old).meaning.const_ a.now) ((R.state r.old).meaning.const_ b.now) }
+    requires a_formed { IsFormedConst ((R.state r.old).meaning.const_ a.now) }
+    requires b_formed { IsFormedConst ((R.state r.old).meaning.const_ b.now) }
+    ensures { Related R.manner (R.state r.old) (R.state r.new) (R.state r.old).ambient ((R.state r.old).meaning.const_ a.now) ((R.state r.old).meaning.const_ b.now) (R.state r.new).meaning.const_ result }
+{
+    if a == b {
+        return Ok(a.dup());
+    }
+    compare_consts_of::<I, R>(r, a, b)?;
+    let n = const_parts_count_of::<I, R>(r, a);
+    for i in 0..n {
+        let x = const_part_of::<I, R>(r, a, i);
+        let y = const_part_of::<I, R>(r, b, i);
+        let variance = const_variance_at::<I, R>(r, a);
+        let related = relate_with_variance(r, variance, &x, &y);
+        in_const::<I, R>(r, a, b, related)?;
+    }
+    Ok(a.dup())
+}
