@@ -16,6 +16,7 @@ pub mod Opening
 pub mod Exactness
 pub mod Going
 pub mod Passing
+pub mod Fronts
 pub mod Lists
 pub mod Parts
 pub mod OneParts

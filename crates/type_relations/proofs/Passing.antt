@@ -277,3 +277,14 @@ module _ {Key Id Name : Type 0} where
       known = subst (λ u. IsTrue (known u)) (sym same) k;
     };
   }
+
+  -- Nothing was noted.
+  pub noted_nothing : {X : Type 0} (x : X) (r : State Key Id Name) → Noted r r (Ok x)
+  unfolding passes_nowhere
+  noted_nothing x r = record {
+    passes = passes_nowhere 0 r;
+    keeps = λ w s h. h;
+    quiet = All-nil IsQuiet;
+    same_budget = refl;
+    fault = tt;
+  }

@@ -1,0 +1,5 @@
+use Rattle.type_relations.proofs.Passing.{noted_nothing}
+use Rattle.type_relations.proofs.relate.reading.note_declared.Goals as goal
+
+pub returns-then-is_none : goal.returns-then-is_none
+returns-then-is_none g c = noted_nothing tt (g.R.TypeRelation.state c.args.r.now)
