@@ -10,7 +10,7 @@ use super::forms::{
     make_leaf_region, make_leaf_ty, make_parts, make_ty,
 };
 use crate::interner::{ItemId, RefInterner, SymbolId};
-use relation_terms::terms::{Dup, GenericArgKind, Interner, OutOfMemory, TermKind};
+use relation_terms::terms::{Dup, GenericArgKind, Interner, OutOfMemory, TermKind, TyKind};
 use relation_tools::error::ExpectedFound;
 use relation_tools::fold::{TypeFoldable, TypeFolder};
 use std::test::Fail;
@@ -64,10 +64,9 @@ enum Folded {
     ConstArg,
     TyTerm,
     ConstTerm,
-    Regions,
 }
 
-const ALL: [Folded; 14] = [
+const ALL: [Folded; 13] = [
     Folded::Ty,
     Folded::Region,
     Folded::Const,
@@ -81,7 +80,6 @@ const ALL: [Folded; 14] = [
     Folded::ConstArg,
     Folded::TyTerm,
     Folded::ConstTerm,
-    Folded::Regions,
 ];
 
 // A folder that puts the leaves that are put for those that are replaced.
@@ -160,8 +158,8 @@ fn const_stays<I: Interner>(cx: &mut I, name: &I::Name, shape: Shape) -> Result<
     folds(cx, &mut PutsNothing, &constant, &constant)
 }
 
-// Whether the folder makes of a value of two regions or of one term the same over the wanted parts.
-fn wrapped_folds<I: Interner, F: TypeFolder<I>>(
+// Whether the folder makes of an argument the same over the wanted parts.
+fn arg_folds<I: Interner, F: TypeFolder<I>>(
     cx: &mut I,
     folder: &mut F,
     part: Folded,
@@ -185,7 +183,7 @@ fn wrapped_folds<I: Interner, F: TypeFolder<I>>(
             let wanted = GenericArgKind::Ty(wanted.ty.dup());
             folds(cx, folder, &GenericArgKind::Ty(of.ty.dup()), &wanted)
         }
-        Folded::ConstArg => {
+        _ => {
             let wanted = GenericArgKind::Const(wanted.constant.dup());
             folds(
                 cx,
@@ -194,6 +192,21 @@ fn wrapped_folds<I: Interner, F: TypeFolder<I>>(
                 &wanted,
             )
         }
+    }
+}
+
+// Whether the folder makes of an argument or a term the same over the wanted parts.
+fn wrapped_folds<I: Interner, F: TypeFolder<I>>(
+    cx: &mut I,
+    folder: &mut F,
+    part: Folded,
+    of: &Parts<I::Key>,
+    wanted: &Parts<I::Key>,
+) -> Result<bool, OutOfMemory>
+    requires known { KnowsParts (I.meaning cx.old) (of.now).ty (of.now).region (of.now).constant (of.now).args (of.now).members (of.now).leaf (of.now).branches (of.now).branch }
+    requires ready { F.ready (I.meaning cx.old) folder.old }
+{
+    match part {
         Folded::TyTerm => {
             let wanted = TermKind::Ty(wanted.ty.dup());
             folds(cx, folder, &TermKind::Ty(of.ty.dup()), &wanted)
@@ -202,11 +215,7 @@ fn wrapped_folds<I: Interner, F: TypeFolder<I>>(
             let wanted = TermKind::Const(wanted.constant.dup());
             folds(cx, folder, &TermKind::Const(of.constant.dup()), &wanted)
         }
-        _ => {
-            let wanted = ExpectedFound::new(wanted.region.dup(), wanted.region.dup());
-            let pair = ExpectedFound::new(of.region.dup(), of.region.dup());
-            folds(cx, folder, &pair, &wanted)
-        }
+        _ => arg_folds(cx, folder, part, of, wanted),
     }
 }
 
@@ -257,6 +266,18 @@ fn stays_itself<I: Interner>(
     part_folds(cx, &mut PutsNothing, part, &of, &of)
 }
 
+// Whether both of a pair are folded, each at its place.
+#[tactic(auto, using(relation_terms::proofs::Stays::knows_ty))]
+fn pairs_fold<I: Interner>(cx: &mut I, name: &I::Name) -> Result<bool, OutOfMemory> {
+    let variable = make_leaf_ty(cx, Leaves::Replaced)?;
+    let put = make_leaf_ty(cx, Leaves::Put)?;
+    let never = cx.mk_ty(TyKind::Never)?;
+    let mut folder = make_folder(cx, name)?;
+    let pair = ExpectedFound::new(variable, never.dup());
+    let wanted = ExpectedFound::new(put, never);
+    folds(cx, &mut folder, &pair, &wanted)
+}
+
 #[test]
 fn types_are_folded_part_by_part(rt: HostRuntime) -> Result<(), Fail> {
     for label in TYPES {
@@ -287,6 +308,8 @@ fn constants_are_folded_part_by_part(rt: HostRuntime) -> Result<(), Fail> {
 
 #[test]
 fn leaves_lists_and_pairs_are_folded(rt: HostRuntime) -> Result<(), Fail> {
+    let mut cx = RefInterner::new(rt.alloc());
+    assert!(rt; pairs_fold(&mut cx, &SymbolId(0))?);
     for part in ALL {
         let mut cx = RefInterner::new(rt.alloc());
         assert!(rt; becomes_another(&mut cx, &SymbolId(0), part)?, "{part:?}");

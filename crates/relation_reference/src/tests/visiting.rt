@@ -15,7 +15,7 @@ use relation_tools::error::{ExpectedFound, TypeError, TypeErrorOf};
 use relation_tools::visit::{TypeSuperVisitable, TypeVisitable, Visit};
 use std::test::Fail;
 
-// What is asked of the arguments that forms are made over.
+// The form of a type over the leaves that are replaced, and what a visitor is asked about there, in order.
 const TYPES: [(Label, &[Label]); 22] = [
     (Label::Bool, &[Label::Bool]),
     (Label::Char, &[Label::Char]),
@@ -95,6 +95,7 @@ const TYPES: [(Label, &[Label]); 22] = [
     (Label::Infer, &[Label::Infer]),
 ];
 
+// The same of constants.
 const CONSTANTS: [(Shape, &[Label]); 5] = [
     (Shape::Param, &[Label::ConstParam]),
     (Shape::Placeholder, &[Label::ConstPlaceholder]),
