@@ -16,11 +16,11 @@ pub knows_parts : {Key Id Name : Type 0} {m n : Meaning Key Id Name} → Extends
     (b : BranchesKey Key) → (v : ValTreeKey Key) → KnowsParts m t r c a ts l b v → KnowsParts n t r c a ts l b v
 knows_parts e t r c a ts l b v h = (
   knows_ty e t h.0,
-  knows_region e r h.1.0,
-  knows_const e c h.1.1.0,
-  knows_args e a h.1.1.1.0,
-  knows_tys e ts h.1.1.1.1.0,
-  knows_valtree e l h.1.1.1.1.1.0,
-  knows_branches e b h.1.1.1.1.1.1.0,
-  knows_valtree e v h.1.1.1.1.1.1.1,
+  knows_region e r h.1,
+  knows_const e c h.2,
+  knows_args e a h.3,
+  knows_tys e ts h.4,
+  knows_valtree e l h.5,
+  knows_branches e b h.6,
+  knows_valtree e v h.7,
 )

@@ -68,9 +68,9 @@ impl<I: Interner> TypeFolder<I> for Puts<I::Key> {
         }
     }
 
-    ghost ready_on = { λ m n e f h. (knows_ty e f.ty h.0, knows_region e f.region h.1.0, knows_const e f.constant h.1.1) };
+    ghost ready_on = { λ m n e f h. (knows_ty e f.ty h.0, knows_region e f.region h.1, knows_const e f.constant h.2) };
 
-    ghost replaces_on = { λ m n e f h t. put_stays (f.variable).0 (f.region_variable).0 f.parameter (m.ty f.ty) (n.ty f.ty) (m.region f.region) (n.region f.region) (m.const_ f.constant) (n.const_ f.constant) t (e.ty f.ty h.0) (e.region f.region h.1.0) (e.const_ f.constant h.1.1) };
+    ghost replaces_on = { λ m n e f h t. put_stays (f.variable).0 (f.region_variable).0 f.parameter (m.ty f.ty) (n.ty f.ty) (m.region f.region) (n.region f.region) (m.const_ f.constant) (n.const_ f.constant) t (e.ty f.ty h.0) (e.region f.region h.1) (e.const_ f.constant h.2) };
 }
 
 /// Puts nothing.
