@@ -8,3 +8,4 @@ pub mod Adding
 pub mod Tables
 pub mod Parts
 pub mod Answers
+pub mod Putting
