@@ -7,3 +7,4 @@ pub mod Laws
 pub mod Adding
 pub mod Tables
 pub mod Answers
+pub mod Putting

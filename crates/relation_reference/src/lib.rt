@@ -3,3 +3,5 @@
 
 pub mod context;
 pub mod interner;
+#[cfg(test)]
+mod tests;

@@ -221,6 +221,13 @@ pub later : {Key Id Name F : Type 0} {Ready : Meaning Key Id Name → F → Type
 later {puts = puts} {m = m} {n = n} {f = f} {g = g} s t u v p q =
     q ∙ folded_later (puts m f) (puts n g) s.kept t u p
 
+-- What the steps before leave as it is, those after leave too.
+pub left_later : {Key Id Name F : Type 0} {Ready : Meaning Key Id Name → F → Type 0}
+    {puts : Meaning Key Id Name → F → Tree → Option Tree} {m n : Meaning Key Id Name} {f g : F} →
+    Steps Ready puts m f n g → (t u : Tree) → u ≡ t → folded (puts m f) t ≡ t → folded (puts n g) u ≡ u
+left_later {puts = puts} {m = m} {n = n} {f = f} {g = g} s t u p q =
+    folded_later (puts m f) (puts n g) s.kept t u p ∙ (q ∙ sym p)
+
 -- A type's form without parts is left as it is.
 module _ {Key Id Name : Type 0} (m : Meaning Key Id Name) (p : Tree → Option Tree) where
   pub leaf_made : (k : TyKind Key Id Name) →

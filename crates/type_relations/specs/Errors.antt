@@ -2,8 +2,8 @@
 use Rattle.std.specs.Prelude.{◌≡◌, ◌≢◌, ◌⊎◌, ℕ, zero, ◌<◌, Some}
 use Rattle.relation_terms.specs.declared.terms.keys.TyKey.{TyKey}
 use Rattle.relation_terms.specs.declared.terms.keys.ConstKey.{ConstKey}
-use Rattle.relation_terms.specs.Heads.{const_sort, VarKind, type_var, Atom, Head, array, tuple, raw_ptr, ref, expression, value}
-use Rattle.relation_terms.specs.Heads.{value_type, value_branch, Leaf, variable, atom}
+use Rattle.relation_terms.specs.Heads.{const_sort, VarKind, type_var, Atom, Head, array, tuple, raw_ptr, ref}
+use Rattle.relation_terms.specs.Heads.{expression, value, value_type, value_branch, Leaf, variable, atom}
 use Rattle.relation_terms.specs.Trees.{Tree, leaf, node, nil, cons, apply, count, nth, Occurs}
 use Rattle.relation_terms.specs.Meaning.{Meaning}
 use Rattle.relation_tools.specs.declared.error.ExpectedFound.{ExpectedFound}
@@ -99,9 +99,9 @@ module _ {Key Id Name : Type 0} (m : Meaning Key Id Name) where
     operations : {k l : ℕ} {ts us : Tree} → m.const_ x ≡ node (expression k) ts → m.const_ y ≡ node (expression l) us →
         (k ≢ l) ⊎ (count ts ≢ count us) → ConstFormError x y Mismatch
 
-  -- The error comes of a pair that is met when two terms are related: of two types or constants, as read, that differ in
-  -- form; of what they are read as by what is recorded; of two arguments of different kinds; of two parts at one place of
-  -- one form, as the whole's error; or of a variable that stands in what the other type comes to.
+  -- The error comes of a pair that is met when two terms are related: of two types or constants, as read, that differ
+  -- in form; of what they are read as by what is recorded; of two arguments of different kinds; of two parts at one
+  -- place of one form, as the whole's error; or of a variable that stands in what the other type comes to.
   pub data ErrorOf (st : Store) : TypeError Key Id Name → Tree → Tree → Type 0 where
     of_forms : {e : _} {a b : Tree} (x y : TyKey Key) → m.ty x ≡ a → m.ty y ≡ b → IsNoVariable a → IsNoVariable b →
         FormError x y e → ErrorOf st e a b

@@ -10,6 +10,7 @@ use Rattle.std.specs.declared.ops.ControlFlow.TheVariants.{Continue, Break}
 use Rattle.relation_terms.specs.Heads.{value_type}
 use Rattle.relation_terms.specs.Trees.{node, cons, nil, known, size}
 use Rattle.relation_terms.specs.Meaning.{kind_tree, const_tree, valtree_tree, arg_tree}
+use Rattle.relation_terms.specs.declared.terms.generic_arg.GenericArgKind.TheVariants.{Lifetime, Ty, Const}
 use Rattle.relation_terms.specs.declared.terms.ty_kind.TyKind.TheVariants.{Array, Slice, RawPtr, Ref}
 use Rattle.relation_terms.specs.declared.terms.const_kind.ConstKind.TheVariants.{Value}
 use Rattle.relation_terms.specs.declared.terms.const_kind.ValTreeKind.TheVariants.{Leaf, Branch}
@@ -240,6 +241,27 @@ visit_valtree_with-returns g t c =
     let r = c.visit_branches_with.result in
     over_form visits (valtree_tree m) v w t c.valtree_kind-kind.result (Branch c.in-Branch.branches) r
     c.valtree_kind-kind.ensures c.in-Branch.is (over_branches visits v w ts r c.visit_branches_with.ensures)
+
+pub visit_arg_with-returns-in-Lifetime : goal.visit_arg_with-returns-in-Lifetime
+visit_arg_with-returns-in-Lifetime g t c =
+    let m = g.I.Interner.meaning c.args.cx.now in
+    over_form (g.V.TypeVisitor.visits c.args.cx.now) (arg_tree m) c.args.visitor.now c.visit_region_with.new.visitor
+    (arg_tree m c.args.arg.now) c.args.arg.now (Lifetime c.in-Lifetime.region) c.visit_region_with.result refl
+    c.in-Lifetime.is c.visit_region_with.ensures
+
+pub visit_arg_with-returns-in-Ty : goal.visit_arg_with-returns-in-Ty
+visit_arg_with-returns-in-Ty g t c =
+    let m = g.I.Interner.meaning c.args.cx.now in
+    over_form (g.V.TypeVisitor.visits c.args.cx.now) (arg_tree m) c.args.visitor.now c.visit_ty_with.new.visitor
+    (arg_tree m c.args.arg.now) c.args.arg.now (Ty c.in-Ty.ty) c.visit_ty_with.result refl c.in-Ty.is
+    c.visit_ty_with.ensures
+
+pub visit_arg_with-returns-in-Const : goal.visit_arg_with-returns-in-Const
+visit_arg_with-returns-in-Const g t c =
+    let m = g.I.Interner.meaning c.args.cx.now in
+    over_form (g.V.TypeVisitor.visits c.args.cx.now) (arg_tree m) c.args.visitor.now c.visit_const_with.new.visitor
+    (arg_tree m c.args.arg.now) c.args.arg.now (Const c.in-Const.constant) c.visit_const_with.result refl c.in-Const.is
+    c.visit_const_with.ensures
 
 pub visit_args_with-loop-arg-preserved : goal.visit_args_with-loop-arg-preserved
 visit_args_with-loop-arg-preserved g t c =

@@ -1,0 +1,7 @@
+//! Visits, folds and what is asked about terms, at the reference interner.
+mod folders;
+mod folding;
+mod forms;
+mod kinds;
+mod questions;
+mod visiting;
