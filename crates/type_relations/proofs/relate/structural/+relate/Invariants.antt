@@ -1,0 +1,66 @@
+use Rattle.std.proofs.Common.{◌≡◌, ◌+◌, ◌*◌}
+use Rattle.relation_terms.specs.Trees.{count}
+use Rattle.relation_terms.specs.Meaning.{arg_tree}
+use Rattle.type_relations.specs.Stores.{weight}
+use Rattle.type_relations.specs.Measures.{depth}
+use Rattle.type_relations.specs.Parts.{parts_of, const_parts_of, head_of, const_head_of}
+use Rattle.type_relations.proofs.Fronts.{Fronted, AreParts}
+use Rattle.type_relations.proofs.relate.structural.+relate.Given as goal
+
+abbrev pub decreases-structurally_relate_tys : goal.decreases-structurally_relate_tys
+decreases-structurally_relate_tys g l =
+    let r = g.R.TypeRelation.state l.r.now in
+    8 * depth (r.store).budget (weight r.store ((r.meaning).ty l.a.now) + weight r.store ((r.meaning).ty l.b.now)) + 1
+
+abbrev pub decreases-structurally_relate_consts : goal.decreases-structurally_relate_consts
+decreases-structurally_relate_consts g l =
+    let r = g.R.TypeRelation.state l.r.now in
+    8 * depth (r.store).budget (weight r.store ((r.meaning).const_ l.a.now) + weight r.store ((r.meaning).const_ l.b.now)) + 1
+
+abbrev pub decreases-tys : goal.decreases-tys
+decreases-tys g l =
+    let r = g.R.TypeRelation.state l.r.now in
+    8 * depth (r.store).budget (weight r.store ((r.meaning).ty l.a.now) + weight r.store ((r.meaning).ty l.b.now)) + 2
+
+abbrev pub decreases-consts : goal.decreases-consts
+decreases-consts g l =
+    let r = g.R.TypeRelation.state l.r.now in
+    8 * depth (r.store).budget (weight r.store ((r.meaning).const_ l.a.now) + weight r.store ((r.meaning).const_ l.b.now)) + 2
+
+abbrev pub decreases-relate : goal.decreases-relate
+decreases-relate g l =
+    let r = g.R.TypeRelation.state l.r.now in
+    8 * depth (r.store).budget (weight r.store (arg_tree r.meaning l.a.now) + weight r.store (arg_tree r.meaning l.b.now)) + 3
+
+abbrev pub decreases-relate_with_variance : goal.decreases-relate_with_variance
+decreases-relate_with_variance g l =
+    let r = g.R.TypeRelation.state l.r.now in
+    8 * depth (r.store).budget (weight r.store (arg_tree r.meaning l.a.now) + weight r.store (arg_tree r.meaning l.b.now)) + 4
+
+abbrev pub invariant-structurally_relate_tys-loop-i : goal.invariant-structurally_relate_tys-loop-i
+invariant-structurally_relate_tys-loop-i g l =
+    let r = g.R.TypeRelation.state l.initial.r in
+    let q = g.R.TypeRelation.state l.r in
+    let t = (r.meaning).ty l.a in
+    let u = (r.meaning).ty l.b in
+    record {
+      lawful : q.lawful;
+      fronted : Fronted r q (head_of t) r.ambient l.i (parts_of t) (parts_of u);
+      left_count : l.n ≡ count (parts_of t);
+      right_count : l.n ≡ count (parts_of u);
+      are_parts : AreParts r.store (parts_of t) (parts_of u);
+    }
+
+abbrev pub invariant-structurally_relate_consts-loop-i : goal.invariant-structurally_relate_consts-loop-i
+invariant-structurally_relate_consts-loop-i g l =
+    let r = g.R.TypeRelation.state l.initial.r in
+    let q = g.R.TypeRelation.state l.r in
+    let t = (r.meaning).const_ l.a in
+    let u = (r.meaning).const_ l.b in
+    record {
+      lawful : q.lawful;
+      fronted : Fronted r q (const_head_of t) r.ambient l.i (const_parts_of t) (const_parts_of u);
+      left_count : l.n ≡ count (const_parts_of t);
+      right_count : l.n ≡ count (const_parts_of u);
+      are_parts : AreParts r.store (const_parts_of t) (const_parts_of u);
+    }
