@@ -29,6 +29,11 @@ pub record AreParts (st : Store) (xs ys : Tree) : Type 0 where
   pub left_in : InContext st xs
   pub right_in : InContext st ys
 
+-- A part weighs less than the list.
+nth_weight : (st : Store) (ts : Tree) (i : ℕ) → i < count ts → weight st (nth i ts) < weight st ts
+unfolding weight
+nth_weight st ts i h = nth_size (resolved st) ts i h
+
 module _ {Key Id Name : Type 0} where
   pub fronted_none : (r : State Key Id Name) (h : Head) (v : Variance) (xs ys : Tree) → Fronted r r h v 0 xs ys
   unfolding passes_nowhere
@@ -36,10 +41,6 @@ module _ {Key Id Name : Type 0} where
     passes = passes_nowhere (weight r.store xs + weight r.store ys) r;
     front = front_begins (items_in r) r.environment h v r.store r.goals xs ys;
   }
-
-  nth_weight : (st : Store) (ts : Tree) (i : ℕ) → i < count ts → weight st (nth i ts) < weight st ts
-  unfolding weight
-  nth_weight st ts i h = nth_size (resolved st) ts i h
 
   module _ {r q : State Key Id Name} (h : Head) (v : Variance) (i : ℕ) (xs ys x y : Tree) (f : Fronted r q h v i xs ys)
       (lx : i < count xs) (ly : i < count ys) (ex : x ≡ nth i xs) (ey : y ≡ nth i ys) where

@@ -62,19 +62,19 @@ no_const_arg t (Const s) o = o s refl
 no_const_arg t Y o = tt
 
 -- The sort of a term is that of what it comes to.
-abbrev AtTop : Sort → Sort → Type 0
+abbrev pub AtTop : Sort → Sort → Type 0
 AtTop region_sort k = k ≡ region_sort
 AtTop type_sort k = k ≡ type_sort
 AtTop const_sort k = k ≡ const_sort
 AtTop s k = ⊥
 
-at_top : (s k : Sort) → AtTop s s → Admits s k → AtTop s k
+pub at_top : (s k : Sort) → AtTop s s → Admits s k → AtTop s k
 at_top region_sort region_sort t h = refl
 at_top type_sort type_sort t h = refl
 at_top const_sort const_sort t h = refl
 at_top s k t h = first_of (search h, search t)
 
-value_top : (st : Store) (s : Assign) (k : Sort) (t : Tree) → AtTop k k → IsAssignment st s → InContext st t → IsTerm k t → AtTop k (sort_of (apply s t))
+pub value_top : (st : Store) (s : Assign) (k : Sort) (t : Tree) → AtTop k k → IsAssignment st s → InContext st t → IsTerm k t → AtTop k (sort_of (apply s t))
 unfolding InContext
 value_top st s k (leaf (variable v n)) a g c h =
     let e = at_top k (var_sort v) a h in

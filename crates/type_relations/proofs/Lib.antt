@@ -17,6 +17,8 @@ pub mod Exactness
 pub mod Going
 pub mod Passing
 pub mod Fronts
+pub mod Structural
+pub mod StructuralConsts
 pub mod Lists
 pub mod Parts
 pub mod OneParts

@@ -4,6 +4,8 @@ use Rattle.relation_terms.specs.Variances.{xform}
 use Rattle.relation_terms.specs.Meaning.{arg_tree}
 use Rattle.type_relations.specs.Parts.{IsFormed, IsFormedConst}
 use Rattle.type_relations.specs.Lawful.{Asked, Related}
+use Rattle.type_relations.proofs.Structural.{types_related, ty_refused}
+use Rattle.type_relations.proofs.StructuralConsts.{consts_related, const_refused, itself_related, types_differ, consts_differ, kinds_differ}
 use Rattle.type_relations.proofs.relate.structural.+relate.Goals as goal
 
 -- src/relate/structural.rt:65:1

@@ -1,0 +1,185 @@
+-- Types and constants that are related by their outermost forms and their parts.
+use Rattle.std.proofs.Common.{◌≡◌, ◌⊎◌, ℕ, zero, suc, ◌+◌, ◌*◌, ◌≤◌, ◌<◌, refl, sym, ap, ◌∙◌, subst, subst₂, arith, List, [], ◌++◌, All, IsTrue, Result, Ok, Err}
+use Rattle.relation_terms.specs.declared.terms.enums.Variance.{Variance}
+use Rattle.relation_terms.specs.Heads.{Head, type_sort, const_sort, region_sort, Sort, Admits, head_sort, array, expression, value, value_type, value_branch}
+use Rattle.relation_terms.specs.Trees.{Tree, leaf, node, nil, cons, known, IsList, IsTerm, count, nth, apply, Assign}
+use Rattle.relation_terms.specs.Meaning.{Meaning, Extends, arg_tree}
+use Rattle.relation_terms.specs.declared.terms.keys.ConstKey.{ConstKey}
+use Rattle.relation_terms.specs.declared.terms.generic_arg.GenericArgKind.{GenericArgKind}
+use Rattle.relation_terms.specs.declared.terms.generic_arg.GenericArgKind.TheVariants.{Lifetime, Ty, Const}
+use Rattle.relation_terms.proofs.Sorted.{Sorted}
+use Rattle.relation_tools.specs.declared.error.ExpectedFound.{ExpectedFound}
+use Rattle.relation_tools.specs.declared.error.TypeError.{TypeError}
+use Rattle.relation_tools.specs.declared.error.TypeError.TheVariants.{ArraySize, ConstMismatch, Mismatch}
+use Rattle.relation_tools.specs.declared.error.RelateFault.{RelateFault}
+use Rattle.relation_tools.specs.declared.error.RelateFault.TheVariants.{Memory, Budget, Unrelated}
+use Rattle.relation_tools.specs.Faults.{KnowsError, KnowsFault}
+use Rattle.type_relations.specs.Relation.{Items, Interpretation, at, parts, part_at, Rel, same, atoms, forms, anything, no_parts, next_part, sort_of}
+use Rattle.type_relations.specs.Stores.{Store, Satisfies, InContext, IsTermIn, weight}
+use Rattle.type_relations.specs.Goals.{Goal, Holds}
+use Rattle.type_relations.specs.Outcomes.{Outcome, Front, NeverOne}
+use Rattle.type_relations.specs.Errors.{ErrorOf, IsHandedOn, of_parts, of_length, of_branches, of_kinds, AreOfOneForm, over_parts, one_leaf, parameters}
+use Rattle.type_relations.specs.Errors.{AreOfOneConst, AreOfOneValue, values, expressions, const_parameters, one_value, as_many_branches}
+use Rattle.type_relations.specs.Parts.{IsFormed, IsFormedConst, parts_of, const_parts_of, branches_of, head_of, const_head_of}
+use Rattle.type_relations.specs.Handing.{IsPassedOn, IsNoLength, IsFaultOfTy, passed, sized, IsPassedOnConst, IsFaultOfConst, passed_const, whole}
+use Rattle.type_relations.specs.Lawful.{State, Manner, IsManner, Passes, Refuses, Answers, Related, items_in}
+use Rattle.type_relations.proofs.Passing.{passes_within}
+use Rattle.type_relations.proofs.Fronts.{Fronted, AreParts, fronted_never, fronted_all, fronted_passes}
+use Rattle.type_relations.proofs.OneParts.{related_head, parts_equal, const_parts_equal, sort_is}
+use Rattle.type_relations.proofs.Handing.{ty_fault_known, const_fault_known}
+use Rattle.type_relations.proofs.PartSizes.{weight_parts_most, weight_const_parts_most}
+
+-- The error of two parts of two types as the error of the types.
+module _ {Key Id Name : Type 0} (n p : Meaning Key Id Name) (e : Extends n p) (s : Sorted n) (a b : Tree)
+    (i : ℕ) (X Y : GenericArgKind Key) (x_known : IsTrue (known (arg_tree n X)))
+    (y_known : IsTrue (known (arg_tree n Y))) where
+  no_const : (k : Sort) (t : Tree) → (Admits k const_sort → ⊥) → IsTerm k t → sort_of t ≡ const_sort → ⊥
+  no_const k t o h z = o (subst (Admits k) z (sort_is k t h))
+
+  handed_on : (h : Head) (ts : Tree) (f : TypeError Key Id Name) → head_sort h ≡ type_sort → (IsPassedOn (Unrelated f) (node h ts) X Y) → IsHandedOn f h (arg_tree n X) (arg_tree n Y)
+  handed_on array ts (ConstMismatch w) g o = lengths X Y x_known y_known o
+    where
+      lengths : (X Y : GenericArgKind Key) → IsTrue (known (arg_tree n X)) → IsTrue (known (arg_tree n Y)) → IsNoLength (node array ts) X Y → sort_of (arg_tree n X) ≡ const_sort → sort_of (arg_tree n Y) ≡ const_sort → ⊥
+      lengths (Const c) (Const d) k l o = absurd o
+      lengths (Lifetime c) Y k l o = λ u v. no_const region_sort (n.region c) (λ z. z) (s.region c k) u
+      lengths (Ty c) Y k l o = λ u v. no_const type_sort (n.ty c) (λ z. z) (s.ty c k) u
+      lengths (Const c) (Lifetime d) k l o = λ u v. no_const region_sort (n.region d) (λ z. z) (s.region d l) v
+      lengths (Const c) (Ty d) k l o = λ u v. no_const type_sort (n.ty d) (λ z. z) (s.ty d l) v
+  handed_on value ts f g o = absurd (cc)
+  handed_on value_type ts f g o = absurd (cc)
+  handed_on value_branch ts f g o = absurd (cc)
+  handed_on h ts f g o = tt
+
+  module _ (x y : Tree) (ex : arg_tree n X ≡ x) (ey : arg_tree n Y ≡ y) where
+    -- The types' own error.
+    ty_error : (st : Store) (f : TypeError Key Id Name) (h : Head) (ts us : Tree) → a ≡ node h ts → b ≡ node h us → head_sort h ≡ type_sort → count ts ≡ count us → i < count ts → x ≡ nth i ts → y ≡ nth i us
+        → IsPassedOn (Unrelated f) a X Y → ErrorOf p st f x y → ErrorOf p st f a b
+    ty_error st f h ts us d c g m l z w o u = of_parts i d c m l
+        (subst₂ (IsHandedOn f h) (ex ∙ z) (ey ∙ w) (handed_on h ts f g (subst (λ t. IsPassedOn (Unrelated f) t X Y) d o))) (subst₂ (ErrorOf p st f) z w u)
+
+    length_error : (st : Store) (f : ExpectedFound (ConstKey Key)) (c d : ConstKey Key) (ts us : Tree) (h : Head) (vs : Tree) → a ≡ node h ts → b ≡ node h us → a ≡ node array vs → count ts ≡ count us → i < count ts
+        → x ≡ nth i ts → y ≡ nth i us → X ≡ Const c → Y ≡ Const d → ErrorOf p st (ConstMismatch f) x y → ErrorOf p st (ArraySize (record { expected = c; found = d })) a b
+    length_error st f c d ts us h vs j k v m l z w u o t =
+        let is : h ≡ array = (let q = sym j ∙ v in cc) in
+        of_length c d i (j ∙ ap (λ z. node z ts) is) (k ∙ ap (λ z. node z us) is) m l
+        (sym z ∙ sym ex ∙ ap (arg_tree n) u ∙ sym (e.const_ c (subst (λ z. IsTrue (known (arg_tree n z))) u x_known)))
+        (sym w ∙ sym ey ∙ ap (arg_tree n) o ∙ sym (e.const_ d (subst (λ z. IsTrue (known (arg_tree n z))) o y_known)))
+        (subst₂ (ErrorOf p st (ConstMismatch f)) z w t)
+
+    pub ty_complains : (st : Store) (f : TypeError Key Id Name) (g : RelateFault Key Id Name) → IsFormed a →
+        AreOfOneForm a b → i < count (parts_of a) → x ≡ nth i (parts_of a) → y ≡ nth i (parts_of b) →
+        IsFaultOfTy a X Y (Unrelated f) g → ErrorOf p st f x y →
+        (k : TypeError Key Id Name) × (g ≡ Unrelated k) × ErrorOf p st k a b
+    ty_complains st f g t (one_leaf j k) l z w o h =
+        absurd (let c : count (parts_of a) ≡ 0 = ap (λ z. count (parts_of z)) j in omega (arith, c, l))
+    ty_complains st f g t (parameters j k v) l z w o h =
+        absurd (let c : count (parts_of a) ≡ 0 = ap (λ z. count (parts_of z)) j in omega (arith, c, l))
+    ty_complains st f g t (over_parts {h = hd} {ts} {us} j k v) l z w (passed is o) h = (
+      f,
+      is,
+      ty_error st f hd ts us j k (subst IsFormed j t) v (subst (λ z. i < count (parts_of z)) j l)
+          (z ∙ ap (λ z. nth i (parts_of z)) j) (w ∙ ap (λ z. nth i (parts_of z)) k) o h,
+    )
+    ty_complains st f g t (over_parts {h = hd} {ts} {us} j k v) l z w (sized {ts = vs} c d o j' k' l' is eq) h =
+        let same : f ≡ ConstMismatch o = cc in (
+          ArraySize (record { expected = c; found = d }),
+          eq,
+          length_error st o c d ts us hd vs j k j' v (subst (λ z. i < count (parts_of z)) j l)
+              (z ∙ ap (λ z. nth i (parts_of z)) j) (w ∙ ap (λ z. nth i (parts_of z)) k) k' l'
+              (subst (λ z. ErrorOf p st z x y) same h),
+        )
+
+-- A fault of two parts as the fault of the types, and as that of the constants.
+module _ {Key Id Name : Type 0} where
+  pub same_fault : (t : Tree) (X Y : GenericArgKind Key) (f g : RelateFault Key Id Name) → IsFaultOfTy t X Y f g →
+      ((e : TypeError Key Id Name) → f ≡ Unrelated e → ⊥) → g ≡ f
+  same_fault t X Y f g (passed is o) n = is
+  same_fault t X Y f g (sized c d p j x y is e) n = absurd (n (ConstMismatch p) is)
+
+  pub same_const_fault : (t : Tree) (c d : ConstKey Key) (f g : RelateFault Key Id Name) → IsFaultOfConst t c d f g →
+      ((e : TypeError Key Id Name) → f ≡ Unrelated e → ⊥) → g ≡ f
+  same_const_fault t c d f g (passed_const is o) n = is
+  same_const_fault t c d f g (whole e j is k) n = absurd (n e is)
+
+-- Lists of parts of a form that are never one are the parts of forms that are never one.
+pub types_never : (st : Store) (v : Variance) (a b : Tree) → AreOfOneForm a b →
+    NeverOne (parts (head_of a) 0 v) st (parts_of a) (parts_of b) → NeverOne (at v) st a b
+types_never st v a b o n w s sat q = n w s sat (parts_equal a b o s q)
+
+pub consts_never : (st : Store) (v : Variance) (a b : Tree) → AreOfOneConst a b →
+    NeverOne (parts (const_head_of a) 0 v) st (const_parts_of a) (const_parts_of b) → NeverOne (at v) st a b
+consts_never st v a b o n w s sat q = n w s sat (const_parts_equal a b o s q)
+
+module _ {Key Id Name : Type 0} {r q : State Key Id Name} (M : Manner) (v : Variance) (a b : Tree) (i : ℕ) where
+  -- Two parts of two types were refused, and so are the types.
+  module _ (is_formed : IsFormed a) (o : AreOfOneForm a b) (f : Fronted r q (head_of a) v i (parts_of a) (parts_of b))
+      (are : AreParts r.store (parts_of a) (parts_of b)) (X Y : GenericArgKind Key)
+      (x_known : IsTrue (known (arg_tree q.meaning X))) (y_known : IsTrue (known (arg_tree q.meaning Y)))
+      (s : Sorted q.meaning) (lx : i < count (parts_of a)) (ly : i < count (parts_of b))
+      (ex : arg_tree q.meaning X ≡ nth i (parts_of a)) (ey : arg_tree q.meaning Y ≡ nth i (parts_of b)) where
+    ty_refuses : {n : ℕ} {p : State Key Id Name} (g : Passes n q p) (e k : RelateFault Key Id Name) →
+        IsTrue (known (arg_tree p.meaning X)) → IsTrue (known (arg_tree p.meaning Y)) → IsFaultOfTy a X Y e k →
+        Refuses q p (part_at (items_in r) (head_of a) i v) (arg_tree q.meaning X) (arg_tree q.meaning Y) e →
+        Refuses r p v a b k
+    ty_refuses {p = p} g Memory k kx ky t h =
+        subst (Refuses r p v a b) (sym (same_fault a X Y Memory k t (λ e z. cc))) tt
+    ty_refuses {p = p} g Budget k kx ky t h =
+        subst (Refuses r p v a b) (sym (same_fault a X Y Budget k t (λ e z. cc))) h
+    ty_refuses {p = p} g (Unrelated e) k kx ky t h =
+        let z = ty_complains q.meaning p.meaning g.extends s a b i X Y x_known y_known (arg_tree q.meaning X)
+            (arg_tree q.meaning Y) refl refl p.store e k is_formed o lx ex ey t h.1 in
+        subst (Refuses r p v a b) (sym z.1) (
+          types_never r.store v a b o (fronted_never (head_of a) v i (parts_of a) (parts_of b) (arg_tree q.meaning X)
+              (arg_tree q.meaning Y) f lx ly ex ey are h.0),
+          z.2,
+          subst (KnowsFault p.meaning) z.1 (ty_fault_known p.meaning a X Y (Unrelated e) k kx ky t h.2),
+        )
+
+    pub ty_refused : {A B : Type 0} {p : State Key Id Name} (tree : A → Tree) (answer : B → Tree)
+        (e k : RelateFault Key Id Name) → IsTrue (known (arg_tree p.meaning X)) →
+        IsTrue (known (arg_tree p.meaning Y)) → IsFaultOfTy a X Y e k →
+        Related M q p (part_at (items_in r) (head_of a) i v) (arg_tree q.meaning X) (arg_tree q.meaning Y) tree (Err e) →
+        Related M r p v a b answer (Err k)
+    ty_refused {p = p} tree answer e k kx ky t g = record {
+      passes = passes_within (omega (arith, weight_parts_most r.store a, weight_parts_most r.store b))
+          (fronted_passes (head_of a) v i (parts_of a) (parts_of b) (arg_tree q.meaning X) (arg_tree q.meaning Y) f lx ly
+          ex ey g.passes);
+      verdict = ty_refuses g.passes e k kx ky t g.verdict;
+    }
+
+  -- All parts of two types were related, and so are the types.
+  types_relate : IsFormed a → (o : AreOfOneForm a b) → (f : Fronted r q (head_of a) v i (parts_of a) (parts_of b)) →
+      AreParts r.store (parts_of a) (parts_of b) → i ≡ count (parts_of a) → i ≡ count (parts_of b) →
+      (w : Interpretation) (s : Assign) → Satisfies w q.store s →
+      All (Holds (items_in r) w s) (r.goals ++ (f.passes).added) →
+      Rel (items_in r) w r.environment (at v) (apply s a) (apply s b)
+  types_relate is_formed (over_parts {h} {ts} {us} d e n) f are ea eb w s sat all =
+      let whole = fronted_all (head_of a) v i (parts_of a) (parts_of b) are ea eb f in
+      subst₂ (λ x y. Rel (items_in r) w r.environment (at v) (apply s x) (apply s y)) (sym d) (sym e)
+      (forms (related_head h (subst IsFormed d is_formed)) refl
+      (subst (λ z. Rel (items_in r) w r.environment (parts h 0 v) (apply s (parts_of z)) (apply s us)) d
+      (subst (λ z. Rel (items_in r) w r.environment (parts h 0 v) (apply s (parts_of a)) (apply s (parts_of z))) e
+      (subst (λ z. Rel (items_in r) w r.environment (parts (head_of z) 0 v) (apply s (parts_of a)) (apply s (parts_of b))) d
+      (whole.relates w s sat all)))))
+  types_relate is_formed (one_leaf d e) f are ea eb w s sat all = same (ap (apply s) (d ∙ sym e))
+  types_relate is_formed (parameters d e p) f are ea eb w s sat all =
+      subst₂ (λ x y. Rel (items_in r) w r.environment (at v) (apply s x) (apply s y)) (sym d) (sym e) (atoms p)
+
+  pub types_related : {X : Type 0} (is : IsManner M) (tree : X → Tree) (x : X) → IsFormed a → AreOfOneForm a b →
+      Fronted r q (head_of a) v i (parts_of a) (parts_of b) → AreParts r.store (parts_of a) (parts_of b) →
+      i ≡ count (parts_of a) → i ≡ count (parts_of b) → tree x ≡ a → IsTrue (known a) →
+      Related M r q v a b tree (Ok x)
+  unfolding passes_within
+  types_related is tree x is_formed o f are ea eb answer k = record {
+    passes = passes_within (omega (arith, weight_parts_most r.store a, weight_parts_most r.store b)) f.passes;
+    verdict = record {
+      outcome = record {
+        later = ((f.passes).goes).later;
+        goals_in = (f.passes).goals_in;
+        relates = types_relate is_formed o f are ea eb;
+        keeps = λ w s sat z. (f.front).keeps w s sat (parts_equal a b o s z);
+      };
+      answer = subst (M.answers q.store a) (sym answer) (is.answers_itself q.store a);
+      known = subst (λ u. IsTrue (known u)) (sym answer) k;
+    };
+  }

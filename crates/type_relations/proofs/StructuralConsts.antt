@@ -1,0 +1,274 @@
+-- Constants that are related by their outermost forms and their parts, and terms whose outermost forms differ.
+use Rattle.std.proofs.Common.{◌≡◌, ◌⊎◌, ℕ, zero, suc, ◌+◌, ◌*◌, ◌≤◌, ◌<◌, refl, sym, ap, ◌∙◌, subst, subst₂, arith, List, [], ◌++◌, All, IsTrue, Result, Ok, Err}
+use Rattle.relation_terms.specs.declared.terms.enums.Variance.{Variance}
+use Rattle.relation_terms.specs.declared.terms.enums.Variance.TheVariants.{Covariant, Contravariant, Invariant, Bivariant}
+use Rattle.relation_terms.specs.Variances.{xform}
+use Rattle.relation_terms.specs.Heads.{Head, type_sort, const_sort, region_sort, Sort, expression, value, value_type, value_branch}
+use Rattle.relation_terms.specs.Trees.{Tree, leaf, node, nil, cons, known, IsList, IsTerm, count, nth, apply, Assign}
+use Rattle.relation_terms.specs.Meaning.{Meaning, Extends, arg_tree}
+use Rattle.relation_terms.specs.declared.terms.keys.TyKey.{TyKey}
+use Rattle.relation_terms.specs.declared.terms.keys.ConstKey.{ConstKey}
+use Rattle.relation_terms.specs.declared.terms.generic_arg.GenericArgKind.{GenericArgKind}
+use Rattle.relation_terms.specs.declared.terms.generic_arg.GenericArgKind.TheVariants.{Lifetime, Ty, Const}
+use Rattle.relation_terms.proofs.Sorted.{Sorted}
+use Rattle.relation_tools.specs.declared.error.TypeError.{TypeError}
+use Rattle.relation_tools.specs.declared.error.TypeError.TheVariants.{ConstMismatch, Mismatch}
+use Rattle.relation_tools.specs.declared.error.RelateFault.{RelateFault}
+use Rattle.relation_tools.specs.declared.error.RelateFault.TheVariants.{Memory, Budget, Unrelated}
+use Rattle.relation_tools.specs.Faults.{KnowsError, KnowsFault}
+use Rattle.type_relations.specs.Relation.{Items, Interpretation, at, parts, part_at, Rel, same, atoms, forms, anything, no_parts, next_part, sort_of}
+use Rattle.type_relations.specs.Stores.{Store, Satisfies, InContext, IsTermIn, weight}
+use Rattle.type_relations.specs.Goals.{Goal, Holds}
+use Rattle.type_relations.specs.Outcomes.{Outcome, Front, NeverOne}
+use Rattle.type_relations.specs.Errors.{ErrorOf, of_parts, of_branches, of_kinds, of_forms, of_const_forms, FormError, ConstFormError}
+use Rattle.type_relations.specs.Errors.{AreOfOneConst, AreOfOneValue, values, expressions, const_parameters, one_value, as_many_branches}
+use Rattle.type_relations.specs.Parts.{IsFormed, IsFormedConst, const_parts_of, branches_of, const_head_of}
+use Rattle.type_relations.specs.Handing.{IsPassedOnConst, IsFaultOfConst, passed_const, whole}
+use Rattle.type_relations.specs.Lawful.{State, Manner, IsManner, Passes, Refuses, Answers, Related, items_in}
+use Rattle.type_relations.proofs.Passing.{passes_within, passes_nowhere}
+use Rattle.type_relations.proofs.Fronts.{Fronted, AreParts, fronted_never, fronted_all, fronted_passes}
+use Rattle.type_relations.proofs.Structural.{same_const_fault, consts_never}
+use Rattle.type_relations.proofs.OneParts.{const_parts_equal, sort_is}
+use Rattle.type_relations.proofs.Comparing.{form_apart, const_form_apart, known_error, known_const_error, formed_no_variable, formed_const_no_variable}
+use Rattle.type_relations.proofs.Handing.{const_fault_known, AreOfTwoKinds, AtTop, at_top, value_top}
+use Rattle.type_relations.proofs.PartSizes.{weight_const_parts_most}
+
+-- The error of two parts of two constants as the error of the constants.
+module _ {Key Id Name : Type 0} (p : Meaning Key Id Name) (c d : ConstKey Key) (i : ℕ) (x y : Tree) where
+  branch_error : (st : Store) (e : TypeError Key Id Name) (t u v w : Tree) →
+      p.const_ c ≡ node value (cons (node value_type (cons t nil)) (cons v nil)) →
+      p.const_ d ≡ node value (cons (node value_type (cons u nil)) (cons w nil)) → AreOfOneValue v w →
+      i < count (branches_of v) → x ≡ nth i (branches_of v) → y ≡ nth i (branches_of w) → ErrorOf p st e x y →
+      ErrorOf p st (ConstMismatch (record { expected = c; found = d })) (p.const_ c) (p.const_ d)
+  branch_error st e t u v w j k (as_many_branches {ts} {us} a b n) l z o h =
+      of_branches c d i (j ∙ ap (λ z. node value (cons (node value_type (cons t nil)) (cons z nil))) a)
+      (k ∙ ap (λ z. node value (cons (node value_type (cons u nil)) (cons z nil))) b) n
+      (subst (λ z. i < count (branches_of z)) a l)
+      (subst₂ (ErrorOf p st e) (z ∙ ap (λ z. nth i (branches_of z)) a) (o ∙ ap (λ z. nth i (branches_of z)) b) h)
+  branch_error st e t u (node value_branch ts) w j k (one_value a) l z o h =
+      of_branches c d i j (k ∙ ap (λ z. node value (cons (node value_type (cons u nil)) (cons z nil))) (sym a)) refl l
+      (subst₂ (ErrorOf p st e) z (o ∙ ap (λ z. nth i (branches_of z)) (sym a)) h)
+  branch_error st e t u v w j k (one_value a) l z o h = absurd (omega (arith, l))
+
+  pub const_complains : (st : Store) (f : TypeError Key Id Name) (g : RelateFault Key Id Name) →
+      AreOfOneConst (p.const_ c) (p.const_ d) → i < count (const_parts_of (p.const_ c)) →
+      x ≡ nth i (const_parts_of (p.const_ c)) → y ≡ nth i (const_parts_of (p.const_ d)) →
+      IsFaultOfConst (p.const_ c) c d (Unrelated f) g → ErrorOf p st f x y →
+      (k : TypeError Key Id Name) × (g ≡ Unrelated k) × ErrorOf p st k (p.const_ c) (p.const_ d)
+  const_complains st f g (const_parameters j k n) l z w o h =
+      absurd (let e : count (const_parts_of (p.const_ c)) ≡ 0 = ap (λ z. count (const_parts_of z)) j in omega (arith, e, l))
+  const_complains st f g (values j k n) l z w (passed_const is o) h = absurd (subst (IsPassedOnConst (Unrelated f)) j o)
+  const_complains st f g (values {t} {u = t'} {v} {w = v'} j k n) l z w (whole e o is eq) h = (
+    ConstMismatch (record { expected = c; found = d }),
+    eq,
+    branch_error st f t t' v v' j k n (subst (λ z. i < count z) (ap const_parts_of j) l)
+        (z ∙ ap (λ z. nth i (const_parts_of z)) j) (w ∙ ap (λ z. nth i (const_parts_of z)) k) h,
+  )
+  const_complains st f g (expressions {k = op} {ts} {us} j k n) l z w (passed_const is o) h = (
+    f,
+    is,
+    of_parts i j k n (subst (λ z. i < count (const_parts_of z)) j l) tt
+        (subst₂ (ErrorOf p st f) (z ∙ ap (λ z. nth i (const_parts_of z)) j) (w ∙ ap (λ z. nth i (const_parts_of z)) k) h),
+  )
+  const_complains st f g (expressions {k = op} {ts} {us} j k n) l z w (whole {ts = vs} e o is eq) h =
+      absurd (let y' = sym j ∙ o in cc)
+
+-- The same, of trees that are the constants'.
+pub consts_complain : {Key Id Name : Type 0} (p : Meaning Key Id Name) (c d : ConstKey Key) (i : ℕ) (x y a b : Tree) →
+    p.const_ c ≡ a → p.const_ d ≡ b → (st : Store) (f : TypeError Key Id Name) (g : RelateFault Key Id Name) →
+    AreOfOneConst a b → i < count (const_parts_of a) → x ≡ nth i (const_parts_of a) → y ≡ nth i (const_parts_of b) →
+    IsFaultOfConst a c d (Unrelated f) g → ErrorOf p st f x y →
+    (k : TypeError Key Id Name) × (g ≡ Unrelated k) × ErrorOf p st k a b
+consts_complain p c d i x y a b j k st f g o l z w t h =
+    subst₂ (λ a b. (k : TypeError _ _ _) × (g ≡ Unrelated k) × ErrorOf p st k a b) j k
+    (const_complains p c d i x y st f g (subst₂ AreOfOneConst (sym j) (sym k) o)
+    (subst (λ v. i < count (const_parts_of v)) (sym j) l) (z ∙ ap (λ v. nth i (const_parts_of v)) (sym j))
+    (w ∙ ap (λ v. nth i (const_parts_of v)) (sym k)) (subst (λ v. IsFaultOfConst v c d (Unrelated f) g) (sym j) t) h)
+
+-- Seen from a variance, covariance is the variance itself.
+pub covariantly : (v : Variance) → xform v Covariant ≡ v
+covariantly Covariant = refl
+covariantly Contravariant = refl
+covariantly Invariant = refl
+covariantly Bivariant = refl
+
+-- Two values are related by what stands beside their types.
+value_parts : (c : Items) (w : Interpretation) (e : Tree) (v : Variance) (s : Assign) (t u x y : Tree) →
+    Rel c w e (at v) (apply s x) (apply s y) →
+    Rel c w e (at v) (apply s (node value (cons (node value_type (cons t nil)) (cons x nil))))
+    (apply s (node value (cons (node value_type (cons u nil)) (cons y nil))))
+value_parts c w e v s t u x y h = forms tt refl (next_part (forms tt refl (next_part (anything refl) no_parts))
+    (next_part (subst (λ z. Rel c w e (at z) (apply s x) (apply s y)) (sym (covariantly v)) h) no_parts))
+
+module _ {Key Id Name : Type 0} {r q : State Key Id Name} (M : Manner) (v : Variance) (a b : Tree) (i : ℕ) where
+  -- Two parts of two constants were refused, and so are the constants.
+  module _ (o : AreOfOneConst a b) (f : Fronted r q (const_head_of a) v i (const_parts_of a) (const_parts_of b))
+      (are : AreParts r.store (const_parts_of a) (const_parts_of b)) (c d : ConstKey Key) (x y : Tree)
+      (lx : i < count (const_parts_of a)) (ly : i < count (const_parts_of b))
+      (ex : x ≡ nth i (const_parts_of a)) (ey : y ≡ nth i (const_parts_of b)) where
+    const_refuses : (p : State Key Id Name) (e k : RelateFault Key Id Name) → (p.meaning).const_ c ≡ a →
+        (p.meaning).const_ d ≡ b → IsTrue (known a) → IsTrue (known b) → IsFaultOfConst a c d e k →
+        Refuses q p (part_at (items_in r) (const_head_of a) i v) x y e → Refuses r p v a b k
+    const_refuses p Memory k ec ed ka kb t h =
+        subst (Refuses r p v a b) (sym (same_const_fault a c d Memory k t (λ e z. cc))) tt
+    const_refuses p Budget k ec ed ka kb t h =
+        subst (Refuses r p v a b) (sym (same_const_fault a c d Budget k t (λ e z. cc))) h
+    const_refuses p (Unrelated e) k ec ed ka kb t h =
+        let z = consts_complain p.meaning c d i x y a b ec ed p.store e k o lx ex ey t h.1 in
+        subst (Refuses r p v a b) (sym z.1) (
+          consts_never r.store v a b o
+              (fronted_never (const_head_of a) v i (const_parts_of a) (const_parts_of b) x y f lx ly ex ey are h.0),
+          z.2,
+          subst (KnowsFault p.meaning) z.1 (const_fault_known p.meaning a c d (Unrelated e) k
+              (subst (λ u. IsTrue (known u)) (sym ec) ka) (subst (λ u. IsTrue (known u)) (sym ed) kb) t h.2),
+        )
+
+    pub const_refused : {A B : Type 0} {p : State Key Id Name} (tree : A → Tree) (answer : B → Tree)
+        (e k : RelateFault Key Id Name) → (p.meaning).const_ c ≡ a → (p.meaning).const_ d ≡ b → IsTrue (known a) →
+        IsTrue (known b) → IsFaultOfConst a c d e k →
+        Related M q p (part_at (items_in r) (const_head_of a) i v) x y tree (Err e) →
+        Related M r p v a b answer (Err k)
+    const_refused {p = p} tree answer e k ec ed ka kb t g = record {
+      passes = passes_within (omega (arith, weight_const_parts_most r.store a, weight_const_parts_most r.store b))
+          (fronted_passes (const_head_of a) v i (const_parts_of a) (const_parts_of b) x y f lx ly ex ey g.passes);
+      verdict = const_refuses p e k ec ed ka kb t g.verdict;
+    }
+
+  -- All parts of two constants were related, and so are the constants.
+  consts_relate : (o : AreOfOneConst a b) →
+      (f : Fronted r q (const_head_of a) v i (const_parts_of a) (const_parts_of b)) →
+      AreParts r.store (const_parts_of a) (const_parts_of b) → i ≡ count (const_parts_of a) →
+      i ≡ count (const_parts_of b) → (w : Interpretation) (s : Assign) → Satisfies w q.store s →
+      All (Holds (items_in r) w s) (r.goals ++ (f.passes).added) →
+      Rel (items_in r) w r.environment (at v) (apply s a) (apply s b)
+  consts_relate (values {t} {u} {v = x} {w = y} d e (one_value z)) f are ea eb w s sat all =
+      subst₂ (λ m n. Rel (items_in r) w r.environment (at v) (apply s m) (apply s n)) (sym d) (sym e)
+      (value_parts (items_in r) w r.environment v s t u x y (same (ap (apply s) z)))
+  consts_relate (values {t} {u} {v = x} {w = y} d e (as_many_branches {ts} {us} m n k)) f are ea eb w s sat all =
+      let all_parts = fronted_all (const_head_of a) v i (const_parts_of a) (const_parts_of b) are ea eb f in
+      let left : const_parts_of a ≡ ts = ap const_parts_of d ∙ ap branches_of m in
+      let right : const_parts_of b ≡ us = ap const_parts_of e ∙ ap branches_of n in
+      let branches : Rel (items_in r) w r.environment (parts value_branch 0 v) (apply s ts) (apply s us) =
+          subst₂ (λ j l. Rel (items_in r) w r.environment (parts value_branch 0 v) (apply s j) (apply s l)) left right
+          (subst (λ z. Rel (items_in r) w r.environment (parts (const_head_of z) 0 v) (apply s (const_parts_of a))
+          (apply s (const_parts_of b))) d (all_parts.relates w s sat all)) in
+      subst₂ (λ j l. Rel (items_in r) w r.environment (at v) (apply s j) (apply s l)) (sym d) (sym e)
+      (value_parts (items_in r) w r.environment v s t u x y
+      (subst₂ (λ j l. Rel (items_in r) w r.environment (at v) (apply s j) (apply s l)) (sym m) (sym n)
+      (forms tt refl branches)))
+  consts_relate (expressions {k} {ts} {us} d e n) f are ea eb w s sat all =
+      let all_parts = fronted_all (const_head_of a) v i (const_parts_of a) (const_parts_of b) are ea eb f in
+      subst₂ (λ j l. Rel (items_in r) w r.environment (at v) (apply s j) (apply s l)) (sym d) (sym e)
+      (forms tt refl
+      (subst₂ (λ j l. Rel (items_in r) w r.environment (parts (expression k) 0 v) (apply s j) (apply s l))
+      (ap const_parts_of d) (ap const_parts_of e)
+      (subst (λ z. Rel (items_in r) w r.environment (parts (const_head_of z) 0 v) (apply s (const_parts_of a))
+      (apply s (const_parts_of b))) d (all_parts.relates w s sat all))))
+  consts_relate (const_parameters d e p) f are ea eb w s sat all =
+      subst₂ (λ j l. Rel (items_in r) w r.environment (at v) (apply s j) (apply s l)) (sym d) (sym e) (atoms p)
+
+  pub consts_related : {X : Type 0} (is : IsManner M) (tree : X → Tree) (x : X) → AreOfOneConst a b →
+      Fronted r q (const_head_of a) v i (const_parts_of a) (const_parts_of b) →
+      AreParts r.store (const_parts_of a) (const_parts_of b) → i ≡ count (const_parts_of a) →
+      i ≡ count (const_parts_of b) → tree x ≡ a → IsTrue (known a) → Related M r q v a b tree (Ok x)
+  unfolding passes_within
+  consts_related is tree x o f are ea eb answer k = record {
+    passes = passes_within (omega (arith, weight_const_parts_most r.store a, weight_const_parts_most r.store b)) f.passes;
+    verdict = record {
+      outcome = record {
+        later = ((f.passes).goes).later;
+        goals_in = (f.passes).goals_in;
+        relates = consts_relate o f are ea eb;
+        keeps = λ w s sat z. (f.front).keeps w s sat (const_parts_equal a b o s z);
+      };
+      answer = subst (M.answers q.store a) (sym answer) (is.answers_itself q.store a);
+      known = subst (λ u. IsTrue (known u)) (sym answer) k;
+    };
+  }
+
+module _ {Key Id Name : Type 0} {X : Type 0} (M : Manner) (r : State Key Id Name) (v : Variance) (tree : X → Tree) where
+  -- One term is related with itself.
+  pub itself_related : (is : IsManner M) (a b : Tree) (x : X) → a ≡ b → tree x ≡ a → IsTrue (known a) →
+      Related M r r v a b tree (Ok x)
+  unfolding passes_nowhere
+  itself_related is a b x e answer k = record {
+    passes = passes_nowhere (weight r.store a + weight r.store b) r;
+    verdict = record {
+      outcome = record {
+        later = ((passes_nowhere 0 r).goes).later;
+        goals_in = (passes_nowhere 0 r).goals_in;
+        relates = λ w s sat all. same (ap (apply s) e);
+        keeps = λ w s sat one. (s, (λ k n h. refl), (sat, λ k d h. absurd (omega (arith, h))));
+      };
+      answer = subst (M.answers r.store a) (sym answer) (is.answers_itself r.store a);
+      known = subst (λ u. IsTrue (known u)) (sym answer) k;
+    };
+  }
+
+  -- Two terms are refused at once.
+  refused_here : (a b : Tree) (e : TypeError Key Id Name) → NeverOne (at v) r.store a b →
+      ErrorOf r.meaning r.store e a b → KnowsError r.meaning e → Related M r r v a b tree (Err (Unrelated e))
+  unfolding passes_nowhere
+  refused_here a b e n o k =
+      record { passes = passes_nowhere (weight r.store a + weight r.store b) r; verdict = (n, o, k) }
+
+  pub types_differ : (x y : TyKey Key) (e : TypeError Key Id Name) → IsFormed ((r.meaning).ty x) →
+      IsFormed ((r.meaning).ty y) → IsTerm type_sort ((r.meaning).ty x) → IsTerm type_sort ((r.meaning).ty y) →
+      IsTrue (known ((r.meaning).ty x)) → IsTrue (known ((r.meaning).ty y)) → FormError r.meaning x y e →
+      Related M r r v ((r.meaning).ty x) ((r.meaning).ty y) tree (Err (Unrelated e))
+  types_differ x y e f g s t k l h =
+      refused_here ((r.meaning).ty x) ((r.meaning).ty y) e (form_apart r.meaning r.store x y e f g s t h)
+      (of_forms x y refl refl (formed_no_variable ((r.meaning).ty x) f) (formed_no_variable ((r.meaning).ty y) g) h)
+      (known_error r.meaning x y e k l h)
+
+  pub consts_differ : (x y : ConstKey Key) (e : TypeError Key Id Name) → IsFormedConst ((r.meaning).const_ x) →
+      IsFormedConst ((r.meaning).const_ y) → IsTerm const_sort ((r.meaning).const_ x) →
+      IsTerm const_sort ((r.meaning).const_ y) → IsTrue (known ((r.meaning).const_ x)) →
+      IsTrue (known ((r.meaning).const_ y)) → ConstFormError r.meaning x y e →
+      Related M r r v ((r.meaning).const_ x) ((r.meaning).const_ y) tree (Err (Unrelated e))
+  consts_differ x y e f g s t k l h =
+      refused_here ((r.meaning).const_ x) ((r.meaning).const_ y) e (const_form_apart r.meaning r.store x y e f g s t h)
+      (of_const_forms x y refl refl (formed_const_no_variable ((r.meaning).const_ x) f)
+      (formed_const_no_variable ((r.meaning).const_ y) g) h)
+      (known_const_error r.meaning x y e k l h)
+
+-- Arguments of different kinds.
+module _ {Key Id Name : Type 0} (m : Meaning Key Id Name) (sorted : Sorted m) where
+  kind_sort : GenericArgKind Key → Sort
+  kind_sort (Lifetime r) = region_sort
+  kind_sort (Ty t) = type_sort
+  kind_sort (Const c) = const_sort
+
+  kind_top : (X : GenericArgKind Key) → AtTop (kind_sort X) (kind_sort X)
+  unfolding kind_sort
+  kind_top (Lifetime r) = refl
+  kind_top (Ty t) = refl
+  kind_top (Const c) = refl
+
+  kind_term : (X : GenericArgKind Key) → IsTrue (known (arg_tree m X)) → IsTerm (kind_sort X) (arg_tree m X)
+  unfolding kind_sort
+  kind_term (Lifetime r) k = sorted.region r k
+  kind_term (Ty t) k = sorted.ty t k
+  kind_term (Const c) k = sorted.const_ c k
+
+  two_sorts : (X Y : GenericArgKind Key) (z w : Sort) → AreOfTwoKinds X Y → AtTop (kind_sort X) z → AtTop (kind_sort Y) w → z ≡ w → ⊥
+  unfolding kind_sort
+  two_sorts (Lifetime r) (Lifetime s) z w o a b e = o
+  two_sorts (Ty r) (Ty s) z w o a b e = o
+  two_sorts (Const r) (Const s) z w o a b e = o
+  two_sorts X Y z w o a b e = absurd (cc)
+
+  pub kinds_differ : {X : Type 0} (M : Manner) (r : State Key Id Name) (v : Variance) (tree : X → Tree) → r.meaning ≡ m →
+      (X Y : GenericArgKind Key) → AreOfTwoKinds X Y → IsTrue (known (arg_tree m X)) → IsTrue (known (arg_tree m Y)) →
+      IsTermIn r.store (arg_tree m X) → IsTermIn r.store (arg_tree m Y) →
+      Related M r r v (arg_tree m X) (arg_tree m Y) tree (Err (Unrelated Mismatch))
+  unfolding IsTermIn
+  kinds_differ M r v tree is X Y o k l x y =
+      refused_here M r v tree (arg_tree m X) (arg_tree m Y) Mismatch
+      (λ w s sat e. two_sorts X Y (sort_of (apply s (arg_tree m X))) (sort_of (apply s (arg_tree m Y))) o
+      (value_top r.store s (kind_sort X) (arg_tree m X) (kind_top X) sat.assigns x.0 (kind_term X k))
+      (value_top r.store s (kind_sort Y) (arg_tree m Y) (kind_top Y) sat.assigns y.0 (kind_term Y l)) (ap sort_of e))
+      (of_kinds (λ e. two_sorts X Y (sort_of (arg_tree m X)) (sort_of (arg_tree m Y)) o
+      (at_top (kind_sort X) _ (kind_top X) (sort_is (kind_sort X) (arg_tree m X) (kind_term X k)))
+      (at_top (kind_sort Y) _ (kind_top Y) (sort_is (kind_sort Y) (arg_tree m Y) (kind_term Y l))) e))
+      tt
