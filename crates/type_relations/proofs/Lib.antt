@@ -19,6 +19,7 @@ pub mod Passing
 pub mod Fronts
 pub mod Structural
 pub mod StructuralConsts
+pub mod Looping
 pub mod Lists
 pub mod Parts
 pub mod OneParts

@@ -4,22 +4,23 @@ use Rattle.std.proofs.Common.{append_assoc, get_or}
 use Rattle.std.proofs.lemmas.List.{append-nil}
 use Rattle.std.proofs.lemmas.List.Elements.{All-nil, All-append}
 use Rattle.relation_terms.specs.declared.terms.enums.Variance.{Variance}
-use Rattle.relation_terms.specs.Trees.{Tree, Assign, known}
+use Rattle.relation_terms.specs.Trees.{Tree, Assign, apply, known}
 use Rattle.relation_terms.specs.declared.terms.enums.Variance.TheVariants.{Bivariant}
 use Rattle.relation_terms.specs.Meaning.{Meaning, Extends as ExtendsMeaning}
 use Rattle.relation_terms.specs.Variances.{xform}
 use Rattle.relation_terms.proofs.Stays.{stays_same, extends_on}
 use Rattle.relation_tools.specs.declared.error.RelateFault.{RelateFault}
 use Rattle.relation_tools.specs.declared.error.RelateFault.TheVariants.{Memory, Budget, Unrelated}
-use Rattle.type_relations.specs.Relation.{Items, Way, at, anything}
+use Rattle.type_relations.specs.Relation.{Items, Way, at, anything, Rel}
+use Rattle.type_relations.specs.declared.relate.Step.TheVariants.{Done}
 use Rattle.relation_tools.specs.Faults.{KnowsError}
 use Rattle.type_relations.specs.Errors.{ErrorOf}
 use Rattle.type_relations.specs.Stores.{Store, weight}
-use Rattle.type_relations.specs.Goals.{Goal, GoalInContext, Holds, Asked as Asks, asked, asks_too_much, asks_nothing, IsQuiet, AsksNoPair, HasOneTree, MakesOneTree}
+use Rattle.type_relations.specs.Goals.{Goal, GoalInContext, Holds, Relates, Asked as Asks, asked, asks_too_much, asks_nothing, IsQuiet, AsksNoPair, HasOneTree, MakesOneTree}
 use Rattle.type_relations.specs.Outcomes.{Outcome, NeverOne}
 use Rattle.type_relations.specs.Measures.{grown, Goes}
 use Rattle.type_relations.specs.Lawful.{State, Manner, IsManner, Passes, Asked, Refuses, Answers, Verdict, Related, Leads}
-use Rattle.type_relations.specs.Lawful.{LeadsToParts, LeadsAgain, Noted, Turned, OnlyMemory, declared_by, items_in}
+use Rattle.type_relations.specs.Lawful.{LeadsToParts, LeadsAgain, Noted, Turned, Stepped, OnlyMemory, declared_by, items_in}
 use Rattle.type_relations.proofs.Going.{goes_nowhere, goes_within, goes_then, le_grown, later_itself, later_through}
 use Rattle.type_relations.proofs.Composing.{steps_compose, goals_both, first_goals}
 use Rattle.type_relations.proofs.Standing.{later_term}
@@ -288,3 +289,31 @@ module _ {Key Id Name : Type 0} where
     same_budget = refl;
     fault = tt;
   }
+
+  -- A step that answers.
+  pub step_done : {K : Type 0} {r q : State Key Id Name} (M : Manner) (F : Tree → Type 0) (a b : Tree) (tree : K → Tree)
+      (t : K) → Stepped M F r q a b tree (Ok (Done t)) → Related M r q r.ambient a b tree (Ok t)
+  step_done M F a b tree t s = record { passes = s.passes; verdict = s.verdict }
+
+  -- The same answer in other words, and the same fault.
+  pub retold : {X Y : Type 0} {r q : State Key Id Name} (M : Manner) (v : Variance) (a b : Tree) (tree : X → Tree) (t : X)
+      (answer : Y → Tree) (z : Y) → answer z ≡ tree t → Related M r q v a b tree (Ok t) →
+      Related M r q v a b answer (Ok z)
+  retold {r = r} {q = q} M v a b tree t answer z e f = record {
+    passes = f.passes;
+    verdict = subst (λ u. Answers M r q (f.passes).added v a b u) (sym e) f.verdict;
+  }
+
+  pub refused_again : {X Y : Type 0} {r q : State Key Id Name} (M : Manner) (v : Variance) (a b : Tree) (tree : X → Tree)
+      (answer : Y → Tree) (e : RelateFault Key Id Name) → Related M r q v a b tree (Err e) →
+      Related M r q v a b answer (Err e)
+  refused_again M v a b tree answer e f = record { passes = f.passes; verdict = f.verdict }
+
+  -- What is related is so under the goals that are registered then.
+  pub relates_now : {X : Type 0} {r q : State Key Id Name} (M : Manner) (v : Variance) (a b : Tree) (tree : X → Tree)
+      (t : X) → Related M r q v a b tree (Ok t) → Relates (items_in q) q.store q.goals q.environment v a b
+  relates_now {r = r} {q = q} M v a b tree t f = λ w s sat all.
+      subst₂ (λ c e. Rel c w e (at v) (apply s a) (apply s b)) (sym (same_items f.passes)) (sym (f.passes).environment)
+      (((f.verdict).outcome).relates w s sat
+      (subst (λ gs. All (Holds (items_in r) w s) gs) (f.passes).lengthens
+      (subst (λ c. All (Holds c w s) q.goals) (same_items f.passes) all)))

@@ -24,6 +24,9 @@ pub trait TypeRelation<I: Interner> {
     // The relation as it stands.
     ghost state: { Self → State I.Key I.Id I.Name };
 
+    // The interner of its terms.
+    ghost interner: { Self → I };
+
     // The relation with another interner.
     ghost with_interner: { Self → I → Self };
 
@@ -95,6 +98,9 @@ pub trait TypeRelation<I: Interner> {
         requires decides { (state self.old).ambient ≢ Bivariant }
         requires asked { Asked manner (state self.old) (state self.old).ambient ((state self.old).meaning.ty a_ty.now) ((state self.old).meaning.ty b_ty.now) }
         ensures { Noted (state self.old) (state self.new) result };
+
+    // Its keys mean what they mean to the interner.
+    ghost reads: { (r : Self) → (state r).meaning ≡ I.meaning (interner r) };
 
     // What a lawful relation has recorded is sound.
     ghost sound: { (r : Self) → (state r).lawful → IsSound (state r).store };

@@ -6,6 +6,7 @@ use Rattle.type_relations.specs.Parts.{IsFormed, IsFormedConst}
 use Rattle.type_relations.specs.Lawful.{Asked, Related}
 use Rattle.type_relations.proofs.Structural.{types_related, ty_refused}
 use Rattle.type_relations.proofs.StructuralConsts.{consts_related, const_refused, itself_related, types_differ, consts_differ, kinds_differ}
+use Rattle.type_relations.proofs.Looping.{next_asked}
 use Rattle.type_relations.proofs.relate.structural.+relate.Goals as goal
 
 -- src/relate/structural.rt:65:1

@@ -1,0 +1,158 @@
+-- The next parts of two forms: what is asked of them, and that they are smaller.
+use Rattle.std.proofs.Common.{◌≡◌, ℕ, zero, suc, ◌+◌, ◌*◌, ◌≤◌, ◌<◌, refl, sym, ap, ◌∙◌, subst, subst₂, arith, IsTrue, List, Result, Ok, Err}
+use Rattle.relation_terms.specs.declared.terms.enums.Variance.{Variance}
+use Rattle.relation_terms.specs.declared.terms.enums.Variance.TheVariants.{Covariant}
+use Rattle.relation_terms.specs.Variances.{xform}
+use Rattle.relation_terms.specs.Heads.{Head, expression, value, value_branch}
+use Rattle.relation_terms.specs.Trees.{Tree, leaf, node, bind, nil, cons, known, count, nth}
+use Rattle.relation_terms.specs.declared.terms.keys.ConstKey.{ConstKey}
+use Rattle.relation_terms.specs.declared.terms.generic_arg.GenericArgKind.{GenericArgKind}
+use Rattle.relation_tools.specs.declared.error.RelateFault.{RelateFault}
+use Rattle.type_relations.specs.Relation.{Items, part_at}
+use Rattle.type_relations.specs.Stores.{Store, IsTermIn, weight}
+use Rattle.type_relations.specs.Measures.{depth, grown}
+use Rattle.type_relations.specs.Goals.{Goal}
+use Rattle.type_relations.specs.Parts.{parts_of, const_parts_of, branches_of, head_of, const_head_of}
+use Rattle.type_relations.specs.Handing.{IsFaultOfTy, IsFaultOfConst, IsResultOfTy, IsResultOfConst}
+use Rattle.type_relations.specs.Lawful.{State, Manner, IsManner, Passes, Asked, LeadsToParts, LeadsAgain, items_in}
+use Rattle.type_relations.proofs.Going.{depth-mono, depth-strict, depth-spent, depth_later}
+use Rattle.type_relations.proofs.Standing.{later_term}
+use Rattle.type_relations.proofs.Parts.{in_part, in_const_part}
+use Rattle.type_relations.proofs.PartSizes.{weight_parts, weight_const_parts}
+use Rattle.type_relations.proofs.Fronts.{Fronted, part_small}
+use Rattle.type_relations.proofs.StructuralConsts.{covariantly}
+
+-- What is taken at a variance has parts that are taken at theirs.
+takes_part : (M : Manner) → IsManner M → (c : Items) (v : Variance) (t : Tree) (i : ℕ) → i < count (parts_of t) →
+    M.takes v t → M.takes (part_at c (head_of t) i v) (nth i (parts_of t))
+takes_part M is c v (node h ts) i l k = is.takes_parts c h ts i v l k
+takes_part M is c v t i l k = absurd (omega (arith, l))
+
+takes_branch : (M : Manner) → IsManner M → (c : Items) (v : Variance) (t : Tree) (i : ℕ) → i < count (branches_of t) →
+    M.takes v t → M.takes (part_at c value_branch i v) (nth i (branches_of t))
+takes_branch M is c v (node value_branch ts) i l k = is.takes_parts c value_branch ts i v l k
+takes_branch M is c v t i l k = absurd (omega (arith, l))
+
+takes_const_part : (M : Manner) → IsManner M → (c : Items) (v : Variance) (t : Tree) (i : ℕ) →
+    i < count (const_parts_of t) → M.takes v t → M.takes (part_at c (const_head_of t) i v) (nth i (const_parts_of t))
+takes_const_part M is c v (node (expression k) ts) i l h = is.takes_parts c (expression k) ts i v l h
+takes_const_part M is c v (node value (cons t (cons u nil))) i l h =
+    takes_branch M is c v u i l (subst (λ z. M.takes z u) (covariantly v)
+    (is.takes_parts c value (cons t (cons u nil)) 1 v (omega arith) h))
+takes_const_part M is c v t i l h = absurd (omega (arith, l))
+
+some_part : (i n : ℕ) → i < n → 0 < n
+some_part i n h = omega (arith, h)
+
+module _ {Key Id Name : Type 0} (M : Manner) (is : IsManner M) (r q : State Key Id Name) (a b : Tree) (i : ℕ)
+    (x y : Tree) (kx : IsTrue (known x)) (ky : IsTrue (known y)) (k : Asked M r r.ambient a b) where
+  -- Of types.
+  module _ (f : Fronted r q (head_of a) r.ambient i (parts_of a) (parts_of b)) (lx : i < count (parts_of a))
+      (ly : i < count (parts_of b)) (ex : x ≡ nth i (parts_of a)) (ey : y ≡ nth i (parts_of b)) where
+    pub next_asked : (w : Variance) → w ≡ part_at (items_in r) (head_of a) i r.ambient →
+        w ≡ part_at (items_in r) (head_of b) i r.ambient → Asked M q w x y
+    next_asked w ew eu =
+        let l = ((f.passes).goes).later in record {
+          left_known = kx;
+          right_known = ky;
+          left_in = subst (IsTermIn q.store) (sym ex) (later_term r.store q.store l.grows l.universe_stands
+              (nth i (parts_of a)) (in_part r.store a i lx k.left_in));
+          right_in = subst (IsTermIn q.store) (sym ey) (later_term r.store q.store l.grows l.universe_stands
+              (nth i (parts_of b)) (in_part r.store b i ly k.right_in));
+          left_taken = subst₂ (λ v t. M.takes v t) (sym ew) (sym ex) (takes_part M is (items_in r) r.ambient a i lx
+              k.left_taken);
+          right_taken = subst₂ (λ v t. M.takes v t) (sym eu) (sym ey) (takes_part M is (items_in r) r.ambient b i ly
+              k.right_taken);
+        }
+
+    pub next_under : 8 * depth (q.store).budget (weight q.store x + weight q.store y) + 4 <
+        8 * depth (r.store).budget (weight r.store a + weight r.store b) + 1
+    next_under =
+        let small = part_small (head_of a) r.ambient i (parts_of a) (parts_of b) x y f lx ly ex ey in
+        let d = depth_later (f.passes).goes (weight q.store x + weight q.store y)
+            (weight r.store (parts_of a) + weight r.store (parts_of b)) small in
+        let p = weight_parts r.store a (some_part i (count (parts_of a)) lx) in
+        let s = weight_parts r.store b (some_part i (count (parts_of b)) ly) in
+        let e = depth-strict (r.store).budget (weight r.store (parts_of a) + weight r.store (parts_of b))
+            (weight r.store a + weight r.store b) (omega (arith, p, s)) in
+        omega (arith, d, e)
+
+  -- Of constants.
+  module _ (f : Fronted r q (const_head_of a) r.ambient i (const_parts_of a) (const_parts_of b))
+      (lx : i < count (const_parts_of a)) (ly : i < count (const_parts_of b)) (ex : x ≡ nth i (const_parts_of a))
+      (ey : y ≡ nth i (const_parts_of b)) where
+    pub next_const_asked : (w : Variance) → w ≡ part_at (items_in r) (const_head_of a) i r.ambient →
+        w ≡ part_at (items_in r) (const_head_of b) i r.ambient → Asked M q w x y
+    next_const_asked w ew eu =
+        let l = ((f.passes).goes).later in record {
+          left_known = kx;
+          right_known = ky;
+          left_in = subst (IsTermIn q.store) (sym ex) (later_term r.store q.store l.grows l.universe_stands
+              (nth i (const_parts_of a)) (in_const_part r.store a i lx k.left_in));
+          right_in = subst (IsTermIn q.store) (sym ey) (later_term r.store q.store l.grows l.universe_stands
+              (nth i (const_parts_of b)) (in_const_part r.store b i ly k.right_in));
+          left_taken = subst₂ (λ v t. M.takes v t) (sym ew) (sym ex) (takes_const_part M is (items_in r) r.ambient a i lx
+              k.left_taken);
+          right_taken = subst₂ (λ v t. M.takes v t) (sym eu) (sym ey) (takes_const_part M is (items_in r) r.ambient b i
+              ly k.right_taken);
+        }
+
+    pub next_const_under : 8 * depth (q.store).budget (weight q.store x + weight q.store y) + 4 <
+        8 * depth (r.store).budget (weight r.store a + weight r.store b) + 1
+    next_const_under =
+        let small = part_small (const_head_of a) r.ambient i (const_parts_of a) (const_parts_of b) x y f lx ly ex ey in
+        let d = depth_later (f.passes).goes (weight q.store x + weight q.store y)
+            (weight r.store (const_parts_of a) + weight r.store (const_parts_of b)) small in
+        let p = weight_const_parts r.store a (some_part i (count (const_parts_of a)) lx) in
+        let s = weight_const_parts r.store b (some_part i (count (const_parts_of b)) ly) in
+        let e = depth-strict (r.store).budget (weight r.store (const_parts_of a) + weight r.store (const_parts_of b))
+            (weight r.store a + weight r.store b) (omega (arith, p, s)) in
+        omega (arith, d, e)
+
+module _ {Key Id Name : Type 0} {r q : State Key Id Name} (M : Manner) (a b : Tree) where
+  -- After a step to parts, and after one to another pair.
+  pub parts_under : (F : Tree → Type 0) (added : List Goal) (x y : Tree) → LeadsToParts M F r q added a b x y →
+      8 * depth (q.store).budget (weight q.store x + weight q.store y) + 1 <
+      8 * depth (r.store).budget (weight r.store a + weight r.store b) + 2
+  parts_under F added x y l =
+      let d = depth-mono (q.store).budget (weight q.store x + weight q.store y) (weight r.store a + weight r.store b)
+          l.not_larger in
+      let e = ap (λ n. depth n (weight r.store a + weight r.store b)) l.same_budget in
+      omega (arith, d, e)
+
+  pub again_under : (added : List Goal) (k l : Tree) (v : Variance) (x y : Tree) → LeadsAgain M r q added a b k l v x y →
+      8 * depth (q.store).budget (weight q.store x + weight q.store y) + 4 <
+      8 * depth (r.store).budget (weight r.store a + weight r.store b) + 2
+  again_under added k l v x y led =
+      let d = depth-spent 1 (q.store).budget (weight q.store x + weight q.store y) (weight r.store a + weight r.store b)
+          led.not_larger in
+      let e = ap (λ n. depth n (weight r.store a + weight r.store b)) led.falls in
+      let f = ap (λ n. depth n (weight r.store a + weight r.store b)) (one_more (q.store).budget) in
+      omega (arith, d, e, f)
+    where
+      one_more : (n : ℕ) → 1 + n ≡ suc n
+      one_more n = omega arith
+
+-- What two parts answered, by what the whole answers.
+module _ {A Key Id Name : Type 0} where
+  pub failed_ty : (t : Tree) (x y : GenericArgKind Key) (a : Result A (RelateFault Key Id Name))
+      (e : RelateFault Key Id Name) → IsResultOfTy t x y a (Err e) →
+      (f : RelateFault Key Id Name) × (a ≡ Err f) × IsFaultOfTy t x y f e
+  failed_ty t x y (Ok u) e h = absurd h
+  failed_ty t x y (Err f) e h = (f, refl, h)
+
+  pub failed_const : (t : Tree) (c d : ConstKey Key) (a : Result A (RelateFault Key Id Name))
+      (e : RelateFault Key Id Name) → IsResultOfConst t c d a (Err e) →
+      (f : RelateFault Key Id Name) × (a ≡ Err f) × IsFaultOfConst t c d f e
+  failed_const t c d (Ok u) e h = absurd h
+  failed_const t c d (Err f) e h = (f, refl, h)
+
+  pub kept_ty : (t : Tree) (x y : GenericArgKind Key) (a : Result A (RelateFault Key Id Name)) (u : A) →
+      IsResultOfTy t x y a (Ok u) → a ≡ Ok u
+  kept_ty t x y (Ok v) u h = ap Ok (sym h)
+  kept_ty t x y (Err f) u h = absurd h
+
+  pub kept_const : (t : Tree) (c d : ConstKey Key) (a : Result A (RelateFault Key Id Name)) (u : A) →
+      IsResultOfConst t c d a (Ok u) → a ≡ Ok u
+  kept_const t c d (Ok v) u h = ap Ok (sym h)
+  kept_const t c d (Err f) u h = absurd h
