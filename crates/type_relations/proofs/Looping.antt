@@ -12,6 +12,7 @@ use Rattle.type_relations.specs.Relation.{Items, part_at}
 use Rattle.type_relations.specs.Stores.{Store, IsTermIn, weight}
 use Rattle.type_relations.specs.Measures.{depth, grown}
 use Rattle.type_relations.specs.Goals.{Goal}
+use Rattle.type_relations.specs.Errors.{AreOfOneForm, over_parts, one_leaf, parameters, AreOfOneConst, values, expressions, const_parameters}
 use Rattle.type_relations.specs.Parts.{parts_of, const_parts_of, branches_of, head_of, const_head_of}
 use Rattle.type_relations.specs.Handing.{IsFaultOfTy, IsFaultOfConst, IsResultOfTy, IsResultOfConst}
 use Rattle.type_relations.specs.Lawful.{State, Manner, IsManner, Passes, Asked, LeadsToParts, LeadsAgain, items_in}
@@ -156,3 +157,14 @@ module _ {A Key Id Name : Type 0} where
       IsResultOfConst t c d a (Ok u) → a ≡ Ok u
   kept_const t c d (Ok v) u h = ap Ok (sym h)
   kept_const t c d (Err f) u h = absurd h
+
+-- Terms of one form have one form over their parts.
+pub heads_alike : (a b : Tree) → AreOfOneForm a b → head_of a ≡ head_of b
+heads_alike a b (over_parts d e n) = ap head_of d ∙ sym (ap head_of e)
+heads_alike a b (one_leaf d e) = ap head_of d ∙ sym (ap head_of e)
+heads_alike a b (parameters d e p) = ap head_of d ∙ sym (ap head_of e)
+
+pub const_heads_alike : (a b : Tree) → AreOfOneConst a b → const_head_of a ≡ const_head_of b
+const_heads_alike a b (values d e o) = ap const_head_of d ∙ sym (ap const_head_of e)
+const_heads_alike a b (expressions d e n) = ap const_head_of d ∙ sym (ap const_head_of e)
+const_heads_alike a b (const_parameters d e p) = ap const_head_of d ∙ sym (ap const_head_of e)

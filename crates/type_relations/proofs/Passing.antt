@@ -2,6 +2,8 @@
 use Rattle.std.proofs.Common.{◌≡◌, ℕ, suc, ◌+◌, ◌*◌, ◌≤◌, ◌<◌, refl, sym, ap, ◌∙◌, subst, subst₂, arith, List, [], ◌++◌, All, IsTrue, Result, Ok, Err}
 use Rattle.std.proofs.Common.{append_assoc, get_or}
 use Rattle.std.proofs.lemmas.List.{append-nil}
+use Rattle.std.proofs.lemmas.Bool.{false≢true}
+use Rattle.std.specs.Result.{IsErr, IsErrAnd}
 use Rattle.std.proofs.lemmas.List.Elements.{All-nil, All-append}
 use Rattle.relation_terms.specs.declared.terms.enums.Variance.{Variance}
 use Rattle.relation_terms.specs.Trees.{Tree, Assign, apply, known}
@@ -310,10 +312,30 @@ module _ {Key Id Name : Type 0} where
   refused_again M v a b tree answer e f = record { passes = f.passes; verdict = f.verdict }
 
   -- What is related is so under the goals that are registered then.
+  pub relates_by : {n : ℕ} {r q : State Key Id Name} (v : Variance) (a b : Tree) (g : Passes n r q) →
+      Outcome (items_in r) r.environment (at v) r.store q.store r.goals g.added a b →
+      Relates (items_in q) q.store q.goals q.environment v a b
+  relates_by {r = r} {q = q} v a b g o = λ w s sat all.
+      subst₂ (λ c e. Rel c w e (at v) (apply s a) (apply s b)) (sym (same_items g)) (sym g.environment)
+      (o.relates w s sat
+      (subst (λ gs. All (Holds (items_in r) w s) gs) g.lengthens
+      (subst (λ c. All (Holds c w s) q.goals) (same_items g) all)))
+
   pub relates_now : {X : Type 0} {r q : State Key Id Name} (M : Manner) (v : Variance) (a b : Tree) (tree : X → Tree)
       (t : X) → Related M r q v a b tree (Ok t) → Relates (items_in q) q.store q.goals q.environment v a b
-  relates_now {r = r} {q = q} M v a b tree t f = λ w s sat all.
-      subst₂ (λ c e. Rel c w e (at v) (apply s a) (apply s b)) (sym (same_items f.passes)) (sym (f.passes).environment)
-      (((f.verdict).outcome).relates w s sat
-      (subst (λ gs. All (Holds (items_in r) w s) gs) (f.passes).lengthens
-      (subst (λ c. All (Holds c w s) q.goals) (same_items f.passes) all)))
+  relates_now M v a b tree t f = relates_by v a b f.passes (f.verdict).outcome
+
+  -- So are the terms as a step read them, when the pair that it left is related.
+  pub again_relates : {X : Type 0} {r q p : State Key Id Name} (M : Manner) (a b k l x y : Tree) (v : Variance)
+      (g : Passes (weight r.store a + weight r.store b) r q) (led : LeadsAgain M r q g.added a b k l v x y)
+      (tree : X → Tree) (t : X) → Related M q p (xform r.ambient v) x y tree (Ok t) →
+      Relates (items_in p) p.store p.goals p.environment r.ambient k l
+  unfolding passes_then
+  again_relates {r = r} {q = q} M a b k l x y v g led tree t f =
+      relates_by r.ambient k l (passes_then g f.passes (small M a b k l x y v g led))
+      (led_outcome g f.passes k l x y (xform r.ambient v) led.read_leads (f.verdict).outcome)
+
+-- A result that is a fault.
+pub as_err : {X F : Type 0} (res : Result X F) (f : F) → IsErr res → IsErrAnd res (λ e. e ≡ f) → res ≡ Err f
+as_err (Ok x) f h p = absurd (false≢true h)
+as_err (Err e) f h p = ap Err p

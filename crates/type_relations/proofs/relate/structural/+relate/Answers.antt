@@ -1,194 +1,1093 @@
-use Rattle.std.proofs.Common.{rules, ◌≡◌, ◌≢◌, IsTrue, ℕ, ◌+◌, ◌-◌, ◌*◌, ◌<◌, ◌≤◌, length, ◌/◌, ◌%◌, Bool, true, false, nat_eq, nat_lt, List, [], ◌∷◌, ◌++◌, slice_index_or, slice_set, bit_and, bit_or, Fits, w8, w32, w64, Bor, MutBor}
+use Rattle.std.proofs.Common.{rules, ◌≡◌, ◌≢◌, ◌↔◌, ◌+◌, ◌*◌, ◌<◌, ◌≤◌, IsTrue, refl, sym, ap, ◌∙◌, subst, subst₂, arith, Ok, Err}
+use Rattle.std.proofs.lemmas.Bool.{false≢true}
 use Rattle.relation_terms.specs.declared.terms.enums.Variance.TheVariants.{Bivariant}
+use Rattle.relation_terms.specs.declared.terms.generic_arg.GenericArgKind.TheVariants.{Lifetime, Ty, Const}
+use Rattle.relation_terms.specs.Heads.{type_sort}
+use Rattle.relation_terms.specs.Trees.{known, count, nth}
 use Rattle.relation_terms.specs.Variances.{xform}
 use Rattle.relation_terms.specs.Meaning.{arg_tree}
-use Rattle.type_relations.specs.Parts.{IsFormed, IsFormedConst}
-use Rattle.type_relations.specs.Lawful.{Asked, Related}
+use Rattle.relation_terms.proofs.Sorted.{Sorted}
+use Rattle.relation_terms.proofs.Stays.{knows_arg}
+use Rattle.relation_tools.specs.declared.error.RelateFault.TheVariants.{Unrelated}
+use Rattle.type_relations.specs.declared.relate.Step.TheVariants.{Done, Parts, Again}
+use Rattle.type_relations.specs.Relation.{part_at}
+use Rattle.type_relations.specs.Goals.{Relates}
+use Rattle.type_relations.specs.Parts.{IsFormed, IsFormedConst, parts_of, const_parts_of, head_of, const_head_of}
+use Rattle.type_relations.specs.Handing.{IsResultOfTy, IsResultOfConst}
+use Rattle.type_relations.specs.Lawful.{Asked, Related, Stepped, Turned, items_in}
+use Rattle.type_relations.proofs.Standing.{term_context}
+use Rattle.type_relations.proofs.Parts.{in_parts, in_const_parts}
+use Rattle.type_relations.proofs.OneParts.{parts_counted, const_parts_counted}
+use Rattle.type_relations.proofs.Comparing.{parts_of_list, const_parts_list}
+use Rattle.type_relations.proofs.Handing.{AreOfTwoKinds, no_lifetime, no_ty, no_const_arg}
+use Rattle.type_relations.proofs.Passing.{asked_later, parts_related, again_related, again_refused, again_relates, noted_related, noted_refused}
+use Rattle.type_relations.proofs.Passing.{turned, unlooked, step_done, retold, relates_now, same_items, as_err}
+use Rattle.type_relations.proofs.Fronts.{Fronted, fronted_none, fronted_next}
 use Rattle.type_relations.proofs.Structural.{types_related, ty_refused}
 use Rattle.type_relations.proofs.StructuralConsts.{consts_related, const_refused, itself_related, types_differ, consts_differ, kinds_differ}
-use Rattle.type_relations.proofs.Looping.{next_asked}
+use Rattle.type_relations.proofs.Looping.{next_asked, next_under, next_const_asked, next_const_under, parts_under, again_under}
+use Rattle.type_relations.proofs.Looping.{failed_ty, failed_const, kept_ty, kept_const, heads_alike, const_heads_alike}
 use Rattle.type_relations.proofs.relate.structural.+relate.Goals as goal
 
--- src/relate/structural.rt:65:1
 pub consts-returns-in-Done : goal.consts-returns-in-Done
-consts-returns-in-Done g t c = ?
+consts-returns-in-Done g t c =
+    let r = g.R.TypeRelation.state c.args.r.now in
+    let M = g.R.TypeRelation.manner in
+    let a = (r.meaning).const_ c.args.a.now in
+    let b = (r.meaning).const_ c.args.b.now in
+    let q = g.R.TypeRelation.state c.consts.new.self in
+    let step = subst (λ z. Stepped M IsFormedConst r q a b (q.meaning).const_ (Ok z)) c.in-Done.is c.in_ok-answer.ensures in
+    step_done M IsFormedConst a b (q.meaning).const_ c.in-Done.answer step
 
--- src/relate/structural.rt:68:33
 pub consts-structurally_relate_consts-requires : goal.consts-structurally_relate_consts-requires
-consts-structurally_relate_consts-requires g t c κs within = ?
+consts-structurally_relate_consts-requires g t c κs within =
+    let r = g.R.TypeRelation.state c.args.r.now in
+    let M = g.R.TypeRelation.manner in
+    let a = (r.meaning).const_ c.args.a.now in
+    let b = (r.meaning).const_ c.args.b.now in
+    let q = g.R.TypeRelation.state c.consts.new.self in
+    let step = subst (λ z. Stepped M IsFormedConst r q a b (q.meaning).const_ (Ok z)) c.in-Parts.is c.in_ok-answer.ensures in
+    let x = (q.meaning).const_ c.in-Parts.a in
+    let y = (q.meaning).const_ c.in-Parts.b in
+    let lawful = (step.passes).lawful c.requires.lawful in
+    let decides : q.ambient ≢ Bivariant = λ e. c.requires.decides (sym (step.passes).ambient ∙ e) in
+    let asked : Asked M q q.ambient x y = subst (λ v. Asked M q v x y) (sym (step.passes).ambient) (step.verdict).asked in
+    let left = (step.verdict).left_form in
+    let right = (step.verdict).right_form in
+    let under = parts_under M a b IsFormedConst (step.passes).added x y step.verdict in
+    let d = c.decreases in
+    search rules
 
--- src/relate/structural.rt:65:1
-pub consts-returns-in-Parts : goal.consts-returns-in-Parts
-consts-returns-in-Parts g t c = ?
-
--- src/relate/structural.rt:78:13
 pub consts-relate_with_variance-requires : goal.consts-relate_with_variance-requires
-consts-relate_with_variance-requires g t c κs within = ?
+consts-relate_with_variance-requires g t c κs within =
+    let r = g.R.TypeRelation.state c.args.r.now in
+    let M = g.R.TypeRelation.manner in
+    let a = (r.meaning).const_ c.args.a.now in
+    let b = (r.meaning).const_ c.args.b.now in
+    let q = g.R.TypeRelation.state c.consts.new.self in
+    let step = subst (λ z. Stepped M IsFormedConst r q a b (q.meaning).const_ (Ok z)) c.in-Again.is c.in_ok-answer.ensures in
+    let x = (q.meaning).const_ c.in-Again.x in
+    let y = (q.meaning).const_ c.in-Again.y in
+    let k = (q.meaning).const_ c.in-Again.a in
+    let l = (q.meaning).const_ c.in-Again.b in
+    let v = c.in-Again.variance in
+    let lawful = (step.passes).lawful c.requires.lawful in
+    let asked : Asked M q (xform q.ambient v) x y =
+        subst (λ z. Asked M q (xform z v) x y) (sym (step.passes).ambient) (step.verdict).asked in
+    let under = again_under M a b (step.passes).added k l v x y step.verdict in
+    let d = c.decreases in
+    search rules
 
--- src/relate/structural.rt:78:13
-pub consts-returns-in_err-relate_with_variance-in-Again :
-    goal.consts-returns-in_err-relate_with_variance-in-Again
-consts-returns-in_err-relate_with_variance-in-Again g t c = ?
+pub consts-returns-in_err-relate_with_variance-in-Again : goal.consts-returns-in_err-relate_with_variance-in-Again
+consts-returns-in_err-relate_with_variance-in-Again g t c =
+    let r = g.R.TypeRelation.state c.args.r.now in
+    let M = g.R.TypeRelation.manner in
+    let a = (r.meaning).const_ c.args.a.now in
+    let b = (r.meaning).const_ c.args.b.now in
+    let q = g.R.TypeRelation.state c.consts.new.self in
+    let step = subst (λ z. Stepped M IsFormedConst r q a b (q.meaning).const_ (Ok z)) c.in-Again.is c.in_ok-answer.ensures in
+    let x = (q.meaning).const_ c.in-Again.x in
+    let y = (q.meaning).const_ c.in-Again.y in
+    let k = (q.meaning).const_ c.in-Again.a in
+    let l = (q.meaning).const_ c.in-Again.b in
+    let v = c.in-Again.variance in
+    let p = g.R.TypeRelation.state c.relate_with_variance.new.r in
+    let inner : Related M q p (xform r.ambient v) x y (arg_tree p.meaning) (Err c.in_err-relate_with_variance-in-Again.field-0.0) =
+        subst (λ z. Related M q p (xform z v) x y (arg_tree p.meaning) (Err c.in_err-relate_with_variance-in-Again.field-0.0)) (step.passes).ambient c.in_err-relate_with_variance-in-Again.ensures in
+    let failed = as_err c.from_residual-in_err-relate_with_variance-in-Again.result c.in_err-relate_with_variance-in-Again.field-0.0
+        c.from_residual-in_err-relate_with_variance-in-Again.ensures.0
+        c.from_residual-in_err-relate_with_variance-in-Again.ensures.1 in
+    subst (λ z. Related M r p r.ambient a b (p.meaning).const_ z) (sym failed)
+    (again_refused M a b k l x y v step.passes step.verdict (arg_tree p.meaning) (p.meaning).const_ c.in_err-relate_with_variance-in-Again.field-0.0 inner)
 
--- src/relate/structural.rt:55:1
 pub consts-returns : goal.consts-returns
-consts-returns g t c = ?
+consts-returns g t c =
+    let r = g.R.TypeRelation.state c.args.r.now in
+    let M = g.R.TypeRelation.manner in
+    let a = (r.meaning).const_ c.args.a.now in
+    let b = (r.meaning).const_ c.args.b.now in
+    let q = g.R.TypeRelation.state c.consts.new.self in
+    let step = subst (λ z. Stepped M IsFormedConst r q a b (q.meaning).const_ (Ok z)) c.in-Again.is c.in_ok-answer.ensures in
+    let x = (q.meaning).const_ c.in-Again.x in
+    let y = (q.meaning).const_ c.in-Again.y in
+    let k = (q.meaning).const_ c.in-Again.a in
+    let l = (q.meaning).const_ c.in-Again.b in
+    let v = c.in-Again.variance in
+    let p = g.R.TypeRelation.state c.relate_with_variance.new.r in
+    let inner : Related M q p (xform r.ambient v) x y (arg_tree p.meaning) (Ok c.in_ok-relate_with_variance-in-Again.field-0) =
+        subst (λ z. Related M q p (xform z v) x y (arg_tree p.meaning) (Ok c.in_ok-relate_with_variance-in-Again.field-0)) (step.passes).ambient c.in_ok-relate_with_variance-in-Again.ensures in
+    let same_k : (p.meaning).const_ c.in-Again.a ≡ k =
+        ((inner.passes).extends).const_ c.in-Again.a ((step.verdict).read_asked).left_known in
+    let done : Related M r p r.ambient a b (p.meaning).const_ (Ok c.in-Again.a) =
+        again_related M a b k l x y v step.passes step.verdict (arg_tree p.meaning) c.in_ok-relate_with_variance-in-Again.field-0 (p.meaning).const_
+        c.in-Again.a same_k inner in
+    done
 
--- src/relate/structural.rt:99:17
-pub relate-returns-in_default : goal.relate-returns-in_default
-relate-returns-in_default g t c = ?
+pub consts-returns-in-Parts : goal.consts-returns-in-Parts
+consts-returns-in-Parts g t c =
+    let r = g.R.TypeRelation.state c.args.r.now in
+    let M = g.R.TypeRelation.manner in
+    let a = (r.meaning).const_ c.args.a.now in
+    let b = (r.meaning).const_ c.args.b.now in
+    let q = g.R.TypeRelation.state c.consts.new.self in
+    let step = subst (λ z. Stepped M IsFormedConst r q a b (q.meaning).const_ (Ok z)) c.in-Parts.is c.in_ok-answer.ensures in
+    let x = (q.meaning).const_ c.in-Parts.a in
+    let y = (q.meaning).const_ c.in-Parts.b in
+    let p = g.R.TypeRelation.state c.structurally_relate_consts.new.r in
+    let inner = subst (λ z. Related M q p z x y (p.meaning).const_ c.structurally_relate_consts.result) (step.passes).ambient
+        c.structurally_relate_consts.ensures in
+    parts_related M IsFormedConst a b x y (p.meaning).const_ c.structurally_relate_consts.result step.passes step.verdict inner
 
--- src/relate/structural.rt:105:17
-pub relate-returns-in_default-b : goal.relate-returns-in_default-b
-relate-returns-in_default-b g t c = ?
-
--- src/relate/structural.rt:111:17
-pub relate-returns-in_default-b-2 : goal.relate-returns-in_default-b-2
-relate-returns-in_default-b-2 g t c = ?
-
--- src/relate/structural.rt:85:1
-pub relate-returns-in_ok-regions-in-Lifetime : goal.relate-returns-in_ok-regions-in-Lifetime
-relate-returns-in_ok-regions-in-Lifetime g t c = ?
-
--- src/relate/structural.rt:85:1
-pub relate-returns-in_ok-tys-in-Ty : goal.relate-returns-in_ok-tys-in-Ty
-relate-returns-in_ok-tys-in-Ty g t c = ?
-
--- src/relate/structural.rt:85:1
-pub relate-returns-in_ok-consts-in-Const : goal.relate-returns-in_ok-consts-in-Const
-relate-returns-in_ok-consts-in-Const g t c = ?
-
--- src/relate/structural.rt:134:9
-pub relate_with_variance-returns-in-Bivariant : goal.relate_with_variance-returns-in-Bivariant
-relate_with_variance-returns-in-Bivariant g t c = ?
-
--- src/relate/structural.rt:120:1
-pub relate_with_variance-returns : goal.relate_with_variance-returns
-relate_with_variance-returns g t c = ?
-
--- src/relate/structural.rt:184:9
-pub structurally_relate_consts-returns-then-eq : goal.structurally_relate_consts-returns-then-eq
-structurally_relate_consts-returns-then-eq g t c = ?
-
--- src/relate/structural.rt:186:5
-pub structurally_relate_consts-compare_consts_of-requires-clause-differ :
-    goal.structurally_relate_consts-compare_consts_of-requires-clause-differ
-structurally_relate_consts-compare_consts_of-requires-clause-differ g t c = ?
-
--- src/relate/structural.rt:186:5
-pub structurally_relate_consts-returns-in_err-compare_consts_of :
-    goal.structurally_relate_consts-returns-in_err-compare_consts_of
-structurally_relate_consts-returns-in_err-compare_consts_of g t c = ?
-
--- src/relate/structural.rt:188:5
-pub structurally_relate_consts-loop-i-init : goal.structurally_relate_consts-loop-i-init
-structurally_relate_consts-loop-i-init g t c = ?
-
--- src/relate/structural.rt:192:13
-pub structurally_relate_consts-relate_with_variance-related-requires :
-    goal.structurally_relate_consts-relate_with_variance-related-requires
-structurally_relate_consts-relate_with_variance-related-requires g t c κs within = ?
-
--- src/relate/structural.rt:193:9
-pub structurally_relate_consts-returns-in_err-in_const :
-    goal.structurally_relate_consts-returns-in_err-in_const
-structurally_relate_consts-returns-in_err-in_const g t c = ?
-
--- src/relate/structural.rt:188:5
-pub structurally_relate_consts-loop-i-preserved : goal.structurally_relate_consts-loop-i-preserved
-structurally_relate_consts-loop-i-preserved g t c = ?
-
--- src/relate/structural.rt:170:1
-pub structurally_relate_consts-returns : goal.structurally_relate_consts-returns
-structurally_relate_consts-returns g t c = ?
-
--- src/relate/structural.rt:156:5
-pub structurally_relate_tys-returns-in_err-compare_tys_of :
-    goal.structurally_relate_tys-returns-in_err-compare_tys_of
-structurally_relate_tys-returns-in_err-compare_tys_of g t c = ?
-
--- src/relate/structural.rt:158:5
-pub structurally_relate_tys-loop-i-init : goal.structurally_relate_tys-loop-i-init
-structurally_relate_tys-loop-i-init g t c = ?
-
--- src/relate/structural.rt:162:13
-pub structurally_relate_tys-relate_with_variance-related-requires :
-    goal.structurally_relate_tys-relate_with_variance-related-requires
-structurally_relate_tys-relate_with_variance-related-requires g t c κs within = ?
-
--- src/relate/structural.rt:163:9
-pub structurally_relate_tys-returns-in_err-in_ty :
-    goal.structurally_relate_tys-returns-in_err-in_ty
-structurally_relate_tys-returns-in_err-in_ty g t c = ?
-
--- src/relate/structural.rt:158:5
-pub structurally_relate_tys-loop-i-preserved : goal.structurally_relate_tys-loop-i-preserved
-structurally_relate_tys-loop-i-preserved g t c = ?
-
--- src/relate/structural.rt:165:5
-pub structurally_relate_tys-note_args-requires-clause-asked :
-    goal.structurally_relate_tys-note_args-requires-clause-asked
-structurally_relate_tys-note_args-requires-clause-asked g t c = ?
-
--- src/relate/structural.rt:165:5
-pub structurally_relate_tys-returns-in_err-note_args :
-    goal.structurally_relate_tys-returns-in_err-note_args
-structurally_relate_tys-returns-in_err-note_args g t c = ?
-
--- src/relate/structural.rt:143:1
-pub structurally_relate_tys-returns : goal.structurally_relate_tys-returns
-structurally_relate_tys-returns g t c = ?
-
--- src/relate/structural.rt:36:26
-pub tys-structurally_relate_tys-requires : goal.tys-structurally_relate_tys-requires
-tys-structurally_relate_tys-requires g t c κs within = ?
-
--- src/relate/structural.rt:36:26
-pub tys-returns-in_err-answer-in-Parts : goal.tys-returns-in_err-answer-in-Parts
-tys-returns-in_err-answer-in-Parts g t c = ?
-
--- src/relate/structural.rt:37:13
-pub tys-tys_done-requires-clause-asked : goal.tys-tys_done-requires-clause-asked
-tys-tys_done-requires-clause-asked g t c = ?
-
--- src/relate/structural.rt:37:13
-pub tys-tys_done-requires-clause-related : goal.tys-tys_done-requires-clause-related
-tys-tys_done-requires-clause-related g t c = ?
-
--- src/relate/structural.rt:37:13
-pub tys-returns-in_err-tys_done-in-Parts : goal.tys-returns-in_err-tys_done-in-Parts
-tys-returns-in_err-tys_done-in-Parts g t c = ?
-
--- src/relate/structural.rt:47:13
-pub tys-relate_with_variance-requires : goal.tys-relate_with_variance-requires
-tys-relate_with_variance-requires g t c κs within = ?
-
--- src/relate/structural.rt:47:13
-pub tys-returns-in_err-relate_with_variance-in-Again :
-    goal.tys-returns-in_err-relate_with_variance-in-Again
-tys-returns-in_err-relate_with_variance-in-Again g t c = ?
-
--- src/relate/structural.rt:48:13
-pub tys-tys_done-requires-in-Again-clause-asked : goal.tys-tys_done-requires-in-Again-clause-asked
-tys-tys_done-requires-in-Again-clause-asked g t c = ?
-
--- src/relate/structural.rt:48:13
-pub tys-tys_done-requires-in-Again-clause-related :
-    goal.tys-tys_done-requires-in-Again-clause-related
-tys-tys_done-requires-in-Again-clause-related g t c = ?
-
--- src/relate/structural.rt:48:13
-pub tys-returns-in_err-tys_done-in-Again : goal.tys-returns-in_err-tys_done-in-Again
-tys-returns-in_err-tys_done-in-Again g t c = ?
-
--- src/relate/structural.rt:22:1
 pub tys-returns-in-Done : goal.tys-returns-in-Done
-tys-returns-in-Done g t c = ?
+tys-returns-in-Done g t c =
+    let r = g.R.TypeRelation.state c.args.r.now in
+    let M = g.R.TypeRelation.manner in
+    let a = (r.meaning).ty c.args.a.now in
+    let b = (r.meaning).ty c.args.b.now in
+    let q = g.R.TypeRelation.state c.tys.new.self in
+    let step = subst (λ z. Stepped M IsFormed r q a b (q.meaning).ty (Ok z)) c.in-Done.is c.in_ok-answer.ensures in
+    step_done M IsFormed a b (q.meaning).ty c.in-Done.answer step
 
--- src/relate/structural.rt:22:1
+pub tys-structurally_relate_tys-requires : goal.tys-structurally_relate_tys-requires
+tys-structurally_relate_tys-requires g t c κs within =
+    let r = g.R.TypeRelation.state c.args.r.now in
+    let M = g.R.TypeRelation.manner in
+    let a = (r.meaning).ty c.args.a.now in
+    let b = (r.meaning).ty c.args.b.now in
+    let q = g.R.TypeRelation.state c.tys.new.self in
+    let step = subst (λ z. Stepped M IsFormed r q a b (q.meaning).ty (Ok z)) c.in-Parts.is c.in_ok-answer.ensures in
+    let x = (q.meaning).ty c.in-Parts.a in
+    let y = (q.meaning).ty c.in-Parts.b in
+    let lawful = (step.passes).lawful c.requires.lawful in
+    let decides : q.ambient ≢ Bivariant = λ e. c.requires.decides (sym (step.passes).ambient ∙ e) in
+    let asked : Asked M q q.ambient x y = subst (λ v. Asked M q v x y) (sym (step.passes).ambient) (step.verdict).asked in
+    let left = (step.verdict).left_form in
+    let right = (step.verdict).right_form in
+    let under = parts_under M a b IsFormed (step.passes).added x y step.verdict in
+    let d = c.decreases in
+    search rules
+
+pub tys-relate_with_variance-requires : goal.tys-relate_with_variance-requires
+tys-relate_with_variance-requires g t c κs within =
+    let r = g.R.TypeRelation.state c.args.r.now in
+    let M = g.R.TypeRelation.manner in
+    let a = (r.meaning).ty c.args.a.now in
+    let b = (r.meaning).ty c.args.b.now in
+    let q = g.R.TypeRelation.state c.tys.new.self in
+    let step = subst (λ z. Stepped M IsFormed r q a b (q.meaning).ty (Ok z)) c.in-Again.is c.in_ok-answer.ensures in
+    let x = (q.meaning).ty c.in-Again.x in
+    let y = (q.meaning).ty c.in-Again.y in
+    let k = (q.meaning).ty c.in-Again.a in
+    let l = (q.meaning).ty c.in-Again.b in
+    let v = c.in-Again.variance in
+    let lawful = (step.passes).lawful c.requires.lawful in
+    let asked : Asked M q (xform q.ambient v) x y =
+        subst (λ z. Asked M q (xform z v) x y) (sym (step.passes).ambient) (step.verdict).asked in
+    let under = again_under M a b (step.passes).added k l v x y step.verdict in
+    let d = c.decreases in
+    search rules
+
+pub tys-returns-in_err-relate_with_variance-in-Again : goal.tys-returns-in_err-relate_with_variance-in-Again
+tys-returns-in_err-relate_with_variance-in-Again g t c =
+    let r = g.R.TypeRelation.state c.args.r.now in
+    let M = g.R.TypeRelation.manner in
+    let a = (r.meaning).ty c.args.a.now in
+    let b = (r.meaning).ty c.args.b.now in
+    let q = g.R.TypeRelation.state c.tys.new.self in
+    let step = subst (λ z. Stepped M IsFormed r q a b (q.meaning).ty (Ok z)) c.in-Again.is c.in_ok-answer.ensures in
+    let x = (q.meaning).ty c.in-Again.x in
+    let y = (q.meaning).ty c.in-Again.y in
+    let k = (q.meaning).ty c.in-Again.a in
+    let l = (q.meaning).ty c.in-Again.b in
+    let v = c.in-Again.variance in
+    let p = g.R.TypeRelation.state c.relate_with_variance.new.r in
+    let inner : Related M q p (xform r.ambient v) x y (arg_tree p.meaning) (Err c.in_err-relate_with_variance-in-Again.field-0.0) =
+        subst (λ z. Related M q p (xform z v) x y (arg_tree p.meaning) (Err c.in_err-relate_with_variance-in-Again.field-0.0)) (step.passes).ambient c.in_err-relate_with_variance-in-Again.ensures in
+    let failed = as_err c.from_residual-in_err-relate_with_variance-in-Again.result c.in_err-relate_with_variance-in-Again.field-0.0
+        c.from_residual-in_err-relate_with_variance-in-Again.ensures.0
+        c.from_residual-in_err-relate_with_variance-in-Again.ensures.1 in
+    subst (λ z. Related M r p r.ambient a b (p.meaning).ty z) (sym failed)
+    (again_refused M a b k l x y v step.passes step.verdict (arg_tree p.meaning) (p.meaning).ty c.in_err-relate_with_variance-in-Again.field-0.0 inner)
+
+pub tys-returns-in_err-answer-in-Parts : goal.tys-returns-in_err-answer-in-Parts
+tys-returns-in_err-answer-in-Parts g t c =
+    let r = g.R.TypeRelation.state c.args.r.now in
+    let M = g.R.TypeRelation.manner in
+    let a = (r.meaning).ty c.args.a.now in
+    let b = (r.meaning).ty c.args.b.now in
+    let q = g.R.TypeRelation.state c.tys.new.self in
+    let step = subst (λ z. Stepped M IsFormed r q a b (q.meaning).ty (Ok z)) c.in-Parts.is c.in_ok-answer.ensures in
+    let x = (q.meaning).ty c.in-Parts.a in
+    let y = (q.meaning).ty c.in-Parts.b in
+    let p = g.R.TypeRelation.state c.structurally_relate_tys.new.r in
+    let e = c.in_err-answer-in-Parts in
+    let inner = subst (λ z. Related M q p z x y (p.meaning).ty (Err e.field-0.0)) (step.passes).ambient e.ensures in
+    let failed = as_err c.from_residual-in_err-answer-in-Parts.result e.field-0.0
+        c.from_residual-in_err-answer-in-Parts.ensures.0 c.from_residual-in_err-answer-in-Parts.ensures.1 in
+    subst (λ z. Related M r p r.ambient a b (p.meaning).ty z) (sym failed)
+    (parts_related M IsFormed a b x y (p.meaning).ty (Err e.field-0.0) step.passes step.verdict inner)
+
+pub tys-tys_done-requires-clause-asked : goal.tys-tys_done-requires-clause-asked
+tys-tys_done-requires-clause-asked g t c =
+    let r = g.R.TypeRelation.state c.args.r.now in
+    let M = g.R.TypeRelation.manner in
+    let a = (r.meaning).ty c.args.a.now in
+    let b = (r.meaning).ty c.args.b.now in
+    let q = g.R.TypeRelation.state c.tys.new.self in
+    let step = subst (λ z. Stepped M IsFormed r q a b (q.meaning).ty (Ok z)) c.in-Parts.is c.in_ok-answer.ensures in
+    let x = (q.meaning).ty c.in-Parts.a in
+    let y = (q.meaning).ty c.in-Parts.b in
+    let p = g.R.TypeRelation.state c.structurally_relate_tys.new.r in
+    let z = c.in_ok-answer-in-Parts in
+    let inner = subst (λ v. Related M q p v x y (p.meaning).ty (Ok z.answer)) (step.passes).ambient z.ensures in
+    let done : Related M r p r.ambient a b (p.meaning).ty (Ok z.answer) =
+        parts_related M IsFormed a b x y (p.meaning).ty (Ok z.answer) step.passes step.verdict inner in
+    let same_x : (p.meaning).ty c.in-Parts.a ≡ (q.meaning).ty c.in-Parts.a =
+        ((inner.passes).extends).ty c.in-Parts.a ((step.verdict).asked).left_known in
+    let same_y : (p.meaning).ty c.in-Parts.b ≡ (q.meaning).ty c.in-Parts.b =
+        ((inner.passes).extends).ty c.in-Parts.b ((step.verdict).asked).right_known in
+    subst₂ (λ t u. Asked M p p.ambient t u) (sym same_x) (sym same_y)
+    (subst (λ v. Asked M p v x y) (sym ((inner.passes).ambient ∙ (step.passes).ambient))
+    (asked_later M r.ambient x y inner.passes (step.verdict).asked))
+
+pub tys-tys_done-requires-clause-related : goal.tys-tys_done-requires-clause-related
+tys-tys_done-requires-clause-related g t c =
+    let r = g.R.TypeRelation.state c.args.r.now in
+    let M = g.R.TypeRelation.manner in
+    let a = (r.meaning).ty c.args.a.now in
+    let b = (r.meaning).ty c.args.b.now in
+    let q = g.R.TypeRelation.state c.tys.new.self in
+    let step = subst (λ z. Stepped M IsFormed r q a b (q.meaning).ty (Ok z)) c.in-Parts.is c.in_ok-answer.ensures in
+    let x = (q.meaning).ty c.in-Parts.a in
+    let y = (q.meaning).ty c.in-Parts.b in
+    let p = g.R.TypeRelation.state c.structurally_relate_tys.new.r in
+    let z = c.in_ok-answer-in-Parts in
+    let inner = subst (λ v. Related M q p v x y (p.meaning).ty (Ok z.answer)) (step.passes).ambient z.ensures in
+    let done : Related M r p r.ambient a b (p.meaning).ty (Ok z.answer) =
+        parts_related M IsFormed a b x y (p.meaning).ty (Ok z.answer) step.passes step.verdict inner in
+    let same_x : (p.meaning).ty c.in-Parts.a ≡ (q.meaning).ty c.in-Parts.a =
+        ((inner.passes).extends).ty c.in-Parts.a ((step.verdict).asked).left_known in
+    let same_y : (p.meaning).ty c.in-Parts.b ≡ (q.meaning).ty c.in-Parts.b =
+        ((inner.passes).extends).ty c.in-Parts.b ((step.verdict).asked).right_known in
+    subst₂ (λ t u. Relates (items_in p) p.store p.goals p.environment p.ambient t u) (sym same_x) (sym same_y)
+    (subst (λ v. Relates (items_in p) p.store p.goals p.environment v x y)
+    (sym ((inner.passes).ambient ∙ (step.passes).ambient)) (relates_now M r.ambient x y (p.meaning).ty z.answer inner))
+
+pub tys-returns-in_err-tys_done-in-Parts : goal.tys-returns-in_err-tys_done-in-Parts
+tys-returns-in_err-tys_done-in-Parts g t c =
+    let r = g.R.TypeRelation.state c.args.r.now in
+    let M = g.R.TypeRelation.manner in
+    let a = (r.meaning).ty c.args.a.now in
+    let b = (r.meaning).ty c.args.b.now in
+    let q = g.R.TypeRelation.state c.tys.new.self in
+    let step = subst (λ z. Stepped M IsFormed r q a b (q.meaning).ty (Ok z)) c.in-Parts.is c.in_ok-answer.ensures in
+    let x = (q.meaning).ty c.in-Parts.a in
+    let y = (q.meaning).ty c.in-Parts.b in
+    let p = g.R.TypeRelation.state c.structurally_relate_tys.new.r in
+    let z = c.in_ok-answer-in-Parts in
+    let inner = subst (λ v. Related M q p v x y (p.meaning).ty (Ok z.answer)) (step.passes).ambient z.ensures in
+    let done : Related M r p r.ambient a b (p.meaning).ty (Ok z.answer) =
+        parts_related M IsFormed a b x y (p.meaning).ty (Ok z.answer) step.passes step.verdict inner in
+    let is = g.met.R.TypeRelation.takes_forms in
+    let u = g.R.TypeRelation.state c.tys_done.new.self in
+    let e = c.in_err-tys_done-in-Parts in
+    let failed = as_err c.from_residual-in_err-tys_done-in-Parts.result e.field-0.0
+        c.from_residual-in_err-tys_done-in-Parts.ensures.0 c.from_residual-in_err-tys_done-in-Parts.ensures.1 in
+    subst (λ z. Related M r u r.ambient a b (u.meaning).ty z) (sym failed)
+    (noted_refused M is r.ambient a b (p.meaning).ty z.answer done (Err e.field-0.0) e.ensures (u.meaning).ty e.field-0.0 refl)
+
 pub tys-returns-in_ok-tys_done-in-Parts : goal.tys-returns-in_ok-tys_done-in-Parts
-tys-returns-in_ok-tys_done-in-Parts g t c = ?
+tys-returns-in_ok-tys_done-in-Parts g t c =
+    let r = g.R.TypeRelation.state c.args.r.now in
+    let M = g.R.TypeRelation.manner in
+    let a = (r.meaning).ty c.args.a.now in
+    let b = (r.meaning).ty c.args.b.now in
+    let q = g.R.TypeRelation.state c.tys.new.self in
+    let step = subst (λ z. Stepped M IsFormed r q a b (q.meaning).ty (Ok z)) c.in-Parts.is c.in_ok-answer.ensures in
+    let x = (q.meaning).ty c.in-Parts.a in
+    let y = (q.meaning).ty c.in-Parts.b in
+    let p = g.R.TypeRelation.state c.structurally_relate_tys.new.r in
+    let z = c.in_ok-answer-in-Parts in
+    let inner = subst (λ v. Related M q p v x y (p.meaning).ty (Ok z.answer)) (step.passes).ambient z.ensures in
+    let done : Related M r p r.ambient a b (p.meaning).ty (Ok z.answer) =
+        parts_related M IsFormed a b x y (p.meaning).ty (Ok z.answer) step.passes step.verdict inner in
+    let is = g.met.R.TypeRelation.takes_forms in
+    let u = g.R.TypeRelation.state c.tys_done.new.self in
+    let n = c.in_ok-tys_done-in-Parts in
+    noted_related M is r.ambient a b (p.meaning).ty z.answer done (Ok n.field-0) n.ensures (u.meaning).ty
+    ((((n.ensures).passes).extends).ty z.answer (done.verdict).known)
 
--- src/relate/structural.rt:22:1
+pub tys-tys_done-requires-in-Again-clause-asked : goal.tys-tys_done-requires-in-Again-clause-asked
+tys-tys_done-requires-in-Again-clause-asked g t c =
+    let r = g.R.TypeRelation.state c.args.r.now in
+    let M = g.R.TypeRelation.manner in
+    let a = (r.meaning).ty c.args.a.now in
+    let b = (r.meaning).ty c.args.b.now in
+    let q = g.R.TypeRelation.state c.tys.new.self in
+    let step = subst (λ z. Stepped M IsFormed r q a b (q.meaning).ty (Ok z)) c.in-Again.is c.in_ok-answer.ensures in
+    let x = (q.meaning).ty c.in-Again.x in
+    let y = (q.meaning).ty c.in-Again.y in
+    let k = (q.meaning).ty c.in-Again.a in
+    let l = (q.meaning).ty c.in-Again.b in
+    let v = c.in-Again.variance in
+    let p = g.R.TypeRelation.state c.relate_with_variance.new.r in
+    let inner : Related M q p (xform r.ambient v) x y (arg_tree p.meaning) (Ok c.in_ok-relate_with_variance-in-Again.field-0) =
+        subst (λ z. Related M q p (xform z v) x y (arg_tree p.meaning) (Ok c.in_ok-relate_with_variance-in-Again.field-0)) (step.passes).ambient c.in_ok-relate_with_variance-in-Again.ensures in
+    let same_k : (p.meaning).ty c.in-Again.a ≡ k =
+        ((inner.passes).extends).ty c.in-Again.a ((step.verdict).read_asked).left_known in
+    let done : Related M r p r.ambient a b (p.meaning).ty (Ok c.in-Again.a) =
+        again_related M a b k l x y v step.passes step.verdict (arg_tree p.meaning) c.in_ok-relate_with_variance-in-Again.field-0 (p.meaning).ty
+        c.in-Again.a same_k inner in
+    let same_x : (p.meaning).ty c.in-Again.a ≡ (q.meaning).ty c.in-Again.a =
+        ((inner.passes).extends).ty c.in-Again.a ((step.verdict).read_asked).left_known in
+    let same_y : (p.meaning).ty c.in-Again.b ≡ (q.meaning).ty c.in-Again.b =
+        ((inner.passes).extends).ty c.in-Again.b ((step.verdict).read_asked).right_known in
+    subst₂ (λ t u. Asked M p p.ambient t u) (sym same_x) (sym same_y)
+    (subst (λ v. Asked M p v k l) (sym ((inner.passes).ambient ∙ (step.passes).ambient))
+    (asked_later M r.ambient k l inner.passes (step.verdict).read_asked))
+
+pub tys-tys_done-requires-in-Again-clause-related : goal.tys-tys_done-requires-in-Again-clause-related
+tys-tys_done-requires-in-Again-clause-related g t c =
+    let r = g.R.TypeRelation.state c.args.r.now in
+    let M = g.R.TypeRelation.manner in
+    let a = (r.meaning).ty c.args.a.now in
+    let b = (r.meaning).ty c.args.b.now in
+    let q = g.R.TypeRelation.state c.tys.new.self in
+    let step = subst (λ z. Stepped M IsFormed r q a b (q.meaning).ty (Ok z)) c.in-Again.is c.in_ok-answer.ensures in
+    let x = (q.meaning).ty c.in-Again.x in
+    let y = (q.meaning).ty c.in-Again.y in
+    let k = (q.meaning).ty c.in-Again.a in
+    let l = (q.meaning).ty c.in-Again.b in
+    let v = c.in-Again.variance in
+    let p = g.R.TypeRelation.state c.relate_with_variance.new.r in
+    let inner : Related M q p (xform r.ambient v) x y (arg_tree p.meaning) (Ok c.in_ok-relate_with_variance-in-Again.field-0) =
+        subst (λ z. Related M q p (xform z v) x y (arg_tree p.meaning) (Ok c.in_ok-relate_with_variance-in-Again.field-0)) (step.passes).ambient c.in_ok-relate_with_variance-in-Again.ensures in
+    let same_k : (p.meaning).ty c.in-Again.a ≡ k =
+        ((inner.passes).extends).ty c.in-Again.a ((step.verdict).read_asked).left_known in
+    let done : Related M r p r.ambient a b (p.meaning).ty (Ok c.in-Again.a) =
+        again_related M a b k l x y v step.passes step.verdict (arg_tree p.meaning) c.in_ok-relate_with_variance-in-Again.field-0 (p.meaning).ty
+        c.in-Again.a same_k inner in
+    let same_x : (p.meaning).ty c.in-Again.a ≡ (q.meaning).ty c.in-Again.a =
+        ((inner.passes).extends).ty c.in-Again.a ((step.verdict).read_asked).left_known in
+    let same_y : (p.meaning).ty c.in-Again.b ≡ (q.meaning).ty c.in-Again.b =
+        ((inner.passes).extends).ty c.in-Again.b ((step.verdict).read_asked).right_known in
+    subst₂ (λ t u. Relates (items_in p) p.store p.goals p.environment p.ambient t u) (sym same_x) (sym same_y)
+    (subst (λ v. Relates (items_in p) p.store p.goals p.environment v k l)
+    (sym ((inner.passes).ambient ∙ (step.passes).ambient)) (again_relates M a b k l x y v step.passes step.verdict (arg_tree p.meaning) c.in_ok-relate_with_variance-in-Again.field-0 inner))
+
+pub tys-returns-in_err-tys_done-in-Again : goal.tys-returns-in_err-tys_done-in-Again
+tys-returns-in_err-tys_done-in-Again g t c =
+    let r = g.R.TypeRelation.state c.args.r.now in
+    let M = g.R.TypeRelation.manner in
+    let a = (r.meaning).ty c.args.a.now in
+    let b = (r.meaning).ty c.args.b.now in
+    let q = g.R.TypeRelation.state c.tys.new.self in
+    let step = subst (λ z. Stepped M IsFormed r q a b (q.meaning).ty (Ok z)) c.in-Again.is c.in_ok-answer.ensures in
+    let x = (q.meaning).ty c.in-Again.x in
+    let y = (q.meaning).ty c.in-Again.y in
+    let k = (q.meaning).ty c.in-Again.a in
+    let l = (q.meaning).ty c.in-Again.b in
+    let v = c.in-Again.variance in
+    let p = g.R.TypeRelation.state c.relate_with_variance.new.r in
+    let inner : Related M q p (xform r.ambient v) x y (arg_tree p.meaning) (Ok c.in_ok-relate_with_variance-in-Again.field-0) =
+        subst (λ z. Related M q p (xform z v) x y (arg_tree p.meaning) (Ok c.in_ok-relate_with_variance-in-Again.field-0)) (step.passes).ambient c.in_ok-relate_with_variance-in-Again.ensures in
+    let same_k : (p.meaning).ty c.in-Again.a ≡ k =
+        ((inner.passes).extends).ty c.in-Again.a ((step.verdict).read_asked).left_known in
+    let done : Related M r p r.ambient a b (p.meaning).ty (Ok c.in-Again.a) =
+        again_related M a b k l x y v step.passes step.verdict (arg_tree p.meaning) c.in_ok-relate_with_variance-in-Again.field-0 (p.meaning).ty
+        c.in-Again.a same_k inner in
+    let is = g.met.R.TypeRelation.takes_forms in
+    let u = g.R.TypeRelation.state c.tys_done-in-Again.new.self in
+    let e = c.in_err-tys_done-in-Again in
+    let failed = as_err c.from_residual-in_err-tys_done-in-Again.result e.field-0.0
+        c.from_residual-in_err-tys_done-in-Again.ensures.0 c.from_residual-in_err-tys_done-in-Again.ensures.1 in
+    subst (λ z. Related M r u r.ambient a b (u.meaning).ty z) (sym failed)
+    (noted_refused M is r.ambient a b (p.meaning).ty c.in-Again.a done (Err e.field-0.0) e.ensures (u.meaning).ty e.field-0.0 refl)
+
 pub tys-returns-in_ok-tys_done-in-Again : goal.tys-returns-in_ok-tys_done-in-Again
-tys-returns-in_ok-tys_done-in-Again g t c = ?
+tys-returns-in_ok-tys_done-in-Again g t c =
+    let r = g.R.TypeRelation.state c.args.r.now in
+    let M = g.R.TypeRelation.manner in
+    let a = (r.meaning).ty c.args.a.now in
+    let b = (r.meaning).ty c.args.b.now in
+    let q = g.R.TypeRelation.state c.tys.new.self in
+    let step = subst (λ z. Stepped M IsFormed r q a b (q.meaning).ty (Ok z)) c.in-Again.is c.in_ok-answer.ensures in
+    let x = (q.meaning).ty c.in-Again.x in
+    let y = (q.meaning).ty c.in-Again.y in
+    let k = (q.meaning).ty c.in-Again.a in
+    let l = (q.meaning).ty c.in-Again.b in
+    let v = c.in-Again.variance in
+    let p = g.R.TypeRelation.state c.relate_with_variance.new.r in
+    let inner : Related M q p (xform r.ambient v) x y (arg_tree p.meaning) (Ok c.in_ok-relate_with_variance-in-Again.field-0) =
+        subst (λ z. Related M q p (xform z v) x y (arg_tree p.meaning) (Ok c.in_ok-relate_with_variance-in-Again.field-0)) (step.passes).ambient c.in_ok-relate_with_variance-in-Again.ensures in
+    let same_k : (p.meaning).ty c.in-Again.a ≡ k =
+        ((inner.passes).extends).ty c.in-Again.a ((step.verdict).read_asked).left_known in
+    let done : Related M r p r.ambient a b (p.meaning).ty (Ok c.in-Again.a) =
+        again_related M a b k l x y v step.passes step.verdict (arg_tree p.meaning) c.in_ok-relate_with_variance-in-Again.field-0 (p.meaning).ty
+        c.in-Again.a same_k inner in
+    let is = g.met.R.TypeRelation.takes_forms in
+    let u = g.R.TypeRelation.state c.tys_done-in-Again.new.self in
+    let n = c.in_ok-tys_done-in-Again in
+    noted_related M is r.ambient a b (p.meaning).ty c.in-Again.a done (Ok n.field-0) n.ensures (u.meaning).ty
+    ((((n.ensures).passes).extends).ty c.in-Again.a (done.verdict).known)
+
+pub relate-returns-in_default : goal.relate-returns-in_default
+relate-returns-in_default g t c =
+    let r = g.R.TypeRelation.state c.args.r.now in
+    let M = g.R.TypeRelation.manner in
+    let e = g.met.R.TypeRelation.reads c.args.r.now in
+    let cx = g.R.TypeRelation.interner c.args.r.now in
+    let sorted : Sorted r.meaning = subst (λ m. Sorted m) (sym e) (record {
+      ty = g.met.I.Interner.is_ty cx;
+      region = g.met.I.Interner.is_region cx;
+      tys = g.met.I.Interner.are_tys cx;
+      const_ = g.met.I.Interner.is_const cx;
+      valtree = g.met.I.Interner.is_valtree cx;
+      args = g.met.I.Interner.are_args cx;
+      branches = g.met.I.Interner.are_branches cx;
+    }) in
+    let k = c.requires.asked in
+    kinds_differ r.meaning sorted M r r.ambient (arg_tree r.meaning) refl c.args.a.now c.args.b.now
+    (subst (λ z. AreOfTwoKinds z c.args.b.now) (sym c.in-Lifetime.is) (no_lifetime c.in-Lifetime.a c.args.b.now c.in_default.not-Lifetime))
+    k.left_known k.right_known k.left_in k.right_in
+
+pub relate-returns-in_default-b : goal.relate-returns-in_default-b
+relate-returns-in_default-b g t c =
+    let r = g.R.TypeRelation.state c.args.r.now in
+    let M = g.R.TypeRelation.manner in
+    let e = g.met.R.TypeRelation.reads c.args.r.now in
+    let cx = g.R.TypeRelation.interner c.args.r.now in
+    let sorted : Sorted r.meaning = subst (λ m. Sorted m) (sym e) (record {
+      ty = g.met.I.Interner.is_ty cx;
+      region = g.met.I.Interner.is_region cx;
+      tys = g.met.I.Interner.are_tys cx;
+      const_ = g.met.I.Interner.is_const cx;
+      valtree = g.met.I.Interner.is_valtree cx;
+      args = g.met.I.Interner.are_args cx;
+      branches = g.met.I.Interner.are_branches cx;
+    }) in
+    let k = c.requires.asked in
+    kinds_differ r.meaning sorted M r r.ambient (arg_tree r.meaning) refl c.args.a.now c.args.b.now
+    (subst (λ z. AreOfTwoKinds z c.args.b.now) (sym c.in-Ty.is) (no_ty c.in-Ty.a c.args.b.now c.in_default-b.not-Ty))
+    k.left_known k.right_known k.left_in k.right_in
+
+pub relate-returns-in_default-b-2 : goal.relate-returns-in_default-b-2
+relate-returns-in_default-b-2 g t c =
+    let r = g.R.TypeRelation.state c.args.r.now in
+    let M = g.R.TypeRelation.manner in
+    let e = g.met.R.TypeRelation.reads c.args.r.now in
+    let cx = g.R.TypeRelation.interner c.args.r.now in
+    let sorted : Sorted r.meaning = subst (λ m. Sorted m) (sym e) (record {
+      ty = g.met.I.Interner.is_ty cx;
+      region = g.met.I.Interner.is_region cx;
+      tys = g.met.I.Interner.are_tys cx;
+      const_ = g.met.I.Interner.is_const cx;
+      valtree = g.met.I.Interner.is_valtree cx;
+      args = g.met.I.Interner.are_args cx;
+      branches = g.met.I.Interner.are_branches cx;
+    }) in
+    let k = c.requires.asked in
+    kinds_differ r.meaning sorted M r r.ambient (arg_tree r.meaning) refl c.args.a.now c.args.b.now
+    (subst (λ z. AreOfTwoKinds z c.args.b.now) (sym c.in-Const.is) (no_const_arg c.in-Const.a c.args.b.now c.in_default-b-2.not-Const))
+    k.left_known k.right_known k.left_in k.right_in
+
+pub relate-returns-in_ok-regions-in-Lifetime : goal.relate-returns-in_ok-regions-in-Lifetime
+relate-returns-in_ok-regions-in-Lifetime g t c =
+    let r = g.R.TypeRelation.state c.args.r.now in
+    let M = g.R.TypeRelation.manner in
+    let q = g.R.TypeRelation.state c.regions.new.self in
+    let n = c.in_ok-regions-in-Lifetime in
+    subst₂ (λ t u. Related M r q r.ambient (arg_tree r.meaning t) (arg_tree r.meaning u) (arg_tree q.meaning) (Ok (Lifetime n.field-0)))
+    (sym c.in-Lifetime.is) (sym c.in-Lifetime-b.is)
+    (retold M r.ambient ((r.meaning).region c.in-Lifetime.a) ((r.meaning).region c.in-Lifetime-b.b) (q.meaning).region n.field-0
+    (arg_tree q.meaning) (Lifetime n.field-0) refl n.ensures)
+
+pub relate-returns-in_ok-tys-in-Ty : goal.relate-returns-in_ok-tys-in-Ty
+relate-returns-in_ok-tys-in-Ty g t c =
+    let r = g.R.TypeRelation.state c.args.r.now in
+    let M = g.R.TypeRelation.manner in
+    let q = g.R.TypeRelation.state c.tys.new.r in
+    let n = c.in_ok-tys-in-Ty in
+    subst₂ (λ t u. Related M r q r.ambient (arg_tree r.meaning t) (arg_tree r.meaning u) (arg_tree q.meaning) (Ok (Ty n.field-0)))
+    (sym c.in-Ty.is) (sym c.in-Ty-b.is)
+    (retold M r.ambient ((r.meaning).ty c.in-Ty.a) ((r.meaning).ty c.in-Ty-b.b) (q.meaning).ty n.field-0
+    (arg_tree q.meaning) (Ty n.field-0) refl n.ensures)
+
+pub relate-returns-in_ok-consts-in-Const : goal.relate-returns-in_ok-consts-in-Const
+relate-returns-in_ok-consts-in-Const g t c =
+    let r = g.R.TypeRelation.state c.args.r.now in
+    let M = g.R.TypeRelation.manner in
+    let q = g.R.TypeRelation.state c.consts.new.r in
+    let n = c.in_ok-consts-in-Const in
+    subst₂ (λ t u. Related M r q r.ambient (arg_tree r.meaning t) (arg_tree r.meaning u) (arg_tree q.meaning) (Ok (Const n.field-0)))
+    (sym c.in-Const.is) (sym c.in-Const-b.is)
+    (retold M r.ambient ((r.meaning).const_ c.in-Const.a) ((r.meaning).const_ c.in-Const-b.b) (q.meaning).const_ n.field-0
+    (arg_tree q.meaning) (Const n.field-0) refl n.ensures)
+
+pub relate_with_variance-returns-in-Bivariant : goal.relate_with_variance-returns-in-Bivariant
+relate_with_variance-returns-in-Bivariant g t c =
+    let r = g.R.TypeRelation.state c.args.r.now in
+    let M = g.R.TypeRelation.manner in
+    let is = g.met.R.TypeRelation.takes_forms in
+    let v = xform r.ambient c.args.variance in
+    let e : v ≡ Bivariant =
+        sym (c.xform-new.ensures ∙ ap (λ z. xform z c.args.variance) c.ambient-old.ensures) ∙ c.in-Bivariant.is in
+    unlooked M is r v (arg_tree r.meaning c.args.a.now) (arg_tree r.meaning c.args.b.now) (arg_tree r.meaning) c.dup.result e
+    (c.requires.asked).left_known (ap (arg_tree r.meaning) c.dup.ensures)
+
+pub relate_with_variance-returns : goal.relate_with_variance-returns
+relate_with_variance-returns g t c =
+    let r = g.R.TypeRelation.state c.args.r.now in
+    let M = g.R.TypeRelation.manner in
+    let s = g.R.TypeRelation.state c.set_ambient.new.self in
+    let q = g.R.TypeRelation.state c.relate-answer.new.r in
+    let u = g.R.TypeRelation.state c.set_ambient-2.new.self in
+    let a = arg_tree r.meaning c.args.a.now in
+    let b = arg_tree r.meaning c.args.b.now in
+    let res = c.relate-answer.result in
+    let e : c.xform-new.result ≡ xform r.ambient c.args.variance =
+        c.xform-new.ensures ∙ ap (λ z. xform z c.args.variance) c.ambient-old.ensures in
+    let there = c.set_ambient.ensures in
+    let back = subst (λ z. Turned z q u) c.ambient-old.ensures c.set_ambient-2.ensures in
+    let f = subst (λ m. Related M s q s.ambient (arg_tree m c.args.a.now) (arg_tree m c.args.b.now) (arg_tree q.meaning) res)
+        there.meaning c.relate-answer.ensures in
+    let h = subst (λ m. Related M s q s.ambient a b (arg_tree m) res) (sym back.meaning) f in
+    let k = subst (λ z. Related M s q z a b (arg_tree u.meaning) res) there.ambient h in
+    subst (λ z. Related M r u z a b (arg_tree u.meaning) res) e
+    (turned M c.xform-new.result a b (arg_tree u.meaning) there back res k)
+
+pub structurally_relate_consts-returns-then-eq : goal.structurally_relate_consts-returns-then-eq
+structurally_relate_consts-returns-then-eq g t c =
+    let r = g.R.TypeRelation.state c.args.r.now in
+    let M = g.R.TypeRelation.manner in
+    let a = (r.meaning).const_ c.args.a.now in
+    let b = (r.meaning).const_ c.args.b.now in
+    let is = g.met.R.TypeRelation.takes_forms in
+    let e = g.met.R.TypeRelation.reads c.args.r.now in
+    let cx = g.R.TypeRelation.interner c.args.r.now in
+    let k = c.requires.asked in
+    let same : IsTrue (g.I.Key.PartialEq.eq (c.args.a.now).0 (c.args.b.now).0) ↔ (a ≡ b) =
+        subst (λ m. IsTrue (known (m.const_ c.args.a.now)) → IsTrue (known (m.const_ c.args.b.now)) →
+        (IsTrue (g.I.Key.PartialEq.eq (c.args.a.now).0 (c.args.b.now).0) ↔ (m.const_ c.args.a.now ≡ m.const_ c.args.b.now)))
+        (sym e) (g.met.I.Interner.same_const cx c.args.a.now c.args.b.now) k.left_known k.right_known in
+    itself_related M r r.ambient (r.meaning).const_ is a b c.dup.result (same.0 (sym c.if-eq.ensures)) (ap (r.meaning).const_ c.dup.ensures) k.left_known
+
+pub structurally_relate_consts-compare_consts_of-requires-clause-differ : goal.structurally_relate_consts-compare_consts_of-requires-clause-differ
+structurally_relate_consts-compare_consts_of-requires-clause-differ g t c =
+    let r = g.R.TypeRelation.state c.args.r.now in
+    let M = g.R.TypeRelation.manner in
+    let a = (r.meaning).const_ c.args.a.now in
+    let b = (r.meaning).const_ c.args.b.now in
+    let e = g.met.R.TypeRelation.reads c.args.r.now in
+    let cx = g.R.TypeRelation.interner c.args.r.now in
+    let k = c.requires.asked in
+    let same : IsTrue (g.I.Key.PartialEq.eq (c.args.a.now).0 (c.args.b.now).0) ↔ (a ≡ b) =
+        subst (λ m. IsTrue (known (m.const_ c.args.a.now)) → IsTrue (known (m.const_ c.args.b.now)) →
+        (IsTrue (g.I.Key.PartialEq.eq (c.args.a.now).0 (c.args.b.now).0) ↔ (m.const_ c.args.a.now ≡ m.const_ c.args.b.now)))
+        (sym e) (g.met.I.Interner.same_const cx c.args.a.now c.args.b.now) k.left_known k.right_known in
+    λ h. false≢true (c.if-eq.ensures ∙ same.1 h)
+
+pub structurally_relate_consts-returns-in_err-compare_consts_of : goal.structurally_relate_consts-returns-in_err-compare_consts_of
+structurally_relate_consts-returns-in_err-compare_consts_of g t c =
+    let r = g.R.TypeRelation.state c.args.r.now in
+    let M = g.R.TypeRelation.manner in
+    let a = (r.meaning).const_ c.args.a.now in
+    let b = (r.meaning).const_ c.args.b.now in
+    let e = g.met.R.TypeRelation.reads c.args.r.now in
+    let cx = g.R.TypeRelation.interner c.args.r.now in
+    let sorted : Sorted r.meaning = subst (λ m. Sorted m) (sym e) (record {
+      ty = g.met.I.Interner.is_ty cx;
+      region = g.met.I.Interner.is_region cx;
+      tys = g.met.I.Interner.are_tys cx;
+      const_ = g.met.I.Interner.is_const cx;
+      valtree = g.met.I.Interner.is_valtree cx;
+      args = g.met.I.Interner.are_args cx;
+      branches = g.met.I.Interner.are_branches cx;
+    }) in
+    let n = c.in_err-compare_consts_of in
+    let k = c.requires.asked in
+    let failed = as_err c.from_residual.result (Unrelated n.field-0.0) c.from_residual.ensures.0 c.from_residual.ensures.1 in
+    subst (λ z. Related M r r r.ambient a b (r.meaning).const_ z) (sym failed)
+    (consts_differ M r r.ambient (r.meaning).const_ c.args.a.now c.args.b.now n.field-0.0 c.requires.a_formed c.requires.b_formed
+    (sorted.const_ c.args.a.now k.left_known) (sorted.const_ c.args.b.now k.right_known) k.left_known k.right_known
+    (n.ensures).errors)
+
+pub structurally_relate_consts-loop-i-init : goal.structurally_relate_consts-loop-i-init
+structurally_relate_consts-loop-i-init g t c =
+    let r = g.R.TypeRelation.state c.args.r.now in
+    let M = g.R.TypeRelation.manner in
+    let a = (r.meaning).const_ c.args.a.now in
+    let b = (r.meaning).const_ c.args.b.now in
+    let e = g.met.R.TypeRelation.reads c.args.r.now in
+    let cx = g.R.TypeRelation.interner c.args.r.now in
+    let sorted : Sorted r.meaning = subst (λ m. Sorted m) (sym e) (record {
+      ty = g.met.I.Interner.is_ty cx;
+      region = g.met.I.Interner.is_region cx;
+      tys = g.met.I.Interner.are_tys cx;
+      const_ = g.met.I.Interner.is_const cx;
+      valtree = g.met.I.Interner.is_valtree cx;
+      args = g.met.I.Interner.are_args cx;
+      branches = g.met.I.Interner.are_branches cx;
+    }) in
+    let k = c.requires.asked in
+    let alike = (c.in_ok-compare_consts_of.ensures).alike in
+    record {
+      lawful = c.requires.lawful;
+      fronted = fronted_none r (const_head_of a) r.ambient (const_parts_of a) (const_parts_of b);
+      left_count = c.const_parts_count_of-n.ensures.counts;
+      right_count = c.const_parts_count_of-n.ensures.counts ∙ const_parts_counted a b alike;
+      are_parts = record {
+        left_list = const_parts_list a (sorted.const_ c.args.a.now k.left_known);
+        right_list = const_parts_list b (sorted.const_ c.args.b.now k.right_known);
+        left_in = term_context r.store (const_parts_of a) (in_const_parts r.store a k.left_in);
+        right_in = term_context r.store (const_parts_of b) (in_const_parts r.store b k.right_in);
+      };
+    }
+
+pub structurally_relate_consts-relate_with_variance-related-requires : goal.structurally_relate_consts-relate_with_variance-related-requires
+structurally_relate_consts-relate_with_variance-related-requires g t c κs within =
+    let r = g.R.TypeRelation.state c.args.r.now in
+    let M = g.R.TypeRelation.manner in
+    let a = (r.meaning).const_ c.args.a.now in
+    let b = (r.meaning).const_ c.args.b.now in
+    let is = g.met.R.TypeRelation.takes_forms in
+    let q = g.R.TypeRelation.state c.loop-i.r in
+    let i = c.loop-i.i in
+    let inv = c.loop-i.invariant in
+    let k = c.requires.asked in
+    let extends = ((inv.fronted).passes).extends in
+    let same_a : (q.meaning).const_ c.args.a.now ≡ a = extends.const_ c.args.a.now k.left_known in
+    let same_b : (q.meaning).const_ c.args.b.now ≡ b = extends.const_ c.args.b.now k.right_known in
+    let alike = (c.in_ok-compare_consts_of.ensures).alike in
+    let test = c.loop-i-test.true in
+    let lx : i < count (const_parts_of a) = omega (arith, test, inv.left_count) in
+    let ly : i < count (const_parts_of b) = omega (arith, test, inv.right_count) in
+    let X = c.const_part_of-x.result in
+    let Y = c.const_part_of-y.result in
+    let x = arg_tree q.meaning X in
+    let y = arg_tree q.meaning Y in
+    let kx = c.const_part_of-x.ensures.sure in
+    let ky = c.const_part_of-y.ensures.sure in
+    let ex : x ≡ nth i (const_parts_of a) = c.const_part_of-x.ensures.means ∙ ap (λ z. nth i (const_parts_of z)) same_a in
+    let ey : y ≡ nth i (const_parts_of b) = c.const_part_of-y.ensures.means ∙ ap (λ z. nth i (const_parts_of z)) same_b in
+    let w = xform q.ambient c.const_variance_at-variance.result in
+    let ew : w ≡ part_at (items_in r) (const_head_of a) i r.ambient =
+        c.const_variance_at-variance.ensures i ∙ ap (λ z. part_at (items_in q) (const_head_of z) i q.ambient) same_a ∙
+        ap (λ z. part_at z (const_head_of a) i q.ambient) (same_items (inv.fronted).passes) ∙
+        ap (λ z. part_at (items_in r) (const_head_of a) i z) ((inv.fronted).passes).ambient in
+    let eu : w ≡ part_at (items_in r) (const_head_of b) i r.ambient =
+        ew ∙ ap (λ h. part_at (items_in r) h i r.ambient) (const_heads_alike a b alike) in
+    let lawful = inv.lawful in
+    let asked = next_const_asked M is r q a b i x y kx ky k inv.fronted lx ly ex ey w ew eu in
+    let under = next_const_under M is r q a b i x y kx ky k inv.fronted lx ly ex ey in
+    let d = c.decreases in
+    search rules
+
+pub structurally_relate_consts-returns-in_err-in_const : goal.structurally_relate_consts-returns-in_err-in_const
+structurally_relate_consts-returns-in_err-in_const g t c =
+    let r = g.R.TypeRelation.state c.args.r.now in
+    let M = g.R.TypeRelation.manner in
+    let a = (r.meaning).const_ c.args.a.now in
+    let b = (r.meaning).const_ c.args.b.now in
+    let is = g.met.R.TypeRelation.takes_forms in
+    let q = g.R.TypeRelation.state c.loop-i.r in
+    let i = c.loop-i.i in
+    let inv = c.loop-i.invariant in
+    let k = c.requires.asked in
+    let extends = ((inv.fronted).passes).extends in
+    let same_a : (q.meaning).const_ c.args.a.now ≡ a = extends.const_ c.args.a.now k.left_known in
+    let same_b : (q.meaning).const_ c.args.b.now ≡ b = extends.const_ c.args.b.now k.right_known in
+    let alike = (c.in_ok-compare_consts_of.ensures).alike in
+    let test = c.loop-i-test.true in
+    let lx : i < count (const_parts_of a) = omega (arith, test, inv.left_count) in
+    let ly : i < count (const_parts_of b) = omega (arith, test, inv.right_count) in
+    let X = c.const_part_of-x.result in
+    let Y = c.const_part_of-y.result in
+    let x = arg_tree q.meaning X in
+    let y = arg_tree q.meaning Y in
+    let kx = c.const_part_of-x.ensures.sure in
+    let ky = c.const_part_of-y.ensures.sure in
+    let ex : x ≡ nth i (const_parts_of a) = c.const_part_of-x.ensures.means ∙ ap (λ z. nth i (const_parts_of z)) same_a in
+    let ey : y ≡ nth i (const_parts_of b) = c.const_part_of-y.ensures.means ∙ ap (λ z. nth i (const_parts_of z)) same_b in
+    let w = xform q.ambient c.const_variance_at-variance.result in
+    let ew : w ≡ part_at (items_in r) (const_head_of a) i r.ambient =
+        c.const_variance_at-variance.ensures i ∙ ap (λ z. part_at (items_in q) (const_head_of z) i q.ambient) same_a ∙
+        ap (λ z. part_at z (const_head_of a) i q.ambient) (same_items (inv.fronted).passes) ∙
+        ap (λ z. part_at (items_in r) (const_head_of a) i z) ((inv.fronted).passes).ambient in
+    let p = g.R.TypeRelation.state c.relate_with_variance-related.new.r in
+    let related = c.relate_with_variance-related in
+    let later = ((related.ensures).passes).extends in
+    let then_a : (p.meaning).const_ c.args.a.now ≡ a =
+        later.const_ c.args.a.now (subst (λ z. IsTrue (known z)) (sym same_a) k.left_known) ∙ same_a in
+    let then_b : (p.meaning).const_ c.args.b.now ≡ b =
+        later.const_ c.args.b.now (subst (λ z. IsTrue (known z)) (sym same_b) k.right_known) ∙ same_b in
+    let n = c.in_err-in_const in
+    let z = failed_const a c.args.a.now c.args.b.now related.result n.field-0.0
+        (subst (λ z. IsResultOfConst z c.args.a.now c.args.b.now related.result (Err n.field-0.0)) then_a n.ensures) in
+    let gone = subst (λ v. Related M q p v x y (arg_tree p.meaning) (Err z.0)) ew
+        (subst (λ u. Related M q p w x y (arg_tree p.meaning) u) z.1 related.ensures) in
+    let failed = as_err c.from_residual-in_err-in_const.result n.field-0.0 c.from_residual-in_err-in_const.ensures.0
+        c.from_residual-in_err-in_const.ensures.1 in
+    subst (λ u. Related M r p r.ambient a b (p.meaning).const_ u) (sym failed)
+    (const_refused M r.ambient a b i alike inv.fronted inv.are_parts c.args.a.now c.args.b.now x y lx ly ex ey (arg_tree p.meaning)
+    (p.meaning).const_ z.0 n.field-0.0 then_a then_b k.left_known k.right_known z.2 gone)
+
+pub structurally_relate_consts-loop-i-preserved : goal.structurally_relate_consts-loop-i-preserved
+structurally_relate_consts-loop-i-preserved g t c =
+    let r = g.R.TypeRelation.state c.args.r.now in
+    let M = g.R.TypeRelation.manner in
+    let a = (r.meaning).const_ c.args.a.now in
+    let b = (r.meaning).const_ c.args.b.now in
+    let is = g.met.R.TypeRelation.takes_forms in
+    let q = g.R.TypeRelation.state c.loop-i.r in
+    let i = c.loop-i.i in
+    let inv = c.loop-i.invariant in
+    let k = c.requires.asked in
+    let extends = ((inv.fronted).passes).extends in
+    let same_a : (q.meaning).const_ c.args.a.now ≡ a = extends.const_ c.args.a.now k.left_known in
+    let same_b : (q.meaning).const_ c.args.b.now ≡ b = extends.const_ c.args.b.now k.right_known in
+    let alike = (c.in_ok-compare_consts_of.ensures).alike in
+    let test = c.loop-i-test.true in
+    let lx : i < count (const_parts_of a) = omega (arith, test, inv.left_count) in
+    let ly : i < count (const_parts_of b) = omega (arith, test, inv.right_count) in
+    let X = c.const_part_of-x.result in
+    let Y = c.const_part_of-y.result in
+    let x = arg_tree q.meaning X in
+    let y = arg_tree q.meaning Y in
+    let kx = c.const_part_of-x.ensures.sure in
+    let ky = c.const_part_of-y.ensures.sure in
+    let ex : x ≡ nth i (const_parts_of a) = c.const_part_of-x.ensures.means ∙ ap (λ z. nth i (const_parts_of z)) same_a in
+    let ey : y ≡ nth i (const_parts_of b) = c.const_part_of-y.ensures.means ∙ ap (λ z. nth i (const_parts_of z)) same_b in
+    let w = xform q.ambient c.const_variance_at-variance.result in
+    let ew : w ≡ part_at (items_in r) (const_head_of a) i r.ambient =
+        c.const_variance_at-variance.ensures i ∙ ap (λ z. part_at (items_in q) (const_head_of z) i q.ambient) same_a ∙
+        ap (λ z. part_at z (const_head_of a) i q.ambient) (same_items (inv.fronted).passes) ∙
+        ap (λ z. part_at (items_in r) (const_head_of a) i z) ((inv.fronted).passes).ambient in
+    let p = g.R.TypeRelation.state c.relate_with_variance-related.new.r in
+    let related = c.relate_with_variance-related in
+    let later = ((related.ensures).passes).extends in
+    let then_a : (p.meaning).const_ c.args.a.now ≡ a =
+        later.const_ c.args.a.now (subst (λ z. IsTrue (known z)) (sym same_a) k.left_known) ∙ same_a in
+    let then_b : (p.meaning).const_ c.args.b.now ≡ b =
+        later.const_ c.args.b.now (subst (λ z. IsTrue (known z)) (sym same_b) k.right_known) ∙ same_b in
+    let n = c.in_ok-in_const in
+    let z = kept_const a c.args.a.now c.args.b.now related.result n.field-0
+        (subst (λ z. IsResultOfConst z c.args.a.now c.args.b.now related.result (Ok n.field-0)) then_a n.ensures) in
+    let gone = subst (λ v. Related M q p v x y (arg_tree p.meaning) (Ok n.field-0)) ew
+        (subst (λ u. Related M q p w x y (arg_tree p.meaning) u) z related.ensures) in
+    record {
+      lawful = (gone.passes).lawful inv.lawful;
+      fronted = subst (λ j. Fronted r p (const_head_of a) r.ambient j (const_parts_of a) (const_parts_of b)) (omega arith)
+          (fronted_next (const_head_of a) r.ambient i (const_parts_of a) (const_parts_of b) x y inv.fronted lx ly ex ey M (arg_tree p.meaning)
+          n.field-0 inv.are_parts gone);
+      left_count = inv.left_count;
+      right_count = inv.right_count;
+      are_parts = inv.are_parts;
+    }
+
+pub structurally_relate_consts-returns : goal.structurally_relate_consts-returns
+structurally_relate_consts-returns g t c =
+    let r = g.R.TypeRelation.state c.args.r.now in
+    let M = g.R.TypeRelation.manner in
+    let a = (r.meaning).const_ c.args.a.now in
+    let b = (r.meaning).const_ c.args.b.now in
+    let is = g.met.R.TypeRelation.takes_forms in
+    let q = g.R.TypeRelation.state c.loop-i.r in
+    let i = c.loop-i.i in
+    let inv = c.loop-i.invariant in
+    let k = c.requires.asked in
+    let extends = ((inv.fronted).passes).extends in
+    let same_a : (q.meaning).const_ c.args.a.now ≡ a = extends.const_ c.args.a.now k.left_known in
+    let same_b : (q.meaning).const_ c.args.b.now ≡ b = extends.const_ c.args.b.now k.right_known in
+    let alike = (c.in_ok-compare_consts_of.ensures).alike in
+    let test = c.loop-i-test.false in
+    let end = (c.loop-i.auto).i-end in
+    let left : i ≡ count (const_parts_of a) = omega (arith, test, end, inv.left_count) in
+    let right : i ≡ count (const_parts_of b) = omega (arith, test, end, inv.right_count) in
+    consts_related M r.ambient a b i is (q.meaning).const_ c.dup-2.result alike inv.fronted inv.are_parts left right
+    (ap (q.meaning).const_ c.dup-2.ensures ∙ same_a) k.left_known
+
+pub structurally_relate_tys-returns-in_err-compare_tys_of : goal.structurally_relate_tys-returns-in_err-compare_tys_of
+structurally_relate_tys-returns-in_err-compare_tys_of g t c =
+    let r = g.R.TypeRelation.state c.args.r.now in
+    let M = g.R.TypeRelation.manner in
+    let a = (r.meaning).ty c.args.a.now in
+    let b = (r.meaning).ty c.args.b.now in
+    let e = g.met.R.TypeRelation.reads c.args.r.now in
+    let cx = g.R.TypeRelation.interner c.args.r.now in
+    let sorted : Sorted r.meaning = subst (λ m. Sorted m) (sym e) (record {
+      ty = g.met.I.Interner.is_ty cx;
+      region = g.met.I.Interner.is_region cx;
+      tys = g.met.I.Interner.are_tys cx;
+      const_ = g.met.I.Interner.is_const cx;
+      valtree = g.met.I.Interner.is_valtree cx;
+      args = g.met.I.Interner.are_args cx;
+      branches = g.met.I.Interner.are_branches cx;
+    }) in
+    let n = c.in_err-compare_tys_of in
+    let k = c.requires.asked in
+    let failed = as_err c.from_residual.result (Unrelated n.field-0.0) c.from_residual.ensures.0 c.from_residual.ensures.1 in
+    subst (λ z. Related M r r r.ambient a b (r.meaning).ty z) (sym failed)
+    (types_differ M r r.ambient (r.meaning).ty c.args.a.now c.args.b.now n.field-0.0 c.requires.a_formed c.requires.b_formed
+    (sorted.ty c.args.a.now k.left_known) (sorted.ty c.args.b.now k.right_known) k.left_known k.right_known
+    (n.ensures).errors)
+
+pub structurally_relate_tys-loop-i-init : goal.structurally_relate_tys-loop-i-init
+structurally_relate_tys-loop-i-init g t c =
+    let r = g.R.TypeRelation.state c.args.r.now in
+    let M = g.R.TypeRelation.manner in
+    let a = (r.meaning).ty c.args.a.now in
+    let b = (r.meaning).ty c.args.b.now in
+    let e = g.met.R.TypeRelation.reads c.args.r.now in
+    let cx = g.R.TypeRelation.interner c.args.r.now in
+    let sorted : Sorted r.meaning = subst (λ m. Sorted m) (sym e) (record {
+      ty = g.met.I.Interner.is_ty cx;
+      region = g.met.I.Interner.is_region cx;
+      tys = g.met.I.Interner.are_tys cx;
+      const_ = g.met.I.Interner.is_const cx;
+      valtree = g.met.I.Interner.is_valtree cx;
+      args = g.met.I.Interner.are_args cx;
+      branches = g.met.I.Interner.are_branches cx;
+    }) in
+    let k = c.requires.asked in
+    let alike = (c.in_ok-compare_tys_of.ensures).alike in
+    record {
+      lawful = c.requires.lawful;
+      fronted = fronted_none r (head_of a) r.ambient (parts_of a) (parts_of b);
+      left_count = c.parts_count_of-n.ensures.counts;
+      right_count = c.parts_count_of-n.ensures.counts ∙ parts_counted a b alike;
+      are_parts = record {
+        left_list = parts_of_list type_sort a (sorted.ty c.args.a.now k.left_known);
+        right_list = parts_of_list type_sort b (sorted.ty c.args.b.now k.right_known);
+        left_in = term_context r.store (parts_of a) (in_parts r.store a k.left_in);
+        right_in = term_context r.store (parts_of b) (in_parts r.store b k.right_in);
+      };
+    }
+
+pub structurally_relate_tys-relate_with_variance-related-requires : goal.structurally_relate_tys-relate_with_variance-related-requires
+structurally_relate_tys-relate_with_variance-related-requires g t c κs within =
+    let r = g.R.TypeRelation.state c.args.r.now in
+    let M = g.R.TypeRelation.manner in
+    let a = (r.meaning).ty c.args.a.now in
+    let b = (r.meaning).ty c.args.b.now in
+    let is = g.met.R.TypeRelation.takes_forms in
+    let q = g.R.TypeRelation.state c.loop-i.r in
+    let i = c.loop-i.i in
+    let inv = c.loop-i.invariant in
+    let k = c.requires.asked in
+    let extends = ((inv.fronted).passes).extends in
+    let same_a : (q.meaning).ty c.args.a.now ≡ a = extends.ty c.args.a.now k.left_known in
+    let same_b : (q.meaning).ty c.args.b.now ≡ b = extends.ty c.args.b.now k.right_known in
+    let alike = (c.in_ok-compare_tys_of.ensures).alike in
+    let test = c.loop-i-test.true in
+    let lx : i < count (parts_of a) = omega (arith, test, inv.left_count) in
+    let ly : i < count (parts_of b) = omega (arith, test, inv.right_count) in
+    let X = c.part_of-x.result in
+    let Y = c.part_of-y.result in
+    let x = arg_tree q.meaning X in
+    let y = arg_tree q.meaning Y in
+    let kx = c.part_of-x.ensures.sure in
+    let ky = c.part_of-y.ensures.sure in
+    let ex : x ≡ nth i (parts_of a) = c.part_of-x.ensures.means ∙ ap (λ z. nth i (parts_of z)) same_a in
+    let ey : y ≡ nth i (parts_of b) = c.part_of-y.ensures.means ∙ ap (λ z. nth i (parts_of z)) same_b in
+    let w = xform q.ambient c.variance_at-variance.result in
+    let ew : w ≡ part_at (items_in r) (head_of a) i r.ambient =
+        c.variance_at-variance.ensures ∙ ap (λ z. part_at (items_in q) (head_of z) i q.ambient) same_a ∙
+        ap (λ z. part_at z (head_of a) i q.ambient) (same_items (inv.fronted).passes) ∙
+        ap (λ z. part_at (items_in r) (head_of a) i z) ((inv.fronted).passes).ambient in
+    let eu : w ≡ part_at (items_in r) (head_of b) i r.ambient =
+        ew ∙ ap (λ h. part_at (items_in r) h i r.ambient) (heads_alike a b alike) in
+    let lawful = inv.lawful in
+    let asked = next_asked M is r q a b i x y kx ky k inv.fronted lx ly ex ey w ew eu in
+    let under = next_under M is r q a b i x y kx ky k inv.fronted lx ly ex ey in
+    let d = c.decreases in
+    search rules
+
+pub structurally_relate_tys-returns-in_err-in_ty : goal.structurally_relate_tys-returns-in_err-in_ty
+structurally_relate_tys-returns-in_err-in_ty g t c =
+    let r = g.R.TypeRelation.state c.args.r.now in
+    let M = g.R.TypeRelation.manner in
+    let a = (r.meaning).ty c.args.a.now in
+    let b = (r.meaning).ty c.args.b.now in
+    let is = g.met.R.TypeRelation.takes_forms in
+    let q = g.R.TypeRelation.state c.loop-i.r in
+    let i = c.loop-i.i in
+    let inv = c.loop-i.invariant in
+    let k = c.requires.asked in
+    let extends = ((inv.fronted).passes).extends in
+    let same_a : (q.meaning).ty c.args.a.now ≡ a = extends.ty c.args.a.now k.left_known in
+    let same_b : (q.meaning).ty c.args.b.now ≡ b = extends.ty c.args.b.now k.right_known in
+    let alike = (c.in_ok-compare_tys_of.ensures).alike in
+    let test = c.loop-i-test.true in
+    let lx : i < count (parts_of a) = omega (arith, test, inv.left_count) in
+    let ly : i < count (parts_of b) = omega (arith, test, inv.right_count) in
+    let X = c.part_of-x.result in
+    let Y = c.part_of-y.result in
+    let x = arg_tree q.meaning X in
+    let y = arg_tree q.meaning Y in
+    let kx = c.part_of-x.ensures.sure in
+    let ky = c.part_of-y.ensures.sure in
+    let ex : x ≡ nth i (parts_of a) = c.part_of-x.ensures.means ∙ ap (λ z. nth i (parts_of z)) same_a in
+    let ey : y ≡ nth i (parts_of b) = c.part_of-y.ensures.means ∙ ap (λ z. nth i (parts_of z)) same_b in
+    let w = xform q.ambient c.variance_at-variance.result in
+    let ew : w ≡ part_at (items_in r) (head_of a) i r.ambient =
+        c.variance_at-variance.ensures ∙ ap (λ z. part_at (items_in q) (head_of z) i q.ambient) same_a ∙
+        ap (λ z. part_at z (head_of a) i q.ambient) (same_items (inv.fronted).passes) ∙
+        ap (λ z. part_at (items_in r) (head_of a) i z) ((inv.fronted).passes).ambient in
+    let p = g.R.TypeRelation.state c.relate_with_variance-related.new.r in
+    let related = c.relate_with_variance-related in
+    let later = ((related.ensures).passes).extends in
+    let then_a : (p.meaning).ty c.args.a.now ≡ a =
+        later.ty c.args.a.now (subst (λ z. IsTrue (known z)) (sym same_a) k.left_known) ∙ same_a in
+    let then_b : (p.meaning).ty c.args.b.now ≡ b =
+        later.ty c.args.b.now (subst (λ z. IsTrue (known z)) (sym same_b) k.right_known) ∙ same_b in
+    let e = g.met.R.TypeRelation.reads c.loop-i.r in
+    let cx = g.R.TypeRelation.interner c.loop-i.r in
+    let sorted : Sorted q.meaning = subst (λ m. Sorted m) (sym e) (record {
+      ty = g.met.I.Interner.is_ty cx;
+      region = g.met.I.Interner.is_region cx;
+      tys = g.met.I.Interner.are_tys cx;
+      const_ = g.met.I.Interner.is_const cx;
+      valtree = g.met.I.Interner.is_valtree cx;
+      args = g.met.I.Interner.are_args cx;
+      branches = g.met.I.Interner.are_branches cx;
+    }) in
+    let n = c.in_err-in_ty in
+    let z = failed_ty a X Y related.result n.field-0.0
+        (subst (λ z. IsResultOfTy z X Y related.result (Err n.field-0.0)) then_a n.ensures) in
+    let gone = subst (λ v. Related M q p v x y (arg_tree p.meaning) (Err z.0)) ew
+        (subst (λ u. Related M q p w x y (arg_tree p.meaning) u) z.1 related.ensures) in
+    let failed = as_err c.from_residual-in_err-in_ty.result n.field-0.0 c.from_residual-in_err-in_ty.ensures.0
+        c.from_residual-in_err-in_ty.ensures.1 in
+    subst (λ u. Related M r p r.ambient a b (p.meaning).ty u) (sym failed)
+    (ty_refused M r.ambient a b i c.requires.a_formed alike inv.fronted inv.are_parts X Y kx ky sorted lx ly ex ey
+    (arg_tree p.meaning) (p.meaning).ty z.0 n.field-0.0 (knows_arg later X kx) (knows_arg later Y ky) z.2 gone)
+
+pub structurally_relate_tys-loop-i-preserved : goal.structurally_relate_tys-loop-i-preserved
+structurally_relate_tys-loop-i-preserved g t c =
+    let r = g.R.TypeRelation.state c.args.r.now in
+    let M = g.R.TypeRelation.manner in
+    let a = (r.meaning).ty c.args.a.now in
+    let b = (r.meaning).ty c.args.b.now in
+    let is = g.met.R.TypeRelation.takes_forms in
+    let q = g.R.TypeRelation.state c.loop-i.r in
+    let i = c.loop-i.i in
+    let inv = c.loop-i.invariant in
+    let k = c.requires.asked in
+    let extends = ((inv.fronted).passes).extends in
+    let same_a : (q.meaning).ty c.args.a.now ≡ a = extends.ty c.args.a.now k.left_known in
+    let same_b : (q.meaning).ty c.args.b.now ≡ b = extends.ty c.args.b.now k.right_known in
+    let alike = (c.in_ok-compare_tys_of.ensures).alike in
+    let test = c.loop-i-test.true in
+    let lx : i < count (parts_of a) = omega (arith, test, inv.left_count) in
+    let ly : i < count (parts_of b) = omega (arith, test, inv.right_count) in
+    let X = c.part_of-x.result in
+    let Y = c.part_of-y.result in
+    let x = arg_tree q.meaning X in
+    let y = arg_tree q.meaning Y in
+    let kx = c.part_of-x.ensures.sure in
+    let ky = c.part_of-y.ensures.sure in
+    let ex : x ≡ nth i (parts_of a) = c.part_of-x.ensures.means ∙ ap (λ z. nth i (parts_of z)) same_a in
+    let ey : y ≡ nth i (parts_of b) = c.part_of-y.ensures.means ∙ ap (λ z. nth i (parts_of z)) same_b in
+    let w = xform q.ambient c.variance_at-variance.result in
+    let ew : w ≡ part_at (items_in r) (head_of a) i r.ambient =
+        c.variance_at-variance.ensures ∙ ap (λ z. part_at (items_in q) (head_of z) i q.ambient) same_a ∙
+        ap (λ z. part_at z (head_of a) i q.ambient) (same_items (inv.fronted).passes) ∙
+        ap (λ z. part_at (items_in r) (head_of a) i z) ((inv.fronted).passes).ambient in
+    let p = g.R.TypeRelation.state c.relate_with_variance-related.new.r in
+    let related = c.relate_with_variance-related in
+    let later = ((related.ensures).passes).extends in
+    let then_a : (p.meaning).ty c.args.a.now ≡ a =
+        later.ty c.args.a.now (subst (λ z. IsTrue (known z)) (sym same_a) k.left_known) ∙ same_a in
+    let then_b : (p.meaning).ty c.args.b.now ≡ b =
+        later.ty c.args.b.now (subst (λ z. IsTrue (known z)) (sym same_b) k.right_known) ∙ same_b in
+    let n = c.in_ok-in_ty in
+    let z = kept_ty a X Y related.result n.field-0
+        (subst (λ z. IsResultOfTy z X Y related.result (Ok n.field-0)) then_a n.ensures) in
+    let gone = subst (λ v. Related M q p v x y (arg_tree p.meaning) (Ok n.field-0)) ew
+        (subst (λ u. Related M q p w x y (arg_tree p.meaning) u) z related.ensures) in
+    record {
+      lawful = (gone.passes).lawful inv.lawful;
+      fronted = subst (λ j. Fronted r p (head_of a) r.ambient j (parts_of a) (parts_of b)) (omega arith)
+          (fronted_next (head_of a) r.ambient i (parts_of a) (parts_of b) x y inv.fronted lx ly ex ey M (arg_tree p.meaning)
+          n.field-0 inv.are_parts gone);
+      left_count = inv.left_count;
+      right_count = inv.right_count;
+      are_parts = inv.are_parts;
+    }
+
+pub structurally_relate_tys-note_args-requires-clause-asked : goal.structurally_relate_tys-note_args-requires-clause-asked
+structurally_relate_tys-note_args-requires-clause-asked g t c =
+    let r = g.R.TypeRelation.state c.args.r.now in
+    let M = g.R.TypeRelation.manner in
+    let a = (r.meaning).ty c.args.a.now in
+    let b = (r.meaning).ty c.args.b.now in
+    let is = g.met.R.TypeRelation.takes_forms in
+    let q = g.R.TypeRelation.state c.loop-i.r in
+    let i = c.loop-i.i in
+    let inv = c.loop-i.invariant in
+    let k = c.requires.asked in
+    let extends = ((inv.fronted).passes).extends in
+    let same_a : (q.meaning).ty c.args.a.now ≡ a = extends.ty c.args.a.now k.left_known in
+    let same_b : (q.meaning).ty c.args.b.now ≡ b = extends.ty c.args.b.now k.right_known in
+    let alike = (c.in_ok-compare_tys_of.ensures).alike in
+    subst₂ (λ t u. Asked M q q.ambient t u) (sym same_a) (sym same_b)
+    (subst (λ v. Asked M q v a b) (sym ((inv.fronted).passes).ambient) (asked_later M r.ambient a b (inv.fronted).passes k))
+
+pub structurally_relate_tys-returns-in_err-note_args : goal.structurally_relate_tys-returns-in_err-note_args
+structurally_relate_tys-returns-in_err-note_args g t c =
+    let r = g.R.TypeRelation.state c.args.r.now in
+    let M = g.R.TypeRelation.manner in
+    let a = (r.meaning).ty c.args.a.now in
+    let b = (r.meaning).ty c.args.b.now in
+    let is = g.met.R.TypeRelation.takes_forms in
+    let q = g.R.TypeRelation.state c.loop-i.r in
+    let i = c.loop-i.i in
+    let inv = c.loop-i.invariant in
+    let k = c.requires.asked in
+    let extends = ((inv.fronted).passes).extends in
+    let same_a : (q.meaning).ty c.args.a.now ≡ a = extends.ty c.args.a.now k.left_known in
+    let same_b : (q.meaning).ty c.args.b.now ≡ b = extends.ty c.args.b.now k.right_known in
+    let alike = (c.in_ok-compare_tys_of.ensures).alike in
+    let test = c.loop-i-test.false in
+    let end = (c.loop-i.auto).i-end in
+    let left : i ≡ count (parts_of a) = omega (arith, test, end, inv.left_count) in
+    let right : i ≡ count (parts_of b) = omega (arith, test, end, inv.right_count) in
+    let done : Related M r q r.ambient a b (q.meaning).ty (Ok c.args.a.now) =
+        types_related M r.ambient a b i is (q.meaning).ty c.args.a.now c.requires.a_formed alike inv.fronted inv.are_parts left
+        right same_a k.left_known in
+    let u = g.R.TypeRelation.state c.note_args.new.r in
+    let n = c.in_err-note_args in
+    let failed = as_err c.from_residual-in_err-note_args.result n.field-0.0 c.from_residual-in_err-note_args.ensures.0
+        c.from_residual-in_err-note_args.ensures.1 in
+    subst (λ z. Related M r u r.ambient a b (u.meaning).ty z) (sym failed)
+    (noted_refused M is r.ambient a b (q.meaning).ty c.args.a.now done (Err n.field-0.0) n.ensures (u.meaning).ty n.field-0.0
+    refl)
+
+pub structurally_relate_tys-returns : goal.structurally_relate_tys-returns
+structurally_relate_tys-returns g t c =
+    let r = g.R.TypeRelation.state c.args.r.now in
+    let M = g.R.TypeRelation.manner in
+    let a = (r.meaning).ty c.args.a.now in
+    let b = (r.meaning).ty c.args.b.now in
+    let is = g.met.R.TypeRelation.takes_forms in
+    let q = g.R.TypeRelation.state c.loop-i.r in
+    let i = c.loop-i.i in
+    let inv = c.loop-i.invariant in
+    let k = c.requires.asked in
+    let extends = ((inv.fronted).passes).extends in
+    let same_a : (q.meaning).ty c.args.a.now ≡ a = extends.ty c.args.a.now k.left_known in
+    let same_b : (q.meaning).ty c.args.b.now ≡ b = extends.ty c.args.b.now k.right_known in
+    let alike = (c.in_ok-compare_tys_of.ensures).alike in
+    let test = c.loop-i-test.false in
+    let end = (c.loop-i.auto).i-end in
+    let left : i ≡ count (parts_of a) = omega (arith, test, end, inv.left_count) in
+    let right : i ≡ count (parts_of b) = omega (arith, test, end, inv.right_count) in
+    let done : Related M r q r.ambient a b (q.meaning).ty (Ok c.args.a.now) =
+        types_related M r.ambient a b i is (q.meaning).ty c.args.a.now c.requires.a_formed alike inv.fronted inv.are_parts left
+        right same_a k.left_known in
+    let u = g.R.TypeRelation.state c.note_args.new.r in
+    let n = c.in_ok-note_args in
+    retold M r.ambient a b (u.meaning).ty c.args.a.now (u.meaning).ty c.dup.result (ap (u.meaning).ty c.dup.ensures)
+    (noted_related M is r.ambient a b (q.meaning).ty c.args.a.now done (Ok n.field-0) n.ensures (u.meaning).ty
+    ((((n.ensures).passes).extends).ty c.args.a.now (subst (λ z. IsTrue (known z)) (sym same_a) k.left_known)))
