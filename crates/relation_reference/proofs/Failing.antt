@@ -181,18 +181,18 @@ module _ {Key Id Name : Type 0} (m : Meaning Key Id Name) (sorted : Sorted m) wh
 
 -- What the answer of two parts was, by what the whole answers.
 module _ {A Key Id Name : Type 0} where
-  pub failed_ty : (B : Type 0) (t : Tree) (x y : GenericArgKind Key) (a : Result A (RelateFault Key Id Name)) (e : RelateFault Key Id Name) → IsResultOfTy {B = B} t x y a (Err e) → (f : RelateFault Key Id Name) × (a ≡ Err f) × IsFaultOfTy t x y f e
-  failed_ty B t x y (Ok u) e h = absurd h
-  failed_ty B t x y (Err f) e h = (f, refl, h)
+  pub failed_ty : (t : Tree) (x y : GenericArgKind Key) (a : Result A (RelateFault Key Id Name)) (e : RelateFault Key Id Name) → IsResultOfTy t x y a (Err e) → (f : RelateFault Key Id Name) × (a ≡ Err f) × IsFaultOfTy t x y f e
+  failed_ty t x y (Ok u) e h = absurd h
+  failed_ty t x y (Err f) e h = (f, refl, h)
 
-  pub failed_const : (B : Type 0) (t : Tree) (c d : ConstKey Key) (a : Result A (RelateFault Key Id Name)) (e : RelateFault Key Id Name) → IsResultOfConst {B = B} t c d a (Err e) → (f : RelateFault Key Id Name) × (a ≡ Err f) × IsFaultOfConst t c d f e
-  failed_const B t c d (Ok u) e h = absurd h
-  failed_const B t c d (Err f) e h = (f, refl, h)
+  pub failed_const : (t : Tree) (c d : ConstKey Key) (a : Result A (RelateFault Key Id Name)) (e : RelateFault Key Id Name) → IsResultOfConst t c d a (Err e) → (f : RelateFault Key Id Name) × (a ≡ Err f) × IsFaultOfConst t c d f e
+  failed_const t c d (Ok u) e h = absurd h
+  failed_const t c d (Err f) e h = (f, refl, h)
 
-  pub united_ty : {B : Type 0} (m : Meaning Key Id Name) (before after : Store) (t p q : Tree) (x y : GenericArgKind Key) (a : Result A (RelateFault Key Id Name)) (u : B) → IsResultOfTy t x y a (Ok u) → Answered m before after p q a → Unites before after p q
+  pub united_ty : (m : Meaning Key Id Name) (before after : Store) (t p q : Tree) (x y : GenericArgKind Key) (a : Result A (RelateFault Key Id Name)) (u : A) → IsResultOfTy t x y a (Ok u) → Answered m before after p q a → Unites before after p q
   united_ty m before after t p q x y (Ok v) u h k = k
   united_ty m before after t p q x y (Err f) u h k = absurd h
 
-  pub united_const : {B : Type 0} (m : Meaning Key Id Name) (before after : Store) (t p q : Tree) (c d : ConstKey Key) (a : Result A (RelateFault Key Id Name)) (u : B) → IsResultOfConst t c d a (Ok u) → Answered m before after p q a → Unites before after p q
+  pub united_const : (m : Meaning Key Id Name) (before after : Store) (t p q : Tree) (c d : ConstKey Key) (a : Result A (RelateFault Key Id Name)) (u : A) → IsResultOfConst t c d a (Ok u) → Answered m before after p q a → Unites before after p q
   united_const m before after t p q c d (Ok v) u h k = k
   united_const m before after t p q c d (Err f) u h k = absurd h

@@ -1,8 +1,6 @@
 -- What the tables of a context mean: the store that they record, and the invariant of a context.
 use Rattle.std.specs.Prelude.{◌≡◌, ℕ, ◌<◌, false, None, [], map, length, get_or}
 use Rattle.relation_terms.specs.Heads.{VarKind, type_var, int_var, float_var, const_var, region_var, variable}
-use Rattle.relation_terms.specs.Heads.{type_sort, const_sort, head_sort, atom_sort, leaf_sort, expression, value}
-use Rattle.relation_terms.specs.Heads.{placeholder, atom}
 use Rattle.relation_terms.specs.Trees.{Tree, leaf, node, nil}
 use Rattle.relation_terms.specs.Meaning.{Meaning, arg_tree}
 use Rattle.relation_terms.specs.declared.predicate.RegionConstraint.{RegionConstraint}
@@ -11,6 +9,7 @@ use Rattle.relation_terms.specs.declared.terms.enums.Variance.TheVariants.{Invar
 use Rattle.type_relations.specs.Relation.{Items}
 use Rattle.type_relations.specs.Stores.{Store, Entry, entry_of, unbound, same_as, bound_to, Constraint}
 use Rattle.type_relations.specs.Stores.{outlives_constraint, equal_constraint, IsSound}
+use Rattle.type_relations.specs.Parts.{IsFormed}
 use Rattle.relation_reference.specs.declared.context.inner.TypeVariableValue.{TypeVariableValue}
 use Rattle.relation_reference.specs.declared.context.inner.TypeVariableValue.TheVariants.{Unknown, SameAs, Known}
 use Rattle.relation_reference.specs.declared.context.inner.InferCtxtInner.{InferCtxtInner}

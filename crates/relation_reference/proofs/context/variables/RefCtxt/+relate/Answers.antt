@@ -10,13 +10,17 @@ use Rattle.type_relations.proofs.ReadAs.{read_weight}
 use Rattle.type_relations.proofs.Standing.{later_term}
 use Rattle.type_relations.proofs.Going.{under, goes_nowhere, goes_within, goes_then, pair_grown, part_under}
 use Rattle.relation_reference.specs.Tables.{store_of, IsLawful}
-use Rattle.relation_reference.specs.Answers.{Answered, Unites, IsFaultOfTy, IsFaultOfConst}
+use Rattle.relation_reference.specs.Answers.{Answered, Unites}
+use Rattle.type_relations.specs.Handing.{IsFaultOfTy, IsFaultOfConst}
 use Rattle.relation_tools.specs.Faults.{KnowsFault}
 use Rattle.std.specs.Prelude.{IfErr}
 use Rattle.type_relations.specs.Parts.{parts_of, const_parts_of}
-use Rattle.type_relations.proofs.Comparing.{form_answered, form_known, const_form_answered, const_form_known, parts_of_list, const_parts_list}
-use Rattle.relation_reference.proofs.Failing.{ty_fails, consts_fail, ty_fault_known, const_fault_known, AreOfTwoKinds, no_lifetime, no_ty, no_const_arg, kinds_fail}
-use Rattle.relation_reference.proofs.Failing.{failed_ty, failed_const, united_ty, united_const, weight_parts, weight_parts_most, weight_const_parts, weight_const_parts_most}
+use Rattle.type_relations.proofs.Comparing.{form_known, const_form_known, parts_of_list, const_parts_list}
+use Rattle.relation_reference.proofs.Comparing.{form_answered, const_form_answered}
+use Rattle.type_relations.proofs.Handing.{ty_fault_known, const_fault_known, AreOfTwoKinds, no_lifetime, no_ty, no_const_arg}
+use Rattle.relation_reference.proofs.Failing.{ty_fails, consts_fail, kinds_fail}
+use Rattle.relation_reference.proofs.Failing.{failed_ty, failed_const, united_ty, united_const}
+use Rattle.type_relations.proofs.PartSizes.{weight_parts, weight_parts_most, weight_const_parts, weight_const_parts_most}
 use Rattle.relation_reference.proofs.Resolving.{weight_nth}
 use Rattle.type_relations.proofs.Parts.{in_part, in_const_part, weight_part, weight_const_part}
 use Rattle.relation_terms.specs.Meaning.{Extends, arg_tree}
@@ -25,7 +29,8 @@ use Rattle.relation_terms.proofs.Stays.{knows_ty, knows_const, knows_arg, stays_
 use Rattle.relation_reference.proofs.Reading.{made_of_key}
 use Rattle.relation_reference.proofs.Binding.{refused_goes, instantiated_refused, instantiated_refused_back}
 use Rattle.relation_reference.proofs.Instantiating.{root_above, root_above_back, binding_under, binding_under_back, binding_then_goes, binding_then_goes_back, binding_in, bound_in, then_answered, then_answered_back, roots_goes, roots_unite}
-use Rattle.relation_reference.proofs.Relating.{same_unites, unites_alike, answered_alike, error_answered, passed_known, front_none, front_more, forms_unite, consts_unite, parts_counted, const_parts_counted}
+use Rattle.relation_reference.proofs.Relating.{same_unites, unites_alike, answered_alike, error_answered, passed_known, front_none, front_more, forms_unite, consts_unite}
+use Rattle.type_relations.proofs.OneParts.{parts_counted, const_parts_counted}
 use Rattle.relation_reference.proofs.context.variables.RefCtxt.+relate.Goals as goal
 
 pub relate_tys-returns-then-eq : goal.relate_tys-returns-then-eq
@@ -614,7 +619,7 @@ structurally_relate_tys-returns-in_err-in_ty g t c =
     let stands : p.ty c.args.a.now ≡ a = done.grown.ty c.args.a.now (subst (λ z. IsTrue (known z)) (sym la) c.requires.a_known) ∙ la in
     let e = c.in_err-in_ty.field-0.0 in
     let sorted : Sorted n = record { ty = g.met.I.Interner.is_ty c.loop-i.self.interner; region = g.met.I.Interner.is_region c.loop-i.self.interner; tys = g.met.I.Interner.are_tys c.loop-i.self.interner; const_ = g.met.I.Interner.is_const c.loop-i.self.interner; valtree = g.met.I.Interner.is_valtree c.loop-i.self.interner; args = g.met.I.Interner.are_args c.loop-i.self.interner; branches = g.met.I.Interner.are_branches c.loop-i.self.interner } in
-    let (f, why, fault) = failed_ty (Unit {0}) (p.ty c.args.a.now) c.part-x.result c.part-y.result c.relate_arg-related.result e c.in_err-in_ty.ensures in
+    let (f, why, fault) = failed_ty (p.ty c.args.a.now) c.part-x.result c.part-y.result c.relate_arg-related.result e c.in_err-in_ty.ensures in
     record {
       lawful = done.lawful;
       grown = extends_on inv.grown done.grown;
@@ -861,7 +866,7 @@ structurally_relate_consts-returns-in_err-in_const g t c =
     let stands : p.const_ c.args.a.now ≡ a = done.grown.const_ c.args.a.now (subst (λ z. IsTrue (known z)) (sym la) c.requires.a_known) ∙ la in
     let stands' : p.const_ c.args.b.now ≡ b = done.grown.const_ c.args.b.now (subst (λ z. IsTrue (known z)) (sym lb) c.requires.b_known) ∙ lb in
     let e = c.in_err-in_const.field-0.0 in
-    let (f, why, fault) = failed_const (Unit {0}) (p.const_ c.args.a.now) c.args.a.now c.args.b.now c.relate_arg-related.result e c.in_err-in_const.ensures in
+    let (f, why, fault) = failed_const (p.const_ c.args.a.now) c.args.a.now c.args.b.now c.relate_arg-related.result e c.in_err-in_const.ensures in
     record {
       lawful = done.lawful;
       grown = extends_on inv.grown done.grown;
