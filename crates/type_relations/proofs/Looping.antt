@@ -71,11 +71,11 @@ module _ {Key Id Name : Type 0} (M : Manner) (is : IsManner M) (r q : State Key 
     next_under =
         let small = part_small (head_of a) r.ambient i (parts_of a) (parts_of b) x y f lx ly ex ey in
         let d = depth_later (f.passes).goes (weight q.store x + weight q.store y)
-            (weight r.store (parts_of a) + weight r.store (parts_of b)) small in
+        (weight r.store (parts_of a) + weight r.store (parts_of b)) small in
         let p = weight_parts r.store a (some_part i (count (parts_of a)) lx) in
         let s = weight_parts r.store b (some_part i (count (parts_of b)) ly) in
         let e = depth-strict (r.store).budget (weight r.store (parts_of a) + weight r.store (parts_of b))
-            (weight r.store a + weight r.store b) (omega (arith, p, s)) in
+        (weight r.store a + weight r.store b) (omega (arith, p, s)) in
         omega (arith, d, e)
 
   -- Of constants.
@@ -103,11 +103,11 @@ module _ {Key Id Name : Type 0} (M : Manner) (is : IsManner M) (r q : State Key 
     next_const_under =
         let small = part_small (const_head_of a) r.ambient i (const_parts_of a) (const_parts_of b) x y f lx ly ex ey in
         let d = depth_later (f.passes).goes (weight q.store x + weight q.store y)
-            (weight r.store (const_parts_of a) + weight r.store (const_parts_of b)) small in
+        (weight r.store (const_parts_of a) + weight r.store (const_parts_of b)) small in
         let p = weight_const_parts r.store a (some_part i (count (const_parts_of a)) lx) in
         let s = weight_const_parts r.store b (some_part i (count (const_parts_of b)) ly) in
         let e = depth-strict (r.store).budget (weight r.store (const_parts_of a) + weight r.store (const_parts_of b))
-            (weight r.store a + weight r.store b) (omega (arith, p, s)) in
+        (weight r.store a + weight r.store b) (omega (arith, p, s)) in
         omega (arith, d, e)
 
 module _ {Key Id Name : Type 0} {r q : State Key Id Name} (M : Manner) (a b : Tree) where
@@ -117,7 +117,7 @@ module _ {Key Id Name : Type 0} {r q : State Key Id Name} (M : Manner) (a b : Tr
       8 * depth (r.store).budget (weight r.store a + weight r.store b) + 2
   parts_under F added x y l =
       let d = depth-mono (q.store).budget (weight q.store x + weight q.store y) (weight r.store a + weight r.store b)
-          l.not_larger in
+      l.not_larger in
       let e = ap (λ n. depth n (weight r.store a + weight r.store b)) l.same_budget in
       omega (arith, d, e)
 
@@ -126,7 +126,7 @@ module _ {Key Id Name : Type 0} {r q : State Key Id Name} (M : Manner) (a b : Tr
       8 * depth (r.store).budget (weight r.store a + weight r.store b) + 2
   again_under added k l v x y led =
       let d = depth-spent 1 (q.store).budget (weight q.store x + weight q.store y) (weight r.store a + weight r.store b)
-          led.not_larger in
+      led.not_larger in
       let e = ap (λ n. depth n (weight r.store a + weight r.store b)) led.falls in
       let f = ap (λ n. depth n (weight r.store a + weight r.store b)) (one_more (q.store).budget) in
       omega (arith, d, e, f)

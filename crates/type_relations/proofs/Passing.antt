@@ -111,7 +111,7 @@ module _ {Key Id Name : Type 0} where
       Refuses r p r.ambient a b e
   led_refuses {r = r} {q = q} {p = p} g f a b x y v l (Unrelated e) h = (
     (steps_compose (items_in r) r.environment (at r.ambient) (at v) r.store q.store p.store r.goals g.added f.added
-    a b x y l.steps).1 h.0,
+        a b x y l.steps).1 h.0,
     l.errors p.meaning p.store e (f.goes).later h.1,
     h.2,
   )
@@ -194,9 +194,15 @@ module _ {Key Id Name : Type 0} where
           (f.passes).goals_in (h.passes).goals_in;
       relates = λ w s sat all. ((f.verdict).outcome).relates w s (((h.passes).goes).later.shrinks w s sat)
           (first_goals (Holds (items_in r) w s) r.goals (f.passes).added (h.passes).added all);
-      keeps = λ w s sat one. let z = ((f.verdict).outcome).keeps w s sat one in
-          (z.0, z.1, (h.keeps w z.0 z.2.0, All-append (MakesOneTree z.0) (f.passes).added (h.passes).added z.2.1
-          (λ k d i. one_tree z.0 (get_or (h.passes).added k d) (h.quiet k d i))));
+      keeps = λ w s sat one. let z = ((f.verdict).outcome).keeps w s sat one in (
+        z.0,
+        z.1,
+        (
+          h.keeps w z.0 z.2.0,
+          All-append (MakesOneTree z.0) (f.passes).added (h.passes).added z.2.1
+              (λ k d i. one_tree z.0 (get_or (h.passes).added k d) (h.quiet k d i)),
+        ),
+      );
     }
 
     pub noted_related : (answer : X → Tree) → answer t ≡ tree t → Related M r p v a b answer (Ok t)

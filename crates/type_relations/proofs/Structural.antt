@@ -127,7 +127,7 @@ module _ {Key Id Name : Type 0} {r q : State Key Id Name} (M : Manner) (v : Vari
         subst (Refuses r p v a b) (sym (same_fault a X Y Budget k t (λ e z. cc))) h
     ty_refuses {p = p} g (Unrelated e) k kx ky t h =
         let z = ty_complains q.meaning p.meaning g.extends s a b i X Y x_known y_known (arg_tree q.meaning X)
-            (arg_tree q.meaning Y) refl refl p.store e k is_formed o lx ex ey t h.1 in
+        (arg_tree q.meaning Y) refl refl p.store e k is_formed o lx ex ey t h.1 in
         subst (Refuses r p v a b) (sym z.1) (
           types_never r.store v a b o (fronted_never (head_of a) v i (parts_of a) (parts_of b) (arg_tree q.meaning X)
               (arg_tree q.meaning Y) f lx ly ex ey are h.0),

@@ -149,9 +149,9 @@ module _ {Key Id Name : Type 0} {r q : State Key Id Name} (M : Manner) (v : Vari
       let left : const_parts_of a ≡ ts = ap const_parts_of d ∙ ap branches_of m in
       let right : const_parts_of b ≡ us = ap const_parts_of e ∙ ap branches_of n in
       let branches : Rel (items_in r) w r.environment (parts value_branch 0 v) (apply s ts) (apply s us) =
-          subst₂ (λ j l. Rel (items_in r) w r.environment (parts value_branch 0 v) (apply s j) (apply s l)) left right
-          (subst (λ z. Rel (items_in r) w r.environment (parts (const_head_of z) 0 v) (apply s (const_parts_of a))
-          (apply s (const_parts_of b))) d (all_parts.relates w s sat all)) in
+      subst₂ (λ j l. Rel (items_in r) w r.environment (parts value_branch 0 v) (apply s j) (apply s l)) left right
+      (subst (λ z. Rel (items_in r) w r.environment (parts (const_head_of z) 0 v) (apply s (const_parts_of a))
+      (apply s (const_parts_of b))) d (all_parts.relates w s sat all)) in
       subst₂ (λ j l. Rel (items_in r) w r.environment (at v) (apply s j) (apply s l)) (sym d) (sym e)
       (value_parts (items_in r) w r.environment v s t u x y
       (subst₂ (λ j l. Rel (items_in r) w r.environment (at v) (apply s j) (apply s l)) (sym m) (sym n)

@@ -6,8 +6,8 @@ pub mod comparing;
 pub mod forms;
 pub mod handing;
 pub mod parts;
-pub mod solver_relating;
 mod reading;
+pub mod solver_relating;
 pub mod structural;
 mod type_relation;
 
@@ -20,7 +20,10 @@ pub enum Step<T> {
     /// They are related, and this is the answer.
     Done(T),
     /// These two are related by their outermost forms and their parts, and what comes of that is the answer.
-    Parts { a: T, b: T },
+    Parts {
+        a: T,
+        b: T,
+    },
     /// `x` and `y` are related at the variance, seen from the ambient one, and then `a` is the answer. The terms are read
     /// as `a` and `b`.
     Again {
@@ -70,5 +73,48 @@ impl<X> Default for VarianceDiagInfo<X> {
         ensures { result ≡ VarianceDiagInfo.None }
     {
         VarianceDiagInfo::None
+    }
+}
+
+#[cfg(test)]
+mod tests {
+    use super::*;
+    use std::test::Fail;
+
+    // What is known of a type that is invariant in its parameter of this number.
+    fn invariant_in(param_index: u32) -> VarianceDiagInfo<u8> {
+        VarianceDiagInfo::Invariant {
+            ty: TyKey(7),
+            param_index,
+        }
+    }
+
+    #[test]
+    fn the_outermost_is_kept(rt: HostRuntime) -> Result<(), Fail> {
+        assert!(rt; invariant_in(1).xform(invariant_in(2)) == invariant_in(1));
+        assert!(rt; VarianceDiagInfo::None.xform(invariant_in(2)) == invariant_in(2));
+        assert!(rt; invariant_in(1).xform(VarianceDiagInfo::default()) == invariant_in(1));
+        assert!(rt; StructurallyRelateAliases::Yes != StructurallyRelateAliases::No);
+        Ok(())
+    }
+
+    // The order in which a row of the table below has its columns.
+    const VARIANCES: [Variance; 4] = [
+        Variance::Covariant,
+        Variance::Invariant,
+        Variance::Contravariant,
+        Variance::Bivariant,
+    ];
+
+    #[test]
+    fn variances_compose(rt: HostRuntime) -> Result<(), Fail> {
+        for v in &VARIANCES {
+            assert!(rt; Variance::Covariant.xform(*v) == *v);
+            assert!(rt; Variance::Invariant.xform(*v) == Variance::Invariant);
+            assert!(rt; Variance::Bivariant.xform(*v) == Variance::Bivariant);
+            assert!(rt; Variance::Contravariant.xform(Variance::Contravariant.xform(*v)) == *v);
+        }
+        assert!(rt; Variance::Contravariant.xform(Variance::Covariant) == Variance::Contravariant);
+        Ok(())
     }
 }

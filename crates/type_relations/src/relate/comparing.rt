@@ -113,11 +113,7 @@ fn compare_items<I: Interner>(
 
 // That two constants are of one outermost form with as many parts, or how they differ.
 #[tactic(auto, using(crate::proofs::Comparing::formed_const))]
-pub fn compare_consts<I: Interner>(
-    cx: &I,
-    a: &Const<I>,
-    b: &Const<I>,
-) -> Result<(), TypeErrorOf<I>>
+pub fn compare_consts<I: Interner>(cx: &I, a: &Const<I>, b: &Const<I>) -> Result<(), TypeErrorOf<I>>
     requires a_known { IsTrue (known ((I.meaning cx.now).const_ a.now)) }
     requires b_known { IsTrue (known ((I.meaning cx.now).const_ b.now)) }
     requires differ { (I.meaning cx.now).const_ a.now ≢ (I.meaning cx.now).const_ b.now }

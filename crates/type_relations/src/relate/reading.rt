@@ -10,12 +10,12 @@ ghost use Rattle.type_relations.specs.Parts.{parts_of, const_parts_of, head_of, 
 ghost use Rattle.type_relations.specs.Lawful.{Asked, Noted, items_in};
 ghost use Rattle.type_relations.specs.Handing.{IsResultOfTy, IsResultOfConst};
 
-use crate::relate::{TypeRelation, handing};
 use crate::relate::comparing::{compare_consts, compare_tys};
 use crate::relate::parts::{const_part, const_parts_count, part, parts_count};
+use crate::relate::{TypeRelation, handing};
 use relation_terms::terms::{
-    Const, ConstKind, DefId, Dup, GenericArg, GenericArgs, Interner, ItemOf,
-    Mutability, Ty, TyKind, Variance,
+    Const, ConstKind, DefId, Dup, GenericArg, GenericArgs, Interner, ItemOf, Mutability, Ty,
+    TyKind, Variance,
 };
 use relation_tools::error::{RelateResult, TypeErrorOf};
 
@@ -54,11 +54,7 @@ pub(crate) fn parts_count_of<I: Interner, R: TypeRelation<I>>(r: &R, ty: &Ty<I>)
     parts_count(r.cx(), ty)
 }
 
-pub(crate) fn part_of<I: Interner, R: TypeRelation<I>>(
-    r: &R,
-    ty: &Ty<I>,
-    i: usize,
-) -> GenericArg<I>
+pub(crate) fn part_of<I: Interner, R: TypeRelation<I>>(r: &R, ty: &Ty<I>, i: usize) -> GenericArg<I>
     requires ty_known { IsTrue (known ((R.state r.now).meaning.ty ty.now)) }
     requires in_bounds { i < count (parts_of ((R.state r.now).meaning.ty ty.now)) }
     ensures sure { IsTrue (known (arg_tree (R.state r.now).meaning result)) }
@@ -115,11 +111,7 @@ fn declared_at<I: Interner, R: TypeRelation<I>>(r: &R, def_id: &ItemOf<I>, i: us
 }
 
 // The variance at which the part of a type at a place is related, seen from the type's own.
-pub(crate) fn variance_at<I: Interner, R: TypeRelation<I>>(
-    r: &R,
-    ty: &Ty<I>,
-    i: usize,
-) -> Variance
+pub(crate) fn variance_at<I: Interner, R: TypeRelation<I>>(r: &R, ty: &Ty<I>, i: usize) -> Variance
     requires { IsTrue (known ((R.state r.now).meaning.ty ty.now)) }
     ensures { xform (R.state r.now).ambient result ≡ part_at (items_in (R.state r.now)) (head_of ((R.state r.now).meaning.ty ty.now)) i (R.state r.now).ambient }
 {

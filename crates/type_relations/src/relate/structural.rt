@@ -13,9 +13,7 @@ use crate::relate::reading::{
     in_const, in_ty, note_args, part_of, parts_count_of, variance_at,
 };
 use crate::relate::{Step, TypeRelation};
-use relation_terms::terms::{
-    Const, Dup, GenericArg, GenericArgKind, Interner, Ty, Variance,
-};
+use relation_terms::terms::{Const, Dup, GenericArg, GenericArgKind, Interner, Ty, Variance};
 use relation_tools::error::{RelateFault, RelateResult, TypeError};
 
 /// Relates two types at the ambient variance, as the relation's steps lead.

@@ -73,7 +73,7 @@ consts-relate_with_variance-requires g t c κs within =
     let v = c.in-Again.variance in
     let lawful = (step.passes).lawful c.requires.lawful in
     let asked : Asked M q (xform q.ambient v) x y =
-        subst (λ z. Asked M q (xform z v) x y) (sym (step.passes).ambient) (step.verdict).asked in
+    subst (λ z. Asked M q (xform z v) x y) (sym (step.passes).ambient) (step.verdict).asked in
     let under = again_under M a b (step.passes).added k l v x y step.verdict in
     let d = c.decreases in
     search rules
@@ -93,10 +93,10 @@ consts-returns-in_err-relate_with_variance-in-Again g t c =
     let v = c.in-Again.variance in
     let p = g.R.TypeRelation.state c.relate_with_variance.new.r in
     let inner : Related M q p (xform r.ambient v) x y (arg_tree p.meaning) (Err c.in_err-relate_with_variance-in-Again.field-0.0) =
-        subst (λ z. Related M q p (xform z v) x y (arg_tree p.meaning) (Err c.in_err-relate_with_variance-in-Again.field-0.0)) (step.passes).ambient c.in_err-relate_with_variance-in-Again.ensures in
+    subst (λ z. Related M q p (xform z v) x y (arg_tree p.meaning) (Err c.in_err-relate_with_variance-in-Again.field-0.0)) (step.passes).ambient c.in_err-relate_with_variance-in-Again.ensures in
     let failed = as_err c.from_residual-in_err-relate_with_variance-in-Again.result c.in_err-relate_with_variance-in-Again.field-0.0
-        c.from_residual-in_err-relate_with_variance-in-Again.ensures.0
-        c.from_residual-in_err-relate_with_variance-in-Again.ensures.1 in
+    c.from_residual-in_err-relate_with_variance-in-Again.ensures.0
+    c.from_residual-in_err-relate_with_variance-in-Again.ensures.1 in
     subst (λ z. Related M r p r.ambient a b (p.meaning).const_ z) (sym failed)
     (again_refused M a b k l x y v step.passes step.verdict (arg_tree p.meaning) (p.meaning).const_ c.in_err-relate_with_variance-in-Again.field-0.0 inner)
 
@@ -115,12 +115,12 @@ consts-returns g t c =
     let v = c.in-Again.variance in
     let p = g.R.TypeRelation.state c.relate_with_variance.new.r in
     let inner : Related M q p (xform r.ambient v) x y (arg_tree p.meaning) (Ok c.in_ok-relate_with_variance-in-Again.field-0) =
-        subst (λ z. Related M q p (xform z v) x y (arg_tree p.meaning) (Ok c.in_ok-relate_with_variance-in-Again.field-0)) (step.passes).ambient c.in_ok-relate_with_variance-in-Again.ensures in
+    subst (λ z. Related M q p (xform z v) x y (arg_tree p.meaning) (Ok c.in_ok-relate_with_variance-in-Again.field-0)) (step.passes).ambient c.in_ok-relate_with_variance-in-Again.ensures in
     let same_k : (p.meaning).const_ c.in-Again.a ≡ k =
-        ((inner.passes).extends).const_ c.in-Again.a ((step.verdict).read_asked).left_known in
+    ((inner.passes).extends).const_ c.in-Again.a ((step.verdict).read_asked).left_known in
     let done : Related M r p r.ambient a b (p.meaning).const_ (Ok c.in-Again.a) =
-        again_related M a b k l x y v step.passes step.verdict (arg_tree p.meaning) c.in_ok-relate_with_variance-in-Again.field-0 (p.meaning).const_
-        c.in-Again.a same_k inner in
+    again_related M a b k l x y v step.passes step.verdict (arg_tree p.meaning) c.in_ok-relate_with_variance-in-Again.field-0 (p.meaning).const_
+    c.in-Again.a same_k inner in
     done
 
 pub consts-returns-in-Parts : goal.consts-returns-in-Parts
@@ -135,7 +135,7 @@ consts-returns-in-Parts g t c =
     let y = (q.meaning).const_ c.in-Parts.b in
     let p = g.R.TypeRelation.state c.structurally_relate_consts.new.r in
     let inner = subst (λ z. Related M q p z x y (p.meaning).const_ c.structurally_relate_consts.result) (step.passes).ambient
-        c.structurally_relate_consts.ensures in
+    c.structurally_relate_consts.ensures in
     parts_related M IsFormedConst a b x y (p.meaning).const_ c.structurally_relate_consts.result step.passes step.verdict inner
 
 pub tys-returns-in-Done : goal.tys-returns-in-Done
@@ -182,7 +182,7 @@ tys-relate_with_variance-requires g t c κs within =
     let v = c.in-Again.variance in
     let lawful = (step.passes).lawful c.requires.lawful in
     let asked : Asked M q (xform q.ambient v) x y =
-        subst (λ z. Asked M q (xform z v) x y) (sym (step.passes).ambient) (step.verdict).asked in
+    subst (λ z. Asked M q (xform z v) x y) (sym (step.passes).ambient) (step.verdict).asked in
     let under = again_under M a b (step.passes).added k l v x y step.verdict in
     let d = c.decreases in
     search rules
@@ -202,10 +202,10 @@ tys-returns-in_err-relate_with_variance-in-Again g t c =
     let v = c.in-Again.variance in
     let p = g.R.TypeRelation.state c.relate_with_variance.new.r in
     let inner : Related M q p (xform r.ambient v) x y (arg_tree p.meaning) (Err c.in_err-relate_with_variance-in-Again.field-0.0) =
-        subst (λ z. Related M q p (xform z v) x y (arg_tree p.meaning) (Err c.in_err-relate_with_variance-in-Again.field-0.0)) (step.passes).ambient c.in_err-relate_with_variance-in-Again.ensures in
+    subst (λ z. Related M q p (xform z v) x y (arg_tree p.meaning) (Err c.in_err-relate_with_variance-in-Again.field-0.0)) (step.passes).ambient c.in_err-relate_with_variance-in-Again.ensures in
     let failed = as_err c.from_residual-in_err-relate_with_variance-in-Again.result c.in_err-relate_with_variance-in-Again.field-0.0
-        c.from_residual-in_err-relate_with_variance-in-Again.ensures.0
-        c.from_residual-in_err-relate_with_variance-in-Again.ensures.1 in
+    c.from_residual-in_err-relate_with_variance-in-Again.ensures.0
+    c.from_residual-in_err-relate_with_variance-in-Again.ensures.1 in
     subst (λ z. Related M r p r.ambient a b (p.meaning).ty z) (sym failed)
     (again_refused M a b k l x y v step.passes step.verdict (arg_tree p.meaning) (p.meaning).ty c.in_err-relate_with_variance-in-Again.field-0.0 inner)
 
@@ -223,7 +223,7 @@ tys-returns-in_err-answer-in-Parts g t c =
     let e = c.in_err-answer-in-Parts in
     let inner = subst (λ z. Related M q p z x y (p.meaning).ty (Err e.field-0.0)) (step.passes).ambient e.ensures in
     let failed = as_err c.from_residual-in_err-answer-in-Parts.result e.field-0.0
-        c.from_residual-in_err-answer-in-Parts.ensures.0 c.from_residual-in_err-answer-in-Parts.ensures.1 in
+    c.from_residual-in_err-answer-in-Parts.ensures.0 c.from_residual-in_err-answer-in-Parts.ensures.1 in
     subst (λ z. Related M r p r.ambient a b (p.meaning).ty z) (sym failed)
     (parts_related M IsFormed a b x y (p.meaning).ty (Err e.field-0.0) step.passes step.verdict inner)
 
@@ -241,11 +241,11 @@ tys-tys_done-requires-clause-asked g t c =
     let z = c.in_ok-answer-in-Parts in
     let inner = subst (λ v. Related M q p v x y (p.meaning).ty (Ok z.answer)) (step.passes).ambient z.ensures in
     let done : Related M r p r.ambient a b (p.meaning).ty (Ok z.answer) =
-        parts_related M IsFormed a b x y (p.meaning).ty (Ok z.answer) step.passes step.verdict inner in
+    parts_related M IsFormed a b x y (p.meaning).ty (Ok z.answer) step.passes step.verdict inner in
     let same_x : (p.meaning).ty c.in-Parts.a ≡ (q.meaning).ty c.in-Parts.a =
-        ((inner.passes).extends).ty c.in-Parts.a ((step.verdict).asked).left_known in
+    ((inner.passes).extends).ty c.in-Parts.a ((step.verdict).asked).left_known in
     let same_y : (p.meaning).ty c.in-Parts.b ≡ (q.meaning).ty c.in-Parts.b =
-        ((inner.passes).extends).ty c.in-Parts.b ((step.verdict).asked).right_known in
+    ((inner.passes).extends).ty c.in-Parts.b ((step.verdict).asked).right_known in
     subst₂ (λ t u. Asked M p p.ambient t u) (sym same_x) (sym same_y)
     (subst (λ v. Asked M p v x y) (sym ((inner.passes).ambient ∙ (step.passes).ambient))
     (asked_later M r.ambient x y inner.passes (step.verdict).asked))
@@ -264,11 +264,11 @@ tys-tys_done-requires-clause-related g t c =
     let z = c.in_ok-answer-in-Parts in
     let inner = subst (λ v. Related M q p v x y (p.meaning).ty (Ok z.answer)) (step.passes).ambient z.ensures in
     let done : Related M r p r.ambient a b (p.meaning).ty (Ok z.answer) =
-        parts_related M IsFormed a b x y (p.meaning).ty (Ok z.answer) step.passes step.verdict inner in
+    parts_related M IsFormed a b x y (p.meaning).ty (Ok z.answer) step.passes step.verdict inner in
     let same_x : (p.meaning).ty c.in-Parts.a ≡ (q.meaning).ty c.in-Parts.a =
-        ((inner.passes).extends).ty c.in-Parts.a ((step.verdict).asked).left_known in
+    ((inner.passes).extends).ty c.in-Parts.a ((step.verdict).asked).left_known in
     let same_y : (p.meaning).ty c.in-Parts.b ≡ (q.meaning).ty c.in-Parts.b =
-        ((inner.passes).extends).ty c.in-Parts.b ((step.verdict).asked).right_known in
+    ((inner.passes).extends).ty c.in-Parts.b ((step.verdict).asked).right_known in
     subst₂ (λ t u. Relates (items_in p) p.store p.goals p.environment p.ambient t u) (sym same_x) (sym same_y)
     (subst (λ v. Relates (items_in p) p.store p.goals p.environment v x y)
     (sym ((inner.passes).ambient ∙ (step.passes).ambient)) (relates_now M r.ambient x y (p.meaning).ty z.answer inner))
@@ -287,12 +287,12 @@ tys-returns-in_err-tys_done-in-Parts g t c =
     let z = c.in_ok-answer-in-Parts in
     let inner = subst (λ v. Related M q p v x y (p.meaning).ty (Ok z.answer)) (step.passes).ambient z.ensures in
     let done : Related M r p r.ambient a b (p.meaning).ty (Ok z.answer) =
-        parts_related M IsFormed a b x y (p.meaning).ty (Ok z.answer) step.passes step.verdict inner in
+    parts_related M IsFormed a b x y (p.meaning).ty (Ok z.answer) step.passes step.verdict inner in
     let is = g.met.R.TypeRelation.takes_forms in
     let u = g.R.TypeRelation.state c.tys_done.new.self in
     let e = c.in_err-tys_done-in-Parts in
     let failed = as_err c.from_residual-in_err-tys_done-in-Parts.result e.field-0.0
-        c.from_residual-in_err-tys_done-in-Parts.ensures.0 c.from_residual-in_err-tys_done-in-Parts.ensures.1 in
+    c.from_residual-in_err-tys_done-in-Parts.ensures.0 c.from_residual-in_err-tys_done-in-Parts.ensures.1 in
     subst (λ z. Related M r u r.ambient a b (u.meaning).ty z) (sym failed)
     (noted_refused M is r.ambient a b (p.meaning).ty z.answer done (Err e.field-0.0) e.ensures (u.meaning).ty e.field-0.0 refl)
 
@@ -310,7 +310,7 @@ tys-returns-in_ok-tys_done-in-Parts g t c =
     let z = c.in_ok-answer-in-Parts in
     let inner = subst (λ v. Related M q p v x y (p.meaning).ty (Ok z.answer)) (step.passes).ambient z.ensures in
     let done : Related M r p r.ambient a b (p.meaning).ty (Ok z.answer) =
-        parts_related M IsFormed a b x y (p.meaning).ty (Ok z.answer) step.passes step.verdict inner in
+    parts_related M IsFormed a b x y (p.meaning).ty (Ok z.answer) step.passes step.verdict inner in
     let is = g.met.R.TypeRelation.takes_forms in
     let u = g.R.TypeRelation.state c.tys_done.new.self in
     let n = c.in_ok-tys_done-in-Parts in
@@ -332,16 +332,16 @@ tys-tys_done-requires-in-Again-clause-asked g t c =
     let v = c.in-Again.variance in
     let p = g.R.TypeRelation.state c.relate_with_variance.new.r in
     let inner : Related M q p (xform r.ambient v) x y (arg_tree p.meaning) (Ok c.in_ok-relate_with_variance-in-Again.field-0) =
-        subst (λ z. Related M q p (xform z v) x y (arg_tree p.meaning) (Ok c.in_ok-relate_with_variance-in-Again.field-0)) (step.passes).ambient c.in_ok-relate_with_variance-in-Again.ensures in
+    subst (λ z. Related M q p (xform z v) x y (arg_tree p.meaning) (Ok c.in_ok-relate_with_variance-in-Again.field-0)) (step.passes).ambient c.in_ok-relate_with_variance-in-Again.ensures in
     let same_k : (p.meaning).ty c.in-Again.a ≡ k =
-        ((inner.passes).extends).ty c.in-Again.a ((step.verdict).read_asked).left_known in
+    ((inner.passes).extends).ty c.in-Again.a ((step.verdict).read_asked).left_known in
     let done : Related M r p r.ambient a b (p.meaning).ty (Ok c.in-Again.a) =
-        again_related M a b k l x y v step.passes step.verdict (arg_tree p.meaning) c.in_ok-relate_with_variance-in-Again.field-0 (p.meaning).ty
-        c.in-Again.a same_k inner in
+    again_related M a b k l x y v step.passes step.verdict (arg_tree p.meaning) c.in_ok-relate_with_variance-in-Again.field-0 (p.meaning).ty
+    c.in-Again.a same_k inner in
     let same_x : (p.meaning).ty c.in-Again.a ≡ (q.meaning).ty c.in-Again.a =
-        ((inner.passes).extends).ty c.in-Again.a ((step.verdict).read_asked).left_known in
+    ((inner.passes).extends).ty c.in-Again.a ((step.verdict).read_asked).left_known in
     let same_y : (p.meaning).ty c.in-Again.b ≡ (q.meaning).ty c.in-Again.b =
-        ((inner.passes).extends).ty c.in-Again.b ((step.verdict).read_asked).right_known in
+    ((inner.passes).extends).ty c.in-Again.b ((step.verdict).read_asked).right_known in
     subst₂ (λ t u. Asked M p p.ambient t u) (sym same_x) (sym same_y)
     (subst (λ v. Asked M p v k l) (sym ((inner.passes).ambient ∙ (step.passes).ambient))
     (asked_later M r.ambient k l inner.passes (step.verdict).read_asked))
@@ -361,16 +361,16 @@ tys-tys_done-requires-in-Again-clause-related g t c =
     let v = c.in-Again.variance in
     let p = g.R.TypeRelation.state c.relate_with_variance.new.r in
     let inner : Related M q p (xform r.ambient v) x y (arg_tree p.meaning) (Ok c.in_ok-relate_with_variance-in-Again.field-0) =
-        subst (λ z. Related M q p (xform z v) x y (arg_tree p.meaning) (Ok c.in_ok-relate_with_variance-in-Again.field-0)) (step.passes).ambient c.in_ok-relate_with_variance-in-Again.ensures in
+    subst (λ z. Related M q p (xform z v) x y (arg_tree p.meaning) (Ok c.in_ok-relate_with_variance-in-Again.field-0)) (step.passes).ambient c.in_ok-relate_with_variance-in-Again.ensures in
     let same_k : (p.meaning).ty c.in-Again.a ≡ k =
-        ((inner.passes).extends).ty c.in-Again.a ((step.verdict).read_asked).left_known in
+    ((inner.passes).extends).ty c.in-Again.a ((step.verdict).read_asked).left_known in
     let done : Related M r p r.ambient a b (p.meaning).ty (Ok c.in-Again.a) =
-        again_related M a b k l x y v step.passes step.verdict (arg_tree p.meaning) c.in_ok-relate_with_variance-in-Again.field-0 (p.meaning).ty
-        c.in-Again.a same_k inner in
+    again_related M a b k l x y v step.passes step.verdict (arg_tree p.meaning) c.in_ok-relate_with_variance-in-Again.field-0 (p.meaning).ty
+    c.in-Again.a same_k inner in
     let same_x : (p.meaning).ty c.in-Again.a ≡ (q.meaning).ty c.in-Again.a =
-        ((inner.passes).extends).ty c.in-Again.a ((step.verdict).read_asked).left_known in
+    ((inner.passes).extends).ty c.in-Again.a ((step.verdict).read_asked).left_known in
     let same_y : (p.meaning).ty c.in-Again.b ≡ (q.meaning).ty c.in-Again.b =
-        ((inner.passes).extends).ty c.in-Again.b ((step.verdict).read_asked).right_known in
+    ((inner.passes).extends).ty c.in-Again.b ((step.verdict).read_asked).right_known in
     subst₂ (λ t u. Relates (items_in p) p.store p.goals p.environment p.ambient t u) (sym same_x) (sym same_y)
     (subst (λ v. Relates (items_in p) p.store p.goals p.environment v k l)
     (sym ((inner.passes).ambient ∙ (step.passes).ambient)) (again_relates M a b k l x y v step.passes step.verdict (arg_tree p.meaning) c.in_ok-relate_with_variance-in-Again.field-0 inner))
@@ -390,17 +390,17 @@ tys-returns-in_err-tys_done-in-Again g t c =
     let v = c.in-Again.variance in
     let p = g.R.TypeRelation.state c.relate_with_variance.new.r in
     let inner : Related M q p (xform r.ambient v) x y (arg_tree p.meaning) (Ok c.in_ok-relate_with_variance-in-Again.field-0) =
-        subst (λ z. Related M q p (xform z v) x y (arg_tree p.meaning) (Ok c.in_ok-relate_with_variance-in-Again.field-0)) (step.passes).ambient c.in_ok-relate_with_variance-in-Again.ensures in
+    subst (λ z. Related M q p (xform z v) x y (arg_tree p.meaning) (Ok c.in_ok-relate_with_variance-in-Again.field-0)) (step.passes).ambient c.in_ok-relate_with_variance-in-Again.ensures in
     let same_k : (p.meaning).ty c.in-Again.a ≡ k =
-        ((inner.passes).extends).ty c.in-Again.a ((step.verdict).read_asked).left_known in
+    ((inner.passes).extends).ty c.in-Again.a ((step.verdict).read_asked).left_known in
     let done : Related M r p r.ambient a b (p.meaning).ty (Ok c.in-Again.a) =
-        again_related M a b k l x y v step.passes step.verdict (arg_tree p.meaning) c.in_ok-relate_with_variance-in-Again.field-0 (p.meaning).ty
-        c.in-Again.a same_k inner in
+    again_related M a b k l x y v step.passes step.verdict (arg_tree p.meaning) c.in_ok-relate_with_variance-in-Again.field-0 (p.meaning).ty
+    c.in-Again.a same_k inner in
     let is = g.met.R.TypeRelation.takes_forms in
     let u = g.R.TypeRelation.state c.tys_done-in-Again.new.self in
     let e = c.in_err-tys_done-in-Again in
     let failed = as_err c.from_residual-in_err-tys_done-in-Again.result e.field-0.0
-        c.from_residual-in_err-tys_done-in-Again.ensures.0 c.from_residual-in_err-tys_done-in-Again.ensures.1 in
+    c.from_residual-in_err-tys_done-in-Again.ensures.0 c.from_residual-in_err-tys_done-in-Again.ensures.1 in
     subst (λ z. Related M r u r.ambient a b (u.meaning).ty z) (sym failed)
     (noted_refused M is r.ambient a b (p.meaning).ty c.in-Again.a done (Err e.field-0.0) e.ensures (u.meaning).ty e.field-0.0 refl)
 
@@ -419,12 +419,12 @@ tys-returns-in_ok-tys_done-in-Again g t c =
     let v = c.in-Again.variance in
     let p = g.R.TypeRelation.state c.relate_with_variance.new.r in
     let inner : Related M q p (xform r.ambient v) x y (arg_tree p.meaning) (Ok c.in_ok-relate_with_variance-in-Again.field-0) =
-        subst (λ z. Related M q p (xform z v) x y (arg_tree p.meaning) (Ok c.in_ok-relate_with_variance-in-Again.field-0)) (step.passes).ambient c.in_ok-relate_with_variance-in-Again.ensures in
+    subst (λ z. Related M q p (xform z v) x y (arg_tree p.meaning) (Ok c.in_ok-relate_with_variance-in-Again.field-0)) (step.passes).ambient c.in_ok-relate_with_variance-in-Again.ensures in
     let same_k : (p.meaning).ty c.in-Again.a ≡ k =
-        ((inner.passes).extends).ty c.in-Again.a ((step.verdict).read_asked).left_known in
+    ((inner.passes).extends).ty c.in-Again.a ((step.verdict).read_asked).left_known in
     let done : Related M r p r.ambient a b (p.meaning).ty (Ok c.in-Again.a) =
-        again_related M a b k l x y v step.passes step.verdict (arg_tree p.meaning) c.in_ok-relate_with_variance-in-Again.field-0 (p.meaning).ty
-        c.in-Again.a same_k inner in
+    again_related M a b k l x y v step.passes step.verdict (arg_tree p.meaning) c.in_ok-relate_with_variance-in-Again.field-0 (p.meaning).ty
+    c.in-Again.a same_k inner in
     let is = g.met.R.TypeRelation.takes_forms in
     let u = g.R.TypeRelation.state c.tys_done-in-Again.new.self in
     let n = c.in_ok-tys_done-in-Again in
@@ -531,7 +531,7 @@ relate_with_variance-returns-in-Bivariant g t c =
     let is = g.met.R.TypeRelation.takes_forms in
     let v = xform r.ambient c.args.variance in
     let e : v ≡ Bivariant =
-        sym (c.xform-new.ensures ∙ ap (λ z. xform z c.args.variance) c.ambient-old.ensures) ∙ c.in-Bivariant.is in
+    sym (c.xform-new.ensures ∙ ap (λ z. xform z c.args.variance) c.ambient-old.ensures) ∙ c.in-Bivariant.is in
     unlooked M is r v (arg_tree r.meaning c.args.a.now) (arg_tree r.meaning c.args.b.now) (arg_tree r.meaning) c.dup.result e
     (c.requires.asked).left_known (ap (arg_tree r.meaning) c.dup.ensures)
 
@@ -546,11 +546,11 @@ relate_with_variance-returns g t c =
     let b = arg_tree r.meaning c.args.b.now in
     let res = c.relate-answer.result in
     let e : c.xform-new.result ≡ xform r.ambient c.args.variance =
-        c.xform-new.ensures ∙ ap (λ z. xform z c.args.variance) c.ambient-old.ensures in
+    c.xform-new.ensures ∙ ap (λ z. xform z c.args.variance) c.ambient-old.ensures in
     let there = c.set_ambient.ensures in
     let back = subst (λ z. Turned z q u) c.ambient-old.ensures c.set_ambient-2.ensures in
     let f = subst (λ m. Related M s q s.ambient (arg_tree m c.args.a.now) (arg_tree m c.args.b.now) (arg_tree q.meaning) res)
-        there.meaning c.relate-answer.ensures in
+    there.meaning c.relate-answer.ensures in
     let h = subst (λ m. Related M s q s.ambient a b (arg_tree m) res) (sym back.meaning) f in
     let k = subst (λ z. Related M s q z a b (arg_tree u.meaning) res) there.ambient h in
     subst (λ z. Related M r u z a b (arg_tree u.meaning) res) e
@@ -567,9 +567,9 @@ structurally_relate_consts-returns-then-eq g t c =
     let cx = g.R.TypeRelation.interner c.args.r.now in
     let k = c.requires.asked in
     let same : IsTrue (g.I.Key.PartialEq.eq (c.args.a.now).0 (c.args.b.now).0) ↔ (a ≡ b) =
-        subst (λ m. IsTrue (known (m.const_ c.args.a.now)) → IsTrue (known (m.const_ c.args.b.now)) →
-        (IsTrue (g.I.Key.PartialEq.eq (c.args.a.now).0 (c.args.b.now).0) ↔ (m.const_ c.args.a.now ≡ m.const_ c.args.b.now)))
-        (sym e) (g.met.I.Interner.same_const cx c.args.a.now c.args.b.now) k.left_known k.right_known in
+    subst (λ m. IsTrue (known (m.const_ c.args.a.now)) → IsTrue (known (m.const_ c.args.b.now)) →
+    (IsTrue (g.I.Key.PartialEq.eq (c.args.a.now).0 (c.args.b.now).0) ↔ (m.const_ c.args.a.now ≡ m.const_ c.args.b.now)))
+    (sym e) (g.met.I.Interner.same_const cx c.args.a.now c.args.b.now) k.left_known k.right_known in
     itself_related M r r.ambient (r.meaning).const_ is a b c.dup.result (same.0 (sym c.if-eq.ensures)) (ap (r.meaning).const_ c.dup.ensures) k.left_known
 
 pub structurally_relate_consts-compare_consts_of-requires-clause-differ : goal.structurally_relate_consts-compare_consts_of-requires-clause-differ
@@ -582,9 +582,9 @@ structurally_relate_consts-compare_consts_of-requires-clause-differ g t c =
     let cx = g.R.TypeRelation.interner c.args.r.now in
     let k = c.requires.asked in
     let same : IsTrue (g.I.Key.PartialEq.eq (c.args.a.now).0 (c.args.b.now).0) ↔ (a ≡ b) =
-        subst (λ m. IsTrue (known (m.const_ c.args.a.now)) → IsTrue (known (m.const_ c.args.b.now)) →
-        (IsTrue (g.I.Key.PartialEq.eq (c.args.a.now).0 (c.args.b.now).0) ↔ (m.const_ c.args.a.now ≡ m.const_ c.args.b.now)))
-        (sym e) (g.met.I.Interner.same_const cx c.args.a.now c.args.b.now) k.left_known k.right_known in
+    subst (λ m. IsTrue (known (m.const_ c.args.a.now)) → IsTrue (known (m.const_ c.args.b.now)) →
+    (IsTrue (g.I.Key.PartialEq.eq (c.args.a.now).0 (c.args.b.now).0) ↔ (m.const_ c.args.a.now ≡ m.const_ c.args.b.now)))
+    (sym e) (g.met.I.Interner.same_const cx c.args.a.now c.args.b.now) k.left_known k.right_known in
     λ h. false≢true (c.if-eq.ensures ∙ same.1 h)
 
 pub structurally_relate_consts-returns-in_err-compare_consts_of : goal.structurally_relate_consts-returns-in_err-compare_consts_of
@@ -672,11 +672,11 @@ structurally_relate_consts-relate_with_variance-related-requires g t c κs withi
     let ey : y ≡ nth i (const_parts_of b) = c.const_part_of-y.ensures.means ∙ ap (λ z. nth i (const_parts_of z)) same_b in
     let w = xform q.ambient c.const_variance_at-variance.result in
     let ew : w ≡ part_at (items_in r) (const_head_of a) i r.ambient =
-        c.const_variance_at-variance.ensures i ∙ ap (λ z. part_at (items_in q) (const_head_of z) i q.ambient) same_a ∙
-        ap (λ z. part_at z (const_head_of a) i q.ambient) (same_items (inv.fronted).passes) ∙
-        ap (λ z. part_at (items_in r) (const_head_of a) i z) ((inv.fronted).passes).ambient in
+    c.const_variance_at-variance.ensures i ∙ ap (λ z. part_at (items_in q) (const_head_of z) i q.ambient) same_a ∙
+    ap (λ z. part_at z (const_head_of a) i q.ambient) (same_items (inv.fronted).passes) ∙
+    ap (λ z. part_at (items_in r) (const_head_of a) i z) ((inv.fronted).passes).ambient in
     let eu : w ≡ part_at (items_in r) (const_head_of b) i r.ambient =
-        ew ∙ ap (λ h. part_at (items_in r) h i r.ambient) (const_heads_alike a b alike) in
+    ew ∙ ap (λ h. part_at (items_in r) h i r.ambient) (const_heads_alike a b alike) in
     let lawful = inv.lawful in
     let asked = next_const_asked M is r q a b i x y kx ky k inv.fronted lx ly ex ey w ew eu in
     let under = next_const_under M is r q a b i x y kx ky k inv.fronted lx ly ex ey in
@@ -711,23 +711,23 @@ structurally_relate_consts-returns-in_err-in_const g t c =
     let ey : y ≡ nth i (const_parts_of b) = c.const_part_of-y.ensures.means ∙ ap (λ z. nth i (const_parts_of z)) same_b in
     let w = xform q.ambient c.const_variance_at-variance.result in
     let ew : w ≡ part_at (items_in r) (const_head_of a) i r.ambient =
-        c.const_variance_at-variance.ensures i ∙ ap (λ z. part_at (items_in q) (const_head_of z) i q.ambient) same_a ∙
-        ap (λ z. part_at z (const_head_of a) i q.ambient) (same_items (inv.fronted).passes) ∙
-        ap (λ z. part_at (items_in r) (const_head_of a) i z) ((inv.fronted).passes).ambient in
+    c.const_variance_at-variance.ensures i ∙ ap (λ z. part_at (items_in q) (const_head_of z) i q.ambient) same_a ∙
+    ap (λ z. part_at z (const_head_of a) i q.ambient) (same_items (inv.fronted).passes) ∙
+    ap (λ z. part_at (items_in r) (const_head_of a) i z) ((inv.fronted).passes).ambient in
     let p = g.R.TypeRelation.state c.relate_with_variance-related.new.r in
     let related = c.relate_with_variance-related in
     let later = ((related.ensures).passes).extends in
     let then_a : (p.meaning).const_ c.args.a.now ≡ a =
-        later.const_ c.args.a.now (subst (λ z. IsTrue (known z)) (sym same_a) k.left_known) ∙ same_a in
+    later.const_ c.args.a.now (subst (λ z. IsTrue (known z)) (sym same_a) k.left_known) ∙ same_a in
     let then_b : (p.meaning).const_ c.args.b.now ≡ b =
-        later.const_ c.args.b.now (subst (λ z. IsTrue (known z)) (sym same_b) k.right_known) ∙ same_b in
+    later.const_ c.args.b.now (subst (λ z. IsTrue (known z)) (sym same_b) k.right_known) ∙ same_b in
     let n = c.in_err-in_const in
     let z = failed_const a c.args.a.now c.args.b.now related.result n.field-0.0
-        (subst (λ z. IsResultOfConst z c.args.a.now c.args.b.now related.result (Err n.field-0.0)) then_a n.ensures) in
+    (subst (λ z. IsResultOfConst z c.args.a.now c.args.b.now related.result (Err n.field-0.0)) then_a n.ensures) in
     let gone = subst (λ v. Related M q p v x y (arg_tree p.meaning) (Err z.0)) ew
-        (subst (λ u. Related M q p w x y (arg_tree p.meaning) u) z.1 related.ensures) in
+    (subst (λ u. Related M q p w x y (arg_tree p.meaning) u) z.1 related.ensures) in
     let failed = as_err c.from_residual-in_err-in_const.result n.field-0.0 c.from_residual-in_err-in_const.ensures.0
-        c.from_residual-in_err-in_const.ensures.1 in
+    c.from_residual-in_err-in_const.ensures.1 in
     subst (λ u. Related M r p r.ambient a b (p.meaning).const_ u) (sym failed)
     (const_refused M r.ambient a b i alike inv.fronted inv.are_parts c.args.a.now c.args.b.now x y lx ly ex ey (arg_tree p.meaning)
     (p.meaning).const_ z.0 n.field-0.0 then_a then_b k.left_known k.right_known z.2 gone)
@@ -760,21 +760,21 @@ structurally_relate_consts-loop-i-preserved g t c =
     let ey : y ≡ nth i (const_parts_of b) = c.const_part_of-y.ensures.means ∙ ap (λ z. nth i (const_parts_of z)) same_b in
     let w = xform q.ambient c.const_variance_at-variance.result in
     let ew : w ≡ part_at (items_in r) (const_head_of a) i r.ambient =
-        c.const_variance_at-variance.ensures i ∙ ap (λ z. part_at (items_in q) (const_head_of z) i q.ambient) same_a ∙
-        ap (λ z. part_at z (const_head_of a) i q.ambient) (same_items (inv.fronted).passes) ∙
-        ap (λ z. part_at (items_in r) (const_head_of a) i z) ((inv.fronted).passes).ambient in
+    c.const_variance_at-variance.ensures i ∙ ap (λ z. part_at (items_in q) (const_head_of z) i q.ambient) same_a ∙
+    ap (λ z. part_at z (const_head_of a) i q.ambient) (same_items (inv.fronted).passes) ∙
+    ap (λ z. part_at (items_in r) (const_head_of a) i z) ((inv.fronted).passes).ambient in
     let p = g.R.TypeRelation.state c.relate_with_variance-related.new.r in
     let related = c.relate_with_variance-related in
     let later = ((related.ensures).passes).extends in
     let then_a : (p.meaning).const_ c.args.a.now ≡ a =
-        later.const_ c.args.a.now (subst (λ z. IsTrue (known z)) (sym same_a) k.left_known) ∙ same_a in
+    later.const_ c.args.a.now (subst (λ z. IsTrue (known z)) (sym same_a) k.left_known) ∙ same_a in
     let then_b : (p.meaning).const_ c.args.b.now ≡ b =
-        later.const_ c.args.b.now (subst (λ z. IsTrue (known z)) (sym same_b) k.right_known) ∙ same_b in
+    later.const_ c.args.b.now (subst (λ z. IsTrue (known z)) (sym same_b) k.right_known) ∙ same_b in
     let n = c.in_ok-in_const in
     let z = kept_const a c.args.a.now c.args.b.now related.result n.field-0
-        (subst (λ z. IsResultOfConst z c.args.a.now c.args.b.now related.result (Ok n.field-0)) then_a n.ensures) in
+    (subst (λ z. IsResultOfConst z c.args.a.now c.args.b.now related.result (Ok n.field-0)) then_a n.ensures) in
     let gone = subst (λ v. Related M q p v x y (arg_tree p.meaning) (Ok n.field-0)) ew
-        (subst (λ u. Related M q p w x y (arg_tree p.meaning) u) z related.ensures) in
+    (subst (λ u. Related M q p w x y (arg_tree p.meaning) u) z related.ensures) in
     record {
       lawful = (gone.passes).lawful inv.lawful;
       fronted = subst (λ j. Fronted r p (const_head_of a) r.ambient j (const_parts_of a) (const_parts_of b)) (omega arith)
@@ -892,11 +892,11 @@ structurally_relate_tys-relate_with_variance-related-requires g t c κs within =
     let ey : y ≡ nth i (parts_of b) = c.part_of-y.ensures.means ∙ ap (λ z. nth i (parts_of z)) same_b in
     let w = xform q.ambient c.variance_at-variance.result in
     let ew : w ≡ part_at (items_in r) (head_of a) i r.ambient =
-        c.variance_at-variance.ensures ∙ ap (λ z. part_at (items_in q) (head_of z) i q.ambient) same_a ∙
-        ap (λ z. part_at z (head_of a) i q.ambient) (same_items (inv.fronted).passes) ∙
-        ap (λ z. part_at (items_in r) (head_of a) i z) ((inv.fronted).passes).ambient in
+    c.variance_at-variance.ensures ∙ ap (λ z. part_at (items_in q) (head_of z) i q.ambient) same_a ∙
+    ap (λ z. part_at z (head_of a) i q.ambient) (same_items (inv.fronted).passes) ∙
+    ap (λ z. part_at (items_in r) (head_of a) i z) ((inv.fronted).passes).ambient in
     let eu : w ≡ part_at (items_in r) (head_of b) i r.ambient =
-        ew ∙ ap (λ h. part_at (items_in r) h i r.ambient) (heads_alike a b alike) in
+    ew ∙ ap (λ h. part_at (items_in r) h i r.ambient) (heads_alike a b alike) in
     let lawful = inv.lawful in
     let asked = next_asked M is r q a b i x y kx ky k inv.fronted lx ly ex ey w ew eu in
     let under = next_under M is r q a b i x y kx ky k inv.fronted lx ly ex ey in
@@ -931,16 +931,16 @@ structurally_relate_tys-returns-in_err-in_ty g t c =
     let ey : y ≡ nth i (parts_of b) = c.part_of-y.ensures.means ∙ ap (λ z. nth i (parts_of z)) same_b in
     let w = xform q.ambient c.variance_at-variance.result in
     let ew : w ≡ part_at (items_in r) (head_of a) i r.ambient =
-        c.variance_at-variance.ensures ∙ ap (λ z. part_at (items_in q) (head_of z) i q.ambient) same_a ∙
-        ap (λ z. part_at z (head_of a) i q.ambient) (same_items (inv.fronted).passes) ∙
-        ap (λ z. part_at (items_in r) (head_of a) i z) ((inv.fronted).passes).ambient in
+    c.variance_at-variance.ensures ∙ ap (λ z. part_at (items_in q) (head_of z) i q.ambient) same_a ∙
+    ap (λ z. part_at z (head_of a) i q.ambient) (same_items (inv.fronted).passes) ∙
+    ap (λ z. part_at (items_in r) (head_of a) i z) ((inv.fronted).passes).ambient in
     let p = g.R.TypeRelation.state c.relate_with_variance-related.new.r in
     let related = c.relate_with_variance-related in
     let later = ((related.ensures).passes).extends in
     let then_a : (p.meaning).ty c.args.a.now ≡ a =
-        later.ty c.args.a.now (subst (λ z. IsTrue (known z)) (sym same_a) k.left_known) ∙ same_a in
+    later.ty c.args.a.now (subst (λ z. IsTrue (known z)) (sym same_a) k.left_known) ∙ same_a in
     let then_b : (p.meaning).ty c.args.b.now ≡ b =
-        later.ty c.args.b.now (subst (λ z. IsTrue (known z)) (sym same_b) k.right_known) ∙ same_b in
+    later.ty c.args.b.now (subst (λ z. IsTrue (known z)) (sym same_b) k.right_known) ∙ same_b in
     let e = g.met.R.TypeRelation.reads c.loop-i.r in
     let cx = g.R.TypeRelation.interner c.loop-i.r in
     let sorted : Sorted q.meaning = subst (λ m. Sorted m) (sym e) (record {
@@ -954,11 +954,11 @@ structurally_relate_tys-returns-in_err-in_ty g t c =
     }) in
     let n = c.in_err-in_ty in
     let z = failed_ty a X Y related.result n.field-0.0
-        (subst (λ z. IsResultOfTy z X Y related.result (Err n.field-0.0)) then_a n.ensures) in
+    (subst (λ z. IsResultOfTy z X Y related.result (Err n.field-0.0)) then_a n.ensures) in
     let gone = subst (λ v. Related M q p v x y (arg_tree p.meaning) (Err z.0)) ew
-        (subst (λ u. Related M q p w x y (arg_tree p.meaning) u) z.1 related.ensures) in
+    (subst (λ u. Related M q p w x y (arg_tree p.meaning) u) z.1 related.ensures) in
     let failed = as_err c.from_residual-in_err-in_ty.result n.field-0.0 c.from_residual-in_err-in_ty.ensures.0
-        c.from_residual-in_err-in_ty.ensures.1 in
+    c.from_residual-in_err-in_ty.ensures.1 in
     subst (λ u. Related M r p r.ambient a b (p.meaning).ty u) (sym failed)
     (ty_refused M r.ambient a b i c.requires.a_formed alike inv.fronted inv.are_parts X Y kx ky sorted lx ly ex ey
     (arg_tree p.meaning) (p.meaning).ty z.0 n.field-0.0 (knows_arg later X kx) (knows_arg later Y ky) z.2 gone)
@@ -991,21 +991,21 @@ structurally_relate_tys-loop-i-preserved g t c =
     let ey : y ≡ nth i (parts_of b) = c.part_of-y.ensures.means ∙ ap (λ z. nth i (parts_of z)) same_b in
     let w = xform q.ambient c.variance_at-variance.result in
     let ew : w ≡ part_at (items_in r) (head_of a) i r.ambient =
-        c.variance_at-variance.ensures ∙ ap (λ z. part_at (items_in q) (head_of z) i q.ambient) same_a ∙
-        ap (λ z. part_at z (head_of a) i q.ambient) (same_items (inv.fronted).passes) ∙
-        ap (λ z. part_at (items_in r) (head_of a) i z) ((inv.fronted).passes).ambient in
+    c.variance_at-variance.ensures ∙ ap (λ z. part_at (items_in q) (head_of z) i q.ambient) same_a ∙
+    ap (λ z. part_at z (head_of a) i q.ambient) (same_items (inv.fronted).passes) ∙
+    ap (λ z. part_at (items_in r) (head_of a) i z) ((inv.fronted).passes).ambient in
     let p = g.R.TypeRelation.state c.relate_with_variance-related.new.r in
     let related = c.relate_with_variance-related in
     let later = ((related.ensures).passes).extends in
     let then_a : (p.meaning).ty c.args.a.now ≡ a =
-        later.ty c.args.a.now (subst (λ z. IsTrue (known z)) (sym same_a) k.left_known) ∙ same_a in
+    later.ty c.args.a.now (subst (λ z. IsTrue (known z)) (sym same_a) k.left_known) ∙ same_a in
     let then_b : (p.meaning).ty c.args.b.now ≡ b =
-        later.ty c.args.b.now (subst (λ z. IsTrue (known z)) (sym same_b) k.right_known) ∙ same_b in
+    later.ty c.args.b.now (subst (λ z. IsTrue (known z)) (sym same_b) k.right_known) ∙ same_b in
     let n = c.in_ok-in_ty in
     let z = kept_ty a X Y related.result n.field-0
-        (subst (λ z. IsResultOfTy z X Y related.result (Ok n.field-0)) then_a n.ensures) in
+    (subst (λ z. IsResultOfTy z X Y related.result (Ok n.field-0)) then_a n.ensures) in
     let gone = subst (λ v. Related M q p v x y (arg_tree p.meaning) (Ok n.field-0)) ew
-        (subst (λ u. Related M q p w x y (arg_tree p.meaning) u) z related.ensures) in
+    (subst (λ u. Related M q p w x y (arg_tree p.meaning) u) z related.ensures) in
     record {
       lawful = (gone.passes).lawful inv.lawful;
       fronted = subst (λ j. Fronted r p (head_of a) r.ambient j (parts_of a) (parts_of b)) (omega arith)
@@ -1054,12 +1054,12 @@ structurally_relate_tys-returns-in_err-note_args g t c =
     let left : i ≡ count (parts_of a) = omega (arith, test, end, inv.left_count) in
     let right : i ≡ count (parts_of b) = omega (arith, test, end, inv.right_count) in
     let done : Related M r q r.ambient a b (q.meaning).ty (Ok c.args.a.now) =
-        types_related M r.ambient a b i is (q.meaning).ty c.args.a.now c.requires.a_formed alike inv.fronted inv.are_parts left
-        right same_a k.left_known in
+    types_related M r.ambient a b i is (q.meaning).ty c.args.a.now c.requires.a_formed alike inv.fronted inv.are_parts left
+    right same_a k.left_known in
     let u = g.R.TypeRelation.state c.note_args.new.r in
     let n = c.in_err-note_args in
     let failed = as_err c.from_residual-in_err-note_args.result n.field-0.0 c.from_residual-in_err-note_args.ensures.0
-        c.from_residual-in_err-note_args.ensures.1 in
+    c.from_residual-in_err-note_args.ensures.1 in
     subst (λ z. Related M r u r.ambient a b (u.meaning).ty z) (sym failed)
     (noted_refused M is r.ambient a b (q.meaning).ty c.args.a.now done (Err n.field-0.0) n.ensures (u.meaning).ty n.field-0.0
     refl)
@@ -1084,8 +1084,8 @@ structurally_relate_tys-returns g t c =
     let left : i ≡ count (parts_of a) = omega (arith, test, end, inv.left_count) in
     let right : i ≡ count (parts_of b) = omega (arith, test, end, inv.right_count) in
     let done : Related M r q r.ambient a b (q.meaning).ty (Ok c.args.a.now) =
-        types_related M r.ambient a b i is (q.meaning).ty c.args.a.now c.requires.a_formed alike inv.fronted inv.are_parts left
-        right same_a k.left_known in
+    types_related M r.ambient a b i is (q.meaning).ty c.args.a.now c.requires.a_formed alike inv.fronted inv.are_parts left
+    right same_a k.left_known in
     let u = g.R.TypeRelation.state c.note_args.new.r in
     let n = c.in_ok-note_args in
     retold M r.ambient a b (u.meaning).ty c.args.a.now (u.meaning).ty c.dup.result (ap (u.meaning).ty c.dup.ensures)

@@ -1,0 +1,13 @@
+-- Laws of what is known of nested types.
+use Rattle.std.proofs.Common.{refl}
+use Rattle.type_relations.specs.declared.relate.VarianceDiagInfo.{VarianceDiagInfo}
+use Rattle.type_relations.specs.declared.relate.VarianceDiagInfo.TheVariants.{None, Invariant}
+use Rattle.type_relations.specs.DiagInfo.{NestingIsAssociative, NothingIsUnit}
+
+pub nesting_is_associative : NestingIsAssociative
+nesting_is_associative Key None b c = refl
+nesting_is_associative Key (Invariant ty i) b c = refl
+
+pub nothing_is_unit : NothingIsUnit
+nothing_is_unit Key None = (refl, refl)
+nothing_is_unit Key (Invariant ty i) = (refl, refl)
