@@ -33,3 +33,4 @@ pub mod Instantiating
 pub mod Assigning
 pub mod RegionTerms
 pub mod Deciding
+pub mod Plain

@@ -6,6 +6,8 @@ pub mod comparing;
 pub mod forms;
 pub mod handing;
 pub mod parts;
+#[cfg(test)]
+mod plain;
 pub mod solver_relating;
 mod reading;
 pub mod structural;
