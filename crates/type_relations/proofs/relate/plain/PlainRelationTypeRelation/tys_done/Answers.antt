@@ -1,0 +1,6 @@
+use Rattle.type_relations.specs.Plain.{plain_state}
+use Rattle.type_relations.proofs.Passing.{noted_nothing}
+use Rattle.type_relations.proofs.relate.plain.PlainRelationTypeRelation.tys_done.Goals as goal
+
+pub returns : goal.returns
+returns g c = noted_nothing _ (plain_state (g.I.Interner.meaning c.args.self.now.interner) c.args.self.now.ambient c.args.self.now.constraints.items)
