@@ -160,8 +160,11 @@ module _ {Key Id Name : Type 0} (m : Meaning Key Id Name) where
 
   -- Two regions were related by what was recorded.
   module _ (v : Variance) (cs : List (RegionConstraint Key)) (c : RegionConstraint Key) (a b : RegionKey Key)
-      (is : constraint_at v a b ≡ Some c)
+      (o : Option (RegionConstraint Key)) (asks : constraint_at v a b ≡ o) (some : o ≡ Some c)
       (left : IsRegionIn (plain_store m cs) (m.region a)) (right : IsRegionIn (plain_store m cs) (m.region b)) where
+    is : constraint_at v a b ≡ Some c
+    is = asks ∙ some
+
     of_store : ConstraintIn (plain_store m cs) (constraint_of m c)
     of_store = subst (λ o. IfSome o (λ c. ConstraintIn (plain_store m cs) (constraint_of m c))) is
         (asked_in (plain_store m cs) a b v left right)

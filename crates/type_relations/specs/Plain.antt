@@ -7,8 +7,8 @@ use Rattle.relation_terms.specs.declared.terms.keys.RegionKey.{RegionKey}
 use Rattle.relation_terms.specs.declared.terms.generic_arg.GenericArgKind.TheVariants.{Lifetime}
 use Rattle.relation_terms.specs.declared.predicate.RegionConstraint.{RegionConstraint}
 use Rattle.relation_terms.specs.declared.predicate.RegionConstraint.TheVariants.{Outlives, Eq}
-use Rattle.relation_terms.specs.Heads.{environment}
-use Rattle.relation_terms.specs.Trees.{node, nil}
+use Rattle.relation_terms.specs.Heads.{environment, variable}
+use Rattle.relation_terms.specs.Trees.{leaf, node, nil, Assign}
 use Rattle.relation_terms.specs.Meaning.{Meaning, arg_tree}
 use Rattle.type_relations.specs.Stores.{Store, Constraint, outlives_constraint, equal_constraint, IsSound}
 use Rattle.type_relations.specs.Lawful.{State, Manner}
@@ -52,3 +52,7 @@ module _ {Key Id Name : Type 0} (m : Meaning Key Id Name) where
 -- It takes all terms, answers the left one, and is exact.
 abbrev pub plain_manner : Manner
 plain_manner = record { takes = λ v t. Unit {0}; answers = λ st t u. u ≡ t; is_exact = Unit {0} }
+
+-- Each variable stands for itself.
+abbrev pub itself : Assign
+itself k n = leaf (variable k n)

@@ -1,9 +1,16 @@
 //! A relation of terms without variables: it takes types and constants apart, and records what regions are asked for.
 //!
 //! It has no inference context, and so shows that what is asked of a relation can be met without one.
-ghost use Rattle.std.specs.Prelude.{◌≡◌};
-ghost use Rattle.type_relations.specs.Plain.{constraint_at};
+ghost use Rattle.std.specs.Prelude.{◌≡◌, ◌≢◌, [], All, IfOk, map};
+ghost use Rattle.relation_terms.specs.declared.terms.enums.Variance.TheVariants.{Bivariant};
+ghost use Rattle.relation_terms.specs.Heads.{environment};
+ghost use Rattle.relation_terms.specs.Trees.{node, nil};
+ghost use Rattle.type_relations.specs.Relation.{Interpretation, Rel, at};
+ghost use Rattle.type_relations.specs.Stores.{ConstraintHolds, IsSound};
+ghost use Rattle.type_relations.specs.Lawful.{Asked, declared_by};
+ghost use Rattle.type_relations.specs.Plain.{constraint_at, constraint_of, itself, plain_store, plain_state, plain_manner};
 
+use crate::relate::structural::tys;
 use crate::relate::{Step, TypeRelation};
 use relation_terms::predicate::{OutlivesPredicate, RegionConstraint, RegionEqPredicate};
 use relation_terms::terms::{
@@ -17,6 +24,39 @@ pub struct PlainRelation<I: Interner> {
     pub interner: I,
     pub ambient: Variance,
     pub constraints: Vec<RegionConstraint<I::Key>>,
+}
+
+impl<I: Interner> PlainRelation<I> {
+    /// A relation that has recorded nothing.
+    pub fn new(interner: I, ambient: Variance) -> PlainRelation<I>
+        ensures interner { result.interner ≡ interner }
+        ensures ambient { result.ambient ≡ ambient }
+        ensures constraints { result.constraints.items ≡ [] }
+        ensures lawful { IsSound (plain_store (I.meaning interner) []) }
+    {
+        let alloc = interner.alloc();
+        PlainRelation {
+            interner,
+            ambient,
+            constraints: Vec::new(alloc),
+        }
+    }
+}
+
+/// The constraints on regions under which two types are related at a variance.
+pub fn constraints_of<I: Interner + Drop>(
+    interner: I,
+    ambient: Variance,
+    a: &Ty<I>,
+    b: &Ty<I>,
+) -> RelateResult<I, PlainRelation<I>>
+    requires decides { ambient ≢ Bivariant }
+    requires asked { Asked plain_manner (plain_state (I.meaning interner) ambient []) ambient ((I.meaning interner).ty a.now) ((I.meaning interner).ty b.now) }
+    ensures { IfOk result (λ r. (w : Interpretation) → All (ConstraintHolds w itself) (map (constraint_of (I.meaning r.interner)) r.constraints.items) → Rel (declared_by (I.meaning interner).variances) w (node environment nil) (at ambient) ((I.meaning interner).ty a.now) ((I.meaning interner).ty b.now)) }
+{
+    let mut r = PlainRelation::new(interner, ambient);
+    tys(&mut r, a, b)?;
+    Ok(r)
 }
 
 // What relating two regions at a variance asks of them.
@@ -43,7 +83,6 @@ fn constraint<X: Dup>(
 
 impl<I: Interner> TypeRelation<I> for PlainRelation<I> {
     ghost use Rattle.std.specs.Prelude.{refl};
-    ghost use Rattle.type_relations.specs.Plain.{plain_state, plain_manner};
     ghost use Rattle.type_relations.specs.PlainLaws.{plain_is_manner, plain_grows};
 
     ghost state = { λ r. plain_state (I.meaning r.interner) r.ambient r.constraints.items };

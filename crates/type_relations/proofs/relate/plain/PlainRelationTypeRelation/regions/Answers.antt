@@ -1,4 +1,4 @@
-use Rattle.std.proofs.Common.{sym, ◌∙◌}
+use Rattle.std.proofs.Common.{sym}
 use Rattle.relation_tools.specs.declared.error.RelateFault.TheVariants.{Memory}
 use Rattle.type_relations.proofs.Passing.{as_err}
 use Rattle.type_relations.proofs.Plain.{regions_related, not_recorded}
@@ -18,6 +18,6 @@ returns g c =
     let is = g.met.I.Interner.is_region c.args.self.now.interner in
     let k = c.requires.asked in
     regions_related m c.args.self.now.ambient c.args.self.now.constraints.items c.in-Some.constraint c.args.a.now
-    c.args.b.now (sym c.constraint.ensures ∙ c.in-Some.is)
+    c.args.b.now c.constraint.result (sym c.constraint.ensures) c.in-Some.is
     (is c.args.a.now k.left_known, k.left_in) (is c.args.b.now k.right_known, k.right_in)
     c.push.new.self.items c.dup-2.result c.in_ok-push.ensures.items c.dup-2.ensures k.left_known
