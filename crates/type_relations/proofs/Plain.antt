@@ -18,16 +18,17 @@ use Rattle.relation_terms.proofs.Stays.{stays_arg, stays_same}
 use Rattle.relation_tools.specs.declared.error.RelateFault.{RelateFault}
 use Rattle.relation_tools.specs.declared.error.RelateFault.TheVariants.{Memory}
 use Rattle.type_relations.specs.declared.relate.Step.TheVariants.{Parts}
-use Rattle.type_relations.specs.Relation.{Interpretation, RegionRule, regions, itself, sort_of, at, StaysWithin}
+use Rattle.type_relations.specs.Relation.{Interpretation, Rel, RegionRule, regions, itself, sort_of, at, StaysWithin}
 use Rattle.type_relations.specs.Stores.{Store, IsMadeLeaf, IsTermIn, IsRegionIn, Constraint, ConstraintIn, ConstraintHolds, outlives_constraint, equal_constraint, IsSound, Satisfies, weight}
-use Rattle.type_relations.specs.Goals.{GoalInContext, MakesOneTree}
+use Rattle.type_relations.specs.Goals.{GoalInContext, Holds, MakesOneTree}
 use Rattle.type_relations.specs.Steps.{AddsConstraint}
 use Rattle.type_relations.specs.Outcomes.{Outcome}
 use Rattle.type_relations.specs.Measures.{Goes}
 use Rattle.type_relations.specs.Parts.{IsFormed, IsFormedConst}
-use Rattle.type_relations.specs.Lawful.{State, Manner, IsManner, WithMeaning, Passes, Asked, Related, Stepped, items_in}
-use Rattle.type_relations.specs.Plain.{constraint_at, constraint_of, plain_store, plain_state, plain_manner}
+use Rattle.type_relations.specs.Lawful.{declared_by, State, Manner, IsManner, WithMeaning, Passes, Asked, Related, Stepped, items_in}
+use Rattle.type_relations.specs.Plain.{constraint_at, constraint_of, itself_each, plain_store, plain_state, plain_manner}
 
+use Rattle.type_relations.proofs.Trees.{all_leaves, apply_own, own_other}
 use Rattle.type_relations.proofs.Standing.{later_constraint, term_context, made_of_term, term_within, term_sort_of}
 use Rattle.type_relations.proofs.Growing.{constraint_sound, constraint_is_later, constraint_bound, constraint_weight, constraint_holds, constraint_keeps}
 use Rattle.type_relations.proofs.Going.{later_itself}
@@ -214,3 +215,25 @@ module _ {Key Id Name : Type 0} (m : Meaning Key Id Name) where
         r ≡ Err Memory → Related plain_manner (plain_state m v cs) (plain_state m v ds) w a b tree r
     not_recorded ds r e d = subst₂ (λ ds r. Related plain_manner (plain_state m v cs) (plain_state m v ds) w a b tree r)
         (sym e) (sym d) refused
+
+-- Terms without variables that were related are so under each interpretation by which what was recorded holds.
+module _ {Key Id Name X : Type 0} (m n : Meaning Key Id Name) (v u : Variance) (ks cs : List (RegionConstraint Key))
+    (a b : Tree) (tree : X → Tree) (x : X)
+    (f : Related plain_manner (plain_state m v ks) (plain_state n u cs) v a b tree (Ok x)) where
+  met_by_all : (w : Interpretation) → All (ConstraintHolds w itself_each) (map (constraint_of n) cs) →
+      Satisfies w (plain_store n cs) itself_each
+  met_by_all w all = record {
+    assigns = λ k i h. absurd (omega (arith, h));
+    bindings = λ k i t e. absurd (cc);
+    regions = all;
+  }
+
+  each_own : (t : Tree) → apply itself_each t ≡ t
+  each_own t = apply_own itself_each t (all_leaves _ (λ l. own_other itself_each l (λ k i e. refl)) t)
+
+  pub related_under : (w : Interpretation) → All (ConstraintHolds w itself_each) (map (constraint_of n) cs) →
+      Rel (declared_by m.variances) w (node environment nil) (at v) a b
+  related_under w all = subst₂ (Rel (declared_by m.variances) w (node environment nil) (at v)) (each_own a) (each_own b)
+      (((f.verdict).outcome).relates w itself_each (met_by_all w all)
+      (subst (All (Holds (declared_by m.variances) w itself_each)) (f.passes).lengthens
+      (All-nil (Holds (declared_by m.variances) w itself_each))))
