@@ -1,36 +1,34 @@
 -- A relation of terms without variables.
-use Rattle.std.proofs.Common.{◌≡◌, ◌≢◌, ℕ, zero, suc, ◌+◌, ◌≤◌, ◌<◌, refl, sym, ap, ap₂, ◌∙◌, subst, subst₂, arith, List, [], ◌∷◌, ◌++◌, All, IsTrue, map, Option, Some, None, IfSome, Result, Ok, Err}
-use Rattle.std.proofs.lemmas.Bool.{and_from}
-use Rattle.std.proofs.lemmas.List.{map-append, append-nil}
-use Rattle.std.proofs.lemmas.List.Elements.{All-nil, All-cons, All-append, All-head, All-tail, All-map}
+use Rattle.std.proofs.Common.{◌≡◌, ℕ, ◌≤◌, refl, sym, ◌∙◌, subst, subst₂, arith, List, [], ◌∷◌, ◌++◌, All, IsTrue, map}
+use Rattle.std.proofs.Common.{Option, Some, IfSome, Result, Ok, Err}
+use Rattle.std.proofs.lemmas.List.{map-append}
+use Rattle.std.proofs.lemmas.List.Elements.{All-nil}
 use Rattle.relation_terms.specs.declared.terms.enums.Variance.{Variance}
-use Rattle.relation_terms.specs.declared.terms.enums.Variance.TheVariants.{Covariant, Contravariant, Invariant, Bivariant}
+use Rattle.relation_terms.specs.declared.terms.enums.Variance.TheVariants.{Covariant, Contravariant, Invariant}
+use Rattle.relation_terms.specs.declared.terms.enums.Variance.TheVariants.{Bivariant}
 use Rattle.relation_terms.specs.declared.terms.keys.RegionKey.{RegionKey}
-use Rattle.relation_terms.specs.declared.terms.keys.TyKey.{TyKey}
-use Rattle.relation_terms.specs.declared.terms.keys.ConstKey.{ConstKey}
-use Rattle.relation_terms.specs.declared.terms.const_kind.ConstKind.{ConstKind}
 use Rattle.relation_terms.specs.declared.predicate.RegionConstraint.{RegionConstraint}
-use Rattle.relation_terms.specs.declared.predicate.RegionConstraint.TheVariants.{Outlives, Eq}
-use Rattle.relation_terms.specs.Heads.{environment, Head, Sort, Admits, head_sort, type_sort, const_sort, region_sort, region_var, type_var, Leaf, variable, bound, placeholder, atom, unknown}
-use Rattle.relation_terms.specs.Trees.{Tree, leaf, node, bind, nil, cons, known, Leaves, IsTerm, IsList, count, nth, Assign, apply}
-use Rattle.relation_terms.specs.Meaning.{Meaning, Extends, arg_tree}
-use Rattle.relation_terms.proofs.Stays.{stays_arg, stays_same}
+use Rattle.relation_terms.specs.Heads.{environment, type_sort, region_sort, region_var, type_var, variable, bound}
+use Rattle.relation_terms.specs.Heads.{placeholder, atom, unknown}
+use Rattle.relation_terms.specs.Trees.{Tree, leaf, node, bind, nil, cons, known, IsTerm, Assign, apply}
+use Rattle.relation_terms.specs.Meaning.{Meaning}
+use Rattle.relation_terms.proofs.Stays.{stays_same}
 use Rattle.relation_tools.specs.declared.error.RelateFault.{RelateFault}
 use Rattle.relation_tools.specs.declared.error.RelateFault.TheVariants.{Memory}
 use Rattle.type_relations.specs.declared.relate.Step.TheVariants.{Parts}
-use Rattle.type_relations.specs.Relation.{Interpretation, Rel, RegionRule, regions, itself, sort_of, at, StaysWithin}
-use Rattle.type_relations.specs.Stores.{Store, IsMadeLeaf, IsTermIn, IsRegionIn, Constraint, ConstraintIn, ConstraintHolds, outlives_constraint, equal_constraint, IsSound, Satisfies, weight}
+use Rattle.type_relations.specs.Relation.{Interpretation, Rel, RegionRule, regions, itself, sort_of, at}
+use Rattle.type_relations.specs.Stores.{Store, IsTermIn, IsRegionIn, ConstraintIn, ConstraintHolds, Satisfies}
 use Rattle.type_relations.specs.Goals.{GoalInContext, Holds, MakesOneTree}
 use Rattle.type_relations.specs.Steps.{AddsConstraint}
 use Rattle.type_relations.specs.Outcomes.{Outcome}
 use Rattle.type_relations.specs.Measures.{Goes}
-use Rattle.type_relations.specs.Parts.{IsFormed, IsFormedConst}
-use Rattle.type_relations.specs.Lawful.{declared_by, State, Manner, IsManner, WithMeaning, Passes, Asked, Related, Stepped, items_in}
-use Rattle.type_relations.specs.Plain.{constraint_at, constraint_of, itself_each, plain_store, plain_state, plain_manner}
-
+use Rattle.type_relations.specs.Parts.{IsFormed}
+use Rattle.type_relations.specs.Lawful.{declared_by, State, Manner, Passes, Asked, Related, Stepped, items_in}
+use Rattle.type_relations.specs.Plain.{constraint_at, constraint_of, as_is, plain_store, plain_state, plain_manner}
 use Rattle.type_relations.proofs.Trees.{all_leaves, apply_own, own_other}
-use Rattle.type_relations.proofs.Standing.{later_constraint, term_context, made_of_term, term_within, term_sort_of}
-use Rattle.type_relations.proofs.Growing.{constraint_sound, constraint_is_later, constraint_bound, constraint_weight, constraint_holds, constraint_keeps}
+use Rattle.type_relations.proofs.Standing.{made_of_term, term_within, term_sort_of}
+use Rattle.type_relations.proofs.Growing.{constraint_sound, constraint_is_later, constraint_bound, constraint_weight}
+use Rattle.type_relations.proofs.Growing.{constraint_holds, constraint_keeps}
 use Rattle.type_relations.proofs.Going.{later_itself}
 use Rattle.type_relations.proofs.Passing.{passes_nowhere}
 
@@ -58,11 +56,14 @@ module _ {Key Id Name K : Type 0} (M : Manner) (F : Tree → Type 0) (r : State 
       same_budget = refl;
       not_larger = omega arith;
     };
-    exact = λ is v pair. (pair, record {
-      later = later_itself r.store;
-      shrinks = λ s h u. (h, u);
-      keeps = λ s h u. (s, (λ j i h. refl), (h, u));
-    });
+    exact = λ is v pair. (
+      pair,
+      record {
+        later = later_itself r.store;
+        shrinks = λ s h u. (h, u);
+        keeps = λ s h u. (s, (λ j i h. refl), (h, u));
+      },
+    );
   }
 
   pub parts_left : (a b x y : K) → x ≡ a → y ≡ b → Asked M r r.ambient (tree a) (tree b) → F (tree a) → F (tree b) →
@@ -156,7 +157,8 @@ module _ {Key Id Name : Type 0} (m : Meaning Key Id Name) where
       goals_in = All-nil (GoalInContext (plain_store m (cs ++ c ∷ [])));
       environment = refl;
       ambient = refl;
-      lawful = λ l. constraint_sound (plain_store m cs) (plain_store m (cs ++ c ∷ [])) (constraint_of m c) added l is_in;
+      lawful = λ l. constraint_sound (plain_store m cs) (plain_store m (cs ++ c ∷ [])) (constraint_of m c) added l
+          is_in;
     }
 
   -- Two regions were related by what was recorded.
@@ -188,12 +190,20 @@ module _ {Key Id Name : Type 0} (m : Meaning Key Id Name) where
       relates = λ w s sat all. regions (region_stays cs s (m.region a) left) (region_stays cs s (m.region b) right)
           (relates w s (constraint_holds (plain_store m cs) (plain_store m (cs ++ c ∷ [])) (constraint_of m c)
           (added v cs c of_store) w s sat));
-      keeps = λ w s sat one. (s, (λ k n h. refl), (constraint_keeps (plain_store m cs) (plain_store m (cs ++ c ∷ []))
-          (constraint_of m c) (added v cs c of_store) w s sat (met w s one), All-nil (MakesOneTree s)));
+      keeps = λ w s sat one. (
+        s,
+        (λ k n h. refl),
+        (
+          constraint_keeps (plain_store m cs) (plain_store m (cs ++ c ∷ []))
+              (constraint_of m c) (added v cs c of_store) w s sat (met w s one),
+          All-nil (MakesOneTree s),
+        ),
+      );
     }
 
     itself_answered : IsTrue (known (m.region a)) →
-        Related plain_manner (plain_state m v cs) (plain_state m v (cs ++ c ∷ [])) v (m.region a) (m.region b) m.region (Ok a)
+        Related plain_manner (plain_state m v cs) (plain_state m v (cs ++ c ∷ [])) v (m.region a) (m.region b)
+        m.region (Ok a)
     unfolding recorded_passes
     itself_answered k = record {
       passes = recorded_passes v cs c of_store _;
@@ -220,20 +230,20 @@ module _ {Key Id Name : Type 0} (m : Meaning Key Id Name) where
 module _ {Key Id Name X : Type 0} (m n : Meaning Key Id Name) (v u : Variance) (ks cs : List (RegionConstraint Key))
     (a b : Tree) (tree : X → Tree) (x : X)
     (f : Related plain_manner (plain_state m v ks) (plain_state n u cs) v a b tree (Ok x)) where
-  met_by_all : (w : Interpretation) → All (ConstraintHolds w itself_each) (map (constraint_of n) cs) →
-      Satisfies w (plain_store n cs) itself_each
+  met_by_all : (w : Interpretation) → All (ConstraintHolds w as_is) (map (constraint_of n) cs) →
+      Satisfies w (plain_store n cs) as_is
   met_by_all w all = record {
     assigns = λ k i h. absurd (omega (arith, h));
     bindings = λ k i t e. absurd (cc);
     regions = all;
   }
 
-  each_own : (t : Tree) → apply itself_each t ≡ t
-  each_own t = apply_own itself_each t (all_leaves _ (λ l. own_other itself_each l (λ k i e. refl)) t)
+  each_own : (t : Tree) → apply as_is t ≡ t
+  each_own t = apply_own as_is t (all_leaves _ (λ l. own_other as_is l (λ k i e. refl)) t)
 
-  pub related_under : (w : Interpretation) → All (ConstraintHolds w itself_each) (map (constraint_of n) cs) →
+  pub related_under : (w : Interpretation) → All (ConstraintHolds w as_is) (map (constraint_of n) cs) →
       Rel (declared_by m.variances) w (node environment nil) (at v) a b
   related_under w all = subst₂ (Rel (declared_by m.variances) w (node environment nil) (at v)) (each_own a) (each_own b)
-      (((f.verdict).outcome).relates w itself_each (met_by_all w all)
-      (subst (All (Holds (declared_by m.variances) w itself_each)) (f.passes).lengthens
-      (All-nil (Holds (declared_by m.variances) w itself_each))))
+      (((f.verdict).outcome).relates w as_is (met_by_all w all)
+      (subst (All (Holds (declared_by m.variances) w as_is)) (f.passes).lengthens
+      (All-nil (Holds (declared_by m.variances) w as_is))))

@@ -54,5 +54,5 @@ abbrev pub plain_manner : Manner
 plain_manner = record { takes = λ v t. Unit {0}; answers = λ st t u. u ≡ t; is_exact = Unit {0} }
 
 -- Each variable stands for itself.
-abbrev pub itself_each : Assign
-itself_each k n = leaf (variable k n)
+abbrev pub as_is : Assign
+as_is k n = leaf (variable k n)

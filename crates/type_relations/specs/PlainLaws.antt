@@ -1,6 +1,6 @@
--- Laws of a relation of terms without variables: its manner goes through forms, and what it has recorded stands while its
--- interner grows.
-use Rattle.std.proofs.Common.{◌≡◌, ℕ, zero, suc, ◌<◌, refl, sym, ap, ap₂, ◌∙◌, subst, List, [], ◌∷◌, All, IsTrue, map}
+-- Laws of a relation of terms without variables: its manner goes through forms, and what it has recorded stands while
+-- its interner grows.
+use Rattle.std.proofs.Common.{◌≡◌, ℕ, suc, ◌<◌, refl, sym, ap, ap₂, subst, List, [], ◌∷◌, All, IsTrue, map}
 use Rattle.std.proofs.Math.Nat.{zero-lt-suc, suc-lt_of_lt-pred, suc_inj, suc-ne-zero}
 use Rattle.std.proofs.lemmas.Bool.{and_from}
 use Rattle.std.proofs.lemmas.List.Elements.{All-head, All-tail}

@@ -8,7 +8,8 @@ use Rattle.type_relations.proofs.relate.plain.constraints_of.Goals as goal
 
 pub returns : goal.returns
 returns g c = λ w all.
-    subst₂ (λ m v. Rel (declared_by m.variances) w (node environment nil) (at v) (m.ty c.args.a.now) (m.ty c.args.b.now))
+    subst₂ (λ m v. Rel (declared_by m.variances) w (node environment nil) (at v) (m.ty c.args.a.now)
+    (m.ty c.args.b.now))
     (ap g.I.Interner.meaning c.new-r.ensures.interner) c.new-r.ensures.ambient
     (related_under _ _ c.new-r.result.ambient c.tys.new.r.ambient c.new-r.result.constraints.items
     c.tys.new.r.constraints.items _ _ _ _ c.in_ok-tys.ensures w all)

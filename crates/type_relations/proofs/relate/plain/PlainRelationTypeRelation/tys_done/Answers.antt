@@ -3,4 +3,6 @@ use Rattle.type_relations.proofs.Passing.{noted_nothing}
 use Rattle.type_relations.proofs.relate.plain.PlainRelationTypeRelation.tys_done.Goals as goal
 
 pub returns : goal.returns
-returns g c = noted_nothing _ (plain_state (g.I.Interner.meaning c.args.self.now.interner) c.args.self.now.ambient c.args.self.now.constraints.items)
+returns g c =
+    let r = c.args.self.now in
+    noted_nothing _ (plain_state (g.I.Interner.meaning r.interner) r.ambient r.constraints.items)
