@@ -4,10 +4,10 @@ use Rattle.type_relations.specs.declared.relate.VarianceDiagInfo.{VarianceDiagIn
 use Rattle.type_relations.specs.declared.relate.VarianceDiagInfo.TheVariants.{None, Invariant}
 use Rattle.type_relations.specs.DiagInfo.{NestingIsAssociative, NothingIsUnit}
 
-pub nesting_is_associative : NestingIsAssociative
+pub nesting_is_associative : (Key : Type 0) → NestingIsAssociative Key
 nesting_is_associative Key None b c = refl
 nesting_is_associative Key (Invariant ty i) b c = refl
 
-pub nothing_is_unit : NothingIsUnit
+pub nothing_is_unit : (Key : Type 0) → NothingIsUnit Key
 nothing_is_unit Key None = (refl, refl)
 nothing_is_unit Key (Invariant ty i) = (refl, refl)

@@ -34,3 +34,4 @@ pub mod Assigning
 pub mod RegionTerms
 pub mod Deciding
 pub mod DiagInfo
+pub mod Plain

@@ -9,10 +9,10 @@ first_invariant None other = other
 first_invariant (Invariant ty i) other = Invariant ty i
 
 -- Of three in a row it is the same from the left and from the right.
-abbrev pub NestingIsAssociative : Type 1
-NestingIsAssociative = (Key : Type 0) (a b c : VarianceDiagInfo Key) →
+abbrev pub NestingIsAssociative : Type 0 → Type 0
+NestingIsAssociative Key = (a b c : VarianceDiagInfo Key) →
     first_invariant (first_invariant a b) c ≡ first_invariant a (first_invariant b c)
 
 -- Knowing nothing changes nothing, on either side.
-abbrev pub NothingIsUnit : Type 1
-NothingIsUnit = (Key : Type 0) (a : VarianceDiagInfo Key) → (first_invariant None a ≡ a) × (first_invariant a None ≡ a)
+abbrev pub NothingIsUnit : Type 0 → Type 0
+NothingIsUnit Key = (a : VarianceDiagInfo Key) → (first_invariant None a ≡ a) × (first_invariant a None ≡ a)

@@ -6,7 +6,6 @@ ghost use Rattle.type_relations.specs.StepLaws.{AssigningTwice, InstantiatingAss
 ghost use Rattle.type_relations.specs.ErasureLaws.{ErasureAssigns, FormsUnifyByParts, TypesOfValuesUnify, ListsUnifyByItems, UnlikeFormsDoNotUnify, ErasedOccursCheck, InvariantTermsAreAlike};
 ghost use Rattle.type_relations.specs.StoreLaws.{EquatingStaysSound, EquatingIsExact, BindingStaysSound, BindingIsExact, BindingInstantiates, CyclesRefuse, NumbersStaySound, NumbersAreExact, MakingStaysSound, MadeIsUnconstrained, ConstrainingIsExact, NothingIsSeen, ResolvedResolves, MakingOneMakes};
 ghost use Rattle.type_relations.specs.Stores.{BindingsAreMet};
-ghost use Rattle.type_relations.specs.DiagInfo.{NestingIsAssociative, NothingIsUnit};
 ghost use Rattle.type_relations.specs.RegionTerms.{RelatedTermsAgree, RelatedIffAgree};
 
 /// What holds of all terms, and of errors, parameters and constants.
@@ -120,10 +119,4 @@ pub fn stores()
 pub fn region_terms()
     ensures agree { RelatedTermsAgree }
     ensures just_where { RelatedIffAgree }
-{}
-
-/// What is known of nested types for an error's explanation.
-pub fn variance_info()
-    ensures associative { NestingIsAssociative }
-    ensures unit { NothingIsUnit }
 {}

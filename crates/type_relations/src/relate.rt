@@ -1,11 +1,13 @@
 //! Relations on terms.
 ghost use Rattle.std.specs.Prelude.{◌≡◌};
-ghost use Rattle.type_relations.specs.DiagInfo.{first_invariant};
+ghost use Rattle.type_relations.specs.DiagInfo.{first_invariant, NestingIsAssociative, NothingIsUnit};
 
 pub mod comparing;
 pub mod forms;
 pub mod handing;
 pub mod parts;
+#[cfg(test)]
+mod plain;
 mod reading;
 pub mod solver_relating;
 pub mod structural;
@@ -56,8 +58,11 @@ pub type VarianceDiagInfoOf<I> = VarianceDiagInfo<<I as Keys>::Key>;
 
 impl<X: Drop> VarianceDiagInfo<X> {
     /// What is known of a part of what this is known of: the outermost type that is invariant.
+    /// Of three in a row it is the same from the left and from the right, and knowing nothing changes nothing.
     pub fn xform(self, other: VarianceDiagInfo<X>) -> VarianceDiagInfo<X>
-        ensures { result ≡ first_invariant self other }
+        ensures first { result ≡ first_invariant self other }
+        ensures associative { NestingIsAssociative X }
+        ensures unit { NothingIsUnit X }
     {
         match self {
             VarianceDiagInfo::None => other,

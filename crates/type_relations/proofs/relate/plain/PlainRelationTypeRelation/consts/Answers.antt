@@ -1,0 +1,14 @@
+use Rattle.type_relations.specs.Parts.{IsFormedConst}
+use Rattle.type_relations.specs.Plain.{plain_state, plain_manner}
+use Rattle.type_relations.proofs.Comparing.{formed_const}
+use Rattle.type_relations.proofs.Plain.{parts_left}
+use Rattle.type_relations.proofs.relate.plain.PlainRelationTypeRelation.consts.Goals as goal
+
+pub returns : goal.returns
+returns g c =
+    let m = g.I.Interner.meaning c.args.self.now.interner in
+    parts_left plain_manner IsFormedConst
+    (plain_state m c.args.self.now.ambient c.args.self.now.constraints.items) m.const_
+    c.args.a.now c.args.b.now c.dup.result c.dup-2.result c.dup.ensures c.dup-2.ensures c.requires.asked
+    (formed_const m c.const_kind-a.result c.args.a.now c.const_kind-a.ensures)
+    (formed_const m c.const_kind-b.result c.args.b.now c.const_kind-b.ensures)
