@@ -11,13 +11,13 @@ ghost use Rattle.type_relations.specs.Parts.{IsFormed};
 ghost use Rattle.relation_reference.specs.Answers.{Answered};
 
 use crate::context::RefCtxt;
-use type_relations::relate::handing::{in_const, in_ty};
-use type_relations::relate::comparing::{compare_consts, compare_tys};
-use type_relations::relate::parts::{const_part, const_parts_count, part, parts_count};
 use relation_terms::terms::{
     Const, ConstKind, Dup, GenericArg, GenericArgKind, Interner, Ty, TyKind,
 };
 use relation_tools::error::{ExpectedFound, RelateFault, RelateFaultOf, TypeError};
+use type_relations::relate::comparing::{compare_consts, compare_tys};
+use type_relations::relate::handing::{in_const, in_ty};
+use type_relations::relate::parts::{const_part, const_parts_count, part, parts_count};
 
 impl<I: Interner> RefCtxt<I> {
     // Relates two types.

@@ -10,8 +10,6 @@ ghost use Rattle.relation_reference.specs.Tables.{store_of, IsLawful};
 ghost use Rattle.type_relations.specs.Parts.{IsFormed};
 ghost use Rattle.relation_reference.specs.Answers.{IsShallow, Instantiated, StepsByInstantiating};
 
-use type_relations::relate::forms::{item_of, kind_of_item};
-use type_relations::relate::parts::{const_part, const_parts_count, part, parts_count};
 use crate::context::variables::ty_vid;
 use crate::context::{RefCtxt, TypeVariableValue};
 use relation_terms::terms::{
@@ -19,6 +17,8 @@ use relation_terms::terms::{
     OutOfMemory, Ty, TyForm, TyKind, TyVid, Tys, ValTree, ValTreeKind,
 };
 use relation_tools::error::{RelateFault, RelateFaultOf, TypeError};
+use type_relations::relate::forms::{item_of, kind_of_item};
+use type_relations::relate::parts::{const_part, const_parts_count, part, parts_count};
 
 // Whether a type variable stands in a type.
 #[cycle(occurs)]
