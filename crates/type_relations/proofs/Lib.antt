@@ -33,5 +33,6 @@ pub mod Instantiating
 pub mod Assigning
 pub mod RegionTerms
 pub mod Deciding
+pub mod Constraints
 pub mod DiagInfo
 pub mod Plain

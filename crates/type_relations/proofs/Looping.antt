@@ -3,8 +3,8 @@ use Rattle.std.proofs.Common.{◌≡◌, ℕ, zero, suc, ◌+◌, ◌*◌, ◌�
 use Rattle.relation_terms.specs.declared.terms.enums.Variance.{Variance}
 use Rattle.relation_terms.specs.declared.terms.enums.Variance.TheVariants.{Covariant}
 use Rattle.relation_terms.specs.Variances.{xform}
-use Rattle.relation_terms.specs.Heads.{Head, expression, value, value_branch}
-use Rattle.relation_terms.specs.Trees.{Tree, leaf, node, bind, nil, cons, known, count, nth}
+use Rattle.relation_terms.specs.Heads.{Head, Leaf, expression, value, value_branch}
+use Rattle.relation_terms.specs.Trees.{Tree, leaf, node, bind, nil, cons, Leaves, known, count, nth}
 use Rattle.relation_terms.specs.declared.terms.keys.ConstKey.{ConstKey}
 use Rattle.relation_terms.specs.declared.terms.generic_arg.GenericArgKind.{GenericArgKind}
 use Rattle.relation_tools.specs.declared.error.RelateFault.{RelateFault}
@@ -15,37 +15,60 @@ use Rattle.type_relations.specs.Goals.{Goal}
 use Rattle.type_relations.specs.Errors.{AreOfOneForm, over_parts, one_leaf, parameters, AreOfOneConst, values, expressions, const_parameters}
 use Rattle.type_relations.specs.Parts.{parts_of, const_parts_of, branches_of, head_of, const_head_of}
 use Rattle.type_relations.specs.Handing.{IsFaultOfTy, IsFaultOfConst, IsResultOfTy, IsResultOfConst}
-use Rattle.type_relations.specs.Lawful.{State, Manner, IsManner, Passes, Asked, LeadsToParts, LeadsAgain, items_in}
+use Rattle.type_relations.specs.Lawful.{State, Manner, TakesParts, Takes, Passes, Asked, LeadsToParts, LeadsAgain, items_in}
 use Rattle.type_relations.proofs.Going.{depth-mono, depth-strict, depth-spent, depth_later}
 use Rattle.type_relations.proofs.Standing.{later_term}
 use Rattle.type_relations.proofs.Parts.{in_part, in_const_part}
 use Rattle.type_relations.proofs.PartSizes.{weight_parts, weight_const_parts}
 use Rattle.type_relations.proofs.Fronts.{Fronted, part_small}
-use Rattle.type_relations.proofs.StructuralConsts.{covariantly}
 
--- What is taken at a variance has parts that are taken at theirs.
-takes_part : (M : Manner) → IsManner M → (c : Items) (v : Variance) (t : Tree) (i : ℕ) → i < count (parts_of t) →
-    M.takes v t → M.takes (part_at c (head_of t) i v) (nth i (parts_of t))
-takes_part M is c v (node h ts) i l k = is.takes_parts c h ts i v l k
-takes_part M is c v t i l k = absurd (omega (arith, l))
+-- The members of a list have its leaves.
+leaves_nth : (P : Leaf → Type 0) (ts : Tree) (i : ℕ) → i < count ts → Leaves P ts → Leaves P (nth i ts)
+leaves_nth P (cons t ts) zero l h = h.0
+leaves_nth P (cons t ts) (suc i) l h = leaves_nth P ts i (omega (arith, l)) h.1
+leaves_nth P t i l h = absurd (omega (arith, l))
 
-takes_branch : (M : Manner) → IsManner M → (c : Items) (v : Variance) (t : Tree) (i : ℕ) → i < count (branches_of t) →
-    M.takes v t → M.takes (part_at c value_branch i v) (nth i (branches_of t))
-takes_branch M is c v (node value_branch ts) i l k = is.takes_parts c value_branch ts i v l k
-takes_branch M is c v t i l k = absurd (omega (arith, l))
+leaves_map : (P Q : Leaf → Type 0) → ((l : Leaf) → P l → Q l) → (t : Tree) → Leaves P t → Leaves Q t
+leaves_map P Q f (leaf l) h = f l h
+leaves_map P Q f (node g ts) h = leaves_map P Q f ts h
+leaves_map P Q f (bind ks t) h = leaves_map P Q f t h
+leaves_map P Q f nil h = tt
+leaves_map P Q f (cons t ts) h = (leaves_map P Q f t h.0, leaves_map P Q f ts h.1)
 
-takes_const_part : (M : Manner) → IsManner M → (c : Items) (v : Variance) (t : Tree) (i : ℕ) →
-    i < count (const_parts_of t) → M.takes v t → M.takes (part_at c (const_head_of t) i v) (nth i (const_parts_of t))
-takes_const_part M is c v (node (expression k) ts) i l h = is.takes_parts c (expression k) ts i v l h
-takes_const_part M is c v (node value (cons t (cons u nil))) i l h =
-    takes_branch M is c v u i l (subst (λ z. M.takes z u) (covariantly v)
-    (is.takes_parts c value (cons t (cons u nil)) 1 v (omega arith) h))
-takes_const_part M is c v t i l h = absurd (omega (arith, l))
+module _ (M : Manner) (is : TakesParts M) (c : Items) (v : Variance) where
+  -- What is taken at a variance has parts that are taken at theirs.
+  takes_part : (h : Head) (ts : Tree) (i : ℕ) → i < count ts → Leaves (M.takes v) ts →
+      Leaves (M.takes (part_at c h i v)) (nth i ts)
+  takes_part h ts i l k =
+      leaves_map (M.takes v) (M.takes (part_at c h i v)) (λ x. is c h i v x) (nth i ts)
+      (leaves_nth (M.takes v) ts i l k)
+
+  parts_taken : (P : Leaf → Type 0) (t : Tree) → Leaves P t → Leaves P (parts_of t)
+  parts_taken P (node h ts) k = k
+  parts_taken P t k = tt
+
+  branches_taken : (P : Leaf → Type 0) (t : Tree) → Leaves P t → Leaves P (branches_of t)
+  branches_taken P (node value_branch ts) k = k
+  branches_taken P t k = tt
+
+  const_parts_taken : (P : Leaf → Type 0) (t : Tree) → Leaves P t → Leaves P (const_parts_of t)
+  const_parts_taken P (node (expression k) ts) h = h
+  const_parts_taken P (node value (cons t (cons u nil))) h = branches_taken P u h.1.0
+  const_parts_taken P t h = tt
+
+  takes_ty_part : (t : Tree) (i : ℕ) → i < count (parts_of t) → Takes M v t →
+      Takes M (part_at c (head_of t) i v) (nth i (parts_of t))
+  takes_ty_part t i l k = takes_part (head_of t) (parts_of t) i l (parts_taken (M.takes v) t k)
+
+  takes_const_part : (t : Tree) (i : ℕ) → i < count (const_parts_of t) → Takes M v t →
+      Takes M (part_at c (const_head_of t) i v) (nth i (const_parts_of t))
+  takes_const_part t i l k =
+      takes_part (const_head_of t) (const_parts_of t) i l (const_parts_taken (M.takes v) t k)
 
 some_part : (i n : ℕ) → i < n → 0 < n
 some_part i n h = omega (arith, h)
 
-module _ {Key Id Name : Type 0} (M : Manner) (is : IsManner M) (r q : State Key Id Name) (a b : Tree) (i : ℕ)
+module _ {Key Id Name : Type 0} (M : Manner) (is : TakesParts M) (r q : State Key Id Name) (a b : Tree) (i : ℕ)
     (x y : Tree) (kx : IsTrue (known x)) (ky : IsTrue (known y)) (k : Asked M r r.ambient a b) where
   -- Of types.
   module _ (f : Fronted r q (head_of a) r.ambient i (parts_of a) (parts_of b)) (lx : i < count (parts_of a))
@@ -60,9 +83,9 @@ module _ {Key Id Name : Type 0} (M : Manner) (is : IsManner M) (r q : State Key 
               (nth i (parts_of a)) (in_part r.store a i lx k.left_in));
           right_in = subst (IsTermIn q.store) (sym ey) (later_term r.store q.store l.grows l.universe_stands
               (nth i (parts_of b)) (in_part r.store b i ly k.right_in));
-          left_taken = subst₂ (λ v t. M.takes v t) (sym ew) (sym ex) (takes_part M is (items_in r) r.ambient a i lx
+          left_taken = subst₂ (Takes M) (sym ew) (sym ex) (takes_ty_part M is (items_in r) r.ambient a i lx
               k.left_taken);
-          right_taken = subst₂ (λ v t. M.takes v t) (sym eu) (sym ey) (takes_part M is (items_in r) r.ambient b i ly
+          right_taken = subst₂ (Takes M) (sym eu) (sym ey) (takes_ty_part M is (items_in r) r.ambient b i ly
               k.right_taken);
         }
 
@@ -92,9 +115,9 @@ module _ {Key Id Name : Type 0} (M : Manner) (is : IsManner M) (r q : State Key 
               (nth i (const_parts_of a)) (in_const_part r.store a i lx k.left_in));
           right_in = subst (IsTermIn q.store) (sym ey) (later_term r.store q.store l.grows l.universe_stands
               (nth i (const_parts_of b)) (in_const_part r.store b i ly k.right_in));
-          left_taken = subst₂ (λ v t. M.takes v t) (sym ew) (sym ex) (takes_const_part M is (items_in r) r.ambient a i lx
+          left_taken = subst₂ (Takes M) (sym ew) (sym ex) (takes_const_part M is (items_in r) r.ambient a i lx
               k.left_taken);
-          right_taken = subst₂ (λ v t. M.takes v t) (sym eu) (sym ey) (takes_const_part M is (items_in r) r.ambient b i
+          right_taken = subst₂ (Takes M) (sym eu) (sym ey) (takes_const_part M is (items_in r) r.ambient b i
               ly k.right_taken);
         }
 

@@ -21,7 +21,7 @@ use Rattle.type_relations.specs.Stores.{Store, weight}
 use Rattle.type_relations.specs.Goals.{Goal, GoalInContext, Holds, Relates, Asked as Asks, asked, asks_too_much, asks_nothing, IsQuiet, AsksNoPair, HasOneTree, MakesOneTree}
 use Rattle.type_relations.specs.Outcomes.{Outcome, NeverOne}
 use Rattle.type_relations.specs.Measures.{grown, Goes}
-use Rattle.type_relations.specs.Lawful.{State, Manner, IsManner, Passes, Asked, Refuses, Answers, Verdict, Related, Leads}
+use Rattle.type_relations.specs.Lawful.{State, Manner, MayAnswer, Passes, Asked, Refuses, Answers, Verdict, Related, Leads}
 use Rattle.type_relations.specs.Lawful.{LeadsToParts, LeadsAgain, Noted, Turned, Stepped, OnlyMemory, declared_by, items_in}
 use Rattle.type_relations.proofs.Going.{goes_nowhere, goes_within, goes_then, le_grown, later_itself, later_through}
 use Rattle.type_relations.proofs.Composing.{steps_compose, goals_both, first_goals}
@@ -159,7 +159,7 @@ module _ {Key Id Name : Type 0} where
       passes = passes_then g f.passes small;
       verdict = record {
         outcome = led_outcome g f.passes a b x y (xform r.ambient v) led.leads (f.verdict).outcome;
-        answer = subst (M.answers p.store a) (sym e) (led.answers p.store ((f.passes).goes).later);
+        answer = subst (MayAnswer M p.store a) (sym e) (led.answers p.store ((f.passes).goes).later);
         known = subst (λ u. IsTrue (known u)) (sym e) (led.read_asked).left_known;
       };
     }
@@ -173,7 +173,7 @@ module _ {Key Id Name : Type 0} where
     }
 
   -- What is noted after two terms were related leaves them so.
-  module _ {X Y : Type 0} {r q p : State Key Id Name} (M : Manner) (is : IsManner M) (v : Variance) (a b : Tree)
+  module _ {X Y : Type 0} {r q p : State Key Id Name} (M : Manner) (v : Variance) (a b : Tree)
       (tree : X → Tree) (t : X) (f : Related M r q v a b tree (Ok t)) (note : Result Y (RelateFault Key Id Name))
       (h : Noted q p note) where
     both : Passes (weight r.store a + weight r.store b) r p
@@ -211,8 +211,8 @@ module _ {Key Id Name : Type 0} where
       passes = both;
       verdict = record {
         outcome = outcome;
-        answer = subst (M.answers p.store a) (sym e)
-            (is.answers_later q.store p.store a (tree t) ((h.passes).goes).later (f.verdict).answer);
+        answer = subst (MayAnswer M p.store a) (sym e)
+            (λ k w s sat. (f.verdict).answer k w s (((h.passes).goes).later.shrinks w s sat));
         known = subst (λ u. IsTrue (known u)) (sym e) (f.verdict).known;
       };
     }
@@ -255,7 +255,7 @@ module _ {Key Id Name : Type 0} where
       outcome = subst₂ (λ s k. Outcome (items_in r) r.environment (at v) s k r.goals added a b) there.store (sym back.store)
           (moved (at v) t.store q.store added a b (ap (λ m. declared_by m.variances) there.meaning) there.environment
           there.goals h.outcome);
-      answer = subst (λ s. M.answers s a z) (sym back.store) h.answer;
+      answer = subst (λ s. MayAnswer M s a z) (sym back.store) h.answer;
       known = h.known;
     }
 
@@ -270,10 +270,10 @@ module _ {Key Id Name : Type 0} where
         verdict (Err e) h = turned_refuses e h
 
   -- Nothing is to be done at bivariance.
-  pub unlooked : {X : Type 0} (M : Manner) (is : IsManner M) (r : State Key Id Name) (v : Variance) (a b : Tree)
+  pub unlooked : {X : Type 0} (M : Manner) (r : State Key Id Name) (v : Variance) (a b : Tree)
       (tree : X → Tree) (x : X) → v ≡ Bivariant → IsTrue (known a) → tree x ≡ a → Related M r r v a b tree (Ok x)
   unfolding passes_nowhere
-  unlooked M is r v a b tree x e k same = record {
+  unlooked M r v a b tree x e k same = record {
     passes = passes_nowhere (weight r.store a + weight r.store b) r;
     verdict = record {
       outcome = record {
@@ -282,7 +282,7 @@ module _ {Key Id Name : Type 0} where
         relates = λ w s sat all. anything e;
         keeps = λ w s sat one. (s, (λ k n h. refl), (sat, All-nil (MakesOneTree s)));
       };
-      answer = subst (M.answers r.store a) (sym same) (is.answers_itself r.store a);
+      answer = subst (MayAnswer M r.store a) (sym same) (λ k w s sat. refl);
       known = subst (λ u. IsTrue (known u)) (sym same) k;
     };
   }

@@ -24,8 +24,10 @@ use Rattle.type_relations.specs.Outcomes.{Outcome}
 use Rattle.type_relations.specs.Measures.{Goes}
 use Rattle.type_relations.specs.Parts.{IsFormed}
 use Rattle.type_relations.specs.Lawful.{declared_by, State, Manner, Passes, Asked, Related, Stepped, items_in}
-use Rattle.type_relations.specs.Plain.{constraint_at, constraint_of, as_is, plain_store, plain_state, plain_manner}
+use Rattle.type_relations.specs.Constraints.{constraint_at, constraint_of}
+use Rattle.type_relations.specs.Plain.{as_is, plain_store, plain_state, plain_manner}
 use Rattle.type_relations.proofs.Trees.{all_leaves, apply_own, own_other}
+use Rattle.type_relations.proofs.Constraints.{asked_in, asked_relates, asked_met}
 use Rattle.type_relations.proofs.Standing.{made_of_term, term_within, term_sort_of}
 use Rattle.type_relations.proofs.Growing.{constraint_sound, constraint_is_later, constraint_bound, constraint_weight}
 use Rattle.type_relations.proofs.Growing.{constraint_holds, constraint_keeps}
@@ -100,30 +102,6 @@ module _ {Key Id Name : Type 0} (m : Meaning Key Id Name) where
   region_stays cs s nil h = absurd h.0
   region_stays cs s (cons t ts) h = absurd h.0
 
-  -- What is asked of two regions at a variance is of the store, makes them related, and is met where they are one.
-  module _ (st : Store) (a b : RegionKey Key) where
-    asked_in : (v : Variance) → IsRegionIn st (m.region a) → IsRegionIn st (m.region b) →
-        IfSome (constraint_at v a b) (λ c. ConstraintIn st (constraint_of m c))
-    asked_in Covariant h k = (h, k)
-    asked_in Contravariant h k = (k, h)
-    asked_in Invariant h k = (h, k)
-    asked_in Bivariant h k = tt
-
-    asked_relates : (w : Interpretation) (s : Assign) (v : Variance) →
-        IfSome (constraint_at v a b) (λ c. ConstraintHolds w s (constraint_of m c) →
-        RegionRule w v (apply s (m.region a)) (apply s (m.region b)))
-    asked_relates w s Covariant = λ h. h
-    asked_relates w s Contravariant = λ h. h
-    asked_relates w s Invariant = λ h. h
-    asked_relates w s Bivariant = tt
-
-    asked_met : (w : Interpretation) (s : Assign) (v : Variance) → apply s (m.region a) ≡ apply s (m.region b) →
-        IfSome (constraint_at v a b) (λ c. ConstraintHolds w s (constraint_of m c))
-    asked_met w s Covariant e = itself e
-    asked_met w s Contravariant e = itself (sym e)
-    asked_met w s Invariant e = (itself e, itself (sym e))
-    asked_met w s Bivariant e = tt
-
   -- A constraint was recorded.
   module _ (v : Variance) (cs : List (RegionConstraint Key)) (c : RegionConstraint Key)
       (is_in : ConstraintIn (plain_store m cs) (constraint_of m c)) where
@@ -170,17 +148,17 @@ module _ {Key Id Name : Type 0} (m : Meaning Key Id Name) where
 
     of_store : ConstraintIn (plain_store m cs) (constraint_of m c)
     of_store = subst (λ o. IfSome o (λ c. ConstraintIn (plain_store m cs) (constraint_of m c))) is
-        (asked_in (plain_store m cs) a b v left right)
+        (asked_in m (plain_store m cs) a b v left right)
 
     relates : (w : Interpretation) (s : Assign) → ConstraintHolds w s (constraint_of m c) →
         RegionRule w v (apply s (m.region a)) (apply s (m.region b))
     relates w s = subst (λ o. IfSome o (λ c. ConstraintHolds w s (constraint_of m c) →
-        RegionRule w v (apply s (m.region a)) (apply s (m.region b)))) is (asked_relates (plain_store m cs) a b w s v)
+        RegionRule w v (apply s (m.region a)) (apply s (m.region b)))) is (asked_relates m a b w s v)
 
     met : (w : Interpretation) (s : Assign) → apply s (m.region a) ≡ apply s (m.region b) →
         ConstraintHolds w s (constraint_of m c)
     met w s e = subst (λ o. IfSome o (λ c. ConstraintHolds w s (constraint_of m c))) is
-        (asked_met (plain_store m cs) a b w s v e)
+        (asked_met m a b w s v e)
 
     outcome : Outcome (items_in (plain_state m v cs)) (node environment nil) (at v) (plain_store m cs)
         (plain_store m (cs ++ c ∷ [])) [] [] (m.region a) (m.region b)
@@ -207,7 +185,7 @@ module _ {Key Id Name : Type 0} (m : Meaning Key Id Name) where
     unfolding recorded_passes
     itself_answered k = record {
       passes = recorded_passes v cs c of_store _;
-      verdict = record { outcome = outcome; answer = refl; known = k };
+      verdict = record { outcome = outcome; answer = λ k w s sat. refl; known = k };
     }
 
     pub regions_related : (ds : List (RegionConstraint Key)) (x : RegionKey Key) → ds ≡ cs ++ c ∷ [] → x ≡ a →

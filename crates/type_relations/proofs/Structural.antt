@@ -22,7 +22,7 @@ use Rattle.type_relations.specs.Errors.{ErrorOf, IsHandedOn, of_parts, of_length
 use Rattle.type_relations.specs.Errors.{AreOfOneConst, AreOfOneValue, values, expressions, const_parameters, one_value, as_many_branches}
 use Rattle.type_relations.specs.Parts.{IsFormed, IsFormedConst, parts_of, const_parts_of, branches_of, head_of, const_head_of}
 use Rattle.type_relations.specs.Handing.{IsPassedOn, IsNoLength, IsFaultOfTy, passed, sized, IsPassedOnConst, IsFaultOfConst, passed_const, whole}
-use Rattle.type_relations.specs.Lawful.{State, Manner, IsManner, Passes, Refuses, Answers, Related, items_in}
+use Rattle.type_relations.specs.Lawful.{State, Manner, MayAnswer, Passes, Refuses, Answers, Related, items_in}
 use Rattle.type_relations.proofs.Passing.{passes_within}
 use Rattle.type_relations.proofs.Fronts.{Fronted, AreParts, fronted_never, fronted_all, fronted_passes}
 use Rattle.type_relations.proofs.OneParts.{related_head, parts_equal, const_parts_equal, sort_is}
@@ -165,12 +165,12 @@ module _ {Key Id Name : Type 0} {r q : State Key Id Name} (M : Manner) (v : Vari
   types_relate is_formed (parameters d e p) f are ea eb w s sat all =
       subst₂ (λ x y. Rel (items_in r) w r.environment (at v) (apply s x) (apply s y)) (sym d) (sym e) (atoms p)
 
-  pub types_related : {X : Type 0} (is : IsManner M) (tree : X → Tree) (x : X) → IsFormed a → AreOfOneForm a b →
+  pub types_related : {X : Type 0} (tree : X → Tree) (x : X) → IsFormed a → AreOfOneForm a b →
       Fronted r q (head_of a) v i (parts_of a) (parts_of b) → AreParts r.store (parts_of a) (parts_of b) →
       i ≡ count (parts_of a) → i ≡ count (parts_of b) → tree x ≡ a → IsTrue (known a) →
       Related M r q v a b tree (Ok x)
   unfolding passes_within
-  types_related is tree x is_formed o f are ea eb answer k = record {
+  types_related tree x is_formed o f are ea eb answer k = record {
     passes = passes_within (omega (arith, weight_parts_most r.store a, weight_parts_most r.store b)) f.passes;
     verdict = record {
       outcome = record {
@@ -179,7 +179,7 @@ module _ {Key Id Name : Type 0} {r q : State Key Id Name} (M : Manner) (v : Vari
         relates = types_relate is_formed o f are ea eb;
         keeps = λ w s sat z. (f.front).keeps w s sat (parts_equal a b o s z);
       };
-      answer = subst (M.answers q.store a) (sym answer) (is.answers_itself q.store a);
+      answer = subst (MayAnswer M q.store a) (sym answer) (λ k w s sat. refl);
       known = subst (λ u. IsTrue (known u)) (sym answer) k;
     };
   }

@@ -24,7 +24,7 @@ use Rattle.type_relations.specs.Errors.{ErrorOf, of_parts, of_branches, of_kinds
 use Rattle.type_relations.specs.Errors.{AreOfOneConst, AreOfOneValue, values, expressions, const_parameters, one_value, as_many_branches}
 use Rattle.type_relations.specs.Parts.{IsFormed, IsFormedConst, const_parts_of, branches_of, const_head_of}
 use Rattle.type_relations.specs.Handing.{IsPassedOnConst, IsFaultOfConst, passed_const, whole}
-use Rattle.type_relations.specs.Lawful.{State, Manner, IsManner, Passes, Refuses, Answers, Related, items_in}
+use Rattle.type_relations.specs.Lawful.{State, Manner, MayAnswer, Passes, Refuses, Answers, Related, items_in}
 use Rattle.type_relations.proofs.Passing.{passes_within, passes_nowhere}
 use Rattle.type_relations.proofs.Fronts.{Fronted, AreParts, fronted_never, fronted_all, fronted_passes}
 use Rattle.type_relations.proofs.Structural.{same_const_fault, consts_never}
@@ -167,12 +167,12 @@ module _ {Key Id Name : Type 0} {r q : State Key Id Name} (M : Manner) (v : Vari
   consts_relate (const_parameters d e p) f are ea eb w s sat all =
       subst₂ (λ j l. Rel (items_in r) w r.environment (at v) (apply s j) (apply s l)) (sym d) (sym e) (atoms p)
 
-  pub consts_related : {X : Type 0} (is : IsManner M) (tree : X → Tree) (x : X) → AreOfOneConst a b →
+  pub consts_related : {X : Type 0} (tree : X → Tree) (x : X) → AreOfOneConst a b →
       Fronted r q (const_head_of a) v i (const_parts_of a) (const_parts_of b) →
       AreParts r.store (const_parts_of a) (const_parts_of b) → i ≡ count (const_parts_of a) →
       i ≡ count (const_parts_of b) → tree x ≡ a → IsTrue (known a) → Related M r q v a b tree (Ok x)
   unfolding passes_within
-  consts_related is tree x o f are ea eb answer k = record {
+  consts_related tree x o f are ea eb answer k = record {
     passes = passes_within (omega (arith, weight_const_parts_most r.store a, weight_const_parts_most r.store b)) f.passes;
     verdict = record {
       outcome = record {
@@ -181,17 +181,17 @@ module _ {Key Id Name : Type 0} {r q : State Key Id Name} (M : Manner) (v : Vari
         relates = consts_relate o f are ea eb;
         keeps = λ w s sat z. (f.front).keeps w s sat (const_parts_equal a b o s z);
       };
-      answer = subst (M.answers q.store a) (sym answer) (is.answers_itself q.store a);
+      answer = subst (MayAnswer M q.store a) (sym answer) (λ k w s sat. refl);
       known = subst (λ u. IsTrue (known u)) (sym answer) k;
     };
   }
 
 module _ {Key Id Name : Type 0} {X : Type 0} (M : Manner) (r : State Key Id Name) (v : Variance) (tree : X → Tree) where
   -- One term is related with itself.
-  pub itself_related : (is : IsManner M) (a b : Tree) (x : X) → a ≡ b → tree x ≡ a → IsTrue (known a) →
+  pub itself_related : (a b : Tree) (x : X) → a ≡ b → tree x ≡ a → IsTrue (known a) →
       Related M r r v a b tree (Ok x)
   unfolding passes_nowhere
-  itself_related is a b x e answer k = record {
+  itself_related a b x e answer k = record {
     passes = passes_nowhere (weight r.store a + weight r.store b) r;
     verdict = record {
       outcome = record {
@@ -200,7 +200,7 @@ module _ {Key Id Name : Type 0} {X : Type 0} (M : Manner) (r : State Key Id Name
         relates = λ w s sat all. same (ap (apply s) e);
         keeps = λ w s sat one. (s, (λ k n h. refl), (sat, λ k d h. absurd (omega (arith, h))));
       };
-      answer = subst (M.answers r.store a) (sym answer) (is.answers_itself r.store a);
+      answer = subst (MayAnswer M r.store a) (sym answer) (λ k w s sat. refl);
       known = subst (λ u. IsTrue (known u)) (sym answer) k;
     };
   }

@@ -2,8 +2,8 @@
 use Rattle.std.specs.Prelude.{◌≡◌, ℕ, suc, ◌+◌, ◌≤◌, ◌<◌, List, ◌++◌, All, IsTrue, Result, Ok, Err, get_or, None}
 use Rattle.relation_terms.specs.declared.terms.enums.Variance.{Variance}
 use Rattle.relation_terms.specs.declared.terms.enums.Variance.TheVariants.{Invariant}
-use Rattle.relation_terms.specs.Heads.{Head}
-use Rattle.relation_terms.specs.Trees.{Tree, node, IsList, known, count, nth}
+use Rattle.relation_terms.specs.Heads.{Head, Leaf}
+use Rattle.relation_terms.specs.Trees.{Tree, Leaves, Assign, apply, known}
 use Rattle.relation_terms.specs.Meaning.{Meaning, Extends as ExtendsMeaning}
 use Rattle.relation_terms.specs.Variances.{xform}
 use Rattle.relation_tools.specs.declared.error.TypeError.{TypeError}
@@ -40,23 +40,24 @@ pub record State (Key Id Name : Type 0) : Type 1 where
 abbrev pub items_in : {Key Id Name : Type 0} → State Key Id Name → Items
 items_in r = declared_by (r.meaning).variances
 
--- What a relation takes and gives: which terms it takes at a variance, what it may answer for the left side of a pair by
--- what is recorded, and whether it promises to be exact.
+-- What a relation takes and gives: which leaves may stand in terms at a variance; whether it promises that what it
+-- answers for a pair has the left side's value; and whether it promises to be exact.
 pub record Manner : Type 1 where
-  pub takes : Variance → Tree → Type 0
-  pub answers : Store → Tree → Tree → Type 0
+  pub takes : Variance → Leaf → Type 0
+  pub keeps_value : Type 0
   pub is_exact : Type 0
 
--- A manner is lawful: the parts of what is taken are taken; a term may stand for itself, a form over answers for its
--- parts for the form; and what may be answered may be answered later.
-pub record IsManner (M : Manner) : Type 0 where
-  pub takes_parts : (c : Items) (h : Head) (ts : Tree) (i : ℕ) (v : Variance) → i < count ts →
-      M.takes v (node h ts) → M.takes (part_at c h i v) (nth i ts)
-  pub answers_itself : (st : Store) (t : Tree) → M.answers st t t
-  pub answers_forms : (st : Store) (h : Head) (ts us : Tree) → IsList ts → IsList us → count ts ≡ count us →
-      ((i : ℕ) → i < count ts → M.answers st (nth i ts) (nth i us)) → M.answers st (node h ts) (node h us)
-  pub answers_later : (before after : Store) (t u : Tree) → IsLater before after → M.answers before t u →
-      M.answers after t u
+-- A term is taken at a variance: its leaves may stand there.
+abbrev pub Takes : Manner → Variance → Tree → Type 0
+Takes M v t = Leaves (M.takes v) t
+
+-- What may stand in a form may stand in its parts, at their variances.
+abbrev pub TakesParts : Manner → Type 0
+TakesParts M = (c : Items) (h : Head) (i : ℕ) (v : Variance) (l : Leaf) → M.takes v l → M.takes (part_at c h i v) l
+
+-- What may be answered for a term: one of its value under each assignment that satisfies what is recorded.
+abbrev pub MayAnswer : Manner → Store → Tree → Tree → Type 0
+MayAnswer M st t u = M.keeps_value → (w : Interpretation) (s : Assign) → Satisfies w st s → apply s t ≡ apply s u
 
 module _ {Key Id Name : Type 0} where
   -- Only the variance at which a relation relates was changed.
@@ -66,15 +67,6 @@ module _ {Key Id Name : Type 0} where
     pub goals : q.goals ≡ r.goals
     pub environment : q.environment ≡ r.environment
     pub ambient : q.ambient ≡ v
-    pub lawful : r.lawful → q.lawful
-
-  -- Only the interner's keys were added to.
-  pub record WithMeaning (r : State Key Id Name) (m : Meaning Key Id Name) (q : State Key Id Name) : Type 0 where
-    pub meaning : q.meaning ≡ m
-    pub store : q.store ≡ r.store
-    pub goals : q.goals ≡ r.goals
-    pub environment : q.environment ≡ r.environment
-    pub ambient : q.ambient ≡ r.ambient
     pub lawful : r.lawful → q.lawful
 
   -- From one state to another with a pair of size `n` related, or a part of the work for it done: keys mean what they
@@ -95,8 +87,8 @@ module _ {Key Id Name : Type 0} where
     pub right_known : IsTrue (known b)
     pub left_in : IsTermIn r.store a
     pub right_in : IsTermIn r.store b
-    pub left_taken : M.takes v a
-    pub right_taken : M.takes v b
+    pub left_taken : Takes M v a
+    pub right_taken : Takes M v b
 
   -- What a fault says of two terms: a type error that no assignment makes them one, and which error it is, over known
   -- terms; a spent budget that nothing is left of it; want of memory nothing.
@@ -108,7 +100,7 @@ module _ {Key Id Name : Type 0} where
   -- What an answer says of two terms at a variance: they are related, no equal pair is lost, and a known term is answered.
   pub record Answers (M : Manner) (r q : State Key Id Name) (added : List Goal) (v : Variance) (a b t : Tree) : Type 0 where
     pub outcome : Outcome (items_in r) r.environment (at v) r.store q.store r.goals added a b
-    pub answer : M.answers q.store a t
+    pub answer : MayAnswer M q.store a t
     pub known : IsTrue (known t)
 
   -- What a result says of two terms.
@@ -137,7 +129,7 @@ module _ {Key Id Name : Type 0} where
     pub asked : Asked M q r.ambient x y
     pub left_form : IsForm x
     pub right_form : IsForm y
-    pub answers : (st : Store) (t : Tree) → IsLater q.store st → M.answers st x t → M.answers st a t
+    pub answers : (st : Store) (t : Tree) → IsLater q.store st → MayAnswer M st x t → MayAnswer M st a t
     pub same_budget : (q.store).budget ≡ (r.store).budget
     pub not_larger : weight q.store x + weight q.store y ≤ weight r.store a + weight r.store b
 
@@ -149,7 +141,7 @@ module _ {Key Id Name : Type 0} where
     pub read_leads : Leads r q added read_left read_right (xform r.ambient v) x y
     pub read_asked : Asked M q r.ambient read_left read_right
     pub asked : Asked M q (xform r.ambient v) x y
-    pub answers : (st : Store) → IsLater q.store st → M.answers st a read_left
+    pub answers : (st : Store) → IsLater q.store st → MayAnswer M st a read_left
     pub falls : (r.store).budget ≡ suc (q.store).budget
     pub not_larger : weight q.store x + weight q.store y ≤ grown 1 (weight r.store a + weight r.store b)
 

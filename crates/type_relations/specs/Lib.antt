@@ -18,4 +18,5 @@ pub mod Parts
 pub mod Handing
 pub mod Lawful
 pub mod Plain
-pub mod PlainLaws
+pub mod Constraints
+pub mod Taken

@@ -8,7 +8,8 @@ ghost use Rattle.relation_terms.specs.Trees.{node, nil};
 ghost use Rattle.type_relations.specs.Relation.{Interpretation, Rel, at};
 ghost use Rattle.type_relations.specs.Stores.{ConstraintHolds, IsSound};
 ghost use Rattle.type_relations.specs.Lawful.{Asked, declared_by};
-ghost use Rattle.type_relations.specs.Plain.{constraint_at, constraint_of, as_is, plain_store, plain_state, plain_manner};
+ghost use Rattle.type_relations.specs.Constraints.{constraint_at, constraint_of};
+ghost use Rattle.type_relations.specs.Plain.{as_is, plain_store, plain_state, plain_manner};
 
 use crate::relate::structural::tys;
 use crate::relate::{Step, TypeRelation};
@@ -83,7 +84,6 @@ fn constraint<X: Dup>(
 
 impl<I: Interner> TypeRelation<I> for PlainRelation<I> {
     ghost use Rattle.std.specs.Prelude.{refl};
-    ghost use Rattle.type_relations.specs.PlainLaws.{plain_is_manner, plain_grows};
 
     ghost state = { λ r. plain_state (I.meaning r.interner) r.ambient r.constraints.items };
 
@@ -157,7 +157,5 @@ impl<I: Interner> TypeRelation<I> for PlainRelation<I> {
 
     ghost sound = { λ r l. l };
 
-    ghost takes_forms = { plain_is_manner };
-
-    ghost grows = { λ r cx e l. plain_grows e r.ambient r.constraints.items l };
+    ghost takes_parts = { λ c h i v l t. t };
 }

@@ -1,13 +1,12 @@
 //! Relations in steps, none of which relates anything by itself.
 ghost use Rattle.std.specs.Prelude.{◌≡◌, ◌≢◌, IfSome, IfNone};
 ghost use Rattle.std.specs.Borrow.{sem, Lends};
-ghost use Rattle.relation_terms.specs.Meaning.{Extends};
 ghost use Rattle.relation_terms.specs.declared.terms.enums.Variance.{Variance};
 ghost use Rattle.relation_terms.specs.declared.terms.enums.Variance.TheVariants.{Invariant, Bivariant};
 ghost use Rattle.type_relations.specs.Stores.{IsSound};
 ghost use Rattle.type_relations.specs.Goals.{Relates};
 ghost use Rattle.type_relations.specs.Parts.{IsFormed, IsFormedConst};
-ghost use Rattle.type_relations.specs.Lawful.{State, Manner, IsManner, Turned, Asked, Related, Stepped, Noted, items_in, WithMeaning};
+ghost use Rattle.type_relations.specs.Lawful.{State, Manner, TakesParts, Turned, Asked, Related, Stepped, Noted, items_in};
 
 use crate::relate::Step;
 use relation_terms::terms::{Const, GenericArgs, Interner, ItemOf, Region, Ty, Variance};
@@ -30,7 +29,7 @@ pub trait TypeRelation<I: Interner> {
     // The relation with another interner.
     ghost with_interner: { Self → I → Self };
 
-    // Which terms it takes, and what it may answer.
+    // Which terms it takes, and what it promises.
     ghost manner: { Manner };
 
     /// The interner of the terms.
@@ -105,9 +104,6 @@ pub trait TypeRelation<I: Interner> {
     // What a lawful relation has recorded is sound.
     ghost sound: { (r : Self) → (state r).lawful → IsSound (state r).store };
 
-    // What it takes and answers goes through forms.
-    ghost takes_forms: { IsManner manner };
-
-    // Making terms changes nothing but what is known.
-    ghost grows: { (r : Self) (cx : I) → Extends (state r).meaning (I.meaning cx) → (state r).lawful → WithMeaning (state r) (I.meaning cx) (state (with_interner r cx)) };
+    // What it takes goes through forms.
+    ghost takes_parts: { TakesParts manner };
 }

@@ -288,13 +288,12 @@ tys-returns-in_err-tys_done-in-Parts g t c =
     let inner = subst (λ v. Related M q p v x y (p.meaning).ty (Ok z.answer)) (step.passes).ambient z.ensures in
     let done : Related M r p r.ambient a b (p.meaning).ty (Ok z.answer) =
     parts_related M IsFormed a b x y (p.meaning).ty (Ok z.answer) step.passes step.verdict inner in
-    let is = g.met.R.TypeRelation.takes_forms in
     let u = g.R.TypeRelation.state c.tys_done.new.self in
     let e = c.in_err-tys_done-in-Parts in
     let failed = as_err c.from_residual-in_err-tys_done-in-Parts.result e.field-0.0
     c.from_residual-in_err-tys_done-in-Parts.ensures.0 c.from_residual-in_err-tys_done-in-Parts.ensures.1 in
     subst (λ z. Related M r u r.ambient a b (u.meaning).ty z) (sym failed)
-    (noted_refused M is r.ambient a b (p.meaning).ty z.answer done (Err e.field-0.0) e.ensures (u.meaning).ty e.field-0.0 refl)
+    (noted_refused M r.ambient a b (p.meaning).ty z.answer done (Err e.field-0.0) e.ensures (u.meaning).ty e.field-0.0 refl)
 
 pub tys-returns-in_ok-tys_done-in-Parts : goal.tys-returns-in_ok-tys_done-in-Parts
 tys-returns-in_ok-tys_done-in-Parts g t c =
@@ -311,10 +310,9 @@ tys-returns-in_ok-tys_done-in-Parts g t c =
     let inner = subst (λ v. Related M q p v x y (p.meaning).ty (Ok z.answer)) (step.passes).ambient z.ensures in
     let done : Related M r p r.ambient a b (p.meaning).ty (Ok z.answer) =
     parts_related M IsFormed a b x y (p.meaning).ty (Ok z.answer) step.passes step.verdict inner in
-    let is = g.met.R.TypeRelation.takes_forms in
     let u = g.R.TypeRelation.state c.tys_done.new.self in
     let n = c.in_ok-tys_done-in-Parts in
-    noted_related M is r.ambient a b (p.meaning).ty z.answer done (Ok n.field-0) n.ensures (u.meaning).ty
+    noted_related M r.ambient a b (p.meaning).ty z.answer done (Ok n.field-0) n.ensures (u.meaning).ty
     ((((n.ensures).passes).extends).ty z.answer (done.verdict).known)
 
 pub tys-tys_done-requires-in-Again-clause-asked : goal.tys-tys_done-requires-in-Again-clause-asked
@@ -396,13 +394,12 @@ tys-returns-in_err-tys_done-in-Again g t c =
     let done : Related M r p r.ambient a b (p.meaning).ty (Ok c.in-Again.a) =
     again_related M a b k l x y v step.passes step.verdict (arg_tree p.meaning) c.in_ok-relate_with_variance-in-Again.field-0 (p.meaning).ty
     c.in-Again.a same_k inner in
-    let is = g.met.R.TypeRelation.takes_forms in
     let u = g.R.TypeRelation.state c.tys_done-in-Again.new.self in
     let e = c.in_err-tys_done-in-Again in
     let failed = as_err c.from_residual-in_err-tys_done-in-Again.result e.field-0.0
     c.from_residual-in_err-tys_done-in-Again.ensures.0 c.from_residual-in_err-tys_done-in-Again.ensures.1 in
     subst (λ z. Related M r u r.ambient a b (u.meaning).ty z) (sym failed)
-    (noted_refused M is r.ambient a b (p.meaning).ty c.in-Again.a done (Err e.field-0.0) e.ensures (u.meaning).ty e.field-0.0 refl)
+    (noted_refused M r.ambient a b (p.meaning).ty c.in-Again.a done (Err e.field-0.0) e.ensures (u.meaning).ty e.field-0.0 refl)
 
 pub tys-returns-in_ok-tys_done-in-Again : goal.tys-returns-in_ok-tys_done-in-Again
 tys-returns-in_ok-tys_done-in-Again g t c =
@@ -425,10 +422,9 @@ tys-returns-in_ok-tys_done-in-Again g t c =
     let done : Related M r p r.ambient a b (p.meaning).ty (Ok c.in-Again.a) =
     again_related M a b k l x y v step.passes step.verdict (arg_tree p.meaning) c.in_ok-relate_with_variance-in-Again.field-0 (p.meaning).ty
     c.in-Again.a same_k inner in
-    let is = g.met.R.TypeRelation.takes_forms in
     let u = g.R.TypeRelation.state c.tys_done-in-Again.new.self in
     let n = c.in_ok-tys_done-in-Again in
-    noted_related M is r.ambient a b (p.meaning).ty c.in-Again.a done (Ok n.field-0) n.ensures (u.meaning).ty
+    noted_related M r.ambient a b (p.meaning).ty c.in-Again.a done (Ok n.field-0) n.ensures (u.meaning).ty
     ((((n.ensures).passes).extends).ty c.in-Again.a (done.verdict).known)
 
 pub relate-returns-in_default : goal.relate-returns-in_default
@@ -528,11 +524,10 @@ pub relate_with_variance-returns-in-Bivariant : goal.relate_with_variance-return
 relate_with_variance-returns-in-Bivariant g t c =
     let r = g.R.TypeRelation.state c.args.r.now in
     let M = g.R.TypeRelation.manner in
-    let is = g.met.R.TypeRelation.takes_forms in
     let v = xform r.ambient c.args.variance in
     let e : v ≡ Bivariant =
     sym (c.xform-new.ensures ∙ ap (λ z. xform z c.args.variance) c.ambient-old.ensures) ∙ c.in-Bivariant.is in
-    unlooked M is r v (arg_tree r.meaning c.args.a.now) (arg_tree r.meaning c.args.b.now) (arg_tree r.meaning) c.dup.result e
+    unlooked M r v (arg_tree r.meaning c.args.a.now) (arg_tree r.meaning c.args.b.now) (arg_tree r.meaning) c.dup.result e
     (c.requires.asked).left_known (ap (arg_tree r.meaning) c.dup.ensures)
 
 pub relate_with_variance-returns : goal.relate_with_variance-returns
@@ -562,7 +557,6 @@ structurally_relate_consts-returns-then-eq g t c =
     let M = g.R.TypeRelation.manner in
     let a = (r.meaning).const_ c.args.a.now in
     let b = (r.meaning).const_ c.args.b.now in
-    let is = g.met.R.TypeRelation.takes_forms in
     let e = g.met.R.TypeRelation.reads c.args.r.now in
     let cx = g.R.TypeRelation.interner c.args.r.now in
     let k = c.requires.asked in
@@ -570,7 +564,7 @@ structurally_relate_consts-returns-then-eq g t c =
     subst (λ m. IsTrue (known (m.const_ c.args.a.now)) → IsTrue (known (m.const_ c.args.b.now)) →
     (IsTrue (g.I.Key.PartialEq.eq (c.args.a.now).0 (c.args.b.now).0) ↔ (m.const_ c.args.a.now ≡ m.const_ c.args.b.now)))
     (sym e) (g.met.I.Interner.same_const cx c.args.a.now c.args.b.now) k.left_known k.right_known in
-    itself_related M r r.ambient (r.meaning).const_ is a b c.dup.result (same.0 (sym c.if-eq.ensures)) (ap (r.meaning).const_ c.dup.ensures) k.left_known
+    itself_related M r r.ambient (r.meaning).const_ a b c.dup.result (same.0 (sym c.if-eq.ensures)) (ap (r.meaning).const_ c.dup.ensures) k.left_known
 
 pub structurally_relate_consts-compare_consts_of-requires-clause-differ : goal.structurally_relate_consts-compare_consts_of-requires-clause-differ
 structurally_relate_consts-compare_consts_of-requires-clause-differ g t c =
@@ -650,7 +644,7 @@ structurally_relate_consts-relate_with_variance-related-requires g t c κs withi
     let M = g.R.TypeRelation.manner in
     let a = (r.meaning).const_ c.args.a.now in
     let b = (r.meaning).const_ c.args.b.now in
-    let is = g.met.R.TypeRelation.takes_forms in
+    let takes = g.met.R.TypeRelation.takes_parts in
     let q = g.R.TypeRelation.state c.loop-i.r in
     let i = c.loop-i.i in
     let inv = c.loop-i.invariant in
@@ -678,8 +672,8 @@ structurally_relate_consts-relate_with_variance-related-requires g t c κs withi
     let eu : w ≡ part_at (items_in r) (const_head_of b) i r.ambient =
     ew ∙ ap (λ h. part_at (items_in r) h i r.ambient) (const_heads_alike a b alike) in
     let lawful = inv.lawful in
-    let asked = next_const_asked M is r q a b i x y kx ky k inv.fronted lx ly ex ey w ew eu in
-    let under = next_const_under M is r q a b i x y kx ky k inv.fronted lx ly ex ey in
+    let asked = next_const_asked M takes r q a b i x y kx ky k inv.fronted lx ly ex ey w ew eu in
+    let under = next_const_under M takes r q a b i x y kx ky k inv.fronted lx ly ex ey in
     let d = c.decreases in
     search rules
 
@@ -689,7 +683,6 @@ structurally_relate_consts-returns-in_err-in_const g t c =
     let M = g.R.TypeRelation.manner in
     let a = (r.meaning).const_ c.args.a.now in
     let b = (r.meaning).const_ c.args.b.now in
-    let is = g.met.R.TypeRelation.takes_forms in
     let q = g.R.TypeRelation.state c.loop-i.r in
     let i = c.loop-i.i in
     let inv = c.loop-i.invariant in
@@ -738,7 +731,6 @@ structurally_relate_consts-loop-i-preserved g t c =
     let M = g.R.TypeRelation.manner in
     let a = (r.meaning).const_ c.args.a.now in
     let b = (r.meaning).const_ c.args.b.now in
-    let is = g.met.R.TypeRelation.takes_forms in
     let q = g.R.TypeRelation.state c.loop-i.r in
     let i = c.loop-i.i in
     let inv = c.loop-i.invariant in
@@ -791,7 +783,6 @@ structurally_relate_consts-returns g t c =
     let M = g.R.TypeRelation.manner in
     let a = (r.meaning).const_ c.args.a.now in
     let b = (r.meaning).const_ c.args.b.now in
-    let is = g.met.R.TypeRelation.takes_forms in
     let q = g.R.TypeRelation.state c.loop-i.r in
     let i = c.loop-i.i in
     let inv = c.loop-i.invariant in
@@ -804,7 +795,7 @@ structurally_relate_consts-returns g t c =
     let end = (c.loop-i.auto).i-end in
     let left : i ≡ count (const_parts_of a) = omega (arith, test, end, inv.left_count) in
     let right : i ≡ count (const_parts_of b) = omega (arith, test, end, inv.right_count) in
-    consts_related M r.ambient a b i is (q.meaning).const_ c.dup-2.result alike inv.fronted inv.are_parts left right
+    consts_related M r.ambient a b i (q.meaning).const_ c.dup-2.result alike inv.fronted inv.are_parts left right
     (ap (q.meaning).const_ c.dup-2.ensures ∙ same_a) k.left_known
 
 pub structurally_relate_tys-returns-in_err-compare_tys_of : goal.structurally_relate_tys-returns-in_err-compare_tys_of
@@ -870,7 +861,7 @@ structurally_relate_tys-relate_with_variance-related-requires g t c κs within =
     let M = g.R.TypeRelation.manner in
     let a = (r.meaning).ty c.args.a.now in
     let b = (r.meaning).ty c.args.b.now in
-    let is = g.met.R.TypeRelation.takes_forms in
+    let takes = g.met.R.TypeRelation.takes_parts in
     let q = g.R.TypeRelation.state c.loop-i.r in
     let i = c.loop-i.i in
     let inv = c.loop-i.invariant in
@@ -898,8 +889,8 @@ structurally_relate_tys-relate_with_variance-related-requires g t c κs within =
     let eu : w ≡ part_at (items_in r) (head_of b) i r.ambient =
     ew ∙ ap (λ h. part_at (items_in r) h i r.ambient) (heads_alike a b alike) in
     let lawful = inv.lawful in
-    let asked = next_asked M is r q a b i x y kx ky k inv.fronted lx ly ex ey w ew eu in
-    let under = next_under M is r q a b i x y kx ky k inv.fronted lx ly ex ey in
+    let asked = next_asked M takes r q a b i x y kx ky k inv.fronted lx ly ex ey w ew eu in
+    let under = next_under M takes r q a b i x y kx ky k inv.fronted lx ly ex ey in
     let d = c.decreases in
     search rules
 
@@ -909,7 +900,6 @@ structurally_relate_tys-returns-in_err-in_ty g t c =
     let M = g.R.TypeRelation.manner in
     let a = (r.meaning).ty c.args.a.now in
     let b = (r.meaning).ty c.args.b.now in
-    let is = g.met.R.TypeRelation.takes_forms in
     let q = g.R.TypeRelation.state c.loop-i.r in
     let i = c.loop-i.i in
     let inv = c.loop-i.invariant in
@@ -969,7 +959,6 @@ structurally_relate_tys-loop-i-preserved g t c =
     let M = g.R.TypeRelation.manner in
     let a = (r.meaning).ty c.args.a.now in
     let b = (r.meaning).ty c.args.b.now in
-    let is = g.met.R.TypeRelation.takes_forms in
     let q = g.R.TypeRelation.state c.loop-i.r in
     let i = c.loop-i.i in
     let inv = c.loop-i.invariant in
@@ -1022,7 +1011,6 @@ structurally_relate_tys-note_args-requires-clause-asked g t c =
     let M = g.R.TypeRelation.manner in
     let a = (r.meaning).ty c.args.a.now in
     let b = (r.meaning).ty c.args.b.now in
-    let is = g.met.R.TypeRelation.takes_forms in
     let q = g.R.TypeRelation.state c.loop-i.r in
     let i = c.loop-i.i in
     let inv = c.loop-i.invariant in
@@ -1040,7 +1028,6 @@ structurally_relate_tys-returns-in_err-note_args g t c =
     let M = g.R.TypeRelation.manner in
     let a = (r.meaning).ty c.args.a.now in
     let b = (r.meaning).ty c.args.b.now in
-    let is = g.met.R.TypeRelation.takes_forms in
     let q = g.R.TypeRelation.state c.loop-i.r in
     let i = c.loop-i.i in
     let inv = c.loop-i.invariant in
@@ -1054,14 +1041,14 @@ structurally_relate_tys-returns-in_err-note_args g t c =
     let left : i ≡ count (parts_of a) = omega (arith, test, end, inv.left_count) in
     let right : i ≡ count (parts_of b) = omega (arith, test, end, inv.right_count) in
     let done : Related M r q r.ambient a b (q.meaning).ty (Ok c.args.a.now) =
-    types_related M r.ambient a b i is (q.meaning).ty c.args.a.now c.requires.a_formed alike inv.fronted inv.are_parts left
+    types_related M r.ambient a b i (q.meaning).ty c.args.a.now c.requires.a_formed alike inv.fronted inv.are_parts left
     right same_a k.left_known in
     let u = g.R.TypeRelation.state c.note_args.new.r in
     let n = c.in_err-note_args in
     let failed = as_err c.from_residual-in_err-note_args.result n.field-0.0 c.from_residual-in_err-note_args.ensures.0
     c.from_residual-in_err-note_args.ensures.1 in
     subst (λ z. Related M r u r.ambient a b (u.meaning).ty z) (sym failed)
-    (noted_refused M is r.ambient a b (q.meaning).ty c.args.a.now done (Err n.field-0.0) n.ensures (u.meaning).ty n.field-0.0
+    (noted_refused M r.ambient a b (q.meaning).ty c.args.a.now done (Err n.field-0.0) n.ensures (u.meaning).ty n.field-0.0
     refl)
 
 pub structurally_relate_tys-returns : goal.structurally_relate_tys-returns
@@ -1070,7 +1057,6 @@ structurally_relate_tys-returns g t c =
     let M = g.R.TypeRelation.manner in
     let a = (r.meaning).ty c.args.a.now in
     let b = (r.meaning).ty c.args.b.now in
-    let is = g.met.R.TypeRelation.takes_forms in
     let q = g.R.TypeRelation.state c.loop-i.r in
     let i = c.loop-i.i in
     let inv = c.loop-i.invariant in
@@ -1084,10 +1070,10 @@ structurally_relate_tys-returns g t c =
     let left : i ≡ count (parts_of a) = omega (arith, test, end, inv.left_count) in
     let right : i ≡ count (parts_of b) = omega (arith, test, end, inv.right_count) in
     let done : Related M r q r.ambient a b (q.meaning).ty (Ok c.args.a.now) =
-    types_related M r.ambient a b i is (q.meaning).ty c.args.a.now c.requires.a_formed alike inv.fronted inv.are_parts left
+    types_related M r.ambient a b i (q.meaning).ty c.args.a.now c.requires.a_formed alike inv.fronted inv.are_parts left
     right same_a k.left_known in
     let u = g.R.TypeRelation.state c.note_args.new.r in
     let n = c.in_ok-note_args in
     retold M r.ambient a b (u.meaning).ty c.args.a.now (u.meaning).ty c.dup.result (ap (u.meaning).ty c.dup.ensures)
-    (noted_related M is r.ambient a b (q.meaning).ty c.args.a.now done (Ok n.field-0) n.ensures (u.meaning).ty
+    (noted_related M r.ambient a b (q.meaning).ty c.args.a.now done (Ok n.field-0) n.ensures (u.meaning).ty
     ((((n.ensures).passes).extends).ty c.args.a.now (subst (λ z. IsTrue (known z)) (sym same_a) k.left_known)))
