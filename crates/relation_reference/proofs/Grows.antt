@@ -14,7 +14,8 @@ use Rattle.relation_reference.specs.declared.context.inner.TypeVariableValue.{Ty
 use Rattle.relation_reference.specs.declared.context.inner.TypeVariableValue.TheVariants.{Unknown, SameAs, Known}
 use Rattle.relation_reference.specs.declared.context.inner.TypeVariable.{TypeVariable}
 use Rattle.relation_reference.specs.declared.context.inner.InferCtxtInner.{InferCtxtInner}
-use Rattle.relation_reference.specs.Tables.{by_kind, entry_of_value, constraint_of, store_of, IsLawful}
+use Rattle.relation_reference.specs.Tables.{by_kind, entry_of_value, store_of, IsLawful}
+use Rattle.type_relations.specs.Constraints.{constraint_of}
 
 pub both : (a b : Bool) → IsTrue a → IsTrue b → IsTrue (a && b)
 both true b h k = k

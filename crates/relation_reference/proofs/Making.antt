@@ -7,11 +7,9 @@ use Rattle.relation_terms.specs.Heads.{VarKind, type_var, int_var, float_var, co
 use Rattle.relation_terms.specs.Trees.{Tree, leaf, node, bind, nil, cons, IsTerm, Assign, apply}
 use Rattle.relation_terms.specs.Meaning.{Meaning, Extends}
 use Rattle.relation_terms.specs.declared.predicate.RegionConstraint.{RegionConstraint}
-use Rattle.relation_terms.specs.declared.predicate.RegionConstraint.TheVariants.{Eq}
 use Rattle.relation_terms.specs.declared.terms.numbers.UniverseIndex.{UniverseIndex}
-use Rattle.relation_terms.specs.declared.terms.keys.RegionKey.{RegionKey}
-use Rattle.type_relations.specs.Relation.{sort_of, regions, itself}
-use Rattle.type_relations.specs.Stores.{Store, unbound, entry_of, IsSound, IsAssignment, IsTermIn, IsRegionIn, Constraint, equal_constraint}
+use Rattle.type_relations.specs.Relation.{sort_of}
+use Rattle.type_relations.specs.Stores.{Store, unbound, entry_of, IsSound, IsAssignment, IsTermIn, IsRegionIn, Constraint, ConstraintIn}
 use Rattle.type_relations.specs.Steps.{MakesVariable, AddsConstraint, IsLater}
 use Rattle.type_relations.specs.Measures.{Goes}
 use Rattle.type_relations.proofs.Standing.{made_of_term, stands_term, term_sort_of}
@@ -20,8 +18,8 @@ use Rattle.type_relations.proofs.Going.{later_itself, goes_nowhere}
 use Rattle.relation_reference.specs.declared.context.inner.TypeVariableValue.TheVariants.{Unknown}
 use Rattle.relation_reference.specs.declared.context.inner.TypeVariable.{TypeVariable}
 use Rattle.relation_reference.specs.declared.context.inner.InferCtxtInner.{InferCtxtInner}
-use Rattle.relation_reference.specs.Tables.{by_kind, entry_of_value, constraint_of, store_of, IsLawful}
-use Rattle.relation_reference.specs.Answers.{Unites}
+use Rattle.relation_reference.specs.Tables.{by_kind, entry_of_value, store_of, IsLawful}
+use Rattle.type_relations.specs.Constraints.{constraint_of}
 use Rattle.relation_reference.proofs.Grows.{store_grows, lawful_grows}
 
 -- Tables with the same lists.
@@ -178,7 +176,7 @@ region_kind_only int_var h = absurd h
 region_kind_only float_var h = absurd h
 region_kind_only const_var h = absurd h
 
-region_value : (st : Store) (s : Assign) (r : Tree) → IsAssignment st s → IsTerm region_sort r → IsTermIn st r → sort_of (apply s r) ≡ region_sort
+pub region_value : (st : Store) (s : Assign) (r : Tree) → IsAssignment st s → IsTerm region_sort r → IsTermIn st r → sort_of (apply s r) ≡ region_sort
 region_value st s (leaf (variable k n)) a h i = term_sort_of k (s k n) (stands_term k (s k n) (a k n (made_of_term st k n i)).0) ∙ region_kind_only k h
 region_value st s (leaf (bound k d n)) a h i = term_sort_of region_var (leaf (bound k d n)) h
 region_value st s (leaf (placeholder k u n)) a h i = term_sort_of region_var (leaf (placeholder k u n)) h
@@ -189,20 +187,20 @@ region_value st s (bind ks t) a h i = absurd h
 region_value st s nil a h i = absurd h
 region_value st s (cons t u) a h i = absurd h
 
--- A new constraint that two regions are equal.
-module _ {Key Id Name : Type 0} (m : Meaning Key Id Name) (x y : InferCtxtInner Key) (l : IsLawful m x) (a b : RegionKey Key)
-    (a_in : IsRegionIn (store_of m x) (m.region a)) (b_in : IsRegionIn (store_of m x) (m.region b))
+-- A new constraint.
+module _ {Key Id Name : Type 0} (m : Meaning Key Id Name) (x y : InferCtxtInner Key) (l : IsLawful m x) (r : RegionConstraint Key)
+    (is_in : ConstraintIn (store_of m x) (constraint_of m r))
     (types : y.types.items ≡ x.types.items) (same_regions : y.regions.items ≡ x.regions.items)
-    (more : y.constraints.items ≡ x.constraints.items ++ Eq (record { 0 = a; 1 = b }) ∷ [])
+    (more : y.constraints.items ≡ x.constraints.items ++ r ∷ [])
     (universe : y.universe ≡ x.universe) (budget : y.budget ≡ x.budget) where
   abbrev asked : Constraint
-  asked = equal_constraint (m.region a) (m.region b)
+  asked = constraint_of m r
 
   pub constraint_added : AddsConstraint (store_of m x) (store_of m y) asked
   constraint_added = record {
     same_entries = same_entries;
     same_universes = same_universes;
-    one_more = ap (map (constraint_of m)) more ∙ map-append (constraint_of m) x.constraints.items (Eq (record { 0 = a; 1 = b }) ∷ []);
+    one_more = ap (map (constraint_of m)) more ∙ map-append (constraint_of m) x.constraints.items (r ∷ []);
     same_universe = ap (λ u. u.0) universe;
     same_taint = refl;
     same_budget = budget;
@@ -224,7 +222,7 @@ module _ {Key Id Name : Type 0} (m : Meaning Key Id Name) (x y : InferCtxtInner 
 
   pub constraint_lawful : IsLawful m y
   constraint_lawful = record {
-    sound = constraint_sound (store_of m x) (store_of m y) asked constraint_added l.sound (a_in, b_in);
+    sound = constraint_sound (store_of m x) (store_of m y) asked constraint_added l.sound is_in;
     keyed = λ i h. ap (λ ts. get_or (map (λ v. m.ty v.key) ts) i nil) types ∙ l.keyed i (subst (λ ts. i < length ts) types h);
     formed = λ i t h. l.formed i t (sym (ap (λ es. get_or es i unbound) (constraint_added.same_entries type_var)) ∙ h);
     first_universe = ap (λ u. u.0) universe ∙ l.first_universe;
@@ -237,14 +235,6 @@ module _ {Key Id Name : Type 0} (m : Meaning Key Id Name) (x y : InferCtxtInner 
     counts = omega (arith, budget);
     binds = let e = constraint_bound (store_of m x) (store_of m y) asked constraint_added in omega (arith, e);
     grows = λ k t above below. subst (λ z. z ≤ k) (constraint_weight (store_of m x) (store_of m y) asked constraint_added t) below;
-  }
-
-  pub constraint_unites : Unites (store_of m x) (store_of m y) (m.region a) (m.region b)
-  constraint_unites = record {
-    relates = λ c e w s h. let before = (constraint_goes.later).shrinks w s h in
-        regions (region_value (store_of m x) s (m.region a) before.assigns a_in.0 a_in.1) (region_value (store_of m x) s (m.region b) before.assigns b_in.0 b_in.1)
-        (constraint_holds (store_of m x) (store_of m y) asked constraint_added w s h);
-    keeps = λ w s h e. constraint_keeps (store_of m x) (store_of m y) asked constraint_added w s h (itself e, itself (sym e));
   }
 
 -- A clause of a refused growth.

@@ -13,7 +13,8 @@ use Rattle.type_relations.proofs.Equating.{equated_sound}
 use Rattle.relation_reference.specs.declared.context.inner.TypeVariableValue.{TypeVariableValue}
 use Rattle.relation_reference.specs.declared.context.inner.TypeVariableValue.TheVariants.{Unknown, SameAs, Known}
 use Rattle.relation_reference.specs.declared.context.inner.InferCtxtInner.{InferCtxtInner}
-use Rattle.relation_reference.specs.Tables.{entry_of_value, constraint_of, store_of, IsLawful}
+use Rattle.relation_reference.specs.Tables.{entry_of_value, store_of, IsLawful}
+use Rattle.type_relations.specs.Constraints.{constraint_of}
 use Rattle.type_relations.specs.Parts.{IsFormed}
 use Rattle.relation_reference.proofs.Grows.{map-map}
 

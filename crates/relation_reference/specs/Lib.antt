@@ -6,5 +6,6 @@ pub mod Places
 pub mod Laws
 pub mod Adding
 pub mod Tables
+pub mod Solving
 pub mod Answers
 pub mod Putting

@@ -2,13 +2,11 @@
 use Rattle.std.specs.Prelude.{◌≡◌, ℕ, ◌<◌, false, None, [], map, length, get_or}
 use Rattle.relation_terms.specs.Heads.{VarKind, type_var, int_var, float_var, const_var, region_var, variable}
 use Rattle.relation_terms.specs.Trees.{Tree, leaf, node, nil}
-use Rattle.relation_terms.specs.Meaning.{Meaning, arg_tree}
-use Rattle.relation_terms.specs.declared.predicate.RegionConstraint.{RegionConstraint}
-use Rattle.relation_terms.specs.declared.predicate.RegionConstraint.TheVariants.{Outlives, Eq}
+use Rattle.relation_terms.specs.Meaning.{Meaning}
 use Rattle.relation_terms.specs.declared.terms.enums.Variance.TheVariants.{Invariant}
 use Rattle.type_relations.specs.Relation.{Items}
-use Rattle.type_relations.specs.Stores.{Store, Entry, entry_of, unbound, same_as, bound_to, Constraint}
-use Rattle.type_relations.specs.Stores.{outlives_constraint, equal_constraint, IsSound}
+use Rattle.type_relations.specs.Stores.{Store, Entry, entry_of, unbound, same_as, bound_to, IsSound}
+use Rattle.type_relations.specs.Constraints.{constraint_of}
 use Rattle.type_relations.specs.Parts.{IsFormed}
 use Rattle.relation_reference.specs.declared.context.inner.TypeVariableValue.{TypeVariableValue}
 use Rattle.relation_reference.specs.declared.context.inner.TypeVariableValue.TheVariants.{Unknown, SameAs, Known}
@@ -33,18 +31,13 @@ module _ {Key Id Name : Type 0} (m : Meaning Key Id Name) where
   entry_of_value (SameAs v) = same_as v.0
   entry_of_value (Known t) = bound_to (m.ty t)
 
-  -- What a recorded constraint asks.
-  abbrev pub constraint_of : RegionConstraint Key → Constraint
-  constraint_of (Outlives p) = outlives_constraint (arg_tree m p.0) (m.region p.1)
-  constraint_of (Eq p) = equal_constraint (m.region p.0) (m.region p.1)
-
   -- The store that the tables record.
   abbrev pub store_of : InferCtxtInner Key → Store
   store_of x = record {
     entries = by_kind (map (λ v. entry_of_value v.value) x.types.items) (map (λ u. unbound) x.regions.items) [];
     universes = by_kind (map (λ v. (v.universe).0) x.types.items) (map (λ u. u.0) x.regions.items) [];
     universe = (x.universe).0;
-    constraints = map constraint_of x.constraints.items;
+    constraints = map (constraint_of m) x.constraints.items;
     tainted = false;
     budget = x.budget;
   }

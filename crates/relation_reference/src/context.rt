@@ -5,7 +5,9 @@ mod recording;
 mod relating;
 mod resolving;
 mod solver;
+mod solver_relating;
 mod variables;
 
 pub use inner::{InferCtxtInner, TypeVariable, TypeVariableValue};
+pub use solver_relating::SolverRelating;
 pub use variables::RefCtxt;

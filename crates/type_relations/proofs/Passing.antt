@@ -14,7 +14,7 @@ use Rattle.relation_terms.proofs.Stays.{stays_same, extends_on}
 use Rattle.relation_tools.specs.declared.error.RelateFault.{RelateFault}
 use Rattle.relation_tools.specs.declared.error.RelateFault.TheVariants.{Memory, Budget, Unrelated}
 use Rattle.type_relations.specs.Relation.{Items, Way, at, anything, Rel}
-use Rattle.type_relations.specs.declared.relate.Step.TheVariants.{Done}
+use Rattle.type_relations.specs.declared.relate.Step.TheVariants.{Done, Parts}
 use Rattle.relation_tools.specs.Faults.{KnowsError}
 use Rattle.type_relations.specs.Errors.{ErrorOf}
 use Rattle.type_relations.specs.Stores.{Store, weight}
@@ -340,6 +340,45 @@ module _ {Key Id Name : Type 0} where
   again_relates {r = r} {q = q} M a b k l x y v g led tree t f =
       relates_by r.ambient k l (passes_then g f.passes (small M a b k l x y v g led))
       (led_outcome g f.passes k l x y (xform r.ambient v) led.read_leads (f.verdict).outcome)
+
+-- A step that leaves the pair as it is.
+module _ {Key Id Name K : Type 0} (M : Manner) (F : Tree → Type 0) (r : State Key Id Name) (tree : K → Tree) where
+  itself_left : (a b : K) → Asked M r r.ambient (tree a) (tree b) → F (tree a) → F (tree b) →
+      Stepped M F r r (tree a) (tree b) tree (Ok (Parts a b))
+  unfolding passes_nowhere
+  itself_left a b k f g = record {
+    passes = passes_nowhere _ r;
+    verdict = record {
+      leads = record {
+        steps = record {
+          later = later_itself r.store;
+          goals_in = All-nil (GoalInContext r.store);
+          relates = λ w s sat all h. h;
+          keeps = λ w s sat one. (s, (λ j i h. refl), (sat, All-nil (MakesOneTree s), one));
+        };
+        errors = λ m st e l h. h;
+      };
+      asked = k;
+      left_form = f;
+      right_form = g;
+      answers = λ st t l h. h;
+      same_budget = refl;
+      not_larger = omega arith;
+    };
+    exact = λ is v pair. (
+      pair,
+      record {
+        later = later_itself r.store;
+        shrinks = λ s h u. (h, u);
+        keeps = λ s h u. (s, (λ j i h. refl), (h, u));
+      },
+    );
+  }
+
+  pub parts_left : (a b x y : K) → x ≡ a → y ≡ b → Asked M r r.ambient (tree a) (tree b) → F (tree a) → F (tree b) →
+      Stepped M F r r (tree a) (tree b) tree (Ok (Parts x y))
+  parts_left a b x y e d k f g =
+      subst₂ (λ x y. Stepped M F r r (tree a) (tree b) tree (Ok (Parts x y))) (sym e) (sym d) (itself_left a b k f g)
 
 -- A result that is a fault.
 pub as_err : {X F : Type 0} (res : Result X F) (f : F) → IsErr res → IsErrAnd res (λ e. e ≡ f) → res ≡ Err f

@@ -34,45 +34,6 @@ use Rattle.type_relations.proofs.Growing.{constraint_holds, constraint_keeps}
 use Rattle.type_relations.proofs.Going.{later_itself}
 use Rattle.type_relations.proofs.Passing.{passes_nowhere}
 
--- A step that leaves the pair as it is.
-module _ {Key Id Name K : Type 0} (M : Manner) (F : Tree → Type 0) (r : State Key Id Name) (tree : K → Tree) where
-  itself_left : (a b : K) → Asked M r r.ambient (tree a) (tree b) → F (tree a) → F (tree b) →
-      Stepped M F r r (tree a) (tree b) tree (Ok (Parts a b))
-  unfolding passes_nowhere
-  itself_left a b k f g = record {
-    passes = passes_nowhere _ r;
-    verdict = record {
-      leads = record {
-        steps = record {
-          later = later_itself r.store;
-          goals_in = All-nil (GoalInContext r.store);
-          relates = λ w s sat all h. h;
-          keeps = λ w s sat one. (s, (λ j i h. refl), (sat, All-nil (MakesOneTree s), one));
-        };
-        errors = λ m st e l h. h;
-      };
-      asked = k;
-      left_form = f;
-      right_form = g;
-      answers = λ st t l h. h;
-      same_budget = refl;
-      not_larger = omega arith;
-    };
-    exact = λ is v pair. (
-      pair,
-      record {
-        later = later_itself r.store;
-        shrinks = λ s h u. (h, u);
-        keeps = λ s h u. (s, (λ j i h. refl), (h, u));
-      },
-    );
-  }
-
-  pub parts_left : (a b x y : K) → x ≡ a → y ≡ b → Asked M r r.ambient (tree a) (tree b) → F (tree a) → F (tree b) →
-      Stepped M F r r (tree a) (tree b) tree (Ok (Parts x y))
-  parts_left a b x y e d k f g =
-      subst₂ (λ x y. Stepped M F r r (tree a) (tree b) tree (Ok (Parts x y))) (sym e) (sym d) (itself_left a b k f g)
-
 module _ {Key Id Name : Type 0} (m : Meaning Key Id Name) where
   -- Without variables, and with no bound variable that escapes, a type has a form.
   pub formed : (cs : List (RegionConstraint Key)) (t : Tree) → IsTerm type_sort t → IsTermIn (plain_store m cs) t →

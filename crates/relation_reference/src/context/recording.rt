@@ -3,17 +3,16 @@ ghost use Rattle.std.specs.Prelude.{◌≡◌, ℕ, ◌<◌, IsTrue, IfOk, OnErr
 ghost use Rattle.relation_terms.specs.Heads.{type_var, region_var, variable};
 ghost use Rattle.relation_terms.specs.Trees.{leaf, known};
 ghost use Rattle.relation_terms.specs.Meaning.{Extends};
-ghost use Rattle.type_relations.specs.Stores.{unbound, entry_of, universe_of, IsRegionIn, equal_constraint};
+ghost use Rattle.type_relations.specs.Stores.{unbound, entry_of, universe_of, IsRegionIn, equal_constraint, outlives_constraint};
 ghost use Rattle.type_relations.specs.Steps.{Equates, MakesVariable, AddsConstraint, IsLater};
 ghost use Rattle.type_relations.specs.Measures.{Goes};
 ghost use Rattle.relation_reference.specs.Tables.{store_of, IsLawful};
-ghost use Rattle.relation_reference.specs.Answers.{Unites};
 
 use crate::context::{RefCtxt, TypeVariable, TypeVariableValue};
-use relation_terms::predicate::{RegionConstraint, RegionEqPredicate};
+use relation_terms::predicate::{OutlivesPredicate, RegionConstraint, RegionEqPredicate};
 use relation_terms::terms::{
-    Dup, InferTy, Interner, OutOfMemory, Region, RegionKind, RegionVid, Ty, TyKind, TyVid,
-    UniverseIndex,
+    Dup, GenericArgKind, InferTy, Interner, OutOfMemory, Region, RegionKind, RegionVid, Ty, TyKind,
+    TyVid, UniverseIndex,
 };
 
 fn smaller(a: usize, b: usize) -> usize
@@ -81,10 +80,27 @@ impl<I: Interner> RefCtxt<I> {
         ensures adds { OnOk result (AddsConstraint (store_of (I.meaning self.old.interner) self.old.inner) (store_of (I.meaning self.old.interner) self.new.inner) (equal_constraint ((I.meaning self.old.interner).region a.now) ((I.meaning self.old.interner).region b.now))) }
         ensures refused { OnErr result (store_of (I.meaning self.old.interner) self.new.inner ≡ store_of (I.meaning self.old.interner) self.old.inner) }
         ensures goes { Goes 0 (store_of (I.meaning self.old.interner) self.old.inner) (store_of (I.meaning self.old.interner) self.new.inner) }
-        ensures unites { OnOk result (Unites (store_of (I.meaning self.old.interner) self.old.inner) (store_of (I.meaning self.old.interner) self.new.inner) ((I.meaning self.old.interner).region a.now) ((I.meaning self.old.interner).region b.now)) }
     {
         let equal = RegionEqPredicate(a.dup(), b.dup());
         self.inner.constraints.push(RegionConstraint::Eq(equal))?;
+        Ok(())
+    }
+
+    // Records that the second region outlives the first.
+    pub(crate) fn sub_regions(&mut self, sub: &Region<I>, sup: &Region<I>) -> Result<(), OutOfMemory>
+        requires lawful { IsLawful (I.meaning self.old.interner) self.old.inner }
+        requires sub_in { IsRegionIn (store_of (I.meaning self.old.interner) self.old.inner) ((I.meaning self.old.interner).region sub.now) }
+        requires sup_in { IsRegionIn (store_of (I.meaning self.old.interner) self.old.inner) ((I.meaning self.old.interner).region sup.now) }
+        ensures interner { self.new.interner ≡ self.old.interner }
+        ensures lawful { IsLawful (I.meaning self.old.interner) self.new.inner }
+        ensures adds { OnOk result (AddsConstraint (store_of (I.meaning self.old.interner) self.old.inner) (store_of (I.meaning self.old.interner) self.new.inner) (outlives_constraint ((I.meaning self.old.interner).region sup.now) ((I.meaning self.old.interner).region sub.now))) }
+        ensures refused { OnErr result (store_of (I.meaning self.old.interner) self.new.inner ≡ store_of (I.meaning self.old.interner) self.old.inner) }
+        ensures goes { Goes 0 (store_of (I.meaning self.old.interner) self.old.inner) (store_of (I.meaning self.old.interner) self.new.inner) }
+    {
+        let outlives = OutlivesPredicate(GenericArgKind::Lifetime(sup.dup()), sub.dup());
+        self.inner
+            .constraints
+            .push(RegionConstraint::Outlives(outlives))?;
         Ok(())
     }
 

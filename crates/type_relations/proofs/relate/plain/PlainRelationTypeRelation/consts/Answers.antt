@@ -1,7 +1,7 @@
 use Rattle.type_relations.specs.Parts.{IsFormedConst}
 use Rattle.type_relations.specs.Plain.{plain_state, plain_manner}
 use Rattle.type_relations.proofs.Comparing.{formed_const}
-use Rattle.type_relations.proofs.Plain.{parts_left}
+use Rattle.type_relations.proofs.Passing.{parts_left}
 use Rattle.type_relations.proofs.relate.plain.PlainRelationTypeRelation.consts.Goals as goal
 
 pub returns : goal.returns

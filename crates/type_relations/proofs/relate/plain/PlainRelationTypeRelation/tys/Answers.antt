@@ -1,6 +1,7 @@
 use Rattle.type_relations.specs.Parts.{IsFormed}
 use Rattle.type_relations.specs.Plain.{plain_state, plain_manner}
-use Rattle.type_relations.proofs.Plain.{formed, parts_left}
+use Rattle.type_relations.proofs.Passing.{parts_left}
+use Rattle.type_relations.proofs.Plain.{formed}
 use Rattle.type_relations.proofs.relate.plain.PlainRelationTypeRelation.tys.Goals as goal
 
 pub returns : goal.returns

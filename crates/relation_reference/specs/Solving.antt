@@ -1,0 +1,52 @@
+-- The relation of a context: how it stands, and which terms it takes.
+use Rattle.std.specs.Prelude.{IsTrue, []}
+use Rattle.relation_terms.specs.declared.terms.enums.Variance.{Variance}
+use Rattle.relation_terms.specs.declared.terms.enums.Variance.TheVariants.{Covariant, Contravariant, Invariant}
+use Rattle.relation_terms.specs.declared.terms.enums.Variance.TheVariants.{Bivariant}
+use Rattle.relation_terms.specs.declared.terms.keys.ParamEnvKey.{ParamEnvKey}
+use Rattle.relation_terms.specs.Heads.{Head, Leaf, variable, value_type}
+use Rattle.relation_terms.specs.Trees.{known}
+use Rattle.relation_terms.specs.Meaning.{Meaning}
+use Rattle.type_relations.specs.Relation.{Items, part_at}
+use Rattle.type_relations.specs.Taken.{IsFixedLeaf, IsTakenLeaf}
+use Rattle.type_relations.specs.Lawful.{State, Manner, TakesParts}
+use Rattle.relation_reference.specs.declared.context.inner.InferCtxtInner.{InferCtxtInner}
+use Rattle.relation_reference.specs.Tables.{store_of, IsLawful}
+
+-- A context relates terms at a variance, in an environment. No goal is registered yet.
+abbrev pub solving : {Key Id Name : Type 0} → Meaning Key Id Name → InferCtxtInner Key → Variance → ParamEnvKey Key →
+    State Key Id Name
+solving m x v e = record {
+  meaning = m;
+  store = store_of m x;
+  goals = [];
+  environment = m.param_env e;
+  ambient = v;
+  lawful = IsLawful m x × IsTrue (known (m.param_env e));
+}
+
+-- It takes terms with variables at invariance alone, and what it answers has the left side's value.
+abbrev pub solver_manner : Manner
+solver_manner = record { takes = IsTakenLeaf; keeps_value = Unit {0}; is_exact = ⊥ }
+
+-- What has no variable but a region's is taken everywhere.
+fixed_taken : (v : Variance) (l : Leaf) → IsFixedLeaf l → IsTakenLeaf v l
+fixed_taken Covariant l h = h
+fixed_taken Contravariant l h = h
+fixed_taken Invariant l h = tt
+fixed_taken Bivariant l h = tt
+
+-- The parts of what is invariant or bivariant are so.
+taken_under_invariant : (c : Items) (h : Head) (i : _) (l : Leaf) → IsTakenLeaf (part_at c h i Invariant) l
+taken_under_invariant c value_type i l = tt
+taken_under_invariant c h i l = tt
+
+taken_under_bivariant : (c : Items) (h : Head) (i : _) (l : Leaf) → IsTakenLeaf (part_at c h i Bivariant) l
+taken_under_bivariant c value_type i l = tt
+taken_under_bivariant c h i l = tt
+
+pub solver_takes : TakesParts solver_manner
+solver_takes c h i Covariant l k = fixed_taken (part_at c h i Covariant) l k
+solver_takes c h i Contravariant l k = fixed_taken (part_at c h i Contravariant) l k
+solver_takes c h i Invariant l k = taken_under_invariant c h i l
+solver_takes c h i Bivariant l k = taken_under_bivariant c h i l

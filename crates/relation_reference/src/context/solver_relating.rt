@@ -1,0 +1,170 @@
+//! Relating as a solver does: by what a context has recorded, and by recording more.
+ghost use Rattle.std.specs.Prelude.{◌≡◌};
+ghost use Rattle.relation_reference.specs.Solving.{solving, solver_manner};
+
+use crate::context::RefCtxt;
+use relation_terms::terms::{
+    Const, Dup, GenericArgs, Interner, ItemOf, ParamEnv, Region, Ty, Variance,
+};
+use relation_tools::error::RelateResult;
+use type_relations::relate::{Step, TypeRelation};
+
+/// Relates the terms of a context, at an ambient variance and in an environment.
+///
+/// Types are read by what is recorded of variables. A variable and a type that it is related with are made one; of two
+/// regions it is recorded which has to outlive the other. Terms with other variables than regions' are related at
+/// `Invariant` alone.
+pub struct SolverRelating<'a, I: Interner> {
+    infcx: &'a mut RefCtxt<I>,
+    ambient_variance: Variance,
+    param_env: ParamEnv<I>,
+}
+
+impl<'a, I: Interner> SolverRelating<'a, I> {
+    /// The relation of a context.
+    pub fn new(
+        infcx: &'a mut RefCtxt<I>,
+        ambient_variance: Variance,
+        param_env: ParamEnv<I>,
+    ) -> SolverRelating<'a, I>
+        ensures same_reference { result.infcx.ghost_name ≡ infcx.entry.ghost_name }
+        ensures infcx { result.infcx.now ≡ infcx.entry.now }
+        ensures ambient_variance { result.ambient_variance ≡ ambient_variance }
+        ensures param_env { result.param_env ≡ param_env }
+    {
+        SolverRelating {
+            infcx,
+            ambient_variance,
+            param_env,
+        }
+    }
+
+    /// The context, with all that was recorded.
+    pub fn into_infcx(self) -> &'a mut RefCtxt<I>
+        ensures same_reference { result.ghost_name ≡ self.entry.infcx.ghost_name }
+        ensures value { result.now ≡ self.entry.infcx.now }
+    {
+        let SolverRelating {
+            infcx,
+            ambient_variance: _,
+            param_env: _,
+        } = self;
+        infcx
+    }
+}
+
+impl<'a, I: Interner> TypeRelation<I> for SolverRelating<'a, I> {
+    ghost use Rattle.std.specs.Prelude.{refl};
+    ghost use Rattle.relation_reference.specs.Solving.{solver_takes};
+
+    ghost state = { λ r. solving (I.meaning r.infcx.now.interner) r.infcx.now.inner r.ambient_variance r.param_env };
+
+    ghost interner = { λ r. r.infcx.now.interner };
+
+    ghost with_interner = { λ r cx. record r { infcx = record r.infcx { now = record r.infcx.now { interner = cx } } } };
+
+    ghost manner = { solver_manner };
+
+    fn cx(&self) -> &I {
+        &self.infcx.interner
+    }
+
+    fn cx_mut(&mut self) -> &mut I {
+        &mut self.infcx.interner
+    }
+
+    fn ambient(&self) -> Variance {
+        self.ambient_variance
+    }
+
+    fn set_ambient(&mut self, v: Variance) {
+        self.ambient_variance = v;
+    }
+
+    fn item_variances(&self, def_id: &ItemOf<I>) -> Option<&[Variance]> {
+        if let Variance::Invariant = self.ambient_variance {
+            return None;
+        }
+        Some(self.infcx.interner.variances_of(def_id))
+    }
+
+    fn tys(&mut self, a: &Ty<I>, b: &Ty<I>) -> RelateResult<I, Step<Ty<I>>> {
+        if a == b {
+            return Ok(Step::Done(a.dup()));
+        }
+        let left = self.infcx.shallow_resolve(a);
+        let right = self.infcx.shallow_resolve(b);
+        match self.infcx.ty_var(&left) {
+            Some(x) => match self.infcx.ty_var(&right) {
+                Some(y) => {
+                    self.infcx.equate_ty_vids_raw(x, y);
+                    Ok(Step::Done(left))
+                }
+                None => {
+                    let bound = self.infcx.instantiate_ty_var_raw(x, &right)?;
+                    Ok(Step::Again {
+                        x: bound,
+                        y: right.dup(),
+                        a: left,
+                        b: right,
+                        variance: Variance::Covariant,
+                    })
+                }
+            },
+            None => match self.infcx.ty_var(&right) {
+                Some(y) => {
+                    let bound = self.infcx.instantiate_ty_var_raw(y, &left)?;
+                    Ok(Step::Again {
+                        x: left.dup(),
+                        y: bound,
+                        a: left,
+                        b: right,
+                        variance: Variance::Covariant,
+                    })
+                }
+                None => Ok(Step::Parts { a: left, b: right }),
+            },
+        }
+    }
+
+    fn consts(&mut self, a: &Const<I>, b: &Const<I>) -> RelateResult<I, Step<Const<I>>> {
+        // Reading shows that both are of forms that are related by their parts.
+        let _a = self.infcx.interner.const_kind(a);
+        let _b = self.infcx.interner.const_kind(b);
+        Ok(Step::Parts {
+            a: a.dup(),
+            b: b.dup(),
+        })
+    }
+
+    fn regions(&mut self, a: &Region<I>, b: &Region<I>) -> RelateResult<I, Region<I>> {
+        match self.ambient_variance {
+            Variance::Covariant => self.infcx.sub_regions(b, a)?,
+            Variance::Contravariant => self.infcx.sub_regions(a, b)?,
+            Variance::Invariant => self.infcx.equate_regions(a, b)?,
+            Variance::Bivariant => unreachable!(),
+        }
+        Ok(a.dup())
+    }
+
+    fn tys_done(&mut self, _a: &Ty<I>, _b: &Ty<I>) -> RelateResult<I, ()> {
+        Ok(())
+    }
+
+    fn ty_args_done(
+        &mut self,
+        _a_ty: &Ty<I>,
+        _b_ty: &Ty<I>,
+        _def_id: &ItemOf<I>,
+        _a_args: &GenericArgs<I>,
+        _b_args: &GenericArgs<I>,
+    ) -> RelateResult<I, ()> {
+        Ok(())
+    }
+
+    ghost reads = { λ r. refl };
+
+    ghost sound = { λ r l. l.0.sound };
+
+    ghost takes_parts = { solver_takes };
+}
