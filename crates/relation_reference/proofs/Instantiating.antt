@@ -77,6 +77,10 @@ module _ (before after : Store) (n : ℕ) (t u : Tree) (q : BindsTo before after
   right_weight : weight after t ≡ weight before t
   right_weight = later_weight t refl
 
+  -- They are no larger than the square of a pair that is larger than the type.
+  pub binding_square : (N : ℕ) → weight before t + 1 ≤ N → weight after u + weight after t ≤ N * N
+  binding_square N h = square_above (weight before t) N (weight after u + weight after t) (ap₂ ◌+◌ left_weight right_weight) h
+
   pub binding_under : (N : ℕ) → weight before t + 1 ≤ N → 4 * depth after.budget (weight after u + weight after t) + 2 < 4 * depth before.budget N + 2
   binding_under N h = depth_under after.budget before.budget (weight before t) N (weight after u + weight after t) q.one_spent (ap₂ ◌+◌ left_weight right_weight) h
 

@@ -1,5 +1,6 @@
 use Rattle.std.proofs.Common.{refl, ap₂, ◌∙◌, ◌++◌, ◌∷◌, []}
 use Rattle.relation_terms.specs.declared.predicate.RegionConstraint.TheVariants.{Eq}
+use Rattle.relation_terms.specs.declared.predicate.RegionConstraint.{RegionConstraint}
 use Rattle.relation_reference.specs.Tables.{store_of}
 use Rattle.relation_reference.proofs.Making.{same_lawful, same_store, goes_same, constraint_lawful, constraint_goes, constraint_added}
 use Rattle.relation_reference.proofs.context.variables.RefCtxt.equate_regions.Goals as goal
@@ -24,14 +25,13 @@ returns g c =
     let m = g.I.Interner.meaning c.args.self.now.interner in
     let x = c.args.self.now.inner in
     let y = record x { constraints = c.push.new.self } in
-    let r = Eq (record { 0 = c.args.a.now; 1 = c.args.b.now }) in
-    let is_in = (c.requires.a_in, c.requires.b_in) in
+    let r : RegionConstraint g.row.I-Key.Denot = Eq (record { 0 = c.args.a.now; 1 = c.args.b.now }) in
     let more = c.in_ok-push.ensures.items
     ∙ ap₂ (λ p q. x.constraints.items ++ Eq (record { 0 = p; 1 = q }) ∷ []) c.dup.ensures c.dup-2.ensures in
     record {
       interner = refl;
-      lawful = constraint_lawful m x y c.requires.lawful r is_in refl refl more refl refl;
-      adds = constraint_added m x y c.requires.lawful r is_in refl refl more refl refl;
+      lawful = constraint_lawful m x y c.requires.lawful r (c.requires.a_in, c.requires.b_in) refl refl more refl refl;
+      adds = constraint_added m x y c.requires.lawful r (c.requires.a_in, c.requires.b_in) refl refl more refl refl;
       refused = tt;
-      goes = constraint_goes m x y c.requires.lawful r is_in refl refl more refl refl;
+      goes = constraint_goes m x y c.requires.lawful r (c.requires.a_in, c.requires.b_in) refl refl more refl refl;
     }
