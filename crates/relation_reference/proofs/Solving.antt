@@ -76,11 +76,11 @@ read_taken st Bivariant a u s (by_entry k n e b r) h = all_leaves _ (λ l. tt) u
 all_taken : (t : Tree) → Takes solver_manner Invariant t
 all_taken t = all_leaves _ (λ l. tt) t
 
-module _ {Key Id Name : Type 0} where
+module _ {Key Id Name : Type 0} (j : ℕ) where
   -- Work that recorded something, and registered no goal.
   unfoldable pub solver_passes : {N : ℕ} {m n : Meaning Key Id Name} {x y : InferCtxtInner Key} (v : Variance)
       (e : ParamEnvKey Key) → Extends m n → IsTrue (known (m.param_env e)) → Goes N (store_of m x) (store_of n y) →
-      IsLawful n y → Passes N (solving m x v e) (solving n y v e)
+      IsLawful n y → Passes N (solving j m x v e) (solving j n y v e)
   solver_passes {n = n} {y = y} v e grown env goes l = record {
     extends = grown;
     goes = goes;
@@ -89,6 +89,7 @@ module _ {Key Id Name : Type 0} where
     goals_in = All-nil (GoalInContext (store_of n y));
     environment = grown.param_env e env;
     ambient = refl;
+    reference = refl;
     lawful = λ k. (l, subst (λ t. IsTrue (known t)) (sym (grown.param_env e env)) k.1);
   }
 
@@ -97,8 +98,8 @@ module _ {Key Id Name : Type 0} where
       (env : IsTrue (known (m.param_env e))) (same : n ≡ m) (l : IsLawful m y) (a b : Tree) where
     -- Memory ran out.
     pub memory_refused : (tree : X → Tree) (r : Result X (RelateFault Key Id Name)) → r ≡ Err Memory →
-        Goes 0 (store_of m x) (store_of m y) → Related solver_manner (solving m x v e) (solving n y v e) v a b tree r
-    memory_refused tree r is goes = subst₂ (λ n r. Related solver_manner (solving m x v e) (solving n y v e) v a b tree r)
+        Goes 0 (store_of m x) (store_of m y) → Related solver_manner (solving j m x v e) (solving j n y v e) v a b tree r
+    memory_refused tree r is goes = subst₂ (λ n r. Related solver_manner (solving j m x v e) (solving j n y v e) v a b tree r)
         (sym same) (sym is)
         (record { passes = solver_passes v e (stays_same m) env (goes_within (omega arith) goes) l; verdict = tt })
 
@@ -138,12 +139,12 @@ module _ {Key Id Name : Type 0} where
 
     pub regions_related : (n : Meaning Key Id Name) (k : RegionKey Key) → n ≡ m → k ≡ a → IsLawful m y →
         IsTrue (known (m.param_env e)) → IsTrue (known (m.region a)) →
-        Related solver_manner (solving m x v e) (solving n y v e) v (m.region a) (m.region b) n.region (Ok k)
+        Related solver_manner (solving j m x v e) (solving j n y v e) v (m.region a) (m.region b) n.region (Ok k)
     unfolding solver_passes
-    regions_related n k same is l env sure = subst₂ (λ n k. Related solver_manner (solving m x v e) (solving n y v e) v
+    regions_related n k same is l env sure = subst₂ (λ n k. Related solver_manner (solving j m x v e) (solving j n y v e) v
         (m.region a) (m.region b) n.region (Ok k)) (sym same) (sym is) answer
       where
-        answer : Related solver_manner (solving m x v e) (solving m y v e) v (m.region a) (m.region b) m.region (Ok a)
+        answer : Related solver_manner (solving j m x v e) (solving j m y v e) v (m.region a) (m.region b) m.region (Ok a)
         answer = record {
           passes = solver_passes v e (stays_same m) env (goes_within (omega arith) goes) l;
           verdict = record { outcome = outcome; answer = λ k w s sat. refl; known = sure };
@@ -152,8 +153,8 @@ module _ {Key Id Name : Type 0} where
   -- A step that answers, of a relation that does not promise to be exact.
   pub answered_step : {K : Type 0} (F : Tree → Type 0) (m n : Meaning Key Id Name) (x y : InferCtxtInner Key)
       (v : Variance) (e : ParamEnvKey Key) (a b : Tree) (tree : K → Tree) (t : K) →
-      Related solver_manner (solving m x v e) (solving n y v e) v a b tree (Ok t) →
-      Stepped solver_manner F (solving m x v e) (solving n y v e) a b tree (Ok (Done t))
+      Related solver_manner (solving j m x v e) (solving j n y v e) v a b tree (Ok t) →
+      Stepped solver_manner F (solving j m x v e) (solving j n y v e) a b tree (Ok (Done t))
   answered_step F m n x y v e a b tree t h =
       record { passes = h.passes; verdict = h.verdict; exact = λ is. absurd is }
 
@@ -162,13 +163,13 @@ module _ {Key Id Name : Type 0} where
       (v : Variance) (e : ParamEnvKey Key) (a b u : Tree) (tree : K → Tree) (t : K) → n ≡ m → v ≡ Invariant →
       IsTrue (known (m.param_env e)) → Goes (weight (store_of m x) a + weight (store_of m x) b) (store_of m x) (store_of m y) →
       IsLawful m y → Unites (store_of m x) (store_of m y) a b → IsReadAs (store_of m x) a u → tree t ≡ u →
-      IsTrue (known u) → Stepped solver_manner F (solving m x v e) (solving n y v e) a b tree (Ok (Done t))
+      IsTrue (known u) → Stepped solver_manner F (solving j m x v e) (solving j n y v e) a b tree (Ok (Done t))
   unfolding solver_passes
   united_step {K} F m n x y v e a b u tree t same is env goes l one reads answer sure =
       answered_step F m n x y v e a b tree t
-      (subst₂ (λ v n. Related solver_manner (solving m x v e) (solving n y v e) v a b tree (Ok t)) (sym is) (sym same) related)
+      (subst₂ (λ v n. Related solver_manner (solving j m x v e) (solving j n y v e) v a b tree (Ok t)) (sym is) (sym same) related)
     where
-      related : Related solver_manner (solving m x Invariant e) (solving m y Invariant e) Invariant a b tree (Ok t)
+      related : Related solver_manner (solving j m x Invariant e) (solving j m y Invariant e) Invariant a b tree (Ok t)
       related = record {
         passes = solver_passes Invariant e (stays_same m) env goes l;
         verdict = record {
@@ -188,11 +189,11 @@ module _ {Key Id Name : Type 0} where
   pub parts_step : (m : Meaning Key Id Name) (x : InferCtxtInner Key) (v : Variance) (e : ParamEnvKey Key)
       {K : Type 0} (F : Tree → Type 0) (a b : Tree) (tree : K → Tree) (t u : K) → IsSound (store_of m x) →
       IsReadAs (store_of m x) a (tree t) → IsReadAs (store_of m x) b (tree u) →
-      Asked solver_manner (solving m x v e) v (tree t) (tree u) → F (tree t) → F (tree u) →
-      Stepped solver_manner F (solving m x v e) (solving m x v e) a b tree (Ok (Parts t u))
+      Asked solver_manner (solving j m x v e) v (tree t) (tree u) → F (tree t) → F (tree u) →
+      Stepped solver_manner F (solving j m x v e) (solving j m x v e) a b tree (Ok (Parts t u))
   unfolding passes_nowhere
   parts_step m x v e F a b tree t u g p q k f h = record {
-    passes = passes_nowhere _ (solving m x v e);
+    passes = passes_nowhere _ (solving j m x v e);
     verdict = record {
       leads = record {
         steps = record {
@@ -233,7 +234,7 @@ module _ {Key Id Name : Type 0} where
       (a b u w t r : Tree) → IsReadAs (store_of m x) a u → IsReadAs (store_of m x) b w →
       IsReadAs (store_of n y) a t → IsReadAs (store_of n y) b r → IsSound (store_of n y) →
       StepsTo (declared_by m.variances) (m.param_env e) (store_of m x) (store_of n y) [] [] (at Invariant) u w
-      (at v) t r → Leads (solving m x Invariant e) (solving n y Invariant e) [] a b v t r
+      (at v) t r → Leads (solving j m x Invariant e) (solving j n y Invariant e) [] a b v t r
   read_leads m n x y e v a b u w t r p q p' q' g h = record {
     steps = record {
       later = h.later;
@@ -283,7 +284,7 @@ module _ {Key Id Name : Type 0} where
     reads a p = read_later was now before.sound steps.later a t p
 
     asked_now : (a b : Tree) → IsTrue (known a) → IsTrue (known b) → IsTermIn now a → IsTermIn now b →
-        Asked solver_manner (solving n y Invariant e) Invariant a b
+        Asked solver_manner (solving j n y Invariant e) Invariant a b
     asked_now a b k l h i = record {
       left_known = k;
       right_known = l;
@@ -298,23 +299,23 @@ module _ {Key Id Name : Type 0} where
       -- The variable stood on the left.
       pub left_step : IsReadAs was a root → IsReadAs was b t → IsShallow was root → IsTermIn was root →
           tree k ≡ root → tree l ≡ t → tree z ≡ u → tree w ≡ t →
-          Stepped solver_manner F (solving m x v e) (solving n y v e) a b tree (Ok (Again k l z w Covariant))
+          Stepped solver_manner F (solving j m x v e) (solving j n y v e) a b tree (Ok (Again k l z w Covariant))
       unfolding solver_passes
       left_step p q h i ek el ez ew =
-          subst (λ v. Stepped solver_manner F (solving m x v e) (solving n y v e) a b tree (Ok (Again k l z w Covariant)))
+          subst (λ v. Stepped solver_manner F (solving j m x v e) (solving j n y v e) a b tree (Ok (Again k l z w Covariant)))
           (sym is) (record { passes = passes; verdict = verdict; exact = λ o. absurd o })
         where
           above : weight was t + 1 ≤ weight was a + weight was b
           above = root_above was before.sound target a b root t p q refl h
 
-          passes : Passes (weight was a + weight was b) (solving m x Invariant e) (solving n y Invariant e)
+          passes : Passes (weight was a + weight was b) (solving j m x Invariant e) (solving j n y Invariant e)
           passes = solver_passes Invariant e grown env (goes (weight was a + weight was b) above) after
 
           step : StepsTo (declared_by m.variances) (m.param_env e) was now [] [] (at Invariant) root t (at Invariant) u t
           step = (instantiating_steps (declared_by m.variances) (m.param_env e) Invariant Invariant was now [] type_var target
               t u (term_context was t t_in) steps).0
 
-          led : LeadsAgain solver_manner (solving m x Invariant e) (solving n y Invariant e) [] a b root t Covariant u t
+          led : LeadsAgain solver_manner (solving j m x Invariant e) (solving j n y Invariant e) [] a b root t Covariant u t
           led = record {
             leads = read_leads m n x y e Invariant a b root t u t p q (root_reads a p) (reads b q) after.sound step;
             read_leads = read_leads m n x y e Invariant root t root t u t (itself refl) (itself refl)
@@ -327,33 +328,33 @@ module _ {Key Id Name : Type 0} where
                 stands (weight was a + weight was b) above;
           }
 
-          verdict : LeadsAgain solver_manner (solving m x Invariant e) (solving n y Invariant e) [] a b (tree k) (tree l)
+          verdict : LeadsAgain solver_manner (solving j m x Invariant e) (solving j n y Invariant e) [] a b (tree k) (tree l)
               Covariant (tree z) (tree w)
-          verdict = subst₂ (λ k l. LeadsAgain solver_manner (solving m x Invariant e) (solving n y Invariant e) [] a b k l
+          verdict = subst₂ (λ k l. LeadsAgain solver_manner (solving j m x Invariant e) (solving j n y Invariant e) [] a b k l
               Covariant (tree z) (tree w)) (sym ek) (sym el)
-              (subst₂ (λ z w. LeadsAgain solver_manner (solving m x Invariant e) (solving n y Invariant e) [] a b root t
+              (subst₂ (λ z w. LeadsAgain solver_manner (solving j m x Invariant e) (solving j n y Invariant e) [] a b root t
               Covariant z w) (sym ez) (sym ew) led)
 
       -- It stood on the right.
       pub right_step : IsReadAs was a t → IsReadAs was b root → IsShallow was root → IsTermIn was root →
           tree k ≡ t → tree l ≡ root → tree z ≡ t → tree w ≡ u →
-          Stepped solver_manner F (solving m x v e) (solving n y v e) a b tree (Ok (Again k l z w Covariant))
+          Stepped solver_manner F (solving j m x v e) (solving j n y v e) a b tree (Ok (Again k l z w Covariant))
       unfolding solver_passes
       right_step p q h i ek el ez ew =
-          subst (λ v. Stepped solver_manner F (solving m x v e) (solving n y v e) a b tree (Ok (Again k l z w Covariant)))
+          subst (λ v. Stepped solver_manner F (solving j m x v e) (solving j n y v e) a b tree (Ok (Again k l z w Covariant)))
           (sym is) (record { passes = passes; verdict = verdict; exact = λ o. absurd o })
         where
           above : weight was t + 1 ≤ weight was a + weight was b
           above = root_above_back was before.sound target b a root t q p refl h
 
-          passes : Passes (weight was a + weight was b) (solving m x Invariant e) (solving n y Invariant e)
+          passes : Passes (weight was a + weight was b) (solving j m x Invariant e) (solving j n y Invariant e)
           passes = solver_passes Invariant e grown env (goes (weight was a + weight was b) above) after
 
           step : StepsTo (declared_by m.variances) (m.param_env e) was now [] [] (at Invariant) t root (at Invariant) t u
           step = (instantiating_steps (declared_by m.variances) (m.param_env e) Invariant Invariant was now [] type_var target
               t u (term_context was t t_in) steps).1
 
-          led : LeadsAgain solver_manner (solving m x Invariant e) (solving n y Invariant e) [] a b t root Covariant t u
+          led : LeadsAgain solver_manner (solving j m x Invariant e) (solving j n y Invariant e) [] a b t root Covariant t u
           led = record {
             leads = read_leads m n x y e Invariant a b t root t u p q (reads a p) (root_reads b q) after.sound step;
             read_leads = read_leads m n x y e Invariant t root t root t u (itself refl) (itself refl)
@@ -366,11 +367,11 @@ module _ {Key Id Name : Type 0} where
                 away stands (weight was a + weight was b) above in omega (arith, i));
           }
 
-          verdict : LeadsAgain solver_manner (solving m x Invariant e) (solving n y Invariant e) [] a b (tree k) (tree l)
+          verdict : LeadsAgain solver_manner (solving j m x Invariant e) (solving j n y Invariant e) [] a b (tree k) (tree l)
               Covariant (tree z) (tree w)
-          verdict = subst₂ (λ k l. LeadsAgain solver_manner (solving m x Invariant e) (solving n y Invariant e) [] a b k l
+          verdict = subst₂ (λ k l. LeadsAgain solver_manner (solving j m x Invariant e) (solving j n y Invariant e) [] a b k l
               Covariant (tree z) (tree w)) (sym ek) (sym el)
-              (subst₂ (λ z w. LeadsAgain solver_manner (solving m x Invariant e) (solving n y Invariant e) [] a b t root
+              (subst₂ (λ z w. LeadsAgain solver_manner (solving j m x Invariant e) (solving j n y Invariant e) [] a b t root
               Covariant z w) (sym ez) (sym ew) led)
 
   -- Nothing was bound.
@@ -380,14 +381,14 @@ module _ {Key Id Name : Type 0} where
       (f : RelateFault Key Id Name) (sure : KnowsFault n f)
       (h : Instantiated n (store_of m x) (store_of n y) target t (Err f)) where
     refuses : (f : RelateFault Key Id Name) → KnowsFault n f → Answered {X = K} n (store_of m x) (store_of n y) a b (Err f) →
-        Refuses (solving m x v e) (solving n y v e) v a b f
+        Refuses (solving j m x v e) (solving j n y v e) v a b f
     refuses (Unrelated g) k o = (o.0, o.1, k)
     refuses Budget k o = o
     refuses Memory k o = tt
 
     refused_step : Goes (weight (store_of m x) a + weight (store_of m x) b) (store_of m x) (store_of n y) →
         Answered {X = K} n (store_of m x) (store_of n y) a b (Err f) →
-        Stepped solver_manner F (solving m x v e) (solving n y v e) a b tree (Err f)
+        Stepped solver_manner F (solving j m x v e) (solving j n y v e) a b tree (Err f)
     unfolding solver_passes
     refused_step g o = record {
       passes = solver_passes v e grown env g after;
@@ -399,7 +400,7 @@ module _ {Key Id Name : Type 0} where
     refused_work N i = goes_within (omega (arith, i)) (refused_goes n (store_of m x) (store_of n y) target t f h)
 
     pub left_refused : IsReadAs (store_of m x) a (leaf (variable type_var target)) → IsReadAs (store_of m x) b t → IsShallow (store_of m x) (leaf (variable type_var target)) →
-        Stepped solver_manner F (solving m x v e) (solving n y v e) a b tree (Err f)
+        Stepped solver_manner F (solving j m x v e) (solving j n y v e) a b tree (Err f)
     left_refused p q i =
         let g = refused_work (weight (store_of m x) a + weight (store_of m x) b)
         (root_above (store_of m x) before.sound target a b (leaf (variable type_var target)) t p q refl i) in
@@ -407,7 +408,7 @@ module _ {Key Id Name : Type 0} where
         (instantiated_refused n (store_of m x) (store_of n y) target t K f formed h))
 
     pub right_refused : IsReadAs (store_of m x) a t → IsReadAs (store_of m x) b (leaf (variable type_var target)) → IsShallow (store_of m x) (leaf (variable type_var target)) →
-        Stepped solver_manner F (solving m x v e) (solving n y v e) a b tree (Err f)
+        Stepped solver_manner F (solving j m x v e) (solving j n y v e) a b tree (Err f)
     right_refused p q i =
         let g = refused_work (weight (store_of m x) a + weight (store_of m x) b)
         (root_above_back (store_of m x) before.sound target b a (leaf (variable type_var target)) t q p refl i) in

@@ -1,5 +1,5 @@
 -- The relation of a context: how it stands, and which terms it takes.
-use Rattle.std.specs.Prelude.{IsTrue, []}
+use Rattle.std.specs.Prelude.{ℕ, IsTrue, []}
 use Rattle.relation_terms.specs.declared.terms.enums.Variance.{Variance}
 use Rattle.relation_terms.specs.declared.terms.enums.Variance.TheVariants.{Covariant, Contravariant, Invariant}
 use Rattle.relation_terms.specs.declared.terms.enums.Variance.TheVariants.{Bivariant}
@@ -13,15 +13,16 @@ use Rattle.type_relations.specs.Lawful.{State, Manner, TakesParts}
 use Rattle.relation_reference.specs.declared.context.inner.InferCtxtInner.{InferCtxtInner}
 use Rattle.relation_reference.specs.Tables.{store_of, IsLawful}
 
--- A context relates terms at a variance, in an environment. No goal is registered yet.
-abbrev pub solving : {Key Id Name : Type 0} → Meaning Key Id Name → InferCtxtInner Key → Variance → ParamEnvKey Key →
+-- Through a reference to a context terms are related at a variance, in an environment. No goal is registered yet.
+abbrev pub solving : {Key Id Name : Type 0} → ℕ → Meaning Key Id Name → InferCtxtInner Key → Variance → ParamEnvKey Key →
     State Key Id Name
-solving m x v e = record {
+solving j m x v e = record {
   meaning = m;
   store = store_of m x;
   goals = [];
   environment = m.param_env e;
   ambient = v;
+  reference = j;
   lawful = IsLawful m x × IsTrue (known (m.param_env e));
 }
 

@@ -46,6 +46,7 @@ module _ {Key Id Name : Type 0} where
     goals_in = All-nil (GoalInContext r.store);
     environment = refl;
     ambient = refl;
+    reference = refl;
     lawful = λ l. l;
   }
 
@@ -58,6 +59,7 @@ module _ {Key Id Name : Type 0} where
     goals_in = g.goals_in;
     environment = g.environment;
     ambient = g.ambient;
+    reference = g.reference;
     lawful = g.lawful;
   }
 
@@ -71,6 +73,7 @@ module _ {Key Id Name : Type 0} where
     goals_in = goals_both q.store p.store g.added f.added (f.goes).later g.goals_in f.goals_in;
     environment = f.environment ∙ g.environment;
     ambient = f.ambient ∙ g.ambient;
+    reference = f.reference ∙ g.reference;
     lawful = λ l. f.lawful (g.lawful l);
   }
 
@@ -238,6 +241,7 @@ module _ {Key Id Name : Type 0} where
       goals_in = subst (λ s. All (GoalInContext s) f.added) (sym back.store) f.goals_in;
       environment = back.environment ∙ f.environment ∙ there.environment;
       ambient = back.ambient;
+      reference = back.reference ∙ f.reference ∙ there.reference;
       lawful = λ l. back.lawful (f.lawful (there.lawful l));
     }
 

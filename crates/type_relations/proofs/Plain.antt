@@ -96,6 +96,7 @@ module _ {Key Id Name : Type 0} (m : Meaning Key Id Name) where
       goals_in = All-nil (GoalInContext (plain_store m (cs ++ c ∷ [])));
       environment = refl;
       ambient = refl;
+      reference = refl;
       lawful = λ l. constraint_sound (plain_store m cs) (plain_store m (cs ++ c ∷ [])) (constraint_of m c) added l
           is_in;
     }

@@ -27,13 +27,15 @@ abbrev pub declared_by : (ℕ → List Variance) → Items
 declared_by table = record { declared = λ d i. get_or (table d) i Invariant; of_alias = λ d. None }
 
 -- A relation as it stands: what the keys of its interner mean; what it has recorded; the goals that it has registered,
--- and the environment in which they are to hold; the variance at which it relates; and its own invariant.
+-- and the environment in which they are to hold; the variance at which it relates; the reference that it holds, by its
+-- name, where it holds one; and its own invariant.
 pub record State (Key Id Name : Type 0) : Type 1 where
   pub meaning : Meaning Key Id Name
   pub store : Store
   pub goals : List Goal
   pub environment : Tree
   pub ambient : Variance
+  pub reference : ℕ
   pub lawful : Type 0
 
 -- The declared variances of a relation's items.
@@ -67,10 +69,11 @@ module _ {Key Id Name : Type 0} where
     pub goals : q.goals ≡ r.goals
     pub environment : q.environment ≡ r.environment
     pub ambient : q.ambient ≡ v
+    pub reference : q.reference ≡ r.reference
     pub lawful : r.lawful → q.lawful
 
   -- From one state to another with a pair of size `n` related, or a part of the work for it done: keys mean what they
-  -- meant, all that was recorded and registered stands, and the variance is as it was.
+  -- meant, all that was recorded and registered stands, and the variance and the reference are as they were.
   pub record Passes (n : ℕ) (r q : State Key Id Name) : Type 0 where
     pub extends : ExtendsMeaning r.meaning q.meaning
     pub goes : Goes n r.store q.store
@@ -79,6 +82,7 @@ module _ {Key Id Name : Type 0} where
     pub goals_in : All (GoalInContext q.store) added
     pub environment : q.environment ≡ r.environment
     pub ambient : q.ambient ≡ r.ambient
+    pub reference : q.reference ≡ r.reference
     pub lawful : r.lawful → q.lawful
 
   -- Two known terms of the relation's context that it takes at a variance.

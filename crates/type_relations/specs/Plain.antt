@@ -21,8 +21,8 @@ module _ {Key Id Name : Type 0} (m : Meaning Key Id Name) where
     budget = 0;
   }
 
-  -- The relation at a variance, with these recorded. It registers no goal, so any environment would do. It is lawful
-  -- where each constraint is on regions without variables that its interner knows.
+  -- The relation at a variance, with these recorded. It registers no goal, so any environment would do; and it holds no
+  -- reference. It is lawful where each constraint is on regions without variables that its interner knows.
   abbrev pub plain_state : Variance → List (RegionConstraint Key) → State Key Id Name
   plain_state v cs = record {
     meaning = m;
@@ -30,6 +30,7 @@ module _ {Key Id Name : Type 0} (m : Meaning Key Id Name) where
     goals = [];
     environment = node environment nil;
     ambient = v;
+    reference = 0;
     lawful = IsSound (plain_store cs);
   }
 

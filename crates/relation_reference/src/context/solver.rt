@@ -1,12 +1,12 @@
 //! The context as a solver's: relating at a variance.
-use crate::context::RefCtxt;
+use crate::context::{RefCtxt, SolverRelating};
 use relation_terms::terms::{Goal, Interner, ParamEnv, Predicate, Span, Ty, Variance};
 use type_relations::relate::solver_relating::{RelateExt, RelateGoals};
 
 impl<I: Interner> RelateExt for RefCtxt<I> {
     type Interner = I;
 
-    ghost use Rattle.std.specs.Prelude.{◌≡◌, ◌+◌, IsTrue, IfOk, IfErr, []};
+    ghost use Rattle.std.specs.Prelude.{◌≡◌, ◌≢◌, ◌+◌, IsTrue, IfOk, IfErr, []};
     ghost use Rattle.std.specs.Result.{IsOkAnd};
     ghost use Rattle.relation_terms.specs.Trees.{known};
     ghost use Rattle.relation_terms.specs.Meaning.{Extends};
@@ -17,38 +17,42 @@ impl<I: Interner> RelateExt for RefCtxt<I> {
     ghost use Rattle.type_relations.specs.Outcomes.{NoEqualTerms};
     ghost use Rattle.type_relations.specs.Headline.{AnswersGoals, KeepsEqualTerms, IsFirstOrderPair};
     ghost use Rattle.type_relations.specs.Errors.{ErrorOf};
-    ghost use Rattle.relation_reference.specs.Tables.{store_of, IsLawful, no_items};
+    ghost use Rattle.type_relations.specs.Taken.{IsTaken};
+    ghost use Rattle.type_relations.specs.Lawful.{declared_by};
+    ghost use Rattle.relation_reference.specs.Tables.{store_of, IsLawful};
 
     ghost interner = { λ c. c.interner };
 
     ghost store = { λ c. store_of (I.meaning c.interner) c.inner };
 
-    ghost items = { λ c. no_items };
+    ghost items = { λ c. declared_by (I.meaning c.interner).variances };
 
     ghost is_lawful = { λ c. IsLawful (I.meaning c.interner) c.inner };
 
     fn relate(
         &mut self,
-        _param_env: ParamEnv<I>,
+        param_env: ParamEnv<I>,
         lhs: Ty<I>,
-        _variance: Variance,
+        variance: Variance,
         rhs: Ty<I>,
         _span: Span<I>,
     ) -> RelateGoals<I>
         requires lawful { IsLawful (I.meaning self.old.interner) self.old.inner }
-        requires invariantly { _variance ≡ Variance.Invariant }
-        requires env_known { IsTrue (known ((I.meaning self.old.interner).param_env _param_env)) }
+        requires decides { variance ≢ Variance.Bivariant }
+        requires env_known { IsTrue (known ((I.meaning self.old.interner).param_env param_env)) }
         requires lhs_known { IsTrue (known ((I.meaning self.old.interner).ty lhs)) }
         requires rhs_known { IsTrue (known ((I.meaning self.old.interner).ty rhs)) }
+        requires lhs_taken { IsTaken variance ((I.meaning self.old.interner).ty lhs) }
+        requires rhs_taken { IsTaken variance ((I.meaning self.old.interner).ty rhs) }
         requires lhs_in { IsTermIn (store_of (I.meaning self.old.interner) self.old.inner) ((I.meaning self.old.interner).ty lhs) }
         requires rhs_in { IsTermIn (store_of (I.meaning self.old.interner) self.old.inner) ((I.meaning self.old.interner).ty rhs) }
-        ensures answers { IfOk result (λ goals. AnswersGoals no_items (store_of (I.meaning self.old.interner) self.old.inner) (store_of (I.meaning self.new.interner) self.new.inner) (goals_of (I.meaning self.new.interner) goals.items) ((I.meaning self.old.interner).param_env _param_env) _variance ((I.meaning self.old.interner).ty lhs) ((I.meaning self.old.interner).ty rhs)) }
+        ensures answers { IfOk result (λ goals. AnswersGoals (declared_by (I.meaning self.old.interner).variances) (store_of (I.meaning self.old.interner) self.old.inner) (store_of (I.meaning self.new.interner) self.new.inner) (goals_of (I.meaning self.new.interner) goals.items) ((I.meaning self.old.interner).param_env param_env) variance ((I.meaning self.old.interner).ty lhs) ((I.meaning self.old.interner).ty rhs)) }
         ensures keeps { IfOk result (λ goals. KeepsEqualTerms (store_of (I.meaning self.old.interner) self.old.inner) (store_of (I.meaning self.new.interner) self.new.inner) (goals_of (I.meaning self.new.interner) goals.items) ((I.meaning self.old.interner).ty lhs) ((I.meaning self.old.interner).ty rhs)) }
         ensures apart { IfUnrelated result (λ e. NoEqualTerms (store_of (I.meaning self.old.interner) self.old.inner) ((I.meaning self.old.interner).ty lhs) ((I.meaning self.old.interner).ty rhs)) }
         ensures errors { IfUnrelated result (λ e. ErrorOf (I.meaning self.new.interner) (store_of (I.meaning self.new.interner) self.new.inner) e ((I.meaning self.old.interner).ty lhs) ((I.meaning self.old.interner).ty rhs)) }
         ensures spent { IfSpent result ((store_of (I.meaning self.new.interner) self.new.inner).budget ≡ 0) }
         ensures same { (I.meaning self.old.interner).ty lhs ≡ (I.meaning self.old.interner).ty rhs → IsOkAnd result (λ goals. goals.items ≡ []) × (store_of (I.meaning self.new.interner) self.new.inner ≡ store_of (I.meaning self.old.interner) self.old.inner) }
-        ensures goals { IfOk result (λ goals. _variance ≡ Variance.Invariant → IsFirstOrderPair (store_of (I.meaning self.old.interner) self.old.inner) ((I.meaning self.old.interner).ty lhs) ((I.meaning self.old.interner).ty rhs) → goals.items ≡ []) }
+        ensures goals { IfOk result (λ goals. variance ≡ Variance.Invariant → IsFirstOrderPair (store_of (I.meaning self.old.interner) self.old.inner) ((I.meaning self.old.interner).ty lhs) ((I.meaning self.old.interner).ty rhs) → goals.items ≡ []) }
         ensures later { IsLater (store_of (I.meaning self.old.interner) self.old.inner) (store_of (I.meaning self.new.interner) self.new.inner) }
         ensures sound { IsSound (store_of (I.meaning self.new.interner) self.new.inner) }
         ensures budget { (store_of (I.meaning self.old.interner) self.old.inner).budget + all_bound (store_of (I.meaning self.old.interner) self.old.inner) ≡ (store_of (I.meaning self.new.interner) self.new.inner).budget + all_bound (store_of (I.meaning self.new.interner) self.new.inner) }
@@ -56,8 +60,14 @@ impl<I: Interner> RelateExt for RefCtxt<I> {
         ensures grown { Extends (I.meaning self.old.interner) (I.meaning self.new.interner) }
         ensures why_known { IfErr result (λ e. KnowsFault (I.meaning self.new.interner) e) }
     {
-        self.relate_tys(&lhs, &rhs)?;
-        Ok(Vec::new(self.interner.alloc()))
+        if lhs == rhs {
+            return Ok(Vec::new(self.interner.alloc()));
+        }
+        let mut relation = SolverRelating::new(self, variance, param_env);
+        let related = relation.relate_tys(&lhs, &rhs);
+        let infcx = relation.into_infcx();
+        related?;
+        Ok(Vec::new(infcx.interner.alloc()))
     }
 
     ghost sound = { λ c l. l.sound };

@@ -1,5 +1,9 @@
 //! Relating as a solver does: by what a context has recorded, and by recording more.
-ghost use Rattle.std.specs.Prelude.{◌≡◌};
+ghost use Rattle.std.specs.Prelude.{◌≡◌, ◌≢◌, IsTrue};
+ghost use Rattle.relation_terms.specs.Trees.{known};
+ghost use Rattle.relation_terms.specs.declared.terms.enums.Variance.TheVariants.{Bivariant};
+ghost use Rattle.type_relations.specs.Lawful.{Asked, Related};
+ghost use Rattle.relation_reference.specs.Tables.{IsLawful};
 ghost use Rattle.relation_reference.specs.Solving.{solving, solver_manner};
 
 use crate::context::RefCtxt;
@@ -7,6 +11,7 @@ use relation_terms::terms::{
     Const, Dup, GenericArgs, Interner, ItemOf, ParamEnv, Region, Ty, Variance,
 };
 use relation_tools::error::RelateResult;
+use type_relations::relate::structural::tys;
 use type_relations::relate::{Step, TypeRelation};
 
 /// Relates the terms of a context, at an ambient variance and in an environment.
@@ -39,6 +44,18 @@ impl<'a, I: Interner> SolverRelating<'a, I> {
         }
     }
 
+    // Relates two types.
+    pub(crate) fn relate_tys(&mut self, a: &Ty<I>, b: &Ty<I>) -> RelateResult<I, Ty<I>>
+        requires lawful { IsLawful (I.meaning self.old.infcx.now.interner) self.old.infcx.now.inner }
+        requires env_known { IsTrue (known ((I.meaning self.old.infcx.now.interner).param_env self.old.param_env)) }
+        requires decides { self.old.ambient_variance ≢ Bivariant }
+        requires asked { Asked solver_manner (solving self.old.infcx.ghost_name (I.meaning self.old.infcx.now.interner) self.old.infcx.now.inner self.old.ambient_variance self.old.param_env) self.old.ambient_variance ((I.meaning self.old.infcx.now.interner).ty a.now) ((I.meaning self.old.infcx.now.interner).ty b.now) }
+        ensures same_reference { self.new.infcx.ghost_name ≡ self.old.infcx.ghost_name }
+        ensures related { Related solver_manner (solving self.old.infcx.ghost_name (I.meaning self.old.infcx.now.interner) self.old.infcx.now.inner self.old.ambient_variance self.old.param_env) (solving self.new.infcx.ghost_name (I.meaning self.new.infcx.now.interner) self.new.infcx.now.inner self.new.ambient_variance self.new.param_env) self.old.ambient_variance ((I.meaning self.old.infcx.now.interner).ty a.now) ((I.meaning self.old.infcx.now.interner).ty b.now) (I.meaning self.new.infcx.now.interner).ty result }
+    {
+        tys(self, a, b)
+    }
+
     /// The context, with all that was recorded.
     pub fn into_infcx(self) -> &'a mut RefCtxt<I>
         ensures same_reference { result.ghost_name ≡ self.entry.infcx.ghost_name }
@@ -57,7 +74,7 @@ impl<'a, I: Interner> TypeRelation<I> for SolverRelating<'a, I> {
     ghost use Rattle.std.specs.Prelude.{refl};
     ghost use Rattle.relation_reference.specs.Solving.{solver_takes};
 
-    ghost state = { λ r. solving (I.meaning r.infcx.now.interner) r.infcx.now.inner r.ambient_variance r.param_env };
+    ghost state = { λ r. solving r.infcx.ghost_name (I.meaning r.infcx.now.interner) r.infcx.now.inner r.ambient_variance r.param_env };
 
     ghost interner = { λ r. r.infcx.now.interner };
 

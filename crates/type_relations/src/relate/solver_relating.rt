@@ -1,5 +1,5 @@
 //! The relation that a solver asks of its inference context.
-ghost use Rattle.std.specs.Prelude.{◌≡◌, ◌+◌, IsTrue, IfOk, IfErr, []};
+ghost use Rattle.std.specs.Prelude.{◌≡◌, ◌≢◌, ◌+◌, IsTrue, IfOk, IfErr, []};
 ghost use Rattle.std.specs.Result.{IsOkAnd};
 ghost use Rattle.relation_terms.specs.Trees.{known};
 ghost use Rattle.relation_terms.specs.Meaning.{Meaning, Extends};
@@ -11,6 +11,7 @@ ghost use Rattle.type_relations.specs.Steps.{IsLater};
 ghost use Rattle.type_relations.specs.Outcomes.{NoEqualTerms};
 ghost use Rattle.type_relations.specs.Headline.{AnswersGoals, KeepsEqualTerms, IsFirstOrderPair};
 ghost use Rattle.type_relations.specs.Errors.{ErrorOf};
+ghost use Rattle.type_relations.specs.Taken.{IsTaken};
 
 use relation_terms::terms::{Goal, Interner, Keys, ParamEnv, Predicate, Span, Ty, Variance};
 use relation_tools::error::RelateResult;
@@ -37,8 +38,8 @@ pub trait RelateExt {
 
     /// Relates two types at a variance, and answers the goals under which they are related.
     ///
-    /// Both types and the environment are the interner's, and the variables in them are the context's. The variance is
-    /// `Invariant` for now.
+    /// Both types and the environment are the interner's, and the variables in them are the context's. Types with other
+    /// variables than regions' are related at `Invariant`, all others at each variance but `Bivariant`.
     ///
     /// After `Ok`, each assignment that satisfies what is recorded and makes the goals true relates the types; and each
     /// that satisfied what was recorded and made them one extends to such a one. Equal types answer no goal and record
@@ -58,10 +59,12 @@ pub trait RelateExt {
         span: Span<Self::Interner>,
     ) -> RelateGoals<Self::Interner>
         requires lawful { is_lawful self.old }
-        requires invariantly { variance ≡ Variance.Invariant }
+        requires decides { variance ≢ Variance.Bivariant }
         requires env_known { IsTrue (known ((Self.Interner.meaning (interner self.old)).param_env param_env)) }
         requires lhs_known { IsTrue (known ((Self.Interner.meaning (interner self.old)).ty lhs)) }
         requires rhs_known { IsTrue (known ((Self.Interner.meaning (interner self.old)).ty rhs)) }
+        requires lhs_taken { IsTaken variance ((Self.Interner.meaning (interner self.old)).ty lhs) }
+        requires rhs_taken { IsTaken variance ((Self.Interner.meaning (interner self.old)).ty rhs) }
         requires lhs_in { IsTermIn (store self.old) ((Self.Interner.meaning (interner self.old)).ty lhs) }
         requires rhs_in { IsTermIn (store self.old) ((Self.Interner.meaning (interner self.old)).ty rhs) }
         ensures answers { IfOk result (λ goals. AnswersGoals (items self.old) (store self.old) (store self.new) (goals_of (Self.Interner.meaning (interner self.new)) goals.items) ((Self.Interner.meaning (interner self.old)).param_env param_env) variance ((Self.Interner.meaning (interner self.old)).ty lhs) ((Self.Interner.meaning (interner self.old)).ty rhs)) }
