@@ -1,5 +1,5 @@
 -- Relating in a context, step by step.
-use Rattle.std.proofs.Common.{◌≡◌, ◌≢◌, ℕ, ◌+◌, ◌*◌, ◌≤◌, refl, sym, ap, ◌∙◌, arith, subst, subst₂, [], IsTrue, Some, IfSome}
+use Rattle.std.proofs.Common.{◌≡◌, ◌≢◌, ℕ, ◌+◌, ◌*◌, ◌≤◌, refl, sym, ap, ◌∙◌, arith, subst, subst₂, [], All, IsTrue, Some, IfSome}
 use Rattle.std.proofs.Common.{Result, Ok, Err}
 use Rattle.std.proofs.lemmas.List.Elements.{All-nil}
 use Rattle.relation_terms.specs.declared.terms.enums.Variance.{Variance}
@@ -18,8 +18,9 @@ use Rattle.relation_tools.specs.Faults.{KnowsFault}
 use Rattle.type_relations.specs.declared.relate.Step.TheVariants.{Done, Parts, Again}
 use Rattle.type_relations.specs.Relation.{Items, Interpretation, Rel, RegionRule, regions, at}
 use Rattle.type_relations.specs.Stores.{Store, Satisfies, IsTermIn, IsRegionIn, IsSound, ConstraintIn, ConstraintHolds}
-use Rattle.type_relations.specs.Stores.{weight, resolved}
-use Rattle.type_relations.specs.Goals.{Goal, GoalInContext, MakesOneTree}
+use Rattle.type_relations.specs.Stores.{weight, resolved, all_bound}
+use Rattle.type_relations.specs.Goals.{Goal, GoalInContext, Holds, MakesOneTree}
+use Rattle.type_relations.specs.Headline.{AnswersGoals, KeepsEqualTerms}
 use Rattle.type_relations.specs.Steps.{IsLater, AddsConstraint, BindsTo, Instantiates}
 use Rattle.type_relations.specs.Outcomes.{Outcome, StepsTo}
 use Rattle.type_relations.specs.Measures.{Goes}
@@ -28,7 +29,7 @@ use Rattle.type_relations.specs.Parts.{IsFormed}
 use Rattle.type_relations.specs.Constraints.{constraint_at, constraint_of}
 use Rattle.type_relations.specs.Taken.{IsFixedLeaf, IsTakenLeaf}
 use Rattle.type_relations.specs.Lawful.{Passes, Asked, Takes, MayAnswer, Refuses, Related, Stepped, Leads, LeadsAgain}
-use Rattle.type_relations.specs.Lawful.{declared_by}
+use Rattle.type_relations.specs.Lawful.{declared_by, State, Verdict}
 use Rattle.type_relations.proofs.Trees.{all_leaves}
 use Rattle.type_relations.proofs.Going.{later_itself, goes_nowhere, goes_within}
 use Rattle.type_relations.proofs.ReadAs.{read_value, read_later, read_then, read_bound, read_weight}
@@ -414,3 +415,74 @@ module _ {Key Id Name : Type 0} (j : ℕ) where
         (root_above_back (store_of m x) before.sound target b a (leaf (variable type_var target)) t q p refl i) in
         refused_step g (answered_alike n {X = K} (store_of m x) (store_of n y) a b t (leaf (variable type_var target)) (Err f) before.sound g.later p q
         (instantiated_refused_back n (store_of m x) (store_of n y) target t K f formed h))
+
+  -- What a relation leaves as it was need not be named, nor the reference that it held.
+  module _ {X : Type 0} (m n : Meaning Key Id Name) (x y : InferCtxtInner Key) (v w : Variance) (e f : ParamEnvKey Key)
+      (i : ℕ) (env : IsTrue (known (m.param_env e))) (a b : Tree) (tree : X → Tree)
+      (result : Result X (RelateFault Key Id Name)) where
+    abbrev state_at : ℕ → Variance → Tree → State Key Id Name
+    state_at l u t = record {
+      meaning = n;
+      store = store_of n y;
+      goals = [];
+      environment = t;
+      ambient = u;
+      reference = l;
+      lawful = IsLawful n y × IsTrue (known t);
+    }
+
+    unnamed : Related solver_manner (solving j m x v e) (solving j n y v e) v a b tree result →
+        Related solver_manner (solving 0 m x v e) (solving 0 n y v e) v a b tree result
+    unnamed h = record {
+      passes = record {
+        extends = (h.passes).extends;
+        goes = (h.passes).goes;
+        added = (h.passes).added;
+        lengthens = (h.passes).lengthens;
+        goals_in = (h.passes).goals_in;
+        environment = (h.passes).environment;
+        ambient = (h.passes).ambient;
+        reference = refl;
+        lawful = (h.passes).lawful;
+      };
+      verdict = verdict result h.verdict;
+    }
+      where
+        verdict : (r : Result X (RelateFault Key Id Name)) →
+            Verdict solver_manner (solving j m x v e) (solving j n y v e) ((h.passes).added) v a b tree r →
+            Verdict solver_manner (solving 0 m x v e) (solving 0 n y v e) ((h.passes).added) v a b tree r
+        verdict (Ok t) o = record { outcome = o.outcome; answer = o.answer; known = o.known }
+        verdict (Err (Unrelated g)) o = o
+        verdict (Err Budget) o = o
+        verdict (Err Memory) o = tt
+
+    pub as_before : Related solver_manner (solving j m x v e) (solving i n y w f) v a b tree result →
+        Related solver_manner (solving 0 m x v e) (solving 0 n y v e) v a b tree result
+    as_before h =
+        let same_environment = (h.passes).environment ∙ sym (((h.passes).extends).param_env e env) in
+        unnamed (subst (λ l. Related solver_manner (solving j m x v e) (state_at l v (n.param_env e)) v a b tree result)
+        (h.passes).reference (subst₂ (λ u t. Related solver_manner (solving j m x v e) (state_at i u t) v a b tree result)
+        (h.passes).ambient same_environment h))
+
+  -- What relating has shown, as a solver answers it: no goal was registered.
+  module _ {X : Type 0} (m n : Meaning Key Id Name) (x y : InferCtxtInner Key) (v : Variance) (e : ParamEnvKey Key)
+      (a b : Tree) (tree : X → Tree) where
+    pub answers_goals : (t : X) → Related solver_manner (solving j m x v e) (solving j n y v e) v a b tree (Ok t) →
+        AnswersGoals (declared_by m.variances) (store_of m x) (store_of n y) [] (m.param_env e) v a b
+    answers_goals t h = (
+      λ w s sat all. ((h.verdict).outcome).relates w s sat
+          (subst (All (Holds (declared_by m.variances) w s)) (h.passes).lengthens
+          (All-nil (Holds (declared_by m.variances) w s))),
+      ((h.passes).goes).later.shrinks,
+    )
+
+    pub keeps_equal : (t : X) → Related solver_manner (solving j m x v e) (solving j n y v e) v a b tree (Ok t) →
+        KeepsEqualTerms (store_of m x) (store_of n y) [] a b
+    keeps_equal t h = λ w s sat one. let z = ((h.verdict).outcome).keeps w s sat one in
+        (z.0, z.1, (z.2.0, All-nil (MakesOneTree z.0)))
+
+    module _ (r : Result X (RelateFault Key Id Name))
+        (h : Related solver_manner (solving j m x v e) (solving j n y v e) v a b tree r) where
+      pub budget_counts : (store_of m x).budget + all_bound (store_of m x) ≡
+          (store_of n y).budget + all_bound (store_of n y)
+      budget_counts = let c = ((h.passes).goes).counts in let d = ((h.passes).goes).binds in omega (arith, c, d)

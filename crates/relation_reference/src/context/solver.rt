@@ -1,5 +1,6 @@
 //! The context as a solver's: relating at a variance.
-use crate::context::{RefCtxt, SolverRelating};
+use crate::context::RefCtxt;
+use crate::context::solver_relating::relate_in;
 use relation_terms::terms::{Goal, Interner, ParamEnv, Predicate, Span, Ty, Variance};
 use type_relations::relate::solver_relating::{RelateExt, RelateGoals};
 
@@ -63,11 +64,8 @@ impl<I: Interner> RelateExt for RefCtxt<I> {
         if lhs == rhs {
             return Ok(Vec::new(self.interner.alloc()));
         }
-        let mut relation = SolverRelating::new(self, variance, param_env);
-        let related = relation.relate_tys(&lhs, &rhs);
-        let infcx = relation.into_infcx();
-        related?;
-        Ok(Vec::new(infcx.interner.alloc()))
+        relate_in(self, param_env, &lhs, variance, &rhs)?;
+        Ok(Vec::new(self.interner.alloc()))
     }
 
     ghost sound = { λ c l. l.sound };

@@ -19,6 +19,7 @@ use type_relations::relate::{Step, TypeRelation};
 /// Types are read by what is recorded of variables. A variable and a type that it is related with are made one; of two
 /// regions it is recorded which has to outlive the other. Terms with other variables than regions' are related at
 /// `Invariant` alone.
+#[derive(Drop)]
 pub struct SolverRelating<'a, I: Interner> {
     infcx: &'a mut RefCtxt<I>,
     ambient_variance: Variance,
@@ -45,13 +46,13 @@ impl<'a, I: Interner> SolverRelating<'a, I> {
     }
 
     // Relates two types.
-    pub(crate) fn relate_tys(&mut self, a: &Ty<I>, b: &Ty<I>) -> RelateResult<I, Ty<I>>
+    fn relate_tys(&mut self, a: &Ty<I>, b: &Ty<I>) -> RelateResult<I, Ty<I>>
         requires lawful { IsLawful (I.meaning self.old.infcx.now.interner) self.old.infcx.now.inner }
         requires env_known { IsTrue (known ((I.meaning self.old.infcx.now.interner).param_env self.old.param_env)) }
         requires decides { self.old.ambient_variance ≢ Bivariant }
-        requires asked { Asked solver_manner (solving self.old.infcx.ghost_name (I.meaning self.old.infcx.now.interner) self.old.infcx.now.inner self.old.ambient_variance self.old.param_env) self.old.ambient_variance ((I.meaning self.old.infcx.now.interner).ty a.now) ((I.meaning self.old.infcx.now.interner).ty b.now) }
+        requires asked { Asked solver_manner (solving 0 (I.meaning self.old.infcx.now.interner) self.old.infcx.now.inner self.old.ambient_variance self.old.param_env) self.old.ambient_variance ((I.meaning self.old.infcx.now.interner).ty a.now) ((I.meaning self.old.infcx.now.interner).ty b.now) }
         ensures same_reference { self.new.infcx.ghost_name ≡ self.old.infcx.ghost_name }
-        ensures related { Related solver_manner (solving self.old.infcx.ghost_name (I.meaning self.old.infcx.now.interner) self.old.infcx.now.inner self.old.ambient_variance self.old.param_env) (solving self.new.infcx.ghost_name (I.meaning self.new.infcx.now.interner) self.new.infcx.now.inner self.new.ambient_variance self.new.param_env) self.old.ambient_variance ((I.meaning self.old.infcx.now.interner).ty a.now) ((I.meaning self.old.infcx.now.interner).ty b.now) (I.meaning self.new.infcx.now.interner).ty result }
+        ensures related { Related solver_manner (solving 0 (I.meaning self.old.infcx.now.interner) self.old.infcx.now.inner self.old.ambient_variance self.old.param_env) (solving 0 (I.meaning self.new.infcx.now.interner) self.new.infcx.now.inner self.old.ambient_variance self.old.param_env) self.old.ambient_variance ((I.meaning self.old.infcx.now.interner).ty a.now) ((I.meaning self.old.infcx.now.interner).ty b.now) (I.meaning self.new.infcx.now.interner).ty result }
     {
         tys(self, a, b)
     }
@@ -68,6 +69,30 @@ impl<'a, I: Interner> SolverRelating<'a, I> {
         } = self;
         infcx
     }
+}
+
+// Relates two types of a context at a variance, in an environment.
+pub(crate) fn relate_in<I: Interner>(
+    infcx: &mut RefCtxt<I>,
+    param_env: ParamEnv<I>,
+    a: &Ty<I>,
+    variance: Variance,
+    b: &Ty<I>,
+) -> RelateResult<I, Ty<I>>
+    requires lawful { IsLawful (I.meaning infcx.old.interner) infcx.old.inner }
+    requires env_known { IsTrue (known ((I.meaning infcx.old.interner).param_env param_env)) }
+    requires decides { variance ≢ Bivariant }
+    requires asked { Asked solver_manner (solving 0 (I.meaning infcx.old.interner) infcx.old.inner variance param_env) variance ((I.meaning infcx.old.interner).ty a.now) ((I.meaning infcx.old.interner).ty b.now) }
+    ensures { Related solver_manner (solving 0 (I.meaning infcx.old.interner) infcx.old.inner variance param_env) (solving 0 (I.meaning infcx.new.interner) infcx.new.inner variance param_env) variance ((I.meaning infcx.old.interner).ty a.now) ((I.meaning infcx.old.interner).ty b.now) (I.meaning infcx.new.interner).ty result }
+{
+    let mut relation = SolverRelating {
+        infcx,
+        ambient_variance: variance,
+        param_env,
+    };
+    let related = relation.relate_tys(a, b);
+    let _infcx = relation.into_infcx();
+    related
 }
 
 impl<'a, I: Interner> TypeRelation<I> for SolverRelating<'a, I> {
