@@ -1,35 +1,29 @@
 -- Relating a root with a type by binding it first.
-use Rattle.std.proofs.Common.{◌≡◌, ℕ, suc, ◌+◌, ◌*◌, ◌<◌, ◌≤◌, max, min, refl, sym, ap, ap₂, ◌∙◌, arith, subst, Result, Ok, Err, None}
+use Rattle.std.proofs.Common.{◌≡◌, ℕ, ◌+◌, ◌*◌, ◌≤◌, max, min, refl, sym, ap, ap₂, ◌∙◌, arith, subst, None}
 use Rattle.std.proofs.Math.Nat.{mul-le-mul}
 use native.Mathlib.Decide.{ℕ_discrete, dec_le}
 use Rattle.relation_terms.specs.Heads.{type_var, region_var, type_sort, variable}
-use Rattle.relation_terms.specs.Meaning.{Meaning}
 use Rattle.relation_terms.specs.Trees.{Tree, leaf, Assign, apply, Occurs, IsTerm, size}
-use Rattle.relation_tools.specs.declared.error.RelateFault.{RelateFault}
-use Rattle.relation_tools.specs.declared.error.RelateFault.TheVariants.{Memory, Budget, Unrelated}
 use Rattle.type_relations.specs.Relation.{same}
-use Rattle.type_relations.specs.Stores.{Store, unbound, bound_to, entry_of, entry_term, bound_term, IsTermIn, IsSound, resolved, weight, MeetsBindings}
+use Rattle.type_relations.specs.Stores.{Store, unbound, bound_to, entry_of, entry_term, bound_term, IsTermIn, IsSound, resolved, weight}
 use Rattle.type_relations.specs.Steps.{BindsTo, Equates}
-use Rattle.type_relations.specs.Measures.{Goes, grown, depth}
-use Rattle.type_relations.specs.Errors.{IsReadAs, itself, of_entries}
-use Rattle.type_relations.proofs.ReadAs.{read_later, read_bound, read_weight}
+use Rattle.type_relations.specs.Measures.{Goes}
+use Rattle.type_relations.specs.Errors.{IsReadAs}
+use Rattle.type_relations.proofs.ReadAs.{read_weight}
 use Rattle.type_relations.proofs.Only.{absent}
-use Rattle.type_relations.proofs.Resolved.{resolved_value, resolved_twice, resolved_weight}
+use Rattle.type_relations.proofs.Resolved.{resolved_twice, resolved_weight}
 use Rattle.type_relations.proofs.Written.{resolved_later}
 use Rattle.type_relations.proofs.Standing.{later_term}
 use Rattle.type_relations.proofs.StoreCalls.{resolved_resolves}
-use Rattle.type_relations.proofs.Going.{depth-mono, goes_nowhere, goes_within, goes_then}
+use Rattle.type_relations.proofs.Going.{goes_nowhere, goes_within}
 use Rattle.type_relations.proofs.Equating.{equated_goes, equated_value, equated_keeps}
-use Rattle.relation_reference.specs.Answers.{IsShallow, root, formed, Unites, Answered}
+use Rattle.relation_reference.specs.Answers.{IsShallow, root, formed, Unites}
 use Rattle.type_relations.specs.Parts.{IsFormed}
-use Rattle.relation_reference.proofs.Binding.{binding_sound, binding_equal, binding_goes_at, binding_unites}
+use Rattle.relation_reference.proofs.Binding.{binding_goes_at}
 use Rattle.relation_reference.proofs.Relating.{same_unites}
 
 pub square_above : (W N M : ℕ) → M ≡ W + W → W + 1 ≤ N → M ≤ N * N
 square_above W N M e h = let d : (W + 1) * (W + 1) ≤ N * N = mul-le-mul h h in let s : (W + 1) * (W + 1) ≡ W * W + W + W + 1 = grind arith in omega arith
-
-depth_under : (b B W N M : ℕ) → B ≡ suc b → M ≡ W + W → W + 1 ≤ N → 4 * depth b M + 2 < 4 * depth B N + 2
-depth_under b B W N M p e h = subst (λ z. 4 * depth b M + 2 < 4 * depth z N + 2) (sym p) (let d : depth b M ≤ depth b (N * N) = depth-mono b M (N * N) (square_above W N M e h) in omega arith)
 
 pub root_free : (st : Store) (n : ℕ) (t : Tree) → t ≡ leaf (variable type_var n) → IsShallow st t → entry_of st type_var n ≡ unbound
 root_free st n t e (formed f) = absurd (subst IsFormed e f)
@@ -81,63 +75,11 @@ module _ (before after : Store) (n : ℕ) (t u : Tree) (q : BindsTo before after
   pub binding_square : (N : ℕ) → weight before t + 1 ≤ N → weight after u + weight after t ≤ N * N
   binding_square N h = square_above (weight before t) N (weight after u + weight after t) (ap₂ ◌+◌ left_weight right_weight) h
 
-  pub binding_under : (N : ℕ) → weight before t + 1 ≤ N → 4 * depth after.budget (weight after u + weight after t) + 2 < 4 * depth before.budget N + 2
-  binding_under N h = depth_under after.budget before.budget (weight before t) N (weight after u + weight after t) q.one_spent (ap₂ ◌+◌ left_weight right_weight) h
-
-  pub binding_under_back : (N : ℕ) → weight before t + 1 ≤ N → 4 * depth after.budget (weight after t + weight after u) + 2 < 4 * depth before.budget N + 2
-  binding_under_back N h = depth_under after.budget before.budget (weight before t) N (weight after t + weight after u) q.one_spent (ap₂ ◌+◌ right_weight left_weight) h
-
-  module _ (last : Store) (N : ℕ) (above : weight before t + 1 ≤ N) where
-    then_goes : (M : ℕ) → M ≡ weight before t + weight before t → Goes M after last → Goes N before last
-    then_goes M z f =
-        let b = binding_goes_at before after n t u q g first is_in e away stands N (omega (arith, above)) in
-        let spent : b.spent ≡ 1 = (let c = b.counts in let o = q.one_spent in omega arith) in
-        goes_then b f (subst (λ k. M ≤ grown k N) (sym spent) (square_above (weight before t) N M z above))
-
-    pub binding_then_goes : Goes (weight after u + weight after t) after last → Goes N before last
-    binding_then_goes f = then_goes (weight after u + weight after t) (ap₂ ◌+◌ left_weight right_weight) f
-
-    pub binding_then_goes_back : Goes (weight after t + weight after u) after last → Goes N before last
-    binding_then_goes_back f = then_goes (weight after t + weight after u) (ap₂ ◌+◌ right_weight left_weight) f
-
   pub binding_in : (v : Tree) → IsTermIn before v → IsTermIn after v
   binding_in v h = let l = (binding_goes_at before after n t u q g first is_in e away stands (weight before t) (omega arith)).later in later_term before after l.grows l.universe_stands v h
 
   pub bound_in : IsTermIn after u
   bound_in = binding_in u (subst (IsTermIn before) (sym e) ((resolved_resolves before t g).is_in is_in))
-
-  united : Unites before after (leaf (variable type_var n)) t
-  united = binding_unites before after n t u q g first is_in e away stands
-
-  value : (s : Assign) → MeetsBindings before s → apply s u ≡ apply s t
-  value s h = ap (apply s) e ∙ sym (resolved_value before s h t)
-
-  module _ (last : Store) {M : ℕ} (goes : Goes M after last) where
-    after_sound : IsSound after
-    after_sound = binding_sound before after n t u q g first is_in e away stands
-
-    -- The root is read as the bound type.
-    reads : IsReadAs last (leaf (variable type_var n)) u
-    reads = read_later after last after_sound goes.later (leaf (variable type_var n)) u (read_bound after n u q.writes.written)
-
-    module _ {Key Id Name : Type 0} (m : Meaning Key Id Name) where
-      pub then_answered : {X : Type 0} (r : Result X (RelateFault Key Id Name)) → Answered m after last u t r → Answered m before last (leaf (variable type_var n)) t r
-      then_answered (Ok x) h = record {
-        relates = λ c v w s sat. united.relates c v w s (goes.later.shrinks w s sat);
-        keeps = λ w s sat z. h.keeps w s (united.keeps w s sat z) (value s sat.bindings);
-      }
-      then_answered (Err Memory) h = tt
-      then_answered (Err Budget) h = h
-      then_answered (Err (Unrelated f)) h = (λ w s sat z. h.0 w s (united.keeps w s sat z) (value s sat.bindings), of_entries reads (itself refl) h.1)
-
-      pub then_answered_back : {X : Type 0} (r : Result X (RelateFault Key Id Name)) → Answered m after last t u r → Answered m before last t (leaf (variable type_var n)) r
-      then_answered_back (Ok x) h = record {
-        relates = λ c v w s sat. same (sym (binding_equal before after n t u q g first is_in e away stands w s (goes.later.shrinks w s sat)));
-        keeps = λ w s sat z. h.keeps w s (united.keeps w s sat (sym z)) (sym (value s sat.bindings));
-      }
-      then_answered_back (Err Memory) h = tt
-      then_answered_back (Err Budget) h = h
-      then_answered_back (Err (Unrelated f)) h = (λ w s sat z. h.0 w s (united.keeps w s sat (sym z)) (sym (value s sat.bindings)), of_entries (itself refl) reads h.1)
 
 -- Two roots were made one.
 module _ (before after : Store) (x y : ℕ) (g : IsSound before) (stays : x ≡ y → after ≡ before) (q : (x ≡ y → ⊥) → Equates before after type_var (max x y) (min x y)) where

@@ -9,11 +9,11 @@ use Rattle.relation_terms.specs.Meaning.{Meaning, Extends}
 use Rattle.relation_terms.specs.declared.predicate.RegionConstraint.{RegionConstraint}
 use Rattle.relation_terms.specs.declared.terms.numbers.UniverseIndex.{UniverseIndex}
 use Rattle.type_relations.specs.Relation.{sort_of}
-use Rattle.type_relations.specs.Stores.{Store, unbound, entry_of, IsSound, IsAssignment, IsTermIn, IsRegionIn, Constraint, ConstraintIn}
+use Rattle.type_relations.specs.Stores.{Store, unbound, entry_of, IsSound, IsAssignment, IsTermIn, Constraint, ConstraintIn}
 use Rattle.type_relations.specs.Steps.{MakesVariable, AddsConstraint, IsLater}
 use Rattle.type_relations.specs.Measures.{Goes}
 use Rattle.type_relations.proofs.Standing.{made_of_term, stands_term, term_sort_of}
-use Rattle.type_relations.proofs.Growing.{entry_push, made_sound, made_is_later, constraint_sound, constraint_is_later, constraint_bound, constraint_weight, constraint_holds, constraint_keeps}
+use Rattle.type_relations.proofs.Growing.{entry_push, made_sound, made_is_later, constraint_sound, constraint_is_later, constraint_bound, constraint_weight}
 use Rattle.type_relations.proofs.Going.{later_itself, goes_nowhere}
 use Rattle.relation_reference.specs.declared.context.inner.TypeVariableValue.TheVariants.{Unknown}
 use Rattle.relation_reference.specs.declared.context.inner.TypeVariable.{TypeVariable}

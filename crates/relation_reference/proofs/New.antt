@@ -5,7 +5,8 @@ use Rattle.relation_terms.specs.Meaning.{Meaning}
 use Rattle.type_relations.specs.Stores.{unbound}
 use Rattle.type_relations.proofs.Empty.{empty_sound}
 use Rattle.relation_reference.specs.declared.context.inner.InferCtxtInner.{InferCtxtInner}
-use Rattle.relation_reference.specs.Tables.{store_of, IsLawful, constraint_of}
+use Rattle.relation_reference.specs.Tables.{store_of, IsLawful}
+use Rattle.type_relations.specs.Constraints.{constraint_of}
 
 module _ {Key Id Name : Type 0} (m : Meaning Key Id Name) (x : InferCtxtInner Key) (types : x.types.items ≡ []) (regions : x.regions.items ≡ []) (constraints : x.constraints.items ≡ []) where
   entries : (k : VarKind) → (store_of m x).entries k ≡ []

@@ -1,21 +1,18 @@
 -- Parts of types, and resolving them.
-use Rattle.std.proofs.Common.{◌≡◌, ℕ, zero, suc, ◌+◌, ◌*◌, ◌<◌, refl, sym, ap, ap₂, ◌∙◌, arith, subst, subst₂, IsTrue}
+use Rattle.std.proofs.Common.{◌≡◌, ℕ, suc, ◌+◌, ◌<◌, refl, sym, ap, ap₂, ◌∙◌, arith, subst, subst₂, IsTrue}
 use Rattle.std.proofs.Common.{true, ◌&&◌, None, List, [], ◌∷◌, ◌++◌}
 use Rattle.std.proofs.lemmas.Bool.{and_parts}
 use Rattle.relation_terms.specs.Heads.{VarKind, type_var, int_var, float_var, const_var, region_var, region_sort}
 use Rattle.relation_terms.specs.Heads.{var_sort, Admits, Head, Leaf, atom, variable, bound, placeholder, unknown}
-use Rattle.relation_terms.specs.Trees.{Tree, leaf, node, bind, nil, cons, Assign, apply, Leaves, size, count, nth}
+use Rattle.relation_terms.specs.Trees.{Tree, leaf, node, bind, nil, cons, Assign, apply, size, count, nth}
 use Rattle.relation_terms.specs.Trees.{known, list_tree, IsTerm, IsList}
-use Rattle.relation_terms.specs.Meaning.{Meaning, Extends, infer_tree}
-use Rattle.relation_terms.specs.declared.terms.ty_kind.InferTy.{InferTy}
+use Rattle.relation_terms.specs.Meaning.{Meaning, Extends}
 use Rattle.relation_terms.specs.declared.terms.ty_kind.InferTy.TheVariants.{TyVar}
-use Rattle.type_relations.specs.Relation.{StaysWithin}
-use Rattle.type_relations.specs.Stores.{Store, entry_term, bound_term, IsNamable, IsMadeLeaf, IsSound, IsTermIn}
-use Rattle.type_relations.specs.Stores.{InContext, resolved, weight, MeetsBindings}
-use Rattle.type_relations.proofs.Resolved.{resolved_free, resolved_alike, weight_alike}
+use Rattle.type_relations.specs.Stores.{Store, entry_term, bound_term, IsSound, IsTermIn}
+use Rattle.type_relations.specs.Stores.{InContext, resolved, weight}
+use Rattle.type_relations.proofs.Resolved.{resolved_free}
 use Rattle.relation_reference.specs.declared.context.inner.InferCtxtInner.{InferCtxtInner}
 use Rattle.relation_reference.specs.Tables.{store_of, IsLawful}
-use Rattle.type_relations.specs.Parts.{IsFormed}
 use Rattle.relation_reference.specs.Answers.{IsShallow, root, formed}
 use Rattle.relation_terms.proofs.Stays.{stays_list}
 use Rattle.relation_terms.specs.declared.terms.keys.TyKey.{TyKey}

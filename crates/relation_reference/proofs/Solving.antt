@@ -1,5 +1,5 @@
 -- Relating in a context, step by step.
-use Rattle.std.proofs.Common.{◌≡◌, ◌≢◌, ℕ, ◌+◌, ◌*◌, ◌≤◌, refl, sym, ap, ◌∙◌, arith, subst, subst₂, [], All, IsTrue, Some, IfSome}
+use Rattle.std.proofs.Common.{◌≡◌, ◌≢◌, ℕ, ◌+◌, ◌≤◌, refl, sym, ap, ◌∙◌, arith, subst, subst₂, [], All, IsTrue, Some, IfSome}
 use Rattle.std.proofs.Common.{Result, Ok, Err}
 use Rattle.std.proofs.lemmas.List.Elements.{All-nil}
 use Rattle.relation_terms.specs.declared.terms.enums.Variance.{Variance}
@@ -16,27 +16,27 @@ use Rattle.relation_tools.specs.declared.error.RelateFault.{RelateFault}
 use Rattle.relation_tools.specs.declared.error.RelateFault.TheVariants.{Memory, Budget, Unrelated}
 use Rattle.relation_tools.specs.Faults.{KnowsFault}
 use Rattle.type_relations.specs.declared.relate.Step.TheVariants.{Done, Parts, Again}
-use Rattle.type_relations.specs.Relation.{Items, Interpretation, Rel, RegionRule, regions, at}
-use Rattle.type_relations.specs.Stores.{Store, Satisfies, IsTermIn, IsRegionIn, IsSound, ConstraintIn, ConstraintHolds}
+use Rattle.type_relations.specs.Relation.{Interpretation, Rel, RegionRule, regions, at}
+use Rattle.type_relations.specs.Stores.{Store, IsTermIn, IsRegionIn, IsSound, ConstraintHolds}
 use Rattle.type_relations.specs.Stores.{weight, resolved, all_bound}
-use Rattle.type_relations.specs.Goals.{Goal, GoalInContext, Holds, MakesOneTree}
+use Rattle.type_relations.specs.Goals.{GoalInContext, Holds, MakesOneTree}
 use Rattle.type_relations.specs.Headline.{AnswersGoals, KeepsEqualTerms}
-use Rattle.type_relations.specs.Steps.{IsLater, AddsConstraint, BindsTo, Instantiates}
+use Rattle.type_relations.specs.Steps.{AddsConstraint, BindsTo, Instantiates}
 use Rattle.type_relations.specs.Outcomes.{Outcome, StepsTo}
 use Rattle.type_relations.specs.Measures.{Goes}
 use Rattle.type_relations.specs.Errors.{IsReadAs, itself, by_entry, of_entries}
 use Rattle.type_relations.specs.Parts.{IsFormed}
 use Rattle.type_relations.specs.Constraints.{constraint_at, constraint_of}
-use Rattle.type_relations.specs.Taken.{IsFixedLeaf, IsTakenLeaf}
-use Rattle.type_relations.specs.Lawful.{Passes, Asked, Takes, MayAnswer, Refuses, Related, Stepped, Leads, LeadsAgain}
+use Rattle.type_relations.specs.Taken.{IsFixedLeaf}
+use Rattle.type_relations.specs.Lawful.{Passes, Asked, Takes, Refuses, Related, Stepped, Leads, LeadsAgain}
 use Rattle.type_relations.specs.Lawful.{declared_by, State, Verdict}
 use Rattle.type_relations.proofs.Trees.{all_leaves}
-use Rattle.type_relations.proofs.Going.{later_itself, goes_nowhere, goes_within}
+use Rattle.type_relations.proofs.Going.{later_itself, goes_within}
 use Rattle.type_relations.proofs.ReadAs.{read_value, read_later, read_then, read_bound, read_weight}
 use Rattle.type_relations.proofs.Standing.{later_term, term_context}
 use Rattle.type_relations.proofs.Opening.{instantiating_steps}
 use Rattle.type_relations.proofs.Growing.{constraint_holds, constraint_keeps}
-use Rattle.type_relations.proofs.Constraints.{asked_in, asked_relates, asked_met}
+use Rattle.type_relations.proofs.Constraints.{asked_relates, asked_met}
 use Rattle.type_relations.proofs.Passing.{passes_nowhere}
 use Rattle.relation_reference.specs.declared.context.inner.InferCtxtInner.{InferCtxtInner}
 use Rattle.relation_reference.specs.Tables.{store_of, IsLawful}

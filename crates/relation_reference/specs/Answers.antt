@@ -1,19 +1,14 @@
 -- What calls over a context show.
 use Rattle.std.specs.Prelude.{◌≡◌, ℕ, ◌<◌, Result, Ok, Err, None}
-use Rattle.relation_terms.specs.Heads.{type_var, variable, array, value}
-use Rattle.relation_terms.specs.Trees.{Tree, leaf, node, Assign, apply, Occurs, nth}
+use Rattle.relation_terms.specs.Heads.{type_var, variable}
+use Rattle.relation_terms.specs.Trees.{Tree, leaf, Assign, apply, Occurs}
 use Rattle.relation_terms.specs.declared.terms.enums.Variance.TheVariants.{Invariant}
-use Rattle.relation_tools.specs.declared.error.TypeError.{TypeError}
-use Rattle.relation_tools.specs.declared.error.TypeError.TheVariants.{CyclicTy, ArraySize, ConstMismatch}
+use Rattle.relation_tools.specs.declared.error.TypeError.TheVariants.{CyclicTy}
 use Rattle.relation_tools.specs.declared.error.RelateFault.{RelateFault}
 use Rattle.relation_tools.specs.declared.error.RelateFault.TheVariants.{Memory, Budget, Unrelated}
 use Rattle.type_relations.specs.Relation.{Items, Interpretation, Rel, at}
 use Rattle.relation_terms.specs.Meaning.{Meaning}
 use Rattle.relation_terms.specs.declared.terms.keys.TyKey.{TyKey}
-use Rattle.relation_terms.specs.declared.terms.keys.ConstKey.{ConstKey}
-use Rattle.relation_terms.specs.declared.terms.generic_arg.GenericArgKind.{GenericArgKind}
-use Rattle.relation_terms.specs.declared.terms.generic_arg.GenericArgKind.TheVariants.{Const}
-use Rattle.relation_tools.specs.declared.error.ExpectedFound.{ExpectedFound}
 use Rattle.type_relations.specs.Stores.{Store, same_as, entry_of, bound_term, resolved, Satisfies}
 use Rattle.type_relations.specs.Steps.{BindsTo, ChangesNothing, Instantiates, RefusesToInstantiate}
 use Rattle.type_relations.specs.Outcomes.{NoEqualTerms}
@@ -38,12 +33,6 @@ pub data IsShallow (st : Store) (t : Tree) : Type 0 where
 pub record Unites (before after : Store) (a b : Tree) : Type 0 where
   pub relates : (c : Items) (e : Tree) (w : Interpretation) (s : Assign) → Satisfies w after s →
       Rel c w e (at Invariant) (apply s a) (apply s b)
-  pub keeps : (w : Interpretation) (s : Assign) → Satisfies w before s → apply s a ≡ apply s b → Satisfies w after s
-
--- The first places of two lists were made one.
-pub record IsFront (before after : Store) (i : ℕ) (a b : Tree) : Type 0 where
-  pub relates : (c : Items) (e : Tree) (w : Interpretation) (s : Assign) (j : ℕ) → j < i → Satisfies w after s →
-      Rel c w e (at Invariant) (apply s (nth j a)) (apply s (nth j b))
   pub keeps : (w : Interpretation) (s : Assign) → Satisfies w before s → apply s a ≡ apply s b → Satisfies w after s
 
 -- What binding a root to a type answers: it is bound to what the type comes to; or nothing is bound, since the root

@@ -1,10 +1,8 @@
 -- What the tables of a context mean: the store that they record, and the invariant of a context.
-use Rattle.std.specs.Prelude.{◌≡◌, ℕ, ◌<◌, false, None, [], map, length, get_or}
+use Rattle.std.specs.Prelude.{◌≡◌, ℕ, ◌<◌, false, [], map, length, get_or}
 use Rattle.relation_terms.specs.Heads.{VarKind, type_var, int_var, float_var, const_var, region_var, variable}
-use Rattle.relation_terms.specs.Trees.{Tree, leaf, node, nil}
+use Rattle.relation_terms.specs.Trees.{Tree, leaf, nil}
 use Rattle.relation_terms.specs.Meaning.{Meaning}
-use Rattle.relation_terms.specs.declared.terms.enums.Variance.TheVariants.{Invariant}
-use Rattle.type_relations.specs.Relation.{Items}
 use Rattle.type_relations.specs.Stores.{Store, Entry, entry_of, unbound, same_as, bound_to, IsSound}
 use Rattle.type_relations.specs.Constraints.{constraint_of}
 use Rattle.type_relations.specs.Parts.{IsFormed}
@@ -19,10 +17,6 @@ by_kind t r d region_var = r
 by_kind t r d int_var = d
 by_kind t r d float_var = d
 by_kind t r d const_var = d
-
--- No item declares variances.
-abbrev pub no_items : Items
-no_items = record { declared = λ d i. Invariant; of_alias = λ d. None }
 
 module _ {Key Id Name : Type 0} (m : Meaning Key Id Name) where
   -- What is recorded of a variable.

@@ -2,7 +2,6 @@
 
 mod inner;
 mod recording;
-mod relating;
 mod resolving;
 mod solver;
 mod solver_relating;

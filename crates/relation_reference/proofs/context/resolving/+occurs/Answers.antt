@@ -1,7 +1,7 @@
-use Rattle.std.proofs.Common.{rules, ◌≡◌, ◌∙◌, ◌+◌, ◌*◌, sym, ap, subst, arith, ◌<◌, refl}
+use Rattle.std.proofs.Common.{rules, ◌≡◌, ◌+◌, ◌*◌, sym, ap, subst, arith, ◌<◌}
 use Rattle.std.proofs.lemmas.Bool.{true≢false, false≢true}
 use Rattle.relation_terms.specs.Heads.{type_var}
-use Rattle.relation_terms.specs.Trees.{known, size, Occurs, IsTerm}
+use Rattle.relation_terms.specs.Trees.{size, Occurs, IsTerm}
 use Rattle.relation_terms.specs.Meaning.{arg_tree, const_tree}
 use Rattle.relation_terms.specs.declared.terms.keys.TyKey.{TyKey}
 use Rattle.relation_terms.specs.declared.terms.keys.ValTreeKey.{ValTreeKey}

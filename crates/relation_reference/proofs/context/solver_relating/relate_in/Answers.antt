@@ -1,4 +1,4 @@
-use Rattle.std.proofs.Common.{◌≡◌, sym, ◌∙◌, subst}
+use Rattle.std.proofs.Common.{sym, ◌∙◌, subst}
 use Rattle.type_relations.specs.Lawful.{Related}
 use Rattle.relation_reference.specs.Solving.{solving, solver_manner}
 use Rattle.relation_reference.proofs.context.solver_relating.relate_in.Goals as goal

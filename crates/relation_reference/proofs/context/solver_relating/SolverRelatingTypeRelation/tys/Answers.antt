@@ -1,12 +1,11 @@
-use Rattle.std.proofs.Common.{◌≡◌, ◌+◌, refl, sym, ap, ◌∙◌, subst, arith, IsTrue, Err}
+use Rattle.std.proofs.Common.{◌≡◌, refl, sym, ap, ◌∙◌, subst, arith}
 use Rattle.relation_terms.specs.Heads.{type_var, variable}
-use Rattle.relation_terms.specs.Trees.{leaf, known}
-use Rattle.relation_terms.specs.declared.terms.enums.Variance.TheVariants.{Invariant}
-use Rattle.type_relations.specs.Stores.{weight, IsTermIn}
+use Rattle.relation_terms.specs.Trees.{leaf}
+use Rattle.type_relations.specs.Stores.{IsTermIn}
 use Rattle.type_relations.specs.Measures.{Goes}
 use Rattle.type_relations.specs.Errors.{IsReadAs}
 use Rattle.type_relations.specs.Parts.{IsFormed}
-use Rattle.type_relations.specs.Lawful.{Takes, Stepped}
+use Rattle.type_relations.specs.Lawful.{Stepped}
 use Rattle.type_relations.proofs.Going.{goes_within}
 use Rattle.type_relations.proofs.Passing.{as_err}
 use Rattle.type_relations.proofs.StructuralConsts.{itself_related}
