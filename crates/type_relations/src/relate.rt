@@ -9,11 +9,13 @@ pub mod parts;
 #[cfg(test)]
 mod plain;
 mod reading;
+mod relatable;
 pub mod solver_relating;
 pub mod structural;
 mod type_relation;
 
 use relation_terms::terms::{Keys, TyKey, Variance};
+pub use relatable::Relate;
 pub use type_relation::TypeRelation;
 
 /// What comes of two terms in one step of a relation.

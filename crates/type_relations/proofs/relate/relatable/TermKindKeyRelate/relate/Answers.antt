@@ -1,0 +1,81 @@
+use Rattle.std.proofs.Common.{refl, sym, subst, subst₂, IsTrue, Ok, Err}
+use Rattle.relation_terms.specs.Trees.{known}
+use Rattle.relation_terms.specs.Meaning.{term_tree}
+use Rattle.relation_terms.specs.declared.terms.generic_arg.GenericArgKind.TheVariants.{Ty as TyArg, Const as ConstArg}
+use Rattle.relation_terms.specs.declared.terms.generic_arg.TermKind.TheVariants.{Ty, Const}
+use Rattle.relation_terms.proofs.Sorted.{Sorted}
+use Rattle.relation_tools.specs.declared.error.TypeError.TheVariants.{Mismatch}
+use Rattle.relation_tools.specs.declared.error.RelateFault.TheVariants.{Unrelated}
+use Rattle.type_relations.specs.Lawful.{Asked, Related}
+use Rattle.type_relations.proofs.Passing.{retold}
+use Rattle.type_relations.proofs.StructuralConsts.{kinds_differ}
+use Rattle.type_relations.proofs.Relatable.{else_const, else_ty}
+use Rattle.type_relations.proofs.relate.relatable.TermKindKeyRelate.relate.Goals as goal
+
+pub returns-in_default : goal.returns-in_default
+returns-in_default g c =
+    let r = g.R.TypeRelation.state c.args.r.now in
+    let M = g.R.TypeRelation.manner in
+    let e = g.met.R.TypeRelation.reads c.args.r.now in
+    let cx = g.R.TypeRelation.interner c.args.r.now in
+    let sorted : Sorted r.meaning = subst (λ m. Sorted m) (sym e) (record {
+      ty = g.met.I.Interner.is_ty cx;
+      region = g.met.I.Interner.is_region cx;
+      tys = g.met.I.Interner.are_tys cx;
+      const_ = g.met.I.Interner.is_const cx;
+      valtree = g.met.I.Interner.is_valtree cx;
+      args = g.met.I.Interner.are_args cx;
+      branches = g.met.I.Interner.are_branches cx;
+    }) in
+    let z = else_const c.args.b.now c.in_default.not-Ty in
+    let k = subst₂ (λ a b. Asked M r r.ambient (term_tree r.meaning a) (term_tree r.meaning b)) c.in-Ty.is z.1
+    c.requires.asked in
+    subst₂ (λ a b. Related M r r r.ambient (term_tree r.meaning a) (term_tree r.meaning b) (term_tree r.meaning)
+    (Err (Unrelated Mismatch))) (sym c.in-Ty.is) (sym z.1)
+    (kinds_differ r.meaning sorted M r r.ambient (term_tree r.meaning) refl (TyArg c.in-Ty.a) (ConstArg z.0) tt
+    k.left_known k.right_known k.left_in k.right_in)
+
+pub returns-in_default-b : goal.returns-in_default-b
+returns-in_default-b g c =
+    let r = g.R.TypeRelation.state c.args.r.now in
+    let M = g.R.TypeRelation.manner in
+    let e = g.met.R.TypeRelation.reads c.args.r.now in
+    let cx = g.R.TypeRelation.interner c.args.r.now in
+    let sorted : Sorted r.meaning = subst (λ m. Sorted m) (sym e) (record {
+      ty = g.met.I.Interner.is_ty cx;
+      region = g.met.I.Interner.is_region cx;
+      tys = g.met.I.Interner.are_tys cx;
+      const_ = g.met.I.Interner.is_const cx;
+      valtree = g.met.I.Interner.is_valtree cx;
+      args = g.met.I.Interner.are_args cx;
+      branches = g.met.I.Interner.are_branches cx;
+    }) in
+    let z = else_ty c.args.b.now c.in_default-b.not-Const in
+    let k = subst₂ (λ a b. Asked M r r.ambient (term_tree r.meaning a) (term_tree r.meaning b)) c.in-Const.is z.1
+    c.requires.asked in
+    subst₂ (λ a b. Related M r r r.ambient (term_tree r.meaning a) (term_tree r.meaning b) (term_tree r.meaning)
+    (Err (Unrelated Mismatch))) (sym c.in-Const.is) (sym z.1)
+    (kinds_differ r.meaning sorted M r r.ambient (term_tree r.meaning) refl (ConstArg c.in-Const.a) (TyArg z.0) tt
+    k.left_known k.right_known k.left_in k.right_in)
+
+pub returns-in_ok-tys-in-Ty : goal.returns-in_ok-tys-in-Ty
+returns-in_ok-tys-in-Ty g c =
+    let r = g.R.TypeRelation.state c.args.r.now in
+    let M = g.R.TypeRelation.manner in
+    let q = g.R.TypeRelation.state c.tys.new.r in
+    let n = c.in_ok-tys-in-Ty in
+    subst₂ (λ t u. Related M r q r.ambient (term_tree r.meaning t) (term_tree r.meaning u) (term_tree q.meaning)
+    (Ok (Ty n.field-0))) (sym c.in-Ty.is) (sym c.in-Ty-b.is)
+    (retold M r.ambient ((r.meaning).ty c.in-Ty.a) ((r.meaning).ty c.in-Ty-b.b) (q.meaning).ty n.field-0
+    (term_tree q.meaning) (Ty n.field-0) refl n.ensures)
+
+pub returns-in_ok-consts-in-Const : goal.returns-in_ok-consts-in-Const
+returns-in_ok-consts-in-Const g c =
+    let r = g.R.TypeRelation.state c.args.r.now in
+    let M = g.R.TypeRelation.manner in
+    let q = g.R.TypeRelation.state c.consts.new.r in
+    let n = c.in_ok-consts-in-Const in
+    subst₂ (λ t u. Related M r q r.ambient (term_tree r.meaning t) (term_tree r.meaning u) (term_tree q.meaning)
+    (Ok (Const n.field-0))) (sym c.in-Const.is) (sym c.in-Const-b.is)
+    (retold M r.ambient ((r.meaning).const_ c.in-Const.a) ((r.meaning).const_ c.in-Const-b.b) (q.meaning).const_ n.field-0
+    (term_tree q.meaning) (Const n.field-0) refl n.ensures)
