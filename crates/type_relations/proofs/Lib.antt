@@ -16,6 +16,7 @@ pub mod Opening
 pub mod Exactness
 pub mod Going
 pub mod Passing
+pub mod Arguments
 pub mod Relatable
 pub mod Fronts
 pub mod Structural

@@ -2,6 +2,7 @@
 ghost use Rattle.std.specs.Prelude.{◌≡◌};
 ghost use Rattle.type_relations.specs.DiagInfo.{first_invariant, NestingIsAssociative, NothingIsUnit};
 
+mod args;
 pub mod comparing;
 pub mod forms;
 pub mod handing;
@@ -15,6 +16,7 @@ pub mod structural;
 mod type_relation;
 
 use relation_terms::terms::{Keys, TyKey, Variance};
+pub use args::{relate_args_invariantly, relate_args_with_variances};
 pub use relatable::Relate;
 pub use type_relation::TypeRelation;
 

@@ -1,0 +1,91 @@
+-- Forms that are related by their parts, one after another.
+use Rattle.std.proofs.Common.{◌≡◌, ℕ, ◌<◌, refl, sym, ap, ◌∙◌, subst, subst₂, arith, IsTrue, Ok, Err}
+use Rattle.relation_terms.specs.declared.terms.enums.Variance.{Variance}
+use Rattle.relation_terms.specs.Heads.{Sort, Head, arguments, adt}
+use Rattle.relation_terms.specs.Trees.{Tree, leaf, node, bind, nil, cons, known, count, nth, IsList, AreTerms}
+use Rattle.relation_terms.specs.Meaning.{Meaning, Extends}
+use Rattle.relation_tools.specs.declared.error.TypeError.{TypeError}
+use Rattle.relation_tools.specs.declared.error.RelateFault.{RelateFault}
+use Rattle.relation_tools.specs.declared.error.RelateFault.TheVariants.{Memory, Budget, Unrelated}
+use Rattle.type_relations.specs.declared.relate.args.ArgVariances.{ArgVariances}
+use Rattle.type_relations.specs.declared.relate.args.ArgVariances.TheVariants.{Invariant, Declared}
+use Rattle.type_relations.specs.Relation.{forms, part_at, IsRelatedHead}
+use Rattle.type_relations.specs.Errors.{ErrorOf, IsHandedOn, of_parts, AreOfOneForm, over_parts}
+use Rattle.type_relations.specs.Arguments.{args_head}
+use Rattle.type_relations.specs.Lawful.{State, Manner, MayAnswer, Refuses, Related, items_in}
+use Rattle.type_relations.proofs.OneParts.{parts_equal}
+use Rattle.type_relations.proofs.PartSizes.{weight_parts_most}
+use Rattle.type_relations.proofs.Passing.{passes_within}
+use Rattle.type_relations.proofs.Fronts.{Fronted, AreParts, fronted_all, fronted_never, fronted_passes}
+use Rattle.type_relations.proofs.Structural.{types_never}
+
+-- Arguments are related part by part, and their errors are those of their parts.
+pub args_related_head : {Key Id Name : Type 0} (m : Meaning Key Id Name) (d : ArgVariances Id) →
+    IsRelatedHead (args_head m d)
+args_related_head m Invariant = tt
+args_related_head m (Declared d) = tt
+
+pub args_handed_on : {Key Id Name : Type 0} (m : Meaning Key Id Name) (d : ArgVariances Id) (e : TypeError Key Id Name)
+    (t u : Tree) → IsHandedOn e (args_head m d) t u
+args_handed_on m Invariant e t u = tt
+args_handed_on m (Declared d) e t u = tt
+
+module _ {Key Id Name : Type 0} {r q : State Key Id Name} (M : Manner) (v : Variance) (h : Head) (ts us : Tree) (i : ℕ)
+    (f : Fronted r q h v i ts us) (are : AreParts r.store ts us) (n : count ts ≡ count us) where
+  one_form : AreOfOneForm (node h ts) (node h us)
+  one_form = over_parts refl refl n
+
+  -- All parts of two forms were related, and so are the forms.
+  pub form_related : {X : Type 0} (tree : X → Tree) (x : X) → IsRelatedHead h → i ≡ count ts → tree x ≡ node h ts →
+      IsTrue (known (node h ts)) → Related M r q v (node h ts) (node h us) tree (Ok x)
+  unfolding passes_within
+  form_related tree x is e answer k = record {
+    passes = passes_within (omega (arith, weight_parts_most r.store (node h ts), weight_parts_most r.store (node h us)))
+        f.passes;
+    verdict = record {
+      outcome = record {
+        later = ((f.passes).goes).later;
+        goals_in = (f.passes).goals_in;
+        relates = λ w s sat all. forms is refl ((fronted_all h v i ts us are e (e ∙ n) f).relates w s sat all);
+        keeps = λ w s sat z. (f.front).keeps w s sat (parts_equal (node h ts) (node h us) one_form s z);
+      };
+      answer = subst (MayAnswer M q.store (node h ts)) (sym answer) (λ k w s sat. refl);
+      known = subst (λ u. IsTrue (known u)) (sym answer) k;
+    };
+  }
+
+  -- Two parts of two forms were refused, and so are the forms.
+  module _ (x y : Tree) (lx : i < count ts) (ly : i < count us) (ex : x ≡ nth i ts) (ey : y ≡ nth i us)
+      (handed : (g : TypeError Key Id Name) → IsHandedOn g h x y) where
+    refuses : (p : State Key Id Name) (e : RelateFault Key Id Name) → Refuses q p (part_at (items_in r) h i v) x y e →
+        Refuses r p v (node h ts) (node h us) e
+    refuses p (Unrelated g) o = (
+      types_never r.store v (node h ts) (node h us) one_form (fronted_never h v i ts us x y f lx ly ex ey are o.0),
+      of_parts i refl refl n lx (subst₂ (IsHandedOn g h) ex ey (handed g))
+          (subst₂ (ErrorOf p.meaning p.store g) ex ey o.1),
+      o.2,
+    )
+    refuses p Budget o = o
+    refuses p Memory o = tt
+
+    pub form_refused : {A B : Type 0} {p : State Key Id Name} (tree : A → Tree) (answer : B → Tree)
+        (e : RelateFault Key Id Name) → Related M q p (part_at (items_in r) h i v) x y tree (Err e) →
+        Related M r p v (node h ts) (node h us) answer (Err e)
+    form_refused {p = p} tree answer e g = record {
+      passes = passes_within (omega (arith, weight_parts_most r.store (node h ts), weight_parts_most r.store (node h us)))
+          (fronted_passes h v i ts us x y f lx ly ex ey g.passes);
+      verdict = refuses p e g.verdict;
+    }
+
+-- Items have the numbers that they had.
+pub args_heads : {Key Id Name : Type 0} {m n : Meaning Key Id Name} → Extends m n → (d : ArgVariances Id) →
+    args_head n d ≡ args_head m d
+args_heads e Invariant = refl
+args_heads e (Declared d) = ap adt (e.id d.0)
+
+pub are_list : (k : Sort) (ts : Tree) → AreTerms k ts → IsList ts
+are_list k nil h = tt
+are_list k (cons t ts) h = are_list k ts h.1
+are_list k (leaf l) h = absurd h
+are_list k (node g ts) h = absurd h
+are_list k (bind ks t) h = absurd h

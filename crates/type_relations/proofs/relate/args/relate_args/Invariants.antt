@@ -1,0 +1,18 @@
+use Rattle.std.proofs.Common.{◌≡◌}
+use Rattle.relation_terms.specs.Trees.{count}
+use Rattle.type_relations.specs.Arguments.{args_head}
+use Rattle.type_relations.proofs.Fronts.{Fronted, AreParts}
+use Rattle.type_relations.proofs.relate.args.relate_args.Given as goal
+
+abbrev pub invariant-loop-i : goal.invariant-loop-i
+invariant-loop-i g l =
+    let r = g.R.TypeRelation.state l.initial.r in
+    let q = g.R.TypeRelation.state l.r in
+    let ts = (r.meaning).args l.a in
+    let us = (r.meaning).args l.b in
+    record {
+      lawful : q.lawful;
+      fronted : Fronted r q (args_head r.meaning l.variances) r.ambient l.i ts us;
+      counts : l.n ≡ count ts;
+      are_parts : AreParts r.store ts us;
+    }
