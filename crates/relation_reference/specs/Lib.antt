@@ -9,3 +9,4 @@ pub mod Tables
 pub mod Solving
 pub mod Answers
 pub mod Putting
+pub mod Plain

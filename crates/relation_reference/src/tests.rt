@@ -3,5 +3,6 @@ mod folders;
 mod folding;
 mod forms;
 mod kinds;
+mod plain;
 mod questions;
 mod visiting;

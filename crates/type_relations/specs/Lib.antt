@@ -17,6 +17,5 @@ pub mod DiagInfo
 pub mod Parts
 pub mod Handing
 pub mod Lawful
-pub mod Plain
 pub mod Constraints
 pub mod Taken

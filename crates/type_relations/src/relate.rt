@@ -6,8 +6,6 @@ pub mod comparing;
 pub mod forms;
 pub mod handing;
 pub mod parts;
-#[cfg(test)]
-mod plain;
 mod reading;
 pub mod solver_relating;
 pub mod structural;

@@ -25,7 +25,7 @@ use Rattle.type_relations.specs.Measures.{Goes}
 use Rattle.type_relations.specs.Parts.{IsFormed}
 use Rattle.type_relations.specs.Lawful.{declared_by, State, Manner, Passes, Asked, Related, Stepped, items_in}
 use Rattle.type_relations.specs.Constraints.{constraint_at, constraint_of}
-use Rattle.type_relations.specs.Plain.{as_is, plain_store, plain_state, plain_manner}
+use Rattle.relation_reference.specs.Plain.{as_is, plain_store, plain_state, plain_manner}
 use Rattle.type_relations.proofs.Trees.{all_leaves, apply_own, own_other}
 use Rattle.type_relations.proofs.Constraints.{asked_in, asked_relates, asked_met}
 use Rattle.type_relations.proofs.Standing.{made_of_term, term_within, term_sort_of}
