@@ -10,3 +10,4 @@ pub mod Solving
 pub mod Answers
 pub mod Putting
 pub mod Plain
+pub mod Concrete

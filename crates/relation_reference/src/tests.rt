@@ -1,4 +1,5 @@
 //! Visits, folds and what is asked about terms, at the reference interner.
+mod agreement;
 mod folders;
 mod folding;
 mod forms;
