@@ -1,7 +1,9 @@
 //! Visits, folds and what is asked about terms, at the reference interner.
+mod agreement;
 mod folders;
 mod folding;
 mod forms;
 mod kinds;
+mod plain;
 mod questions;
 mod visiting;

@@ -37,4 +37,3 @@ pub mod RegionTerms
 pub mod Deciding
 pub mod Constraints
 pub mod DiagInfo
-pub mod Plain

@@ -17,7 +17,6 @@ pub mod DiagInfo
 pub mod Parts
 pub mod Handing
 pub mod Lawful
-pub mod Plain
 pub mod Constraints
 pub mod Taken
 pub mod Arguments

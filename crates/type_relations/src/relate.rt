@@ -7,8 +7,6 @@ pub mod comparing;
 pub mod forms;
 pub mod handing;
 pub mod parts;
-#[cfg(test)]
-mod plain;
 mod reading;
 mod relatable;
 pub mod solver_relating;

@@ -87,7 +87,11 @@ impl<I: Interner> RefCtxt<I> {
     }
 
     // Records that the second region outlives the first.
-    pub(crate) fn sub_regions(&mut self, sub: &Region<I>, sup: &Region<I>) -> Result<(), OutOfMemory>
+    pub(crate) fn sub_regions(
+        &mut self,
+        sub: &Region<I>,
+        sup: &Region<I>,
+    ) -> Result<(), OutOfMemory>
         requires lawful { IsLawful (I.meaning self.old.interner) self.old.inner }
         requires sub_in { IsRegionIn (store_of (I.meaning self.old.interner) self.old.inner) ((I.meaning self.old.interner).region sub.now) }
         requires sup_in { IsRegionIn (store_of (I.meaning self.old.interner) self.old.inner) ((I.meaning self.old.interner).region sup.now) }

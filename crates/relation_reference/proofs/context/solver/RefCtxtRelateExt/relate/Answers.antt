@@ -19,14 +19,14 @@ returns-then-eq-clause-answers g c =
 
 pub returns-then-eq-clause-keeps : goal.returns-then-eq-clause-keeps
 returns-then-eq-clause-keeps g c = λ w s sat one. (
-      s,
-      λ k n h. refl,
-      (
-        sat,
-        subst (λ gs. All (MakesOneTree s) (goals_of (g.I.Interner.meaning c.args.self.now.interner) gs))
-            (sym c.new.ensures.items) (All-nil (MakesOneTree s)),
-      ),
-    )
+  s,
+  λ k n h. refl,
+  (
+    sat,
+    subst (λ gs. All (MakesOneTree s) (goals_of (g.I.Interner.meaning c.args.self.now.interner) gs))
+        (sym c.new.ensures.items) (All-nil (MakesOneTree s)),
+  ),
+)
 
 pub returns-in_err-relate_in-clause-same : goal.returns-in_err-relate_in-clause-same
 returns-in_err-relate_in-clause-same g c = λ e. absurd (false≢true (c.if-eq.ensures

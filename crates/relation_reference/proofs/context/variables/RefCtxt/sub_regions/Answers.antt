@@ -18,8 +18,13 @@ returns-in_err-push-clause-goes g c =
     let m = g.I.Interner.meaning c.args.self.now.interner in
     let x = c.args.self.now.inner in
     let y = record x { constraints = c.push.new.self } in
-    goes_same 0 (store_of m x) (store_of m y) (same_store m x y (record { types = refl; regions = refl;
-    constraints = c.in_err-push.ensures.items; universe = refl; budget = refl }))
+    goes_same 0 (store_of m x) (store_of m y) (same_store m x y (record {
+      types = refl;
+      regions = refl;
+      constraints = c.in_err-push.ensures.items;
+      universe = refl;
+      budget = refl;
+    }))
 
 pub returns : goal.returns
 returns g c =

@@ -9,15 +9,15 @@ ghost use Rattle.type_relations.specs.Relation.{Interpretation, Rel, at};
 ghost use Rattle.type_relations.specs.Stores.{ConstraintHolds, IsSound};
 ghost use Rattle.type_relations.specs.Lawful.{Asked, declared_by};
 ghost use Rattle.type_relations.specs.Constraints.{constraint_at, constraint_of};
-ghost use Rattle.type_relations.specs.Plain.{as_is, plain_store, plain_state, plain_manner};
+ghost use Rattle.relation_reference.specs.Plain.{as_is, plain_store, plain_state, plain_manner};
 
-use crate::relate::structural::tys;
-use crate::relate::{Step, TypeRelation};
 use relation_terms::predicate::{OutlivesPredicate, RegionConstraint, RegionEqPredicate};
 use relation_terms::terms::{
     Const, Dup, GenericArgKind, GenericArgs, Interner, ItemOf, Region, RegionKey, Ty, Variance,
 };
 use relation_tools::error::RelateResult;
+use type_relations::relate::structural::tys;
+use type_relations::relate::{Step, TypeRelation};
 
 /// Terms are related at `ambient`, and what that asks of their regions is in `constraints`.
 #[derive(Drop)]

@@ -1,7 +1,7 @@
 use Rattle.std.proofs.Common.{refl, []}
-use Rattle.type_relations.specs.Plain.{plain_store}
+use Rattle.relation_reference.specs.Plain.{plain_store}
 use Rattle.type_relations.proofs.Empty.{empty_sound}
-use Rattle.type_relations.proofs.relate.plain.PlainRelation.new.Goals as goal
+use Rattle.relation_reference.proofs.tests.plain.PlainRelation.new.Goals as goal
 
 pub returns-clause-lawful : goal.returns-clause-lawful
 returns-clause-lawful g c =

@@ -3,8 +3,8 @@ use Rattle.relation_terms.specs.Heads.{environment}
 use Rattle.relation_terms.specs.Trees.{node, nil}
 use Rattle.type_relations.specs.Relation.{Rel, at}
 use Rattle.type_relations.specs.Lawful.{declared_by}
-use Rattle.type_relations.proofs.Plain.{related_under}
-use Rattle.type_relations.proofs.relate.plain.constraints_of.Goals as goal
+use Rattle.relation_reference.proofs.Plain.{related_under}
+use Rattle.relation_reference.proofs.tests.plain.constraints_of.Goals as goal
 
 pub returns : goal.returns
 returns g c = λ w all.

@@ -4,8 +4,6 @@ use Rattle.std.proofs.Common.{Option, Some, IfSome, Result, Ok, Err}
 use Rattle.std.proofs.lemmas.List.{map-append}
 use Rattle.std.proofs.lemmas.List.Elements.{All-nil}
 use Rattle.relation_terms.specs.declared.terms.enums.Variance.{Variance}
-use Rattle.relation_terms.specs.declared.terms.enums.Variance.TheVariants.{Covariant, Contravariant, Invariant}
-use Rattle.relation_terms.specs.declared.terms.enums.Variance.TheVariants.{Bivariant}
 use Rattle.relation_terms.specs.declared.terms.keys.RegionKey.{RegionKey}
 use Rattle.relation_terms.specs.declared.predicate.RegionConstraint.{RegionConstraint}
 use Rattle.relation_terms.specs.Heads.{environment, type_sort, region_sort, region_var, type_var, variable, bound}
@@ -15,23 +13,21 @@ use Rattle.relation_terms.specs.Meaning.{Meaning}
 use Rattle.relation_terms.proofs.Stays.{stays_same}
 use Rattle.relation_tools.specs.declared.error.RelateFault.{RelateFault}
 use Rattle.relation_tools.specs.declared.error.RelateFault.TheVariants.{Memory}
-use Rattle.type_relations.specs.declared.relate.Step.TheVariants.{Parts}
-use Rattle.type_relations.specs.Relation.{Interpretation, Rel, RegionRule, regions, itself, sort_of, at}
-use Rattle.type_relations.specs.Stores.{Store, IsTermIn, IsRegionIn, ConstraintIn, ConstraintHolds, Satisfies}
+use Rattle.type_relations.specs.Relation.{Interpretation, Rel, RegionRule, regions, sort_of, at}
+use Rattle.type_relations.specs.Stores.{IsTermIn, IsRegionIn, ConstraintIn, ConstraintHolds, Satisfies}
 use Rattle.type_relations.specs.Goals.{GoalInContext, Holds, MakesOneTree}
 use Rattle.type_relations.specs.Steps.{AddsConstraint}
 use Rattle.type_relations.specs.Outcomes.{Outcome}
 use Rattle.type_relations.specs.Measures.{Goes}
 use Rattle.type_relations.specs.Parts.{IsFormed}
-use Rattle.type_relations.specs.Lawful.{declared_by, State, Manner, Passes, Asked, Related, Stepped, items_in}
+use Rattle.type_relations.specs.Lawful.{declared_by, Passes, Related, items_in}
 use Rattle.type_relations.specs.Constraints.{constraint_at, constraint_of}
-use Rattle.type_relations.specs.Plain.{as_is, plain_store, plain_state, plain_manner}
+use Rattle.relation_reference.specs.Plain.{as_is, plain_store, plain_state, plain_manner}
 use Rattle.type_relations.proofs.Trees.{all_leaves, apply_own, own_other}
 use Rattle.type_relations.proofs.Constraints.{asked_in, asked_relates, asked_met}
 use Rattle.type_relations.proofs.Standing.{made_of_term, term_within, term_sort_of}
 use Rattle.type_relations.proofs.Growing.{constraint_sound, constraint_is_later, constraint_bound, constraint_weight}
 use Rattle.type_relations.proofs.Growing.{constraint_holds, constraint_keeps}
-use Rattle.type_relations.proofs.Going.{later_itself}
 use Rattle.type_relations.proofs.Passing.{passes_nowhere}
 
 module _ {Key Id Name : Type 0} (m : Meaning Key Id Name) where

@@ -1,5 +1,5 @@
 -- What a relation of terms without variables records, and how it stands.
-use Rattle.std.specs.Prelude.{◌≡◌, false, List, [], map}
+use Rattle.std.specs.Prelude.{false, List, [], map}
 use Rattle.relation_terms.specs.declared.terms.enums.Variance.{Variance}
 use Rattle.relation_terms.specs.declared.predicate.RegionConstraint.{RegionConstraint}
 use Rattle.relation_terms.specs.Heads.{environment, variable}

@@ -1,8 +1,8 @@
 use Rattle.type_relations.specs.Parts.{IsFormedConst}
-use Rattle.type_relations.specs.Plain.{plain_state, plain_manner}
+use Rattle.relation_reference.specs.Plain.{plain_state, plain_manner}
 use Rattle.type_relations.proofs.Comparing.{formed_const}
 use Rattle.type_relations.proofs.Passing.{parts_left}
-use Rattle.type_relations.proofs.relate.plain.PlainRelationTypeRelation.consts.Goals as goal
+use Rattle.relation_reference.proofs.tests.plain.PlainRelationTypeRelation.consts.Goals as goal
 
 pub returns : goal.returns
 returns g c =

@@ -1,8 +1,8 @@
 use Rattle.std.proofs.Common.{sym}
 use Rattle.relation_tools.specs.declared.error.RelateFault.TheVariants.{Memory}
 use Rattle.type_relations.proofs.Passing.{as_err}
-use Rattle.type_relations.proofs.Plain.{regions_related, not_recorded}
-use Rattle.type_relations.proofs.relate.plain.PlainRelationTypeRelation.regions.Goals as goal
+use Rattle.relation_reference.proofs.Plain.{regions_related, not_recorded}
+use Rattle.relation_reference.proofs.tests.plain.PlainRelationTypeRelation.regions.Goals as goal
 
 pub returns-in_err-push : goal.returns-in_err-push
 returns-in_err-push g c =

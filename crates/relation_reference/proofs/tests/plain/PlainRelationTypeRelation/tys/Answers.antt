@@ -1,8 +1,8 @@
 use Rattle.type_relations.specs.Parts.{IsFormed}
-use Rattle.type_relations.specs.Plain.{plain_state, plain_manner}
+use Rattle.relation_reference.specs.Plain.{plain_state, plain_manner}
 use Rattle.type_relations.proofs.Passing.{parts_left}
-use Rattle.type_relations.proofs.Plain.{formed}
-use Rattle.type_relations.proofs.relate.plain.PlainRelationTypeRelation.tys.Goals as goal
+use Rattle.relation_reference.proofs.Plain.{formed}
+use Rattle.relation_reference.proofs.tests.plain.PlainRelationTypeRelation.tys.Goals as goal
 
 pub returns : goal.returns
 returns g c =

@@ -1,6 +1,6 @@
-use Rattle.type_relations.specs.Plain.{plain_state}
+use Rattle.relation_reference.specs.Plain.{plain_state}
 use Rattle.type_relations.proofs.Passing.{noted_nothing}
-use Rattle.type_relations.proofs.relate.plain.PlainRelationTypeRelation.tys_done.Goals as goal
+use Rattle.relation_reference.proofs.tests.plain.PlainRelationTypeRelation.ty_args_done.Goals as goal
 
 pub returns : goal.returns
 returns g c =
