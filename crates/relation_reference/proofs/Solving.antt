@@ -1,5 +1,6 @@
 -- Relating in a context, step by step.
-use Rattle.std.proofs.Common.{◌≡◌, ◌≢◌, ℕ, ◌+◌, ◌≤◌, refl, sym, ap, ◌∙◌, arith, subst, subst₂, [], All, IsTrue, Some, IfSome}
+use Rattle.std.proofs.Common.{◌≡◌, ◌≢◌, ℕ, ◌+◌, ◌≤◌, refl, sym, ap, ◌∙◌, arith, subst, subst₂, [], All, IsTrue, Some}
+use Rattle.std.proofs.Common.{IfSome}
 use Rattle.std.proofs.Common.{Result, Ok, Err}
 use Rattle.std.proofs.lemmas.List.Elements.{All-nil}
 use Rattle.relation_terms.specs.declared.terms.enums.Variance.{Variance}
@@ -8,7 +9,8 @@ use Rattle.relation_terms.specs.declared.terms.enums.Variance.TheVariants.{Bivar
 use Rattle.relation_terms.specs.declared.terms.keys.RegionKey.{RegionKey}
 use Rattle.relation_terms.specs.declared.terms.keys.ParamEnvKey.{ParamEnvKey}
 use Rattle.relation_terms.specs.declared.predicate.RegionConstraint.{RegionConstraint}
-use Rattle.relation_terms.specs.Heads.{type_sort, VarKind, type_var, region_var, const_var, int_var, float_var, variable}
+use Rattle.relation_terms.specs.Heads.{type_sort, VarKind, type_var, region_var, const_var, int_var, float_var}
+use Rattle.relation_terms.specs.Heads.{variable}
 use Rattle.relation_terms.specs.Trees.{Tree, leaf, Assign, apply, IsTerm, Leaves, known, Occurs}
 use Rattle.relation_terms.specs.Meaning.{Meaning, Extends}
 use Rattle.relation_terms.proofs.Stays.{stays_same}
@@ -44,7 +46,8 @@ use Rattle.relation_reference.specs.Solving.{solving, solver_manner}
 use Rattle.relation_reference.specs.Answers.{Unites, Answered, IsShallow, Instantiated}
 use Rattle.relation_reference.proofs.Making.{region_value}
 use Rattle.relation_reference.proofs.Relating.{answered_alike}
-use Rattle.relation_reference.proofs.Binding.{binding_goes_at, instantiated_refused, instantiated_refused_back, refused_goes}
+use Rattle.relation_reference.proofs.Binding.{binding_goes_at, instantiated_refused, instantiated_refused_back}
+use Rattle.relation_reference.proofs.Binding.{refused_goes}
 use Rattle.relation_reference.proofs.Instantiating.{root_above, root_above_back, binding_square, bound_in}
 
 -- A variable is taken at invariance alone.
@@ -99,8 +102,10 @@ module _ {Key Id Name : Type 0} (j : ℕ) where
       (env : IsTrue (known (m.param_env e))) (same : n ≡ m) (l : IsLawful m y) (a b : Tree) where
     -- Memory ran out.
     pub memory_refused : (tree : X → Tree) (r : Result X (RelateFault Key Id Name)) → r ≡ Err Memory →
-        Goes 0 (store_of m x) (store_of m y) → Related solver_manner (solving j m x v e) (solving j n y v e) v a b tree r
-    memory_refused tree r is goes = subst₂ (λ n r. Related solver_manner (solving j m x v e) (solving j n y v e) v a b tree r)
+        Goes 0 (store_of m x) (store_of m y) → Related solver_manner (solving j m x v e)
+        (solving j n y v e) v a b tree r
+    memory_refused tree r is goes = subst₂ (λ n r. Related solver_manner (solving j m x v e)
+        (solving j n y v e) v a b tree r)
         (sym same) (sym is)
         (record { passes = solver_passes v e (stays_same m) env (goes_within (omega arith) goes) l; verdict = tt })
 
@@ -142,10 +147,12 @@ module _ {Key Id Name : Type 0} (j : ℕ) where
         IsTrue (known (m.param_env e)) → IsTrue (known (m.region a)) →
         Related solver_manner (solving j m x v e) (solving j n y v e) v (m.region a) (m.region b) n.region (Ok k)
     unfolding solver_passes
-    regions_related n k same is l env sure = subst₂ (λ n k. Related solver_manner (solving j m x v e) (solving j n y v e) v
+    regions_related n k same is l env sure = subst₂
+        (λ n k. Related solver_manner (solving j m x v e) (solving j n y v e) v
         (m.region a) (m.region b) n.region (Ok k)) (sym same) (sym is) answer
       where
-        answer : Related solver_manner (solving j m x v e) (solving j m y v e) v (m.region a) (m.region b) m.region (Ok a)
+        answer : Related solver_manner (solving j m x v e) (solving j m y v e) v (m.region a)
+            (m.region b) m.region (Ok a)
         answer = record {
           passes = solver_passes v e (stays_same m) env (goes_within (omega arith) goes) l;
           verdict = record { outcome = outcome; answer = λ k w s sat. refl; known = sure };
@@ -162,13 +169,15 @@ module _ {Key Id Name : Type 0} (j : ℕ) where
   -- Two types that are read as two were made one, at invariance.
   pub united_step : {K : Type 0} (F : Tree → Type 0) (m n : Meaning Key Id Name) (x y : InferCtxtInner Key)
       (v : Variance) (e : ParamEnvKey Key) (a b u : Tree) (tree : K → Tree) (t : K) → n ≡ m → v ≡ Invariant →
-      IsTrue (known (m.param_env e)) → Goes (weight (store_of m x) a + weight (store_of m x) b) (store_of m x) (store_of m y) →
+      IsTrue (known (m.param_env e)) → Goes (weight (store_of m x) a + weight (store_of m x) b)
+      (store_of m x) (store_of m y) →
       IsLawful m y → Unites (store_of m x) (store_of m y) a b → IsReadAs (store_of m x) a u → tree t ≡ u →
       IsTrue (known u) → Stepped solver_manner F (solving j m x v e) (solving j n y v e) a b tree (Ok (Done t))
   unfolding solver_passes
   united_step {K} F m n x y v e a b u tree t same is env goes l one reads answer sure =
       answered_step F m n x y v e a b tree t
-      (subst₂ (λ v n. Related solver_manner (solving j m x v e) (solving j n y v e) v a b tree (Ok t)) (sym is) (sym same) related)
+      (subst₂ (λ v n. Related solver_manner (solving j m x v e) (solving j n y v e) v a b tree (Ok t))
+      (sym is) (sym same) related)
     where
       related : Related solver_manner (solving j m x Invariant e) (solving j m y Invariant e) Invariant a b tree (Ok t)
       related = record {
@@ -255,8 +264,10 @@ module _ {Key Id Name : Type 0} (j : ℕ) where
   module _ (m n : Meaning Key Id Name) (grown : Extends m n) (x y : InferCtxtInner Key) (e : ParamEnvKey Key)
       (env : IsTrue (known (m.param_env e))) (before : IsLawful m x) (after : IsLawful n y) (target : ℕ) (t u : Tree)
       (formed : IsFormed t) (t_in : IsTermIn (store_of m x) t) (t_known : IsTrue (known t))
-      (u_known : IsTrue (known u)) (stands : IsTerm type_sort u) (bound : BindsTo (store_of m x) (store_of n y) type_var target u)
-      (means : u ≡ apply (resolved (store_of m x)) t) (away : Occurs type_var target (apply (resolved (store_of m x)) t) → ⊥)
+      (u_known : IsTrue (known u)) (stands : IsTerm type_sort u)
+      (bound : BindsTo (store_of m x) (store_of n y) type_var target u)
+      (means : u ≡ apply (resolved (store_of m x)) t)
+      (away : Occurs type_var target (apply (resolved (store_of m x)) t) → ⊥)
       (steps : Instantiates (store_of m x) (store_of n y) Invariant type_var target t u) where
     abbrev was : Store
     was = store_of m x
@@ -303,7 +314,8 @@ module _ {Key Id Name : Type 0} (j : ℕ) where
           Stepped solver_manner F (solving j m x v e) (solving j n y v e) a b tree (Ok (Again k l z w Covariant))
       unfolding solver_passes
       left_step p q h i ek el ez ew =
-          subst (λ v. Stepped solver_manner F (solving j m x v e) (solving j n y v e) a b tree (Ok (Again k l z w Covariant)))
+          subst (λ v. Stepped solver_manner F (solving j m x v e) (solving j n y v e)
+          a b tree (Ok (Again k l z w Covariant)))
           (sym is) (record { passes = passes; verdict = verdict; exact = λ o. absurd o })
         where
           above : weight was t + 1 ≤ weight was a + weight was b
@@ -312,28 +324,35 @@ module _ {Key Id Name : Type 0} (j : ℕ) where
           passes : Passes (weight was a + weight was b) (solving j m x Invariant e) (solving j n y Invariant e)
           passes = solver_passes Invariant e grown env (goes (weight was a + weight was b) above) after
 
-          step : StepsTo (declared_by m.variances) (m.param_env e) was now [] [] (at Invariant) root t (at Invariant) u t
-          step = (instantiating_steps (declared_by m.variances) (m.param_env e) Invariant Invariant was now [] type_var target
+          step : StepsTo (declared_by m.variances) (m.param_env e) was now [] [] (at Invariant)
+              root t (at Invariant) u t
+          step = (instantiating_steps (declared_by m.variances) (m.param_env e) Invariant Invariant
+              was now [] type_var target
               t u (term_context was t t_in) steps).0
 
-          led : LeadsAgain solver_manner (solving j m x Invariant e) (solving j n y Invariant e) [] a b root t Covariant u t
+          led : LeadsAgain solver_manner (solving j m x Invariant e) (solving j n y Invariant e)
+              [] a b root t Covariant u t
           led = record {
             leads = read_leads m n x y e Invariant a b root t u t p q (root_reads a p) (reads b q) after.sound step;
             read_leads = read_leads m n x y e Invariant root t root t u t (itself refl) (itself refl)
                 (root_reads root (itself refl)) (reads t (itself refl)) after.sound step;
             read_asked = asked_now root t refl t_known (later root i) (later t t_in);
             asked = asked_now u t u_known t_known u_in (later t t_in);
-            answers = λ st f o j s sat. read_value was s ((steps.later).shrinks j s (f.shrinks j s sat)).bindings a root p;
+            answers = λ st f o j s sat. read_value was s
+                ((steps.later).shrinks j s (f.shrinks j s sat)).bindings a root p;
             falls = steps.one_spent;
             not_larger = binding_square was now target t u bound before.sound before.first_universe t_in means away
                 stands (weight was a + weight was b) above;
           }
 
-          verdict : LeadsAgain solver_manner (solving j m x Invariant e) (solving j n y Invariant e) [] a b (tree k) (tree l)
+          verdict : LeadsAgain solver_manner (solving j m x Invariant e) (solving j n y Invariant e)
+              [] a b (tree k) (tree l)
               Covariant (tree z) (tree w)
-          verdict = subst₂ (λ k l. LeadsAgain solver_manner (solving j m x Invariant e) (solving j n y Invariant e) [] a b k l
+          verdict = subst₂ (λ k l. LeadsAgain solver_manner (solving j m x Invariant e)
+              (solving j n y Invariant e) [] a b k l
               Covariant (tree z) (tree w)) (sym ek) (sym el)
-              (subst₂ (λ z w. LeadsAgain solver_manner (solving j m x Invariant e) (solving j n y Invariant e) [] a b root t
+              (subst₂ (λ z w. LeadsAgain solver_manner (solving j m x Invariant e)
+              (solving j n y Invariant e) [] a b root t
               Covariant z w) (sym ez) (sym ew) led)
 
       -- It stood on the right.
@@ -342,7 +361,8 @@ module _ {Key Id Name : Type 0} (j : ℕ) where
           Stepped solver_manner F (solving j m x v e) (solving j n y v e) a b tree (Ok (Again k l z w Covariant))
       unfolding solver_passes
       right_step p q h i ek el ez ew =
-          subst (λ v. Stepped solver_manner F (solving j m x v e) (solving j n y v e) a b tree (Ok (Again k l z w Covariant)))
+          subst (λ v. Stepped solver_manner F (solving j m x v e) (solving j n y v e)
+          a b tree (Ok (Again k l z w Covariant)))
           (sym is) (record { passes = passes; verdict = verdict; exact = λ o. absurd o })
         where
           above : weight was t + 1 ≤ weight was a + weight was b
@@ -351,11 +371,14 @@ module _ {Key Id Name : Type 0} (j : ℕ) where
           passes : Passes (weight was a + weight was b) (solving j m x Invariant e) (solving j n y Invariant e)
           passes = solver_passes Invariant e grown env (goes (weight was a + weight was b) above) after
 
-          step : StepsTo (declared_by m.variances) (m.param_env e) was now [] [] (at Invariant) t root (at Invariant) t u
-          step = (instantiating_steps (declared_by m.variances) (m.param_env e) Invariant Invariant was now [] type_var target
+          step : StepsTo (declared_by m.variances) (m.param_env e) was now [] [] (at Invariant)
+              t root (at Invariant) t u
+          step = (instantiating_steps (declared_by m.variances) (m.param_env e) Invariant Invariant
+              was now [] type_var target
               t u (term_context was t t_in) steps).1
 
-          led : LeadsAgain solver_manner (solving j m x Invariant e) (solving j n y Invariant e) [] a b t root Covariant t u
+          led : LeadsAgain solver_manner (solving j m x Invariant e) (solving j n y Invariant e)
+              [] a b t root Covariant t u
           led = record {
             leads = read_leads m n x y e Invariant a b t root t u p q (reads a p) (root_reads b q) after.sound step;
             read_leads = read_leads m n x y e Invariant t root t root t u (itself refl) (itself refl)
@@ -368,11 +391,14 @@ module _ {Key Id Name : Type 0} (j : ℕ) where
                 away stands (weight was a + weight was b) above in omega (arith, i));
           }
 
-          verdict : LeadsAgain solver_manner (solving j m x Invariant e) (solving j n y Invariant e) [] a b (tree k) (tree l)
+          verdict : LeadsAgain solver_manner (solving j m x Invariant e) (solving j n y Invariant e)
+              [] a b (tree k) (tree l)
               Covariant (tree z) (tree w)
-          verdict = subst₂ (λ k l. LeadsAgain solver_manner (solving j m x Invariant e) (solving j n y Invariant e) [] a b k l
+          verdict = subst₂ (λ k l. LeadsAgain solver_manner (solving j m x Invariant e)
+              (solving j n y Invariant e) [] a b k l
               Covariant (tree z) (tree w)) (sym ek) (sym el)
-              (subst₂ (λ z w. LeadsAgain solver_manner (solving j m x Invariant e) (solving j n y Invariant e) [] a b t root
+              (subst₂ (λ z w. LeadsAgain solver_manner (solving j m x Invariant e)
+              (solving j n y Invariant e) [] a b t root
               Covariant z w) (sym ez) (sym ew) led)
 
   -- Nothing was bound.
@@ -381,7 +407,8 @@ module _ {Key Id Name : Type 0} (j : ℕ) where
       (after : IsLawful n y) (target : ℕ) (t : Tree) (formed : IsFormed t) (a b : Tree) (tree : K → Tree)
       (f : RelateFault Key Id Name) (sure : KnowsFault n f)
       (h : Instantiated n (store_of m x) (store_of n y) target t (Err f)) where
-    refuses : (f : RelateFault Key Id Name) → KnowsFault n f → Answered {X = K} n (store_of m x) (store_of n y) a b (Err f) →
+    refuses : (f : RelateFault Key Id Name) → KnowsFault n f → Answered {X = K} n (store_of m x)
+        (store_of n y) a b (Err f) →
         Refuses (solving j m x v e) (solving j n y v e) v a b f
     refuses (Unrelated g) k o = (o.0, o.1, k)
     refuses Budget k o = o
@@ -400,20 +427,24 @@ module _ {Key Id Name : Type 0} (j : ℕ) where
     refused_work : (N : ℕ) → weight (store_of m x) t + 1 ≤ N → Goes N (store_of m x) (store_of n y)
     refused_work N i = goes_within (omega (arith, i)) (refused_goes n (store_of m x) (store_of n y) target t f h)
 
-    pub left_refused : IsReadAs (store_of m x) a (leaf (variable type_var target)) → IsReadAs (store_of m x) b t → IsShallow (store_of m x) (leaf (variable type_var target)) →
+    pub left_refused : IsReadAs (store_of m x) a (leaf (variable type_var target)) → IsReadAs (store_of m x) b t →
+        IsShallow (store_of m x) (leaf (variable type_var target)) →
         Stepped solver_manner F (solving j m x v e) (solving j n y v e) a b tree (Err f)
     left_refused p q i =
         let g = refused_work (weight (store_of m x) a + weight (store_of m x) b)
         (root_above (store_of m x) before.sound target a b (leaf (variable type_var target)) t p q refl i) in
-        refused_step g (answered_alike n {X = K} (store_of m x) (store_of n y) a b (leaf (variable type_var target)) t (Err f) before.sound g.later p q
+        refused_step g (answered_alike n {X = K} (store_of m x) (store_of n y) a b (leaf (variable type_var target))
+        t (Err f) before.sound g.later p q
         (instantiated_refused n (store_of m x) (store_of n y) target t K f formed h))
 
-    pub right_refused : IsReadAs (store_of m x) a t → IsReadAs (store_of m x) b (leaf (variable type_var target)) → IsShallow (store_of m x) (leaf (variable type_var target)) →
+    pub right_refused : IsReadAs (store_of m x) a t → IsReadAs (store_of m x) b (leaf (variable type_var target)) →
+        IsShallow (store_of m x) (leaf (variable type_var target)) →
         Stepped solver_manner F (solving j m x v e) (solving j n y v e) a b tree (Err f)
     right_refused p q i =
         let g = refused_work (weight (store_of m x) a + weight (store_of m x) b)
         (root_above_back (store_of m x) before.sound target b a (leaf (variable type_var target)) t q p refl i) in
-        refused_step g (answered_alike n {X = K} (store_of m x) (store_of n y) a b t (leaf (variable type_var target)) (Err f) before.sound g.later p q
+        refused_step g (answered_alike n {X = K} (store_of m x) (store_of n y) a b t (leaf (variable type_var target))
+        (Err f) before.sound g.later p q
         (instantiated_refused_back n (store_of m x) (store_of n y) target t K f formed h))
 
   -- What a relation leaves as it was need not be named, nor the reference that it held.
@@ -461,7 +492,8 @@ module _ {Key Id Name : Type 0} (j : ℕ) where
     as_before h =
         let same_environment = (h.passes).environment ∙ sym (((h.passes).extends).param_env e env) in
         unnamed (subst (λ l. Related solver_manner (solving j m x v e) (state_at l v (n.param_env e)) v a b tree result)
-        (h.passes).reference (subst₂ (λ u t. Related solver_manner (solving j m x v e) (state_at i u t) v a b tree result)
+        (h.passes).reference (subst₂ (λ u t. Related solver_manner (solving j m x v e)
+        (state_at i u t) v a b tree result)
         (h.passes).ambient same_environment h))
 
   -- What relating has shown, as a solver answers it: no goal was registered.

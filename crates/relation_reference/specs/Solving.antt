@@ -14,7 +14,8 @@ use Rattle.relation_reference.specs.declared.context.inner.InferCtxtInner.{Infer
 use Rattle.relation_reference.specs.Tables.{store_of, IsLawful}
 
 -- Through a reference to a context terms are related at a variance, in an environment. No goal is registered yet.
-abbrev pub solving : {Key Id Name : Type 0} → ℕ → Meaning Key Id Name → InferCtxtInner Key → Variance → ParamEnvKey Key →
+abbrev pub solving : {Key Id Name : Type 0} → ℕ → Meaning Key Id Name → InferCtxtInner Key →
+    Variance → ParamEnvKey Key →
     State Key Id Name
 solving j m x v e = record {
   meaning = m;

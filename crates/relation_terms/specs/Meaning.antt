@@ -48,8 +48,8 @@ use Rattle.relation_terms.specs.declared.terms.generic_arg.TermKind.{TermKind}
 use Rattle.relation_terms.specs.declared.terms.generic_arg.TermKind.TheVariants.{Ty as TyTerm, Const as ConstTerm}
 
 -- The tree of each key, the list of lists' trees, the number of each id and name, and of the item of a number how
--- many generic parameters it has and the variances that are declared of them. What an interner does not know has a tree with the
--- leaf `unknown`, and of a binder's variables none.
+-- many generic parameters it has and the variances that are declared of them. What an interner does not know has a
+-- tree with the leaf `unknown`, and of a binder's variables none.
 pub record Meaning (Key Id Name : Type 0) : Type 0 where
   pub ty : TyKey Key → Tree
   pub region : RegionKey Key → Tree

@@ -97,12 +97,15 @@ module _ {Key Id Name : Type 0} where
   -- What a fault says of two terms: a type error that no assignment makes them one, and which error it is, over known
   -- terms; a spent budget that nothing is left of it; want of memory nothing.
   abbrev pub Refuses : State Key Id Name → State Key Id Name → Variance → Tree → Tree → RelateFault Key Id Name → Type 0
-  Refuses r q v a b (Unrelated e) = NeverOne (at v) r.store a b × ErrorOf q.meaning q.store e a b × KnowsError q.meaning e
+  Refuses r q v a b (Unrelated e) = NeverOne (at v) r.store a b × ErrorOf q.meaning q.store e a b ×
+      KnowsError q.meaning e
   Refuses r q v a b Budget = (q.store).budget ≡ 0
   Refuses r q v a b Memory = Unit {0}
 
-  -- What an answer says of two terms at a variance: they are related, no equal pair is lost, and a known term is answered.
-  pub record Answers (M : Manner) (r q : State Key Id Name) (added : List Goal) (v : Variance) (a b t : Tree) : Type 0 where
+  -- What an answer says of two terms at a variance: they are related, no equal pair is lost, and a known term is
+  -- answered.
+  pub record Answers (M : Manner) (r q : State Key Id Name) (added : List Goal) (v : Variance)
+      (a b t : Tree) : Type 0 where
     pub outcome : Outcome (items_in r) r.environment (at v) r.store q.store r.goals added a b
     pub answer : MayAnswer M q.store a t
     pub known : IsTrue (known t)
@@ -159,7 +162,8 @@ module _ {Key Id Name : Type 0} where
   StepVerdict M F r q added a b tree (Err f) = Refuses r q r.ambient a b f
 
   -- What it says besides where the relation promises to be exact, of first-order terms and records at invariance: the
-  -- record stays first-order, and up to erasure just the solutions that unify the pair that is left, or the terms, stay.
+  -- record stays first-order, and up to erasure just the solutions that unify the pair that is left, or the terms,
+  -- stay.
   abbrev pub ExactVerdict : {K : Type 0} → State Key Id Name → State Key Id Name → Tree → Tree → (K → Tree) →
       Result (Step K) (RelateFault Key Id Name) → Type 0
   ExactVerdict r q a b tree (Ok (Done t)) = IsFirstOrderStore q.store × Exact r.store q.store a b
@@ -171,8 +175,8 @@ module _ {Key Id Name : Type 0} where
   ExactVerdict r q a b tree (Err f) = Unit {0}
 
   -- A step was taken.
-  pub record Stepped {K : Type 0} (M : Manner) (F : Tree → Type 0) (r q : State Key Id Name) (a b : Tree) (tree : K → Tree)
-      (result : Result (Step K) (RelateFault Key Id Name)) : Type 0 where
+  pub record Stepped {K : Type 0} (M : Manner) (F : Tree → Type 0) (r q : State Key Id Name)
+      (a b : Tree) (tree : K → Tree) (result : Result (Step K) (RelateFault Key Id Name)) : Type 0 where
     pub passes : Passes (weight r.store a + weight r.store b) r q
     pub verdict : StepVerdict M F r q passes.added a b tree result
     pub exact : M.is_exact → r.ambient ≡ Invariant → IsFirstOrderPair r.store a b →

@@ -11,7 +11,14 @@ use crate::relate::forms::{ItemTy, item_of};
 use relation_terms::terms::{Const, ConstKind, Dup, Interner, Ty, TyKind, ValTree, ValTreeKind};
 use relation_tools::error::{ExpectedFound, TypeError, TypeErrorOf};
 
-// That two types are of one outermost form with as many parts, or how they differ.
+/// Answers `Ok` where two types are of one outermost form, with as many parts, which are not compared. Parameters are
+/// of one form where they have one index; types that have no parts, all others, where they are one type.
+///
+/// The interner has to know both types; it is only read.
+///
+/// Answers `Mutability` for two references or two raw pointers of unlike mutability, `TupleSize` for two tuples of
+/// unlike lengths of which none is 0, and `Sorts` for all other types that differ. An error names the left one first.
+/// Upstream these cases stand in `structurally_relate_tys`, which relates the parts too.
 pub fn compare_tys<I: Interner>(cx: &I, a: &Ty<I>, b: &Ty<I>) -> Result<(), TypeErrorOf<I>>
     requires a_known { IsTrue (known ((I.meaning cx.now).ty a.now)) }
     requires b_known { IsTrue (known ((I.meaning cx.now).ty b.now)) }
@@ -111,7 +118,15 @@ fn compare_items<I: Interner>(
     Ok(())
 }
 
-// That two constants are of one outermost form with as many parts, or how they differ.
+/// Answers `Ok` where two constants are of one outermost form, with as many parts, which are not compared. Parameters
+/// are of one form where they have one index, values where their value trees are one or have as many branches. The
+/// types of values are not looked at.
+///
+/// The interner has to know both constants, which may not be one; it is only read.
+///
+/// Answers `Mismatch` for two expressions of unlike operations or with unlike numbers of arguments, and
+/// `ConstMismatch`, which names the left one first, for all other constants that differ. Upstream these cases stand in
+/// `structurally_relate_consts`, which relates the parts too.
 #[tactic(auto, using(crate::proofs::Comparing::formed_const))]
 pub fn compare_consts<I: Interner>(cx: &I, a: &Const<I>, b: &Const<I>) -> Result<(), TypeErrorOf<I>>
     requires a_known { IsTrue (known ((I.meaning cx.now).const_ a.now)) }

@@ -6,7 +6,7 @@ use relation_terms::terms::{
     AdtId, ArgsKey, ClosureId, CoroutineClosureId, CoroutineId, Dup, FunctionId, TyKind,
 };
 
-/// Which form a type over an item has.
+/// Which form a type over an item has. Each is the form of `TyKind` of that name.
 #[derive(Clone, Copy, PartialEq, Eq, Debug)]
 pub enum ItemForm {
     Adt,
@@ -17,7 +17,7 @@ pub enum ItemForm {
     CoroutineWitness,
 }
 
-/// A type over an item and its arguments.
+/// The form of a type over an item and its arguments: which it is, the item's id, and the list of arguments.
 #[derive(Debug, Drop)]
 pub struct ItemTy<X, D> {
     pub form: ItemForm,
@@ -35,7 +35,7 @@ fn item<X: Dup, D: Dup>(form: ItemForm, def_id: &D, args: &ArgsKey<X>) -> ItemTy
     }
 }
 
-// The form, the item and the arguments of a type that is over an item.
+/// The form, the item and the arguments of a type that is over an item. Answers `None` for every other form.
 pub fn item_of<X: Dup, D: Dup, N>(kind: &TyKind<X, D, N>) -> Option<ItemTy<X, D>>
     ensures is { IfSome result (λ t. kind.now ≡ item_kind t) }
     ensures is_none { IfNone result (IsNoItem kind.now) }
@@ -55,7 +55,7 @@ pub fn item_of<X: Dup, D: Dup, N>(kind: &TyKind<X, D, N>) -> Option<ItemTy<X, D>
     }
 }
 
-// The type of that form over that item and these arguments.
+/// The form of a type over that item and these arguments: what `item_of` takes apart, put together.
 pub fn kind_of_item<X, D, N>(form: ItemForm, def_id: D, args: ArgsKey<X>) -> TyKind<X, D, N>
     ensures { result ≡ item_kind (record { form = form; def_id = def_id; args = args }) }
 {

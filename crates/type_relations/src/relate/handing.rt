@@ -56,7 +56,13 @@ fn of_const<I: Interner>(
     RelateFault::Unrelated(TypeError::ConstMismatch(ExpectedFound::new(a.dup(), b.dup())))
 }
 
-// What two types answer where two of their parts have answered that.
+/// What relating two types answers where relating two of their parts, `x` and `y`, has answered `related`. `ty` is the
+/// left type.
+///
+/// The interner has to know the left type; it is only read.
+///
+/// That is `related` itself, but `ArraySize` of `x` and `y` in place of `ConstMismatch` where the left type is an array
+/// and both parts are constants. Upstream this stands in `structurally_relate_tys`.
 pub fn in_ty<I: Interner, T>(
     cx: &I,
     ty: &Ty<I>,
@@ -73,7 +79,12 @@ pub fn in_ty<I: Interner, T>(
     }
 }
 
-// What two constants answer where two of their parts have answered that.
+/// What relating the constants `a` and `b` answers where relating two of their parts has answered `related`.
+///
+/// The interner has to know the left constant; it is only read.
+///
+/// That is `related` itself, but `ConstMismatch` of `a` and `b` in place of any type error where the left one is a
+/// value. Upstream this stands in `structurally_relate_consts`.
 pub fn in_const<I: Interner, T>(
     cx: &I,
     a: &Const<I>,

@@ -9,7 +9,11 @@ use relation_terms::terms::{
     Const, ConstKind, Dup, GenericArg, GenericArgKind, Interner, Ty, TyKind, ValTreeKind,
 };
 
-// How many parts a type has.
+/// How many parts a type has: the arguments of a type over an item, the element and the length of an array, the region
+/// and the pointee of a reference, the pointee of a raw pointer, the element of a slice, the members of a tuple. Any
+/// other type has none.
+///
+/// The interner has to know the type.
 pub fn parts_count<I: Interner>(cx: &I, ty: &Ty<I>) -> usize
     requires { IsTrue (known ((I.meaning cx.now).ty ty.now)) }
     ensures counts { result ≡ count (parts_of ((I.meaning cx.now).ty ty.now)) }
@@ -29,7 +33,9 @@ pub fn parts_count<I: Interner>(cx: &I, ty: &Ty<I>) -> usize
     }
 }
 
-// The part of a type at a place.
+/// The part of a type at a place. Places count from 0, in the order in which parts are related.
+///
+/// The interner has to know the type, and the place has to be below `parts_count`. The interner knows the part too.
 pub fn part<I: Interner>(cx: &I, ty: &Ty<I>, i: usize) -> GenericArg<I>
     requires ty_known { IsTrue (known ((I.meaning cx.now).ty ty.now)) }
     requires in_bounds { i < count (parts_of ((I.meaning cx.now).ty ty.now)) }
@@ -52,7 +58,10 @@ pub fn part<I: Interner>(cx: &I, ty: &Ty<I>, i: usize) -> GenericArg<I>
     }
 }
 
-// How many parts a constant has: the arguments of an expression, the branches of a value.
+/// How many parts a constant has: the arguments of an expression, the branches of a value. Any other constant has none,
+/// and the type of a value is no part.
+///
+/// The interner has to know the constant.
 pub fn const_parts_count<I: Interner>(cx: &I, constant: &Const<I>) -> usize
     requires { IsTrue (known ((I.meaning cx.now).const_ constant.now)) }
     ensures counts { result ≡ count (const_parts_of ((I.meaning cx.now).const_ constant.now)) }
@@ -69,7 +78,10 @@ pub fn const_parts_count<I: Interner>(cx: &I, constant: &Const<I>) -> usize
     }
 }
 
-// The part of a constant at a place.
+/// The part of a constant at a place. Places count from 0, in the order in which parts are related.
+///
+/// The interner has to know the constant, and the place has to be below `const_parts_count`. The interner knows the
+/// part too.
 pub fn const_part<I: Interner>(cx: &I, constant: &Const<I>, i: usize) -> GenericArg<I>
     requires constant_known { IsTrue (known ((I.meaning cx.now).const_ constant.now)) }
     requires in_bounds { i < count (const_parts_of ((I.meaning cx.now).const_ constant.now)) }

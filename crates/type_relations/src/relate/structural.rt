@@ -113,8 +113,8 @@ pub fn relate<I: Interner, R: TypeRelation<I>>(
     }
 }
 
-/// Relates two generic arguments at a variance, seen from the ambient one, which is put back after it. At bivariance they
-/// are not looked at, and the first is the answer.
+/// Relates two generic arguments at a variance, seen from the ambient one, which is put back after it. At bivariance
+/// they are not looked at, and the first is the answer.
 #[cycle(relate)]
 pub fn relate_with_variance<I: Interner, R: TypeRelation<I>>(
     r: &mut R,

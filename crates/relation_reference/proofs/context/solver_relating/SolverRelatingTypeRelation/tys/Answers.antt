@@ -15,7 +15,8 @@ use Rattle.relation_reference.specs.Solving.{solving, solver_manner}
 use Rattle.relation_reference.proofs.Reading.{made_of_key}
 use Rattle.relation_reference.proofs.Relating.{unites_alike}
 use Rattle.relation_reference.proofs.Instantiating.{roots_goes, roots_unite}
-use Rattle.relation_reference.proofs.Solving.{answered_step, united_step, parts_step, left_step, right_step, left_refused}
+use Rattle.relation_reference.proofs.Solving.{answered_step, united_step, parts_step, left_step, right_step}
+use Rattle.relation_reference.proofs.Solving.{left_refused}
 use Rattle.relation_reference.proofs.Solving.{right_refused, read_taken, taken_invariantly}
 use Rattle.relation_reference.proofs.context.solver_relating.SolverRelatingTypeRelation.tys.Goals as goal
 
@@ -26,9 +27,11 @@ returns-then-eq g c =
     let k = c.requires.asked in
     let same = (g.met.I.Interner.same_ty r.infcx.now.interner c.args.a.now c.args.b.now k.left_known k.right_known).0
     (sym c.if-eq.ensures) in
-    answered_step r.infcx.ghost_name IsFormed m m r.infcx.now.inner r.infcx.now.inner r.ambient_variance r.param_env (m.ty c.args.a.now)
+    answered_step r.infcx.ghost_name IsFormed m m r.infcx.now.inner r.infcx.now.inner r.ambient_variance
+    r.param_env (m.ty c.args.a.now)
     (m.ty c.args.b.now) m.ty c.dup.result
-    (itself_related solver_manner (solving r.infcx.ghost_name m r.infcx.now.inner r.ambient_variance r.param_env) r.ambient_variance m.ty
+    (itself_related solver_manner (solving r.infcx.ghost_name m r.infcx.now.inner r.ambient_variance r.param_env)
+    r.ambient_variance m.ty
     (m.ty c.args.a.now) (m.ty c.args.b.now) c.dup.result same (ap m.ty c.dup.ensures) k.left_known)
 
 pub equate_ty_vids_raw-requires-clause-a_made : goal.equate_ty_vids_raw-requires-clause-a_made
@@ -79,9 +82,11 @@ returns-in-Some-ty_var g c =
     let stays : (x ≡ y) → later ≡ st = λ z. ap (store_of m) (done.same z) in
     let sound = c.requires.lawful.0.sound in
     let gone : Goes 0 st later = roots_goes st later x y sound stays done.equates 0 in
-    let taken = read_taken st r.ambient_variance a l (g.met.I.Interner.is_ty r.infcx.now.interner c.args.a.now k.left_known)
+    let taken = read_taken st r.ambient_variance a l
+        (g.met.I.Interner.is_ty r.infcx.now.interner c.args.a.now k.left_known)
     c.shallow_resolve-left.ensures.reads k.left_taken in
-    united_step r.infcx.ghost_name IsFormed m o r.infcx.now.inner new r.ambient_variance r.param_env a b l o.ty c.shallow_resolve-left.result e
+    united_step r.infcx.ghost_name IsFormed m o r.infcx.now.inner new r.ambient_variance r.param_env a b l o.ty
+    c.shallow_resolve-left.result e
     (taken_invariantly r.ambient_variance x l c.in-Some.ensures.is c.requires.decides taken) c.requires.lawful.1
     (goes_within (omega arith) gone) done.lawful
     (unites_alike st later a b (leaf (variable type_var x)) (leaf (variable type_var y)) gone.later.shrinks
@@ -102,10 +107,12 @@ returns-in_err-bound-in-None-ty_var g c =
     let b = m.ty c.args.b.now in
     let f = c.in_err-bound-in-None-ty_var.field-0.0 in
     let h = c.in_err-bound-in-None-ty_var.ensures in
-    subst (λ res. Stepped solver_manner IsFormed (solving r.infcx.ghost_name m r.infcx.now.inner r.ambient_variance r.param_env)
+    subst (λ res. Stepped solver_manner IsFormed (solving r.infcx.ghost_name m r.infcx.now.inner
+    r.ambient_variance r.param_env)
     (solving r.infcx.ghost_name o q.inner r.ambient_variance r.param_env) a b o.ty res)
     (sym (as_err c.from_residual.result f c.from_residual.ensures.0 c.from_residual.ensures.1))
-    (left_refused r.infcx.ghost_name IsFormed m o h.grown r.infcx.now.inner q.inner r.ambient_variance r.param_env c.requires.lawful.1
+    (left_refused r.infcx.ghost_name IsFormed m o h.grown r.infcx.now.inner q.inner r.ambient_variance
+    r.param_env c.requires.lawful.1
     c.requires.lawful.0 h.lawful c.in-Some.x.0 (m.ty c.shallow_resolve-right.result) c.in-None-ty_var.ensures.formed a b
     o.ty f h.why_known h.answers
     (subst (IsReadAs st a) c.in-Some.ensures.is c.shallow_resolve-left.ensures.reads)
@@ -124,11 +131,14 @@ returns-in_err-bound-in-Some-ty_var-2 g c =
     let f = c.in_err-bound-in-Some-ty_var-2.field-0.0 in
     let h = c.in_err-bound-in-Some-ty_var-2.ensures in
     let res = c.from_residual-in_err-bound-in-Some-ty_var-2 in
-    subst (λ res. Stepped solver_manner IsFormed (solving r.infcx.ghost_name m r.infcx.now.inner r.ambient_variance r.param_env)
+    subst (λ res. Stepped solver_manner IsFormed (solving r.infcx.ghost_name m r.infcx.now.inner
+    r.ambient_variance r.param_env)
     (solving r.infcx.ghost_name o q.inner r.ambient_variance r.param_env) a b o.ty res)
     (sym (as_err res.result f res.ensures.0 res.ensures.1))
-    (right_refused r.infcx.ghost_name IsFormed m o h.grown r.infcx.now.inner q.inner r.ambient_variance r.param_env c.requires.lawful.1
-    c.requires.lawful.0 h.lawful c.in-Some-ty_var-2.y.0 (m.ty c.shallow_resolve-left.result) c.in-None.ensures.formed a b
+    (right_refused r.infcx.ghost_name IsFormed m o h.grown r.infcx.now.inner q.inner r.ambient_variance
+    r.param_env c.requires.lawful.1
+    c.requires.lawful.0 h.lawful c.in-Some-ty_var-2.y.0 (m.ty c.shallow_resolve-left.result)
+    c.in-None.ensures.formed a b
     o.ty f h.why_known h.answers c.shallow_resolve-left.ensures.reads
     (subst (IsReadAs st b) c.in-Some-ty_var-2.ensures.is c.shallow_resolve-right.ensures.reads)
     (subst (IsShallow st) c.in-Some-ty_var-2.ensures.is c.shallow_resolve-right.ensures.shallow))
@@ -152,7 +162,8 @@ returns-in_ok-bound-in-None-ty_var g c =
     let taken = read_taken st r.ambient_variance a (m.ty l.result)
     (g.met.I.Interner.is_ty r.infcx.now.interner c.args.a.now k.left_known) l.ensures.reads k.left_taken in
     let t_stays : o.ty t.result ≡ m.ty t.result = h.grown.ty t.result t.ensures.sure in
-    left_step r.infcx.ghost_name m o h.grown x q.inner r.param_env c.requires.lawful.1 c.requires.lawful.0 h.lawful c.in-Some.x.0
+    left_step r.infcx.ghost_name m o h.grown x q.inner r.param_env c.requires.lawful.1 c.requires.lawful.0
+    h.lawful c.in-Some.x.0
     (m.ty t.result) (o.ty z) c.in-None-ty_var.ensures.formed (t.ensures.resolves.is_in k.right_in) t.ensures.sure
     h.sure (g.met.I.Interner.is_ty q.interner z h.sure) h.answers.1 h.answers.0 h.answers.2 h.steps IsFormed a b
     r.ambient_variance (taken_invariantly r.ambient_variance c.in-Some.x.0 (m.ty l.result) is c.requires.decides taken)
@@ -182,7 +193,8 @@ returns-in_ok-bound-in-Some-ty_var-2 g c =
     let t_stays : o.ty t.result ≡ m.ty t.result = h.grown.ty t.result t.ensures.sure in
     right_step r.infcx.ghost_name m o h.grown x q.inner r.param_env c.requires.lawful.1 c.requires.lawful.0 h.lawful
     c.in-Some-ty_var-2.y.0 (m.ty t.result) (o.ty z) c.in-None.ensures.formed (t.ensures.resolves.is_in k.left_in)
-    t.ensures.sure h.sure (g.met.I.Interner.is_ty q.interner z h.sure) h.answers.1 h.answers.0 h.answers.2 h.steps IsFormed
+    t.ensures.sure h.sure (g.met.I.Interner.is_ty q.interner z h.sure) h.answers.1 h.answers.0
+    h.answers.2 h.steps IsFormed
     a b r.ambient_variance
     (taken_invariantly r.ambient_variance c.in-Some-ty_var-2.y.0 (m.ty l.result) is c.requires.decides taken)
     t.result l.result c.dup-in-Some-ty_var-2.result z o.ty

@@ -5,4 +5,5 @@ use Rattle.relation_reference.proofs.context.solver_relating.SolverRelatingTypeR
 pub returns : goal.returns
 returns g c =
     let r = c.args.self.now in
-    noted_nothing tt (solving r.infcx.ghost_name (g.I.Interner.meaning r.infcx.now.interner) r.infcx.now.inner r.ambient_variance r.param_env)
+    noted_nothing tt (solving r.infcx.ghost_name (g.I.Interner.meaning r.infcx.now.interner) r.infcx.now.inner
+    r.ambient_variance r.param_env)
