@@ -1,7 +1,7 @@
 -- Forms that are related by their parts, one after another.
 use Rattle.std.proofs.Common.{◌≡◌, ℕ, ◌<◌, refl, sym, ap, ◌∙◌, subst, subst₂, arith, IsTrue, Ok, Err}
 use Rattle.relation_terms.specs.declared.terms.enums.Variance.{Variance}
-use Rattle.relation_terms.specs.Heads.{Sort, Head, arguments, adt}
+use Rattle.relation_terms.specs.Heads.{Sort, Head, adt}
 use Rattle.relation_terms.specs.Trees.{Tree, leaf, node, bind, nil, cons, known, count, nth, IsList, AreTerms}
 use Rattle.relation_terms.specs.Meaning.{Meaning, Extends}
 use Rattle.relation_tools.specs.declared.error.TypeError.{TypeError}

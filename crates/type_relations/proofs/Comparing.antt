@@ -2,8 +2,8 @@
 use Rattle.std.proofs.Common.{◌≡◌, ◌≢◌, ◌⊎◌, ℕ, zero, suc, ◌<◌, refl, sym, ap, ◌∙◌, arith, inl, inr, subst, subst₂, IsTrue, IfErr, Option, Some, List, [], ◌∷◌, Result, Ok, Err}
 use Rattle.std.specs.Result.{IsErr, IsErrAnd}
 use Rattle.std.proofs.lemmas.Bool.{false≢true}
-use Rattle.relation_terms.specs.Heads.{Head, Sort, Part, Shape, one, row, term_of, binder_of, head_parts, head_sort, leaf_sort, Admits, type_sort, const_sort, value_sort, VarKind, var_sort, type_var, int_var, float_var, const_var, region_var}
-use Rattle.relation_terms.specs.Heads.{array, slice, tuple, raw_ptr, ref, adt, expression, value, value_type, value_branch, Atom, type_param, const_param}
+use Rattle.relation_terms.specs.Heads.{Head, Sort, Part, Shape, one, row, head_parts, Admits, type_sort, const_sort, value_sort, VarKind, var_sort, type_var, int_var, float_var, const_var, region_var}
+use Rattle.relation_terms.specs.Heads.{array, slice, tuple, raw_ptr, ref, expression, value, value_branch, Atom, type_param, const_param}
 use Rattle.relation_terms.specs.Heads.{Leaf, atom, variable, bound, placeholder, unknown}
 use Rattle.relation_terms.specs.Trees.{Tree, leaf, node, bind, nil, cons, Assign, apply, IsTerm, Fits, IsList, count, known}
 use Rattle.relation_terms.specs.Meaning.{Meaning, kind_tree, const_tree}
@@ -26,15 +26,15 @@ use Rattle.relation_terms.specs.declared.terms.keys.ArgsKey.{ArgsKey}
 use Rattle.relation_terms.specs.declared.terms.const_kind.ConstKind.TheVariants.{Param as ConstParam}
 use Rattle.relation_terms.specs.declared.terms.const_kind.ConstKind.TheVariants.{Placeholder as ConstPlaceholder, Value, Expr}
 use Rattle.relation_tools.specs.declared.error.TypeError.{TypeError}
-use Rattle.relation_tools.specs.declared.error.TypeError.TheVariants.{Mismatch, TupleSize, Sorts, ConstMismatch}
+use Rattle.relation_tools.specs.declared.error.TypeError.TheVariants.{TupleSize, Sorts, ConstMismatch}
 use Rattle.relation_tools.specs.declared.error.RelateFault.{RelateFault}
 use Rattle.relation_tools.specs.declared.error.RelateFault.TheVariants.{Unrelated}
 use Rattle.relation_tools.specs.Faults.{KnowsError, KnowsFault}
 use Rattle.type_relations.specs.Relation.{plain_atom}
 use Rattle.type_relations.specs.Stores.{Store}
 use Rattle.type_relations.specs.Errors.{AreOfOneForm, over_parts, one_leaf, AreAlike, AreAlikeLeaves, AreAlikeConsts, AreOfOneValue, one_value, as_many_branches, IsNoVariable}
-use Rattle.type_relations.specs.Errors.{FormError, mutability, pointer_mutability, tuple_size, empty_tuple, as_many, sorts, of_forms}
-use Rattle.type_relations.specs.Errors.{ConstFormError, const_mismatch, operations, of_const_forms}
+use Rattle.type_relations.specs.Errors.{FormError, mutability, pointer_mutability, tuple_size, empty_tuple, as_many, sorts}
+use Rattle.type_relations.specs.Errors.{ConstFormError, const_mismatch, operations}
 use Rattle.type_relations.specs.Outcomes.{NoEqualTerms}
 use Rattle.type_relations.specs.Parts.{IsFormed, IsFormedConst}
 use Rattle.type_relations.specs.Parts.{parts_of, const_parts_of, branches_of, item_head, item_kind, kind_of, IsNoItem}

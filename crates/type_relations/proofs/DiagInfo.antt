@@ -1,6 +1,5 @@
 -- Laws of what is known of nested types.
 use Rattle.std.proofs.Common.{refl}
-use Rattle.type_relations.specs.declared.relate.VarianceDiagInfo.{VarianceDiagInfo}
 use Rattle.type_relations.specs.declared.relate.VarianceDiagInfo.TheVariants.{None, Invariant}
 use Rattle.type_relations.specs.DiagInfo.{NestingIsAssociative, NothingIsUnit}
 

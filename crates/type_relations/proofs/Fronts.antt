@@ -1,17 +1,14 @@
 -- A loop over the parts of two forms, which relates them one after another.
-use Rattle.std.proofs.Common.{◌≡◌, ◌⊎◌, ℕ, zero, suc, ◌+◌, ◌*◌, ◌≤◌, ◌<◌, refl, sym, ap, ◌∙◌, subst, subst₂, arith, List, [], ◌++◌, All, IsTrue, Result, Ok, Err}
+use Rattle.std.proofs.Common.{◌≡◌, ℕ, suc, ◌+◌, ◌≤◌, ◌<◌, sym, ◌∙◌, subst, subst₂, arith, [], Ok}
 use Rattle.relation_terms.specs.declared.terms.enums.Variance.{Variance}
 use Rattle.relation_terms.specs.Heads.{Head}
-use Rattle.relation_terms.specs.Trees.{Tree, cons, known, IsList, count, nth, apply, size}
-use Rattle.relation_tools.specs.declared.error.RelateFault.{RelateFault}
-use Rattle.relation_tools.specs.declared.error.RelateFault.TheVariants.{Memory, Budget, Unrelated}
-use Rattle.type_relations.specs.Relation.{Items, at, parts, part_at}
+use Rattle.relation_terms.specs.Trees.{Tree, IsList, count, nth}
+use Rattle.type_relations.specs.Relation.{at, parts, part_at}
 use Rattle.type_relations.specs.Stores.{Store, InContext, weight, resolved}
-use Rattle.type_relations.specs.Goals.{Goal}
 use Rattle.type_relations.specs.Outcomes.{Outcome, Front, NeverOne}
-use Rattle.type_relations.specs.Measures.{grown, depth}
+use Rattle.type_relations.specs.Measures.{grown}
 use Rattle.type_relations.specs.Lawful.{State, Manner, Passes, Related, items_in}
-use Rattle.type_relations.proofs.Going.{pair_grown, depth_later, depth-strict}
+use Rattle.type_relations.proofs.Going.{pair_grown}
 use Rattle.type_relations.proofs.Composing.{front_begins, front_goes_on, front_ends}
 use Rattle.type_relations.proofs.Passing.{passes_nowhere, passes_then, outcome_seen}
 use Rattle.type_relations.proofs.Parts.{nth_size}

@@ -1,11 +1,9 @@
 -- What an error of two parts is as the error of the terms, and arguments of two kinds.
-use Rattle.std.proofs.Common.{◌≡◌, ◌≢◌, ℕ, zero, suc, ◌+◌, ◌<◌, ◌≤◌, refl, sym, ap, ◌∙◌, arith, subst, subst₂, IsTrue, true, ◌&&◌, Result, Ok, Err, IfErr}
-use Rattle.std.proofs.lemmas.Bool.{false≢true}
-use Rattle.std.specs.Result.{IsErr, IsErrAnd}
-use Rattle.relation_terms.specs.Heads.{Sort, Admits, region_sort, type_sort, const_sort, VarKind, var_sort, type_var, region_var, const_var, int_var, float_var}
-use Rattle.relation_terms.specs.Heads.{Head, head_sort, array, expression, value, value_type, value_branch, Leaf, variable, bound, placeholder, atom, unknown}
-use Rattle.relation_terms.specs.Trees.{Tree, leaf, node, bind, nil, cons, Assign, apply, IsList, IsTerm, Fits, count, nth, known, size}
-use Rattle.relation_terms.specs.Meaning.{Meaning, Extends, arg_tree, kind_tree}
+use Rattle.std.proofs.Common.{◌≡◌, refl, sym, subst, IsTrue}
+use Rattle.relation_terms.specs.Heads.{Sort, Admits, region_sort, type_sort, const_sort, var_sort}
+use Rattle.relation_terms.specs.Heads.{head_sort, array, variable, bound, placeholder, atom, unknown}
+use Rattle.relation_terms.specs.Trees.{Tree, leaf, node, Assign, apply, IsTerm, known}
+use Rattle.relation_terms.specs.Meaning.{Meaning, arg_tree, kind_tree}
 use Rattle.relation_terms.specs.declared.terms.ty_kind.TyKind.{TyKind}
 use Rattle.relation_terms.specs.declared.terms.ty_kind.TyKind.TheVariants.{Array, Infer}
 use Rattle.relation_terms.specs.declared.terms.ty_kind.InferTy.TheVariants.{TyVar}
@@ -14,23 +12,16 @@ use Rattle.relation_terms.specs.declared.terms.keys.RegionKey.{RegionKey}
 use Rattle.relation_terms.specs.declared.terms.keys.ConstKey.{ConstKey}
 use Rattle.relation_terms.specs.declared.terms.generic_arg.GenericArgKind.{GenericArgKind}
 use Rattle.relation_terms.specs.declared.terms.generic_arg.GenericArgKind.TheVariants.{Lifetime, Ty, Const}
-use Rattle.relation_terms.proofs.Sorted.{Sorted}
 use Rattle.relation_tools.specs.declared.error.ExpectedFound.{ExpectedFound}
 use Rattle.relation_tools.specs.declared.error.TypeError.{TypeError}
-use Rattle.relation_tools.specs.declared.error.TypeError.TheVariants.{Mismatch, ArraySize, ConstMismatch}
+use Rattle.relation_tools.specs.declared.error.TypeError.TheVariants.{ConstMismatch}
 use Rattle.relation_tools.specs.declared.error.RelateFault.{RelateFault}
-use Rattle.relation_tools.specs.declared.error.RelateFault.TheVariants.{Memory, Budget, Unrelated}
+use Rattle.relation_tools.specs.declared.error.RelateFault.TheVariants.{Unrelated}
 use Rattle.relation_tools.specs.Faults.{KnowsFault}
-use Rattle.type_relations.specs.Relation.{Interpretation, sort_of}
-use Rattle.type_relations.specs.Stores.{Store, Satisfies, IsAssignment, IsMade, MayStandFor, IsTermIn, InContext, IsMadeLeaf, weight, resolved}
-use Rattle.type_relations.specs.Outcomes.{NoEqualTerms}
-use Rattle.type_relations.specs.Errors.{ErrorOf, IsHandedOn, of_kinds, of_parts, of_length, of_branches, AreOfOneForm, over_parts, one_leaf, parameters}
-use Rattle.type_relations.specs.Errors.{AreOfOneConst, AreOfOneValue, values, expressions, const_parameters, one_value, as_many_branches}
+use Rattle.type_relations.specs.Relation.{sort_of}
+use Rattle.type_relations.specs.Stores.{Store, IsAssignment, InContext}
 use Rattle.type_relations.proofs.Standing.{stands_term}
-use Rattle.type_relations.specs.Parts.{IsFormed}
-use Rattle.type_relations.specs.Parts.{parts_of, const_parts_of, branches_of}
-use Rattle.type_relations.specs.Handing.{IsPassedOn, IsNoLength, IsFaultOfTy, passed, sized, IsPassedOnConst, IsFaultOfConst, passed_const, whole, IsResultOfTy, IsResultOfConst}
-use Rattle.type_relations.proofs.Parts.{parts_size, const_parts_size}
+use Rattle.type_relations.specs.Handing.{IsPassedOn, IsNoLength, IsFaultOfTy, passed, sized, IsFaultOfConst, passed_const, whole}
 use Rattle.type_relations.proofs.OneParts.{sort_is}
 
 -- The fault names what is known.

@@ -1,21 +1,19 @@
 -- The next parts of two forms: what is asked of them, and that they are smaller.
-use Rattle.std.proofs.Common.{◌≡◌, ℕ, zero, suc, ◌+◌, ◌*◌, ◌≤◌, ◌<◌, refl, sym, ap, ◌∙◌, subst, subst₂, arith, IsTrue, List, Result, Ok, Err}
+use Rattle.std.proofs.Common.{◌≡◌, ℕ, zero, suc, ◌+◌, ◌*◌, ◌<◌, refl, sym, ap, ◌∙◌, subst, subst₂, arith, IsTrue, List, Result, Ok, Err}
 use Rattle.relation_terms.specs.declared.terms.enums.Variance.{Variance}
-use Rattle.relation_terms.specs.declared.terms.enums.Variance.TheVariants.{Covariant}
-use Rattle.relation_terms.specs.Variances.{xform}
 use Rattle.relation_terms.specs.Heads.{Head, Leaf, expression, value, value_branch}
 use Rattle.relation_terms.specs.Trees.{Tree, leaf, node, bind, nil, cons, Leaves, known, count, nth}
 use Rattle.relation_terms.specs.declared.terms.keys.ConstKey.{ConstKey}
 use Rattle.relation_terms.specs.declared.terms.generic_arg.GenericArgKind.{GenericArgKind}
 use Rattle.relation_tools.specs.declared.error.RelateFault.{RelateFault}
 use Rattle.type_relations.specs.Relation.{Items, part_at}
-use Rattle.type_relations.specs.Stores.{Store, IsTermIn, weight}
-use Rattle.type_relations.specs.Measures.{depth, grown}
+use Rattle.type_relations.specs.Stores.{IsTermIn, weight}
+use Rattle.type_relations.specs.Measures.{depth}
 use Rattle.type_relations.specs.Goals.{Goal}
 use Rattle.type_relations.specs.Errors.{AreOfOneForm, over_parts, one_leaf, parameters, AreOfOneConst, values, expressions, const_parameters}
 use Rattle.type_relations.specs.Parts.{parts_of, const_parts_of, branches_of, head_of, const_head_of}
 use Rattle.type_relations.specs.Handing.{IsFaultOfTy, IsFaultOfConst, IsResultOfTy, IsResultOfConst}
-use Rattle.type_relations.specs.Lawful.{State, Manner, TakesParts, Takes, Passes, Asked, LeadsToParts, LeadsAgain, items_in}
+use Rattle.type_relations.specs.Lawful.{State, Manner, TakesParts, Takes, Asked, LeadsToParts, LeadsAgain, items_in}
 use Rattle.type_relations.proofs.Going.{depth-mono, depth-strict, depth-spent, depth_later}
 use Rattle.type_relations.proofs.Standing.{later_term}
 use Rattle.type_relations.proofs.Parts.{in_part, in_const_part}

@@ -1,8 +1,8 @@
 -- The parts of types and constants: known, of the context, smaller, and lists.
-use Rattle.std.proofs.Common.{◌≡◌, ◌⊎◌, ℕ, zero, suc, ◌+◌, ◌<◌, ◌≤◌, refl, sym, ap, ap₂, ◌∙◌, subst, arith, inl, inr}
-use Rattle.std.proofs.Common.{Bool, ◌&&◌, IsTrue, true, Option, Some, None, List, [], ◌∷◌, length, get_or}
+use Rattle.std.proofs.Common.{◌≡◌, ℕ, zero, suc, ◌<◌, refl, sym, ap, ap₂, ◌∙◌, subst, arith, inl, inr}
+use Rattle.std.proofs.Common.{◌&&◌, IsTrue, true, Option, Some, List, [], ◌∷◌, length, get_or}
 use Rattle.std.proofs.lemmas.Bool.{and_parts}
-use Rattle.relation_terms.specs.Heads.{VarKind, Head, Leaf, Sort, Part, term_of, binder_of, row, head_parts}
+use Rattle.relation_terms.specs.Heads.{VarKind, Head, Leaf, Sort, Part, row, head_parts}
 use Rattle.relation_terms.specs.Heads.{expression}
 use Rattle.relation_terms.specs.Heads.{Admits, head_sort, type_var, value_sort, const_sort}
 use Rattle.relation_terms.specs.Heads.{array, value, value_branch, Shape, one, variable, bound, placeholder, atom}

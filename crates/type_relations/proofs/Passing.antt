@@ -1,5 +1,5 @@
 -- Steps and calls over a relation, one after another.
-use Rattle.std.proofs.Common.{◌≡◌, ℕ, suc, ◌+◌, ◌*◌, ◌≤◌, ◌<◌, refl, sym, ap, ◌∙◌, subst, subst₂, arith, List, [], ◌++◌, All, IsTrue, Result, Ok, Err}
+use Rattle.std.proofs.Common.{◌≡◌, ℕ, ◌+◌, ◌≤◌, refl, sym, ap, ◌∙◌, subst, subst₂, arith, List, [], ◌++◌, All, IsTrue, Result, Ok, Err}
 use Rattle.std.proofs.Common.{append_assoc, get_or}
 use Rattle.std.proofs.lemmas.List.{append-nil}
 use Rattle.std.proofs.lemmas.Bool.{false≢true}
@@ -8,7 +8,7 @@ use Rattle.std.proofs.lemmas.List.Elements.{All-nil, All-append}
 use Rattle.relation_terms.specs.declared.terms.enums.Variance.{Variance}
 use Rattle.relation_terms.specs.Trees.{Tree, Assign, apply, known}
 use Rattle.relation_terms.specs.declared.terms.enums.Variance.TheVariants.{Bivariant}
-use Rattle.relation_terms.specs.Meaning.{Meaning, Extends as ExtendsMeaning}
+use Rattle.relation_terms.specs.Meaning.{Extends as ExtendsMeaning}
 use Rattle.relation_terms.specs.Variances.{xform}
 use Rattle.relation_terms.proofs.Stays.{stays_same, extends_on}
 use Rattle.relation_tools.specs.declared.error.RelateFault.{RelateFault}

@@ -1,8 +1,8 @@
 -- Types and constants that are related by their outermost forms and their parts.
-use Rattle.std.proofs.Common.{◌≡◌, ◌⊎◌, ℕ, zero, suc, ◌+◌, ◌*◌, ◌≤◌, ◌<◌, refl, sym, ap, ◌∙◌, subst, subst₂, arith, List, [], ◌++◌, All, IsTrue, Result, Ok, Err}
+use Rattle.std.proofs.Common.{◌≡◌, ℕ, ◌<◌, refl, sym, ap, ◌∙◌, subst, subst₂, arith, ◌++◌, All, IsTrue, Ok, Err}
 use Rattle.relation_terms.specs.declared.terms.enums.Variance.{Variance}
-use Rattle.relation_terms.specs.Heads.{Head, type_sort, const_sort, region_sort, Sort, Admits, head_sort, array, expression, value, value_type, value_branch}
-use Rattle.relation_terms.specs.Trees.{Tree, leaf, node, nil, cons, known, IsList, IsTerm, count, nth, apply, Assign}
+use Rattle.relation_terms.specs.Heads.{Head, type_sort, const_sort, region_sort, Sort, Admits, head_sort, array, value, value_type, value_branch}
+use Rattle.relation_terms.specs.Trees.{Tree, node, known, IsTerm, count, nth, apply, Assign}
 use Rattle.relation_terms.specs.Meaning.{Meaning, Extends, arg_tree}
 use Rattle.relation_terms.specs.declared.terms.keys.ConstKey.{ConstKey}
 use Rattle.relation_terms.specs.declared.terms.generic_arg.GenericArgKind.{GenericArgKind}
@@ -10,24 +10,24 @@ use Rattle.relation_terms.specs.declared.terms.generic_arg.GenericArgKind.TheVar
 use Rattle.relation_terms.proofs.Sorted.{Sorted}
 use Rattle.relation_tools.specs.declared.error.ExpectedFound.{ExpectedFound}
 use Rattle.relation_tools.specs.declared.error.TypeError.{TypeError}
-use Rattle.relation_tools.specs.declared.error.TypeError.TheVariants.{ArraySize, ConstMismatch, Mismatch}
+use Rattle.relation_tools.specs.declared.error.TypeError.TheVariants.{ArraySize, ConstMismatch}
 use Rattle.relation_tools.specs.declared.error.RelateFault.{RelateFault}
 use Rattle.relation_tools.specs.declared.error.RelateFault.TheVariants.{Memory, Budget, Unrelated}
-use Rattle.relation_tools.specs.Faults.{KnowsError, KnowsFault}
-use Rattle.type_relations.specs.Relation.{Items, Interpretation, at, parts, part_at, Rel, same, atoms, forms, anything, no_parts, next_part, sort_of}
-use Rattle.type_relations.specs.Stores.{Store, Satisfies, InContext, IsTermIn, weight}
-use Rattle.type_relations.specs.Goals.{Goal, Holds}
-use Rattle.type_relations.specs.Outcomes.{Outcome, Front, NeverOne}
-use Rattle.type_relations.specs.Errors.{ErrorOf, IsHandedOn, of_parts, of_length, of_branches, of_kinds, AreOfOneForm, over_parts, one_leaf, parameters}
-use Rattle.type_relations.specs.Errors.{AreOfOneConst, AreOfOneValue, values, expressions, const_parameters, one_value, as_many_branches}
-use Rattle.type_relations.specs.Parts.{IsFormed, IsFormedConst, parts_of, const_parts_of, branches_of, head_of, const_head_of}
-use Rattle.type_relations.specs.Handing.{IsPassedOn, IsNoLength, IsFaultOfTy, passed, sized, IsPassedOnConst, IsFaultOfConst, passed_const, whole}
-use Rattle.type_relations.specs.Lawful.{State, Manner, MayAnswer, Passes, Refuses, Answers, Related, items_in}
+use Rattle.relation_tools.specs.Faults.{KnowsFault}
+use Rattle.type_relations.specs.Relation.{Interpretation, at, parts, part_at, Rel, same, atoms, forms, sort_of}
+use Rattle.type_relations.specs.Stores.{Store, Satisfies}
+use Rattle.type_relations.specs.Goals.{Holds}
+use Rattle.type_relations.specs.Outcomes.{NeverOne}
+use Rattle.type_relations.specs.Errors.{ErrorOf, IsHandedOn, of_parts, of_length, AreOfOneForm, over_parts, one_leaf, parameters}
+use Rattle.type_relations.specs.Errors.{AreOfOneConst}
+use Rattle.type_relations.specs.Parts.{IsFormed, parts_of, const_parts_of, head_of, const_head_of}
+use Rattle.type_relations.specs.Handing.{IsPassedOn, IsNoLength, IsFaultOfTy, passed, sized, IsFaultOfConst, passed_const, whole}
+use Rattle.type_relations.specs.Lawful.{State, Manner, MayAnswer, Passes, Refuses, Related, items_in}
 use Rattle.type_relations.proofs.Passing.{passes_within}
 use Rattle.type_relations.proofs.Fronts.{Fronted, AreParts, fronted_never, fronted_all, fronted_passes}
 use Rattle.type_relations.proofs.OneParts.{related_head, parts_equal, const_parts_equal, sort_is}
-use Rattle.type_relations.proofs.Handing.{ty_fault_known, const_fault_known}
-use Rattle.type_relations.proofs.PartSizes.{weight_parts_most, weight_const_parts_most}
+use Rattle.type_relations.proofs.Handing.{ty_fault_known}
+use Rattle.type_relations.proofs.PartSizes.{weight_parts_most}
 
 -- The error of two parts of two types as the error of the types.
 module _ {Key Id Name : Type 0} (n p : Meaning Key Id Name) (e : Extends n p) (s : Sorted n) (a b : Tree)

@@ -1,11 +1,11 @@
 -- Constants that are related by their outermost forms and their parts, and terms whose outermost forms differ.
-use Rattle.std.proofs.Common.{◌≡◌, ◌⊎◌, ℕ, zero, suc, ◌+◌, ◌*◌, ◌≤◌, ◌<◌, refl, sym, ap, ◌∙◌, subst, subst₂, arith, List, [], ◌++◌, All, IsTrue, Result, Ok, Err}
+use Rattle.std.proofs.Common.{◌≡◌, ℕ, ◌+◌, ◌<◌, refl, sym, ap, ◌∙◌, subst, subst₂, arith, ◌++◌, All, IsTrue, Ok, Err}
 use Rattle.relation_terms.specs.declared.terms.enums.Variance.{Variance}
 use Rattle.relation_terms.specs.declared.terms.enums.Variance.TheVariants.{Covariant, Contravariant, Invariant, Bivariant}
 use Rattle.relation_terms.specs.Variances.{xform}
-use Rattle.relation_terms.specs.Heads.{Head, type_sort, const_sort, region_sort, Sort, expression, value, value_type, value_branch}
-use Rattle.relation_terms.specs.Trees.{Tree, leaf, node, nil, cons, known, IsList, IsTerm, count, nth, apply, Assign}
-use Rattle.relation_terms.specs.Meaning.{Meaning, Extends, arg_tree}
+use Rattle.relation_terms.specs.Heads.{type_sort, const_sort, region_sort, Sort, expression, value, value_type, value_branch}
+use Rattle.relation_terms.specs.Trees.{Tree, node, nil, cons, known, IsTerm, count, nth, apply, Assign}
+use Rattle.relation_terms.specs.Meaning.{Meaning, arg_tree}
 use Rattle.relation_terms.specs.declared.terms.keys.TyKey.{TyKey}
 use Rattle.relation_terms.specs.declared.terms.keys.ConstKey.{ConstKey}
 use Rattle.relation_terms.specs.declared.terms.generic_arg.GenericArgKind.{GenericArgKind}
@@ -17,14 +17,14 @@ use Rattle.relation_tools.specs.declared.error.RelateFault.{RelateFault}
 use Rattle.relation_tools.specs.declared.error.RelateFault.TheVariants.{Memory, Budget, Unrelated}
 use Rattle.relation_tools.specs.Faults.{KnowsError, KnowsFault}
 use Rattle.type_relations.specs.Relation.{Items, Interpretation, at, parts, part_at, Rel, same, atoms, forms, anything, no_parts, next_part, sort_of}
-use Rattle.type_relations.specs.Stores.{Store, Satisfies, InContext, IsTermIn, weight}
-use Rattle.type_relations.specs.Goals.{Goal, Holds}
-use Rattle.type_relations.specs.Outcomes.{Outcome, Front, NeverOne}
+use Rattle.type_relations.specs.Stores.{Store, Satisfies, IsTermIn, weight}
+use Rattle.type_relations.specs.Goals.{Holds}
+use Rattle.type_relations.specs.Outcomes.{NeverOne}
 use Rattle.type_relations.specs.Errors.{ErrorOf, of_parts, of_branches, of_kinds, of_forms, of_const_forms, FormError, ConstFormError}
 use Rattle.type_relations.specs.Errors.{AreOfOneConst, AreOfOneValue, values, expressions, const_parameters, one_value, as_many_branches}
 use Rattle.type_relations.specs.Parts.{IsFormed, IsFormedConst, const_parts_of, branches_of, const_head_of}
 use Rattle.type_relations.specs.Handing.{IsPassedOnConst, IsFaultOfConst, passed_const, whole}
-use Rattle.type_relations.specs.Lawful.{State, Manner, MayAnswer, Passes, Refuses, Answers, Related, items_in}
+use Rattle.type_relations.specs.Lawful.{State, Manner, MayAnswer, Refuses, Related, items_in}
 use Rattle.type_relations.proofs.Passing.{passes_within, passes_nowhere}
 use Rattle.type_relations.proofs.Fronts.{Fronted, AreParts, fronted_never, fronted_all, fronted_passes}
 use Rattle.type_relations.proofs.Structural.{same_const_fault, consts_never}

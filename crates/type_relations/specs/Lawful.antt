@@ -1,5 +1,5 @@
 -- What contracts see of a relation in steps, and what its steps and the calls over it do.
-use Rattle.std.specs.Prelude.{◌≡◌, ℕ, suc, ◌+◌, ◌≤◌, ◌<◌, List, ◌++◌, All, IsTrue, Result, Ok, Err, get_or, None}
+use Rattle.std.specs.Prelude.{◌≡◌, ℕ, suc, ◌+◌, ◌≤◌, List, ◌++◌, All, IsTrue, Result, Ok, Err, get_or, None}
 use Rattle.relation_terms.specs.declared.terms.enums.Variance.{Variance}
 use Rattle.relation_terms.specs.declared.terms.enums.Variance.TheVariants.{Invariant}
 use Rattle.relation_terms.specs.Heads.{Head, Leaf}
@@ -12,9 +12,9 @@ use Rattle.relation_tools.specs.declared.error.RelateFault.TheVariants.{Memory, 
 use Rattle.relation_tools.specs.Faults.{KnowsError}
 use Rattle.type_relations.specs.declared.relate.Step.{Step}
 use Rattle.type_relations.specs.declared.relate.Step.TheVariants.{Done, Parts, Again}
-use Rattle.type_relations.specs.Relation.{Items, Interpretation, Way, at, part_at}
+use Rattle.type_relations.specs.Relation.{Items, Interpretation, at, part_at}
 use Rattle.type_relations.specs.Stores.{Store, Satisfies, IsTermIn, weight}
-use Rattle.type_relations.specs.Goals.{Goal, GoalInContext, IsQuiet, Relates}
+use Rattle.type_relations.specs.Goals.{Goal, GoalInContext, IsQuiet}
 use Rattle.type_relations.specs.Steps.{IsLater}
 use Rattle.type_relations.specs.Outcomes.{Outcome, StepsTo, NeverOne, Exact, ExactStep, NoUnifier}
 use Rattle.type_relations.specs.Headline.{IsFirstOrderPair}

@@ -1,7 +1,7 @@
-use Rattle.std.proofs.Common.{rules, ◌≡◌, ◌+◌, ◌<◌, IsTrue, refl, sym, ap, ◌∙◌, subst, subst₂, arith, Ok, Err}
+use Rattle.std.proofs.Common.{◌≡◌, ◌<◌, sym, ap, ◌∙◌, subst, arith, Ok, Err}
 use Rattle.relation_terms.specs.declared.terms.keys.ArgsKey.{ArgsKey}
 use Rattle.relation_terms.specs.Heads.{argument_sort}
-use Rattle.relation_terms.specs.Trees.{node, known, count, nth}
+use Rattle.relation_terms.specs.Trees.{node, count, nth}
 use Rattle.relation_terms.specs.Variances.{xform}
 use Rattle.relation_terms.specs.Meaning.{arg_tree}
 use Rattle.relation_terms.proofs.Sorted.{Sorted}
@@ -10,7 +10,7 @@ use Rattle.type_relations.specs.Arguments.{args_head}
 use Rattle.type_relations.specs.Lawful.{Related, items_in}
 use Rattle.type_relations.proofs.Standing.{term_context}
 use Rattle.type_relations.proofs.Parts.{in_parts}
-use Rattle.type_relations.proofs.Passing.{retold, same_items, as_err}
+use Rattle.type_relations.proofs.Passing.{same_items, as_err}
 use Rattle.type_relations.proofs.Fronts.{Fronted, fronted_none, fronted_next}
 use Rattle.type_relations.proofs.Looping.{next_asked}
 use Rattle.type_relations.proofs.Arguments.{form_related, form_refused, args_related_head, args_handed_on, args_heads, are_list}

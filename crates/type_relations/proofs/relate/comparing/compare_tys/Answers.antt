@@ -1,4 +1,4 @@
-use Rattle.std.proofs.Common.{rules, sym, ap, ◌∙◌, ◌≢◌, ◌≡◌, refl, IsTrue}
+use Rattle.std.proofs.Common.{rules, sym, ap, ◌∙◌, ◌≢◌, ◌≡◌, refl}
 use Rattle.relation_terms.specs.Meaning.{kind_tree}
 use Rattle.relation_terms.specs.Heads.{raw_ptr, ref, type_param}
 use Rattle.relation_terms.specs.Trees.{node, nil, cons, count}

@@ -1,4 +1,4 @@
-use Rattle.std.proofs.Common.{refl, ap, ap₂, ◌∙◌, subst}
+use Rattle.std.proofs.Common.{refl, ap, ap₂, ◌∙◌}
 use Rattle.relation_terms.specs.Meaning.{kind_tree}
 use Rattle.relation_tools.specs.declared.error.TypeError.TheVariants.{ArraySize}
 use Rattle.relation_tools.specs.declared.error.RelateFault.TheVariants.{Unrelated}

@@ -1,4 +1,4 @@
-use Rattle.std.proofs.Common.{◌≡◌, ◌∙◌, ap, arith, ◌<◌, length}
+use Rattle.std.proofs.Common.{◌∙◌, ap, arith, ◌<◌, length}
 use Rattle.relation_terms.specs.Meaning.{arg_tree, const_tree, valtree_tree}
 use Rattle.type_relations.specs.Parts.{const_parts_of}
 use Rattle.type_relations.proofs.Parts.{slice_below, slice_sure, slice_nth, expression_parts, value_branches}

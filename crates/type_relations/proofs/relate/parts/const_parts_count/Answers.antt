@@ -1,6 +1,5 @@
-use Rattle.std.proofs.Common.{◌≡◌, ◌∙◌, ap}
+use Rattle.std.proofs.Common.{◌∙◌, ap}
 use Rattle.relation_terms.specs.Meaning.{arg_tree, const_tree, valtree_tree}
-use Rattle.type_relations.specs.Parts.{const_parts_of}
 use Rattle.type_relations.proofs.Parts.{slice_counts, slice_list, expression_parts, value_branches}
 use Rattle.type_relations.proofs.relate.parts.const_parts_count.Goals as goal
 

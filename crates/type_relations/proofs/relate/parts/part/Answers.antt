@@ -1,6 +1,5 @@
-use Rattle.std.proofs.Common.{◌≡◌, ◌∙◌, ap, arith, ◌<◌, length}
+use Rattle.std.proofs.Common.{◌∙◌, ap, arith, ◌<◌, length}
 use Rattle.relation_terms.specs.Heads.{tuple}
-use Rattle.relation_terms.specs.Trees.{Tree}
 use Rattle.relation_terms.specs.Meaning.{arg_tree, kind_tree}
 use Rattle.type_relations.specs.Parts.{parts_of}
 use Rattle.type_relations.proofs.Parts.{item_parts, slice_below, slice_sure, slice_nth, parts_are, known_parts}

@@ -1,4 +1,4 @@
-use Rattle.std.proofs.Common.{rules, ◌≡◌, ◌≢◌, ◌↔◌, ◌+◌, ◌*◌, ◌<◌, ◌≤◌, IsTrue, refl, sym, ap, ◌∙◌, subst, subst₂, arith, Ok, Err}
+use Rattle.std.proofs.Common.{rules, ◌≡◌, ◌≢◌, ◌↔◌, ◌<◌, IsTrue, refl, sym, ap, ◌∙◌, subst, subst₂, arith, Ok, Err}
 use Rattle.std.proofs.lemmas.Bool.{false≢true}
 use Rattle.relation_terms.specs.declared.terms.enums.Variance.TheVariants.{Bivariant}
 use Rattle.relation_terms.specs.declared.terms.generic_arg.GenericArgKind.TheVariants.{Lifetime, Ty, Const}
@@ -9,7 +9,6 @@ use Rattle.relation_terms.specs.Meaning.{arg_tree}
 use Rattle.relation_terms.proofs.Sorted.{Sorted}
 use Rattle.relation_terms.proofs.Stays.{knows_arg}
 use Rattle.relation_tools.specs.declared.error.RelateFault.TheVariants.{Unrelated}
-use Rattle.type_relations.specs.declared.relate.Step.TheVariants.{Done, Parts, Again}
 use Rattle.type_relations.specs.Relation.{part_at}
 use Rattle.type_relations.specs.Goals.{Relates}
 use Rattle.type_relations.specs.Parts.{IsFormed, IsFormedConst, parts_of, const_parts_of, head_of, const_head_of}

@@ -1,5 +1,4 @@
-use Rattle.std.proofs.Common.{refl, sym, subst, subst₂, IsTrue, Ok, Err}
-use Rattle.relation_terms.specs.Trees.{known}
+use Rattle.std.proofs.Common.{refl, sym, subst, subst₂, Ok, Err}
 use Rattle.relation_terms.specs.Meaning.{term_tree}
 use Rattle.relation_terms.specs.declared.terms.generic_arg.GenericArgKind.TheVariants.{Ty as TyArg, Const as ConstArg}
 use Rattle.relation_terms.specs.declared.terms.generic_arg.TermKind.TheVariants.{Ty, Const}
