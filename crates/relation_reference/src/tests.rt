@@ -6,4 +6,5 @@ mod forms;
 mod kinds;
 mod plain;
 mod questions;
+mod relating;
 mod visiting;

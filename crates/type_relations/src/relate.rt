@@ -13,9 +13,9 @@ pub mod solver_relating;
 pub mod structural;
 mod type_relation;
 
-use relation_terms::terms::{Keys, TyKey, Variance};
 pub use args::{relate_args_invariantly, relate_args_with_variances};
 pub use relatable::Relate;
+use relation_terms::terms::{Keys, TyKey, Variance};
 pub use type_relation::TypeRelation;
 
 /// What comes of two terms in one step of a relation.

@@ -28,7 +28,7 @@ struct Question<X> {
 }
 
 // The region parameter of an index.
-fn make_region<I: Interner>(
+pub(super) fn make_region<I: Interner>(
     cx: &mut I,
     index: u32,
     name: &I::Name,
@@ -52,7 +52,7 @@ fn make_ty<I: Interner>(cx: &mut I, kind: TyForm<I>) -> Result<Ty<I>, OutOfMemor
 
 // The type `&'r u8`.
 #[tactic(auto, using(relation_terms::proofs::Stays::extends_on, crate::proofs::Concrete::region_concrete))]
-fn make_ref<I: Interner>(cx: &mut I, region: &Region<I>) -> Result<Ty<I>, OutOfMemory>
+pub(super) fn make_ref<I: Interner>(cx: &mut I, region: &Region<I>) -> Result<Ty<I>, OutOfMemory>
     requires { IsConcrete ((I.meaning cx.old).region region.now) }
     ensures grown { Extends (I.meaning cx.old) (I.meaning cx.new) }
     ensures concrete { IfOk result (λ k. IsConcrete ((I.meaning cx.new).ty k)) }
@@ -102,7 +102,7 @@ fn make_applied<I: Interner>(
 }
 
 // The first region outlives the second.
-fn outlives<X>(a: RegionKey<X>, b: RegionKey<X>) -> RegionConstraint<X> {
+pub(super) fn outlives<X>(a: RegionKey<X>, b: RegionKey<X>) -> RegionConstraint<X> {
     RegionConstraint::Outlives(OutlivesPredicate(GenericArgKind::Lifetime(a), b))
 }
 
@@ -196,7 +196,10 @@ fn by_context<I: Interner + Drop>(
 }
 
 // An item that is contravariant in its one parameter, a type.
-fn add_contravariant(cx: &mut RefInterner, alloc: Global) -> Result<ItemId, OutOfMemory> {
+pub(super) fn add_contravariant(
+    cx: &mut RefInterner,
+    alloc: Global,
+) -> Result<ItemId, OutOfMemory> {
     let mut params = Vec::new(alloc);
     params.push(GenericParam {
         kind: GenericParamKind::Type,

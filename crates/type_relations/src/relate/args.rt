@@ -52,11 +52,7 @@ fn args_count_of<I: Interner, R: TypeRelation<I>>(r: &R, args: &GenericArgs<I>) 
     args_count(r.cx(), args)
 }
 
-fn arg_of<I: Interner, R: TypeRelation<I>>(
-    r: &R,
-    args: &GenericArgs<I>,
-    i: usize,
-) -> GenericArg<I>
+fn arg_of<I: Interner, R: TypeRelation<I>>(r: &R, args: &GenericArgs<I>, i: usize) -> GenericArg<I>
     requires args_known { IsTrue (known ((R.state r.now).meaning.args args.now)) }
     requires in_bounds { i < count ((R.state r.now).meaning.args args.now) }
     ensures sure { IsTrue (known (arg_tree (R.state r.now).meaning result)) }

@@ -98,7 +98,11 @@ fn pointee(mutability: Mutability) -> Variance
 }
 
 // The variance at which an item's argument is related.
-pub(crate) fn declared_at<I: Interner, R: TypeRelation<I>>(r: &R, def_id: &ItemOf<I>, i: usize) -> Variance
+pub(crate) fn declared_at<I: Interner, R: TypeRelation<I>>(
+    r: &R,
+    def_id: &ItemOf<I>,
+    i: usize,
+) -> Variance
     ensures { xform (R.state r.now).ambient result ≡ xform (R.state r.now).ambient ((items_in (R.state r.now)).declared ((R.state r.now).meaning.id (def_id.now).0) i) }
 {
     let Some(variances) = r.item_variances(def_id) else {

@@ -83,7 +83,7 @@ returns-in-Some-ty_var g c =
     let sound = c.requires.lawful.0.sound in
     let gone : Goes 0 st later = roots_goes st later x y sound stays done.equates 0 in
     let taken = read_taken st r.ambient_variance a l
-        (g.met.I.Interner.is_ty r.infcx.now.interner c.args.a.now k.left_known)
+    (g.met.I.Interner.is_ty r.infcx.now.interner c.args.a.now k.left_known)
     c.shallow_resolve-left.ensures.reads k.left_taken in
     united_step r.infcx.ghost_name IsFormed m o r.infcx.now.inner new r.ambient_variance r.param_env a b l o.ty
     c.shallow_resolve-left.result e
