@@ -13,7 +13,8 @@ use Rattle.relation_terms.specs.declared.predicate.RegionConstraint.{RegionConst
 use Rattle.relation_reference.specs.declared.context.inner.TypeVariable.{TypeVariable}
 use Rattle.relation_reference.specs.declared.context.inner.TypeVariableValue.TheVariants.{Known}
 use Rattle.relation_reference.specs.declared.context.inner.InferCtxtInner.{InferCtxtInner}
-use Rattle.relation_reference.specs.Tables.{store_of, IsLawful, entry_of_value, constraint_of}
+use Rattle.type_relations.specs.Constraints.{constraint_of}
+use Rattle.relation_reference.specs.Tables.{store_of, IsLawful, entry_of_value}
 use Rattle.relation_reference.proofs.Grows.{term_grows, both, known_of_term, known_bound, entry_at}
 use Rattle.relation_reference.proofs.Reading.{key_of, root_in, root_known}
 
