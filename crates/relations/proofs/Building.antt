@@ -1,5 +1,5 @@
 -- What is written, by its outermost form.
-use Rattle.std.proofs.Common.{rules, arith, ◌≡◌, ℕ, zero, suc, ◌+◌, ◌<◌, Bool as Boolean, true, false, ◌&&◌, IsFalse, List, [], ◌∷◌, ◌++◌, Bor, Result, IfOk, refl, sym, ap, ◌∙◌, subst, map, length, take, get_or, slice_get}
+use Rattle.std.proofs.Common.{rules, arith, ◌≡◌, ℕ, zero, suc, ◌+◌, ◌<◌, Bool as Boolean, true, false, ◌&&◌, IsFalse, List, [], ◌∷◌, ◌++◌, Bor, Result, IfOk, refl, sym, ap, ◌∙◌, subst, map, length, take, get_or, slice_get, Option, Some}
 use Rattle.std.proofs.lemmas.List.{take_more}
 use Rattle.std.proofs.Math.Path.{fun_ext}
 use Rattle.relation_terms.specs.Heads.{atom, bool_type, char_type, uint_type, adt, array, slice, tuple, raw_ptr, ref}
@@ -7,7 +7,7 @@ use Rattle.relation_terms.specs.Trees.{Tree, leaf, node, nil, cons, list_tree}
 use Rattle.relation_terms.specs.declared.terms.enums.UintTy.{UintTy}
 use Rattle.relation_terms.specs.declared.terms.enums.Mutability.{Mutability}
 use Rattle.relation_terms.specs.Meaning.{Meaning, Extends}
-use Rattle.relations.specs.Types.{written_region, written_tree, item_tree, length_tree, has_all, have_all}
+use Rattle.relations.specs.Types.{written_region, written_tree, item_tree, length_tree, has_region, has_all, have_all}
 use Rattle.relations.specs.declared.written.Parameter.{Parameter}
 use Rattle.relations.specs.declared.written.ItemText.{ItemText}
 use Rattle.relations.specs.declared.written.WrittenRegion.{WrittenRegion}
@@ -84,6 +84,14 @@ module _ {Key Id Name : Type 0} {m n : Meaning Key Id Name} (e : Extends m n) (p
       ap (λ f. written_tree f n.name ps is w) (fun_ext e.id)
       ∙ ap (λ f. written_tree m.id f ps is w) (fun_ext e.name)
 
+-- The form of an item that is there.
+pub item_written : {Id : Type 0} (later id : Id → ℕ) → ((d : Id) → later d ≡ id d) → (is : List (ItemText Id)) (i : ℕ) (x : ItemText Id) (d : Id) (ts us : Tree) →
+    slice_get is i ≡ Some x → d ≡ x.id → ts ≡ us → node (adt (later d)) ts ≡ item_tree id (slice_get is i) us
+item_written later id e is i x d ts us s q p =
+    ap (λ n. node (adt n) ts) (e d ∙ ap id q)
+    ∙ (ap (node (adt (id x.id))) p
+    ∙ ap (λ o. item_tree id o us) (sym s))
+
 -- A list with one more tree behind it.
 abbrev push : Tree → Tree → Tree
 push nil u = cons u nil
@@ -114,3 +122,14 @@ module _ (types regions parameters items : ℕ) where
   member_has [] i w l e h = absurd (omega arith)
   member_has (x ∷ xs) zero w l e h = ap (λ b. b && have_all types regions parameters items xs) (ap (has_all types regions parameters items) (sym e) ∙ h)
   member_has (x ∷ xs) (suc i) w l e h = ap (λ b. has_all types regions parameters items x && b) (member_has xs i w (omega arith) e h) ∙ and_false (has_all types regions parameters items x)
+
+  has-Ref : (r : WrittenRegion) (w : Bor Written) (u : Mutability) → has_all types regions parameters items (Ref r w u) ≡ has_region regions parameters r && has_all types regions parameters items w.now
+  has-Ref r w u = search (rules, the_lemmas)
+
+  -- What a reference leads to names what is missing.
+  pub ref_missing : (v : Written) (r : WrittenRegion) (w : Bor Written) (u : Mutability) → v ≡ Ref r w u → IsFalse (has_all types regions parameters items w.now) → IsFalse (has_all types regions parameters items v)
+  ref_missing v r w u e h =
+      ap (has_all types regions parameters items) e
+      ∙ (has-Ref r w u
+      ∙ (ap (λ b. has_region regions parameters r && b) h
+      ∙ and_false (has_region regions parameters r)))
