@@ -1,5 +1,5 @@
 -- Which types a solver relates at a variance, as a search for their variables tells.
-use Rattle.std.proofs.Common.{◌≡◌, ◌≢◌, ◌↔◌, ◌⊎◌, inl, inr, ℕ, suc, Bool, true, false, not, ◌&&◌, ◌||◌, IsTrue, IsFalse, refl, sym, ap, ◌∙◌}
+use Rattle.std.proofs.Common.{◌≡◌, ◌≢◌, ◌↔◌, ◌⊎◌, inl, inr, ℕ, suc, Bool, true, false, not, ◌&&◌, ◌||◌, IsTrue, refl, sym, ap, ◌∙◌}
 use Rattle.std.proofs.lemmas.Bool.{or_parts}
 use Rattle.relation_terms.specs.declared.terms.enums.Variance.{Variance}
 use Rattle.relation_terms.specs.declared.terms.enums.Variance.TheVariants.{Covariant, Contravariant, Invariant, Bivariant}
@@ -95,12 +95,12 @@ fixed_way : (v : Variance) (a b : Bool) → (v ≡ Covariant) ⊎ (v ≡ Contrav
 fixed_way v a b (inl e) = ap (λ w. may_relate w a b) e
 fixed_way v a b (inr e) = ap (λ w. may_relate w a b) e
 
-pub taken_fixed : (v : Variance) (r s a b : Bool) → (v ≡ Covariant) ⊎ (v ≡ Contravariant) → IsTrue (not r) → r ≡ a → s ≡ b →
+pub taken_fixed : (v : Variance) (r s a b : Bool) → (v ≡ Covariant) ⊎ (v ≡ Contravariant) → r ≡ false → r ≡ a → s ≡ b →
     not s ≡ may_relate v a b
 taken_fixed v r s a b w h p q =
-    sym (fixed_way v a b w ∙ (ap (λ x. not x && not b) (sym p) ∙ (ap (λ x. x && not b) h ∙ ap not (sym q))))
+    sym (fixed_way v a b w ∙ (ap (λ x. not x && not b) (sym p ∙ h) ∙ ap not (sym q)))
 
-pub taken_none : (v : Variance) (r a b : Bool) → (v ≡ Covariant) ⊎ (v ≡ Contravariant) → IsFalse (not r) → r ≡ a →
+pub taken_none : (v : Variance) (r a b : Bool) → (v ≡ Covariant) ⊎ (v ≡ Contravariant) → r ≡ true → r ≡ a →
     not r ≡ may_relate v a b
 taken_none v r a b w h p =
-    h ∙ sym (fixed_way v a b w ∙ (ap (λ x. not x && not b) (sym p) ∙ ap (λ x. x && not b) h))
+    ap not h ∙ sym (fixed_way v a b w ∙ ap (λ x. not x && not b) (sym p ∙ h))

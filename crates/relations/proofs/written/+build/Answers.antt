@@ -1,5 +1,6 @@
-use Rattle.std.proofs.Common.{rules, refl, sym, ap, ◌∙◌, subst, IsTrue, IsFalse, List, [], length, arith}
+use Rattle.std.proofs.Common.{rules, refl, sym, ap, ◌∙◌, subst, IsTrue, IsFalse, List, [], length, arith, Some}
 use Rattle.std.proofs.lemmas.List.{take_all}
+use Rattle.std.proofs.lemmas.Option.{slice_get-get_or}
 use Rattle.relation_terms.specs.Trees.{known, list_tree}
 use Rattle.relation_terms.specs.declared.terms.keys.TyKey.{TyKey}
 use Rattle.relation_terms.proofs.Stays.{extends_on, stays_same, stays_list}
@@ -176,7 +177,10 @@ build-returns-in-Adt-clause-made g t c =
     c.build_item.ensures.made
 
 pub build-returns-in_err-pointee-in-Ref-clause-missing : goal.build-returns-in_err-pointee-in-Ref-clause-missing
-build-returns-in_err-pointee-in-Ref-clause-missing g t c = ?
+build-returns-in_err-pointee-in-Ref-clause-missing g t c e =
+    let z = c.args.ctx.now.inner in
+    ref_missing (length z.types.items) (length z.regions.items) (length c.args.parameters.now) (length c.args.items.now) c.args.written.now c.in-Ref.region c.in-Ref.pointee c.in-Ref.mutability c.in-Ref.is
+    (c.in_err-pointee-in-Ref.ensures.missing (search (rules, e, c.from_residual-in_err-pointee-in-Ref.ensures)))
 
 pub build_item-make_args-requires-clause-list_in : goal.build_item-make_args-requires-clause-list_in
 build_item-make_args-requires-clause-list_in g t c =
@@ -194,4 +198,13 @@ build_item-returns-clause-grown g t c =
     extends_on c.build_all.ensures.grown (extends_on c.make_args.ensures.grown c.make_ty.ensures.grown)
 
 pub build_item-returns-clause-made : goal.build_item-returns-clause-made
-build_item-returns-clause-made g t c = ?
+build_item-returns-clause-made g t c =
+    let m = g.I.Interner.meaning c.args.ctx.now.interner in
+    let n = g.I.Interner.meaning c.make_args.new.ctx.interner in
+    ok_as c.make_ty.result (g.I.Interner.meaning c.make_ty.new.ctx.interner).ty _ _
+    (item_written n.id m.id (extends_on c.build_all.ensures.grown c.make_args.ensures.grown).id c.args.items.now c.args.place c.in-Some.item.now c.dup.result _ _
+    (slice_get-get_or c.args.items.now c.args.place c.in-Some.item.now c.in-Some.ensures.lookup.3.0 ∙ ap Some (sym c.in-Some.ensures.lookup.1)) c.dup.ensures
+    (c.in_ok-args.ensures.made
+    ∙ (ap (list_tree (g.I.Interner.meaning c.build_all.new.ctx.interner).ty) c.deref.ensures.value
+    ∙ c.in_ok-types.ensures.made)))
+    c.make_ty.ensures.made
