@@ -1,5 +1,5 @@
 -- What is written, by its outermost form.
-use Rattle.std.proofs.Common.{rules, arith, ◌≡◌, ℕ, zero, suc, ◌+◌, ◌<◌, Bool as Boolean, true, false, ◌&&◌, IsFalse, List, [], ◌∷◌, ◌++◌, Bor, Result, IfOk, refl, sym, ap, ◌∙◌, subst, map, length, take, get_or, slice_get, Option, Some}
+use Rattle.std.proofs.Common.{rules, arith, ◌≡◌, ℕ, zero, suc, ◌+◌, ◌<◌, Bool as Boolean, true, false, ◌&&◌, IsFalse, List, [], ◌∷◌, ◌++◌, Bor, Result, IfOk, refl, sym, ap, ◌∙◌, subst, map, length, take, get_or, slice_get, Some}
 use Rattle.std.proofs.lemmas.List.{take_more}
 use Rattle.std.proofs.Math.Path.{fun_ext}
 use Rattle.relation_terms.specs.Heads.{atom, bool_type, char_type, uint_type, adt, array, slice, tuple, raw_ptr, ref}

@@ -1,4 +1,4 @@
-use Rattle.std.proofs.Common.{rules, ◌≡◌, ◌∙◌, sym, ap, not, ◌&&◌}
+use Rattle.std.proofs.Common.{sym, ap}
 use Rattle.relation_tools.specs.Visits.{non_region_infer_stands}
 use Rattle.relations.proofs.Taking.{may_relate, taken_where, taken_fixed, taken_none}
 use Rattle.relations.proofs.asking.can_relate.Goals as goal
