@@ -3,9 +3,12 @@ ghost use Rattle.std.specs.Prelude.{◌≡◌, ◌≢◌, ◌+◌, ◌&&◌, ◌
 ghost use Rattle.relation_terms.specs.Heads.{environment};
 ghost use Rattle.relation_terms.specs.Trees.{known, node, nil};
 ghost use Rattle.relation_terms.specs.Meaning.{Extends};
-ghost use Rattle.relation_tools.specs.Faults.{KnowsFault};
+ghost use Rattle.relation_tools.specs.Faults.{KnowsFault, IfUnrelated};
 ghost use Rattle.type_relations.specs.Stores.{IsTermIn};
+ghost use Rattle.type_relations.specs.Goals.{goals_of};
 ghost use Rattle.type_relations.specs.Steps.{IsLater};
+ghost use Rattle.type_relations.specs.Outcomes.{NoEqualTerms};
+ghost use Rattle.type_relations.specs.Headline.{AnswersGoals};
 ghost use Rattle.type_relations.specs.Taken.{IsTaken};
 ghost use Rattle.relation_reference.specs.Tables.{store_of, IsLawful};
 ghost use Rattle.relations.specs.Types.{written_tree, has_all};
@@ -94,6 +97,7 @@ fn can_relate<I: Interner>(cx: &I, lhs: &Ty<I>, variance: Variance, rhs: &Ty<I>)
 /// Relates two types at a variance in any context that can.
 ///
 /// Types with other variables than regions' are related at `Invariant`, all others at each variance but `Bivariant`.
+/// After `Ok` what is recorded relates the types where the goals are true; `Unrelated` says that nothing makes them one.
 pub fn relate<C: RelateExt>(
     ctx: &mut C,
     param_env: ParamEnv<C::Interner>,
@@ -111,6 +115,8 @@ pub fn relate<C: RelateExt>(
     requires rhs_taken { IsTaken variance ((C.Interner.meaning (C.interner ctx.old)).ty rhs) }
     requires lhs_in { IsTermIn (C.store ctx.old) ((C.Interner.meaning (C.interner ctx.old)).ty lhs) }
     requires rhs_in { IsTermIn (C.store ctx.old) ((C.Interner.meaning (C.interner ctx.old)).ty rhs) }
+    ensures answers { IfOk result (λ goals. AnswersGoals (C.items ctx.old) (C.store ctx.old) (C.store ctx.new) (goals_of (C.Interner.meaning (C.interner ctx.new)) goals.items) ((C.Interner.meaning (C.interner ctx.old)).param_env param_env) variance ((C.Interner.meaning (C.interner ctx.old)).ty lhs) ((C.Interner.meaning (C.interner ctx.old)).ty rhs)) }
+    ensures apart { IfUnrelated result (λ e. NoEqualTerms (C.store ctx.old) ((C.Interner.meaning (C.interner ctx.old)).ty lhs) ((C.Interner.meaning (C.interner ctx.old)).ty rhs)) }
     ensures lawful { C.is_lawful ctx.new }
     ensures later { IsLater (C.store ctx.old) (C.store ctx.new) }
     ensures why_known { IfErr result (λ e. KnowsFault (C.Interner.meaning (C.interner ctx.new)) e) }
