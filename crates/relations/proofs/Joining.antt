@@ -3,6 +3,8 @@ use Rattle.std.proofs.Common.{◌≡◌, ℕ, ◌<◌, IsTrue, List, [], ◌∷�
 use Rattle.std.proofs.lemmas.Bool.{and_parts}
 use Rattle.std.proofs.lemmas.List.{length-map, get_or-map}
 use Rattle.relation_terms.specs.Heads.{VarKind, region_var, type_var, Head, Atom, variable, atom}
+use Rattle.relation_terms.specs.Heads.{value, value_type, value_leaf, uint_type}
+use Rattle.relation_terms.specs.declared.terms.enums.UintTy.TheVariants.{Usize}
 use Rattle.relation_terms.specs.Trees.{Tree, leaf, node, nil, cons, known, list_tree}
 use Rattle.relation_terms.specs.Meaning.{Meaning, Extends}
 use Rattle.relation_terms.specs.declared.terms.keys.TyKey.{TyKey}
@@ -13,7 +15,9 @@ use Rattle.relation_terms.specs.declared.predicate.RegionConstraint.{RegionConst
 use Rattle.relation_reference.specs.declared.context.inner.TypeVariable.{TypeVariable}
 use Rattle.relation_reference.specs.declared.context.inner.TypeVariableValue.TheVariants.{Known}
 use Rattle.relation_reference.specs.declared.context.inner.InferCtxtInner.{InferCtxtInner}
-use Rattle.relation_reference.specs.Tables.{store_of, IsLawful, entry_of_value, constraint_of}
+use Rattle.type_relations.specs.Constraints.{constraint_of}
+use Rattle.relation_reference.specs.Tables.{store_of, IsLawful, entry_of_value}
+use Rattle.relations.specs.Types.{length_tree}
 use Rattle.relation_reference.proofs.Grows.{term_grows, both, known_of_term, known_bound, entry_at}
 use Rattle.relation_reference.proofs.Reading.{key_of, root_in, root_known}
 
@@ -38,6 +42,12 @@ module _ (st : Store) where
   unfolding IsTermIn InContext
   variable_in k n h = (h, tt, tt)
 
+  -- The length of an array.
+  pub length_in : (n : ℕ) → IsTermIn st (length_tree n)
+  length_in n =
+      node_in value _ (cons_in _ _ (node_in value_type _ (cons_in _ _ (atom_in (uint_type Usize) tt) nil_in))
+      (cons_in _ _ (atom_in (value_leaf n 8) tt) nil_in))
+
   snoc_parts : {A : Type 0} (f : A → Tree) (xs : List A) (x : A) → IsTermIn st (list_tree f xs) → IsTermIn st (f x) → IsTermIn st (list_tree f (xs ++ x ∷ []))
   unfolding IsTermIn InContext
   snoc_parts f [] x h k = ((k.0, tt), (k.1, tt), (k.2, tt))
@@ -53,6 +63,14 @@ snoc_known f [] x h k = both (known (f x)) _ k refl
 snoc_known f (y ∷ ys) x h k =
     let p = and_parts (known (f y)) (known (list_tree f ys)) h in
     both (known (f y)) _ p.0 (snoc_known f ys x p.1 k)
+
+-- A constant of these parts is the length of an array.
+pub length_made : (t a b : Tree) (n : ℕ) → a ≡ leaf (atom (uint_type Usize)) → b ≡ leaf (atom (value_leaf n 8)) →
+    t ≡ node value (cons (node value_type (cons a nil)) (cons b nil)) → t ≡ length_tree n
+length_made t a b n p q e =
+    e
+    ∙ (ap (λ z. node value (cons (node value_type (cons z nil)) (cons b nil))) p
+    ∙ ap (λ z. node value (cons (node value_type (cons (leaf (atom (uint_type Usize))) nil)) (cons z nil))) q)
 
 -- What an equal tree was, this one is.
 pub in_as : (st : Store) (t u : Tree) → u ≡ t → IsTermIn st t → IsTermIn st u

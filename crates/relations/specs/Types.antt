@@ -1,10 +1,12 @@
 -- What the types that rows write mean: their trees, and whether all that they name is there.
 use Rattle.std.specs.Prelude.{ℕ, ◌^◌, Bool, true, ◌&&◌, nat_lt, List, [], ◌∷◌, Option, Some, None, map, slice_get}
 use Rattle.relation_terms.specs.Heads.{type_var, region_var, variable, atom, unknown, bool_type, char_type, uint_type}
-use Rattle.relation_terms.specs.Heads.{static_region, early_region, slice, tuple, ref}
+use Rattle.relation_terms.specs.Heads.{static_region, early_region, value_leaf, adt, array, slice, tuple, raw_ptr, ref}
+use Rattle.relation_terms.specs.Heads.{value, value_type}
 use Rattle.relation_terms.specs.Trees.{Tree, leaf, node, nil, cons, list_tree}
-use Rattle.relation_terms.specs.declared.terms.enums.Mutability.TheVariants.{Not}
+use Rattle.relation_terms.specs.declared.terms.enums.UintTy.TheVariants.{Usize}
 use Rattle.relations.specs.declared.written.Parameter.{Parameter}
+use Rattle.relations.specs.declared.written.ItemText.{ItemText}
 use Rattle.relations.specs.declared.written.WrittenRegion.{WrittenRegion}
 use Rattle.relations.specs.declared.written.Written.{Written, fold-Written}
 use Rattle.relations.specs.declared.written.Written.TheOpen.{Written-F}
@@ -21,14 +23,28 @@ module _ {Name : Type 0} (name : Name → ℕ) (parameters : List (Parameter Nam
   written_region (WrittenRegion.Parameter i) = parameter_tree i (slice_get parameters i)
   written_region (WrittenRegion.Variable n) = leaf (variable region_var n)
 
+-- The constant of an array's length: a value of 8 bytes.
+abbrev pub length_tree : ℕ → Tree
+length_tree n =
+    node value (cons (node value_type (cons (leaf (atom (uint_type Usize))) nil)) (cons (leaf (atom (value_leaf n 8))) nil))
+
+-- An item over the list of its arguments. What is not there is unknown.
+abbrev pub item_tree : {Id : Type 0} → (Id → ℕ) → Option (ItemText Id) → Tree → Tree
+item_tree id None ts = leaf unknown
+item_tree id (Some d) ts = node (adt (id d.id)) ts
+
+module _ {Id Name : Type 0} (id : Id → ℕ) (name : Name → ℕ) (parameters : List (Parameter Name)) (items : List (ItemText Id)) where
   -- One level of a type, with the trees of the types inside.
   abbrev pub written_step : Written-F Tree → Tree
   written_step Written-F.Bool = leaf (atom bool_type)
   written_step Written-F.Char = leaf (atom char_type)
   written_step (Written-F.Uint w) = leaf (atom (uint_type w))
   written_step (Written-F.Slice t) = node slice (cons t.now nil)
+  written_step (Written-F.Array t n) = node array (cons t.now (cons (length_tree n) nil))
+  written_step (Written-F.RawPtr t u) = node (raw_ptr u) (cons t.now nil)
+  written_step (Written-F.Ref r t u) = node (ref u) (cons (written_region name parameters r) (cons t.now nil))
   written_step (Written-F.Tuple ts) = node tuple (list_tree (λ t. t) ts.now)
-  written_step (Written-F.Ref r t) = node (ref Not) (cons (written_region r) (cons t.now nil))
+  written_step (Written-F.Adt i ts) = item_tree id (slice_get items i) (list_tree (λ t. t) ts.now)
   written_step (Written-F.Variable n) = leaf (variable type_var n)
 
   -- The tree of a type.
@@ -45,16 +61,19 @@ abbrev pub all_true : List Bool → Bool
 all_true [] = true
 all_true (b ∷ bs) = b && all_true bs
 
--- With so many type variables, region variables and parameters.
-module _ (types regions parameters : ℕ) where
+-- With so many type variables, region variables, parameters and items.
+module _ (types regions parameters items : ℕ) where
   -- One level of a type, with whether what the types inside name is there.
   abbrev pub has_step : Written-F Bool → Bool
   has_step Written-F.Bool = true
   has_step Written-F.Char = true
   has_step (Written-F.Uint w) = true
   has_step (Written-F.Slice b) = b.now
+  has_step (Written-F.Array b n) = b.now
+  has_step (Written-F.RawPtr b u) = b.now
+  has_step (Written-F.Ref r b u) = has_region regions parameters r && b.now
   has_step (Written-F.Tuple bs) = all_true bs.now
-  has_step (Written-F.Ref r b) = has_region regions parameters r && b.now
+  has_step (Written-F.Adt i bs) = nat_lt i items && all_true bs.now
   has_step (Written-F.Variable n) = nat_lt n types
 
   -- All that a type names is there, and all that several name.

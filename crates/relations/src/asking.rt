@@ -1,31 +1,37 @@
 //! A row's questions: contexts, and the pairs of types that are related in each.
-ghost use Rattle.std.specs.Prelude.{◌≡◌, ◌+◌, ◌&&◌, IsTrue, IsFalse, Err, IfOk, IfErr, OnOk, length};
+ghost use Rattle.std.specs.Prelude.{◌≡◌, ◌≢◌, ◌+◌, ◌&&◌, ◌↔◌, IsTrue, IsFalse, Err, IfOk, IfErr, OnOk, length};
 ghost use Rattle.relation_terms.specs.Heads.{environment};
 ghost use Rattle.relation_terms.specs.Trees.{known, node, nil};
 ghost use Rattle.relation_terms.specs.Meaning.{Extends};
-ghost use Rattle.relation_tools.specs.Faults.{KnowsFault};
+ghost use Rattle.relation_tools.specs.Faults.{KnowsFault, IfUnrelated};
 ghost use Rattle.type_relations.specs.Stores.{IsTermIn};
+ghost use Rattle.type_relations.specs.Goals.{goals_of};
 ghost use Rattle.type_relations.specs.Steps.{IsLater};
+ghost use Rattle.type_relations.specs.Outcomes.{NoEqualTerms};
+ghost use Rattle.type_relations.specs.Headline.{AnswersGoals};
+ghost use Rattle.type_relations.specs.Taken.{IsTaken};
 ghost use Rattle.relation_reference.specs.Tables.{store_of, IsLawful};
 ghost use Rattle.relations.specs.Types.{written_tree, has_all};
 ghost use Rattle.relations.specs.declared.written.BuildFault.TheVariants.{Missing};
 
 use crate::printing::{TextsOf, write_answer};
-use crate::written::{BuildFault, Parameter, Written, build};
+use crate::written::{BuildFault, ItemText, Parameter, Written, build};
 use relation_reference::context::RefCtxt;
 use relation_terms::terms::{Interner, OutOfMemory, ParamEnv, Span, Ty, Variance};
+use relation_tools::visit::has_non_region_infer;
 use std::fmt::{self, Write};
 use type_relations::relate::solver_relating::{RelateExt, RelateGoals};
 
 /// How many instantiations a context may make where a row sets no budget.
 const BUDGET: usize = 100;
 
-/// A new context with its variables, and the pairs that are related in it, one after another.
+/// A new context with its variables, and the pairs that are related in it at a variance, one after another.
 #[derive(Clone, Copy)]
 pub struct Question {
     pub type_variables: usize,
     pub region_variables: usize,
     pub budget: Option<usize>,
+    pub variance: Variance,
     pub pairs: &'static [(Written, Written)],
 }
 
@@ -49,6 +55,7 @@ fn make_variables<I: Interner>(ctx: &mut RefCtxt<I>, question: &Question) -> Res
 pub fn build_pair<I: Interner>(
     ctx: &mut RefCtxt<I>,
     parameters: &[Parameter<I::Name>],
+    items: &[ItemText<I::Id>],
     pair: &(Written, Written),
 ) -> Result<(ParamEnv<I>, Ty<I>, Ty<I>), BuildFault>
     requires { IsLawful (I.meaning ctx.old.interner) ctx.old.inner }
@@ -61,53 +68,82 @@ pub fn build_pair<I: Interner>(
     ensures lhs_in { IfOk result (λ p. IsTermIn (store_of (I.meaning ctx.new.interner) ctx.new.inner) ((I.meaning ctx.new.interner).ty p.1)) }
     ensures rhs_in { IfOk result (λ p. IsTermIn (store_of (I.meaning ctx.new.interner) ctx.new.inner) ((I.meaning ctx.new.interner).ty p.2)) }
     ensures env_made { IfOk result (λ p. (I.meaning ctx.new.interner).param_env p.0 ≡ node environment nil) }
-    ensures lhs_made { IfOk result (λ p. (I.meaning ctx.new.interner).ty p.1 ≡ written_tree (I.meaning ctx.old.interner).name parameters.now pair.now.0) }
-    ensures rhs_made { IfOk result (λ p. (I.meaning ctx.new.interner).ty p.2 ≡ written_tree (I.meaning ctx.old.interner).name parameters.now pair.now.1) }
-    ensures missing { result ≡ Err Missing → IsFalse (has_all (length ctx.old.inner.types.items) (length ctx.old.inner.regions.items) (length parameters.now) pair.now.0 && has_all (length ctx.old.inner.types.items) (length ctx.old.inner.regions.items) (length parameters.now) pair.now.1) }
+    ensures lhs_made { IfOk result (λ p. (I.meaning ctx.new.interner).ty p.1 ≡ written_tree (I.meaning ctx.old.interner).id (I.meaning ctx.old.interner).name parameters.now items.now pair.now.0) }
+    ensures rhs_made { IfOk result (λ p. (I.meaning ctx.new.interner).ty p.2 ≡ written_tree (I.meaning ctx.old.interner).id (I.meaning ctx.old.interner).name parameters.now items.now pair.now.1) }
+    ensures missing { result ≡ Err Missing → IsFalse (has_all (length ctx.old.inner.types.items) (length ctx.old.inner.regions.items) (length parameters.now) (length items.now) pair.now.0 && has_all (length ctx.old.inner.types.items) (length ctx.old.inner.regions.items) (length parameters.now) (length items.now) pair.now.1) }
 {
     let param_env = ctx.interner.empty_param_env()?;
-    let lhs = build(ctx, parameters, &pair.0)?;
-    let rhs = build(ctx, parameters, &pair.1)?;
+    let lhs = build(ctx, parameters, items, &pair.0)?;
+    let rhs = build(ctx, parameters, items, &pair.1)?;
     Ok((param_env, lhs, rhs))
 }
 
-/// Relates two types in any context that can.
+// Whether two types can be related at a variance: at `Invariant` all can, at `Bivariant` none, and else those without
+// variables but regions'.
+fn can_relate<I: Interner>(cx: &I, lhs: &Ty<I>, variance: Variance, rhs: &Ty<I>) -> bool
+    requires lhs_known { IsTrue (known ((I.meaning cx.now).ty lhs.now)) }
+    requires rhs_known { IsTrue (known ((I.meaning cx.now).ty rhs.now)) }
+    ensures { IsTrue result ↔ ((variance ≢ Variance.Bivariant) × (IsTaken variance ((I.meaning cx.now).ty lhs.now) × IsTaken variance ((I.meaning cx.now).ty rhs.now))) }
+{
+    match variance {
+        Variance::Invariant => true,
+        Variance::Bivariant => false,
+        Variance::Covariant | Variance::Contravariant => {
+            !has_non_region_infer(cx, lhs) && !has_non_region_infer(cx, rhs)
+        }
+    }
+}
+
+/// Relates two types at a variance in any context that can.
+///
+/// Types with other variables than regions' are related at `Invariant`, all others at each variance but `Bivariant`.
+/// After `Ok` what is recorded relates the types where the goals are true; `Unrelated` says that nothing makes them one.
 pub fn relate<C: RelateExt>(
     ctx: &mut C,
     param_env: ParamEnv<C::Interner>,
     lhs: Ty<C::Interner>,
+    variance: Variance,
     rhs: Ty<C::Interner>,
     span: Span<C::Interner>,
 ) -> RelateGoals<C::Interner>
     requires lawful { C.is_lawful ctx.old }
+    requires decides { variance ≢ Variance.Bivariant }
     requires env_known { IsTrue (known ((C.Interner.meaning (C.interner ctx.old)).param_env param_env)) }
     requires lhs_known { IsTrue (known ((C.Interner.meaning (C.interner ctx.old)).ty lhs)) }
     requires rhs_known { IsTrue (known ((C.Interner.meaning (C.interner ctx.old)).ty rhs)) }
+    requires lhs_taken { IsTaken variance ((C.Interner.meaning (C.interner ctx.old)).ty lhs) }
+    requires rhs_taken { IsTaken variance ((C.Interner.meaning (C.interner ctx.old)).ty rhs) }
     requires lhs_in { IsTermIn (C.store ctx.old) ((C.Interner.meaning (C.interner ctx.old)).ty lhs) }
     requires rhs_in { IsTermIn (C.store ctx.old) ((C.Interner.meaning (C.interner ctx.old)).ty rhs) }
+    ensures answers { IfOk result (λ goals. AnswersGoals (C.items ctx.old) (C.store ctx.old) (C.store ctx.new) (goals_of (C.Interner.meaning (C.interner ctx.new)) goals.items) ((C.Interner.meaning (C.interner ctx.old)).param_env param_env) variance ((C.Interner.meaning (C.interner ctx.old)).ty lhs) ((C.Interner.meaning (C.interner ctx.old)).ty rhs)) }
+    ensures apart { IfUnrelated result (λ e. NoEqualTerms (C.store ctx.old) ((C.Interner.meaning (C.interner ctx.old)).ty lhs) ((C.Interner.meaning (C.interner ctx.old)).ty rhs)) }
     ensures lawful { C.is_lawful ctx.new }
     ensures later { IsLater (C.store ctx.old) (C.store ctx.new) }
     ensures why_known { IfErr result (λ e. KnowsFault (C.Interner.meaning (C.interner ctx.new)) e) }
 {
-    ctx.relate(param_env, lhs, Variance::Invariant, rhs, span)
+    ctx.relate(param_env, lhs, variance, rhs, span)
 }
 
-// Relates a pair, and writes the answer.
+// Relates a pair at a variance, and writes the answer.
 fn ask_pair<I: Interner, W: Write>(
     ctx: &mut RefCtxt<I>,
     texts: &TextsOf<I>,
+    variance: Variance,
     pair: &(Written, Written),
     out: &mut W,
 ) -> fmt::Result
     requires { IsLawful (I.meaning ctx.old.interner) ctx.old.inner }
     ensures { IsLawful (I.meaning ctx.new.interner) ctx.new.inner }
 {
-    match build_pair(ctx, texts.names, pair) {
+    match build_pair(ctx, texts.names, texts.items, pair) {
         Err(BuildFault::Memory) => out.write_str("memory"),
         Err(BuildFault::Missing) => out.write_str("missing"),
         Ok((param_env, lhs, rhs)) => {
+            if !can_relate(&ctx.interner, &lhs, variance, &rhs) {
+                return out.write_str("not asked");
+            }
             let span = ctx.interner.dummy_span();
-            let answer = relate(ctx, param_env, lhs, rhs, span);
+            let answer = relate(ctx, param_env, lhs, variance, rhs, span);
             write_answer(ctx, texts, &answer, out)
         }
     }
@@ -129,7 +165,7 @@ pub fn ask<I: Interner + Drop, W: Write>(
         if any {
             out.write_str(" | ")?;
         }
-        ask_pair(&mut ctx, texts, pair, out)?;
+        ask_pair(&mut ctx, texts, question.variance, pair, out)?;
         if question.budget.is_some() {
             let left = ctx.budget_left();
             write!(out, "; left={left}")?;

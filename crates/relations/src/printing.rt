@@ -4,12 +4,13 @@ ghost use Rattle.relation_terms.specs.Heads.{type_var};
 ghost use Rattle.relation_terms.specs.Trees.{Tree, known};
 ghost use Rattle.relation_tools.specs.Faults.{KnowsBoth, KnowsError, KnowsFault};
 ghost use Rattle.type_relations.specs.Stores.{ConstraintIn, entry_of, bound_to};
-ghost use Rattle.relation_reference.specs.Tables.{store_of, constraint_of, IsLawful};
+ghost use Rattle.type_relations.specs.Constraints.{constraint_of};
+ghost use Rattle.relation_reference.specs.Tables.{store_of, IsLawful};
 
 mod names;
 mod terms;
 
-pub use names::{ItemText, Texts, TextsOf};
+pub use names::{Texts, TextsOf};
 use relation_reference::context::{RefCtxt, TypeVariableValue};
 use relation_terms::predicate::RegionConstraint;
 use relation_terms::terms::{Const, Dup, Interner, Ty};

@@ -2,15 +2,15 @@
 mod printing;
 
 use crate::asking::{Question, ask, build_pair, relate};
-use crate::rows::{PARAMETERS, TEXTS, run};
+use crate::rows::{ITEMS, PARAMETERS, TEXTS, make_interner, run};
 use crate::written::{Written, WrittenRegion};
 use relation_reference::context::RefCtxt;
 use relation_reference::interner::{ItemId, NoSpan, NodeKey, RefInterner};
 use relation_terms::predicate::{OutlivesPredicate, RegionConstraint, RegionEqPredicate};
 use relation_terms::terms::{
-    AlternativesKey, ArgsKey, BoundVarsKey, BranchesKey, ClauseKey, ConstKey, Dup,
-    ExistentialPredicatesKey, GenericArgKind, Goal, Interner, ParamEnvKey, PatKey, PredicateKey,
-    RegionKey, TyKey, TyVid, UintTy, ValTreeKey,
+    AlternativesKey, ArgsKey, BoundVarsKey, BranchesKey, ClauseKey, ConstKey, DefId, Dup,
+    ExistentialPredicatesKey, GenericArgKind, Goal, Interner, Mutability, ParamEnvKey, PatKey,
+    PredicateKey, RegionKey, TyKey, TyVid, UintTy, ValTreeKey, Variance,
 };
 use relation_tools::error::{
     ExpectedFound, OutOfMemory, RelateFault, RelateFaultOf, TypeError, TypeErrorOf,
@@ -35,10 +35,14 @@ const ALL_ROWS: &str = "r07: err TupleSize(2, 3) | err Sorts((), (u8,))
 r08: err CyclicTy([?0])
 r09: err Sorts(u8, bool); bound=[?0=u8]
 r17: budget; bound=[?0=u8]; left=0
+r22: err ArraySize(2, 3)
+r23: ok; regions=['a: 'b] | ok; regions=['b: 'a] | ok; regions=['a == 'b]
+r34: ok; regions=['a: 'c, 'b == 'd] | err Mutability
+r35: ok; regions=['b: 'a] | ok; regions=['a: 'b]
 ";
 
 // The words of a run, its status, and what it writes.
-const RUNS: [(&[&str], u8, &str, &str); 7] = [
+const RUNS: [(&[&str], u8, &str, &str); 11] = [
     (&[], 0, ALL_ROWS, ""),
     (
         &["r07"],
@@ -47,6 +51,25 @@ const RUNS: [(&[&str], u8, &str, &str); 7] = [
         "",
     ),
     (&["r17"], 0, "r17: budget; bound=[?0=u8]; left=0\n", ""),
+    (&["r22"], 0, "r22: err ArraySize(2, 3)\n", ""),
+    (
+        &["r23"],
+        0,
+        "r23: ok; regions=['a: 'b] | ok; regions=['b: 'a] | ok; regions=['a == 'b]\n",
+        "",
+    ),
+    (
+        &["r34"],
+        0,
+        "r34: ok; regions=['a: 'c, 'b == 'd] | err Mutability\n",
+        "",
+    ),
+    (
+        &["r35"],
+        0,
+        "r35: ok; regions=['b: 'a] | ok; regions=['a: 'b]\n",
+        "",
+    ),
     (&["r06"], 2, "", "unknown row: r06\n"),
     (&[""], 2, "", "unknown row: \n"),
     (&["r07", "r08"], 2, "", "usage: relations [name]\n"),
@@ -128,10 +151,10 @@ const ASKED: [Asked; 6] = [
         0,
         &[
             (
-                Written::Tuple(&[Written::Ref(A, &U8), FIRST]),
+                Written::Tuple(&[Written::Ref(A, &U8, Mutability::Not), FIRST]),
                 Written::Tuple(&[
-                    Written::Ref(B, &U8),
-                    Written::Ref(WrittenRegion::Static, &SECOND),
+                    Written::Ref(B, &U8, Mutability::Not),
+                    Written::Ref(WrittenRegion::Static, &SECOND, Mutability::Not),
                 ]),
             ),
             (SECOND, Written::Char),
@@ -156,8 +179,8 @@ const ASKED: [Asked; 6] = [
         &[(
             Written::Tuple(&[FIRST, FIRST]),
             Written::Tuple(&[
-                Written::Ref(WrittenRegion::Variable(0), &U8),
-                Written::Ref(WrittenRegion::Variable(1), &U8),
+                Written::Ref(WrittenRegion::Variable(0), &U8, Mutability::Not),
+                Written::Ref(WrittenRegion::Variable(1), &U8, Mutability::Not),
             ]),
         )],
         "ok; regions=['?0 == '?1]; bound=[?0=&'?0 u8]",
@@ -165,7 +188,10 @@ const ASKED: [Asked; 6] = [
     (
         1,
         0,
-        &[(Written::Ref(A, &U8), Written::Ref(A, &FIRST))],
+        &[(
+            Written::Ref(A, &U8, Mutability::Not),
+            Written::Ref(A, &FIRST, Mutability::Not),
+        )],
         "ok; regions=['a == 'a]; bound=[?0=u8]",
     ),
     (
@@ -174,7 +200,10 @@ const ASKED: [Asked; 6] = [
         &[
             (
                 Written::Tuple(&[FIRST, SECOND]),
-                Written::Tuple(&[Written::Ref(A, &U8), Written::Ref(A, &U8)]),
+                Written::Tuple(&[
+                    Written::Ref(A, &U8, Mutability::Not),
+                    Written::Ref(A, &U8, Mutability::Not),
+                ]),
             ),
             (FIRST, SECOND),
         ],
@@ -198,6 +227,7 @@ fn several_calls_on_one_context(rt: HostRuntime) -> Result<(), Fail> {
             type_variables: *type_variables,
             region_variables: *region_variables,
             budget: None,
+            variance: Variance::Invariant,
             pairs,
         };
         let mut text = String::new(rt.alloc());
@@ -208,14 +238,81 @@ fn several_calls_on_one_context(rt: HostRuntime) -> Result<(), Fail> {
     Ok(())
 }
 
+const UNIQUE: Written = Written::Ref(A, &Written::Slice(&U8), Mutability::Mut);
+
+// What is asked at a variance of a context with a type variable, and the answers.
+const VARIED: [(Variance, &[(Written, Written)], &str); 6] = [
+    (
+        Variance::Covariant,
+        &[(FIRST, U8), (U8, FIRST), (U8, U8)],
+        "not asked | not asked | ok",
+    ),
+    (Variance::Contravariant, &[(FIRST, FIRST)], "not asked"),
+    (Variance::Bivariant, &[(U8, U8)], "not asked"),
+    (
+        Variance::Invariant,
+        &[
+            (Written::Array(&FIRST, 4), Written::Array(&UNIQUE, 4)),
+            (
+                Written::RawPtr(&U8, Mutability::Mut),
+                Written::RawPtr(&Written::Char, Mutability::Mut),
+            ),
+        ],
+        "ok; bound=[?0=&'a mut [u8]] | err Sorts(u8, char); bound=[?0=&'a mut [u8]]",
+    ),
+    (
+        Variance::Covariant,
+        &[
+            (Written::Adt(0, &[UNIQUE]), Written::Adt(0, &[U8])),
+            (Written::Adt(1, &[]), U8),
+        ],
+        "err Sorts(&'a mut [u8], u8) | missing",
+    ),
+    (
+        Variance::Invariant,
+        &[(
+            Written::Adt(0, &[U8]),
+            Written::Array(&U8, 18446744073709551615),
+        )],
+        "err Sorts(K<u8>, [u8; 18446744073709551615])",
+    ),
+];
+
+#[test]
+fn questions_at_each_variance(rt: HostRuntime) -> Result<(), Fail> {
+    for (variance, pairs, answers) in &VARIED {
+        let question = Question {
+            type_variables: 1,
+            region_variables: 0,
+            budget: None,
+            variance: *variance,
+            pairs,
+        };
+        let mut text = String::new(rt.alloc());
+        let cx = make_interner(rt.alloc())?;
+        ask(cx, &TEXTS, &question, &mut text)?;
+        assert_eq!(rt; text.as_str(), *answers);
+    }
+    Ok(())
+}
+
+#[test]
+fn the_interner_has_its_items(rt: HostRuntime) -> Result<(), Fail> {
+    let cx = make_interner(rt.alloc())?;
+    assert_eq!(rt; cx.item_count(), ITEMS.len());
+    let item = DefId(ITEMS[0].id);
+    assert!(rt; cx.variances_of(&item) == [Variance::Contravariant].as_slice());
+    Ok(())
+}
+
 #[test]
 fn a_bound_variable_has_its_type(rt: HostRuntime) -> Result<(), Fail> {
     let mut ctx = RefCtxt::new(RefInterner::new(rt.alloc()), 1);
     let _ = ctx.next_ty_infer()?;
-    let (param_env, lhs, rhs) = build_pair(&mut ctx, &PARAMETERS, &(FIRST, U8))?;
+    let (param_env, lhs, rhs) = build_pair(&mut ctx, &PARAMETERS, &ITEMS, &(FIRST, U8))?;
     let bound = rhs.dup();
     let span = ctx.interner.dummy_span();
-    let goals = relate(&mut ctx, param_env, lhs, rhs, span)?;
+    let goals = relate(&mut ctx, param_env, lhs, Variance::Invariant, rhs, span)?;
     assert!(rt; goals.is_empty());
     assert_eq!(rt; ctx.inner.types.len(), 1);
     assert!(rt; ctx.binding(TyVid(0)) == Some(bound));

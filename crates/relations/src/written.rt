@@ -1,17 +1,18 @@
 //! Types as rows write them, and how they are built.
-ghost use Rattle.std.specs.Prelude.{◌≡◌, ◌<◌, IsTrue, IsFalse, Err, IfOk, IfErr, length};
+ghost use Rattle.std.specs.Prelude.{◌≡◌, ◌<◌, ◌&&◌, nat_lt, IsTrue, IsFalse, Err, IfOk, IfErr, length, slice_get};
 ghost use Rattle.relation_terms.specs.Heads.{type_var, variable};
 ghost use Rattle.relation_terms.specs.Trees.{leaf, known, list_tree};
-ghost use Rattle.relation_terms.specs.Meaning.{Extends, kind_tree, region_tree};
+ghost use Rattle.relation_terms.specs.Meaning.{Extends, kind_tree, region_tree, arg_tree};
 ghost use Rattle.type_relations.specs.Stores.{IsTermIn};
 ghost use Rattle.relation_reference.specs.Tables.{store_of, IsLawful};
-ghost use Rattle.relations.specs.Types.{written_region, written_tree, has_region, has_all, have_all};
+ghost use Rattle.relations.specs.Types.{written_region, written_tree, item_tree, length_tree, has_region, has_all, have_all};
 ghost use Rattle.relations.specs.declared.written.BuildFault.TheVariants.{Memory, Missing};
 
 use relation_reference::context::RefCtxt;
 use relation_terms::terms::{
-    Dup, EarlyParamRegion, Interner, Mutability, OutOfMemory, Region, RegionForm, RegionKind,
-    RegionVid, Ty, TyForm, TyKind, Tys, UintTy,
+    AdtId, Const, ConstKind, Dup, EarlyParamRegion, GenericArgKind, GenericArgs, Interner,
+    Mutability, OutOfMemory, Region, RegionForm, RegionKind, RegionVid, Ty, TyForm, TyKind, Tys,
+    UintTy, ValTreeKind,
 };
 use std::alloc::AllocFailed;
 
@@ -32,8 +33,13 @@ pub enum Written {
     Char,
     Uint(UintTy),
     Slice(&'static Written),
+    /// An array, with its length.
+    Array(&'static Written, u64),
+    RawPtr(&'static Written, Mutability),
+    Ref(WrittenRegion, &'static Written, Mutability),
     Tuple(&'static [Written]),
-    Ref(WrittenRegion, &'static Written),
+    /// An item by its place in the list of items, and its arguments.
+    Adt(usize, &'static [Written]),
     /// A type variable of the context.
     Variable(usize),
 }
@@ -45,12 +51,19 @@ pub struct Parameter<N> {
     pub text: &'static str,
 }
 
+/// An item's id in an interner, and its text.
+#[derive(Drop)]
+pub struct ItemText<D> {
+    pub id: D,
+    pub text: &'static str,
+}
+
 /// Why a type was not built.
 #[derive(Clone, Copy, PartialEq, Eq, Debug)]
 pub enum BuildFault {
     /// A growth was refused.
     Memory,
-    /// It names what is not there: a variable, or a parameter.
+    /// It names what is not there: a variable, a parameter or an item.
     Missing,
 }
 
@@ -123,6 +136,50 @@ fn make_type_list<I: Interner>(ctx: &mut RefCtxt<I>, types: &[Ty<I>]) -> Result<
     Ok(list)
 }
 
+// The list of arguments that are types.
+fn make_args<I: Interner>(
+    ctx: &mut RefCtxt<I>,
+    types: &[Ty<I>],
+) -> Result<GenericArgs<I>, BuildFault>
+    requires lawful { IsLawful (I.meaning ctx.old.interner) ctx.old.inner }
+    requires list_known { IsTrue (known (list_tree (I.meaning ctx.old.interner).ty types.now)) }
+    requires list_in { IsTermIn (store_of (I.meaning ctx.old.interner) ctx.old.inner) (list_tree (I.meaning ctx.old.interner).ty types.now) }
+    ensures lawful { IsLawful (I.meaning ctx.new.interner) ctx.new.inner }
+    ensures grown { Extends (I.meaning ctx.old.interner) (I.meaning ctx.new.interner) }
+    ensures tables { ctx.new.inner ≡ ctx.old.inner }
+    ensures sure { IfOk result (λ a. IsTrue (known ((I.meaning ctx.new.interner).args a))) }
+    ensures is_in { IfOk result (λ a. IsTermIn (store_of (I.meaning ctx.new.interner) ctx.new.inner) ((I.meaning ctx.new.interner).args a)) }
+    ensures made { IfOk result (λ a. (I.meaning ctx.new.interner).args a ≡ list_tree (I.meaning ctx.old.interner).ty types.now) }
+    ensures memory { IfErr result (λ e. e ≡ Memory) }
+{
+    let mut args = Vec::new(ctx.interner.alloc());
+    for ty in types {
+        args.push(GenericArgKind::Ty(ty.dup()))?;
+    }
+    let list = ctx.interner.mk_args(&args)?;
+    Ok(list)
+}
+
+// The length of an array.
+fn make_length<I: Interner>(ctx: &mut RefCtxt<I>, length: u64) -> Result<Const<I>, BuildFault>
+    requires { IsLawful (I.meaning ctx.old.interner) ctx.old.inner }
+    ensures lawful { IsLawful (I.meaning ctx.new.interner) ctx.new.inner }
+    ensures grown { Extends (I.meaning ctx.old.interner) (I.meaning ctx.new.interner) }
+    ensures tables { ctx.new.inner ≡ ctx.old.inner }
+    ensures sure { IfOk result (λ c. IsTrue (known ((I.meaning ctx.new.interner).const_ c))) }
+    ensures is_in { IfOk result (λ c. IsTermIn (store_of (I.meaning ctx.new.interner) ctx.new.inner) ((I.meaning ctx.new.interner).const_ c)) }
+    ensures made { IfOk result (λ c. (I.meaning ctx.new.interner).const_ c ≡ length_tree length) }
+    ensures memory { IfErr result (λ e. e ≡ Memory) }
+{
+    let ty = ctx.interner.mk_ty(TyKind::Uint(UintTy::Usize))?;
+    let bits = u128::from(length);
+    let value = ctx
+        .interner
+        .mk_valtree(ValTreeKind::Leaf { bits, size: 8 })?;
+    let constant = ctx.interner.mk_const(ConstKind::Value(ty, value))?;
+    Ok(constant)
+}
+
 // The region that is written.
 fn build_region<I: Interner>(
     ctx: &mut RefCtxt<I>,
@@ -178,6 +235,7 @@ fn variable_of<I: Interner>(ctx: &RefCtxt<I>, number: usize) -> Ty<I>
 pub fn build<I: Interner>(
     ctx: &mut RefCtxt<I>,
     parameters: &[Parameter<I::Name>],
+    items: &[ItemText<I::Id>],
     written: &Written,
 ) -> Result<Ty<I>, BuildFault>
     requires { IsLawful (I.meaning ctx.old.interner) ctx.old.inner }
@@ -186,8 +244,8 @@ pub fn build<I: Interner>(
     ensures tables { ctx.new.inner ≡ ctx.old.inner }
     ensures sure { IfOk result (λ t. IsTrue (known ((I.meaning ctx.new.interner).ty t))) }
     ensures is_in { IfOk result (λ t. IsTermIn (store_of (I.meaning ctx.new.interner) ctx.new.inner) ((I.meaning ctx.new.interner).ty t)) }
-    ensures made { IfOk result (λ t. (I.meaning ctx.new.interner).ty t ≡ written_tree (I.meaning ctx.old.interner).name parameters.now written.now) }
-    ensures missing { result ≡ Err Missing → IsFalse (has_all (length ctx.old.inner.types.items) (length ctx.old.inner.regions.items) (length parameters.now) written.now) }
+    ensures made { IfOk result (λ t. (I.meaning ctx.new.interner).ty t ≡ written_tree (I.meaning ctx.old.interner).id (I.meaning ctx.old.interner).name parameters.now items.now written.now) }
+    ensures missing { result ≡ Err Missing → IsFalse (has_all (length ctx.old.inner.types.items) (length ctx.old.inner.regions.items) (length parameters.now) (length items.now) written.now) }
 {
     match written {
         Written::Bool => make_ty(ctx, TyKind::Bool),
@@ -200,20 +258,56 @@ pub fn build<I: Interner>(
             Ok(variable_of(ctx, *number))
         }
         Written::Slice(element) => {
-            let element = build(ctx, parameters, element)?;
+            let element = build(ctx, parameters, items, element)?;
             make_ty(ctx, TyKind::Slice(element))
         }
-        Written::Ref(region, pointee) => {
-            let pointee = build(ctx, parameters, pointee)?;
+        Written::Array(element, length) => {
+            let element = build(ctx, parameters, items, element)?;
+            let length = make_length(ctx, *length)?;
+            make_ty(ctx, TyKind::Array(element, length))
+        }
+        Written::RawPtr(pointee, mutability) => {
+            let pointee = build(ctx, parameters, items, pointee)?;
+            make_ty(ctx, TyKind::RawPtr(pointee, *mutability))
+        }
+        Written::Ref(region, pointee, mutability) => {
+            let pointee = build(ctx, parameters, items, pointee)?;
             let region = build_region(ctx, parameters, *region)?;
-            make_ty(ctx, TyKind::Ref(region, pointee, Mutability::Not))
+            make_ty(ctx, TyKind::Ref(region, pointee, *mutability))
         }
         Written::Tuple(members) => {
-            let members = build_all(ctx, parameters, members)?;
+            let members = build_all(ctx, parameters, items, members)?;
             let members = make_type_list(ctx, &members)?;
             make_ty(ctx, TyKind::Tuple(members))
         }
+        Written::Adt(place, args) => build_item(ctx, parameters, items, *place, args),
     }
+}
+
+// The type of an item over the arguments that are written.
+#[cycle(build)]
+fn build_item<I: Interner>(
+    ctx: &mut RefCtxt<I>,
+    parameters: &[Parameter<I::Name>],
+    items: &[ItemText<I::Id>],
+    place: usize,
+    written: &[Written],
+) -> Result<Ty<I>, BuildFault>
+    requires { IsLawful (I.meaning ctx.old.interner) ctx.old.inner }
+    ensures lawful { IsLawful (I.meaning ctx.new.interner) ctx.new.inner }
+    ensures grown { Extends (I.meaning ctx.old.interner) (I.meaning ctx.new.interner) }
+    ensures tables { ctx.new.inner ≡ ctx.old.inner }
+    ensures sure { IfOk result (λ t. IsTrue (known ((I.meaning ctx.new.interner).ty t))) }
+    ensures is_in { IfOk result (λ t. IsTermIn (store_of (I.meaning ctx.new.interner) ctx.new.inner) ((I.meaning ctx.new.interner).ty t)) }
+    ensures made { IfOk result (λ t. (I.meaning ctx.new.interner).ty t ≡ item_tree (I.meaning ctx.old.interner).id (slice_get items.now place) (list_tree (written_tree (I.meaning ctx.old.interner).id (I.meaning ctx.old.interner).name parameters.now items.now) written.now)) }
+    ensures missing { result ≡ Err Missing → IsFalse (nat_lt place (length items.now) && have_all (length ctx.old.inner.types.items) (length ctx.old.inner.regions.items) (length parameters.now) (length items.now) written.now) }
+{
+    let Some(item) = items.get(place) else {
+        return Err(BuildFault::Missing);
+    };
+    let types = build_all(ctx, parameters, items, written)?;
+    let args = make_args(ctx, &types)?;
+    make_ty(ctx, TyKind::Adt(AdtId(item.id.dup()), args))
 }
 
 // The types that are written, in order.
@@ -221,6 +315,7 @@ pub fn build<I: Interner>(
 fn build_all<I: Interner>(
     ctx: &mut RefCtxt<I>,
     parameters: &[Parameter<I::Name>],
+    items: &[ItemText<I::Id>],
     written: &[Written],
 ) -> Result<Vec<Ty<I>>, BuildFault>
     requires { IsLawful (I.meaning ctx.old.interner) ctx.old.inner }
@@ -229,12 +324,12 @@ fn build_all<I: Interner>(
     ensures tables { ctx.new.inner ≡ ctx.old.inner }
     ensures sure { IfOk result (λ v. IsTrue (known (list_tree (I.meaning ctx.new.interner).ty v.items))) }
     ensures are_in { IfOk result (λ v. IsTermIn (store_of (I.meaning ctx.new.interner) ctx.new.inner) (list_tree (I.meaning ctx.new.interner).ty v.items)) }
-    ensures made { IfOk result (λ v. list_tree (I.meaning ctx.new.interner).ty v.items ≡ list_tree (written_tree (I.meaning ctx.old.interner).name parameters.now) written.now) }
-    ensures missing { result ≡ Err Missing → IsFalse (have_all (length ctx.old.inner.types.items) (length ctx.old.inner.regions.items) (length parameters.now) written.now) }
+    ensures made { IfOk result (λ v. list_tree (I.meaning ctx.new.interner).ty v.items ≡ list_tree (written_tree (I.meaning ctx.old.interner).id (I.meaning ctx.old.interner).name parameters.now items.now) written.now) }
+    ensures missing { result ≡ Err Missing → IsFalse (have_all (length ctx.old.inner.types.items) (length ctx.old.inner.regions.items) (length parameters.now) (length items.now) written.now) }
 {
     let mut types = Vec::new(ctx.interner.alloc());
     for member in written {
-        let ty = build(ctx, parameters, member)?;
+        let ty = build(ctx, parameters, items, member)?;
         types.push(ty)?;
     }
     Ok(types)

@@ -1,13 +1,6 @@
 //! The texts of names, of items and of the small enums.
-use crate::written::Parameter;
+use crate::written::{ItemText, Parameter};
 use relation_terms::terms::{FloatTy, IntTy, Keys, Mutability, UintTy};
-
-/// An item's id in an interner, and its text.
-#[derive(Drop)]
-pub struct ItemText<D> {
-    pub id: D,
-    pub text: &'static str,
-}
 
 /// The texts of names and of items, as the caller hands them in.
 #[derive(Drop)]

@@ -13,5 +13,5 @@ invariant-build_all-loop-member g l = record {
   tables : l.ctx.inner ≡ l.fn.ctx.inner;
   sure : IsTrue (known (list_tree (g.I.Interner.meaning l.ctx.interner).ty l.types.items));
   are_in : IsTermIn (store_of (g.I.Interner.meaning l.ctx.interner) l.ctx.inner) (list_tree (g.I.Interner.meaning l.ctx.interner).ty l.types.items);
-  made : list_tree (g.I.Interner.meaning l.ctx.interner).ty l.types.items ≡ list_tree (written_tree (g.I.Interner.meaning l.fn.ctx.interner).name l.parameters) (take l.member-index l.written);
+  made : list_tree (g.I.Interner.meaning l.ctx.interner).ty l.types.items ≡ list_tree (written_tree (g.I.Interner.meaning l.fn.ctx.interner).id (g.I.Interner.meaning l.fn.ctx.interner).name l.parameters l.items) (take l.member-index l.written);
 }
