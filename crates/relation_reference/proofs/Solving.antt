@@ -20,7 +20,7 @@ use Rattle.relation_tools.specs.Faults.{KnowsFault}
 use Rattle.type_relations.specs.declared.relate.Step.TheVariants.{Done, Parts, Again}
 use Rattle.type_relations.specs.Relation.{Interpretation, Rel, RegionRule, regions, at}
 use Rattle.type_relations.specs.Stores.{Store, IsTermIn, IsRegionIn, IsSound, ConstraintHolds}
-use Rattle.type_relations.specs.Stores.{weight, resolved, all_bound}
+use Rattle.type_relations.specs.Stores.{weight, resolved}
 use Rattle.type_relations.specs.Goals.{GoalInContext, Holds, MakesOneTree}
 use Rattle.type_relations.specs.Headline.{AnswersGoals, KeepsEqualTerms}
 use Rattle.type_relations.specs.Steps.{AddsConstraint, BindsTo, Instantiates}
@@ -512,9 +512,3 @@ module _ {Key Id Name : Type 0} (j : ℕ) where
         KeepsEqualTerms (store_of m x) (store_of n y) [] a b
     keeps_equal t h = λ w s sat one. let z = ((h.verdict).outcome).keeps w s sat one in
         (z.0, z.1, (z.2.0, All-nil (MakesOneTree z.0)))
-
-    module _ (r : Result X (RelateFault Key Id Name))
-        (h : Related solver_manner (solving j m x v e) (solving j n y v e) v a b tree r) where
-      pub budget_counts : (store_of m x).budget + all_bound (store_of m x) ≡
-          (store_of n y).budget + all_bound (store_of n y)
-      budget_counts = let c = ((h.passes).goes).counts in let d = ((h.passes).goes).binds in omega (arith, c, d)
