@@ -184,6 +184,20 @@ fn asks_all<I: Interner, T: TypeVisitable<I>>(cx: &I, term: &T, expected: &[Labe
     asks(cx, term, Label::Bool, Visit::Enter, expected)
 }
 
+// The same of a term that is taken, so that no caller has to drop it on its way out.
+fn taken_asks<I: Interner, T: TypeVisitable<I> + Drop>(cx: &I, term: T, expected: &[Label]) -> bool
+    requires { IsTrue (known (T.tree (I.meaning cx.now) term)) }
+{
+    asks_all(cx, &term, expected)
+}
+
+// Whether a visit that stops at the first of the term's parts, which has this form, asks nothing more.
+fn stops_at_once<I: Interner, T: TypeVisitable<I> + Drop>(cx: &I, term: T, at: Label) -> bool
+    requires { IsTrue (known (T.tree (I.meaning cx.now) term)) }
+{
+    asks(cx, &term, at, Visit::Stop, &[at])
+}
+
 fn ty_asks<I: Interner>(
     cx: &mut I,
     id: &I::Id,
@@ -278,8 +292,9 @@ fn pairs_ask<I: Interner>(cx: &mut I) -> Result<bool, OutOfMemory> {
     let all = asks_all(cx, &pair, &both);
     let first = asks(cx, &pair, Label::Infer, Visit::Stop, &[Label::Infer]);
     let sorts: TypeErrorOf<I> = TypeError::Sorts(pair.dup());
+    let sorts_ask = taken_asks(cx, sorts, &both);
     let arguments: TypeErrorOf<I> = TypeError::ArgumentSorts(pair, 1);
-    Ok(all && first && asks_all(cx, &sorts, &both) && asks_all(cx, &arguments, &both))
+    Ok(all && first && sorts_ask && taken_asks(cx, arguments, &both))
 }
 
 #[tactic(auto, using(relation_terms::proofs::Stays::knows_region))]
@@ -291,18 +306,11 @@ fn region_errors_ask<I: Interner>(cx: &mut I, name: &I::Name) -> Result<bool, Ou
         name: name.dup(),
     };
     let general: TypeErrorOf<I> = TypeError::RegionsInsufficientlyPolymorphic(bound, shorter.dup());
-    let outlives: TypeErrorOf<I> = TypeError::RegionsDoesNotOutlive(longer, shorter);
-    Ok(
-        asks_all(cx, &outlives, &[Label::RegionVar, Label::Static])
-            && asks(
-                cx,
-                &outlives,
-                Label::RegionVar,
-                Visit::Stop,
-                &[Label::RegionVar],
-            )
-            && asks_all(cx, &general, &[Label::Static]),
-    )
+    let general_asks = taken_asks(cx, general, &[Label::Static]);
+    let outlives: TypeErrorOf<I> = TypeError::RegionsDoesNotOutlive(longer.dup(), shorter.dup());
+    let outlives_asks = taken_asks(cx, outlives, &[Label::RegionVar, Label::Static]);
+    let stopped: TypeErrorOf<I> = TypeError::RegionsDoesNotOutlive(longer, shorter);
+    Ok(general_asks && outlives_asks && stops_at_once(cx, stopped, Label::RegionVar))
 }
 
 #[tactic(auto, using(relation_terms::proofs::Stays::knows_const))]
@@ -310,26 +318,22 @@ fn constant_errors_ask<I: Interner>(cx: &mut I, name: &I::Name) -> Result<bool, 
     let value = make_const(cx, Leaves::Put, Shape::Leaf, name)?;
     let parameter = make_leaf_const(cx, Leaves::Put, name)?;
     let cyclic: TypeErrorOf<I> = TypeError::CyclicConst(parameter.dup());
+    let cyclic_asks = taken_asks(cx, cyclic, &[Label::ConstParam]);
+    let both = [Label::Value, Label::Bool, Label::ConstParam];
     let pair = ExpectedFound::new(value, parameter);
     let sizes: TypeErrorOf<I> = TypeError::ArraySize(pair.dup());
+    let sizes_ask = taken_asks(cx, sizes, &both);
     let differ: TypeErrorOf<I> = TypeError::ConstMismatch(pair);
-    let both = [Label::Value, Label::Bool, Label::ConstParam];
-    Ok(
-        asks_all(cx, &cyclic, &[Label::ConstParam])
-            && asks_all(cx, &sizes, &both)
-            && asks_all(cx, &differ, &both),
-    )
+    Ok(cyclic_asks && sizes_ask && taken_asks(cx, differ, &both))
 }
 
 fn other_errors_ask<I: Interner>(cx: &mut I) -> Result<bool, OutOfMemory> {
     let cyclic: TypeErrorOf<I> = TypeError::CyclicTy(make_leaf_ty(cx, Leaves::Put)?);
+    let cyclic_asks = taken_asks(cx, cyclic, &[Label::Bool]);
     let mismatch: TypeErrorOf<I> = TypeError::Mismatch;
+    let mismatch_asks = taken_asks(cx, mismatch, &[]);
     let sizes: TypeErrorOf<I> = TypeError::TupleSize(ExpectedFound::new(1, 2));
-    Ok(
-        asks_all(cx, &cyclic, &[Label::Bool])
-            && asks_all(cx, &mismatch, &[])
-            && asks_all(cx, &sizes, &[]),
-    )
+    Ok(cyclic_asks && mismatch_asks && taken_asks(cx, sizes, &[]))
 }
 
 #[test]
