@@ -29,6 +29,14 @@ use Rattle.type_relations.proofs.Standing.{made_of_term, term_within, term_sort_
 use Rattle.type_relations.proofs.Growing.{constraint_sound, constraint_is_later, constraint_bound, constraint_weight}
 use Rattle.type_relations.proofs.Growing.{constraint_holds, constraint_keeps}
 use Rattle.type_relations.proofs.Passing.{passes_nowhere}
+use Rattle.relation_reference.proofs.Grows.{known_of_term}
+use Rattle.relation_terms.proofs.Stays.{stays_arg}
+use Rattle.relation_terms.specs.Meaning.{Extends}
+use Rattle.type_relations.specs.Lawful.{WithMeaning}
+use Rattle.type_relations.specs.Stores.{Store, IsSound, ConstraintIn, outlives_constraint, equal_constraint}
+use Rattle.relation_terms.specs.declared.predicate.RegionConstraint.TheVariants.{Outlives, Eq}
+use Rattle.std.proofs.Common.{ap, ap₂, ◌∷◌}
+use Rattle.std.proofs.lemmas.List.Elements.{All-head, All-tail}
 
 module _ {Key Id Name : Type 0} (m : Meaning Key Id Name) where
   -- Without variables, and with no bound variable that escapes, a type has a form.
@@ -183,3 +191,35 @@ module _ {Key Id Name X : Type 0} (m n : Meaning Key Id Name) (v u : Variance) (
       (((f.verdict).outcome).relates w as_is (met_by_all w all)
       (subst (All (Holds (declared_by m.variances) w as_is)) (f.passes).lengthens
       (All-nil (Holds (declared_by m.variances) w as_is))))
+
+-- So constraints stand while the interner grows.
+module _ {Key Id Name : Type 0} {m n : Meaning Key Id Name} (e : Extends m n) where
+  constraint_stands : (st : Store) (c : RegionConstraint Key) → ConstraintIn st (constraint_of m c) →
+      constraint_of n c ≡ constraint_of m c
+  constraint_stands st (Outlives p) h =
+      ap₂ outlives_constraint (stays_arg e p.0 (known_of_term st _ h.0.1)) (e.region p.1 (known_of_term st _ h.1.1))
+  constraint_stands st (Eq p) h =
+      ap₂ equal_constraint (e.region p.0 (known_of_term st _ h.0.1)) (e.region p.1 (known_of_term st _ h.1.1))
+
+  constraints_stand : (st : Store) (cs : List (RegionConstraint Key)) →
+      All (ConstraintIn st) (map (constraint_of m) cs) → map (constraint_of n) cs ≡ map (constraint_of m) cs
+  constraints_stand st [] h = refl
+  constraints_stand st (c ∷ cs) h =
+      ap₂ ◌∷◌ (constraint_stands st c (All-head (ConstraintIn st) (constraint_of m c) (map (constraint_of m) cs) h))
+      (constraints_stand st cs (All-tail (ConstraintIn st) (constraint_of m c) (map (constraint_of m) cs) h))
+
+  store_stands : (cs : List (RegionConstraint Key)) → IsSound (plain_store m cs) → plain_store n cs ≡ plain_store m cs
+  store_stands cs l = ap (λ ks. record (plain_store m cs) { constraints = ks })
+      (constraints_stand (plain_store m cs) cs l.constraints_in)
+
+  pub plain_grows : (v : Variance) (cs : List (RegionConstraint Key)) → IsSound (plain_store m cs) →
+      WithMeaning (plain_state m v cs) n (plain_state n v cs)
+  plain_grows v cs l = record {
+    meaning = refl;
+    store = store_stands cs l;
+    goals = refl;
+    environment = refl;
+    ambient = refl;
+    reference = refl;
+    lawful = λ l. subst IsSound (sym (store_stands cs l)) l;
+  }

@@ -44,6 +44,8 @@ use Rattle.relation_reference.specs.declared.context.inner.InferCtxtInner.{Infer
 use Rattle.relation_reference.specs.Tables.{store_of, IsLawful}
 use Rattle.relation_reference.specs.Solving.{solving, solver_manner}
 use Rattle.relation_reference.specs.Answers.{Unites, Answered, IsShallow, Instantiated}
+use Rattle.relation_reference.proofs.Grows.{store_grows, lawful_grows}
+use Rattle.type_relations.specs.Lawful.{WithMeaning}
 use Rattle.relation_reference.proofs.Making.{region_value}
 use Rattle.relation_reference.proofs.Relating.{answered_alike}
 use Rattle.relation_reference.proofs.Binding.{binding_goes_at, instantiated_refused, instantiated_refused_back}
@@ -512,3 +514,17 @@ module _ {Key Id Name : Type 0} (j : ℕ) where
         KeepsEqualTerms (store_of m x) (store_of n y) [] a b
     keeps_equal t h = λ w s sat one. let z = ((h.verdict).outcome).keeps w s sat one in
         (z.0, z.1, (z.2.0, All-nil (MakesOneTree z.0)))
+
+  -- Making terms changes nothing of the relation but what its interner knows.
+  pub solver_grows : {m n : Meaning Key Id Name} (grown : Extends m n) (x : InferCtxtInner Key) (v : Variance)
+      (e : ParamEnvKey Key) → IsLawful m x × IsTrue (known (m.param_env e)) →
+      WithMeaning (solving j m x v e) n (solving j n x v e)
+  solver_grows grown x v e l = record {
+    meaning = refl;
+    store = store_grows grown x l.0;
+    goals = refl;
+    environment = grown.param_env e l.1;
+    ambient = refl;
+    reference = refl;
+    lawful = λ k. (lawful_grows grown x l.0, subst (λ t. IsTrue (known t)) (sym (grown.param_env e l.1)) l.1);
+  }

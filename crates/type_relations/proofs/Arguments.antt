@@ -1,18 +1,21 @@
 -- Forms that are related by their parts, one after another.
-use Rattle.std.proofs.Common.{◌≡◌, ℕ, ◌<◌, refl, sym, ap, ◌∙◌, subst, subst₂, arith, IsTrue, Ok, Err}
+use Rattle.std.proofs.Common.{◌≡◌, ℕ, suc, ◌<◌, refl, sym, ap, ap₂, ◌∙◌, true, subst, subst₂, arith, IsTrue, Result, Ok, Err, IfOk}
+use Rattle.std.proofs.lemmas.Bool.{and_from, and_parts}
 use Rattle.relation_terms.specs.declared.terms.enums.Variance.{Variance}
-use Rattle.relation_terms.specs.Heads.{Sort, Head, adt}
-use Rattle.relation_terms.specs.Trees.{Tree, leaf, node, bind, nil, cons, known, count, nth, IsList, AreTerms}
+use Rattle.relation_terms.specs.Heads.{Sort, Head, adt, fn_def}
+use Rattle.relation_terms.specs.Trees.{Tree, leaf, node, bind, nil, cons, Assign, apply, known, count, nth, IsList, AreTerms}
 use Rattle.relation_terms.specs.Meaning.{Meaning, Extends}
 use Rattle.relation_tools.specs.declared.error.TypeError.{TypeError}
 use Rattle.relation_tools.specs.declared.error.RelateFault.{RelateFault}
 use Rattle.relation_tools.specs.declared.error.RelateFault.TheVariants.{Memory, Budget, Unrelated}
 use Rattle.type_relations.specs.declared.relate.args.ArgVariances.{ArgVariances}
-use Rattle.type_relations.specs.declared.relate.args.ArgVariances.TheVariants.{Invariant, Declared}
+use Rattle.type_relations.specs.declared.relate.args.ArgVariances.TheVariants.{Invariant, Adt, FnDef}
 use Rattle.type_relations.specs.Relation.{forms, part_at, IsRelatedHead}
 use Rattle.type_relations.specs.Errors.{ErrorOf, IsHandedOn, of_parts, AreOfOneForm, over_parts}
 use Rattle.type_relations.specs.Arguments.{args_head}
 use Rattle.type_relations.specs.Lawful.{State, Manner, MayAnswer, Refuses, Related, items_in}
+use Rattle.type_relations.specs.Stores.{Store, OnlyShrinks}
+use Rattle.type_relations.proofs.Lists.{firsts, snoc, firsts_more, firsts_all, apply_snoc}
 use Rattle.type_relations.proofs.OneParts.{parts_equal}
 use Rattle.type_relations.proofs.PartSizes.{weight_parts_most}
 use Rattle.type_relations.proofs.Passing.{passes_within}
@@ -23,12 +26,14 @@ use Rattle.type_relations.proofs.Structural.{types_never}
 pub args_related_head : {Key Id Name : Type 0} (m : Meaning Key Id Name) (d : ArgVariances Id) →
     IsRelatedHead (args_head m d)
 args_related_head m Invariant = tt
-args_related_head m (Declared d) = tt
+args_related_head m (Adt d) = tt
+args_related_head m (FnDef d) = tt
 
 pub args_handed_on : {Key Id Name : Type 0} (m : Meaning Key Id Name) (d : ArgVariances Id) (e : TypeError Key Id Name)
     (t u : Tree) → IsHandedOn e (args_head m d) t u
 args_handed_on m Invariant e t u = tt
-args_handed_on m (Declared d) e t u = tt
+args_handed_on m (Adt d) e t u = tt
+args_handed_on m (FnDef d) e t u = tt
 
 module _ {Key Id Name : Type 0} {r q : State Key Id Name} (M : Manner) (v : Variance) (h : Head) (ts us : Tree) (i : ℕ)
     (f : Fronted r q h v i ts us) (are : AreParts r.store ts us) (n : count ts ≡ count us) where
@@ -81,7 +86,8 @@ module _ {Key Id Name : Type 0} {r q : State Key Id Name} (M : Manner) (v : Vari
 pub args_heads : {Key Id Name : Type 0} {m n : Meaning Key Id Name} → Extends m n → (d : ArgVariances Id) →
     args_head n d ≡ args_head m d
 args_heads e Invariant = refl
-args_heads e (Declared d) = ap adt (e.id d.0)
+args_heads e (Adt d) = ap adt (e.id d.0)
+args_heads e (FnDef d) = ap fn_def (e.id d.0)
 
 pub are_list : (k : Sort) (ts : Tree) → AreTerms k ts → IsList ts
 are_list k nil h = tt
@@ -89,3 +95,57 @@ are_list k (cons t ts) h = are_list k ts h.1
 are_list k (leaf l) h = absurd h
 are_list k (node g ts) h = absurd h
 are_list k (bind ks t) h = absurd h
+
+-- A list with one more behind it.
+snoc_list : (ts u : Tree) → IsList ts → IsList (snoc ts u)
+snoc_list nil u h = tt
+snoc_list (cons t ts) u h = snoc_list ts u h
+snoc_list (leaf l) u h = absurd h
+snoc_list (node g ts) u h = absurd h
+snoc_list (bind ks t) u h = absurd h
+
+snoc_known : (ts u : Tree) → IsList ts → IsTrue (known ts) → IsTrue (known u) → IsTrue (known (snoc ts u))
+snoc_known nil u h k l = and_from (known u) true l refl
+snoc_known (cons t ts) u h k l =
+    let p = and_parts (known t) (known ts) k in
+    and_from (known t) (known (snoc ts u)) p.0 (snoc_known ts u h p.1 l)
+snoc_known (leaf x) u h k l = absurd h
+snoc_known (node g ts) u h k l = absurd h
+snoc_known (bind ks t) u h k l = absurd h
+
+snoc_applied : (s : Assign) (ts u : Tree) → IsList ts → apply s (snoc ts u) ≡ snoc (apply s ts) (apply s u)
+snoc_applied s nil u h = refl
+snoc_applied s (cons t ts) u h = ap (cons (apply s t)) (snoc_applied s ts u h)
+snoc_applied s (leaf x) u h = absurd h
+snoc_applied s (node g ts) u h = absurd h
+snoc_applied s (bind ks t) u h = absurd h
+
+-- What was answered for the first parts of a list.
+pub record AreAnswers (M : Manner) (st : Store) (i : ℕ) (ts us : Tree) : Type 0 where
+  pub is_list : IsList us
+  pub sure : IsTrue (known us)
+  pub value : MayAnswer M st (firsts i ts) us
+
+pub answers_none : (M : Manner) (st : Store) (ts : Tree) → AreAnswers M st 0 ts nil
+answers_none M st ts = record { is_list = tt; sure = refl; value = λ k w s sat. refl }
+
+pub answers_next : (M : Manner) (before after : Store) (i : ℕ) (ts us x u : Tree) → OnlyShrinks before after →
+    i < count ts → AreAnswers M before i ts us → x ≡ nth i ts → MayAnswer M after x u → IsTrue (known u) →
+    AreAnswers M after (suc i) ts (snoc us u)
+answers_next M before after i ts us x u shrinks h a e m k = record {
+  is_list = snoc_list us u a.is_list;
+  sure = snoc_known us u a.is_list a.sure k;
+  value = λ keeps w s sat. ap (apply s) (firsts_more i ts h) ∙ apply_snoc s i ts (nth i ts)
+      ∙ ap₂ snoc (a.value keeps w s (shrinks w s sat)) (ap (apply s) (sym e) ∙ m keeps w s sat)
+      ∙ sym (snoc_applied s us u a.is_list);
+}
+
+pub answers_all : (M : Manner) (st : Store) (h : Head) (ts us : Tree) → IsList ts → AreAnswers M st (count ts) ts us →
+    MayAnswer M st (node h ts) (node h us)
+answers_all M st h ts us l a keeps w s sat =
+    ap (node h) (ap (apply s) (sym (firsts_all ts l)) ∙ a.value keeps w s sat)
+
+pub if_ok_both : {X E : Type 0} (P Q R : X → Type 0) (res : Result X E) → ((x : X) → P x → Q x → R x) → IfOk res P →
+    IfOk res Q → IfOk res R
+if_ok_both P Q R (Ok x) f p q = f x p q
+if_ok_both P Q R (Err e) f p q = tt

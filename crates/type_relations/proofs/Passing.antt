@@ -1,5 +1,5 @@
 -- Steps and calls over a relation, one after another.
-use Rattle.std.proofs.Common.{◌≡◌, ℕ, ◌+◌, ◌≤◌, refl, sym, ap, ◌∙◌, subst, subst₂, arith, List, [], ◌++◌, All, IsTrue, Result, Ok, Err}
+use Rattle.std.proofs.Common.{◌≡◌, ℕ, ◌+◌, ◌≤◌, refl, sym, ap, ◌∙◌, subst, subst₂, arith, List, [], ◌++◌, All, IsTrue, Result, Ok, Err, IfOk}
 use Rattle.std.proofs.Common.{append_assoc, get_or}
 use Rattle.std.proofs.lemmas.List.{append-nil}
 use Rattle.std.proofs.lemmas.Bool.{false≢true}
@@ -22,7 +22,7 @@ use Rattle.type_relations.specs.Goals.{Goal, GoalInContext, Holds, Relates, Aske
 use Rattle.type_relations.specs.Outcomes.{Outcome, NeverOne}
 use Rattle.type_relations.specs.Measures.{grown, Goes}
 use Rattle.type_relations.specs.Lawful.{State, Manner, MayAnswer, Passes, Asked, Refuses, Answers, Verdict, Related, Leads}
-use Rattle.type_relations.specs.Lawful.{LeadsToParts, LeadsAgain, Noted, Turned, Stepped, OnlyMemory, declared_by, items_in}
+use Rattle.type_relations.specs.Lawful.{LeadsToParts, LeadsAgain, Noted, Turned, Stepped, OnlyMemory, WithMeaning, declared_by, items_in}
 use Rattle.type_relations.proofs.Going.{goes_nowhere, goes_within, goes_then, le_grown, later_itself, later_through}
 use Rattle.type_relations.proofs.Composing.{steps_compose, goals_both, first_goals}
 use Rattle.type_relations.proofs.Standing.{later_term}
@@ -301,6 +301,51 @@ module _ {Key Id Name : Type 0} where
     same_budget = refl;
     fault = tt;
   }
+
+  -- The interner's keys were added to.
+  unfoldable pub passes_grown : {n : ℕ} {r q p : State Key Id Name} → Passes n r q → ExtendsMeaning q.meaning p.meaning →
+      WithMeaning q p.meaning p → Passes n r p
+  passes_grown {n} {r} {q} {p} g e w = record {
+    extends = extends_on g.extends e;
+    goes = subst (Goes n r.store) (sym w.store) g.goes;
+    added = g.added;
+    lengthens = w.goals ∙ g.lengthens;
+    goals_in = subst (λ s. All (GoalInContext s) g.added) (sym w.store) g.goals_in;
+    environment = w.environment ∙ g.environment;
+    ambient = w.ambient ∙ g.ambient;
+    reference = w.reference ∙ g.reference;
+    lawful = λ l. w.lawful (g.lawful l);
+  }
+
+  module _ {X Y : Type 0} {r q p : State Key Id Name} (M : Manner) (v : Variance) (a b : Tree)
+      (e : ExtendsMeaning q.meaning p.meaning) (w : WithMeaning q p.meaning p) (answer : Y → Tree) where
+    -- An answer was made anew of the same value.
+    pub remade : (tree : X → Tree) (t : X) → Related M r q v a b tree (Ok t) → (z : Y) → MayAnswer M q.store a (answer z) →
+        IsTrue (known (answer z)) → Related M r p v a b answer (Ok z)
+    unfolding passes_grown
+    remade tree t f z value sure = record {
+      passes = passes_grown f.passes e w;
+      verdict = record {
+        outcome = subst (λ s. Outcome (items_in r) r.environment (at v) r.store s r.goals (f.passes).added a b) (sym w.store)
+            (f.verdict).outcome;
+        answer = subst (λ s. MayAnswer M s a (answer z)) (sym w.store) value;
+        known = sure;
+      };
+    }
+
+    -- Or it could not be made.
+    pub made_or_not : (tree : X → Tree) (t : X) → Related M r q v a b tree (Ok t) →
+        (res : Result Y (RelateFault Key Id Name)) → OnlyMemory res →
+        IfOk res (λ z. MayAnswer M q.store a (answer z) × IsTrue (known (answer z))) → Related M r p v a b answer res
+    unfolding passes_grown
+    made_or_not tree t f (Ok z) only h = remade tree t f z h.0 h.1
+    made_or_not tree t f (Err Memory) only h = record { passes = passes_grown f.passes e w; verdict = tt }
+    made_or_not tree t f (Err g) only h = absurd only
+
+  -- Memory ran out.
+  pub stopped : {X : Type 0} {r q : State Key Id Name} (M : Manner) (v : Variance) (a b : Tree) (tree : X → Tree) →
+      Passes (weight r.store a + weight r.store b) r q → Related {X = X} M r q v a b tree (Err Memory)
+  stopped M v a b tree g = record { passes = g; verdict = tt }
 
   -- A step that answers.
   pub step_done : {K : Type 0} {r q : State Key Id Name} (M : Manner) (F : Tree → Type 0) (a b : Tree) (tree : K → Tree)

@@ -1,10 +1,18 @@
 -- Lists of arguments, as what they are related for.
-use Rattle.relation_terms.specs.Heads.{Head, adt, arguments}
+use Rattle.std.specs.Prelude.{◌≡◌, ℕ}
+use Rattle.relation_terms.specs.Heads.{Head, adt, fn_def, arguments}
+use Rattle.relation_terms.specs.Trees.{Tree, node}
 use Rattle.relation_terms.specs.Meaning.{Meaning}
 use Rattle.type_relations.specs.declared.relate.args.ArgVariances.{ArgVariances}
-use Rattle.type_relations.specs.declared.relate.args.ArgVariances.TheVariants.{Invariant, Declared}
+use Rattle.type_relations.specs.declared.relate.args.ArgVariances.TheVariants.{Invariant, Adt, FnDef}
 
 -- The form over arguments whose parts stand at these variances.
 abbrev pub args_head : {Key Id Name : Type 0} → Meaning Key Id Name → ArgVariances Id → Head
 args_head m Invariant = arguments
-args_head m (Declared d) = adt (m.id d.0)
+args_head m (Adt d) = adt (m.id d.0)
+args_head m (FnDef d) = fn_def (m.id d.0)
+
+-- Two types are of one form over an item and these arguments, which vary as the item declares.
+pub data AreOverItem (d : ℕ) (a b ts us : Tree) : Type 0 where
+  adts : a ≡ node (adt d) ts → b ≡ node (adt d) us → AreOverItem d a b ts us
+  functions : a ≡ node (fn_def d) ts → b ≡ node (fn_def d) us → AreOverItem d a b ts us

@@ -72,6 +72,16 @@ module _ {Key Id Name : Type 0} where
     pub reference : q.reference ≡ r.reference
     pub lawful : r.lawful → q.lawful
 
+  -- Only the interner's keys were added to.
+  pub record WithMeaning (r : State Key Id Name) (m : Meaning Key Id Name) (q : State Key Id Name) : Type 0 where
+    pub meaning : q.meaning ≡ m
+    pub store : q.store ≡ r.store
+    pub goals : q.goals ≡ r.goals
+    pub environment : q.environment ≡ r.environment
+    pub ambient : q.ambient ≡ r.ambient
+    pub reference : q.reference ≡ r.reference
+    pub lawful : r.lawful → q.lawful
+
   -- From one state to another with a pair of size `n` related, or a part of the work for it done: keys mean what they
   -- meant, all that was recorded and registered stands, and the variance and the reference are as they were.
   pub record Passes (n : ℕ) (r q : State Key Id Name) : Type 0 where

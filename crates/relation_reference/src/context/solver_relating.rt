@@ -115,6 +115,8 @@ impl<'a, I: Interner> TypeRelation<I> for SolverRelating<'a, I> {
         &mut self.infcx.interner
     }
 
+    fn interner_grows(&self) {}
+
     fn ambient(&self) -> Variance {
         self.ambient_variance
     }

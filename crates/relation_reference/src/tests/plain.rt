@@ -101,6 +101,8 @@ impl<I: Interner> TypeRelation<I> for PlainRelation<I> {
         &mut self.interner
     }
 
+    fn interner_grows(&self) {}
+
     fn ambient(&self) -> Variance {
         self.ambient
     }

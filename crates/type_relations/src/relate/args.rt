@@ -1,18 +1,21 @@
 //! Relating the arguments of items.
-ghost use Rattle.std.specs.Prelude.{◌≡◌, ◌≢◌, ◌<◌, IsTrue};
+ghost use Rattle.std.specs.Prelude.{◌≡◌, ◌≢◌, ◌<◌, IsTrue, IfOk};
 ghost use Rattle.relation_terms.specs.declared.terms.enums.Variance.TheVariants.{Bivariant};
 ghost use Rattle.relation_terms.specs.Heads.{adt, arguments};
-ghost use Rattle.relation_terms.specs.Trees.{known, node, count, nth, IsList};
-ghost use Rattle.relation_terms.specs.Meaning.{arg_tree};
+ghost use Rattle.relation_terms.specs.Trees.{known, node, count, nth, IsList, list_tree};
+ghost use Rattle.relation_terms.specs.Meaning.{Extends, arg_tree};
 ghost use Rattle.relation_terms.specs.Variances.{xform};
 ghost use Rattle.type_relations.specs.Relation.{part_at};
-ghost use Rattle.type_relations.specs.Lawful.{Asked, Related, items_in};
-ghost use Rattle.type_relations.specs.Arguments.{args_head};
+ghost use Rattle.type_relations.specs.Lawful.{Asked, Related, WithMeaning, OnlyMemory, items_in};
+ghost use Rattle.type_relations.specs.Arguments.{args_head, AreOverItem};
+ghost use Rattle.type_relations.specs.Parts.{head_of};
 
 use crate::relate::TypeRelation;
-use crate::relate::reading::declared_at;
+use crate::relate::reading::{declared_at, note_declared};
 use crate::relate::structural::relate_with_variance;
-use relation_terms::terms::{DefId, Dup, GenericArg, GenericArgs, Interner, ItemOf, Variance};
+use relation_terms::terms::{
+    DefId, Dup, GenericArg, GenericArgs, Interner, ItemOf, OutOfMemory, Ty, TyKind, Variance,
+};
 use relation_tools::error::RelateResult;
 
 // The variances at which arguments are related.
@@ -20,8 +23,10 @@ use relation_tools::error::RelateResult;
 pub(crate) enum ArgVariances<D> {
     // Invariance, of all of them.
     Invariant,
-    // Those that an item declares.
-    Declared(DefId<D>),
+    // Those that an item declares, of a type over it.
+    Adt(DefId<D>),
+    // The same of a function.
+    FnDef(DefId<D>),
 }
 
 // The number of arguments of a list.
@@ -71,8 +76,27 @@ fn variance_of<I: Interner, R: TypeRelation<I>>(
 {
     match variances {
         ArgVariances::Invariant => Variance::Invariant,
-        ArgVariances::Declared(def_id) => declared_at(r, def_id, i),
+        ArgVariances::Adt(def_id) => declared_at(r, def_id, i),
+        ArgVariances::FnDef(def_id) => declared_at(r, def_id, i),
     }
+}
+
+// The list of these arguments.
+fn make_args<I: Interner, R: TypeRelation<I>>(
+    r: &mut R,
+    args: &[GenericArg<I>],
+) -> RelateResult<I, GenericArgs<I>>
+    requires lawful { (R.state r.old).lawful }
+    requires args_known { IsTrue (known (list_tree (arg_tree (R.state r.old).meaning) args.now)) }
+    ensures extends { Extends (R.state r.old).meaning (R.state r.new).meaning }
+    ensures grown { WithMeaning (R.state r.old) (R.state r.new).meaning (R.state r.new) }
+    ensures fault { OnlyMemory result }
+    ensures sure { IfOk result (λ k. IsTrue (known ((R.state r.new).meaning.args k))) }
+    ensures means { IfOk result (λ k. (R.state r.new).meaning.args k ≡ list_tree (arg_tree (R.state r.old).meaning) args.now) }
+{
+    r.interner_grows();
+    let made = r.cx_mut().mk_args(args)?;
+    Ok(made)
 }
 
 // Relates the arguments of two lists pair by pair.
@@ -89,13 +113,15 @@ fn relate_args<I: Interner, R: TypeRelation<I>>(
     ensures { Related R.manner (R.state r.old) (R.state r.new) (R.state r.old).ambient (node (args_head (R.state r.old).meaning variances.now) ((R.state r.old).meaning.args a.now)) (node (args_head (R.state r.old).meaning variances.now) ((R.state r.old).meaning.args b.now)) (λ k. node (args_head (R.state r.new).meaning variances.now) ((R.state r.new).meaning.args k)) result }
 {
     let n = args_count_of::<I, R>(r, a);
+    let mut answers = Vec::new(r.cx().alloc());
     for i in 0..n {
         let x = arg_of::<I, R>(r, a, i);
         let y = arg_of::<I, R>(r, b, i);
         let variance = variance_of::<I, R>(r, variances, i);
-        relate_with_variance(r, variance, &x, &y)?;
+        let answer = relate_with_variance(r, variance, &x, &y)?;
+        answers.push(answer)?;
     }
-    Ok(a.dup())
+    make_args(r, answers.as_slice())
 }
 
 /// Relates two lists of as many arguments invariantly, seen from the ambient variance, and answers the left one.
@@ -138,5 +164,77 @@ pub fn relate_args_with_variances<I: Interner, R: TypeRelation<I>>(
     requires as_many { count ((R.state r.old).meaning.args a.now) ≡ count ((R.state r.old).meaning.args b.now) }
     ensures { Related R.manner (R.state r.old) (R.state r.new) (R.state r.old).ambient (node (adt ((R.state r.old).meaning.id (def_id.now).0)) ((R.state r.old).meaning.args a.now)) (node (adt ((R.state r.old).meaning.id (def_id.now).0)) ((R.state r.old).meaning.args b.now)) (λ k. node (adt ((R.state r.new).meaning.id (def_id.now).0)) ((R.state r.new).meaning.args k)) result }
 {
-    relate_args(r, &ArgVariances::Declared(DefId(def_id.0.dup())), a, b)
+    relate_args(r, &ArgVariances::Adt(DefId(def_id.0.dup())), a, b)
+}
+
+// The type that a call makes of arguments.
+fn make_over<
+    I: Interner,
+    R: TypeRelation<I>,
+    F: FnOnce(&mut I, GenericArgs<I>) -> Result<Ty<I>, OutOfMemory>,
+>(r: &mut R, form: &Ty<I>, args: GenericArgs<I>, mk: F) -> RelateResult<I, Ty<I>>
+    requires lawful { (R.state r.old).lawful }
+    requires args_known { IsTrue (known ((R.state r.old).meaning.args args)) }
+    requires callable { (cx : _) (list : _) → IsTrue (known ((I.meaning cx.now).args list)) → F.pre mk cx list }
+    requires grows { (cx : _) (list : _) (res : _) (left : _) → F.post mk cx list res left → Extends (I.meaning cx.now) (I.meaning left.now) }
+    requires makes { (cx : _) (list : _) (res : _) (left : _) → F.post mk cx list res left → IfOk res (λ k. IsTrue (known ((I.meaning left.now).ty k)) × ((I.meaning left.now).ty k ≡ node (head_of ((R.state r.old).meaning.ty form.now)) ((I.meaning cx.now).args list))) }
+    ensures extends { Extends (R.state r.old).meaning (R.state r.new).meaning }
+    ensures grown { WithMeaning (R.state r.old) (R.state r.new).meaning (R.state r.new) }
+    ensures fault { OnlyMemory result }
+    ensures sure { IfOk result (λ k. IsTrue (known ((R.state r.new).meaning.ty k))) }
+    ensures means { IfOk result (λ k. (R.state r.new).meaning.ty k ≡ node (head_of ((R.state r.old).meaning.ty form.now)) ((R.state r.old).meaning.args args)) }
+{
+    let _ = form;
+    r.interner_grows();
+    let made = mk(r.cx_mut(), args)?;
+    Ok(made)
+}
+
+// How the arguments of a type over an item are related.
+fn item_variances<I: Interner, R: TypeRelation<I>>(
+    r: &R,
+    ty: &Ty<I>,
+    def_id: &ItemOf<I>,
+) -> ArgVariances<I::Id>
+    requires { IsTrue (known ((R.state r.now).meaning.ty ty.now)) }
+    ensures { (b ts us : _) → AreOverItem ((R.state r.now).meaning.id (def_id.now).0) ((R.state r.now).meaning.ty ty.now) b ts us → ((R.state r.now).meaning.ty ty.now ≡ node (args_head (R.state r.now).meaning result) ts) × (b ≡ node (args_head (R.state r.now).meaning result) us) }
+{
+    let kind = r.cx().ty_kind(ty);
+    let def_id = DefId(def_id.0.dup());
+    match &kind {
+        TyKind::FnDef(..) => ArgVariances::FnDef(def_id),
+        _ => ArgVariances::Adt(def_id),
+    }
+}
+
+/// Relates two types over one item by their arguments, at the variances that the item declares, and answers what `mk`
+/// makes of the answer for the arguments.
+pub fn relate_ty_args<
+    I: Interner,
+    R: TypeRelation<I>,
+    F: FnOnce(&mut I, GenericArgs<I>) -> Result<Ty<I>, OutOfMemory>,
+>(
+    r: &mut R,
+    a_ty: &Ty<I>,
+    b_ty: &Ty<I>,
+    def_id: &ItemOf<I>,
+    a_args: &GenericArgs<I>,
+    b_args: &GenericArgs<I>,
+    mk: F,
+) -> RelateResult<I, Ty<I>>
+    requires lawful { (R.state r.old).lawful }
+    requires decides { (R.state r.old).ambient ≢ Bivariant }
+    requires asked { Asked R.manner (R.state r.old) (R.state r.old).ambient ((R.state r.old).meaning.ty a_ty.now) ((R.state r.old).meaning.ty b_ty.now) }
+    requires args_known { IsTrue (known ((R.state r.old).meaning.args a_args.now)) }
+    requires over { AreOverItem ((R.state r.old).meaning.id (def_id.now).0) ((R.state r.old).meaning.ty a_ty.now) ((R.state r.old).meaning.ty b_ty.now) ((R.state r.old).meaning.args a_args.now) ((R.state r.old).meaning.args b_args.now) }
+    requires as_many { count ((R.state r.old).meaning.args a_args.now) ≡ count ((R.state r.old).meaning.args b_args.now) }
+    requires callable { (cx : _) (list : _) → IsTrue (known ((I.meaning cx.now).args list)) → F.pre mk cx list }
+    requires grows { (cx : _) (list : _) (res : _) (left : _) → F.post mk cx list res left → Extends (I.meaning cx.now) (I.meaning left.now) }
+    requires makes { (cx : _) (list : _) (res : _) (left : _) → F.post mk cx list res left → IfOk res (λ k. IsTrue (known ((I.meaning left.now).ty k)) × ((I.meaning left.now).ty k ≡ node (head_of ((R.state r.old).meaning.ty a_ty.now)) ((I.meaning cx.now).args list))) }
+    ensures { Related R.manner (R.state r.old) (R.state r.new) (R.state r.old).ambient ((R.state r.old).meaning.ty a_ty.now) ((R.state r.old).meaning.ty b_ty.now) (R.state r.new).meaning.ty result }
+{
+    let variances = item_variances::<I, R>(r, a_ty, def_id);
+    let args = relate_args(r, &variances, a_args, b_args)?;
+    note_declared(r, a_ty, b_ty, def_id, a_args, b_args)?;
+    make_over(r, a_ty, args, mk)
 }

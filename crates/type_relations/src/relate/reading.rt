@@ -177,7 +177,7 @@ pub(crate) fn in_const<I: Interner, R: TypeRelation<I>>(
 }
 
 // Has the relation take note of arguments that were related at declared variances.
-fn note_declared<I: Interner, R: TypeRelation<I>>(
+pub(crate) fn note_declared<I: Interner, R: TypeRelation<I>>(
     r: &mut R,
     a: &Ty<I>,
     b: &Ty<I>,

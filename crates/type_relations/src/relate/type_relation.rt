@@ -1,12 +1,13 @@
 //! Relations in steps, none of which relates anything by itself.
 ghost use Rattle.std.specs.Prelude.{◌≡◌, ◌≢◌, IfSome, IfNone};
 ghost use Rattle.std.specs.Borrow.{sem, Lends};
+ghost use Rattle.relation_terms.specs.Meaning.{Extends};
 ghost use Rattle.relation_terms.specs.declared.terms.enums.Variance.{Variance};
 ghost use Rattle.relation_terms.specs.declared.terms.enums.Variance.TheVariants.{Invariant, Bivariant};
 ghost use Rattle.type_relations.specs.Stores.{IsSound};
 ghost use Rattle.type_relations.specs.Goals.{Relates};
 ghost use Rattle.type_relations.specs.Parts.{IsFormed, IsFormedConst};
-ghost use Rattle.type_relations.specs.Lawful.{State, Manner, TakesParts, Turned, Asked, Related, Stepped, Noted, items_in};
+ghost use Rattle.type_relations.specs.Lawful.{State, Manner, TakesParts, Turned, Asked, Related, Stepped, Noted, WithMeaning, items_in};
 
 use crate::relate::Step;
 use relation_terms::terms::{Const, GenericArgs, Interner, ItemOf, Region, Ty, Variance};
@@ -40,6 +41,10 @@ pub trait TypeRelation<I: Interner> {
     fn cx_mut(&mut self) -> &mut I
         ensures* writes_back { sem 𝓛 (Lends Self.row I.row self.entry result (with_interner self.entry.now)) }
         ensures value { I.meaning result.now ≡ (state self.old).meaning };
+
+    /// Does nothing: it shows that making terms changes nothing of the relation but what its interner knows.
+    fn interner_grows(&self)
+        ensures { (cx : I) → Extends (state self.now).meaning (I.meaning cx) → (state self.now).lawful → WithMeaning (state self.now) (I.meaning cx) (state (with_interner self.now cx)) };
 
     /// The variance at which terms are related.
     fn ambient(&self) -> Variance

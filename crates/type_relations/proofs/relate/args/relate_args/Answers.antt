@@ -1,19 +1,24 @@
-use Rattle.std.proofs.Common.{◌≡◌, ◌<◌, sym, ap, ◌∙◌, subst, arith, Ok, Err}
+use Rattle.std.proofs.Common.{◌≡◌, ◌<◌, refl, sym, ap, ◌∙◌, subst, subst₂, arith, IsTrue, Ok, Err}
 use Rattle.relation_terms.specs.declared.terms.keys.ArgsKey.{ArgsKey}
 use Rattle.relation_terms.specs.Heads.{argument_sort}
-use Rattle.relation_terms.specs.Trees.{node, count, nth}
+use Rattle.relation_terms.specs.Trees.{Tree, node, known, count, nth, list_tree}
 use Rattle.relation_terms.specs.Variances.{xform}
 use Rattle.relation_terms.specs.Meaning.{arg_tree}
 use Rattle.relation_terms.proofs.Sorted.{Sorted}
 use Rattle.type_relations.specs.Relation.{part_at}
 use Rattle.type_relations.specs.Arguments.{args_head}
-use Rattle.type_relations.specs.Lawful.{Related, items_in}
+use Rattle.type_relations.specs.Lawful.{MayAnswer, Related, items_in}
 use Rattle.type_relations.proofs.Standing.{term_context}
 use Rattle.type_relations.proofs.Parts.{in_parts}
-use Rattle.type_relations.proofs.Passing.{same_items, as_err}
+use Rattle.relation_terms.proofs.Stays.{stays_list, stays_arg}
+use Rattle.relation_tools.specs.declared.error.RelateFault.TheVariants.{Memory}
+use Rattle.type_relations.proofs.Lists.{snoc, list_push}
+use Rattle.type_relations.proofs.PartSizes.{weight_parts_most}
+use Rattle.type_relations.proofs.Passing.{same_items, as_err, passes_within, made_or_not, stopped}
 use Rattle.type_relations.proofs.Fronts.{Fronted, fronted_none, fronted_next}
 use Rattle.type_relations.proofs.Looping.{next_asked}
 use Rattle.type_relations.proofs.Arguments.{form_related, form_refused, args_related_head, args_handed_on, args_heads, are_list}
+use Rattle.type_relations.proofs.Arguments.{AreAnswers, answers_none, answers_next, answers_all, if_ok_both}
 use Rattle.type_relations.proofs.relate.args.relate_args.Goals as goal
 
 pub loop-i-init : goal.loop-i-init
@@ -44,6 +49,8 @@ loop-i-init g c =
         left_in = term_context r.store ts (in_parts r.store (node h ts) k.left_in);
         right_in = term_context r.store us (in_parts r.store (node h us) k.right_in);
       };
+      answers = subst (λ z. AreAnswers g.R.TypeRelation.manner r.store 0 ts (list_tree (arg_tree r.meaning) z))
+          (sym c.new-answers.ensures.items) (answers_none g.R.TypeRelation.manner r.store ts);
     }
 
 pub relate_with_variance-requires-clause-asked : goal.relate_with_variance-requires-clause-asked
@@ -75,8 +82,8 @@ relate_with_variance-requires-clause-asked g c =
     next_asked M g.met.R.TypeRelation.takes_parts r q (node h ts) (node h us) i x y c.arg_of-x.ensures.sure
     c.arg_of-y.ensures.sure k inv.fronted lx ly ex ey w ew ew
 
-pub returns-in_err-relate_with_variance : goal.returns-in_err-relate_with_variance
-returns-in_err-relate_with_variance g c =
+pub returns-in_err-answer : goal.returns-in_err-answer
+returns-in_err-answer g c =
     let r = g.R.TypeRelation.state c.args.r.now in
     let M = g.R.TypeRelation.manner in
     let q = g.R.TypeRelation.state c.loop-i.r in
@@ -102,14 +109,54 @@ returns-in_err-relate_with_variance g c =
     ∙ ap (λ z. part_at (items_in q) z i q.ambient) (args_heads extends c.args.variances.now)
     ∙ ap (λ z. part_at z h i q.ambient) (same_items (inv.fronted).passes)
     ∙ ap (λ z. part_at (items_in r) h i z) ((inv.fronted).passes).ambient in
-    let f = c.in_err-relate_with_variance.field-0.0 in
-    let gone = subst (λ v. Related M q p v x y (arg_tree p.meaning) (Err f)) ew c.in_err-relate_with_variance.ensures in
+    let f = c.in_err-answer.field-0.0 in
+    let gone = subst (λ v. Related M q p v x y (arg_tree p.meaning) (Err f)) ew c.in_err-answer.ensures in
     subst (λ z. Related M r p r.ambient (node h ts) (node h us)
     (λ k. node (args_head p.meaning c.args.variances.now) ((p.meaning).args k)) z)
     (sym (as_err c.from_residual.result f c.from_residual.ensures.0 c.from_residual.ensures.1))
     (form_refused M r.ambient h ts us i inv.fronted inv.are_parts as_many x y lx ly ex ey
     (λ e. args_handed_on r.meaning c.args.variances.now e x y) (arg_tree p.meaning)
     (λ k. node (args_head p.meaning c.args.variances.now) ((p.meaning).args k)) f gone)
+
+pub returns-in_err-push : goal.returns-in_err-push
+returns-in_err-push g c =
+    let r = g.R.TypeRelation.state c.args.r.now in
+    let M = g.R.TypeRelation.manner in
+    let q = g.R.TypeRelation.state c.loop-i.r in
+    let p = g.R.TypeRelation.state c.relate_with_variance.new.r in
+    let h = args_head r.meaning c.args.variances.now in
+    let ts = (r.meaning).args c.args.a.now in
+    let us = (r.meaning).args c.args.b.now in
+    let i = c.loop-i.i in
+    let inv = c.loop-i.invariant in
+    let k = c.requires.asked in
+    let extends = ((inv.fronted).passes).extends in
+    let test = c.loop-i-test.true in
+    let as_many = c.requires.as_many in
+    let lx : i < count ts = omega (arith, test, inv.counts) in
+    let ly : i < count us = omega (arith, test, inv.counts, as_many) in
+    let x = arg_tree q.meaning c.arg_of-x.result in
+    let y = arg_tree q.meaning c.arg_of-y.result in
+    let ex : x ≡ nth i ts = c.arg_of-x.ensures.means ∙ ap (nth i) (extends.args c.args.a.now k.left_known) in
+    let ey : y ≡ nth i us = c.arg_of-y.ensures.means ∙ ap (nth i) (extends.args c.args.b.now k.right_known) in
+    let w = xform q.ambient c.variance_of-variance.result in
+    let ew : w ≡ part_at (items_in r) h i r.ambient =
+    c.variance_of-variance.ensures
+    ∙ ap (λ z. part_at (items_in q) z i q.ambient) (args_heads extends c.args.variances.now)
+    ∙ ap (λ z. part_at z h i q.ambient) (same_items (inv.fronted).passes)
+    ∙ ap (λ z. part_at (items_in r) h i z) ((inv.fronted).passes).ambient in
+    let n = c.in_ok-answer in
+    let gone = subst (λ v. Related M q p v x y (arg_tree p.meaning) (Ok n.answer)) ew n.ensures in
+    let next = fronted_next h r.ambient i ts us x y inv.fronted lx ly ex ey M (arg_tree p.meaning) n.answer inv.are_parts
+    gone in
+    subst (λ z. Related M r p r.ambient (node h ts) (node h us)
+    (λ k. node (args_head p.meaning c.args.variances.now) ((p.meaning).args k)) z)
+    (sym (as_err c.from_residual-in_err-push.result Memory c.from_residual-in_err-push.ensures.0
+    c.from_residual-in_err-push.ensures.1))
+    (stopped M r.ambient (node h ts) (node h us)
+    (λ k. node (args_head p.meaning c.args.variances.now) ((p.meaning).args k))
+    (passes_within (omega (arith, weight_parts_most r.store (node h ts), weight_parts_most r.store (node h us)))
+    next.passes))
 
 pub loop-i-preserved : goal.loop-i-preserved
 loop-i-preserved g c =
@@ -138,15 +185,26 @@ loop-i-preserved g c =
     ∙ ap (λ z. part_at (items_in q) z i q.ambient) (args_heads extends c.args.variances.now)
     ∙ ap (λ z. part_at z h i q.ambient) (same_items (inv.fronted).passes)
     ∙ ap (λ z. part_at (items_in r) h i z) ((inv.fronted).passes).ambient in
-    let n = c.in_ok-relate_with_variance in
-    let gone = subst (λ v. Related M q p v x y (arg_tree p.meaning) (Ok n.field-0)) ew n.ensures in
+    let n = c.in_ok-answer in
+    let gone = subst (λ v. Related M q p v x y (arg_tree p.meaning) (Ok n.answer)) ew n.ensures in
+    let was = c.loop-i.answers.items in
+    let pushed : list_tree (arg_tree p.meaning) c.push.new.self.items
+    ≡ snoc (list_tree (arg_tree q.meaning) was) (arg_tree p.meaning n.answer) =
+    ap (list_tree (arg_tree p.meaning)) c.in_ok-push.ensures.items
+    ∙ list_push (arg_tree p.meaning) was n.answer
+    ∙ ap (λ z. snoc z (arg_tree p.meaning n.answer)) (stays_list (arg_tree q.meaning) (arg_tree p.meaning) was
+    (stays_arg (gone.passes).extends) (inv.answers).sure) in
     record {
       lawful = (gone.passes).lawful inv.lawful;
       fronted = subst (λ j. Fronted r p h r.ambient j ts us) (omega arith)
-          (fronted_next h r.ambient i ts us x y inv.fronted lx ly ex ey M (arg_tree p.meaning) n.field-0 inv.are_parts
+          (fronted_next h r.ambient i ts us x y inv.fronted lx ly ex ey M (arg_tree p.meaning) n.answer inv.are_parts
           gone);
       counts = inv.counts;
       are_parts = inv.are_parts;
+      answers = subst₂ (λ j z. AreAnswers M p.store j ts z) (omega arith) (sym pushed)
+          (answers_next M q.store p.store i ts (list_tree (arg_tree q.meaning) c.loop-i.answers.items) x
+          (arg_tree p.meaning n.answer) (((gone.passes).goes).later.shrinks) lx inv.answers ex (gone.verdict).answer
+          (gone.verdict).known);
     }
 
 pub returns : goal.returns
@@ -154,6 +212,7 @@ returns g c =
     let r = g.R.TypeRelation.state c.args.r.now in
     let M = g.R.TypeRelation.manner in
     let q = g.R.TypeRelation.state c.loop-i.r in
+    let p = g.R.TypeRelation.state c.make_args.new.r in
     let h = args_head r.meaning c.args.variances.now in
     let ts = (r.meaning).args c.args.a.now in
     let us = (r.meaning).args c.args.b.now in
@@ -164,8 +223,23 @@ returns g c =
     let test = c.loop-i-test.false in
     let end = (c.loop-i.auto).i-end in
     let all : i ≡ count ts = omega (arith, test, end, inv.counts) in
-    let tree = λ (k : ArgsKey g.row.I-Key.Denot). node (args_head q.meaning c.args.variances.now) ((q.meaning).args k) in
-    let same = ap tree c.dup.ensures ∙ ap (λ z. node z ((q.meaning).args c.args.a.now)) (args_heads extends
-    c.args.variances.now) ∙ ap (node h) (extends.args c.args.a.now k.left_known) in
-    form_related M r.ambient h ts us i inv.fronted inv.are_parts c.requires.as_many tree c.dup.result
-    (args_related_head r.meaning c.args.variances.now) all same k.left_known
+    let made = c.make_args.ensures in
+    let was = list_tree (arg_tree q.meaning) c.loop-i.answers.items in
+    let heads = args_heads made.extends c.args.variances.now ∙ args_heads extends c.args.variances.now in
+    let tree : ArgsKey g.row.I-Key.Denot → Tree =
+    λ k. node (args_head p.meaning c.args.variances.now) ((p.meaning).args k) in
+    let value : MayAnswer M q.store (node h ts) (node h was) =
+    answers_all M q.store h ts was (inv.are_parts).left_list
+    (subst (λ j. AreAnswers M q.store j ts was) all inv.answers) in
+    let done = form_related M r.ambient h ts us i inv.fronted inv.are_parts c.requires.as_many (λ (t : Tree). t) (node h ts)
+    (args_related_head r.meaning c.args.variances.now) all refl k.left_known in
+    made_or_not M r.ambient (node h ts) (node h us) made.extends made.grown tree (λ (t : Tree). t) (node h ts) done
+    c.make_args.result made.fault
+    (if_ok_both (λ z. IsTrue (known ((p.meaning).args z)))
+    (λ z. (p.meaning).args z ≡ list_tree (arg_tree q.meaning) c.as_slice.result.now)
+    (λ z. MayAnswer M q.store (node h ts) (tree z) × IsTrue (known (tree z))) c.make_args.result
+    (λ z sure means. (
+      subst (MayAnswer M q.store (node h ts)) (sym (ap (λ x. node x ((p.meaning).args z)) heads
+          ∙ ap (node h) (means ∙ ap (list_tree (arg_tree q.meaning)) c.as_slice.ensures.value))) value,
+      sure,
+    )) made.sure made.means)

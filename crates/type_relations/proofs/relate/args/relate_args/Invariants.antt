@@ -1,7 +1,9 @@
 use Rattle.std.proofs.Common.{◌≡◌}
-use Rattle.relation_terms.specs.Trees.{count}
+use Rattle.relation_terms.specs.Trees.{count, list_tree}
 use Rattle.type_relations.specs.Arguments.{args_head}
+use Rattle.relation_terms.specs.Meaning.{arg_tree}
 use Rattle.type_relations.proofs.Fronts.{Fronted, AreParts}
+use Rattle.type_relations.proofs.Arguments.{AreAnswers}
 use Rattle.type_relations.proofs.relate.args.relate_args.Given as goal
 
 abbrev pub invariant-loop-i : goal.invariant-loop-i
@@ -15,4 +17,5 @@ invariant-loop-i g l =
       fronted : Fronted r q (args_head r.meaning l.variances) r.ambient l.i ts us;
       counts : l.n ≡ count ts;
       are_parts : AreParts r.store ts us;
+      answers : AreAnswers g.R.TypeRelation.manner q.store l.i ts (list_tree (arg_tree q.meaning) l.answers.items);
     }

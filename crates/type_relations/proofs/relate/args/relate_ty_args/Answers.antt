@@ -1,0 +1,111 @@
+use Rattle.std.proofs.Common.{◌≡◌, refl, sym, ap, ◌∙◌, subst, subst₂, IsTrue, Ok, Err}
+use Rattle.relation_terms.specs.declared.terms.keys.ArgsKey.{ArgsKey}
+use Rattle.relation_terms.specs.Trees.{Tree, node, known}
+use Rattle.type_relations.specs.Parts.{head_of}
+use Rattle.type_relations.specs.Arguments.{args_head}
+use Rattle.type_relations.specs.Lawful.{Asked, Related, MayAnswer}
+use Rattle.type_relations.proofs.Passing.{as_err, asked_later, refused_again, noted_related, noted_refused, made_or_not}
+use Rattle.type_relations.proofs.Arguments.{args_heads, if_ok_both}
+use Rattle.type_relations.proofs.relate.args.relate_ty_args.Goals as goal
+
+pub relate_args-requires-clause-asked : goal.relate_args-requires-clause-asked
+relate_args-requires-clause-asked g c =
+    let r = g.R.TypeRelation.state c.args.r.now in
+    let m = r.meaning in
+    let is = c.item_variances-variances.ensures (m.ty c.args.b_ty.now) (m.args c.args.a_args.now)
+    (m.args c.args.b_args.now) c.requires.over in
+    subst₂ (Asked g.R.TypeRelation.manner r r.ambient) is.0 is.1 c.requires.asked
+
+pub returns-in_err-args : goal.returns-in_err-args
+returns-in_err-args g c =
+    let r = g.R.TypeRelation.state c.args.r.now in
+    let q = g.R.TypeRelation.state c.relate_args.new.r in
+    let M = g.R.TypeRelation.manner in
+    let m = r.meaning in
+    let v = c.item_variances-variances.result in
+    let is = c.item_variances-variances.ensures (m.ty c.args.b_ty.now) (m.args c.args.a_args.now)
+    (m.args c.args.b_args.now) c.requires.over in
+    let h = args_head m v in
+    let f = c.in_err-args.field-0.0 in
+    let gone = subst₂ (λ a b. Related M r q r.ambient a b (λ k. node (args_head (q.meaning) v) ((q.meaning).args k)) (Err f))
+    (sym is.0) (sym is.1) c.in_err-args.ensures in
+    subst (Related M r q r.ambient (m.ty c.args.a_ty.now) (m.ty c.args.b_ty.now) (q.meaning).ty)
+    (sym (as_err c.from_residual.result f c.from_residual.ensures.0 c.from_residual.ensures.1))
+    (refused_again M r.ambient (m.ty c.args.a_ty.now) (m.ty c.args.b_ty.now)
+    (λ k. node (args_head (q.meaning) v) ((q.meaning).args k)) (q.meaning).ty f gone)
+
+pub note_declared-requires-clause-asked : goal.note_declared-requires-clause-asked
+note_declared-requires-clause-asked g c =
+    let r = g.R.TypeRelation.state c.args.r.now in
+    let q = g.R.TypeRelation.state c.relate_args.new.r in
+    let M = g.R.TypeRelation.manner in
+    let m = r.meaning in
+    let passes = (c.in_ok-args.ensures).passes in
+    let k = c.requires.asked in
+    subst₂ (λ t u. Asked M q q.ambient t u) (sym ((passes.extends).ty c.args.a_ty.now k.left_known))
+    (sym ((passes.extends).ty c.args.b_ty.now k.right_known))
+    (subst (λ v. Asked M q v (m.ty c.args.a_ty.now) (m.ty c.args.b_ty.now)) (sym passes.ambient)
+    (asked_later M r.ambient (m.ty c.args.a_ty.now) (m.ty c.args.b_ty.now) passes k))
+
+pub returns-in_err-note_declared : goal.returns-in_err-note_declared
+returns-in_err-note_declared g c =
+    let r = g.R.TypeRelation.state c.args.r.now in
+    let q = g.R.TypeRelation.state c.relate_args.new.r in
+    let p = g.R.TypeRelation.state c.note_declared.new.r in
+    let M = g.R.TypeRelation.manner in
+    let m = r.meaning in
+    let v = c.item_variances-variances.result in
+    let is = c.item_variances-variances.ensures (m.ty c.args.b_ty.now) (m.args c.args.a_args.now)
+    (m.args c.args.b_args.now) c.requires.over in
+    let args = c.in_ok-args.args in
+    let done = subst₂ (λ a b. Related M r q r.ambient a b (λ k. node (args_head (q.meaning) v) ((q.meaning).args k))
+    (Ok args)) (sym is.0) (sym is.1) c.in_ok-args.ensures in
+    let n = c.in_err-note_declared in
+    let res = c.from_residual-in_err-note_declared in
+    subst (Related M r p r.ambient (m.ty c.args.a_ty.now) (m.ty c.args.b_ty.now) (p.meaning).ty)
+    (sym (as_err res.result n.field-0.0 res.ensures.0 res.ensures.1))
+    (refused_again M r.ambient (m.ty c.args.a_ty.now) (m.ty c.args.b_ty.now)
+    (λ k. node (args_head (q.meaning) v) ((q.meaning).args k)) (p.meaning).ty n.field-0.0
+    (noted_refused M r.ambient (m.ty c.args.a_ty.now) (m.ty c.args.b_ty.now)
+    (λ k. node (args_head (q.meaning) v) ((q.meaning).args k)) args done (Err n.field-0.0) n.ensures
+    (λ k. node (args_head (q.meaning) v) ((q.meaning).args k)) n.field-0.0 refl))
+
+pub returns : goal.returns
+returns g c =
+    let r = g.R.TypeRelation.state c.args.r.now in
+    let q = g.R.TypeRelation.state c.relate_args.new.r in
+    let p = g.R.TypeRelation.state c.note_declared.new.r in
+    let u = g.R.TypeRelation.state c.make_over.new.r in
+    let M = g.R.TypeRelation.manner in
+    let m = r.meaning in
+    let v = c.item_variances-variances.result in
+    let a = m.ty c.args.a_ty.now in
+    let b = m.ty c.args.b_ty.now in
+    let k = c.requires.asked in
+    let is = c.item_variances-variances.ensures b (m.args c.args.a_args.now) (m.args c.args.b_args.now) c.requires.over in
+    let args = c.in_ok-args.args in
+    let done = subst₂ (λ a b. Related M r q r.ambient a b (λ k. node (args_head (q.meaning) v) ((q.meaning).args k))
+    (Ok args)) (sym is.0) (sym is.1) c.in_ok-args.ensures in
+    let n = c.in_ok-note_declared in
+    let e = ((n.ensures).passes).extends in
+    let answer : ArgsKey g.row.I-Key.Denot → Tree = λ k. node (args_head (p.meaning) v) ((p.meaning).args k) in
+    let same : answer args ≡ node (args_head (q.meaning) v) ((q.meaning).args args) =
+    ap (λ h. node h ((p.meaning).args args)) (args_heads e v) ∙ ap (node (args_head (q.meaning) v)) (e.args args
+    (done.verdict).known) in
+    let noted = noted_related M r.ambient a b (λ k. node (args_head (q.meaning) v) ((q.meaning).args k)) args done
+    (Ok n.field-0) n.ensures answer same in
+    let first = (done.passes).extends in
+    let a_stays : (p.meaning).ty c.args.a_ty.now ≡ a = e.ty c.args.a_ty.now
+    (subst (λ z. IsTrue (known z)) (sym (first.ty c.args.a_ty.now k.left_known)) k.left_known)
+    ∙ first.ty c.args.a_ty.now k.left_known in
+    let head : head_of ((p.meaning).ty c.args.a_ty.now) ≡ args_head (p.meaning) v =
+    ap head_of (a_stays ∙ is.0) ∙ sym (args_heads e v ∙ args_heads first v) in
+    let made = c.make_over.ensures in
+    made_or_not M r.ambient a b made.extends made.grown (u.meaning).ty answer args noted c.make_over.result made.fault
+    (if_ok_both (λ z. IsTrue (known ((u.meaning).ty z)))
+    (λ z. (u.meaning).ty z ≡ node (head_of ((p.meaning).ty c.args.a_ty.now)) ((p.meaning).args args))
+    (λ z. MayAnswer M p.store a ((u.meaning).ty z) × IsTrue (known ((u.meaning).ty z))) c.make_over.result
+    (λ z sure means. (
+      subst (MayAnswer M p.store a) (sym (means ∙ ap (λ h. node h ((p.meaning).args args)) head)) (noted.verdict).answer,
+      sure,
+    )) made.sure made.means)
