@@ -37,3 +37,4 @@ pub mod RegionTerms
 pub mod Deciding
 pub mod Constraints
 pub mod DiagInfo
+pub mod Making

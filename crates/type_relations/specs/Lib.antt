@@ -20,3 +20,4 @@ pub mod Lawful
 pub mod Constraints
 pub mod Taken
 pub mod Arguments
+pub mod Making

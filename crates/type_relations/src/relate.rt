@@ -6,6 +6,7 @@ mod args;
 pub mod comparing;
 pub mod forms;
 pub mod handing;
+mod making;
 pub mod parts;
 mod reading;
 mod relatable;
@@ -13,7 +14,7 @@ pub mod solver_relating;
 pub mod structural;
 mod type_relation;
 
-pub use args::{relate_args_invariantly, relate_args_with_variances};
+pub use args::{relate_args_invariantly, relate_args_with_variances, relate_ty_args};
 pub use relatable::Relate;
 use relation_terms::terms::{Keys, TyKey, Variance};
 pub use type_relation::TypeRelation;
