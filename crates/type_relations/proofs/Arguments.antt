@@ -21,6 +21,7 @@ use Rattle.type_relations.proofs.PartSizes.{weight_parts_most}
 use Rattle.type_relations.proofs.Passing.{passes_within}
 use Rattle.type_relations.proofs.Fronts.{Fronted, AreParts, fronted_all, fronted_never, fronted_passes}
 use Rattle.type_relations.proofs.Structural.{types_never}
+use Rattle.type_relations.proofs.Answering.{may_itself}
 
 -- Arguments are related part by part, and their errors are those of their parts.
 pub args_related_head : {Key Id Name : Type 0} (m : Meaning Key Id Name) (d : ArgVariances Id) →
@@ -54,7 +55,7 @@ module _ {Key Id Name : Type 0} {r q : State Key Id Name} (M : Manner) (v : Vari
         relates = λ w s sat all. forms is refl ((fronted_all h v i ts us are e (e ∙ n) f).relates w s sat all);
         keeps = λ w s sat z. (f.front).keeps w s sat (parts_equal (node h ts) (node h us) one_form s z);
       };
-      answer = subst (MayAnswer M q.store (node h ts)) (sym answer) (λ k w s sat. refl);
+      answer = subst (MayAnswer M q.store (node h ts)) (sym answer) (may_itself M q.store (node h ts));
       known = subst (λ u. IsTrue (known u)) (sym answer) k;
     };
   }
@@ -95,57 +96,3 @@ are_list k (cons t ts) h = are_list k ts h.1
 are_list k (leaf l) h = absurd h
 are_list k (node g ts) h = absurd h
 are_list k (bind ks t) h = absurd h
-
--- A list with one more behind it.
-snoc_list : (ts u : Tree) → IsList ts → IsList (snoc ts u)
-snoc_list nil u h = tt
-snoc_list (cons t ts) u h = snoc_list ts u h
-snoc_list (leaf l) u h = absurd h
-snoc_list (node g ts) u h = absurd h
-snoc_list (bind ks t) u h = absurd h
-
-snoc_known : (ts u : Tree) → IsList ts → IsTrue (known ts) → IsTrue (known u) → IsTrue (known (snoc ts u))
-snoc_known nil u h k l = and_from (known u) true l refl
-snoc_known (cons t ts) u h k l =
-    let p = and_parts (known t) (known ts) k in
-    and_from (known t) (known (snoc ts u)) p.0 (snoc_known ts u h p.1 l)
-snoc_known (leaf x) u h k l = absurd h
-snoc_known (node g ts) u h k l = absurd h
-snoc_known (bind ks t) u h k l = absurd h
-
-snoc_applied : (s : Assign) (ts u : Tree) → IsList ts → apply s (snoc ts u) ≡ snoc (apply s ts) (apply s u)
-snoc_applied s nil u h = refl
-snoc_applied s (cons t ts) u h = ap (cons (apply s t)) (snoc_applied s ts u h)
-snoc_applied s (leaf x) u h = absurd h
-snoc_applied s (node g ts) u h = absurd h
-snoc_applied s (bind ks t) u h = absurd h
-
--- What was answered for the first parts of a list.
-pub record AreAnswers (M : Manner) (st : Store) (i : ℕ) (ts us : Tree) : Type 0 where
-  pub is_list : IsList us
-  pub sure : IsTrue (known us)
-  pub value : MayAnswer M st (firsts i ts) us
-
-pub answers_none : (M : Manner) (st : Store) (ts : Tree) → AreAnswers M st 0 ts nil
-answers_none M st ts = record { is_list = tt; sure = refl; value = λ k w s sat. refl }
-
-pub answers_next : (M : Manner) (before after : Store) (i : ℕ) (ts us x u : Tree) → OnlyShrinks before after →
-    i < count ts → AreAnswers M before i ts us → x ≡ nth i ts → MayAnswer M after x u → IsTrue (known u) →
-    AreAnswers M after (suc i) ts (snoc us u)
-answers_next M before after i ts us x u shrinks h a e m k = record {
-  is_list = snoc_list us u a.is_list;
-  sure = snoc_known us u a.is_list a.sure k;
-  value = λ keeps w s sat. ap (apply s) (firsts_more i ts h) ∙ apply_snoc s i ts (nth i ts)
-      ∙ ap₂ snoc (a.value keeps w s (shrinks w s sat)) (ap (apply s) (sym e) ∙ m keeps w s sat)
-      ∙ sym (snoc_applied s us u a.is_list);
-}
-
-pub answers_all : (M : Manner) (st : Store) (h : Head) (ts us : Tree) → IsList ts → AreAnswers M st (count ts) ts us →
-    MayAnswer M st (node h ts) (node h us)
-answers_all M st h ts us l a keeps w s sat =
-    ap (node h) (ap (apply s) (sym (firsts_all ts l)) ∙ a.value keeps w s sat)
-
-pub if_ok_both : {X E : Type 0} (P Q R : X → Type 0) (res : Result X E) → ((x : X) → P x → Q x → R x) → IfOk res P →
-    IfOk res Q → IfOk res R
-if_ok_both P Q R (Ok x) f p q = f x p q
-if_ok_both P Q R (Err e) f p q = tt

@@ -38,3 +38,4 @@ pub mod Deciding
 pub mod Constraints
 pub mod DiagInfo
 pub mod Making
+pub mod Answering

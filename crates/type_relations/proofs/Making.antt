@@ -1,5 +1,5 @@
 -- Terms made anew, of one's form over other parts.
-use Rattle.std.proofs.Common.{◌≡◌, ℕ, zero, suc, ◌<◌, refl, sym, ap, ap₂, ◌∙◌, subst, arith, IsTrue, true, ◌&&◌, Result, Ok, Err, IfOk}
+use Rattle.std.proofs.Common.{◌≡◌, ℕ, zero, suc, ◌<◌, refl, sym, ap, ap₂, ◌∙◌, subst, subst₂, arith, IsTrue, true, ◌&&◌, Result, Ok, Err, IfOk}
 use Rattle.std.proofs.Common.{List, [], ◌∷◌, ◌++◌, length, get_or}
 use Rattle.std.proofs.lemmas.Bool.{and_parts, and_from}
 use Rattle.relation_terms.specs.declared.terms.generic_arg.GenericArgKind.{GenericArgKind}
@@ -7,10 +7,11 @@ use Rattle.relation_terms.specs.declared.terms.generic_arg.GenericArgKind.TheVar
 use Rattle.relation_terms.specs.Heads.{Sort, region_sort, type_sort, const_sort, no_sort, head_sort, leaf_sort, Admits, Head}
 use Rattle.relation_terms.specs.Heads.{expression, value, value_type, value_branch}
 use Rattle.relation_terms.specs.Trees.{Tree, leaf, node, bind, nil, cons, known, list_tree, count, nth, IsList, IsTerm, AreTerms}
-use Rattle.relation_terms.specs.Meaning.{Meaning, Extends}
+use Rattle.relation_terms.specs.Meaning.{Meaning, Extends, arg_tree}
+use Rattle.relation_terms.proofs.Sorted.{Sorted}
 use Rattle.type_relations.specs.Making.{arg_sort, sort_at, Fit, over, const_over, Made}
 use Rattle.type_relations.specs.Parts.{parts_of, const_parts_of}
-use Rattle.type_relations.proofs.Lists.{firsts, snoc}
+use Rattle.type_relations.proofs.Lists.{firsts, snoc, firsts_more, firsts_all}
 
 -- Sorts that an argument's kind says.
 abbrev IsSort : Sort → Type 0
@@ -173,6 +174,27 @@ module _ {Key : Type 0} where
   fit_next (y ∷ xs) (leaf l) x t f k = absurd f
   fit_next (y ∷ xs) (node h ts) x t f k = absurd f
   fit_next (y ∷ xs) (bind ks u) x t f k = absurd f
+
+  pub fit_pushed : (xs : List (GenericArgKind Key)) (x : GenericArgKind Key) (ts : Tree) (i : ℕ) → i < count ts →
+      Fit xs (firsts i ts) → IsTerm (arg_sort x) (nth i ts) → Fit (xs ++ x ∷ []) (firsts (suc i) ts)
+  fit_pushed xs x ts i l f k = subst (Fit (xs ++ x ∷ [])) (sym (firsts_more i ts l)) (fit_next xs (firsts i ts) x (nth i ts) f k)
+
+  pub fit_end : (xs : List (GenericArgKind Key)) (ts : Tree) (i : ℕ) → IsList ts → i ≡ count ts → Fit xs (firsts i ts) →
+      Fit xs ts
+  fit_end xs ts i l e f = subst (Fit xs) (ap (λ j. firsts j ts) e ∙ firsts_all ts l) f
+
+-- A known argument is a term of the sort that its kind says.
+pub arg_is : {Key Id Name : Type 0} (m : Meaning Key Id Name) → Sorted m → (x : GenericArgKind Key) →
+    IsTrue (known (arg_tree m x)) → IsTerm (arg_sort x) (arg_tree m x)
+arg_is m s (Lifetime r) k = s.region r k
+arg_is m s (Ty t) k = s.ty t k
+arg_is m s (Const c) k = s.const_ c k
+
+-- What is of the kind of a part fits its place.
+pub fits_place : {Key Id Name : Type 0} (m : Meaning Key Id Name) → Sorted m → (x z : GenericArgKind Key) (ts : Tree)
+    (i : ℕ) → IsTrue (known (arg_tree m x)) → arg_tree m x ≡ nth i ts → arg_sort z ≡ arg_sort x →
+    IsTerm (arg_sort z) (nth i ts)
+fits_place m s x z ts i k e same = subst₂ (λ a t. IsTerm a t) (sym same) e (arg_is m s x k)
 
 -- A form over known parts is known.
 pub known_over : (t us : Tree) → IsTrue (known t) → IsTrue (known us) → IsTrue (known (over t us))

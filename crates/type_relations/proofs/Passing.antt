@@ -26,6 +26,7 @@ use Rattle.type_relations.specs.Lawful.{LeadsToParts, LeadsAgain, Noted, Turned,
 use Rattle.type_relations.proofs.Going.{goes_nowhere, goes_within, goes_then, le_grown, later_itself, later_through}
 use Rattle.type_relations.proofs.Composing.{steps_compose, goals_both, first_goals}
 use Rattle.type_relations.proofs.Standing.{later_term}
+use Rattle.type_relations.proofs.Answering.{may_itself, may_later, if_ok_both}
 
 -- An outcome over other items, in another environment, after other goals, which are the same.
 moved : {c d : Items} {e k : Tree} {gs hs : List Goal} (way : Way) (before after : Store) (added : List Goal)
@@ -215,7 +216,7 @@ module _ {Key Id Name : Type 0} where
       verdict = record {
         outcome = outcome;
         answer = subst (MayAnswer M p.store a) (sym e)
-            (λ k w s sat. (f.verdict).answer k w s (((h.passes).goes).later.shrinks w s sat));
+            (may_later M q.store p.store a (tree t) ((h.passes).goes).later.shrinks (f.verdict).answer);
         known = subst (λ u. IsTrue (known u)) (sym e) (f.verdict).known;
       };
     }
@@ -286,7 +287,7 @@ module _ {Key Id Name : Type 0} where
         relates = λ w s sat all. anything e;
         keeps = λ w s sat one. (s, (λ k n h. refl), (sat, All-nil (MakesOneTree s)));
       };
-      answer = subst (MayAnswer M r.store a) (sym same) (λ k w s sat. refl);
+      answer = subst (MayAnswer M r.store a) (sym same) (may_itself M r.store a);
       known = subst (λ u. IsTrue (known u)) (sym same) k;
     };
   }
@@ -341,6 +342,15 @@ module _ {Key Id Name : Type 0} where
     made_or_not tree t f (Ok z) only h = remade tree t f z h.0 h.1
     made_or_not tree t f (Err Memory) only h = record { passes = passes_grown f.passes e w; verdict = tt }
     made_or_not tree t f (Err g) only h = absurd only
+
+    -- The form over what may be answered for the parts was made, or could not be.
+    pub form_made : (tree : X → Tree) (t : X) → Related M r q v a b tree (Ok t) → (res : Result Y (RelateFault Key Id Name)) →
+        OnlyMemory res → (formed made : Tree) → MayAnswer M q.store a formed → made ≡ formed →
+        IfOk res (λ z. IsTrue (known (answer z))) → IfOk res (λ z. answer z ≡ made) → Related M r p v a b answer res
+    form_made tree t f res only formed made value same sure means = made_or_not tree t f res only
+        (if_ok_both (λ z. IsTrue (known (answer z))) (λ z. answer z ≡ made)
+        (λ z. MayAnswer M q.store a (answer z) × IsTrue (known (answer z))) res
+        (λ z k is. (subst (MayAnswer M q.store a) (sym (is ∙ same)) value, k)) sure means)
 
   -- Memory ran out.
   pub stopped : {X : Type 0} {r q : State Key Id Name} (M : Manner) (v : Variance) (a b : Tree) (tree : X → Tree) →

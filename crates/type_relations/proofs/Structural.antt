@@ -28,6 +28,7 @@ use Rattle.type_relations.proofs.Fronts.{Fronted, AreParts, fronted_never, front
 use Rattle.type_relations.proofs.OneParts.{related_head, parts_equal, const_parts_equal, sort_is}
 use Rattle.type_relations.proofs.Handing.{ty_fault_known}
 use Rattle.type_relations.proofs.PartSizes.{weight_parts_most}
+use Rattle.type_relations.proofs.Answering.{may_itself}
 
 -- The error of two parts of two types as the error of the types.
 module _ {Key Id Name : Type 0} (n p : Meaning Key Id Name) (e : Extends n p) (s : Sorted n) (a b : Tree)
@@ -179,7 +180,7 @@ module _ {Key Id Name : Type 0} {r q : State Key Id Name} (M : Manner) (v : Vari
         relates = types_relate is_formed o f are ea eb;
         keeps = λ w s sat z. (f.front).keeps w s sat (parts_equal a b o s z);
       };
-      answer = subst (MayAnswer M q.store a) (sym answer) (λ k w s sat. refl);
+      answer = subst (MayAnswer M q.store a) (sym answer) (may_itself M q.store a);
       known = subst (λ u. IsTrue (known u)) (sym answer) k;
     };
   }

@@ -32,6 +32,7 @@ use Rattle.type_relations.proofs.OneParts.{const_parts_equal, sort_is}
 use Rattle.type_relations.proofs.Comparing.{form_apart, const_form_apart, known_error, known_const_error, formed_no_variable, formed_const_no_variable}
 use Rattle.type_relations.proofs.Handing.{const_fault_known, AreOfTwoKinds, AtTop, at_top, value_top}
 use Rattle.type_relations.proofs.PartSizes.{weight_const_parts_most}
+use Rattle.type_relations.proofs.Answering.{may_itself}
 
 -- The error of two parts of two constants as the error of the constants.
 module _ {Key Id Name : Type 0} (p : Meaning Key Id Name) (c d : ConstKey Key) (i : ℕ) (x y : Tree) where
@@ -181,7 +182,7 @@ module _ {Key Id Name : Type 0} {r q : State Key Id Name} (M : Manner) (v : Vari
         relates = consts_relate o f are ea eb;
         keeps = λ w s sat z. (f.front).keeps w s sat (const_parts_equal a b o s z);
       };
-      answer = subst (MayAnswer M q.store a) (sym answer) (λ k w s sat. refl);
+      answer = subst (MayAnswer M q.store a) (sym answer) (may_itself M q.store a);
       known = subst (λ u. IsTrue (known u)) (sym answer) k;
     };
   }
@@ -200,7 +201,7 @@ module _ {Key Id Name : Type 0} {X : Type 0} (M : Manner) (r : State Key Id Name
         relates = λ w s sat all. same (ap (apply s) e);
         keeps = λ w s sat one. (s, (λ k n h. refl), (sat, λ k d h. absurd (omega (arith, h))));
       };
-      answer = subst (MayAnswer M r.store a) (sym answer) (λ k w s sat. refl);
+      answer = subst (MayAnswer M r.store a) (sym answer) (may_itself M r.store a);
       known = subst (λ u. IsTrue (known u)) (sym answer) k;
     };
   }

@@ -43,10 +43,11 @@ abbrev pub items_in : {Key Id Name : Type 0} → State Key Id Name → Items
 items_in r = declared_by (r.meaning).variances
 
 -- What a relation takes and gives: which leaves may stand in terms at a variance; whether it promises that what it
--- answers for a pair has the left side's value; and whether it promises to be exact.
+-- answers for a pair has the left side's value, or is the left side; and whether it promises to be exact.
 pub record Manner : Type 1 where
   pub takes : Variance → Leaf → Type 0
   pub keeps_value : Type 0
+  pub keeps_left : Type 0
   pub is_exact : Type 0
 
 -- A term is taken at a variance: its leaves may stand there.
@@ -57,9 +58,10 @@ Takes M v t = Leaves (M.takes v) t
 abbrev pub TakesParts : Manner → Type 0
 TakesParts M = (c : Items) (h : Head) (i : ℕ) (v : Variance) (l : Leaf) → M.takes v l → M.takes (part_at c h i v) l
 
--- What may be answered for a term: one of its value under each assignment that satisfies what is recorded.
-abbrev pub MayAnswer : Manner → Store → Tree → Tree → Type 0
-MayAnswer M st t u = M.keeps_value → (w : Interpretation) (s : Assign) → Satisfies w st s → apply s t ≡ apply s u
+-- What may be answered for a term: one of its value under each assignment that satisfies what is recorded, or itself.
+pub record MayAnswer (M : Manner) (st : Store) (t u : Tree) : Type 0 where
+  pub value : M.keeps_value → (w : Interpretation) (s : Assign) → Satisfies w st s → apply s t ≡ apply s u
+  pub left : M.keeps_left → u ≡ t
 
 module _ {Key Id Name : Type 0} where
   -- Only the variance at which a relation relates was changed.

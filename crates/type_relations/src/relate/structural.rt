@@ -1,13 +1,15 @@
 //! The recursion over every relation.
 //!
 //! These calls stand beside the relation, whose steps never call them: one proof serves all relations.
-ghost use Rattle.std.specs.Prelude.{◌≡◌, ◌≢◌, IsTrue};
+ghost use Rattle.std.specs.Prelude.{◌≡◌, ◌≢◌, IsTrue, IfOk};
 ghost use Rattle.relation_terms.specs.declared.terms.enums.Variance.TheVariants.{Bivariant};
 ghost use Rattle.relation_terms.specs.Variances.{xform};
 ghost use Rattle.relation_terms.specs.Meaning.{arg_tree};
 ghost use Rattle.type_relations.specs.Parts.{IsFormed, IsFormedConst};
 ghost use Rattle.type_relations.specs.Lawful.{Asked, Related};
+ghost use Rattle.type_relations.specs.Making.{arg_sort};
 
+use crate::relate::making::{make_const, make_ty};
 use crate::relate::reading::{
     compare_consts_of, compare_tys_of, const_part_of, const_parts_count_of, const_variance_at,
     in_const, in_ty, note_args, part_of, parts_count_of, variance_at,
@@ -89,7 +91,8 @@ pub fn relate<I: Interner, R: TypeRelation<I>>(
     requires lawful { (R.state r.old).lawful }
     requires decides { (R.state r.old).ambient ≢ Bivariant }
     requires asked { Asked R.manner (R.state r.old) (R.state r.old).ambient (arg_tree (R.state r.old).meaning a.now) (arg_tree (R.state r.old).meaning b.now) }
-    ensures { Related R.manner (R.state r.old) (R.state r.new) (R.state r.old).ambient (arg_tree (R.state r.old).meaning a.now) (arg_tree (R.state r.old).meaning b.now) (arg_tree (R.state r.new).meaning) result }
+    ensures related { Related R.manner (R.state r.old) (R.state r.new) (R.state r.old).ambient (arg_tree (R.state r.old).meaning a.now) (arg_tree (R.state r.old).meaning b.now) (arg_tree (R.state r.new).meaning) result }
+    ensures kind { IfOk result (λ k. arg_sort k ≡ arg_sort a.now) }
 {
     match a {
         GenericArgKind::Lifetime(a) => {
@@ -124,7 +127,8 @@ pub fn relate_with_variance<I: Interner, R: TypeRelation<I>>(
 ) -> RelateResult<I, GenericArg<I>>
     requires lawful { (R.state r.old).lawful }
     requires asked { Asked R.manner (R.state r.old) (xform (R.state r.old).ambient variance) (arg_tree (R.state r.old).meaning a.now) (arg_tree (R.state r.old).meaning b.now) }
-    ensures { Related R.manner (R.state r.old) (R.state r.new) (xform (R.state r.old).ambient variance) (arg_tree (R.state r.old).meaning a.now) (arg_tree (R.state r.old).meaning b.now) (arg_tree (R.state r.new).meaning) result }
+    ensures related { Related R.manner (R.state r.old) (R.state r.new) (xform (R.state r.old).ambient variance) (arg_tree (R.state r.old).meaning a.now) (arg_tree (R.state r.old).meaning b.now) (arg_tree (R.state r.new).meaning) result }
+    ensures kind { IfOk result (λ k. arg_sort k ≡ arg_sort a.now) }
 {
     let old = r.ambient();
     let new = old.xform(variance);
@@ -137,7 +141,7 @@ pub fn relate_with_variance<I: Interner, R: TypeRelation<I>>(
     answer
 }
 
-/// Relates two types by their outermost forms and their parts.
+/// Relates two types by their outermost forms and their parts, and answers the form over what the parts answered.
 #[cycle(relate)]
 pub fn structurally_relate_tys<I: Interner, R: TypeRelation<I>>(
     r: &mut R,
@@ -153,18 +157,21 @@ pub fn structurally_relate_tys<I: Interner, R: TypeRelation<I>>(
 {
     compare_tys_of::<I, R>(r, a, b)?;
     let n = parts_count_of::<I, R>(r, a);
+    let mut answers = Vec::new(r.cx().alloc());
     for i in 0..n {
         let x = part_of::<I, R>(r, a, i);
         let y = part_of::<I, R>(r, b, i);
         let variance = variance_at::<I, R>(r, a, i);
         let related = relate_with_variance(r, variance, &x, &y);
-        in_ty::<I, R>(r, a, &x, &y, related)?;
+        let answer = in_ty::<I, R>(r, a, &x, &y, related)?;
+        answers.push(answer)?;
     }
     note_args(r, a, b)?;
-    Ok(a.dup())
+    make_ty(r, a, answers.as_slice())
 }
 
-/// Relates two constants by their outermost forms and their parts. The types of values are not looked at.
+/// Relates two constants by their outermost forms and their parts, and answers the form over what the parts answered.
+/// The types of values are not looked at: the left one is in the answer.
 #[cycle(relate)]
 pub fn structurally_relate_consts<I: Interner, R: TypeRelation<I>>(
     r: &mut R,
@@ -183,12 +190,14 @@ pub fn structurally_relate_consts<I: Interner, R: TypeRelation<I>>(
     }
     compare_consts_of::<I, R>(r, a, b)?;
     let n = const_parts_count_of::<I, R>(r, a);
+    let mut answers = Vec::new(r.cx().alloc());
     for i in 0..n {
         let x = const_part_of::<I, R>(r, a, i);
         let y = const_part_of::<I, R>(r, b, i);
         let variance = const_variance_at::<I, R>(r, a);
         let related = relate_with_variance(r, variance, &x, &y);
-        in_const::<I, R>(r, a, b, related)?;
+        let answer = in_const::<I, R>(r, a, b, related)?;
+        answers.push(answer)?;
     }
-    Ok(a.dup())
+    make_const(r, a, answers.as_slice())
 }

@@ -18,7 +18,7 @@ use Rattle.type_relations.proofs.Passing.{same_items, as_err, passes_within, mad
 use Rattle.type_relations.proofs.Fronts.{Fronted, fronted_none, fronted_next}
 use Rattle.type_relations.proofs.Looping.{next_asked}
 use Rattle.type_relations.proofs.Arguments.{form_related, form_refused, args_related_head, args_handed_on, args_heads, are_list}
-use Rattle.type_relations.proofs.Arguments.{AreAnswers, answers_none, answers_next, answers_all, if_ok_both}
+use Rattle.type_relations.proofs.Answering.{AreAnswers, answers_none, answers_next, answers_end, may_over, if_ok_both}
 use Rattle.type_relations.proofs.relate.args.relate_args.Goals as goal
 
 pub loop-i-init : goal.loop-i-init
@@ -110,7 +110,7 @@ returns-in_err-answer g c =
     ∙ ap (λ z. part_at z h i q.ambient) (same_items (inv.fronted).passes)
     ∙ ap (λ z. part_at (items_in r) h i z) ((inv.fronted).passes).ambient in
     let f = c.in_err-answer.field-0.0 in
-    let gone = subst (λ v. Related M q p v x y (arg_tree p.meaning) (Err f)) ew c.in_err-answer.ensures in
+    let gone = subst (λ v. Related M q p v x y (arg_tree p.meaning) (Err f)) ew c.in_err-answer.ensures.related in
     subst (λ z. Related M r p r.ambient (node h ts) (node h us)
     (λ k. node (args_head p.meaning c.args.variances.now) ((p.meaning).args k)) z)
     (sym (as_err c.from_residual.result f c.from_residual.ensures.0 c.from_residual.ensures.1))
@@ -146,7 +146,7 @@ returns-in_err-push g c =
     ∙ ap (λ z. part_at z h i q.ambient) (same_items (inv.fronted).passes)
     ∙ ap (λ z. part_at (items_in r) h i z) ((inv.fronted).passes).ambient in
     let n = c.in_ok-answer in
-    let gone = subst (λ v. Related M q p v x y (arg_tree p.meaning) (Ok n.answer)) ew n.ensures in
+    let gone = subst (λ v. Related M q p v x y (arg_tree p.meaning) (Ok n.answer)) ew (n.ensures).related in
     let next = fronted_next h r.ambient i ts us x y inv.fronted lx ly ex ey M (arg_tree p.meaning) n.answer inv.are_parts
     gone in
     subst (λ z. Related M r p r.ambient (node h ts) (node h us)
@@ -186,7 +186,7 @@ loop-i-preserved g c =
     ∙ ap (λ z. part_at z h i q.ambient) (same_items (inv.fronted).passes)
     ∙ ap (λ z. part_at (items_in r) h i z) ((inv.fronted).passes).ambient in
     let n = c.in_ok-answer in
-    let gone = subst (λ v. Related M q p v x y (arg_tree p.meaning) (Ok n.answer)) ew n.ensures in
+    let gone = subst (λ v. Related M q p v x y (arg_tree p.meaning) (Ok n.answer)) ew (n.ensures).related in
     let was = c.loop-i.answers.items in
     let pushed : list_tree (arg_tree p.meaning) c.push.new.self.items
     ≡ snoc (list_tree (arg_tree q.meaning) was) (arg_tree p.meaning n.answer) =
@@ -229,8 +229,7 @@ returns g c =
     let tree : ArgsKey g.row.I-Key.Denot → Tree =
     λ k. node (args_head p.meaning c.args.variances.now) ((p.meaning).args k) in
     let value : MayAnswer M q.store (node h ts) (node h was) =
-    answers_all M q.store h ts was (inv.are_parts).left_list
-    (subst (λ j. AreAnswers M q.store j ts was) all inv.answers) in
+    may_over M q.store (node h ts) was (answers_end M q.store i ts was (inv.are_parts).left_list all inv.answers) in
     let done = form_related M r.ambient h ts us i inv.fronted inv.are_parts c.requires.as_many (λ (t : Tree). t) (node h ts)
     (args_related_head r.meaning c.args.variances.now) all refl k.left_known in
     made_or_not M r.ambient (node h ts) (node h us) made.extends made.grown tree (λ (t : Tree). t) (node h ts) done

@@ -5,7 +5,8 @@ use Rattle.type_relations.specs.Parts.{head_of}
 use Rattle.type_relations.specs.Arguments.{args_head}
 use Rattle.type_relations.specs.Lawful.{Asked, Related, MayAnswer}
 use Rattle.type_relations.proofs.Passing.{as_err, asked_later, refused_again, noted_related, noted_refused, made_or_not}
-use Rattle.type_relations.proofs.Arguments.{args_heads, if_ok_both}
+use Rattle.type_relations.proofs.Arguments.{args_heads}
+use Rattle.type_relations.proofs.Answering.{if_ok_both}
 use Rattle.type_relations.proofs.relate.args.relate_ty_args.Goals as goal
 
 pub relate_args-requires-clause-asked : goal.relate_args-requires-clause-asked

@@ -1,18 +1,24 @@
-use Rattle.std.proofs.Common.{rules, ◌≡◌, ◌≢◌, ◌↔◌, ◌<◌, IsTrue, refl, sym, ap, ◌∙◌, subst, subst₂, arith, Ok, Err}
+use Rattle.std.proofs.Common.{ap₂, suc, ◌+◌, IfOk, rules, ◌≡◌, ◌≢◌, ◌↔◌, ◌<◌, IsTrue, refl, sym, ap, ◌∙◌, subst, subst₂, arith, Ok, Err}
 use Rattle.std.proofs.lemmas.Bool.{false≢true}
 use Rattle.relation_terms.specs.declared.terms.enums.Variance.TheVariants.{Bivariant}
 use Rattle.relation_terms.specs.declared.terms.generic_arg.GenericArgKind.TheVariants.{Lifetime, Ty, Const}
 use Rattle.relation_terms.specs.Heads.{type_sort}
-use Rattle.relation_terms.specs.Trees.{known, count, nth}
+use Rattle.relation_terms.specs.Trees.{nil, known, count, nth, list_tree, IsTerm}
 use Rattle.relation_terms.specs.Variances.{xform}
 use Rattle.relation_terms.specs.Meaning.{arg_tree}
 use Rattle.relation_terms.proofs.Sorted.{Sorted}
 use Rattle.relation_terms.proofs.Stays.{knows_arg}
-use Rattle.relation_tools.specs.declared.error.RelateFault.TheVariants.{Unrelated}
+use Rattle.relation_tools.specs.declared.error.RelateFault.TheVariants.{Unrelated, Memory}
 use Rattle.type_relations.specs.Relation.{part_at}
 use Rattle.type_relations.specs.Goals.{Relates}
 use Rattle.type_relations.specs.Parts.{IsFormed, IsFormedConst, parts_of, const_parts_of, head_of, const_head_of}
 use Rattle.type_relations.specs.Handing.{IsResultOfTy, IsResultOfConst}
+use Rattle.type_relations.specs.Making.{arg_sort, Fit, over, const_over}
+use Rattle.type_relations.proofs.Answering.{AreAnswers, answers_none, answers_next, answers_end, may_over, may_const_over, may_later}
+use Rattle.type_relations.proofs.Making.{fit_pushed, fit_end, fits_place}
+use Rattle.type_relations.proofs.PartSizes.{weight_parts_most, weight_const_parts_most}
+use Rattle.type_relations.proofs.Lists.{firsts, snoc, list_push}
+use Rattle.relation_terms.proofs.Stays.{stays_list, stays_arg}
 use Rattle.type_relations.specs.Lawful.{Asked, Related, Stepped, Turned, items_in}
 use Rattle.type_relations.proofs.Standing.{term_context}
 use Rattle.type_relations.proofs.Parts.{in_parts, in_const_parts}
@@ -21,6 +27,7 @@ use Rattle.type_relations.proofs.Comparing.{parts_of_list, const_parts_list}
 use Rattle.type_relations.proofs.Handing.{AreOfTwoKinds, no_lifetime, no_ty, no_const_arg}
 use Rattle.type_relations.proofs.Passing.{asked_later, parts_related, again_related, again_refused, again_relates, noted_related, noted_refused}
 use Rattle.type_relations.proofs.Passing.{turned, unlooked, step_done, retold, relates_now, same_items, as_err}
+use Rattle.type_relations.proofs.Passing.{form_made, stopped, passes_within}
 use Rattle.type_relations.proofs.Fronts.{Fronted, fronted_none, fronted_next}
 use Rattle.type_relations.proofs.Structural.{types_related, ty_refused}
 use Rattle.type_relations.proofs.StructuralConsts.{consts_related, const_refused, itself_related, types_differ, consts_differ, kinds_differ}
@@ -92,7 +99,7 @@ consts-returns-in_err-relate_with_variance-in-Again g t c =
     let v = c.in-Again.variance in
     let p = g.R.TypeRelation.state c.relate_with_variance.new.r in
     let inner : Related M q p (xform r.ambient v) x y (arg_tree p.meaning) (Err c.in_err-relate_with_variance-in-Again.field-0.0) =
-    subst (λ z. Related M q p (xform z v) x y (arg_tree p.meaning) (Err c.in_err-relate_with_variance-in-Again.field-0.0)) (step.passes).ambient c.in_err-relate_with_variance-in-Again.ensures in
+    subst (λ z. Related M q p (xform z v) x y (arg_tree p.meaning) (Err c.in_err-relate_with_variance-in-Again.field-0.0)) (step.passes).ambient c.in_err-relate_with_variance-in-Again.ensures.related in
     let failed = as_err c.from_residual-in_err-relate_with_variance-in-Again.result c.in_err-relate_with_variance-in-Again.field-0.0
     c.from_residual-in_err-relate_with_variance-in-Again.ensures.0
     c.from_residual-in_err-relate_with_variance-in-Again.ensures.1 in
@@ -114,7 +121,7 @@ consts-returns g t c =
     let v = c.in-Again.variance in
     let p = g.R.TypeRelation.state c.relate_with_variance.new.r in
     let inner : Related M q p (xform r.ambient v) x y (arg_tree p.meaning) (Ok c.in_ok-relate_with_variance-in-Again.field-0) =
-    subst (λ z. Related M q p (xform z v) x y (arg_tree p.meaning) (Ok c.in_ok-relate_with_variance-in-Again.field-0)) (step.passes).ambient c.in_ok-relate_with_variance-in-Again.ensures in
+    subst (λ z. Related M q p (xform z v) x y (arg_tree p.meaning) (Ok c.in_ok-relate_with_variance-in-Again.field-0)) (step.passes).ambient c.in_ok-relate_with_variance-in-Again.ensures.related in
     let same_k : (p.meaning).const_ c.in-Again.a ≡ k =
     ((inner.passes).extends).const_ c.in-Again.a ((step.verdict).read_asked).left_known in
     let done : Related M r p r.ambient a b (p.meaning).const_ (Ok c.in-Again.a) =
@@ -201,7 +208,7 @@ tys-returns-in_err-relate_with_variance-in-Again g t c =
     let v = c.in-Again.variance in
     let p = g.R.TypeRelation.state c.relate_with_variance.new.r in
     let inner : Related M q p (xform r.ambient v) x y (arg_tree p.meaning) (Err c.in_err-relate_with_variance-in-Again.field-0.0) =
-    subst (λ z. Related M q p (xform z v) x y (arg_tree p.meaning) (Err c.in_err-relate_with_variance-in-Again.field-0.0)) (step.passes).ambient c.in_err-relate_with_variance-in-Again.ensures in
+    subst (λ z. Related M q p (xform z v) x y (arg_tree p.meaning) (Err c.in_err-relate_with_variance-in-Again.field-0.0)) (step.passes).ambient c.in_err-relate_with_variance-in-Again.ensures.related in
     let failed = as_err c.from_residual-in_err-relate_with_variance-in-Again.result c.in_err-relate_with_variance-in-Again.field-0.0
     c.from_residual-in_err-relate_with_variance-in-Again.ensures.0
     c.from_residual-in_err-relate_with_variance-in-Again.ensures.1 in
@@ -329,7 +336,7 @@ tys-tys_done-requires-in-Again-clause-asked g t c =
     let v = c.in-Again.variance in
     let p = g.R.TypeRelation.state c.relate_with_variance.new.r in
     let inner : Related M q p (xform r.ambient v) x y (arg_tree p.meaning) (Ok c.in_ok-relate_with_variance-in-Again.field-0) =
-    subst (λ z. Related M q p (xform z v) x y (arg_tree p.meaning) (Ok c.in_ok-relate_with_variance-in-Again.field-0)) (step.passes).ambient c.in_ok-relate_with_variance-in-Again.ensures in
+    subst (λ z. Related M q p (xform z v) x y (arg_tree p.meaning) (Ok c.in_ok-relate_with_variance-in-Again.field-0)) (step.passes).ambient c.in_ok-relate_with_variance-in-Again.ensures.related in
     let same_k : (p.meaning).ty c.in-Again.a ≡ k =
     ((inner.passes).extends).ty c.in-Again.a ((step.verdict).read_asked).left_known in
     let done : Related M r p r.ambient a b (p.meaning).ty (Ok c.in-Again.a) =
@@ -358,7 +365,7 @@ tys-tys_done-requires-in-Again-clause-related g t c =
     let v = c.in-Again.variance in
     let p = g.R.TypeRelation.state c.relate_with_variance.new.r in
     let inner : Related M q p (xform r.ambient v) x y (arg_tree p.meaning) (Ok c.in_ok-relate_with_variance-in-Again.field-0) =
-    subst (λ z. Related M q p (xform z v) x y (arg_tree p.meaning) (Ok c.in_ok-relate_with_variance-in-Again.field-0)) (step.passes).ambient c.in_ok-relate_with_variance-in-Again.ensures in
+    subst (λ z. Related M q p (xform z v) x y (arg_tree p.meaning) (Ok c.in_ok-relate_with_variance-in-Again.field-0)) (step.passes).ambient c.in_ok-relate_with_variance-in-Again.ensures.related in
     let same_k : (p.meaning).ty c.in-Again.a ≡ k =
     ((inner.passes).extends).ty c.in-Again.a ((step.verdict).read_asked).left_known in
     let done : Related M r p r.ambient a b (p.meaning).ty (Ok c.in-Again.a) =
@@ -387,7 +394,7 @@ tys-returns-in_err-tys_done-in-Again g t c =
     let v = c.in-Again.variance in
     let p = g.R.TypeRelation.state c.relate_with_variance.new.r in
     let inner : Related M q p (xform r.ambient v) x y (arg_tree p.meaning) (Ok c.in_ok-relate_with_variance-in-Again.field-0) =
-    subst (λ z. Related M q p (xform z v) x y (arg_tree p.meaning) (Ok c.in_ok-relate_with_variance-in-Again.field-0)) (step.passes).ambient c.in_ok-relate_with_variance-in-Again.ensures in
+    subst (λ z. Related M q p (xform z v) x y (arg_tree p.meaning) (Ok c.in_ok-relate_with_variance-in-Again.field-0)) (step.passes).ambient c.in_ok-relate_with_variance-in-Again.ensures.related in
     let same_k : (p.meaning).ty c.in-Again.a ≡ k =
     ((inner.passes).extends).ty c.in-Again.a ((step.verdict).read_asked).left_known in
     let done : Related M r p r.ambient a b (p.meaning).ty (Ok c.in-Again.a) =
@@ -415,7 +422,7 @@ tys-returns-in_ok-tys_done-in-Again g t c =
     let v = c.in-Again.variance in
     let p = g.R.TypeRelation.state c.relate_with_variance.new.r in
     let inner : Related M q p (xform r.ambient v) x y (arg_tree p.meaning) (Ok c.in_ok-relate_with_variance-in-Again.field-0) =
-    subst (λ z. Related M q p (xform z v) x y (arg_tree p.meaning) (Ok c.in_ok-relate_with_variance-in-Again.field-0)) (step.passes).ambient c.in_ok-relate_with_variance-in-Again.ensures in
+    subst (λ z. Related M q p (xform z v) x y (arg_tree p.meaning) (Ok c.in_ok-relate_with_variance-in-Again.field-0)) (step.passes).ambient c.in_ok-relate_with_variance-in-Again.ensures.related in
     let same_k : (p.meaning).ty c.in-Again.a ≡ k =
     ((inner.passes).extends).ty c.in-Again.a ((step.verdict).read_asked).left_known in
     let done : Related M r p r.ambient a b (p.meaning).ty (Ok c.in-Again.a) =
@@ -442,9 +449,12 @@ relate-returns-in_default g t c =
       branches = g.met.I.Interner.are_branches cx;
     }) in
     let k = c.requires.asked in
-    kinds_differ r.meaning sorted M r r.ambient (arg_tree r.meaning) refl c.args.a.now c.args.b.now
-    (subst (λ z. AreOfTwoKinds z c.args.b.now) (sym c.in-Lifetime.is) (no_lifetime c.in-Lifetime.a c.args.b.now c.in_default.not-Lifetime))
-    k.left_known k.right_known k.left_in k.right_in
+    record {
+      related = kinds_differ r.meaning sorted M r r.ambient (arg_tree r.meaning) refl c.args.a.now c.args.b.now
+          (subst (λ z. AreOfTwoKinds z c.args.b.now) (sym c.in-Lifetime.is) (no_lifetime c.in-Lifetime.a c.args.b.now c.in_default.not-Lifetime))
+          k.left_known k.right_known k.left_in k.right_in;
+      kind = tt;
+    }
 
 pub relate-returns-in_default-b : goal.relate-returns-in_default-b
 relate-returns-in_default-b g t c =
@@ -462,9 +472,12 @@ relate-returns-in_default-b g t c =
       branches = g.met.I.Interner.are_branches cx;
     }) in
     let k = c.requires.asked in
-    kinds_differ r.meaning sorted M r r.ambient (arg_tree r.meaning) refl c.args.a.now c.args.b.now
-    (subst (λ z. AreOfTwoKinds z c.args.b.now) (sym c.in-Ty.is) (no_ty c.in-Ty.a c.args.b.now c.in_default-b.not-Ty))
-    k.left_known k.right_known k.left_in k.right_in
+    record {
+      related = kinds_differ r.meaning sorted M r r.ambient (arg_tree r.meaning) refl c.args.a.now c.args.b.now
+          (subst (λ z. AreOfTwoKinds z c.args.b.now) (sym c.in-Ty.is) (no_ty c.in-Ty.a c.args.b.now c.in_default-b.not-Ty))
+          k.left_known k.right_known k.left_in k.right_in;
+      kind = tt;
+    }
 
 pub relate-returns-in_default-b-2 : goal.relate-returns-in_default-b-2
 relate-returns-in_default-b-2 g t c =
@@ -482,9 +495,12 @@ relate-returns-in_default-b-2 g t c =
       branches = g.met.I.Interner.are_branches cx;
     }) in
     let k = c.requires.asked in
-    kinds_differ r.meaning sorted M r r.ambient (arg_tree r.meaning) refl c.args.a.now c.args.b.now
-    (subst (λ z. AreOfTwoKinds z c.args.b.now) (sym c.in-Const.is) (no_const_arg c.in-Const.a c.args.b.now c.in_default-b-2.not-Const))
-    k.left_known k.right_known k.left_in k.right_in
+    record {
+      related = kinds_differ r.meaning sorted M r r.ambient (arg_tree r.meaning) refl c.args.a.now c.args.b.now
+          (subst (λ z. AreOfTwoKinds z c.args.b.now) (sym c.in-Const.is) (no_const_arg c.in-Const.a c.args.b.now c.in_default-b-2.not-Const))
+          k.left_known k.right_known k.left_in k.right_in;
+      kind = tt;
+    }
 
 pub relate-returns-in_ok-regions-in-Lifetime : goal.relate-returns-in_ok-regions-in-Lifetime
 relate-returns-in_ok-regions-in-Lifetime g t c =
@@ -492,10 +508,13 @@ relate-returns-in_ok-regions-in-Lifetime g t c =
     let M = g.R.TypeRelation.manner in
     let q = g.R.TypeRelation.state c.regions.new.self in
     let n = c.in_ok-regions-in-Lifetime in
-    subst₂ (λ t u. Related M r q r.ambient (arg_tree r.meaning t) (arg_tree r.meaning u) (arg_tree q.meaning) (Ok (Lifetime n.field-0)))
-    (sym c.in-Lifetime.is) (sym c.in-Lifetime-b.is)
-    (retold M r.ambient ((r.meaning).region c.in-Lifetime.a) ((r.meaning).region c.in-Lifetime-b.b) (q.meaning).region n.field-0
-    (arg_tree q.meaning) (Lifetime n.field-0) refl n.ensures)
+    record {
+      related = subst₂ (λ t u. Related M r q r.ambient (arg_tree r.meaning t) (arg_tree r.meaning u) (arg_tree q.meaning) (Ok (Lifetime n.field-0)))
+          (sym c.in-Lifetime.is) (sym c.in-Lifetime-b.is)
+          (retold M r.ambient ((r.meaning).region c.in-Lifetime.a) ((r.meaning).region c.in-Lifetime-b.b) (q.meaning).region n.field-0
+          (arg_tree q.meaning) (Lifetime n.field-0) refl n.ensures);
+      kind = ap arg_sort (sym c.in-Lifetime.is);
+    }
 
 pub relate-returns-in_ok-tys-in-Ty : goal.relate-returns-in_ok-tys-in-Ty
 relate-returns-in_ok-tys-in-Ty g t c =
@@ -503,10 +522,13 @@ relate-returns-in_ok-tys-in-Ty g t c =
     let M = g.R.TypeRelation.manner in
     let q = g.R.TypeRelation.state c.tys.new.r in
     let n = c.in_ok-tys-in-Ty in
-    subst₂ (λ t u. Related M r q r.ambient (arg_tree r.meaning t) (arg_tree r.meaning u) (arg_tree q.meaning) (Ok (Ty n.field-0)))
-    (sym c.in-Ty.is) (sym c.in-Ty-b.is)
-    (retold M r.ambient ((r.meaning).ty c.in-Ty.a) ((r.meaning).ty c.in-Ty-b.b) (q.meaning).ty n.field-0
-    (arg_tree q.meaning) (Ty n.field-0) refl n.ensures)
+    record {
+      related = subst₂ (λ t u. Related M r q r.ambient (arg_tree r.meaning t) (arg_tree r.meaning u) (arg_tree q.meaning) (Ok (Ty n.field-0)))
+          (sym c.in-Ty.is) (sym c.in-Ty-b.is)
+          (retold M r.ambient ((r.meaning).ty c.in-Ty.a) ((r.meaning).ty c.in-Ty-b.b) (q.meaning).ty n.field-0
+          (arg_tree q.meaning) (Ty n.field-0) refl n.ensures);
+      kind = ap arg_sort (sym c.in-Ty.is);
+    }
 
 pub relate-returns-in_ok-consts-in-Const : goal.relate-returns-in_ok-consts-in-Const
 relate-returns-in_ok-consts-in-Const g t c =
@@ -514,10 +536,13 @@ relate-returns-in_ok-consts-in-Const g t c =
     let M = g.R.TypeRelation.manner in
     let q = g.R.TypeRelation.state c.consts.new.r in
     let n = c.in_ok-consts-in-Const in
-    subst₂ (λ t u. Related M r q r.ambient (arg_tree r.meaning t) (arg_tree r.meaning u) (arg_tree q.meaning) (Ok (Const n.field-0)))
-    (sym c.in-Const.is) (sym c.in-Const-b.is)
-    (retold M r.ambient ((r.meaning).const_ c.in-Const.a) ((r.meaning).const_ c.in-Const-b.b) (q.meaning).const_ n.field-0
-    (arg_tree q.meaning) (Const n.field-0) refl n.ensures)
+    record {
+      related = subst₂ (λ t u. Related M r q r.ambient (arg_tree r.meaning t) (arg_tree r.meaning u) (arg_tree q.meaning) (Ok (Const n.field-0)))
+          (sym c.in-Const.is) (sym c.in-Const-b.is)
+          (retold M r.ambient ((r.meaning).const_ c.in-Const.a) ((r.meaning).const_ c.in-Const-b.b) (q.meaning).const_ n.field-0
+          (arg_tree q.meaning) (Const n.field-0) refl n.ensures);
+      kind = ap arg_sort (sym c.in-Const.is);
+    }
 
 pub relate_with_variance-returns-in-Bivariant : goal.relate_with_variance-returns-in-Bivariant
 relate_with_variance-returns-in-Bivariant g t c =
@@ -526,8 +551,11 @@ relate_with_variance-returns-in-Bivariant g t c =
     let v = xform r.ambient c.args.variance in
     let e : v ≡ Bivariant =
     sym (c.xform-new.ensures ∙ ap (λ z. xform z c.args.variance) c.ambient-old.ensures) ∙ c.in-Bivariant.is in
-    unlooked M r v (arg_tree r.meaning c.args.a.now) (arg_tree r.meaning c.args.b.now) (arg_tree r.meaning) c.dup.result e
-    (c.requires.asked).left_known (ap (arg_tree r.meaning) c.dup.ensures)
+    record {
+      related = unlooked M r v (arg_tree r.meaning c.args.a.now) (arg_tree r.meaning c.args.b.now) (arg_tree r.meaning) c.dup.result e
+          (c.requires.asked).left_known (ap (arg_tree r.meaning) c.dup.ensures);
+      kind = ap arg_sort c.dup.ensures;
+    }
 
 pub relate_with_variance-returns : goal.relate_with_variance-returns
 relate_with_variance-returns g t c =
@@ -544,11 +572,14 @@ relate_with_variance-returns g t c =
     let there = c.set_ambient.ensures in
     let back = subst (λ z. Turned z q u) c.ambient-old.ensures c.set_ambient-2.ensures in
     let f = subst (λ m. Related M s q s.ambient (arg_tree m c.args.a.now) (arg_tree m c.args.b.now) (arg_tree q.meaning) res)
-    there.meaning c.relate-answer.ensures in
+    there.meaning (c.relate-answer.ensures).related in
     let h = subst (λ m. Related M s q s.ambient a b (arg_tree m) res) (sym back.meaning) f in
     let k = subst (λ z. Related M s q z a b (arg_tree u.meaning) res) there.ambient h in
-    subst (λ z. Related M r u z a b (arg_tree u.meaning) res) e
-    (turned M c.xform-new.result a b (arg_tree u.meaning) there back res k)
+    record {
+      related = subst (λ z. Related M r u z a b (arg_tree u.meaning) res) e
+          (turned M c.xform-new.result a b (arg_tree u.meaning) there back res k);
+      kind = (c.relate-answer.ensures).kind;
+    }
 
 pub structurally_relate_consts-returns-then-eq : goal.structurally_relate_consts-returns-then-eq
 structurally_relate_consts-returns-then-eq g t c =
@@ -635,6 +666,9 @@ structurally_relate_consts-loop-i-init g t c =
         left_in = term_context r.store (const_parts_of a) (in_const_parts r.store a k.left_in);
         right_in = term_context r.store (const_parts_of b) (in_const_parts r.store b k.right_in);
       };
+      answers = subst (λ z. AreAnswers M r.store 0 (const_parts_of a) (list_tree (arg_tree r.meaning) z))
+          (sym c.new-answers.ensures.items) (answers_none M r.store (const_parts_of a));
+      fits = subst (λ z. Fit z nil) (sym c.new-answers.ensures.items) tt;
     }
 
 pub structurally_relate_consts-relate_with_variance-related-requires : goal.structurally_relate_consts-relate_with_variance-related-requires
@@ -676,8 +710,8 @@ structurally_relate_consts-relate_with_variance-related-requires g t c κs withi
     let d = c.decreases in
     search rules
 
-pub structurally_relate_consts-returns-in_err-in_const : goal.structurally_relate_consts-returns-in_err-in_const
-structurally_relate_consts-returns-in_err-in_const g t c =
+pub structurally_relate_consts-returns-in_err-answer : goal.structurally_relate_consts-returns-in_err-answer
+structurally_relate_consts-returns-in_err-answer g t c =
     let r = g.R.TypeRelation.state c.args.r.now in
     let M = g.R.TypeRelation.manner in
     let a = (r.meaning).const_ c.args.a.now in
@@ -708,18 +742,18 @@ structurally_relate_consts-returns-in_err-in_const g t c =
     ap (λ z. part_at (items_in r) (const_head_of a) i z) ((inv.fronted).passes).ambient in
     let p = g.R.TypeRelation.state c.relate_with_variance-related.new.r in
     let related = c.relate_with_variance-related in
-    let later = ((related.ensures).passes).extends in
+    let later = (((related.ensures).related).passes).extends in
     let then_a : (p.meaning).const_ c.args.a.now ≡ a =
     later.const_ c.args.a.now (subst (λ z. IsTrue (known z)) (sym same_a) k.left_known) ∙ same_a in
     let then_b : (p.meaning).const_ c.args.b.now ≡ b =
     later.const_ c.args.b.now (subst (λ z. IsTrue (known z)) (sym same_b) k.right_known) ∙ same_b in
-    let n = c.in_err-in_const in
+    let n = c.in_err-answer in
     let z = failed_const a c.args.a.now c.args.b.now related.result n.field-0.0
     (subst (λ z. IsResultOfConst z c.args.a.now c.args.b.now related.result (Err n.field-0.0)) then_a n.ensures) in
     let gone = subst (λ v. Related M q p v x y (arg_tree p.meaning) (Err z.0)) ew
-    (subst (λ u. Related M q p w x y (arg_tree p.meaning) u) z.1 related.ensures) in
-    let failed = as_err c.from_residual-in_err-in_const.result n.field-0.0 c.from_residual-in_err-in_const.ensures.0
-    c.from_residual-in_err-in_const.ensures.1 in
+    (subst (λ u. Related M q p w x y (arg_tree p.meaning) u) z.1 (related.ensures).related) in
+    let failed = as_err c.from_residual-in_err-answer.result n.field-0.0 c.from_residual-in_err-answer.ensures.0
+    c.from_residual-in_err-answer.ensures.1 in
     subst (λ u. Related M r p r.ambient a b (p.meaning).const_ u) (sym failed)
     (const_refused M r.ambient a b i alike inv.fronted inv.are_parts c.args.a.now c.args.b.now x y lx ly ex ey (arg_tree p.meaning)
     (p.meaning).const_ z.0 n.field-0.0 then_a then_b k.left_known k.right_known z.2 gone)
@@ -756,25 +790,123 @@ structurally_relate_consts-loop-i-preserved g t c =
     ap (λ z. part_at (items_in r) (const_head_of a) i z) ((inv.fronted).passes).ambient in
     let p = g.R.TypeRelation.state c.relate_with_variance-related.new.r in
     let related = c.relate_with_variance-related in
-    let later = ((related.ensures).passes).extends in
+    let later = (((related.ensures).related).passes).extends in
     let then_a : (p.meaning).const_ c.args.a.now ≡ a =
     later.const_ c.args.a.now (subst (λ z. IsTrue (known z)) (sym same_a) k.left_known) ∙ same_a in
     let then_b : (p.meaning).const_ c.args.b.now ≡ b =
     later.const_ c.args.b.now (subst (λ z. IsTrue (known z)) (sym same_b) k.right_known) ∙ same_b in
-    let n = c.in_ok-in_const in
-    let z = kept_const a c.args.a.now c.args.b.now related.result n.field-0
-    (subst (λ z. IsResultOfConst z c.args.a.now c.args.b.now related.result (Ok n.field-0)) then_a n.ensures) in
-    let gone = subst (λ v. Related M q p v x y (arg_tree p.meaning) (Ok n.field-0)) ew
-    (subst (λ u. Related M q p w x y (arg_tree p.meaning) u) z related.ensures) in
+    let n = c.in_ok-answer in
+    let z = kept_const a c.args.a.now c.args.b.now related.result n.answer
+    (subst (λ z. IsResultOfConst z c.args.a.now c.args.b.now related.result (Ok n.answer)) then_a n.ensures) in
+    let gone = subst (λ v. Related M q p v x y (arg_tree p.meaning) (Ok n.answer)) ew
+    (subst (λ u. Related M q p w x y (arg_tree p.meaning) u) z (related.ensures).related) in
+    let e = g.met.R.TypeRelation.reads c.loop-i.r in
+    let cx = g.R.TypeRelation.interner c.loop-i.r in
+    let sorted : Sorted q.meaning = subst (λ m. Sorted m) (sym e) (record {
+      ty = g.met.I.Interner.is_ty cx;
+      region = g.met.I.Interner.is_region cx;
+      tys = g.met.I.Interner.are_tys cx;
+      const_ = g.met.I.Interner.is_const cx;
+      valtree = g.met.I.Interner.is_valtree cx;
+      args = g.met.I.Interner.are_args cx;
+      branches = g.met.I.Interner.are_branches cx;
+    }) in
+    let kind = subst (λ u. IfOk u (λ k. arg_sort k ≡ arg_sort X)) z (related.ensures).kind in
+    let was = c.loop-i.answers.items in
+    let next : suc i ≡ i + 1 = omega arith in
+    let pushed : list_tree (arg_tree p.meaning) c.push.new.self.items
+    ≡ snoc (list_tree (arg_tree q.meaning) was) (arg_tree p.meaning n.answer) =
+    ap (list_tree (arg_tree p.meaning)) c.in_ok-push.ensures.items
+    ∙ list_push (arg_tree p.meaning) was n.answer
+    ∙ ap (λ z. snoc z (arg_tree p.meaning n.answer)) (stays_list (arg_tree q.meaning) (arg_tree p.meaning) was
+    (stays_arg later) (inv.answers).sure) in
     record {
       lawful = (gone.passes).lawful inv.lawful;
       fronted = subst (λ j. Fronted r p (const_head_of a) r.ambient j (const_parts_of a) (const_parts_of b)) (omega arith)
           (fronted_next (const_head_of a) r.ambient i (const_parts_of a) (const_parts_of b) x y inv.fronted lx ly ex ey M (arg_tree p.meaning)
-          n.field-0 inv.are_parts gone);
+          n.answer inv.are_parts gone);
       left_count = inv.left_count;
       right_count = inv.right_count;
       are_parts = inv.are_parts;
+      answers = subst₂ (λ j z. AreAnswers M p.store j (const_parts_of a) z) next (sym pushed)
+          (answers_next M q.store p.store i (const_parts_of a) (list_tree (arg_tree q.meaning) was) x (arg_tree p.meaning n.answer)
+          ((gone.passes).goes).later.shrinks lx inv.answers ex (gone.verdict).answer (gone.verdict).known);
+      fits = subst₂ (λ j z. Fit z (firsts j (const_parts_of a))) next (sym c.in_ok-push.ensures.items)
+          (fit_pushed was n.answer (const_parts_of a) i lx inv.fits (fits_place q.meaning sorted X n.answer (const_parts_of a) i kx ex kind));
     }
+
+pub structurally_relate_consts-returns-in_err-push : goal.structurally_relate_consts-returns-in_err-push
+structurally_relate_consts-returns-in_err-push g t c =
+    let r = g.R.TypeRelation.state c.args.r.now in
+    let M = g.R.TypeRelation.manner in
+    let a = (r.meaning).const_ c.args.a.now in
+    let b = (r.meaning).const_ c.args.b.now in
+    let q = g.R.TypeRelation.state c.loop-i.r in
+    let i = c.loop-i.i in
+    let inv = c.loop-i.invariant in
+    let k = c.requires.asked in
+    let extends = ((inv.fronted).passes).extends in
+    let same_a : (q.meaning).const_ c.args.a.now ≡ a = extends.const_ c.args.a.now k.left_known in
+    let same_b : (q.meaning).const_ c.args.b.now ≡ b = extends.const_ c.args.b.now k.right_known in
+    let alike = (c.in_ok-compare_consts_of.ensures).alike in
+    let test = c.loop-i-test.true in
+    let lx : i < count (const_parts_of a) = omega (arith, test, inv.left_count) in
+    let ly : i < count (const_parts_of b) = omega (arith, test, inv.right_count) in
+    let X = c.const_part_of-x.result in
+    let Y = c.const_part_of-y.result in
+    let x = arg_tree q.meaning X in
+    let y = arg_tree q.meaning Y in
+    let kx = c.const_part_of-x.ensures.sure in
+    let ky = c.const_part_of-y.ensures.sure in
+    let ex : x ≡ nth i (const_parts_of a) = c.const_part_of-x.ensures.means ∙ ap (λ z. nth i (const_parts_of z)) same_a in
+    let ey : y ≡ nth i (const_parts_of b) = c.const_part_of-y.ensures.means ∙ ap (λ z. nth i (const_parts_of z)) same_b in
+    let w = xform q.ambient c.const_variance_at-variance.result in
+    let ew : w ≡ part_at (items_in r) (const_head_of a) i r.ambient =
+    c.const_variance_at-variance.ensures i ∙ ap (λ z. part_at (items_in q) (const_head_of z) i q.ambient) same_a ∙
+    ap (λ z. part_at z (const_head_of a) i q.ambient) (same_items (inv.fronted).passes) ∙
+    ap (λ z. part_at (items_in r) (const_head_of a) i z) ((inv.fronted).passes).ambient in
+    let p = g.R.TypeRelation.state c.relate_with_variance-related.new.r in
+    let related = c.relate_with_variance-related in
+    let later = (((related.ensures).related).passes).extends in
+    let then_a : (p.meaning).const_ c.args.a.now ≡ a =
+    later.const_ c.args.a.now (subst (λ z. IsTrue (known z)) (sym same_a) k.left_known) ∙ same_a in
+    let then_b : (p.meaning).const_ c.args.b.now ≡ b =
+    later.const_ c.args.b.now (subst (λ z. IsTrue (known z)) (sym same_b) k.right_known) ∙ same_b in
+    let n = c.in_ok-answer in
+    let z = kept_const a c.args.a.now c.args.b.now related.result n.answer
+    (subst (λ z. IsResultOfConst z c.args.a.now c.args.b.now related.result (Ok n.answer)) then_a n.ensures) in
+    let gone = subst (λ v. Related M q p v x y (arg_tree p.meaning) (Ok n.answer)) ew
+    (subst (λ u. Related M q p w x y (arg_tree p.meaning) u) z (related.ensures).related) in
+    let next = fronted_next (const_head_of a) r.ambient i (const_parts_of a) (const_parts_of b) x y inv.fronted lx ly ex ey M (arg_tree p.meaning) n.answer
+    inv.are_parts gone in
+    subst (λ z. Related M r p r.ambient a b (p.meaning).const_ z)
+    (sym (as_err c.from_residual-in_err-push.result Memory c.from_residual-in_err-push.ensures.0
+    c.from_residual-in_err-push.ensures.1))
+    (stopped M r.ambient a b (p.meaning).const_ (passes_within (omega (arith, weight_const_parts_most r.store a, weight_const_parts_most r.store b))
+    next.passes))
+
+pub structurally_relate_consts-make_const-requires-clause-fits : goal.structurally_relate_consts-make_const-requires-clause-fits
+structurally_relate_consts-make_const-requires-clause-fits g t c =
+    let r = g.R.TypeRelation.state c.args.r.now in
+    let M = g.R.TypeRelation.manner in
+    let a = (r.meaning).const_ c.args.a.now in
+    let b = (r.meaning).const_ c.args.b.now in
+    let q = g.R.TypeRelation.state c.loop-i.r in
+    let i = c.loop-i.i in
+    let inv = c.loop-i.invariant in
+    let k = c.requires.asked in
+    let extends = ((inv.fronted).passes).extends in
+    let same_a : (q.meaning).const_ c.args.a.now ≡ a = extends.const_ c.args.a.now k.left_known in
+    let same_b : (q.meaning).const_ c.args.b.now ≡ b = extends.const_ c.args.b.now k.right_known in
+    let alike = (c.in_ok-compare_consts_of.ensures).alike in
+    let test = c.loop-i-test.false in
+    let end = (c.loop-i.auto).i-end in
+    let left : i ≡ count (const_parts_of a) = omega (arith, test, end, inv.left_count) in
+    let right : i ≡ count (const_parts_of b) = omega (arith, test, end, inv.right_count) in
+    let items = c.loop-i.answers.items in
+    let was = list_tree (arg_tree q.meaning) items in
+    subst₂ (λ xs t. Fit xs (const_parts_of t)) (sym c.as_slice.ensures.value) (sym same_a)
+    (fit_end items (const_parts_of a) i (inv.are_parts).left_list left inv.fits)
 
 pub structurally_relate_consts-returns : goal.structurally_relate_consts-returns
 structurally_relate_consts-returns g t c =
@@ -794,8 +926,19 @@ structurally_relate_consts-returns g t c =
     let end = (c.loop-i.auto).i-end in
     let left : i ≡ count (const_parts_of a) = omega (arith, test, end, inv.left_count) in
     let right : i ≡ count (const_parts_of b) = omega (arith, test, end, inv.right_count) in
-    consts_related M r.ambient a b i (q.meaning).const_ c.dup-2.result alike inv.fronted inv.are_parts left right
-    (ap (q.meaning).const_ c.dup-2.ensures ∙ same_a) k.left_known
+    let items = c.loop-i.answers.items in
+    let was = list_tree (arg_tree q.meaning) items in
+    let done : Related M r q r.ambient a b (q.meaning).const_ (Ok c.args.a.now) =
+    consts_related M r.ambient a b i (q.meaning).const_ c.args.a.now alike inv.fronted inv.are_parts left right same_a
+    k.left_known in
+    let p = g.R.TypeRelation.state c.make_const.new.r in
+    let made = c.make_const.ensures in
+    form_made M r.ambient a b (made.made).extends made.grown (p.meaning).const_ (q.meaning).const_ c.args.a.now done
+    c.make_const.result made.fault (const_over a was) _
+    (may_const_over M q.store a was
+    (answers_end M q.store i (const_parts_of a) was (inv.are_parts).left_list left inv.answers))
+    (ap₂ const_over same_a (ap (list_tree (arg_tree q.meaning)) c.as_slice.ensures.value)) (made.made).sure
+    (made.made).means
 
 pub structurally_relate_tys-returns-in_err-compare_tys_of : goal.structurally_relate_tys-returns-in_err-compare_tys_of
 structurally_relate_tys-returns-in_err-compare_tys_of g t c =
@@ -852,6 +995,9 @@ structurally_relate_tys-loop-i-init g t c =
         left_in = term_context r.store (parts_of a) (in_parts r.store a k.left_in);
         right_in = term_context r.store (parts_of b) (in_parts r.store b k.right_in);
       };
+      answers = subst (λ z. AreAnswers M r.store 0 (parts_of a) (list_tree (arg_tree r.meaning) z))
+          (sym c.new-answers.ensures.items) (answers_none M r.store (parts_of a));
+      fits = subst (λ z. Fit z nil) (sym c.new-answers.ensures.items) tt;
     }
 
 pub structurally_relate_tys-relate_with_variance-related-requires : goal.structurally_relate_tys-relate_with_variance-related-requires
@@ -893,8 +1039,8 @@ structurally_relate_tys-relate_with_variance-related-requires g t c κs within =
     let d = c.decreases in
     search rules
 
-pub structurally_relate_tys-returns-in_err-in_ty : goal.structurally_relate_tys-returns-in_err-in_ty
-structurally_relate_tys-returns-in_err-in_ty g t c =
+pub structurally_relate_tys-returns-in_err-answer : goal.structurally_relate_tys-returns-in_err-answer
+structurally_relate_tys-returns-in_err-answer g t c =
     let r = g.R.TypeRelation.state c.args.r.now in
     let M = g.R.TypeRelation.manner in
     let a = (r.meaning).ty c.args.a.now in
@@ -925,7 +1071,7 @@ structurally_relate_tys-returns-in_err-in_ty g t c =
     ap (λ z. part_at (items_in r) (head_of a) i z) ((inv.fronted).passes).ambient in
     let p = g.R.TypeRelation.state c.relate_with_variance-related.new.r in
     let related = c.relate_with_variance-related in
-    let later = ((related.ensures).passes).extends in
+    let later = (((related.ensures).related).passes).extends in
     let then_a : (p.meaning).ty c.args.a.now ≡ a =
     later.ty c.args.a.now (subst (λ z. IsTrue (known z)) (sym same_a) k.left_known) ∙ same_a in
     let then_b : (p.meaning).ty c.args.b.now ≡ b =
@@ -941,13 +1087,13 @@ structurally_relate_tys-returns-in_err-in_ty g t c =
       args = g.met.I.Interner.are_args cx;
       branches = g.met.I.Interner.are_branches cx;
     }) in
-    let n = c.in_err-in_ty in
+    let n = c.in_err-answer in
     let z = failed_ty a X Y related.result n.field-0.0
     (subst (λ z. IsResultOfTy z X Y related.result (Err n.field-0.0)) then_a n.ensures) in
     let gone = subst (λ v. Related M q p v x y (arg_tree p.meaning) (Err z.0)) ew
-    (subst (λ u. Related M q p w x y (arg_tree p.meaning) u) z.1 related.ensures) in
-    let failed = as_err c.from_residual-in_err-in_ty.result n.field-0.0 c.from_residual-in_err-in_ty.ensures.0
-    c.from_residual-in_err-in_ty.ensures.1 in
+    (subst (λ u. Related M q p w x y (arg_tree p.meaning) u) z.1 (related.ensures).related) in
+    let failed = as_err c.from_residual-in_err-answer.result n.field-0.0 c.from_residual-in_err-answer.ensures.0
+    c.from_residual-in_err-answer.ensures.1 in
     subst (λ u. Related M r p r.ambient a b (p.meaning).ty u) (sym failed)
     (ty_refused M r.ambient a b i c.requires.a_formed alike inv.fronted inv.are_parts X Y kx ky sorted lx ly ex ey
     (arg_tree p.meaning) (p.meaning).ty z.0 n.field-0.0 (knows_arg later X kx) (knows_arg later Y ky) z.2 gone)
@@ -984,25 +1130,100 @@ structurally_relate_tys-loop-i-preserved g t c =
     ap (λ z. part_at (items_in r) (head_of a) i z) ((inv.fronted).passes).ambient in
     let p = g.R.TypeRelation.state c.relate_with_variance-related.new.r in
     let related = c.relate_with_variance-related in
-    let later = ((related.ensures).passes).extends in
+    let later = (((related.ensures).related).passes).extends in
     let then_a : (p.meaning).ty c.args.a.now ≡ a =
     later.ty c.args.a.now (subst (λ z. IsTrue (known z)) (sym same_a) k.left_known) ∙ same_a in
     let then_b : (p.meaning).ty c.args.b.now ≡ b =
     later.ty c.args.b.now (subst (λ z. IsTrue (known z)) (sym same_b) k.right_known) ∙ same_b in
-    let n = c.in_ok-in_ty in
-    let z = kept_ty a X Y related.result n.field-0
-    (subst (λ z. IsResultOfTy z X Y related.result (Ok n.field-0)) then_a n.ensures) in
-    let gone = subst (λ v. Related M q p v x y (arg_tree p.meaning) (Ok n.field-0)) ew
-    (subst (λ u. Related M q p w x y (arg_tree p.meaning) u) z related.ensures) in
+    let n = c.in_ok-answer in
+    let z = kept_ty a X Y related.result n.answer
+    (subst (λ z. IsResultOfTy z X Y related.result (Ok n.answer)) then_a n.ensures) in
+    let gone = subst (λ v. Related M q p v x y (arg_tree p.meaning) (Ok n.answer)) ew
+    (subst (λ u. Related M q p w x y (arg_tree p.meaning) u) z (related.ensures).related) in
+    let e = g.met.R.TypeRelation.reads c.loop-i.r in
+    let cx = g.R.TypeRelation.interner c.loop-i.r in
+    let sorted : Sorted q.meaning = subst (λ m. Sorted m) (sym e) (record {
+      ty = g.met.I.Interner.is_ty cx;
+      region = g.met.I.Interner.is_region cx;
+      tys = g.met.I.Interner.are_tys cx;
+      const_ = g.met.I.Interner.is_const cx;
+      valtree = g.met.I.Interner.is_valtree cx;
+      args = g.met.I.Interner.are_args cx;
+      branches = g.met.I.Interner.are_branches cx;
+    }) in
+    let kind = subst (λ u. IfOk u (λ k. arg_sort k ≡ arg_sort X)) z (related.ensures).kind in
+    let was = c.loop-i.answers.items in
+    let next : suc i ≡ i + 1 = omega arith in
+    let pushed : list_tree (arg_tree p.meaning) c.push.new.self.items
+    ≡ snoc (list_tree (arg_tree q.meaning) was) (arg_tree p.meaning n.answer) =
+    ap (list_tree (arg_tree p.meaning)) c.in_ok-push.ensures.items
+    ∙ list_push (arg_tree p.meaning) was n.answer
+    ∙ ap (λ z. snoc z (arg_tree p.meaning n.answer)) (stays_list (arg_tree q.meaning) (arg_tree p.meaning) was
+    (stays_arg later) (inv.answers).sure) in
     record {
       lawful = (gone.passes).lawful inv.lawful;
       fronted = subst (λ j. Fronted r p (head_of a) r.ambient j (parts_of a) (parts_of b)) (omega arith)
           (fronted_next (head_of a) r.ambient i (parts_of a) (parts_of b) x y inv.fronted lx ly ex ey M (arg_tree p.meaning)
-          n.field-0 inv.are_parts gone);
+          n.answer inv.are_parts gone);
       left_count = inv.left_count;
       right_count = inv.right_count;
       are_parts = inv.are_parts;
+      answers = subst₂ (λ j z. AreAnswers M p.store j (parts_of a) z) next (sym pushed)
+          (answers_next M q.store p.store i (parts_of a) (list_tree (arg_tree q.meaning) was) x (arg_tree p.meaning n.answer)
+          ((gone.passes).goes).later.shrinks lx inv.answers ex (gone.verdict).answer (gone.verdict).known);
+      fits = subst₂ (λ j z. Fit z (firsts j (parts_of a))) next (sym c.in_ok-push.ensures.items)
+          (fit_pushed was n.answer (parts_of a) i lx inv.fits (fits_place q.meaning sorted X n.answer (parts_of a) i kx ex kind));
     }
+
+pub structurally_relate_tys-returns-in_err-push : goal.structurally_relate_tys-returns-in_err-push
+structurally_relate_tys-returns-in_err-push g t c =
+    let r = g.R.TypeRelation.state c.args.r.now in
+    let M = g.R.TypeRelation.manner in
+    let a = (r.meaning).ty c.args.a.now in
+    let b = (r.meaning).ty c.args.b.now in
+    let q = g.R.TypeRelation.state c.loop-i.r in
+    let i = c.loop-i.i in
+    let inv = c.loop-i.invariant in
+    let k = c.requires.asked in
+    let extends = ((inv.fronted).passes).extends in
+    let same_a : (q.meaning).ty c.args.a.now ≡ a = extends.ty c.args.a.now k.left_known in
+    let same_b : (q.meaning).ty c.args.b.now ≡ b = extends.ty c.args.b.now k.right_known in
+    let alike = (c.in_ok-compare_tys_of.ensures).alike in
+    let test = c.loop-i-test.true in
+    let lx : i < count (parts_of a) = omega (arith, test, inv.left_count) in
+    let ly : i < count (parts_of b) = omega (arith, test, inv.right_count) in
+    let X = c.part_of-x.result in
+    let Y = c.part_of-y.result in
+    let x = arg_tree q.meaning X in
+    let y = arg_tree q.meaning Y in
+    let kx = c.part_of-x.ensures.sure in
+    let ky = c.part_of-y.ensures.sure in
+    let ex : x ≡ nth i (parts_of a) = c.part_of-x.ensures.means ∙ ap (λ z. nth i (parts_of z)) same_a in
+    let ey : y ≡ nth i (parts_of b) = c.part_of-y.ensures.means ∙ ap (λ z. nth i (parts_of z)) same_b in
+    let w = xform q.ambient c.variance_at-variance.result in
+    let ew : w ≡ part_at (items_in r) (head_of a) i r.ambient =
+    c.variance_at-variance.ensures ∙ ap (λ z. part_at (items_in q) (head_of z) i q.ambient) same_a ∙
+    ap (λ z. part_at z (head_of a) i q.ambient) (same_items (inv.fronted).passes) ∙
+    ap (λ z. part_at (items_in r) (head_of a) i z) ((inv.fronted).passes).ambient in
+    let p = g.R.TypeRelation.state c.relate_with_variance-related.new.r in
+    let related = c.relate_with_variance-related in
+    let later = (((related.ensures).related).passes).extends in
+    let then_a : (p.meaning).ty c.args.a.now ≡ a =
+    later.ty c.args.a.now (subst (λ z. IsTrue (known z)) (sym same_a) k.left_known) ∙ same_a in
+    let then_b : (p.meaning).ty c.args.b.now ≡ b =
+    later.ty c.args.b.now (subst (λ z. IsTrue (known z)) (sym same_b) k.right_known) ∙ same_b in
+    let n = c.in_ok-answer in
+    let z = kept_ty a X Y related.result n.answer
+    (subst (λ z. IsResultOfTy z X Y related.result (Ok n.answer)) then_a n.ensures) in
+    let gone = subst (λ v. Related M q p v x y (arg_tree p.meaning) (Ok n.answer)) ew
+    (subst (λ u. Related M q p w x y (arg_tree p.meaning) u) z (related.ensures).related) in
+    let next = fronted_next (head_of a) r.ambient i (parts_of a) (parts_of b) x y inv.fronted lx ly ex ey M (arg_tree p.meaning) n.answer
+    inv.are_parts gone in
+    subst (λ z. Related M r p r.ambient a b (p.meaning).ty z)
+    (sym (as_err c.from_residual-in_err-push.result Memory c.from_residual-in_err-push.ensures.0
+    c.from_residual-in_err-push.ensures.1))
+    (stopped M r.ambient a b (p.meaning).ty (passes_within (omega (arith, weight_parts_most r.store a, weight_parts_most r.store b))
+    next.passes))
 
 pub structurally_relate_tys-note_args-requires-clause-asked : goal.structurally_relate_tys-note_args-requires-clause-asked
 structurally_relate_tys-note_args-requires-clause-asked g t c =
@@ -1050,6 +1271,110 @@ structurally_relate_tys-returns-in_err-note_args g t c =
     (noted_refused M r.ambient a b (q.meaning).ty c.args.a.now done (Err n.field-0.0) n.ensures (u.meaning).ty n.field-0.0
     refl)
 
+pub structurally_relate_tys-make_ty-requires-clause-ty_known : goal.structurally_relate_tys-make_ty-requires-clause-ty_known
+structurally_relate_tys-make_ty-requires-clause-ty_known g t c =
+    let r = g.R.TypeRelation.state c.args.r.now in
+    let M = g.R.TypeRelation.manner in
+    let a = (r.meaning).ty c.args.a.now in
+    let b = (r.meaning).ty c.args.b.now in
+    let q = g.R.TypeRelation.state c.loop-i.r in
+    let i = c.loop-i.i in
+    let inv = c.loop-i.invariant in
+    let k = c.requires.asked in
+    let extends = ((inv.fronted).passes).extends in
+    let same_a : (q.meaning).ty c.args.a.now ≡ a = extends.ty c.args.a.now k.left_known in
+    let same_b : (q.meaning).ty c.args.b.now ≡ b = extends.ty c.args.b.now k.right_known in
+    let alike = (c.in_ok-compare_tys_of.ensures).alike in
+    let test = c.loop-i-test.false in
+    let end = (c.loop-i.auto).i-end in
+    let left : i ≡ count (parts_of a) = omega (arith, test, end, inv.left_count) in
+    let right : i ≡ count (parts_of b) = omega (arith, test, end, inv.right_count) in
+    let done : Related M r q r.ambient a b (q.meaning).ty (Ok c.args.a.now) =
+    types_related M r.ambient a b i (q.meaning).ty c.args.a.now c.requires.a_formed alike inv.fronted inv.are_parts left
+    right same_a k.left_known in
+    let u = g.R.TypeRelation.state c.note_args.new.r in
+    let n = c.in_ok-note_args in
+    let noted = noted_related M r.ambient a b (q.meaning).ty c.args.a.now done (Ok n.field-0) n.ensures (u.meaning).ty
+    ((((n.ensures).passes).extends).ty c.args.a.now (subst (λ z. IsTrue (known z)) (sym same_a) k.left_known)) in
+    let e = ((n.ensures).passes).extends in
+    let stays : (u.meaning).ty c.args.a.now ≡ a =
+    e.ty c.args.a.now (subst (λ z. IsTrue (known z)) (sym same_a) k.left_known) ∙ same_a in
+    let items = c.loop-i.answers.items in
+    let was = list_tree (arg_tree q.meaning) items in
+    let listed : list_tree (arg_tree u.meaning) items ≡ was =
+    stays_list (arg_tree q.meaning) (arg_tree u.meaning) items (stays_arg e) (inv.answers).sure in
+    subst (λ z. IsTrue (known z)) (sym stays) k.left_known
+
+pub structurally_relate_tys-make_ty-requires-clause-parts_known : goal.structurally_relate_tys-make_ty-requires-clause-parts_known
+structurally_relate_tys-make_ty-requires-clause-parts_known g t c =
+    let r = g.R.TypeRelation.state c.args.r.now in
+    let M = g.R.TypeRelation.manner in
+    let a = (r.meaning).ty c.args.a.now in
+    let b = (r.meaning).ty c.args.b.now in
+    let q = g.R.TypeRelation.state c.loop-i.r in
+    let i = c.loop-i.i in
+    let inv = c.loop-i.invariant in
+    let k = c.requires.asked in
+    let extends = ((inv.fronted).passes).extends in
+    let same_a : (q.meaning).ty c.args.a.now ≡ a = extends.ty c.args.a.now k.left_known in
+    let same_b : (q.meaning).ty c.args.b.now ≡ b = extends.ty c.args.b.now k.right_known in
+    let alike = (c.in_ok-compare_tys_of.ensures).alike in
+    let test = c.loop-i-test.false in
+    let end = (c.loop-i.auto).i-end in
+    let left : i ≡ count (parts_of a) = omega (arith, test, end, inv.left_count) in
+    let right : i ≡ count (parts_of b) = omega (arith, test, end, inv.right_count) in
+    let done : Related M r q r.ambient a b (q.meaning).ty (Ok c.args.a.now) =
+    types_related M r.ambient a b i (q.meaning).ty c.args.a.now c.requires.a_formed alike inv.fronted inv.are_parts left
+    right same_a k.left_known in
+    let u = g.R.TypeRelation.state c.note_args.new.r in
+    let n = c.in_ok-note_args in
+    let noted = noted_related M r.ambient a b (q.meaning).ty c.args.a.now done (Ok n.field-0) n.ensures (u.meaning).ty
+    ((((n.ensures).passes).extends).ty c.args.a.now (subst (λ z. IsTrue (known z)) (sym same_a) k.left_known)) in
+    let e = ((n.ensures).passes).extends in
+    let stays : (u.meaning).ty c.args.a.now ≡ a =
+    e.ty c.args.a.now (subst (λ z. IsTrue (known z)) (sym same_a) k.left_known) ∙ same_a in
+    let items = c.loop-i.answers.items in
+    let was = list_tree (arg_tree q.meaning) items in
+    let listed : list_tree (arg_tree u.meaning) items ≡ was =
+    stays_list (arg_tree q.meaning) (arg_tree u.meaning) items (stays_arg e) (inv.answers).sure in
+    subst (λ z. IsTrue (known z)) (sym (ap (list_tree (arg_tree u.meaning)) c.as_slice.ensures.value ∙ listed))
+    (inv.answers).sure
+
+pub structurally_relate_tys-make_ty-requires-clause-fits : goal.structurally_relate_tys-make_ty-requires-clause-fits
+structurally_relate_tys-make_ty-requires-clause-fits g t c =
+    let r = g.R.TypeRelation.state c.args.r.now in
+    let M = g.R.TypeRelation.manner in
+    let a = (r.meaning).ty c.args.a.now in
+    let b = (r.meaning).ty c.args.b.now in
+    let q = g.R.TypeRelation.state c.loop-i.r in
+    let i = c.loop-i.i in
+    let inv = c.loop-i.invariant in
+    let k = c.requires.asked in
+    let extends = ((inv.fronted).passes).extends in
+    let same_a : (q.meaning).ty c.args.a.now ≡ a = extends.ty c.args.a.now k.left_known in
+    let same_b : (q.meaning).ty c.args.b.now ≡ b = extends.ty c.args.b.now k.right_known in
+    let alike = (c.in_ok-compare_tys_of.ensures).alike in
+    let test = c.loop-i-test.false in
+    let end = (c.loop-i.auto).i-end in
+    let left : i ≡ count (parts_of a) = omega (arith, test, end, inv.left_count) in
+    let right : i ≡ count (parts_of b) = omega (arith, test, end, inv.right_count) in
+    let done : Related M r q r.ambient a b (q.meaning).ty (Ok c.args.a.now) =
+    types_related M r.ambient a b i (q.meaning).ty c.args.a.now c.requires.a_formed alike inv.fronted inv.are_parts left
+    right same_a k.left_known in
+    let u = g.R.TypeRelation.state c.note_args.new.r in
+    let n = c.in_ok-note_args in
+    let noted = noted_related M r.ambient a b (q.meaning).ty c.args.a.now done (Ok n.field-0) n.ensures (u.meaning).ty
+    ((((n.ensures).passes).extends).ty c.args.a.now (subst (λ z. IsTrue (known z)) (sym same_a) k.left_known)) in
+    let e = ((n.ensures).passes).extends in
+    let stays : (u.meaning).ty c.args.a.now ≡ a =
+    e.ty c.args.a.now (subst (λ z. IsTrue (known z)) (sym same_a) k.left_known) ∙ same_a in
+    let items = c.loop-i.answers.items in
+    let was = list_tree (arg_tree q.meaning) items in
+    let listed : list_tree (arg_tree u.meaning) items ≡ was =
+    stays_list (arg_tree q.meaning) (arg_tree u.meaning) items (stays_arg e) (inv.answers).sure in
+    subst₂ (λ xs t. Fit xs (parts_of t)) (sym c.as_slice.ensures.value) (sym stays)
+    (fit_end items (parts_of a) i (inv.are_parts).left_list left inv.fits)
+
 pub structurally_relate_tys-returns : goal.structurally_relate_tys-returns
 structurally_relate_tys-returns g t c =
     let r = g.R.TypeRelation.state c.args.r.now in
@@ -1073,6 +1398,20 @@ structurally_relate_tys-returns g t c =
     right same_a k.left_known in
     let u = g.R.TypeRelation.state c.note_args.new.r in
     let n = c.in_ok-note_args in
-    retold M r.ambient a b (u.meaning).ty c.args.a.now (u.meaning).ty c.dup.result (ap (u.meaning).ty c.dup.ensures)
-    (noted_related M r.ambient a b (q.meaning).ty c.args.a.now done (Ok n.field-0) n.ensures (u.meaning).ty
-    ((((n.ensures).passes).extends).ty c.args.a.now (subst (λ z. IsTrue (known z)) (sym same_a) k.left_known)))
+    let noted = noted_related M r.ambient a b (q.meaning).ty c.args.a.now done (Ok n.field-0) n.ensures (u.meaning).ty
+    ((((n.ensures).passes).extends).ty c.args.a.now (subst (λ z. IsTrue (known z)) (sym same_a) k.left_known)) in
+    let e = ((n.ensures).passes).extends in
+    let stays : (u.meaning).ty c.args.a.now ≡ a =
+    e.ty c.args.a.now (subst (λ z. IsTrue (known z)) (sym same_a) k.left_known) ∙ same_a in
+    let items = c.loop-i.answers.items in
+    let was = list_tree (arg_tree q.meaning) items in
+    let listed : list_tree (arg_tree u.meaning) items ≡ was =
+    stays_list (arg_tree q.meaning) (arg_tree u.meaning) items (stays_arg e) (inv.answers).sure in
+    let p = g.R.TypeRelation.state c.make_ty.new.r in
+    let made = c.make_ty.ensures in
+    let may = may_over M q.store a was (answers_end M q.store i (parts_of a) was (inv.are_parts).left_list left inv.answers) in
+    form_made M r.ambient a b (made.made).extends made.grown (p.meaning).ty (u.meaning).ty c.args.a.now noted
+    c.make_ty.result made.fault (over a was) _
+    (may_later M q.store u.store a (over a was) (((n.ensures).passes).goes).later.shrinks may)
+    (ap₂ over stays (ap (list_tree (arg_tree u.meaning)) c.as_slice.ensures.value ∙ listed)) (made.made).sure
+    (made.made).means

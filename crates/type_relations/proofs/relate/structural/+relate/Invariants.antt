@@ -1,10 +1,13 @@
 use Rattle.std.proofs.Common.{◌≡◌, ◌+◌, ◌*◌}
-use Rattle.relation_terms.specs.Trees.{count}
+use Rattle.relation_terms.specs.Trees.{count, list_tree}
 use Rattle.relation_terms.specs.Meaning.{arg_tree}
 use Rattle.type_relations.specs.Stores.{weight}
 use Rattle.type_relations.specs.Measures.{depth}
 use Rattle.type_relations.specs.Parts.{parts_of, const_parts_of, head_of, const_head_of}
+use Rattle.type_relations.specs.Making.{Fit}
+use Rattle.type_relations.proofs.Lists.{firsts}
 use Rattle.type_relations.proofs.Fronts.{Fronted, AreParts}
+use Rattle.type_relations.proofs.Answering.{AreAnswers}
 use Rattle.type_relations.proofs.relate.structural.+relate.Given as goal
 
 abbrev pub decreases-structurally_relate_tys : goal.decreases-structurally_relate_tys
@@ -49,6 +52,8 @@ invariant-structurally_relate_tys-loop-i g l =
       left_count : l.n ≡ count (parts_of t);
       right_count : l.n ≡ count (parts_of u);
       are_parts : AreParts r.store (parts_of t) (parts_of u);
+      answers : AreAnswers g.R.TypeRelation.manner q.store l.i (parts_of t) (list_tree (arg_tree q.meaning) l.answers.items);
+      fits : Fit l.answers.items (firsts l.i (parts_of t));
     }
 
 abbrev pub invariant-structurally_relate_consts-loop-i : goal.invariant-structurally_relate_consts-loop-i
@@ -63,4 +68,7 @@ invariant-structurally_relate_consts-loop-i g l =
       left_count : l.n ≡ count (const_parts_of t);
       right_count : l.n ≡ count (const_parts_of u);
       are_parts : AreParts r.store (const_parts_of t) (const_parts_of u);
+      answers : AreAnswers g.R.TypeRelation.manner q.store l.i (const_parts_of t)
+          (list_tree (arg_tree q.meaning) l.answers.items);
+      fits : Fit l.answers.items (firsts l.i (const_parts_of t));
     }
