@@ -29,7 +29,7 @@ solving j m x v e = record {
 
 -- It takes terms with variables at invariance alone, and what it answers has the left side's value.
 abbrev pub solver_manner : Manner
-solver_manner = record { takes = IsTakenLeaf; keeps_value = Unit {0}; is_exact = ⊥ }
+solver_manner = record { takes = IsTakenLeaf; keeps_value = Unit {0}; keeps_left = ⊥; is_exact = ⊥ }
 
 -- What has no variable but a region's is taken everywhere.
 fixed_taken : (v : Variance) (l : Leaf) → IsFixedLeaf l → IsTakenLeaf v l

@@ -1,7 +1,7 @@
 -- What relations may answer, part by part.
-use Rattle.std.proofs.Common.{◌≡◌, ℕ, suc, ◌<◌, refl, sym, ap, ap₂, ◌∙◌, true, subst, arith, IsTrue, Result, Ok, Err, IfOk}
+use Rattle.std.proofs.Common.{◌≡◌, ℕ, suc, ◌<◌, refl, sym, ap, ap₂, ◌∙◌, true, subst, IsTrue, Result, Ok, Err, IfOk}
 use Rattle.std.proofs.lemmas.Bool.{and_from, and_parts}
-use Rattle.relation_terms.specs.Heads.{Head, expression, value, value_branch}
+use Rattle.relation_terms.specs.Heads.{expression, value, value_branch}
 use Rattle.relation_terms.specs.Trees.{Tree, leaf, node, bind, nil, cons, Assign, apply, known, count, nth, IsList}
 use Rattle.type_relations.specs.Parts.{parts_of, const_parts_of}
 use Rattle.type_relations.specs.Making.{over, const_over}

@@ -1,9 +1,8 @@
 -- Forms that are related by their parts, one after another.
-use Rattle.std.proofs.Common.{◌≡◌, ℕ, suc, ◌<◌, refl, sym, ap, ap₂, ◌∙◌, true, subst, subst₂, arith, IsTrue, Result, Ok, Err, IfOk}
-use Rattle.std.proofs.lemmas.Bool.{and_from, and_parts}
+use Rattle.std.proofs.Common.{◌≡◌, ℕ, ◌<◌, refl, sym, ap, ◌∙◌, subst, subst₂, arith, IsTrue, Ok, Err}
 use Rattle.relation_terms.specs.declared.terms.enums.Variance.{Variance}
 use Rattle.relation_terms.specs.Heads.{Sort, Head, adt, fn_def}
-use Rattle.relation_terms.specs.Trees.{Tree, leaf, node, bind, nil, cons, Assign, apply, known, count, nth, IsList, AreTerms}
+use Rattle.relation_terms.specs.Trees.{Tree, leaf, node, bind, nil, cons, known, count, nth, IsList, AreTerms}
 use Rattle.relation_terms.specs.Meaning.{Meaning, Extends}
 use Rattle.relation_tools.specs.declared.error.TypeError.{TypeError}
 use Rattle.relation_tools.specs.declared.error.RelateFault.{RelateFault}
@@ -14,8 +13,6 @@ use Rattle.type_relations.specs.Relation.{forms, part_at, IsRelatedHead}
 use Rattle.type_relations.specs.Errors.{ErrorOf, IsHandedOn, of_parts, AreOfOneForm, over_parts}
 use Rattle.type_relations.specs.Arguments.{args_head}
 use Rattle.type_relations.specs.Lawful.{State, Manner, MayAnswer, Refuses, Related, items_in}
-use Rattle.type_relations.specs.Stores.{Store, OnlyShrinks}
-use Rattle.type_relations.proofs.Lists.{firsts, snoc, firsts_more, firsts_all, apply_snoc}
 use Rattle.type_relations.proofs.OneParts.{parts_equal}
 use Rattle.type_relations.proofs.PartSizes.{weight_parts_most}
 use Rattle.type_relations.proofs.Passing.{passes_within}

@@ -5,7 +5,7 @@ use Rattle.std.proofs.lemmas.Bool.{and_parts, and_from}
 use Rattle.relation_terms.specs.declared.terms.generic_arg.GenericArgKind.{GenericArgKind}
 use Rattle.relation_terms.specs.declared.terms.generic_arg.GenericArgKind.TheVariants.{Lifetime, Ty, Const}
 use Rattle.relation_terms.specs.Heads.{Sort, region_sort, type_sort, const_sort, no_sort, head_sort, leaf_sort, Admits, Head}
-use Rattle.relation_terms.specs.Heads.{expression, value, value_type, value_branch}
+use Rattle.relation_terms.specs.Heads.{value, value_type, value_branch}
 use Rattle.relation_terms.specs.Trees.{Tree, leaf, node, bind, nil, cons, known, list_tree, count, nth, IsList, IsTerm, AreTerms}
 use Rattle.relation_terms.specs.Meaning.{Meaning, Extends, arg_tree}
 use Rattle.relation_terms.proofs.Sorted.{Sorted}

@@ -1,5 +1,4 @@
 use Rattle.std.proofs.Common.{◌≡◌, sym, ap, ap₂, ◌∙◌, subst, IsTrue}
-use Rattle.std.proofs.lemmas.Bool.{and_parts}
 use Rattle.relation_terms.specs.Heads.{const_sort, value_sort, value_branch}
 use Rattle.relation_terms.specs.Trees.{node, list_tree, known, IsTerm}
 use Rattle.relation_terms.specs.Meaning.{arg_tree, const_tree, valtree_tree}

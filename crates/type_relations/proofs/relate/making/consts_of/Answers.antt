@@ -1,4 +1,4 @@
-use Rattle.std.proofs.Common.{◌≡◌, ◌<◌, sym, ap, ap₂, ◌∙◌, subst, length, suc, ◌+◌, arith}
+use Rattle.std.proofs.Common.{◌≡◌, ◌<◌, sym, ap, ap₂, ◌∙◌, suc, ◌+◌, arith}
 use Rattle.relation_terms.specs.Trees.{list_tree, count}
 use Rattle.relation_terms.specs.Meaning.{arg_tree}
 use Rattle.type_relations.proofs.Lists.{firsts, snoc, list_push, list_count, list_is, firsts_more, firsts_all}

@@ -1,4 +1,4 @@
-use Rattle.std.proofs.Common.{◌≡◌, sym, ap, ap₂, ◌∙◌, subst}
+use Rattle.std.proofs.Common.{sym, ap, ap₂, ◌∙◌, subst}
 use Rattle.relation_terms.specs.Heads.{region_sort, type_sort, const_sort, slice, raw_ptr, array, ref, tuple}
 use Rattle.relation_terms.specs.Trees.{node, nil, cons, list_tree, IsTerm}
 use Rattle.relation_terms.specs.Meaning.{arg_tree, kind_tree}

@@ -3,7 +3,7 @@ use Rattle.std.proofs.lemmas.Bool.{false≢true}
 use Rattle.relation_terms.specs.declared.terms.enums.Variance.TheVariants.{Bivariant}
 use Rattle.relation_terms.specs.declared.terms.generic_arg.GenericArgKind.TheVariants.{Lifetime, Ty, Const}
 use Rattle.relation_terms.specs.Heads.{type_sort}
-use Rattle.relation_terms.specs.Trees.{nil, known, count, nth, list_tree, IsTerm}
+use Rattle.relation_terms.specs.Trees.{nil, known, count, nth, list_tree}
 use Rattle.relation_terms.specs.Variances.{xform}
 use Rattle.relation_terms.specs.Meaning.{arg_tree}
 use Rattle.relation_terms.proofs.Sorted.{Sorted}
