@@ -29,6 +29,7 @@ use Rattle.type_relations.proofs.Standing.{made_of_term, term_within, term_sort_
 use Rattle.type_relations.proofs.Growing.{constraint_sound, constraint_is_later, constraint_bound, constraint_weight}
 use Rattle.type_relations.proofs.Growing.{constraint_holds, constraint_keeps}
 use Rattle.type_relations.proofs.Passing.{passes_nowhere}
+use Rattle.type_relations.proofs.Answering.{may_itself}
 use Rattle.relation_reference.proofs.Grows.{known_of_term}
 use Rattle.relation_terms.proofs.Stays.{stays_arg}
 use Rattle.relation_terms.specs.Meaning.{Extends}
@@ -151,7 +152,7 @@ module _ {Key Id Name : Type 0} (m : Meaning Key Id Name) where
     unfolding recorded_passes
     itself_answered k = record {
       passes = recorded_passes v cs c of_store _;
-      verdict = record { outcome = outcome; answer = λ k w s sat. refl; known = k };
+      verdict = record { outcome = outcome; answer = may_itself plain_manner (plain_store m (cs ++ c ∷ [])) (m.region a); known = k };
     }
 
     pub regions_related : (ds : List (RegionConstraint Key)) (x : RegionKey Key) → ds ≡ cs ++ c ∷ [] → x ≡ a →

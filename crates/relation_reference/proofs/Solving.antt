@@ -40,6 +40,7 @@ use Rattle.type_relations.proofs.Opening.{instantiating_steps}
 use Rattle.type_relations.proofs.Growing.{constraint_holds, constraint_keeps}
 use Rattle.type_relations.proofs.Constraints.{asked_relates, asked_met}
 use Rattle.type_relations.proofs.Passing.{passes_nowhere}
+use Rattle.type_relations.proofs.Answering.{may_itself}
 use Rattle.relation_reference.specs.declared.context.inner.InferCtxtInner.{InferCtxtInner}
 use Rattle.relation_reference.specs.Tables.{store_of, IsLawful}
 use Rattle.relation_reference.specs.Solving.{solving, solver_manner}
@@ -157,7 +158,7 @@ module _ {Key Id Name : Type 0} (j : ℕ) where
             (m.region b) m.region (Ok a)
         answer = record {
           passes = solver_passes v e (stays_same m) env (goes_within (omega arith) goes) l;
-          verdict = record { outcome = outcome; answer = λ k w s sat. refl; known = sure };
+          verdict = record { outcome = outcome; answer = may_itself solver_manner (store_of m y) (m.region a); known = sure };
         }
 
   -- A step that answers, of a relation that does not promise to be exact.
@@ -191,8 +192,11 @@ module _ {Key Id Name : Type 0} (j : ℕ) where
             relates = λ w s sat all. one.relates (declared_by m.variances) (m.param_env e) w s sat;
             keeps = λ w s sat h. (s, (λ k n h. refl), (one.keeps w s sat h, All-nil (MakesOneTree s)));
           };
-          answer = λ k w s sat. read_value (store_of m x) s ((goes.later).shrinks w s sat).bindings a u reads
-              ∙ ap (apply s) (sym answer);
+          answer = record {
+            value = λ k w s sat. read_value (store_of m x) s ((goes.later).shrinks w s sat).bindings a u reads
+                ∙ ap (apply s) (sym answer);
+            left = λ k. absurd k;
+          };
           known = subst (λ z. IsTrue (known z)) (sym answer) sure;
         };
       }
@@ -232,8 +236,10 @@ module _ {Key Id Name : Type 0} (j : ℕ) where
       asked = k;
       left_form = f;
       right_form = h;
-      answers = λ st z l o keeps w s sat. read_value (store_of m x) s (l.shrinks w s sat).bindings a (tree t) p
-          ∙ o keeps w s sat;
+      answers = λ st z l o. record {
+        value = λ k w s sat. read_value (store_of m x) s (l.shrinks w s sat).bindings a (tree t) p ∙ o.value k w s sat;
+        left = λ k. absurd k;
+      };
       same_budget = refl;
       not_larger = let i = read_weight (store_of m x) g a (tree t) p in
           let j = read_weight (store_of m x) g b (tree u) q in omega (arith, i, j);
@@ -340,8 +346,10 @@ module _ {Key Id Name : Type 0} (j : ℕ) where
                 (root_reads root (itself refl)) (reads t (itself refl)) after.sound step;
             read_asked = asked_now root t refl t_known (later root i) (later t t_in);
             asked = asked_now u t u_known t_known u_in (later t t_in);
-            answers = λ st f o j s sat. read_value was s
-                ((steps.later).shrinks j s (f.shrinks j s sat)).bindings a root p;
+            answers = λ st f. record {
+              value = λ o j s sat. read_value was s ((steps.later).shrinks j s (f.shrinks j s sat)).bindings a root p;
+              left = λ k. absurd k;
+            };
             falls = steps.one_spent;
             not_larger = binding_square was now target t u bound before.sound before.first_universe t_in means away
                 stands (weight was a + weight was b) above;
@@ -387,7 +395,10 @@ module _ {Key Id Name : Type 0} (j : ℕ) where
                 (reads t (itself refl)) (root_reads root (itself refl)) after.sound step;
             read_asked = asked_now t root t_known refl (later t t_in) (later root i);
             asked = asked_now t u t_known u_known (later t t_in) u_in;
-            answers = λ st f o j s sat. read_value was s ((steps.later).shrinks j s (f.shrinks j s sat)).bindings a t p;
+            answers = λ st f. record {
+              value = λ o j s sat. read_value was s ((steps.later).shrinks j s (f.shrinks j s sat)).bindings a t p;
+              left = λ k. absurd k;
+            };
             falls = steps.one_spent;
             not_larger = (let i = binding_square was now target t u bound before.sound before.first_universe t_in means
                 away stands (weight was a + weight was b) above in omega (arith, i));
