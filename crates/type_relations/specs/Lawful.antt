@@ -173,18 +173,29 @@ module _ {Key Id Name : Type 0} where
       LeadsAgain M r q added a b (tree k) (tree l) v (tree x) (tree y)
   StepVerdict M F r q added a b tree (Err f) = Refuses r q r.ambient a b f
 
-  -- What it says besides where the relation promises to be exact, of first-order terms and records at invariance: the
-  -- record stays first-order, and up to erasure just the solutions that unify the pair that is left, or the terms,
-  -- stay.
+  -- What a result says besides where the relation promises to be exact, of first-order terms and records at
+  -- invariance: the record stays first-order, and up to erasure just the solutions that unify the terms stay; a type
+  -- error says that there was none.
+  abbrev pub ExactResult : {X : Type 0} → State Key Id Name → State Key Id Name → Tree → Tree →
+      Result X (RelateFault Key Id Name) → Type 0
+  ExactResult r q a b (Ok x) = IsFirstOrderStore q.store × Exact r.store q.store a b
+  ExactResult r q a b (Err (Unrelated e)) = NoUnifier r.store a b
+  ExactResult r q a b (Err f) = Unit {0}
+
+  abbrev pub ExactlyRelated : {X : Type 0} → Manner → State Key Id Name → State Key Id Name → Tree → Tree →
+      Result X (RelateFault Key Id Name) → Type 0
+  ExactlyRelated M r q a b result = M.is_exact → r.ambient ≡ Invariant → IsFirstOrderPair r.store a b →
+      ExactResult r q a b result
+
+  -- Of a step's result the same: of the pair that is left, or of the terms.
   abbrev pub ExactVerdict : {K : Type 0} → State Key Id Name → State Key Id Name → Tree → Tree → (K → Tree) →
       Result (Step K) (RelateFault Key Id Name) → Type 0
-  ExactVerdict r q a b tree (Ok (Done t)) = IsFirstOrderStore q.store × Exact r.store q.store a b
+  ExactVerdict {K} r q a b tree (Ok (Done t)) = ExactResult {X = K} r q a b (Ok t)
   ExactVerdict r q a b tree (Ok (Parts x y)) = IsFirstOrderPair q.store (tree x) (tree y) ×
       ExactStep r.store q.store a b (tree x) (tree y)
   ExactVerdict r q a b tree (Ok (Again k l x y v)) = IsFirstOrderPair q.store (tree x) (tree y) ×
       ExactStep r.store q.store a b (tree x) (tree y)
-  ExactVerdict r q a b tree (Err (Unrelated e)) = NoUnifier r.store a b
-  ExactVerdict r q a b tree (Err f) = Unit {0}
+  ExactVerdict {K} r q a b tree (Err f) = ExactResult {X = K} r q a b (Err f)
 
   -- A step was taken.
   pub record Stepped {K : Type 0} (M : Manner) (F : Tree → Type 0) (r q : State Key Id Name)

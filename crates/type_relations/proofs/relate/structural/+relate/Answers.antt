@@ -512,7 +512,7 @@ relate-returns-in_ok-regions-in-Lifetime g t c =
       related = subst₂ (λ t u. Related M r q r.ambient (arg_tree r.meaning t) (arg_tree r.meaning u) (arg_tree q.meaning) (Ok (Lifetime n.field-0)))
           (sym c.in-Lifetime.is) (sym c.in-Lifetime-b.is)
           (retold M r.ambient ((r.meaning).region c.in-Lifetime.a) ((r.meaning).region c.in-Lifetime-b.b) (q.meaning).region n.field-0
-          (arg_tree q.meaning) (Lifetime n.field-0) refl n.ensures);
+          (arg_tree q.meaning) (Lifetime n.field-0) refl (n.ensures).related);
       kind = ap arg_sort (sym c.in-Lifetime.is);
     }
 
