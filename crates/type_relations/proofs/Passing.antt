@@ -298,6 +298,8 @@ module _ {Key Id Name : Type 0} where
   noted_nothing x r = record {
     passes = passes_nowhere 0 r;
     keeps = λ w s h. h;
+    keeps_erased = λ s. ((λ h. h), (λ h. h));
+    first_order = λ h. h;
     quiet = All-nil IsQuiet;
     same_budget = refl;
     fault = tt;

@@ -1,5 +1,5 @@
 -- What contracts see of a relation in steps, and what its steps and the calls over it do.
-use Rattle.std.specs.Prelude.{◌≡◌, ℕ, suc, ◌+◌, ◌≤◌, List, ◌++◌, All, IsTrue, Result, Ok, Err, get_or, None}
+use Rattle.std.specs.Prelude.{◌≡◌, ◌↔◌, ℕ, suc, ◌+◌, ◌≤◌, List, ◌++◌, All, IsTrue, Result, Ok, Err, get_or, None}
 use Rattle.relation_terms.specs.declared.terms.enums.Variance.{Variance}
 use Rattle.relation_terms.specs.declared.terms.enums.Variance.TheVariants.{Invariant}
 use Rattle.relation_terms.specs.Heads.{Head, Leaf}
@@ -18,7 +18,7 @@ use Rattle.type_relations.specs.Goals.{Goal, GoalInContext, IsQuiet}
 use Rattle.type_relations.specs.Steps.{IsLater}
 use Rattle.type_relations.specs.Outcomes.{Outcome, StepsTo, NeverOne, Exact, ExactStep, NoUnifier}
 use Rattle.type_relations.specs.Headline.{IsFirstOrderPair}
-use Rattle.type_relations.specs.FirstOrder.{IsFirstOrderStore}
+use Rattle.type_relations.specs.FirstOrder.{IsFirstOrderStore, IsErasedSolution}
 use Rattle.type_relations.specs.Errors.{ErrorOf}
 use Rattle.type_relations.specs.Measures.{Goes, grown}
 
@@ -211,11 +211,13 @@ module _ {Key Id Name : Type 0} where
   OnlyMemory (Err Memory) = Unit {0}
   OnlyMemory (Err f) = ⊥
 
-  -- Something was noted: the record keeps all its assignments, nothing of the budget is spent, no goal that was added
-  -- asks anything of two terms, and a fault is want of memory.
+  -- Something was noted: the record keeps all its assignments, up to erasure too, and stays first-order; nothing of the
+  -- budget is spent, no goal that was added asks anything of two terms, and a fault is want of memory.
   pub record Noted {X : Type 0} (r q : State Key Id Name) (result : Result X (RelateFault Key Id Name)) : Type 0 where
     pub passes : Passes 0 r q
     pub keeps : (w : Interpretation) (s : _) → Satisfies w r.store s → Satisfies w q.store s
+    pub keeps_erased : (s : Assign) → IsErasedSolution r.store s ↔ IsErasedSolution q.store s
+    pub first_order : IsFirstOrderStore r.store → IsFirstOrderStore q.store
     pub quiet : All IsQuiet passes.added
     pub same_budget : (q.store).budget ≡ (r.store).budget
     pub fault : OnlyMemory result
