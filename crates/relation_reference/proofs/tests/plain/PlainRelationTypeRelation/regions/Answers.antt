@@ -21,13 +21,13 @@ returns g c =
     let m = g.I.Interner.meaning c.args.self.now.interner in
     let is = g.met.I.Interner.is_region c.args.self.now.interner in
     let k = c.requires.asked in
-    let left = (is c.args.a.now k.left_known, k.left_in) in
-    let right = (is c.args.b.now k.right_known, k.right_in) in
     record {
       related = regions_related m c.args.self.now.ambient c.args.self.now.constraints.items c.in-Some.constraint
-          c.args.a.now c.args.b.now c.constraint.result (sym c.constraint.ensures) c.in-Some.is left right
+          c.args.a.now c.args.b.now c.constraint.result (sym c.constraint.ensures) c.in-Some.is
+          (is c.args.a.now k.left_known, k.left_in) (is c.args.b.now k.right_known, k.right_in)
           c.push.new.self.items c.dup-2.result c.in_ok-push.ensures.items c.dup-2.ensures k.left_known;
       exact = regions_exact m c.args.self.now.ambient c.args.self.now.constraints.items c.in-Some.constraint
-          c.args.a.now c.args.b.now c.constraint.result (sym c.constraint.ensures) c.in-Some.is left right
+          c.args.a.now c.args.b.now c.constraint.result (sym c.constraint.ensures) c.in-Some.is
+          (is c.args.a.now k.left_known, k.left_in) (is c.args.b.now k.right_known, k.right_in)
           c.push.new.self.items c.dup-2.result c.in_ok-push.ensures.items;
     }
