@@ -13,7 +13,7 @@ pub mod solver_relating;
 pub mod structural;
 mod type_relation;
 
-pub use args::{relate_args_invariantly, relate_args_with_variances};
+pub use args::{relate_args_invariantly, relate_args_with_variances, relate_ty_args};
 pub use relatable::Relate;
 use relation_terms::terms::{Keys, TyKey, Variance};
 pub use type_relation::TypeRelation;
