@@ -4,6 +4,7 @@ mod folders;
 mod folding;
 mod forms;
 mod kinds;
+mod over_items;
 mod plain;
 mod questions;
 mod relating;
