@@ -6,6 +6,7 @@ use Rattle.relation_terms.specs.declared.terms.enums.Variance.TheVariants.{Bivar
 use Rattle.relation_terms.specs.declared.terms.keys.TyKey.{TyKey}
 use Rattle.relation_terms.specs.declared.terms.keys.RegionKey.{RegionKey}
 use Rattle.relation_terms.specs.declared.terms.keys.ArgsKey.{ArgsKey}
+use Rattle.relation_terms.specs.declared.terms.keys.ParamEnvKey.{ParamEnvKey}
 use Rattle.relation_terms.specs.Heads.{Leaf, Atom, variable, bound, placeholder, atom, unknown}
 use Rattle.relation_terms.specs.Trees.{Tree, leaf, node, bind, nil, cons, known, Leaves}
 use Rattle.relation_terms.specs.Meaning.{Meaning, Extends}
@@ -16,7 +17,10 @@ use Rattle.type_relations.specs.Lawful.{Asked}
 use Rattle.type_relations.specs.Parts.{item_head}
 use Rattle.type_relations.specs.declared.relate.forms.ItemForm.{ItemForm}
 use Rattle.relation_reference.specs.Plain.{plain_store, plain_state, plain_manner}
+use Rattle.relation_reference.specs.declared.context.inner.InferCtxtInner.{InferCtxtInner}
 use Rattle.relation_reference.specs.Concrete.{IsConcrete}
+use Rattle.relation_reference.specs.Solving.{solving, solver_manner}
+use Rattle.relation_reference.specs.Tables.{store_of}
 use Rattle.relation_reference.proofs.Grows.{known_of_term}
 
 -- What holds of each atom holds of each leaf.
@@ -77,6 +81,19 @@ concrete_asked m v a b h k = record {
   right_in = concrete_in (plain_store m []) b k;
   left_taken = concrete_leaves (λ l. Unit {0}) (λ x h. tt) a h;
   right_taken = concrete_leaves (λ l. Unit {0}) (λ x h. tt) b k;
+}
+
+-- Also in a context.
+pub concrete_solved : {Key Id Name : Type 0} (m : Meaning Key Id Name) (x : InferCtxtInner Key) (v : Variance)
+    (e : ParamEnvKey Key) (a b : Tree) → IsConcrete a → IsConcrete b →
+    Asked solver_manner (solving 0 m x v e) v a b
+concrete_solved m x v e a b h k = record {
+  left_known = concrete_known a h;
+  right_known = concrete_known b k;
+  left_in = concrete_in (store_of m x) a h;
+  right_in = concrete_in (store_of m x) b k;
+  left_taken = concrete_taken v a h;
+  right_taken = concrete_taken v b k;
 }
 
 -- What an equal tree was, this one is.

@@ -8,4 +8,5 @@ mod over_items;
 mod plain;
 mod questions;
 mod relating;
+mod solving;
 mod visiting;
