@@ -1,10 +1,12 @@
 -- Terms that stand in each context.
-use Rattle.std.proofs.Common.{◌≡◌, IsTrue, false, [], sym, ap, subst}
+use Rattle.std.proofs.Common.{◌≡◌, IsTrue, false, [], sym, ap, ap₂, ◌∙◌, subst}
 use Rattle.relation_terms.specs.declared.terms.enums.Variance.{Variance}
 use Rattle.relation_terms.specs.declared.terms.enums.Variance.TheVariants.{Covariant, Contravariant, Invariant}
 use Rattle.relation_terms.specs.declared.terms.enums.Variance.TheVariants.{Bivariant}
 use Rattle.relation_terms.specs.declared.terms.keys.TyKey.{TyKey}
 use Rattle.relation_terms.specs.declared.terms.keys.RegionKey.{RegionKey}
+use Rattle.relation_terms.specs.declared.terms.keys.ArgsKey.{ArgsKey}
+use Rattle.relation_terms.specs.declared.terms.keys.ParamEnvKey.{ParamEnvKey}
 use Rattle.relation_terms.specs.Heads.{Leaf, Atom, variable, bound, placeholder, atom, unknown}
 use Rattle.relation_terms.specs.Trees.{Tree, leaf, node, bind, nil, cons, known, Leaves}
 use Rattle.relation_terms.specs.Meaning.{Meaning, Extends}
@@ -12,8 +14,13 @@ use Rattle.type_relations.specs.Relation.{IsValueAtom, StaysWithin}
 use Rattle.type_relations.specs.Stores.{Store, IsTermIn, InContext, IsMadeLeaf, IsNamable}
 use Rattle.type_relations.specs.Taken.{IsTaken, IsTakenLeaf}
 use Rattle.type_relations.specs.Lawful.{Asked}
+use Rattle.type_relations.specs.Parts.{item_head}
+use Rattle.type_relations.specs.declared.relate.forms.ItemForm.{ItemForm}
 use Rattle.relation_reference.specs.Plain.{plain_store, plain_state, plain_manner}
+use Rattle.relation_reference.specs.declared.context.inner.InferCtxtInner.{InferCtxtInner}
 use Rattle.relation_reference.specs.Concrete.{IsConcrete}
+use Rattle.relation_reference.specs.Solving.{solving, solver_manner}
+use Rattle.relation_reference.specs.Tables.{store_of}
 use Rattle.relation_reference.proofs.Grows.{known_of_term}
 
 -- What holds of each atom holds of each leaf.
@@ -76,6 +83,19 @@ concrete_asked m v a b h k = record {
   right_taken = concrete_leaves (λ l. Unit {0}) (λ x h. tt) b k;
 }
 
+-- Also in a context.
+pub concrete_solved : {Key Id Name : Type 0} (m : Meaning Key Id Name) (x : InferCtxtInner Key) (v : Variance)
+    (e : ParamEnvKey Key) (a b : Tree) → IsConcrete a → IsConcrete b →
+    Asked solver_manner (solving 0 m x v e) v a b
+concrete_solved m x v e a b h k = record {
+  left_known = concrete_known a h;
+  right_known = concrete_known b k;
+  left_in = concrete_in (store_of m x) a h;
+  right_in = concrete_in (store_of m x) b k;
+  left_taken = concrete_taken v a h;
+  right_taken = concrete_taken v b k;
+}
+
 -- What an equal tree was, this one is.
 pub concrete_as : (t u : Tree) → u ≡ t → IsConcrete t → IsConcrete u
 concrete_as t u e h = subst IsConcrete (sym e) h
@@ -86,6 +106,16 @@ module _ {Key Id Name : Type 0} {m n : Meaning Key Id Name} (e : Extends m n) wh
 
   pub region_concrete : (k : RegionKey Key) → IsConcrete (m.region k) → IsConcrete (n.region k)
   region_concrete k h = concrete_as (m.region k) (n.region k) (e.region k (concrete_known (m.region k) h)) h
+
+  pub args_concrete : (k : ArgsKey Key) → IsConcrete (m.args k) → IsConcrete (n.args k)
+  args_concrete k h = concrete_as (m.args k) (n.args k) (e.args k (concrete_known (m.args k) h)) h
+
+  -- A type over an item stays one, over the same arguments.
+  pub stays_over : (f : ItemForm) (d : Id) (k : TyKey Key) (l : ArgsKey Key) → IsConcrete (m.args l) →
+      m.ty k ≡ node (item_head f (m.id d)) (m.args l) → n.ty k ≡ node (item_head f (n.id d)) (n.args l)
+  stays_over f d k l h is =
+      e.ty k (concrete_known (m.ty k) (concrete_as (node (item_head f (m.id d)) (m.args l)) (m.ty k) is h))
+      ∙ is ∙ ap₂ (λ i ts. node (item_head f i) ts) (sym (e.id d)) (sym (e.args l (concrete_known (m.args l) h)))
 
 -- A copy of a type's key, in a context over what its interner has grown to.
 pub given_concrete : {I Key Id Name : Type 0} (meaning : I → Meaning Key Id Name) {cx old new : I}

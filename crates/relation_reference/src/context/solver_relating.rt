@@ -46,7 +46,7 @@ impl<'a, I: Interner> SolverRelating<'a, I> {
     }
 
     // Relates two types.
-    fn relate_tys(&mut self, a: &Ty<I>, b: &Ty<I>) -> RelateResult<I, Ty<I>>
+    pub(crate) fn relate_tys(&mut self, a: &Ty<I>, b: &Ty<I>) -> RelateResult<I, Ty<I>>
         requires lawful { IsLawful (I.meaning self.old.infcx.now.interner) self.old.infcx.now.inner }
         requires env_known { IsTrue (known ((I.meaning self.old.infcx.now.interner).param_env self.old.param_env)) }
         requires decides { self.old.ambient_variance ≢ Bivariant }

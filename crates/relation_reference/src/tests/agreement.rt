@@ -42,7 +42,7 @@ pub(super) fn make_region<I: Interner>(
 
 // The type of a form.
 #[tactic(auto, using(crate::proofs::Concrete::concrete_known, crate::proofs::Concrete::concrete_as))]
-fn make_ty<I: Interner>(cx: &mut I, kind: TyForm<I>) -> Result<Ty<I>, OutOfMemory>
+pub(super) fn make_ty<I: Interner>(cx: &mut I, kind: TyForm<I>) -> Result<Ty<I>, OutOfMemory>
     requires { IsConcrete (kind_tree (I.meaning cx.old) kind) }
     ensures grown { Extends (I.meaning cx.old) (I.meaning cx.new) }
     ensures concrete { IfOk result (λ k. IsConcrete ((I.meaning cx.new).ty k)) }

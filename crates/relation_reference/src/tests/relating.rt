@@ -23,16 +23,16 @@ use type_relations::relate::{Relate, relate_args_with_variances};
 
 /// Two regions, and the types `&'a u8` and `&'b u8` of these.
 #[derive(Drop)]
-struct Two<X> {
-    a: RegionKey<X>,
-    b: RegionKey<X>,
-    left: TyKey<X>,
-    right: TyKey<X>,
+pub(super) struct Two<X> {
+    pub(super) a: RegionKey<X>,
+    pub(super) b: RegionKey<X>,
+    pub(super) left: TyKey<X>,
+    pub(super) right: TyKey<X>,
 }
 
 // They are made, in an interner.
 #[tactic(auto, using(relation_terms::proofs::Stays::extends_on, crate::proofs::Concrete::region_concrete, crate::proofs::Concrete::stays_concrete))]
-fn make_two<I: Interner>(cx: &mut I, name: &I::Name) -> Result<Two<I::Key>, OutOfMemory>
+pub(super) fn make_two<I: Interner>(cx: &mut I, name: &I::Name) -> Result<Two<I::Key>, OutOfMemory>
     ensures a { IfOk result (λ t. IsConcrete ((I.meaning cx.new).region t.a)) }
     ensures b { IfOk result (λ t. IsConcrete ((I.meaning cx.new).region t.b)) }
     ensures left { IfOk result (λ t. IsConcrete ((I.meaning cx.new).ty t.left)) }
@@ -112,7 +112,7 @@ fn asked_of_args<I: Interner + Drop>(
 }
 
 // The one constraint alone.
-fn only<X: Drop>(
+pub(super) fn only<X: Drop>(
     alloc: Global,
     constraint: RegionConstraint<X>,
 ) -> Result<Vec<RegionConstraint<X>>, OutOfMemory> {
@@ -163,7 +163,10 @@ fn terms_are_related(rt: HostRuntime) -> Result<(), Fail> {
 
 // The list of the one argument.
 #[tactic(auto, using(crate::proofs::Concrete::concrete_known))]
-fn make_args<I: Interner>(cx: &mut I, ty: &TyKey<I::Key>) -> Result<GenericArgs<I>, OutOfMemory>
+pub(super) fn make_args<I: Interner>(
+    cx: &mut I,
+    ty: &TyKey<I::Key>,
+) -> Result<GenericArgs<I>, OutOfMemory>
     requires { IsConcrete ((I.meaning cx.old).ty ty.now) }
     ensures grown { Extends (I.meaning cx.old) (I.meaning cx.new) }
     ensures is { IfOk result (λ k. (I.meaning cx.new).args k ≡ cons ((I.meaning cx.old).ty ty.now) nil) }
