@@ -175,9 +175,9 @@ fn make_over<
 >(r: &mut R, form: &Ty<I>, args: GenericArgs<I>, mk: F) -> RelateResult<I, Ty<I>>
     requires lawful { (R.state r.old).lawful }
     requires args_known { IsTrue (known ((R.state r.old).meaning.args args)) }
-    requires callable { (cx : _) (list : _) → IsTrue (known ((I.meaning cx.now).args list)) → F.pre mk cx list }
+    requires callable { (cx : _) (list : _) → Extends (R.state r.old).meaning (I.meaning cx.now) → IsTrue (known ((I.meaning cx.now).args list)) → F.pre mk cx list }
     requires grows { (cx : _) (list : _) (res : _) (left : _) → F.post mk cx list res left → Extends (I.meaning cx.now) (I.meaning left.now) }
-    requires makes { (cx : _) (list : _) (res : _) (left : _) → F.post mk cx list res left → IfOk res (λ k. IsTrue (known ((I.meaning left.now).ty k)) × ((I.meaning left.now).ty k ≡ node (head_of ((R.state r.old).meaning.ty form.now)) ((I.meaning cx.now).args list))) }
+    requires makes { (cx : _) (list : _) (res : _) (left : _) → Extends (R.state r.old).meaning (I.meaning cx.now) → F.post mk cx list res left → IfOk res (λ k. IsTrue (known ((I.meaning left.now).ty k)) × ((I.meaning left.now).ty k ≡ node (head_of ((R.state r.old).meaning.ty form.now)) ((I.meaning cx.now).args list))) }
     ensures extends { Extends (R.state r.old).meaning (R.state r.new).meaning }
     ensures grown { WithMeaning (R.state r.old) (R.state r.new).meaning (R.state r.new) }
     ensures fault { OnlyMemory result }
@@ -228,9 +228,9 @@ pub fn relate_ty_args<
     requires args_known { IsTrue (known ((R.state r.old).meaning.args a_args.now)) }
     requires over { AreOverItem ((R.state r.old).meaning.id (def_id.now).0) ((R.state r.old).meaning.ty a_ty.now) ((R.state r.old).meaning.ty b_ty.now) ((R.state r.old).meaning.args a_args.now) ((R.state r.old).meaning.args b_args.now) }
     requires as_many { count ((R.state r.old).meaning.args a_args.now) ≡ count ((R.state r.old).meaning.args b_args.now) }
-    requires callable { (cx : _) (list : _) → IsTrue (known ((I.meaning cx.now).args list)) → F.pre mk cx list }
+    requires callable { (cx : _) (list : _) → Extends (R.state r.old).meaning (I.meaning cx.now) → IsTrue (known ((I.meaning cx.now).args list)) → F.pre mk cx list }
     requires grows { (cx : _) (list : _) (res : _) (left : _) → F.post mk cx list res left → Extends (I.meaning cx.now) (I.meaning left.now) }
-    requires makes { (cx : _) (list : _) (res : _) (left : _) → F.post mk cx list res left → IfOk res (λ k. IsTrue (known ((I.meaning left.now).ty k)) × ((I.meaning left.now).ty k ≡ node (head_of ((R.state r.old).meaning.ty a_ty.now)) ((I.meaning cx.now).args list))) }
+    requires makes { (cx : _) (list : _) (res : _) (left : _) → Extends (R.state r.old).meaning (I.meaning cx.now) → F.post mk cx list res left → IfOk res (λ k. IsTrue (known ((I.meaning left.now).ty k)) × ((I.meaning left.now).ty k ≡ node (head_of ((R.state r.old).meaning.ty a_ty.now)) ((I.meaning cx.now).args list))) }
     ensures { Related R.manner (R.state r.old) (R.state r.new) (R.state r.old).ambient ((R.state r.old).meaning.ty a_ty.now) ((R.state r.old).meaning.ty b_ty.now) (R.state r.new).meaning.ty result }
 {
     let variances = item_variances::<I, R>(r, a_ty, def_id);
