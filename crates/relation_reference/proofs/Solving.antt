@@ -5,6 +5,8 @@ use Rattle.std.proofs.Common.{Result, Ok, Err}
 use Rattle.std.proofs.lemmas.List.Elements.{All-nil}
 use Rattle.relation_terms.specs.declared.terms.enums.Variance.{Variance}
 use Rattle.relation_terms.specs.declared.terms.enums.Variance.TheVariants.{Covariant, Contravariant, Invariant}
+use Rattle.relation_terms.specs.declared.predicate.RegionConstraint.TheVariants.{Outlives, Eq}
+use Rattle.relation_terms.specs.declared.terms.generic_arg.GenericArgKind.TheVariants.{Lifetime}
 use Rattle.relation_terms.specs.declared.terms.enums.Variance.TheVariants.{Bivariant}
 use Rattle.relation_terms.specs.declared.terms.keys.RegionKey.{RegionKey}
 use Rattle.relation_terms.specs.declared.terms.keys.ParamEnvKey.{ParamEnvKey}
@@ -160,6 +162,22 @@ module _ {Key Id Name : Type 0} (j : ℕ) where
           passes = solver_passes v e (stays_same m) env (goes_within (omega arith) goes) l;
           verdict = record { outcome = outcome; answer = may_itself solver_manner (store_of m y) (m.region a); known = sure };
         }
+
+  -- The same by what the variance asks for.
+  pub regions_recorded : (m : Meaning Key Id Name) (x y : InferCtxtInner Key) (v : Variance) (e : ParamEnvKey Key)
+      (a b : RegionKey Key) → v ≢ Bivariant → IsRegionIn (store_of m x) (m.region a) →
+      IsRegionIn (store_of m x) (m.region b) → Goes 0 (store_of m x) (store_of m y) →
+      IfSome (constraint_at v a b) (λ c. AddsConstraint (store_of m x) (store_of m y) (constraint_of m c)) →
+      (n : Meaning Key Id Name) (k : RegionKey Key) → n ≡ m → k ≡ a → IsLawful m y → IsTrue (known (m.param_env e)) →
+      IsTrue (known (m.region a)) →
+      Related solver_manner (solving j m x v e) (solving j n y v e) v (m.region a) (m.region b) n.region (Ok k)
+  regions_recorded m x y Covariant e a b d left right goes added =
+      regions_related m x y Covariant e a b (Outlives (record { 0 = Lifetime a; 1 = b })) refl left right goes added
+  regions_recorded m x y Contravariant e a b d left right goes added =
+      regions_related m x y Contravariant e a b (Outlives (record { 0 = Lifetime b; 1 = a })) refl left right goes added
+  regions_recorded m x y Invariant e a b d left right goes added =
+      regions_related m x y Invariant e a b (Eq (record { 0 = a; 1 = b })) refl left right goes added
+  regions_recorded m x y Bivariant e a b d left right goes added = absurd (d refl)
 
   -- A step that answers, of a relation that does not promise to be exact.
   pub answered_step : {K : Type 0} (F : Tree → Type 0) (m n : Meaning Key Id Name) (x y : InferCtxtInner Key)

@@ -1,18 +1,20 @@
 //! Recording in a context: new variables, variables that are one, constraints on regions.
-ghost use Rattle.std.specs.Prelude.{◌≡◌, ℕ, ◌<◌, IsTrue, IfOk, OnErr, OnOk, length, min, max, map, slice_set};
+ghost use Rattle.std.specs.Prelude.{◌≡◌, ◌≢◌, IfSome, ℕ, ◌<◌, IsTrue, IfOk, OnErr, OnOk, length, min, max, map, slice_set};
 ghost use Rattle.relation_terms.specs.Heads.{type_var, region_var, variable};
 ghost use Rattle.relation_terms.specs.Trees.{leaf, known};
 ghost use Rattle.relation_terms.specs.Meaning.{Extends};
 ghost use Rattle.type_relations.specs.Stores.{unbound, entry_of, universe_of, IsRegionIn, equal_constraint, outlives_constraint};
 ghost use Rattle.type_relations.specs.Steps.{Equates, MakesVariable, AddsConstraint, IsLater};
 ghost use Rattle.type_relations.specs.Measures.{Goes};
+ghost use Rattle.type_relations.specs.Constraints.{constraint_at, constraint_of};
+ghost use Rattle.relation_terms.specs.declared.terms.enums.Variance.TheVariants.{Bivariant};
 ghost use Rattle.relation_reference.specs.Tables.{store_of, IsLawful};
 
 use crate::context::{RefCtxt, TypeVariable, TypeVariableValue};
 use relation_terms::predicate::{OutlivesPredicate, RegionConstraint, RegionEqPredicate};
 use relation_terms::terms::{
     Dup, GenericArgKind, InferTy, Interner, OutOfMemory, Region, RegionKind, RegionVid, Ty, TyKind,
-    TyVid, UniverseIndex,
+    TyVid, UniverseIndex, Variance,
 };
 
 fn smaller(a: usize, b: usize) -> usize
@@ -106,6 +108,30 @@ impl<I: Interner> RefCtxt<I> {
             .constraints
             .push(RegionConstraint::Outlives(outlives))?;
         Ok(())
+    }
+
+    // Records what two regions that are related at a variance are asked for.
+    pub(crate) fn relate_regions(
+        &mut self,
+        variance: Variance,
+        a: &Region<I>,
+        b: &Region<I>,
+    ) -> Result<(), OutOfMemory>
+        requires lawful { IsLawful (I.meaning self.old.interner) self.old.inner }
+        requires decides { variance ≢ Bivariant }
+        requires a_in { IsRegionIn (store_of (I.meaning self.old.interner) self.old.inner) ((I.meaning self.old.interner).region a.now) }
+        requires b_in { IsRegionIn (store_of (I.meaning self.old.interner) self.old.inner) ((I.meaning self.old.interner).region b.now) }
+        ensures interner { self.new.interner ≡ self.old.interner }
+        ensures lawful { IsLawful (I.meaning self.old.interner) self.new.inner }
+        ensures adds { OnOk result (IfSome (constraint_at variance a.now b.now) (λ c. AddsConstraint (store_of (I.meaning self.old.interner) self.old.inner) (store_of (I.meaning self.old.interner) self.new.inner) (constraint_of (I.meaning self.old.interner) c))) }
+        ensures goes { Goes 0 (store_of (I.meaning self.old.interner) self.old.inner) (store_of (I.meaning self.old.interner) self.new.inner) }
+    {
+        match variance {
+            Variance::Covariant => self.sub_regions(b, a),
+            Variance::Contravariant => self.sub_regions(a, b),
+            Variance::Invariant => self.equate_regions(a, b),
+            Variance::Bivariant => unreachable!(),
+        }
     }
 
     // The universe of a type variable.

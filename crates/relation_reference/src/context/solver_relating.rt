@@ -182,12 +182,7 @@ impl<'a, I: Interner> TypeRelation<I> for SolverRelating<'a, I> {
     }
 
     fn regions(&mut self, a: &Region<I>, b: &Region<I>) -> RelateResult<I, Region<I>> {
-        match self.ambient_variance {
-            Variance::Covariant => self.infcx.sub_regions(b, a)?,
-            Variance::Contravariant => self.infcx.sub_regions(a, b)?,
-            Variance::Invariant => self.infcx.equate_regions(a, b)?,
-            Variance::Bivariant => unreachable!(),
-        }
+        self.infcx.relate_regions(self.ambient_variance, a, b)?;
         Ok(a.dup())
     }
 
