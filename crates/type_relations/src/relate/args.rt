@@ -124,7 +124,8 @@ fn relate_args<I: Interner, R: TypeRelation<I>>(
     make_args(r, answers.as_slice())
 }
 
-/// Relates two lists of as many arguments invariantly, seen from the ambient variance, and answers the left one.
+/// Relates two lists of as many arguments invariantly, seen from the ambient variance, and answers the list of what they
+/// answered.
 ///
 /// Both are the relation's, which takes them at the ambient variance; that is not `Bivariant`.
 ///
@@ -145,8 +146,8 @@ pub fn relate_args_invariantly<I: Interner, R: TypeRelation<I>>(
 }
 
 /// Relates two lists of as many arguments at the variances that an item declares, seen from the ambient one, and answers
-/// the left list. Arguments that the item declares bivariant are not looked at, unless the ambient variance is
-/// `Invariant`.
+/// the list of what they answered. Arguments that the item declares bivariant are not looked at, unless the ambient
+/// variance is `Invariant`.
 ///
 /// Both are the relation's, which takes them at the ambient variance; that is not `Bivariant`.
 ///
@@ -207,8 +208,16 @@ fn item_variances<I: Interner, R: TypeRelation<I>>(
     }
 }
 
-/// Relates two types over one item by their arguments, at the variances that the item declares, and answers what `mk`
-/// makes of the answer for the arguments.
+/// Relates two types over one item by their arguments, at the variances that the item declares, has the relation take
+/// note of it where it reads declared variances, and answers what `mk` makes of the answer for the arguments.
+///
+/// Both types are the relation's, which takes them at the ambient variance; that is not `Bivariant`. The lists are
+/// theirs, with as many arguments. `mk` is handed the relation's interner, which has only grown, and makes of a known
+/// list the type of their form over it, or answers want of memory.
+///
+/// Answers `Unrelated` with the error of the first pair that is not related, and only where no assignment made the types
+/// one; `Budget` only where no instantiation is left, and `Memory` where a growth was refused, by `mk` too. Upstream
+/// this is a call of the relation.
 pub fn relate_ty_args<
     I: Interner,
     R: TypeRelation<I>,

@@ -23,8 +23,8 @@ pub trait Relate<I: Interner>: TypeFoldable<I> + PartialEq + Dup {
     // What is asked of the two besides.
     ghost fits: { Meaning I.Key I.Id I.Name → Self → Self → Type 0 };
 
-    /// Relates the two at the ambient variance, and answers the left one: a term of its value under each assignment that
-    /// the relation left, where the relation promises that.
+    /// Relates the two at the ambient variance, and answers what the relation may answer for the left one: a term of its
+    /// value under each assignment that the relation left, or the left one, where the relation promises that.
     ///
     /// Both are the relation's, which takes them at the ambient variance; that is not `Bivariant`. Two lists have as many
     /// arguments.

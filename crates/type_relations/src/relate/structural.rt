@@ -18,7 +18,15 @@ use crate::relate::{Step, TypeRelation};
 use relation_terms::terms::{Const, Dup, GenericArg, GenericArgKind, Interner, Ty, Variance};
 use relation_tools::error::{RelateFault, RelateResult, TypeError};
 
-/// Relates two types at the ambient variance, as the relation's steps lead.
+/// Relates two types at the ambient variance, as the relation's steps lead: what a step answers is the answer; two forms
+/// that it leaves are related structurally; a pair that it leaves is related at its variance, and the answer is the left
+/// type as the step read it. Upstream a relation's own `tys` does all of it.
+///
+/// Both are the relation's, which takes them at the ambient variance; that is not `Bivariant`.
+///
+/// Answers `Unrelated` only where no assignment made the two one, `Budget` only where no instantiation is left, and
+/// `Memory` where a growth was refused. Also after an error all that was recorded stands, and the ambient variance is
+/// what it was.
 #[cycle(relate)]
 pub fn tys<I: Interner, R: TypeRelation<I>>(
     r: &mut R,
@@ -51,7 +59,8 @@ pub fn tys<I: Interner, R: TypeRelation<I>>(
     }
 }
 
-/// Relates two constants at the ambient variance, as the relation's steps lead.
+/// Relates two constants at the ambient variance, as the relation's steps lead. What `tys` says of types holds of
+/// constants here, its conditions and its errors.
 #[cycle(relate)]
 pub fn consts<I: Interner, R: TypeRelation<I>>(
     r: &mut R,
@@ -81,7 +90,8 @@ pub fn consts<I: Interner, R: TypeRelation<I>>(
     }
 }
 
-/// Relates two generic arguments at the ambient variance. Two of different kinds are `Mismatch`.
+/// Relates two generic arguments at the ambient variance, and answers one of the left one's kind. Two of different kinds
+/// are `Mismatch`. Conditions and errors are those of `tys`. Upstream this is the `relate` of a relation, over arguments.
 #[cycle(relate)]
 pub fn relate<I: Interner, R: TypeRelation<I>>(
     r: &mut R,
@@ -116,8 +126,11 @@ pub fn relate<I: Interner, R: TypeRelation<I>>(
     }
 }
 
-/// Relates two generic arguments at a variance, seen from the ambient one, which is put back after it. At bivariance
-/// they are not looked at, and the first is the answer.
+/// Relates two generic arguments at a variance, seen from the ambient one, which is put back after it, also after an
+/// error. At bivariance they are not looked at, and the first is the answer.
+///
+/// Both are the relation's, which takes them at that variance. Errors are those of `tys`. Upstream this is a call of the
+/// relation.
 #[cycle(relate)]
 pub fn relate_with_variance<I: Interner, R: TypeRelation<I>>(
     r: &mut R,
@@ -142,6 +155,10 @@ pub fn relate_with_variance<I: Interner, R: TypeRelation<I>>(
 }
 
 /// Relates two types by their outermost forms and their parts, and answers the form over what the parts answered.
+///
+/// Neither is a variable, a condition beside those of `tys`. Two forms that differ are refused as `compare_tys` says,
+/// parts in order, each at the variance of its place; a `ConstMismatch` of two lengths is the `ArraySize` of both. All
+/// other errors of the parts are handed on.
 #[cycle(relate)]
 pub fn structurally_relate_tys<I: Interner, R: TypeRelation<I>>(
     r: &mut R,
@@ -172,6 +189,9 @@ pub fn structurally_relate_tys<I: Interner, R: TypeRelation<I>>(
 
 /// Relates two constants by their outermost forms and their parts, and answers the form over what the parts answered.
 /// The types of values are not looked at: the left one is in the answer.
+///
+/// Neither is a variable, a condition beside those of `tys`. Two forms that differ are refused as `compare_consts` says;
+/// a type error of two branches is the `ConstMismatch` of the whole values. All other errors of the parts are handed on.
 #[cycle(relate)]
 pub fn structurally_relate_consts<I: Interner, R: TypeRelation<I>>(
     r: &mut R,
