@@ -196,14 +196,6 @@ pub fits_place : {Key Id Name : Type 0} (m : Meaning Key Id Name) → Sorted m �
     IsTerm (arg_sort z) (nth i ts)
 fits_place m s x z ts i k e same = subst₂ (λ a t. IsTerm a t) (sym same) e (arg_is m s x k)
 
--- A form over known parts is known.
-pub known_over : (t us : Tree) → IsTrue (known t) → IsTrue (known us) → IsTrue (known (over t us))
-known_over (node h ts) us k l = l
-known_over (leaf l) us k j = k
-known_over (bind ks t) us k l = k
-known_over nil us k l = k
-known_over (cons t ts) us k l = k
-
 pub if_ok_also : {X E : Type 0} (P Q : X → Type 0) (res : Result X E) → ((x : X) → P x → Q x) → IfOk res P → IfOk res Q
 if_ok_also P Q (Ok x) f p = f x p
 if_ok_also P Q (Err e) f p = tt
