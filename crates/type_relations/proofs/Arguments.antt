@@ -1,5 +1,5 @@
 -- Forms that are related by their parts, one after another.
-use Rattle.std.proofs.Common.{◌≡◌, ℕ, ◌<◌, refl, sym, ap, ◌∙◌, subst, subst₂, arith, IsTrue, Ok, Err}
+use Rattle.std.proofs.Common.{◌≡◌, ◌≢◌, ℕ, ◌<◌, refl, sym, ap, ◌∙◌, subst, subst₂, arith, IsTrue, Ok, Err}
 use Rattle.relation_terms.specs.declared.terms.enums.Variance.{Variance}
 use Rattle.relation_terms.specs.Heads.{Sort, Head, adt, fn_def}
 use Rattle.relation_terms.specs.Trees.{Tree, leaf, node, bind, nil, cons, known, count, nth, IsList, AreTerms}
@@ -12,13 +12,17 @@ use Rattle.type_relations.specs.declared.relate.args.ArgVariances.TheVariants.{I
 use Rattle.type_relations.specs.Relation.{forms, part_at, IsRelatedHead}
 use Rattle.type_relations.specs.Errors.{ErrorOf, IsHandedOn, of_parts, AreOfOneForm, over_parts}
 use Rattle.type_relations.specs.Arguments.{args_head}
-use Rattle.type_relations.specs.Lawful.{State, Manner, MayAnswer, Refuses, Related, items_in}
+use Rattle.type_relations.specs.Lawful.{State, Manner, MayAnswer, Refuses, Related, ExactlyRelated, items_in}
 use Rattle.type_relations.proofs.OneParts.{parts_equal}
 use Rattle.type_relations.proofs.PartSizes.{weight_parts_most}
 use Rattle.type_relations.proofs.Passing.{passes_within}
-use Rattle.type_relations.proofs.Fronts.{Fronted, AreParts, fronted_all, fronted_never, fronted_passes}
+use Rattle.type_relations.proofs.Fronts.{Fronted, AreParts, IsLookedAt, fronted_all, fronted_never, fronted_passes, fronted_apart, fronted_exactly}
 use Rattle.type_relations.proofs.Structural.{types_never}
 use Rattle.type_relations.proofs.Answering.{may_itself}
+use Rattle.type_relations.proofs.Unifying.{first_order_parts, exact_as, apart_as}
+use Rattle.type_relations.proofs.Erased.{forms_unify_by_parts}
+use Rattle.type_relations.specs.Headline.{IsFirstOrderPair}
+use Rattle.relation_terms.specs.Heads.{value_type}
 
 -- Arguments are related part by part, and their errors are those of their parts.
 pub args_related_head : {Key Id Name : Type 0} (m : Meaning Key Id Name) (d : ArgVariances Id) →
@@ -27,6 +31,11 @@ args_related_head m Invariant = tt
 args_related_head m (Adt d) = tt
 args_related_head m (FnDef d) = tt
 
+pub args_looked_at : {Key Id Name : Type 0} (m : Meaning Key Id Name) (d : ArgVariances Id) → IsLookedAt (args_head m d)
+args_looked_at m Invariant = tt
+args_looked_at m (Adt d) = tt
+args_looked_at m (FnDef d) = tt
+
 pub args_handed_on : {Key Id Name : Type 0} (m : Meaning Key Id Name) (d : ArgVariances Id) (e : TypeError Key Id Name)
     (t u : Tree) → IsHandedOn e (args_head m d) t u
 args_handed_on m Invariant e t u = tt
@@ -34,7 +43,17 @@ args_handed_on m (Adt d) e t u = tt
 args_handed_on m (FnDef d) e t u = tt
 
 module _ {Key Id Name : Type 0} {r q : State Key Id Name} (M : Manner) (v : Variance) (h : Head) (ts us : Tree) (i : ℕ)
-    (f : Fronted r q h v i ts us) (are : AreParts r.store ts us) (n : count ts ≡ count us) where
+    (f : Fronted M r q h v i ts us) (are : AreParts r.store ts us) (n : count ts ≡ count us) (looked : IsLookedAt h) where
+  apart : h ≢ value_type
+  apart e = subst IsLookedAt e looked
+
+  list_pair : IsFirstOrderPair r.store (node h ts) (node h us) → IsFirstOrderPair r.store ts us
+  list_pair pair = record {
+    left = first_order_parts (node h ts) pair.left;
+    right = first_order_parts (node h us) pair.right;
+    bindings = pair.bindings;
+  }
+
   one_form : AreOfOneForm (node h ts) (node h us)
   one_form = over_parts refl refl n
 
@@ -55,6 +74,9 @@ module _ {Key Id Name : Type 0} {r q : State Key Id Name} (M : Manner) (v : Vari
       answer = subst (MayAnswer M q.store (node h ts)) (sym answer) (may_itself M q.store (node h ts));
       known = subst (λ u. IsTrue (known u)) (sym answer) k;
     };
+    exact = λ exact is' pair.
+        let z = fronted_exactly h v i ts us are e (e ∙ n) f exact is' looked (list_pair pair) in
+        (z.0, exact_as r.store q.store (node h ts) (node h us) ts us (λ s. forms_unify_by_parts s h ts us apart) z.1);
   }
 
   -- Two parts of two forms were refused, and so are the forms.
@@ -71,13 +93,23 @@ module _ {Key Id Name : Type 0} {r q : State Key Id Name} (M : Manner) (v : Vari
     refuses p Budget o = o
     refuses p Memory o = tt
 
+    exactly : (A B : Type 0) (p : State Key Id Name) (e : RelateFault Key Id Name) →
+        ExactlyRelated {X = A} M q.store p.store (part_at (items_in r) h i v) x y (Err e) →
+        ExactlyRelated {X = B} M r.store p.store v (node h ts) (node h us) (Err e)
+    exactly A B p (Unrelated d) g exact is pair =
+        apart_as r.store (node h ts) (node h us) ts us (λ s. forms_unify_by_parts s h ts us apart)
+        (fronted_apart h v i ts us x y f lx ly ex ey are exact is looked (list_pair pair) g)
+    exactly A B p Budget g exact is pair = tt
+    exactly A B p Memory g exact is pair = tt
+
     pub form_refused : {A B : Type 0} {p : State Key Id Name} (tree : A → Tree) (answer : B → Tree)
         (e : RelateFault Key Id Name) → Related M q p (part_at (items_in r) h i v) x y tree (Err e) →
         Related M r p v (node h ts) (node h us) answer (Err e)
-    form_refused {p = p} tree answer e g = record {
+    form_refused {A} {B} {p} tree answer e g = record {
       passes = passes_within (omega (arith, weight_parts_most r.store (node h ts), weight_parts_most r.store (node h us)))
           (fronted_passes h v i ts us x y f lx ly ex ey g.passes);
       verdict = refuses p e g.verdict;
+      exact = exactly A B p e g.exact;
     }
 
 -- Items have the numbers that they had.

@@ -80,7 +80,7 @@ rows : (h : Head) → IsRow (head_parts h)
 rows array = tt
 rows h = tt
 
-parts_list : (h : Head) (ts : Tree) → Fits (head_parts h) ts → IsList ts
+pub parts_list : (h : Head) (ts : Tree) → Fits (head_parts h) ts → IsList ts
 parts_list h ts f = row_list (head_parts h) ts (rows h) f
 
 pub list_of : (h : Head) (s : Sort) (ts a : Tree) → a ≡ node h ts → IsTerm s a → IsList ts
@@ -96,7 +96,7 @@ branches_list (node value_branch ts) k = parts_list value_branch ts k.1
 branches_list v k = tt
 
 -- What a value is over.
-value_shape : (ts : Tree) → Fits (head_parts value) ts → (t : Tree) × (v : Tree) × (ts ≡ cons t (cons v nil)) × IsTerm value_sort v
+pub value_shape : (ts : Tree) → Fits (head_parts value) ts → (t : Tree) × (v : Tree) × (ts ≡ cons t (cons v nil)) × IsTerm value_sort v
 value_shape (cons t (cons v nil)) f = (t, v, refl, f.1.0)
 value_shape (cons t (cons v (cons u us))) f = absurd f.1.1
 value_shape (cons t (cons v (leaf l))) f = absurd f.1.1
@@ -114,7 +114,7 @@ const_parts_list (node value ts) f = (let (t, v, e, h) = value_shape ts f.1 in s
 const_parts_list t f = tt
 
 -- Value trees that an assignment makes one.
-no_value_variable : (k : VarKind) → Admits value_sort (var_sort k) → ⊥
+pub no_value_variable : (k : VarKind) → Admits value_sort (var_sort k) → ⊥
 no_value_variable type_var h = h
 no_value_variable int_var h = h
 no_value_variable float_var h = h

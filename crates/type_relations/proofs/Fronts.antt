@@ -1,23 +1,57 @@
 -- A loop over the parts of two forms, which relates them one after another.
-use Rattle.std.proofs.Common.{◌≡◌, ℕ, suc, ◌+◌, ◌≤◌, ◌<◌, sym, ◌∙◌, subst, subst₂, arith, [], Ok}
+use Rattle.std.proofs.Common.{◌≡◌, ℕ, zero, suc, ◌+◌, ◌≤◌, ◌<◌, refl, sym, ap, ◌∙◌, subst, subst₂, arith, [], Ok}
+use Rattle.relation_terms.specs.declared.terms.enums.Variance.TheVariants.{Invariant}
+use Rattle.relation_terms.specs.Variances.{xform}
+use Rattle.type_relations.specs.FirstOrder.{IsFirstOrder, IsFirstOrderStore}
+use Rattle.type_relations.specs.Headline.{IsFirstOrderPair}
+use Rattle.type_relations.proofs.Exactness.{exact_front_goes_on, exact_front_ends}
 use Rattle.relation_terms.specs.declared.terms.enums.Variance.{Variance}
-use Rattle.relation_terms.specs.Heads.{Head}
-use Rattle.relation_terms.specs.Trees.{Tree, IsList, count, nth}
-use Rattle.type_relations.specs.Relation.{at, parts, part_at}
+use Rattle.relation_terms.specs.Heads.{Head, value_type}
+use Rattle.relation_terms.specs.Trees.{Tree, leaf, node, bind, nil, cons, IsList, count, nth}
+use Rattle.type_relations.specs.Relation.{Items, at, parts, part_at, mode}
 use Rattle.type_relations.specs.Stores.{Store, InContext, weight, resolved}
-use Rattle.type_relations.specs.Outcomes.{Outcome, Front, NeverOne}
+use Rattle.type_relations.specs.Outcomes.{Outcome, Front, NeverOne, Exact, ExactFront, NoUnifier}
 use Rattle.type_relations.specs.Measures.{grown}
 use Rattle.type_relations.specs.Lawful.{State, Manner, Passes, Related, items_in}
-use Rattle.type_relations.proofs.Going.{pair_grown}
+use Rattle.type_relations.proofs.Going.{pair_grown, later_itself}
 use Rattle.type_relations.proofs.Composing.{front_begins, front_goes_on, front_ends}
 use Rattle.type_relations.proofs.Passing.{passes_nowhere, passes_then, outcome_seen}
 use Rattle.type_relations.proofs.Parts.{nth_size}
 
+-- Forms whose parts are looked at, which are at invariance where the form is.
+abbrev pub IsLookedAt : Head → Type 0
+IsLookedAt value_type = ⊥
+IsLookedAt h = Unit {0}
+
+part_invariant : (c : Items) (h : Head) (i : ℕ) (v : Variance) → IsLookedAt h → v ≡ Invariant →
+    part_at c h i v ≡ Invariant
+part_invariant c value_type i v l e = absurd l
+part_invariant c h i v l e = ap (λ z. xform z (mode c h i)) e
+
+-- A part of a first-order list is first-order.
+first_order_nth : (ts : Tree) (i : ℕ) → i < count ts → IsFirstOrder ts → IsFirstOrder (nth i ts)
+first_order_nth (cons t ts) zero l h = h.0
+first_order_nth (cons t ts) (suc i) l h = first_order_nth ts i (omega (arith, l)) h.1
+first_order_nth (leaf x) i l h = absurd (omega (arith, l))
+first_order_nth (node g ts) i l h = absurd (omega (arith, l))
+first_order_nth (bind ks t) i l h = absurd (omega (arith, l))
+first_order_nth nil i l h = absurd (omega (arith, l))
+
+exact_front_begins : (st : Store) (xs ys : Tree) → ExactFront 0 st st xs ys
+exact_front_begins st xs ys = record {
+  later = later_itself st;
+  shrinks = λ s sol. sol;
+  unifies = λ s sol j l. absurd (omega (arith, l));
+  keeps = λ s sol one. (s, (λ k n m. refl), sol);
+}
+
 -- The first `i` parts of two lists of parts of a form at a variance were related.
-pub record Fronted {Key Id Name : Type 0} (r q : State Key Id Name) (h : Head) (v : Variance) (i : ℕ) (xs ys : Tree)
-    : Type 0 where
+pub record Fronted {Key Id Name : Type 0} (M : Manner) (r q : State Key Id Name) (h : Head) (v : Variance) (i : ℕ)
+    (xs ys : Tree) : Type 0 where
   pub passes : Passes (weight r.store xs + weight r.store ys) r q
   pub front : Front (items_in r) r.environment h v i r.store q.store r.goals passes.added xs ys
+  pub exact : M.is_exact → v ≡ Invariant → IsLookedAt h → IsFirstOrderPair r.store xs ys →
+      IsFirstOrderStore q.store × ExactFront i r.store q.store xs ys
 
 -- What is asked of two lists of parts.
 pub record AreParts (st : Store) (xs ys : Tree) : Type 0 where
@@ -32,15 +66,17 @@ unfolding weight
 nth_weight st ts i h = nth_size (resolved st) ts i h
 
 module _ {Key Id Name : Type 0} where
-  pub fronted_none : (r : State Key Id Name) (h : Head) (v : Variance) (xs ys : Tree) → Fronted r r h v 0 xs ys
+  pub fronted_none : (M : Manner) (r : State Key Id Name) (h : Head) (v : Variance) (xs ys : Tree) →
+      Fronted M r r h v 0 xs ys
   unfolding passes_nowhere
-  fronted_none r h v xs ys = record {
+  fronted_none M r h v xs ys = record {
     passes = passes_nowhere (weight r.store xs + weight r.store ys) r;
     front = front_begins (items_in r) r.environment h v r.store r.goals xs ys;
+    exact = λ k is looked pair. (pair.bindings, exact_front_begins r.store xs ys);
   }
 
-  module _ {r q : State Key Id Name} (h : Head) (v : Variance) (i : ℕ) (xs ys x y : Tree) (f : Fronted r q h v i xs ys)
-      (lx : i < count xs) (ly : i < count ys) (ex : x ≡ nth i xs) (ey : y ≡ nth i ys) where
+  module _ {M : Manner} {r q : State Key Id Name} (h : Head) (v : Variance) (i : ℕ) (xs ys x y : Tree)
+      (f : Fronted M r q h v i xs ys) (lx : i < count xs) (ly : i < count ys) (ex : x ≡ nth i xs) (ey : y ≡ nth i ys) where
     -- Two parts weigh less than the lists did, but for what was instantiated.
     pub part_small : weight q.store x + weight q.store y ≤
         grown (((f.passes).goes).spent) (weight r.store xs + weight r.store ys)
@@ -51,18 +87,42 @@ module _ {Key Id Name : Type 0} where
         (sym ex) (sym ey)
         (pair_grown (f.passes).goes (weight r.store xs + weight r.store ys) (nth i xs) (nth i ys) (omega arith) (omega arith))
 
-    pub fronted_next : {X : Type 0} {p : State Key Id Name} (M : Manner) (tree : X → Tree) (t : X) →
+    -- The parts are first-order where the lists are.
+    pair_at : IsFirstOrderPair r.store xs ys → IsFirstOrderStore q.store → IsFirstOrderPair q.store x y
+    pair_at pair bindings = record {
+      left = subst IsFirstOrder (sym ex) (first_order_nth xs i lx pair.left);
+      right = subst IsFirstOrder (sym ey) (first_order_nth ys i ly pair.right);
+      bindings = bindings;
+    }
+
+    pub fronted_next : {X : Type 0} {p : State Key Id Name} (tree : X → Tree) (t : X) →
         AreParts r.store xs ys → Related M q p (part_at (items_in r) h i v) x y tree (Ok t) →
-        Fronted r p h v (suc i) xs ys
+        Fronted M r p h v (suc i) xs ys
     unfolding passes_then
-    fronted_next {X} {p} M tree t are g = record {
+    fronted_next {X} {p} tree t are g = record {
       passes = passes_then f.passes g.passes part_small;
       front = (front_goes_on (items_in r) r.environment h v i r.store q.store p.store r.goals (f.passes).added
           (g.passes).added xs ys are.left_list are.right_list are.left_in are.right_in f.front).0
           (outcome_seen f.passes (at (part_at (items_in r) h i v)) p.store (g.passes).added (nth i xs) (nth i ys)
           (subst₂ (λ t u. Outcome (items_in q) q.environment (at (part_at (items_in r) h i v)) q.store p.store q.goals
           (g.passes).added t u) ex ey (g.verdict).outcome));
+      exact = λ k is looked pair.
+          let z = f.exact k is looked pair in
+          let o = g.exact k (part_invariant (items_in r) h i v looked is) (pair_at pair z.0) in (
+            o.0,
+            (exact_front_goes_on i r.store q.store p.store xs ys are.left_list are.right_list are.left_in are.right_in
+                z.1).0 (subst₂ (Exact q.store p.store) ex ey o.1),
+          );
     }
+
+    -- Nor are lists unified two of whose parts are not.
+    pub fronted_apart : AreParts r.store xs ys → M.is_exact → v ≡ Invariant → IsLookedAt h →
+        IsFirstOrderPair r.store xs ys → (M.is_exact → part_at (items_in r) h i v ≡ Invariant →
+        IsFirstOrderPair q.store x y → NoUnifier q.store x y) → NoUnifier r.store xs ys
+    fronted_apart are k is looked pair g =
+        let z = f.exact k is looked pair in
+        (exact_front_goes_on i r.store q.store q.store xs ys are.left_list are.right_list are.left_in are.right_in z.1).1
+        (subst₂ (NoUnifier q.store) ex ey (g k (part_invariant (items_in r) h i v looked is) (pair_at pair z.0)))
 
     -- Where two parts are never one, nor are the lists.
     pub fronted_never : AreParts r.store xs ys → NeverOne (at (part_at (items_in r) h i v)) q.store x y →
@@ -76,10 +136,21 @@ module _ {Key Id Name : Type 0} where
         Passes (weight r.store xs + weight r.store ys) r p
     fronted_passes g = passes_then f.passes g part_small
 
-  pub fronted_all : {r q : State Key Id Name} (h : Head) (v : Variance) (n : ℕ) (xs ys : Tree) → AreParts r.store xs ys →
-      n ≡ count xs → n ≡ count ys → (f : Fronted r q h v n xs ys) →
+  -- All parts were related exactly.
+  pub fronted_exactly : {M : Manner} {r q : State Key Id Name} (h : Head) (v : Variance) (n : ℕ) (xs ys : Tree) →
+      AreParts r.store xs ys → n ≡ count xs → n ≡ count ys → Fronted M r q h v n xs ys → M.is_exact → v ≡ Invariant →
+      IsLookedAt h → IsFirstOrderPair r.store xs ys → IsFirstOrderStore q.store × Exact r.store q.store xs ys
+  fronted_exactly {M} {r} {q} h v n xs ys are e d f k is looked pair =
+      let z = f.exact k is looked pair in (
+        z.0,
+        exact_front_ends r.store q.store xs ys are.left_list are.right_list (sym e ∙ d)
+            (subst (λ i. ExactFront i r.store q.store xs ys) e z.1),
+      )
+
+  pub fronted_all : {M : Manner} {r q : State Key Id Name} (h : Head) (v : Variance) (n : ℕ) (xs ys : Tree) →
+      AreParts r.store xs ys → n ≡ count xs → n ≡ count ys → (f : Fronted M r q h v n xs ys) →
       Outcome (items_in r) r.environment (parts h 0 v) r.store q.store r.goals (f.passes).added xs ys
-  fronted_all {r} {q} h v n xs ys are e d f =
+  fronted_all {M} {r} {q} h v n xs ys are e d f =
       front_ends (items_in r) r.environment h v r.store q.store r.goals (f.passes).added xs ys are.left_list are.right_list
       (sym e ∙ d)
       (subst (λ i. Front (items_in r) r.environment h v i r.store q.store r.goals (f.passes).added xs ys) e f.front)

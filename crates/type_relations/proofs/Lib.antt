@@ -39,3 +39,4 @@ pub mod Constraints
 pub mod DiagInfo
 pub mod Making
 pub mod Answering
+pub mod Unifying

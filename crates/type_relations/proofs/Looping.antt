@@ -69,7 +69,7 @@ some_part i n h = omega (arith, h)
 module _ {Key Id Name : Type 0} (M : Manner) (is : TakesParts M) (r q : State Key Id Name) (a b : Tree) (i : ℕ)
     (x y : Tree) (kx : IsTrue (known x)) (ky : IsTrue (known y)) (k : Asked M r r.ambient a b) where
   -- Of types.
-  module _ (f : Fronted r q (head_of a) r.ambient i (parts_of a) (parts_of b)) (lx : i < count (parts_of a))
+  module _ (f : Fronted M r q (head_of a) r.ambient i (parts_of a) (parts_of b)) (lx : i < count (parts_of a))
       (ly : i < count (parts_of b)) (ex : x ≡ nth i (parts_of a)) (ey : y ≡ nth i (parts_of b)) where
     pub next_asked : (w : Variance) → w ≡ part_at (items_in r) (head_of a) i r.ambient →
         w ≡ part_at (items_in r) (head_of b) i r.ambient → Asked M q w x y
@@ -100,7 +100,7 @@ module _ {Key Id Name : Type 0} (M : Manner) (is : TakesParts M) (r q : State Ke
         omega (arith, d, e)
 
   -- Of constants.
-  module _ (f : Fronted r q (const_head_of a) r.ambient i (const_parts_of a) (const_parts_of b))
+  module _ (f : Fronted M r q (const_head_of a) r.ambient i (const_parts_of a) (const_parts_of b))
       (lx : i < count (const_parts_of a)) (ly : i < count (const_parts_of b)) (ex : x ≡ nth i (const_parts_of a))
       (ey : y ≡ nth i (const_parts_of b)) where
     pub next_const_asked : (w : Variance) → w ≡ part_at (items_in r) (const_head_of a) i r.ambient →

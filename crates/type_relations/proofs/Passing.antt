@@ -1,5 +1,5 @@
 -- Steps and calls over a relation, one after another.
-use Rattle.std.proofs.Common.{◌≡◌, ℕ, ◌+◌, ◌≤◌, refl, sym, ap, ◌∙◌, subst, subst₂, arith, List, [], ◌++◌, All, IsTrue, Result, Ok, Err, IfOk}
+use Rattle.std.proofs.Common.{◌≡◌, ◌↔◌, ℕ, ◌+◌, ◌≤◌, refl, sym, ap, ◌∙◌, subst, subst₂, arith, List, [], ◌++◌, All, IsTrue, Result, Ok, Err, IfOk}
 use Rattle.std.proofs.Common.{append_assoc, get_or}
 use Rattle.std.proofs.lemmas.List.{append-nil}
 use Rattle.std.proofs.lemmas.Bool.{false≢true}
@@ -7,7 +7,7 @@ use Rattle.std.specs.Result.{IsErr, IsErrAnd}
 use Rattle.std.proofs.lemmas.List.Elements.{All-nil, All-append}
 use Rattle.relation_terms.specs.declared.terms.enums.Variance.{Variance}
 use Rattle.relation_terms.specs.Trees.{Tree, Assign, apply, known}
-use Rattle.relation_terms.specs.declared.terms.enums.Variance.TheVariants.{Bivariant}
+use Rattle.relation_terms.specs.declared.terms.enums.Variance.TheVariants.{Bivariant, Invariant}
 use Rattle.relation_terms.specs.Meaning.{Extends as ExtendsMeaning}
 use Rattle.relation_terms.specs.Variances.{xform}
 use Rattle.relation_terms.proofs.Stays.{stays_same, extends_on}
@@ -19,9 +19,14 @@ use Rattle.relation_tools.specs.Faults.{KnowsError}
 use Rattle.type_relations.specs.Errors.{ErrorOf}
 use Rattle.type_relations.specs.Stores.{Store, weight}
 use Rattle.type_relations.specs.Goals.{Goal, GoalInContext, Holds, Relates, Asked as Asks, asked, asks_too_much, asks_nothing, IsQuiet, AsksNoPair, HasOneTree, MakesOneTree}
-use Rattle.type_relations.specs.Outcomes.{Outcome, NeverOne}
+use Rattle.type_relations.specs.Outcomes.{Outcome, NeverOne, Exact, ExactStep}
+use Rattle.type_relations.specs.Headline.{IsFirstOrderPair}
+use Rattle.type_relations.specs.FirstOrder.{IsFirstOrderStore, IsErasedSolution}
+use Rattle.type_relations.specs.Steps.{IsLater}
 use Rattle.type_relations.specs.Measures.{grown, Goes}
 use Rattle.type_relations.specs.Lawful.{State, Manner, MayAnswer, Passes, Asked, Refuses, Answers, Verdict, Related, Leads}
+use Rattle.type_relations.specs.Lawful.{ExactResult, ExactlyRelated}
+use Rattle.type_relations.proofs.Exactness.{exact_steps_compose}
 use Rattle.type_relations.specs.Lawful.{LeadsToParts, LeadsAgain, Noted, Turned, Stepped, OnlyMemory, WithMeaning, declared_by, items_in}
 use Rattle.type_relations.proofs.Going.{goes_nowhere, goes_within, goes_then, le_grown, later_itself, later_through}
 use Rattle.type_relations.proofs.Composing.{steps_compose, goals_both, first_goals}
@@ -36,6 +41,26 @@ moved {c} {d} {e} {k} {gs} {hs} way before after added a b p q s f =
     subst (λ z. Outcome z k way before after hs added a b) p
     (subst (λ z. Outcome c z way before after hs added a b) q
     (subst (λ z. Outcome c e way before after z added a b) s f))
+
+-- Invariance seen from invariance, which is not bivariance.
+invariantly : (v : Variance) {w : Variance} → w ≡ Invariant → xform w v ≡ Invariant
+invariantly v e = ap (λ z. xform z v) e ∙ from_it v
+  where
+    from_it : (v : Variance) → xform Invariant v ≡ Invariant
+    from_it v = refl
+
+invariant_is_not : Invariant ≡ Bivariant → ⊥
+invariant_is_not e = absurd cc
+
+-- What is exact stays so where all solutions up to erasure stay.
+exact_kept : (before middle after : Store) (a b : Tree) → IsLater middle after →
+    ((s : Assign) → IsErasedSolution middle s ↔ IsErasedSolution after s) → Exact before middle a b →
+    Exact before after a b
+exact_kept before middle after a b l same f = record {
+  later = later_through f.later l;
+  shrinks = λ s sol. f.shrinks s ((same s).1 sol);
+  keeps = λ s sol one. let z = f.keeps s sol one in (z.0, z.1, (same z.0).0 z.2);
+}
 
 module _ {Key Id Name : Type 0} where
   unfoldable pub passes_nowhere : (n : ℕ) (r : State Key Id Name) → Passes n r r
@@ -122,14 +147,48 @@ module _ {Key Id Name : Type 0} where
   led_refuses g f a b x y v l Budget h = h
   led_refuses g f a b x y v l Memory h = tt
 
+  -- A step led exactly to another pair, and what comes of that.
+  abbrev pub LeadsExactly : Manner → State Key Id Name → State Key Id Name → Tree → Tree → Tree → Tree → Type 0
+  LeadsExactly M r q a b x y = M.is_exact → r.ambient ≡ Invariant → IsFirstOrderPair r.store a b →
+      IsFirstOrderPair q.store x y × ExactStep r.store q.store a b x y
+
+  exact_led : {X : Type 0} (M : Manner) (before middle after : Store) (a b x y : Tree) (v w : Variance) →
+      (v ≡ Invariant → w ≡ Invariant) → (M.is_exact → v ≡ Invariant → IsFirstOrderPair before a b →
+      IsFirstOrderPair middle x y × ExactStep before middle a b x y) → (res : Result X (RelateFault Key Id Name)) →
+      ExactlyRelated M middle after w x y res → ExactlyRelated M before after v a b res
+  exact_led M before middle after a b x y v w also led (Ok t) f k is pair =
+      let l = led k is pair in
+      let o = f k (also is) l.0 in
+      (o.0, (exact_steps_compose before middle after a b x y l.1).0 o.1)
+  exact_led M before middle after a b x y v w also led (Err (Unrelated e)) f k is pair =
+      let l = led k is pair in
+      (exact_steps_compose before middle after a b x y l.1).1 (f k (also is) l.0)
+  exact_led M before middle after a b x y v w also led (Err Budget) f k is pair = tt
+  exact_led M before middle after a b x y v w also led (Err Memory) f k is pair = tt
+
+  -- A fault, of whatever was to be answered; want of memory says nothing.
+  exact_fault : (X Y : Type 0) (before after : Store) (a b : Tree) (e : RelateFault Key Id Name) →
+      ExactResult {X = X} before after a b (Err e) → ExactResult {X = Y} before after a b (Err e)
+  exact_fault X Y before after a b (Unrelated e) f = f
+  exact_fault X Y before after a b Budget f = f
+  exact_fault X Y before after a b Memory f = f
+
+  nothing_said : (X : Type 0) (before after : Store) (a b : Tree) (e : RelateFault Key Id Name) →
+      OnlyMemory {X = X} (Err e) → ExactResult {X = X} before after a b (Err e)
+  nothing_said X before after a b Memory k = tt
+  nothing_said X before after a b e k = absurd k
+
   -- The two forms to which a step led were related by their parts.
   pub parts_related : {X : Type 0} {r q p : State Key Id Name} (M : Manner) (F : Tree → Type 0) (a b x y : Tree)
       (tree : X → Tree) (result : Result X (RelateFault Key Id Name))
       (g : Passes (weight r.store a + weight r.store b) r q) → LeadsToParts M F r q g.added a b x y →
-      Related M q p r.ambient x y tree result → Related M r p r.ambient a b tree result
+      LeadsExactly M r q a b x y → Related M q p r.ambient x y tree result → Related M r p r.ambient a b tree result
   unfolding passes_then
-  parts_related {X} {r} {q} {p} M F a b x y tree result g l f =
-      record { passes = passes_then g f.passes small; verdict = verdict result f.verdict }
+  parts_related {X} {r} {q} {p} M F a b x y tree result g l exactly f = record {
+      passes = passes_then g f.passes small;
+      verdict = verdict result f.verdict;
+      exact = exact_led M r.store q.store p.store a b x y r.ambient r.ambient (λ e. e) exactly result f.exact;
+    }
     where
       small : weight q.store x + weight q.store y ≤ grown (g.goes).spent (weight r.store a + weight r.store b)
       small =
@@ -148,7 +207,8 @@ module _ {Key Id Name : Type 0} where
 
   -- The pair to which a step led was related, and the left term as read is the answer.
   module _ {r q : State Key Id Name} (M : Manner) (a b k l x y : Tree) (v : Variance)
-      (g : Passes (weight r.store a + weight r.store b) r q) (led : LeadsAgain M r q g.added a b k l v x y) where
+      (g : Passes (weight r.store a + weight r.store b) r q) (led : LeadsAgain M r q g.added a b k l v x y)
+      (exactly : LeadsExactly M r q a b x y) where
     one_spent : (g.goes).spent ≡ 1
     one_spent = let c = (g.goes).counts in let f = led.falls in omega arith
 
@@ -159,21 +219,25 @@ module _ {Key Id Name : Type 0} where
     pub again_related : {X Y : Type 0} {p : State Key Id Name} (tree : X → Tree) (t : X) (answer : Y → Tree) (z : Y) → answer z ≡ k →
         Related M q p (xform r.ambient v) x y tree (Ok t) → Related M r p r.ambient a b answer (Ok z)
     unfolding passes_then
-    again_related {p = p} tree t answer z e f = record {
+    again_related {Y = Y} {p = p} tree t answer z e f = record {
       passes = passes_then g f.passes small;
       verdict = record {
         outcome = led_outcome g f.passes a b x y (xform r.ambient v) led.leads (f.verdict).outcome;
         answer = subst (MayAnswer M p.store a) (sym e) (led.answers p.store ((f.passes).goes).later);
         known = subst (λ u. IsTrue (known u)) (sym e) (led.read_asked).left_known;
       };
+      exact = exact_led {X = Y} M r.store q.store p.store a b x y r.ambient (xform r.ambient v) (invariantly v) exactly
+          (Ok z) f.exact;
     }
 
     pub again_refused : {X Y : Type 0} {p : State Key Id Name} (tree : X → Tree) (answer : Y → Tree) (e : RelateFault Key Id Name) →
         Related M q p (xform r.ambient v) x y tree (Err e) → Related M r p r.ambient a b answer (Err e)
     unfolding passes_then
-    again_refused tree answer e f = record {
+    again_refused {X = X} {Y = Y} {p = p} tree answer e f = record {
       passes = passes_then g f.passes small;
       verdict = led_refuses g f.passes a b x y (xform r.ambient v) led.leads e f.verdict;
+      exact = exact_led {X = Y} M r.store q.store p.store a b x y r.ambient (xform r.ambient v) (invariantly v) exactly
+          (Err e) (λ k is pair. exact_fault X Y q.store p.store x y e (f.exact k is pair));
     }
 
   -- What is noted after two terms were related leaves them so.
@@ -219,12 +283,18 @@ module _ {Key Id Name : Type 0} where
             (may_later M q.store p.store a (tree t) ((h.passes).goes).later.shrinks (f.verdict).answer);
         known = subst (λ u. IsTrue (known u)) (sym e) (f.verdict).known;
       };
+      exact = λ k is pair. let z = f.exact k is pair in
+          (h.first_order z.0, exact_kept r.store q.store p.store a b ((h.passes).goes).later h.keeps_erased z.1);
     }
 
     pub noted_refused : {Z : Type 0} (answer : Z → Tree) (e : RelateFault Key Id Name) → note ≡ Err e →
         Related {X = Z} M r p v a b answer (Err e)
     unfolding passes_then both
-    noted_refused answer e n = record { passes = both; verdict = refuses e (subst OnlyMemory n h.fault) }
+    noted_refused {Z} answer e n = record {
+      passes = both;
+      verdict = refuses e (subst OnlyMemory n h.fault);
+      exact = λ k is pair. nothing_said Z r.store p.store a b e (subst OnlyMemory n h.fault);
+    }
       where
         refuses : (e : RelateFault Key Id Name) → OnlyMemory {X = Y} (Err e) → Refuses r p v a b e
         refuses Memory k = tt
@@ -267,7 +337,11 @@ module _ {Key Id Name : Type 0} where
     pub turned : (result : Result X (RelateFault Key Id Name)) → Related M t q v a b tree result →
         Related M r u v a b tree result
     unfolding turned_passes
-    turned result f = record { passes = turned_passes f.passes; verdict = verdict result f.verdict }
+    turned result f = record {
+      passes = turned_passes f.passes;
+      verdict = verdict result f.verdict;
+      exact = subst₂ (λ s z. ExactlyRelated M s z v a b result) there.store (sym back.store) f.exact;
+    }
       where
         verdict : (res : Result X (RelateFault Key Id Name)) → Verdict M t q (f.passes).added v a b tree res →
             Verdict M r u (f.passes).added v a b tree res
@@ -290,6 +364,7 @@ module _ {Key Id Name : Type 0} where
       answer = subst (MayAnswer M r.store a) (sym same) (may_itself M r.store a);
       known = subst (λ u. IsTrue (known u)) (sym same) k;
     };
+    exact = λ k is pair. absurd (invariant_is_not (sym is ∙ e));
   }
 
   -- Nothing was noted.
@@ -334,6 +409,7 @@ module _ {Key Id Name : Type 0} where
         answer = subst (λ s. MayAnswer M s a (answer z)) (sym w.store) value;
         known = sure;
       };
+      exact = λ k is pair. subst (λ s. IsFirstOrderStore s × Exact r.store s a b) (sym w.store) (f.exact k is pair);
     }
 
     -- Or it could not be made.
@@ -342,7 +418,8 @@ module _ {Key Id Name : Type 0} where
         IfOk res (λ z. MayAnswer M q.store a (answer z) × IsTrue (known (answer z))) → Related M r p v a b answer res
     unfolding passes_grown
     made_or_not tree t f (Ok z) only h = remade tree t f z h.0 h.1
-    made_or_not tree t f (Err Memory) only h = record { passes = passes_grown f.passes e w; verdict = tt }
+    made_or_not tree t f (Err Memory) only h =
+        record { passes = passes_grown f.passes e w; verdict = tt; exact = λ k is pair. tt }
     made_or_not tree t f (Err g) only h = absurd only
 
     -- The form over what may be answered for the parts was made, or could not be.
@@ -357,12 +434,12 @@ module _ {Key Id Name : Type 0} where
   -- Memory ran out.
   pub stopped : {X : Type 0} {r q : State Key Id Name} (M : Manner) (v : Variance) (a b : Tree) (tree : X → Tree) →
       Passes (weight r.store a + weight r.store b) r q → Related {X = X} M r q v a b tree (Err Memory)
-  stopped M v a b tree g = record { passes = g; verdict = tt }
+  stopped M v a b tree g = record { passes = g; verdict = tt; exact = λ k is pair. tt }
 
   -- A step that answers.
   pub step_done : {K : Type 0} {r q : State Key Id Name} (M : Manner) (F : Tree → Type 0) (a b : Tree) (tree : K → Tree)
       (t : K) → Stepped M F r q a b tree (Ok (Done t)) → Related M r q r.ambient a b tree (Ok t)
-  step_done M F a b tree t s = record { passes = s.passes; verdict = s.verdict }
+  step_done M F a b tree t s = record { passes = s.passes; verdict = s.verdict; exact = s.exact }
 
   -- The same answer in other words, and the same fault.
   pub retold : {X Y : Type 0} {r q : State Key Id Name} (M : Manner) (v : Variance) (a b : Tree) (tree : X → Tree) (t : X)
@@ -371,12 +448,18 @@ module _ {Key Id Name : Type 0} where
   retold {r = r} {q = q} M v a b tree t answer z e f = record {
     passes = f.passes;
     verdict = subst (λ u. Answers M r q (f.passes).added v a b u) (sym e) f.verdict;
+    exact = f.exact;
   }
 
   pub refused_again : {X Y : Type 0} {r q : State Key Id Name} (M : Manner) (v : Variance) (a b : Tree) (tree : X → Tree)
       (answer : Y → Tree) (e : RelateFault Key Id Name) → Related M r q v a b tree (Err e) →
       Related M r q v a b answer (Err e)
-  refused_again M v a b tree answer e f = record { passes = f.passes; verdict = f.verdict }
+  refused_again {X} {Y} {r} {q} M v a b tree answer e f =
+      record {
+        passes = f.passes;
+        verdict = f.verdict;
+        exact = λ k is pair. exact_fault X Y r.store q.store a b e (f.exact k is pair);
+      }
 
   -- What is related is so under the goals that are registered then.
   pub relates_by : {n : ℕ} {r q : State Key Id Name} (v : Variance) (a b : Tree) (g : Passes n r q) →
@@ -395,11 +478,11 @@ module _ {Key Id Name : Type 0} where
   -- So are the terms as a step read them, when the pair that it left is related.
   pub again_relates : {X : Type 0} {r q p : State Key Id Name} (M : Manner) (a b k l x y : Tree) (v : Variance)
       (g : Passes (weight r.store a + weight r.store b) r q) (led : LeadsAgain M r q g.added a b k l v x y)
-      (tree : X → Tree) (t : X) → Related M q p (xform r.ambient v) x y tree (Ok t) →
+      (exactly : LeadsExactly M r q a b x y) (tree : X → Tree) (t : X) → Related M q p (xform r.ambient v) x y tree (Ok t) →
       Relates (items_in p) p.store p.goals p.environment r.ambient k l
   unfolding passes_then
-  again_relates {r = r} {q = q} M a b k l x y v g led tree t f =
-      relates_by r.ambient k l (passes_then g f.passes (small M a b k l x y v g led))
+  again_relates {r = r} {q = q} M a b k l x y v g led exactly tree t f =
+      relates_by r.ambient k l (passes_then g f.passes (small M a b k l x y v g led exactly))
       (led_outcome g f.passes k l x y (xform r.ambient v) led.read_leads (f.verdict).outcome)
 
 -- A step that leaves the pair as it is.

@@ -22,9 +22,11 @@ use Rattle.type_relations.specs.Errors.{ErrorOf, IsHandedOn, of_parts, of_length
 use Rattle.type_relations.specs.Errors.{AreOfOneConst}
 use Rattle.type_relations.specs.Parts.{IsFormed, parts_of, const_parts_of, head_of, const_head_of}
 use Rattle.type_relations.specs.Handing.{IsPassedOn, IsNoLength, IsFaultOfTy, passed, sized, IsFaultOfConst, passed_const, whole}
-use Rattle.type_relations.specs.Lawful.{State, Manner, MayAnswer, Passes, Refuses, Related, items_in}
+use Rattle.type_relations.specs.Lawful.{State, Manner, MayAnswer, Passes, Refuses, Related, ExactResult, ExactlyRelated, items_in}
 use Rattle.type_relations.proofs.Passing.{passes_within}
-use Rattle.type_relations.proofs.Fronts.{Fronted, AreParts, fronted_never, fronted_all, fronted_passes}
+use Rattle.type_relations.proofs.Fronts.{Fronted, AreParts, fronted_never, fronted_all, fronted_passes, fronted_apart, fronted_exactly}
+use Rattle.type_relations.proofs.Unifying.{first_order_parts, formed_looked_at, types_unify, exact_as, apart_as}
+use Rattle.type_relations.specs.Headline.{IsFirstOrderPair}
 use Rattle.type_relations.proofs.OneParts.{related_head, parts_equal, const_parts_equal, sort_is}
 use Rattle.type_relations.proofs.Handing.{ty_fault_known}
 use Rattle.type_relations.proofs.PartSizes.{weight_parts_most}
@@ -102,6 +104,19 @@ module _ {Key Id Name : Type 0} where
   same_const_fault t c d f g (passed_const is o) n = is
   same_const_fault t c d f g (whole e j is k) n = absurd (n e is)
 
+pub still_unrelated : {Key Id Name : Type 0} (t : Tree) (X Y : GenericArgKind Key) (e : TypeError Key Id Name)
+    (k : RelateFault Key Id Name) → IsFaultOfTy t X Y (Unrelated e) k → (d : TypeError Key Id Name) × (k ≡ Unrelated d)
+still_unrelated t X Y e k (passed is o) = (e, is)
+still_unrelated t X Y e k (sized c d p j x y is eq) = (ArraySize (record { expected = c; found = d }), eq)
+
+-- The parts of two first-order types.
+parts_pair : (st : Store) (a b : Tree) → IsFirstOrderPair st a b → IsFirstOrderPair st (parts_of a) (parts_of b)
+parts_pair st a b pair = record {
+  left = first_order_parts a pair.left;
+  right = first_order_parts b pair.right;
+  bindings = pair.bindings;
+}
+
 -- Lists of parts of a form that are never one are the parts of forms that are never one.
 pub types_never : (st : Store) (v : Variance) (a b : Tree) → AreOfOneForm a b →
     NeverOne (parts (head_of a) 0 v) st (parts_of a) (parts_of b) → NeverOne (at v) st a b
@@ -113,7 +128,7 @@ consts_never st v a b o n w s sat q = n w s sat (const_parts_equal a b o s q)
 
 module _ {Key Id Name : Type 0} {r q : State Key Id Name} (M : Manner) (v : Variance) (a b : Tree) (i : ℕ) where
   -- Two parts of two types were refused, and so are the types.
-  module _ (is_formed : IsFormed a) (o : AreOfOneForm a b) (f : Fronted r q (head_of a) v i (parts_of a) (parts_of b))
+  module _ (is_formed : IsFormed a) (o : AreOfOneForm a b) (f : Fronted M r q (head_of a) v i (parts_of a) (parts_of b))
       (are : AreParts r.store (parts_of a) (parts_of b)) (X Y : GenericArgKind Key)
       (x_known : IsTrue (known (arg_tree q.meaning X))) (y_known : IsTrue (known (arg_tree q.meaning Y)))
       (s : Sorted q.meaning) (lx : i < count (parts_of a)) (ly : i < count (parts_of b))
@@ -136,20 +151,36 @@ module _ {Key Id Name : Type 0} {r q : State Key Id Name} (M : Manner) (v : Vari
           subst (KnowsFault p.meaning) z.1 (ty_fault_known p.meaning a X Y (Unrelated e) k kx ky t h.2),
         )
 
+    ty_exactly : (A B : Type 0) (p : State Key Id Name) (e k : RelateFault Key Id Name) → IsFormed b →
+        IsFaultOfTy a X Y e k →
+        ExactlyRelated {X = A} M q.store p.store (part_at (items_in r) (head_of a) i v) (arg_tree q.meaning X)
+        (arg_tree q.meaning Y) (Err e) → ExactlyRelated {X = B} M r.store p.store v a b (Err k)
+    ty_exactly A B p Memory k is_formed' t g exact is pair = subst (λ k. ExactResult {X = B} r.store p.store a b (Err k))
+        (sym (same_fault a X Y Memory k t (λ e z. cc))) tt
+    ty_exactly A B p Budget k is_formed' t g exact is pair = subst (λ k. ExactResult {X = B} r.store p.store a b (Err k))
+        (sym (same_fault a X Y Budget k t (λ e z. cc))) tt
+    ty_exactly A B p (Unrelated e) k is_formed' t g exact is pair =
+        let z = still_unrelated a X Y e k t in
+        subst (λ k. ExactResult {X = B} r.store p.store a b (Err k)) (sym z.1)
+        (apart_as r.store a b (parts_of a) (parts_of b) (types_unify a b is_formed is_formed' o)
+        (fronted_apart (head_of a) v i (parts_of a) (parts_of b) (arg_tree q.meaning X) (arg_tree q.meaning Y) f lx ly ex
+        ey are exact is (formed_looked_at a is_formed) (parts_pair r.store a b pair) g))
+
     pub ty_refused : {A B : Type 0} {p : State Key Id Name} (tree : A → Tree) (answer : B → Tree)
-        (e k : RelateFault Key Id Name) → IsTrue (known (arg_tree p.meaning X)) →
+        (e k : RelateFault Key Id Name) → IsFormed b → IsTrue (known (arg_tree p.meaning X)) →
         IsTrue (known (arg_tree p.meaning Y)) → IsFaultOfTy a X Y e k →
         Related M q p (part_at (items_in r) (head_of a) i v) (arg_tree q.meaning X) (arg_tree q.meaning Y) tree (Err e) →
         Related M r p v a b answer (Err k)
-    ty_refused {p = p} tree answer e k kx ky t g = record {
+    ty_refused {A} {B} {p} tree answer e k is_formed' kx ky t g = record {
       passes = passes_within (omega (arith, weight_parts_most r.store a, weight_parts_most r.store b))
           (fronted_passes (head_of a) v i (parts_of a) (parts_of b) (arg_tree q.meaning X) (arg_tree q.meaning Y) f lx ly
           ex ey g.passes);
       verdict = ty_refuses g.passes e k kx ky t g.verdict;
+      exact = ty_exactly A B p e k is_formed' t g.exact;
     }
 
   -- All parts of two types were related, and so are the types.
-  types_relate : IsFormed a → (o : AreOfOneForm a b) → (f : Fronted r q (head_of a) v i (parts_of a) (parts_of b)) →
+  types_relate : IsFormed a → (o : AreOfOneForm a b) → (f : Fronted M r q (head_of a) v i (parts_of a) (parts_of b)) →
       AreParts r.store (parts_of a) (parts_of b) → i ≡ count (parts_of a) → i ≡ count (parts_of b) →
       (w : Interpretation) (s : Assign) → Satisfies w q.store s →
       All (Holds (items_in r) w s) (r.goals ++ (f.passes).added) →
@@ -166,12 +197,12 @@ module _ {Key Id Name : Type 0} {r q : State Key Id Name} (M : Manner) (v : Vari
   types_relate is_formed (parameters d e p) f are ea eb w s sat all =
       subst₂ (λ x y. Rel (items_in r) w r.environment (at v) (apply s x) (apply s y)) (sym d) (sym e) (atoms p)
 
-  pub types_related : {X : Type 0} (tree : X → Tree) (x : X) → IsFormed a → AreOfOneForm a b →
-      Fronted r q (head_of a) v i (parts_of a) (parts_of b) → AreParts r.store (parts_of a) (parts_of b) →
+  pub types_related : {X : Type 0} (tree : X → Tree) (x : X) → IsFormed a → IsFormed b → AreOfOneForm a b →
+      Fronted M r q (head_of a) v i (parts_of a) (parts_of b) → AreParts r.store (parts_of a) (parts_of b) →
       i ≡ count (parts_of a) → i ≡ count (parts_of b) → tree x ≡ a → IsTrue (known a) →
       Related M r q v a b tree (Ok x)
   unfolding passes_within
-  types_related tree x is_formed o f are ea eb answer k = record {
+  types_related tree x is_formed is_formed' o f are ea eb answer k = record {
     passes = passes_within (omega (arith, weight_parts_most r.store a, weight_parts_most r.store b)) f.passes;
     verdict = record {
       outcome = record {
@@ -183,4 +214,8 @@ module _ {Key Id Name : Type 0} {r q : State Key Id Name} (M : Manner) (v : Vari
       answer = subst (MayAnswer M q.store a) (sym answer) (may_itself M q.store a);
       known = subst (λ u. IsTrue (known u)) (sym answer) k;
     };
+    exact = λ exact is pair.
+        let z = fronted_exactly (head_of a) v i (parts_of a) (parts_of b) are ea eb f exact is
+        (formed_looked_at a is_formed) (parts_pair r.store a b pair) in
+        (z.0, exact_as r.store q.store a b (parts_of a) (parts_of b) (types_unify a b is_formed is_formed' o) z.1);
   }

@@ -19,14 +19,17 @@ use Rattle.relation_tools.specs.Faults.{KnowsError, KnowsFault}
 use Rattle.type_relations.specs.Relation.{Items, Interpretation, at, parts, part_at, Rel, same, atoms, forms, anything, no_parts, next_part, sort_of}
 use Rattle.type_relations.specs.Stores.{Store, Satisfies, IsTermIn, weight}
 use Rattle.type_relations.specs.Goals.{Holds}
-use Rattle.type_relations.specs.Outcomes.{NeverOne}
+use Rattle.type_relations.specs.Outcomes.{NeverOne, NoUnifier}
+use Rattle.type_relations.specs.Headline.{IsFirstOrderPair}
 use Rattle.type_relations.specs.Errors.{ErrorOf, of_parts, of_branches, of_kinds, of_forms, of_const_forms, FormError, ConstFormError}
 use Rattle.type_relations.specs.Errors.{AreOfOneConst, AreOfOneValue, values, expressions, const_parameters, one_value, as_many_branches}
 use Rattle.type_relations.specs.Parts.{IsFormed, IsFormedConst, const_parts_of, branches_of, const_head_of}
 use Rattle.type_relations.specs.Handing.{IsPassedOnConst, IsFaultOfConst, passed_const, whole}
-use Rattle.type_relations.specs.Lawful.{State, Manner, MayAnswer, Refuses, Related, items_in}
+use Rattle.type_relations.specs.Lawful.{State, Manner, MayAnswer, Refuses, Related, ExactResult, ExactlyRelated, items_in}
 use Rattle.type_relations.proofs.Passing.{passes_within, passes_nowhere}
-use Rattle.type_relations.proofs.Fronts.{Fronted, AreParts, fronted_never, fronted_all, fronted_passes}
+use Rattle.type_relations.proofs.Fronts.{Fronted, AreParts, fronted_never, fronted_all, fronted_passes, fronted_apart, fronted_exactly}
+use Rattle.type_relations.proofs.Unifying.{first_order_const_parts, const_looked_at, consts_unify, exact_as, apart_as, exact_itself}
+use Rattle.type_relations.proofs.Unifying.{forms_not_unified, const_forms_not_unified, erased_sort}
 use Rattle.type_relations.proofs.Structural.{same_const_fault, consts_never}
 use Rattle.type_relations.proofs.OneParts.{const_parts_equal, sort_is}
 use Rattle.type_relations.proofs.Comparing.{form_apart, const_form_apart, known_error, known_const_error, formed_no_variable, formed_const_no_variable}
@@ -74,6 +77,21 @@ module _ {Key Id Name : Type 0} (p : Meaning Key Id Name) (c d : ConstKey Key) (
   const_complains st f g (expressions {k = op} {ts} {us} j k n) l z w (whole {ts = vs} e o is eq) h =
       absurd (let y' = sym j ∙ o in cc)
 
+still_unrelated_const : {Key Id Name : Type 0} (t : Tree) (c d : ConstKey Key) (e : TypeError Key Id Name)
+    (k : RelateFault Key Id Name) → IsFaultOfConst t c d (Unrelated e) k →
+    (f : TypeError Key Id Name) × (k ≡ Unrelated f)
+still_unrelated_const t c d e k (passed_const is o) = (e, is)
+still_unrelated_const t c d e k (whole f o is eq) = (ConstMismatch (record { expected = c; found = d }), eq)
+
+-- The parts of two first-order constants.
+const_parts_pair : (st : Store) (a b : Tree) → IsFirstOrderPair st a b →
+    IsFirstOrderPair st (const_parts_of a) (const_parts_of b)
+const_parts_pair st a b pair = record {
+  left = first_order_const_parts a pair.left;
+  right = first_order_const_parts b pair.right;
+  bindings = pair.bindings;
+}
+
 -- The same, of trees that are the constants'.
 pub consts_complain : {Key Id Name : Type 0} (p : Meaning Key Id Name) (c d : ConstKey Key) (i : ℕ) (x y a b : Tree) →
     p.const_ c ≡ a → p.const_ d ≡ b → (st : Store) (f : TypeError Key Id Name) (g : RelateFault Key Id Name) →
@@ -103,7 +121,7 @@ value_parts c w e v s t u x y h = forms tt refl (next_part (forms tt refl (next_
 
 module _ {Key Id Name : Type 0} {r q : State Key Id Name} (M : Manner) (v : Variance) (a b : Tree) (i : ℕ) where
   -- Two parts of two constants were refused, and so are the constants.
-  module _ (o : AreOfOneConst a b) (f : Fronted r q (const_head_of a) v i (const_parts_of a) (const_parts_of b))
+  module _ (o : AreOfOneConst a b) (f : Fronted M r q (const_head_of a) v i (const_parts_of a) (const_parts_of b))
       (are : AreParts r.store (const_parts_of a) (const_parts_of b)) (c d : ConstKey Key) (x y : Tree)
       (lx : i < count (const_parts_of a)) (ly : i < count (const_parts_of b))
       (ex : x ≡ nth i (const_parts_of a)) (ey : y ≡ nth i (const_parts_of b)) where
@@ -124,20 +142,36 @@ module _ {Key Id Name : Type 0} {r q : State Key Id Name} (M : Manner) (v : Vari
               (subst (λ u. IsTrue (known u)) (sym ec) ka) (subst (λ u. IsTrue (known u)) (sym ed) kb) t h.2),
         )
 
+    const_exactly : (A B : Type 0) (p : State Key Id Name) (e k : RelateFault Key Id Name) → IsFormedConst a →
+        IsFormedConst b → IsFaultOfConst a c d e k →
+        ExactlyRelated {X = A} M q.store p.store (part_at (items_in r) (const_head_of a) i v) x y (Err e) →
+        ExactlyRelated {X = B} M r.store p.store v a b (Err k)
+    const_exactly A B p Memory k fa fb t g exact is pair = subst (λ k. ExactResult {X = B} r.store p.store a b (Err k))
+        (sym (same_const_fault a c d Memory k t (λ e z. cc))) tt
+    const_exactly A B p Budget k fa fb t g exact is pair = subst (λ k. ExactResult {X = B} r.store p.store a b (Err k))
+        (sym (same_const_fault a c d Budget k t (λ e z. cc))) tt
+    const_exactly A B p (Unrelated e) k fa fb t g exact is pair =
+        let z = still_unrelated_const a c d e k t in
+        subst (λ k. ExactResult {X = B} r.store p.store a b (Err k)) (sym z.1)
+        (apart_as r.store a b (const_parts_of a) (const_parts_of b) (consts_unify a b fa fb o)
+        (fronted_apart (const_head_of a) v i (const_parts_of a) (const_parts_of b) x y f lx ly ex ey are exact is
+        (const_looked_at a) (const_parts_pair r.store a b pair) g))
+
     pub const_refused : {A B : Type 0} {p : State Key Id Name} (tree : A → Tree) (answer : B → Tree)
-        (e k : RelateFault Key Id Name) → (p.meaning).const_ c ≡ a → (p.meaning).const_ d ≡ b → IsTrue (known a) →
+        (e k : RelateFault Key Id Name) → IsFormedConst a → IsFormedConst b → (p.meaning).const_ c ≡ a → (p.meaning).const_ d ≡ b → IsTrue (known a) →
         IsTrue (known b) → IsFaultOfConst a c d e k →
         Related M q p (part_at (items_in r) (const_head_of a) i v) x y tree (Err e) →
         Related M r p v a b answer (Err k)
-    const_refused {p = p} tree answer e k ec ed ka kb t g = record {
+    const_refused {A} {B} {p} tree answer e k fa fb ec ed ka kb t g = record {
       passes = passes_within (omega (arith, weight_const_parts_most r.store a, weight_const_parts_most r.store b))
           (fronted_passes (const_head_of a) v i (const_parts_of a) (const_parts_of b) x y f lx ly ex ey g.passes);
       verdict = const_refuses p e k ec ed ka kb t g.verdict;
+      exact = const_exactly A B p e k fa fb t g.exact;
     }
 
   -- All parts of two constants were related, and so are the constants.
   consts_relate : (o : AreOfOneConst a b) →
-      (f : Fronted r q (const_head_of a) v i (const_parts_of a) (const_parts_of b)) →
+      (f : Fronted M r q (const_head_of a) v i (const_parts_of a) (const_parts_of b)) →
       AreParts r.store (const_parts_of a) (const_parts_of b) → i ≡ count (const_parts_of a) →
       i ≡ count (const_parts_of b) → (w : Interpretation) (s : Assign) → Satisfies w q.store s →
       All (Holds (items_in r) w s) (r.goals ++ (f.passes).added) →
@@ -168,12 +202,12 @@ module _ {Key Id Name : Type 0} {r q : State Key Id Name} (M : Manner) (v : Vari
   consts_relate (const_parameters d e p) f are ea eb w s sat all =
       subst₂ (λ j l. Rel (items_in r) w r.environment (at v) (apply s j) (apply s l)) (sym d) (sym e) (atoms p)
 
-  pub consts_related : {X : Type 0} (tree : X → Tree) (x : X) → AreOfOneConst a b →
-      Fronted r q (const_head_of a) v i (const_parts_of a) (const_parts_of b) →
+  pub consts_related : {X : Type 0} (tree : X → Tree) (x : X) → IsFormedConst a → IsFormedConst b → AreOfOneConst a b →
+      Fronted M r q (const_head_of a) v i (const_parts_of a) (const_parts_of b) →
       AreParts r.store (const_parts_of a) (const_parts_of b) → i ≡ count (const_parts_of a) →
       i ≡ count (const_parts_of b) → tree x ≡ a → IsTrue (known a) → Related M r q v a b tree (Ok x)
   unfolding passes_within
-  consts_related tree x o f are ea eb answer k = record {
+  consts_related tree x fa fb o f are ea eb answer k = record {
     passes = passes_within (omega (arith, weight_const_parts_most r.store a, weight_const_parts_most r.store b)) f.passes;
     verdict = record {
       outcome = record {
@@ -185,6 +219,10 @@ module _ {Key Id Name : Type 0} {r q : State Key Id Name} (M : Manner) (v : Vari
       answer = subst (MayAnswer M q.store a) (sym answer) (may_itself M q.store a);
       known = subst (λ u. IsTrue (known u)) (sym answer) k;
     };
+    exact = λ exact is pair.
+        let z = fronted_exactly (const_head_of a) v i (const_parts_of a) (const_parts_of b) are ea eb f exact is
+        (const_looked_at a) (const_parts_pair r.store a b pair) in
+        (z.0, exact_as r.store q.store a b (const_parts_of a) (const_parts_of b) (consts_unify a b fa fb o) z.1);
   }
 
 module _ {Key Id Name : Type 0} {X : Type 0} (M : Manner) (r : State Key Id Name) (v : Variance) (tree : X → Tree) where
@@ -204,14 +242,19 @@ module _ {Key Id Name : Type 0} {X : Type 0} (M : Manner) (r : State Key Id Name
       answer = subst (MayAnswer M r.store a) (sym answer) (may_itself M r.store a);
       known = subst (λ u. IsTrue (known u)) (sym answer) k;
     };
+    exact = λ exact is pair. (pair.bindings, exact_itself r.store a b e);
   }
 
   -- Two terms are refused at once.
   refused_here : (a b : Tree) (e : TypeError Key Id Name) → NeverOne (at v) r.store a b →
-      ErrorOf r.meaning r.store e a b → KnowsError r.meaning e → Related M r r v a b tree (Err (Unrelated e))
+      ErrorOf r.meaning r.store e a b → KnowsError r.meaning e → (IsFirstOrderPair r.store a b → NoUnifier r.store a b) →
+      Related M r r v a b tree (Err (Unrelated e))
   unfolding passes_nowhere
-  refused_here a b e n o k =
-      record { passes = passes_nowhere (weight r.store a + weight r.store b) r; verdict = (n, o, k) }
+  refused_here a b e n o k u = record {
+    passes = passes_nowhere (weight r.store a + weight r.store b) r;
+    verdict = (n, o, k);
+    exact = λ exact is pair. u pair;
+  }
 
   pub types_differ : (x y : TyKey Key) (e : TypeError Key Id Name) → IsFormed ((r.meaning).ty x) →
       IsFormed ((r.meaning).ty y) → IsTerm type_sort ((r.meaning).ty x) → IsTerm type_sort ((r.meaning).ty y) →
@@ -220,7 +263,7 @@ module _ {Key Id Name : Type 0} {X : Type 0} (M : Manner) (r : State Key Id Name
   types_differ x y e f g s t k l h =
       refused_here ((r.meaning).ty x) ((r.meaning).ty y) e (form_apart r.meaning r.store x y e f g s t h)
       (of_forms x y refl refl (formed_no_variable ((r.meaning).ty x) f) (formed_no_variable ((r.meaning).ty y) g) h)
-      (known_error r.meaning x y e k l h)
+      (known_error r.meaning x y e k l h) (λ pair j sol one. forms_not_unified r.meaning j x y e f g s t h one)
 
   pub consts_differ : (x y : ConstKey Key) (e : TypeError Key Id Name) → IsFormedConst ((r.meaning).const_ x) →
       IsFormedConst ((r.meaning).const_ y) → IsTerm const_sort ((r.meaning).const_ x) →
@@ -232,6 +275,7 @@ module _ {Key Id Name : Type 0} {X : Type 0} (M : Manner) (r : State Key Id Name
       (of_const_forms x y refl refl (formed_const_no_variable ((r.meaning).const_ x) f)
       (formed_const_no_variable ((r.meaning).const_ y) g) h)
       (known_const_error r.meaning x y e k l h)
+      (λ pair j sol one. const_forms_not_unified r.meaning j x y e f g s t pair.left h one)
 
 -- Arguments of different kinds.
 module _ {Key Id Name : Type 0} (m : Meaning Key Id Name) (sorted : Sorted m) where
@@ -273,3 +317,7 @@ module _ {Key Id Name : Type 0} (m : Meaning Key Id Name) (sorted : Sorted m) wh
       (at_top (kind_sort X) _ (kind_top X) (sort_is (kind_sort X) (arg_tree m X) (kind_term X k)))
       (at_top (kind_sort Y) _ (kind_top Y) (sort_is (kind_sort Y) (arg_tree m Y) (kind_term Y l))) e))
       tt
+      (λ pair s sol e. two_sorts X Y (sort_of (apply s (arg_tree m X))) (sort_of (apply s (arg_tree m Y))) o
+      (value_top r.store s (kind_sort X) (arg_tree m X) (kind_top X) sol.0 x.0 (kind_term X k))
+      (value_top r.store s (kind_sort Y) (arg_tree m Y) (kind_top Y) sol.0 y.0 (kind_term Y l))
+      (sym (erased_sort (apply s (arg_tree m X))) ∙ ap sort_of e ∙ erased_sort (apply s (arg_tree m Y))))

@@ -128,11 +128,25 @@ module _ {Key Id Name : Type 0} where
   Verdict M r q added v a b tree (Ok x) = Answers M r q added v a b (tree x)
   Verdict M r q added v a b tree (Err f) = Refuses r q v a b f
 
+  -- What a result says besides where the relation promises to be exact, of first-order terms and records at
+  -- invariance: the record stays first-order, and up to erasure just the solutions that unify the terms stay; a type
+  -- error says that there was none.
+  abbrev pub ExactResult : {X : Type 0} → Store → Store → Tree → Tree → Result X (RelateFault Key Id Name) → Type 0
+  ExactResult before after a b (Ok x) = IsFirstOrderStore after × Exact before after a b
+  ExactResult before after a b (Err (Unrelated e)) = NoUnifier before a b
+  ExactResult before after a b (Err f) = Unit {0}
+
+  abbrev pub ExactlyRelated : {X : Type 0} → Manner → Store → Store → Variance → Tree → Tree →
+      Result X (RelateFault Key Id Name) → Type 0
+  ExactlyRelated M before after v a b result = M.is_exact → v ≡ Invariant → IsFirstOrderPair before a b →
+      ExactResult before after a b result
+
   -- Two terms were related at a variance.
   pub record Related {X : Type 0} (M : Manner) (r q : State Key Id Name) (v : Variance) (a b : Tree) (tree : X → Tree)
       (result : Result X (RelateFault Key Id Name)) : Type 0 where
     pub passes : Passes (weight r.store a + weight r.store b) r q
     pub verdict : Verdict M r q passes.added v a b tree result
+    pub exact : ExactlyRelated M r.store q.store v a b result
 
   -- A step led from one pair to another, at a variance: what relates the second relates the first, no equal pair is
   -- lost, and an error of the second is one of the first.
@@ -173,29 +187,15 @@ module _ {Key Id Name : Type 0} where
       LeadsAgain M r q added a b (tree k) (tree l) v (tree x) (tree y)
   StepVerdict M F r q added a b tree (Err f) = Refuses r q r.ambient a b f
 
-  -- What a result says besides where the relation promises to be exact, of first-order terms and records at
-  -- invariance: the record stays first-order, and up to erasure just the solutions that unify the terms stay; a type
-  -- error says that there was none.
-  abbrev pub ExactResult : {X : Type 0} → State Key Id Name → State Key Id Name → Tree → Tree →
-      Result X (RelateFault Key Id Name) → Type 0
-  ExactResult r q a b (Ok x) = IsFirstOrderStore q.store × Exact r.store q.store a b
-  ExactResult r q a b (Err (Unrelated e)) = NoUnifier r.store a b
-  ExactResult r q a b (Err f) = Unit {0}
-
-  abbrev pub ExactlyRelated : {X : Type 0} → Manner → State Key Id Name → State Key Id Name → Tree → Tree →
-      Result X (RelateFault Key Id Name) → Type 0
-  ExactlyRelated M r q a b result = M.is_exact → r.ambient ≡ Invariant → IsFirstOrderPair r.store a b →
-      ExactResult r q a b result
-
-  -- Of a step's result the same: of the pair that is left, or of the terms.
+  -- Of a step's result the same: of the terms, or of the pair that is left.
   abbrev pub ExactVerdict : {K : Type 0} → State Key Id Name → State Key Id Name → Tree → Tree → (K → Tree) →
       Result (Step K) (RelateFault Key Id Name) → Type 0
-  ExactVerdict {K} r q a b tree (Ok (Done t)) = ExactResult {X = K} r q a b (Ok t)
+  ExactVerdict {K} r q a b tree (Ok (Done t)) = ExactResult {X = K} r.store q.store a b (Ok t)
   ExactVerdict r q a b tree (Ok (Parts x y)) = IsFirstOrderPair q.store (tree x) (tree y) ×
       ExactStep r.store q.store a b (tree x) (tree y)
   ExactVerdict r q a b tree (Ok (Again k l x y v)) = IsFirstOrderPair q.store (tree x) (tree y) ×
       ExactStep r.store q.store a b (tree x) (tree y)
-  ExactVerdict {K} r q a b tree (Err f) = ExactResult {X = K} r q a b (Err f)
+  ExactVerdict {K} r q a b tree (Err f) = ExactResult {X = K} r.store q.store a b (Err f)
 
   -- A step was taken.
   pub record Stepped {K : Type 0} (M : Manner) (F : Tree → Type 0) (r q : State Key Id Name)

@@ -7,7 +7,7 @@ ghost use Rattle.relation_terms.specs.declared.terms.enums.Variance.TheVariants.
 ghost use Rattle.type_relations.specs.Stores.{IsSound};
 ghost use Rattle.type_relations.specs.Goals.{Relates};
 ghost use Rattle.type_relations.specs.Parts.{IsFormed, IsFormedConst};
-ghost use Rattle.type_relations.specs.Lawful.{State, Manner, TakesParts, Turned, Asked, Related, ExactlyRelated, Stepped, Noted, WithMeaning, items_in};
+ghost use Rattle.type_relations.specs.Lawful.{State, Manner, TakesParts, Turned, Asked, Related, Stepped, Noted, WithMeaning, items_in};
 
 use crate::relate::Step;
 use relation_terms::terms::{Const, GenericArgs, Interner, ItemOf, Region, Ty, Variance};
@@ -79,8 +79,7 @@ pub trait TypeRelation<I: Interner> {
         requires lawful { (state self.old).lawful }
         requires decides { (state self.old).ambient ≢ Bivariant }
         requires asked { Asked manner (state self.old) (state self.old).ambient ((state self.old).meaning.region a.now) ((state self.old).meaning.region b.now) }
-        ensures related { Related manner (state self.old) (state self.new) (state self.old).ambient ((state self.old).meaning.region a.now) ((state self.old).meaning.region b.now) (state self.new).meaning.region result }
-        ensures exact { ExactlyRelated manner (state self.old) (state self.new) ((state self.old).meaning.region a.now) ((state self.old).meaning.region b.now) result };
+        ensures { Related manner (state self.old) (state self.new) (state self.old).ambient ((state self.old).meaning.region a.now) ((state self.old).meaning.region b.now) (state self.new).meaning.region result };
 
     /// Takes note that two types, as `tys` read them, were related.
     fn tys_done(&mut self, a: &Ty<I>, b: &Ty<I>) -> RelateResult<I, ()>

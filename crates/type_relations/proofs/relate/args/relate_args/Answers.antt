@@ -17,7 +17,7 @@ use Rattle.type_relations.proofs.PartSizes.{weight_parts_most}
 use Rattle.type_relations.proofs.Passing.{same_items, as_err, passes_within, made_or_not, stopped}
 use Rattle.type_relations.proofs.Fronts.{Fronted, fronted_none, fronted_next}
 use Rattle.type_relations.proofs.Looping.{next_asked}
-use Rattle.type_relations.proofs.Arguments.{form_related, form_refused, args_related_head, args_handed_on, args_heads, are_list}
+use Rattle.type_relations.proofs.Arguments.{form_related, form_refused, args_related_head, args_looked_at, args_handed_on, args_heads, are_list}
 use Rattle.type_relations.proofs.Answering.{AreAnswers, answers_none, answers_next, answers_end, may_over, if_ok_both}
 use Rattle.type_relations.proofs.relate.args.relate_args.Goals as goal
 
@@ -41,7 +41,7 @@ loop-i-init g c =
     }) in
     record {
       lawful = c.requires.lawful;
-      fronted = fronted_none r h r.ambient ts us;
+      fronted = fronted_none g.R.TypeRelation.manner r h r.ambient ts us;
       counts = c.args_count_of-n.ensures.counts;
       are_parts = record {
         left_list = are_list argument_sort ts (sorted.args c.args.a.now k.left_known);
@@ -114,7 +114,8 @@ returns-in_err-answer g c =
     subst (λ z. Related M r p r.ambient (node h ts) (node h us)
     (λ k. node (args_head p.meaning c.args.variances.now) ((p.meaning).args k)) z)
     (sym (as_err c.from_residual.result f c.from_residual.ensures.0 c.from_residual.ensures.1))
-    (form_refused M r.ambient h ts us i inv.fronted inv.are_parts as_many x y lx ly ex ey
+    (form_refused M r.ambient h ts us i inv.fronted inv.are_parts as_many
+    (args_looked_at r.meaning c.args.variances.now) x y lx ly ex ey
     (λ e. args_handed_on r.meaning c.args.variances.now e x y) (arg_tree p.meaning)
     (λ k. node (args_head p.meaning c.args.variances.now) ((p.meaning).args k)) f gone)
 
@@ -147,7 +148,7 @@ returns-in_err-push g c =
     ∙ ap (λ z. part_at (items_in r) h i z) ((inv.fronted).passes).ambient in
     let n = c.in_ok-answer in
     let gone = subst (λ v. Related M q p v x y (arg_tree p.meaning) (Ok n.answer)) ew (n.ensures).related in
-    let next = fronted_next h r.ambient i ts us x y inv.fronted lx ly ex ey M (arg_tree p.meaning) n.answer inv.are_parts
+    let next = fronted_next h r.ambient i ts us x y inv.fronted lx ly ex ey (arg_tree p.meaning) n.answer inv.are_parts
     gone in
     subst (λ z. Related M r p r.ambient (node h ts) (node h us)
     (λ k. node (args_head p.meaning c.args.variances.now) ((p.meaning).args k)) z)
@@ -196,8 +197,8 @@ loop-i-preserved g c =
     (stays_arg (gone.passes).extends) (inv.answers).sure) in
     record {
       lawful = (gone.passes).lawful inv.lawful;
-      fronted = subst (λ j. Fronted r p h r.ambient j ts us) (omega arith)
-          (fronted_next h r.ambient i ts us x y inv.fronted lx ly ex ey M (arg_tree p.meaning) n.answer inv.are_parts
+      fronted = subst (λ j. Fronted M r p h r.ambient j ts us) (omega arith)
+          (fronted_next h r.ambient i ts us x y inv.fronted lx ly ex ey (arg_tree p.meaning) n.answer inv.are_parts
           gone);
       counts = inv.counts;
       are_parts = inv.are_parts;
@@ -230,7 +231,8 @@ returns g c =
     λ k. node (args_head p.meaning c.args.variances.now) ((p.meaning).args k) in
     let value : MayAnswer M q.store (node h ts) (node h was) =
     may_over M q.store (node h ts) was (answers_end M q.store i ts was (inv.are_parts).left_list all inv.answers) in
-    let done = form_related M r.ambient h ts us i inv.fronted inv.are_parts c.requires.as_many (λ (t : Tree). t) (node h ts)
+    let done = form_related M r.ambient h ts us i inv.fronted inv.are_parts c.requires.as_many
+    (args_looked_at r.meaning c.args.variances.now) (λ (t : Tree). t) (node h ts)
     (args_related_head r.meaning c.args.variances.now) all refl k.left_known in
     made_or_not M r.ambient (node h ts) (node h us) made.extends made.grown tree (λ (t : Tree). t) (node h ts) done
     c.make_args.result made.fault

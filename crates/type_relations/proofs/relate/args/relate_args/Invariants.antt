@@ -14,7 +14,7 @@ invariant-loop-i g l =
     let us = (r.meaning).args l.b in
     record {
       lawful : q.lawful;
-      fronted : Fronted r q (args_head r.meaning l.variances) r.ambient l.i ts us;
+      fronted : Fronted g.R.TypeRelation.manner r q (args_head r.meaning l.variances) r.ambient l.i ts us;
       counts : l.n ≡ count ts;
       are_parts : AreParts r.store ts us;
       answers : AreAnswers g.R.TypeRelation.manner q.store l.i ts (list_tree (arg_tree q.meaning) l.answers.items);

@@ -104,7 +104,7 @@ consts-returns-in_err-relate_with_variance-in-Again g t c =
     c.from_residual-in_err-relate_with_variance-in-Again.ensures.0
     c.from_residual-in_err-relate_with_variance-in-Again.ensures.1 in
     subst (λ z. Related M r p r.ambient a b (p.meaning).const_ z) (sym failed)
-    (again_refused M a b k l x y v step.passes step.verdict (arg_tree p.meaning) (p.meaning).const_ c.in_err-relate_with_variance-in-Again.field-0.0 inner)
+    (again_refused M a b k l x y v step.passes step.verdict step.exact (arg_tree p.meaning) (p.meaning).const_ c.in_err-relate_with_variance-in-Again.field-0.0 inner)
 
 pub consts-returns : goal.consts-returns
 consts-returns g t c =
@@ -125,7 +125,7 @@ consts-returns g t c =
     let same_k : (p.meaning).const_ c.in-Again.a ≡ k =
     ((inner.passes).extends).const_ c.in-Again.a ((step.verdict).read_asked).left_known in
     let done : Related M r p r.ambient a b (p.meaning).const_ (Ok c.in-Again.a) =
-    again_related M a b k l x y v step.passes step.verdict (arg_tree p.meaning) c.in_ok-relate_with_variance-in-Again.field-0 (p.meaning).const_
+    again_related M a b k l x y v step.passes step.verdict step.exact (arg_tree p.meaning) c.in_ok-relate_with_variance-in-Again.field-0 (p.meaning).const_
     c.in-Again.a same_k inner in
     done
 
@@ -142,7 +142,7 @@ consts-returns-in-Parts g t c =
     let p = g.R.TypeRelation.state c.structurally_relate_consts.new.r in
     let inner = subst (λ z. Related M q p z x y (p.meaning).const_ c.structurally_relate_consts.result) (step.passes).ambient
     c.structurally_relate_consts.ensures in
-    parts_related M IsFormedConst a b x y (p.meaning).const_ c.structurally_relate_consts.result step.passes step.verdict inner
+    parts_related M IsFormedConst a b x y (p.meaning).const_ c.structurally_relate_consts.result step.passes step.verdict step.exact inner
 
 pub tys-returns-in-Done : goal.tys-returns-in-Done
 tys-returns-in-Done g t c =
@@ -213,7 +213,7 @@ tys-returns-in_err-relate_with_variance-in-Again g t c =
     c.from_residual-in_err-relate_with_variance-in-Again.ensures.0
     c.from_residual-in_err-relate_with_variance-in-Again.ensures.1 in
     subst (λ z. Related M r p r.ambient a b (p.meaning).ty z) (sym failed)
-    (again_refused M a b k l x y v step.passes step.verdict (arg_tree p.meaning) (p.meaning).ty c.in_err-relate_with_variance-in-Again.field-0.0 inner)
+    (again_refused M a b k l x y v step.passes step.verdict step.exact (arg_tree p.meaning) (p.meaning).ty c.in_err-relate_with_variance-in-Again.field-0.0 inner)
 
 pub tys-returns-in_err-answer-in-Parts : goal.tys-returns-in_err-answer-in-Parts
 tys-returns-in_err-answer-in-Parts g t c =
@@ -231,7 +231,7 @@ tys-returns-in_err-answer-in-Parts g t c =
     let failed = as_err c.from_residual-in_err-answer-in-Parts.result e.field-0.0
     c.from_residual-in_err-answer-in-Parts.ensures.0 c.from_residual-in_err-answer-in-Parts.ensures.1 in
     subst (λ z. Related M r p r.ambient a b (p.meaning).ty z) (sym failed)
-    (parts_related M IsFormed a b x y (p.meaning).ty (Err e.field-0.0) step.passes step.verdict inner)
+    (parts_related M IsFormed a b x y (p.meaning).ty (Err e.field-0.0) step.passes step.verdict step.exact inner)
 
 pub tys-tys_done-requires-clause-asked : goal.tys-tys_done-requires-clause-asked
 tys-tys_done-requires-clause-asked g t c =
@@ -247,7 +247,7 @@ tys-tys_done-requires-clause-asked g t c =
     let z = c.in_ok-answer-in-Parts in
     let inner = subst (λ v. Related M q p v x y (p.meaning).ty (Ok z.answer)) (step.passes).ambient z.ensures in
     let done : Related M r p r.ambient a b (p.meaning).ty (Ok z.answer) =
-    parts_related M IsFormed a b x y (p.meaning).ty (Ok z.answer) step.passes step.verdict inner in
+    parts_related M IsFormed a b x y (p.meaning).ty (Ok z.answer) step.passes step.verdict step.exact inner in
     let same_x : (p.meaning).ty c.in-Parts.a ≡ (q.meaning).ty c.in-Parts.a =
     ((inner.passes).extends).ty c.in-Parts.a ((step.verdict).asked).left_known in
     let same_y : (p.meaning).ty c.in-Parts.b ≡ (q.meaning).ty c.in-Parts.b =
@@ -270,7 +270,7 @@ tys-tys_done-requires-clause-related g t c =
     let z = c.in_ok-answer-in-Parts in
     let inner = subst (λ v. Related M q p v x y (p.meaning).ty (Ok z.answer)) (step.passes).ambient z.ensures in
     let done : Related M r p r.ambient a b (p.meaning).ty (Ok z.answer) =
-    parts_related M IsFormed a b x y (p.meaning).ty (Ok z.answer) step.passes step.verdict inner in
+    parts_related M IsFormed a b x y (p.meaning).ty (Ok z.answer) step.passes step.verdict step.exact inner in
     let same_x : (p.meaning).ty c.in-Parts.a ≡ (q.meaning).ty c.in-Parts.a =
     ((inner.passes).extends).ty c.in-Parts.a ((step.verdict).asked).left_known in
     let same_y : (p.meaning).ty c.in-Parts.b ≡ (q.meaning).ty c.in-Parts.b =
@@ -293,7 +293,7 @@ tys-returns-in_err-tys_done-in-Parts g t c =
     let z = c.in_ok-answer-in-Parts in
     let inner = subst (λ v. Related M q p v x y (p.meaning).ty (Ok z.answer)) (step.passes).ambient z.ensures in
     let done : Related M r p r.ambient a b (p.meaning).ty (Ok z.answer) =
-    parts_related M IsFormed a b x y (p.meaning).ty (Ok z.answer) step.passes step.verdict inner in
+    parts_related M IsFormed a b x y (p.meaning).ty (Ok z.answer) step.passes step.verdict step.exact inner in
     let u = g.R.TypeRelation.state c.tys_done.new.self in
     let e = c.in_err-tys_done-in-Parts in
     let failed = as_err c.from_residual-in_err-tys_done-in-Parts.result e.field-0.0
@@ -315,7 +315,7 @@ tys-returns-in_ok-tys_done-in-Parts g t c =
     let z = c.in_ok-answer-in-Parts in
     let inner = subst (λ v. Related M q p v x y (p.meaning).ty (Ok z.answer)) (step.passes).ambient z.ensures in
     let done : Related M r p r.ambient a b (p.meaning).ty (Ok z.answer) =
-    parts_related M IsFormed a b x y (p.meaning).ty (Ok z.answer) step.passes step.verdict inner in
+    parts_related M IsFormed a b x y (p.meaning).ty (Ok z.answer) step.passes step.verdict step.exact inner in
     let u = g.R.TypeRelation.state c.tys_done.new.self in
     let n = c.in_ok-tys_done-in-Parts in
     noted_related M r.ambient a b (p.meaning).ty z.answer done (Ok n.field-0) n.ensures (u.meaning).ty
@@ -340,7 +340,7 @@ tys-tys_done-requires-in-Again-clause-asked g t c =
     let same_k : (p.meaning).ty c.in-Again.a ≡ k =
     ((inner.passes).extends).ty c.in-Again.a ((step.verdict).read_asked).left_known in
     let done : Related M r p r.ambient a b (p.meaning).ty (Ok c.in-Again.a) =
-    again_related M a b k l x y v step.passes step.verdict (arg_tree p.meaning) c.in_ok-relate_with_variance-in-Again.field-0 (p.meaning).ty
+    again_related M a b k l x y v step.passes step.verdict step.exact (arg_tree p.meaning) c.in_ok-relate_with_variance-in-Again.field-0 (p.meaning).ty
     c.in-Again.a same_k inner in
     let same_x : (p.meaning).ty c.in-Again.a ≡ (q.meaning).ty c.in-Again.a =
     ((inner.passes).extends).ty c.in-Again.a ((step.verdict).read_asked).left_known in
@@ -369,7 +369,7 @@ tys-tys_done-requires-in-Again-clause-related g t c =
     let same_k : (p.meaning).ty c.in-Again.a ≡ k =
     ((inner.passes).extends).ty c.in-Again.a ((step.verdict).read_asked).left_known in
     let done : Related M r p r.ambient a b (p.meaning).ty (Ok c.in-Again.a) =
-    again_related M a b k l x y v step.passes step.verdict (arg_tree p.meaning) c.in_ok-relate_with_variance-in-Again.field-0 (p.meaning).ty
+    again_related M a b k l x y v step.passes step.verdict step.exact (arg_tree p.meaning) c.in_ok-relate_with_variance-in-Again.field-0 (p.meaning).ty
     c.in-Again.a same_k inner in
     let same_x : (p.meaning).ty c.in-Again.a ≡ (q.meaning).ty c.in-Again.a =
     ((inner.passes).extends).ty c.in-Again.a ((step.verdict).read_asked).left_known in
@@ -377,7 +377,7 @@ tys-tys_done-requires-in-Again-clause-related g t c =
     ((inner.passes).extends).ty c.in-Again.b ((step.verdict).read_asked).right_known in
     subst₂ (λ t u. Relates (items_in p) p.store p.goals p.environment p.ambient t u) (sym same_x) (sym same_y)
     (subst (λ v. Relates (items_in p) p.store p.goals p.environment v k l)
-    (sym ((inner.passes).ambient ∙ (step.passes).ambient)) (again_relates M a b k l x y v step.passes step.verdict (arg_tree p.meaning) c.in_ok-relate_with_variance-in-Again.field-0 inner))
+    (sym ((inner.passes).ambient ∙ (step.passes).ambient)) (again_relates M a b k l x y v step.passes step.verdict step.exact (arg_tree p.meaning) c.in_ok-relate_with_variance-in-Again.field-0 inner))
 
 pub tys-returns-in_err-tys_done-in-Again : goal.tys-returns-in_err-tys_done-in-Again
 tys-returns-in_err-tys_done-in-Again g t c =
@@ -398,7 +398,7 @@ tys-returns-in_err-tys_done-in-Again g t c =
     let same_k : (p.meaning).ty c.in-Again.a ≡ k =
     ((inner.passes).extends).ty c.in-Again.a ((step.verdict).read_asked).left_known in
     let done : Related M r p r.ambient a b (p.meaning).ty (Ok c.in-Again.a) =
-    again_related M a b k l x y v step.passes step.verdict (arg_tree p.meaning) c.in_ok-relate_with_variance-in-Again.field-0 (p.meaning).ty
+    again_related M a b k l x y v step.passes step.verdict step.exact (arg_tree p.meaning) c.in_ok-relate_with_variance-in-Again.field-0 (p.meaning).ty
     c.in-Again.a same_k inner in
     let u = g.R.TypeRelation.state c.tys_done-in-Again.new.self in
     let e = c.in_err-tys_done-in-Again in
@@ -426,7 +426,7 @@ tys-returns-in_ok-tys_done-in-Again g t c =
     let same_k : (p.meaning).ty c.in-Again.a ≡ k =
     ((inner.passes).extends).ty c.in-Again.a ((step.verdict).read_asked).left_known in
     let done : Related M r p r.ambient a b (p.meaning).ty (Ok c.in-Again.a) =
-    again_related M a b k l x y v step.passes step.verdict (arg_tree p.meaning) c.in_ok-relate_with_variance-in-Again.field-0 (p.meaning).ty
+    again_related M a b k l x y v step.passes step.verdict step.exact (arg_tree p.meaning) c.in_ok-relate_with_variance-in-Again.field-0 (p.meaning).ty
     c.in-Again.a same_k inner in
     let u = g.R.TypeRelation.state c.tys_done-in-Again.new.self in
     let n = c.in_ok-tys_done-in-Again in
@@ -512,7 +512,7 @@ relate-returns-in_ok-regions-in-Lifetime g t c =
       related = subst₂ (λ t u. Related M r q r.ambient (arg_tree r.meaning t) (arg_tree r.meaning u) (arg_tree q.meaning) (Ok (Lifetime n.field-0)))
           (sym c.in-Lifetime.is) (sym c.in-Lifetime-b.is)
           (retold M r.ambient ((r.meaning).region c.in-Lifetime.a) ((r.meaning).region c.in-Lifetime-b.b) (q.meaning).region n.field-0
-          (arg_tree q.meaning) (Lifetime n.field-0) refl (n.ensures).related);
+          (arg_tree q.meaning) (Lifetime n.field-0) refl n.ensures);
       kind = ap arg_sort (sym c.in-Lifetime.is);
     }
 
@@ -657,7 +657,7 @@ structurally_relate_consts-loop-i-init g t c =
     let alike = (c.in_ok-compare_consts_of.ensures).alike in
     record {
       lawful = c.requires.lawful;
-      fronted = fronted_none r (const_head_of a) r.ambient (const_parts_of a) (const_parts_of b);
+      fronted = fronted_none g.R.TypeRelation.manner r (const_head_of a) r.ambient (const_parts_of a) (const_parts_of b);
       left_count = c.const_parts_count_of-n.ensures.counts;
       right_count = c.const_parts_count_of-n.ensures.counts ∙ const_parts_counted a b alike;
       are_parts = record {
@@ -756,7 +756,7 @@ structurally_relate_consts-returns-in_err-answer g t c =
     c.from_residual-in_err-answer.ensures.1 in
     subst (λ u. Related M r p r.ambient a b (p.meaning).const_ u) (sym failed)
     (const_refused M r.ambient a b i alike inv.fronted inv.are_parts c.args.a.now c.args.b.now x y lx ly ex ey (arg_tree p.meaning)
-    (p.meaning).const_ z.0 n.field-0.0 then_a then_b k.left_known k.right_known z.2 gone)
+    (p.meaning).const_ z.0 n.field-0.0 c.requires.a_formed c.requires.b_formed then_a then_b k.left_known k.right_known z.2 gone)
 
 pub structurally_relate_consts-loop-i-preserved : goal.structurally_relate_consts-loop-i-preserved
 structurally_relate_consts-loop-i-preserved g t c =
@@ -822,8 +822,8 @@ structurally_relate_consts-loop-i-preserved g t c =
     (stays_arg later) (inv.answers).sure) in
     record {
       lawful = (gone.passes).lawful inv.lawful;
-      fronted = subst (λ j. Fronted r p (const_head_of a) r.ambient j (const_parts_of a) (const_parts_of b)) (omega arith)
-          (fronted_next (const_head_of a) r.ambient i (const_parts_of a) (const_parts_of b) x y inv.fronted lx ly ex ey M (arg_tree p.meaning)
+      fronted = subst (λ j. Fronted M r p (const_head_of a) r.ambient j (const_parts_of a) (const_parts_of b)) (omega arith)
+          (fronted_next (const_head_of a) r.ambient i (const_parts_of a) (const_parts_of b) x y inv.fronted lx ly ex ey (arg_tree p.meaning)
           n.answer inv.are_parts gone);
       left_count = inv.left_count;
       right_count = inv.right_count;
@@ -877,7 +877,7 @@ structurally_relate_consts-returns-in_err-push g t c =
     (subst (λ z. IsResultOfConst z c.args.a.now c.args.b.now related.result (Ok n.answer)) then_a n.ensures) in
     let gone = subst (λ v. Related M q p v x y (arg_tree p.meaning) (Ok n.answer)) ew
     (subst (λ u. Related M q p w x y (arg_tree p.meaning) u) z (related.ensures).related) in
-    let next = fronted_next (const_head_of a) r.ambient i (const_parts_of a) (const_parts_of b) x y inv.fronted lx ly ex ey M (arg_tree p.meaning) n.answer
+    let next = fronted_next (const_head_of a) r.ambient i (const_parts_of a) (const_parts_of b) x y inv.fronted lx ly ex ey (arg_tree p.meaning) n.answer
     inv.are_parts gone in
     subst (λ z. Related M r p r.ambient a b (p.meaning).const_ z)
     (sym (as_err c.from_residual-in_err-push.result Memory c.from_residual-in_err-push.ensures.0
@@ -929,7 +929,7 @@ structurally_relate_consts-returns g t c =
     let items = c.loop-i.answers.items in
     let was = list_tree (arg_tree q.meaning) items in
     let done : Related M r q r.ambient a b (q.meaning).const_ (Ok c.args.a.now) =
-    consts_related M r.ambient a b i (q.meaning).const_ c.args.a.now alike inv.fronted inv.are_parts left right same_a
+    consts_related M r.ambient a b i (q.meaning).const_ c.args.a.now c.requires.a_formed c.requires.b_formed alike inv.fronted inv.are_parts left right same_a
     k.left_known in
     let p = g.R.TypeRelation.state c.make_const.new.r in
     let made = c.make_const.ensures in
@@ -986,7 +986,7 @@ structurally_relate_tys-loop-i-init g t c =
     let alike = (c.in_ok-compare_tys_of.ensures).alike in
     record {
       lawful = c.requires.lawful;
-      fronted = fronted_none r (head_of a) r.ambient (parts_of a) (parts_of b);
+      fronted = fronted_none g.R.TypeRelation.manner r (head_of a) r.ambient (parts_of a) (parts_of b);
       left_count = c.parts_count_of-n.ensures.counts;
       right_count = c.parts_count_of-n.ensures.counts ∙ parts_counted a b alike;
       are_parts = record {
@@ -1096,7 +1096,7 @@ structurally_relate_tys-returns-in_err-answer g t c =
     c.from_residual-in_err-answer.ensures.1 in
     subst (λ u. Related M r p r.ambient a b (p.meaning).ty u) (sym failed)
     (ty_refused M r.ambient a b i c.requires.a_formed alike inv.fronted inv.are_parts X Y kx ky sorted lx ly ex ey
-    (arg_tree p.meaning) (p.meaning).ty z.0 n.field-0.0 (knows_arg later X kx) (knows_arg later Y ky) z.2 gone)
+    (arg_tree p.meaning) (p.meaning).ty z.0 n.field-0.0 c.requires.b_formed (knows_arg later X kx) (knows_arg later Y ky) z.2 gone)
 
 pub structurally_relate_tys-loop-i-preserved : goal.structurally_relate_tys-loop-i-preserved
 structurally_relate_tys-loop-i-preserved g t c =
@@ -1162,8 +1162,8 @@ structurally_relate_tys-loop-i-preserved g t c =
     (stays_arg later) (inv.answers).sure) in
     record {
       lawful = (gone.passes).lawful inv.lawful;
-      fronted = subst (λ j. Fronted r p (head_of a) r.ambient j (parts_of a) (parts_of b)) (omega arith)
-          (fronted_next (head_of a) r.ambient i (parts_of a) (parts_of b) x y inv.fronted lx ly ex ey M (arg_tree p.meaning)
+      fronted = subst (λ j. Fronted M r p (head_of a) r.ambient j (parts_of a) (parts_of b)) (omega arith)
+          (fronted_next (head_of a) r.ambient i (parts_of a) (parts_of b) x y inv.fronted lx ly ex ey (arg_tree p.meaning)
           n.answer inv.are_parts gone);
       left_count = inv.left_count;
       right_count = inv.right_count;
@@ -1217,7 +1217,7 @@ structurally_relate_tys-returns-in_err-push g t c =
     (subst (λ z. IsResultOfTy z X Y related.result (Ok n.answer)) then_a n.ensures) in
     let gone = subst (λ v. Related M q p v x y (arg_tree p.meaning) (Ok n.answer)) ew
     (subst (λ u. Related M q p w x y (arg_tree p.meaning) u) z (related.ensures).related) in
-    let next = fronted_next (head_of a) r.ambient i (parts_of a) (parts_of b) x y inv.fronted lx ly ex ey M (arg_tree p.meaning) n.answer
+    let next = fronted_next (head_of a) r.ambient i (parts_of a) (parts_of b) x y inv.fronted lx ly ex ey (arg_tree p.meaning) n.answer
     inv.are_parts gone in
     subst (λ z. Related M r p r.ambient a b (p.meaning).ty z)
     (sym (as_err c.from_residual-in_err-push.result Memory c.from_residual-in_err-push.ensures.0
@@ -1261,7 +1261,7 @@ structurally_relate_tys-returns-in_err-note_args g t c =
     let left : i ≡ count (parts_of a) = omega (arith, test, end, inv.left_count) in
     let right : i ≡ count (parts_of b) = omega (arith, test, end, inv.right_count) in
     let done : Related M r q r.ambient a b (q.meaning).ty (Ok c.args.a.now) =
-    types_related M r.ambient a b i (q.meaning).ty c.args.a.now c.requires.a_formed alike inv.fronted inv.are_parts left
+    types_related M r.ambient a b i (q.meaning).ty c.args.a.now c.requires.a_formed c.requires.b_formed alike inv.fronted inv.are_parts left
     right same_a k.left_known in
     let u = g.R.TypeRelation.state c.note_args.new.r in
     let n = c.in_err-note_args in
@@ -1290,7 +1290,7 @@ structurally_relate_tys-make_ty-requires-clause-ty_known g t c =
     let left : i ≡ count (parts_of a) = omega (arith, test, end, inv.left_count) in
     let right : i ≡ count (parts_of b) = omega (arith, test, end, inv.right_count) in
     let done : Related M r q r.ambient a b (q.meaning).ty (Ok c.args.a.now) =
-    types_related M r.ambient a b i (q.meaning).ty c.args.a.now c.requires.a_formed alike inv.fronted inv.are_parts left
+    types_related M r.ambient a b i (q.meaning).ty c.args.a.now c.requires.a_formed c.requires.b_formed alike inv.fronted inv.are_parts left
     right same_a k.left_known in
     let u = g.R.TypeRelation.state c.note_args.new.r in
     let n = c.in_ok-note_args in
@@ -1324,7 +1324,7 @@ structurally_relate_tys-make_ty-requires-clause-parts_known g t c =
     let left : i ≡ count (parts_of a) = omega (arith, test, end, inv.left_count) in
     let right : i ≡ count (parts_of b) = omega (arith, test, end, inv.right_count) in
     let done : Related M r q r.ambient a b (q.meaning).ty (Ok c.args.a.now) =
-    types_related M r.ambient a b i (q.meaning).ty c.args.a.now c.requires.a_formed alike inv.fronted inv.are_parts left
+    types_related M r.ambient a b i (q.meaning).ty c.args.a.now c.requires.a_formed c.requires.b_formed alike inv.fronted inv.are_parts left
     right same_a k.left_known in
     let u = g.R.TypeRelation.state c.note_args.new.r in
     let n = c.in_ok-note_args in
@@ -1359,7 +1359,7 @@ structurally_relate_tys-make_ty-requires-clause-fits g t c =
     let left : i ≡ count (parts_of a) = omega (arith, test, end, inv.left_count) in
     let right : i ≡ count (parts_of b) = omega (arith, test, end, inv.right_count) in
     let done : Related M r q r.ambient a b (q.meaning).ty (Ok c.args.a.now) =
-    types_related M r.ambient a b i (q.meaning).ty c.args.a.now c.requires.a_formed alike inv.fronted inv.are_parts left
+    types_related M r.ambient a b i (q.meaning).ty c.args.a.now c.requires.a_formed c.requires.b_formed alike inv.fronted inv.are_parts left
     right same_a k.left_known in
     let u = g.R.TypeRelation.state c.note_args.new.r in
     let n = c.in_ok-note_args in
@@ -1394,7 +1394,7 @@ structurally_relate_tys-returns g t c =
     let left : i ≡ count (parts_of a) = omega (arith, test, end, inv.left_count) in
     let right : i ≡ count (parts_of b) = omega (arith, test, end, inv.right_count) in
     let done : Related M r q r.ambient a b (q.meaning).ty (Ok c.args.a.now) =
-    types_related M r.ambient a b i (q.meaning).ty c.args.a.now c.requires.a_formed alike inv.fronted inv.are_parts left
+    types_related M r.ambient a b i (q.meaning).ty c.args.a.now c.requires.a_formed c.requires.b_formed alike inv.fronted inv.are_parts left
     right same_a k.left_known in
     let u = g.R.TypeRelation.state c.note_args.new.r in
     let n = c.in_ok-note_args in

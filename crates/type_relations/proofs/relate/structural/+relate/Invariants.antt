@@ -48,7 +48,7 @@ invariant-structurally_relate_tys-loop-i g l =
     let u = (r.meaning).ty l.b in
     record {
       lawful : q.lawful;
-      fronted : Fronted r q (head_of t) r.ambient l.i (parts_of t) (parts_of u);
+      fronted : Fronted g.R.TypeRelation.manner r q (head_of t) r.ambient l.i (parts_of t) (parts_of u);
       left_count : l.n ≡ count (parts_of t);
       right_count : l.n ≡ count (parts_of u);
       are_parts : AreParts r.store (parts_of t) (parts_of u);
@@ -64,7 +64,7 @@ invariant-structurally_relate_consts-loop-i g l =
     let u = (r.meaning).const_ l.b in
     record {
       lawful : q.lawful;
-      fronted : Fronted r q (const_head_of t) r.ambient l.i (const_parts_of t) (const_parts_of u);
+      fronted : Fronted g.R.TypeRelation.manner r q (const_head_of t) r.ambient l.i (const_parts_of t) (const_parts_of u);
       left_count : l.n ≡ count (const_parts_of t);
       right_count : l.n ≡ count (const_parts_of u);
       are_parts : AreParts r.store (const_parts_of t) (const_parts_of u);
