@@ -20,7 +20,7 @@ use Rattle.type_relations.specs.Steps.{AddsConstraint}
 use Rattle.type_relations.specs.Outcomes.{Outcome, Exact}
 use Rattle.type_relations.specs.Measures.{Goes}
 use Rattle.type_relations.specs.Parts.{IsFormed}
-use Rattle.type_relations.specs.Lawful.{declared_by, Passes, Related, ExactlyRelated, items_in}
+use Rattle.type_relations.specs.Lawful.{declared_by, Passes, Related, items_in}
 use Rattle.type_relations.specs.Constraints.{constraint_at, constraint_of}
 use Rattle.relation_reference.specs.Plain.{as_is, plain_store, plain_state, plain_manner}
 use Rattle.type_relations.proofs.Trees.{all_leaves, apply_own, own_other}
@@ -147,21 +147,6 @@ module _ {Key Id Name : Type 0} (m : Meaning Key Id Name) where
       );
     }
 
-    itself_answered : IsTrue (known (m.region a)) →
-        Related plain_manner (plain_state m v cs) (plain_state m v (cs ++ c ∷ [])) v (m.region a) (m.region b)
-        m.region (Ok a)
-    unfolding recorded_passes
-    itself_answered k = record {
-      passes = recorded_passes v cs c of_store _;
-      verdict = record { outcome = outcome; answer = may_itself plain_manner (plain_store m (cs ++ c ∷ [])) (m.region a); known = k };
-    }
-
-    pub regions_related : (ds : List (RegionConstraint Key)) (x : RegionKey Key) → ds ≡ cs ++ c ∷ [] → x ≡ a →
-        IsTrue (known (m.region a)) →
-        Related plain_manner (plain_state m v cs) (plain_state m v ds) v (m.region a) (m.region b) m.region (Ok x)
-    regions_related ds x e d k = subst₂ (λ ds x. Related plain_manner (plain_state m v cs) (plain_state m v ds) v
-        (m.region a) (m.region b) m.region (Ok x)) (sym e) (sym d) (itself_answered k)
-
     -- Regions are alike but for what erasure takes away, and what was recorded binds no variable.
     exactly : Exact (plain_store m cs) (plain_store m (cs ++ c ∷ [])) (m.region a) (m.region b)
     exactly = record {
@@ -174,22 +159,26 @@ module _ {Key Id Name : Type 0} (m : Meaning Key Id Name) where
       keeps = λ s sol one. (s, (λ k n h. refl), sol);
     }
 
-    pub regions_exact : (ds : List (RegionConstraint Key)) (x : RegionKey Key) → ds ≡ cs ++ c ∷ [] →
-        ExactlyRelated {X = RegionKey Key} plain_manner (plain_state m v cs) (plain_state m v ds) (m.region a)
-        (m.region b) (Ok x)
-    regions_exact ds x e = subst
-        (λ ds. ExactlyRelated {X = RegionKey Key} plain_manner (plain_state m v cs) (plain_state m v ds) (m.region a)
-        (m.region b) (Ok x)) (sym e) (λ k is pair. ((λ j n t found. absurd cc), exactly))
+    itself_answered : IsTrue (known (m.region a)) →
+        Related plain_manner (plain_state m v cs) (plain_state m v (cs ++ c ∷ [])) v (m.region a) (m.region b)
+        m.region (Ok a)
+    unfolding recorded_passes
+    itself_answered k = record {
+      passes = recorded_passes v cs c of_store _;
+      verdict = record { outcome = outcome; answer = may_itself plain_manner (plain_store m (cs ++ c ∷ [])) (m.region a); known = k };
+      exact = λ q is pair. ((λ j n t found. absurd cc), exactly);
+    }
+
+    pub regions_related : (ds : List (RegionConstraint Key)) (x : RegionKey Key) → ds ≡ cs ++ c ∷ [] → x ≡ a →
+        IsTrue (known (m.region a)) →
+        Related plain_manner (plain_state m v cs) (plain_state m v ds) v (m.region a) (m.region b) m.region (Ok x)
+    regions_related ds x e d k = subst₂ (λ ds x. Related plain_manner (plain_state m v cs) (plain_state m v ds) v
+        (m.region a) (m.region b) m.region (Ok x)) (sym e) (sym d) (itself_answered k)
 
   -- A growth was refused.
   module _ {X : Type 0} (v w : Variance) (cs : List (RegionConstraint Key)) (a b : Tree) (tree : X → Tree) where
     refused : Related plain_manner (plain_state m v cs) (plain_state m v cs) w a b tree (Err Memory)
-    refused = record { passes = passes_nowhere _ (plain_state m v cs); verdict = tt }
-
-    pub nothing_exact : (ds : List (RegionConstraint Key)) (r : Result X (RelateFault Key Id Name)) → r ≡ Err Memory →
-        ExactlyRelated plain_manner (plain_state m v cs) (plain_state m v ds) a b r
-    nothing_exact ds r e = subst (λ r. ExactlyRelated plain_manner (plain_state m v cs) (plain_state m v ds) a b r) (sym e)
-        (λ k is pair. tt)
+    refused = record { passes = passes_nowhere _ (plain_state m v cs); verdict = tt; exact = λ k is pair. tt }
 
     pub not_recorded : (ds : List (RegionConstraint Key)) (r : Result X (RelateFault Key Id Name)) → ds ≡ cs →
         r ≡ Err Memory → Related plain_manner (plain_state m v cs) (plain_state m v ds) w a b tree r

@@ -112,7 +112,11 @@ module _ {Key Id Name : Type 0} (j : ℕ) where
     memory_refused tree r is goes = subst₂ (λ n r. Related solver_manner (solving j m x v e)
         (solving j n y v e) v a b tree r)
         (sym same) (sym is)
-        (record { passes = solver_passes v e (stays_same m) env (goes_within (omega arith) goes) l; verdict = tt })
+        (record {
+          passes = solver_passes v e (stays_same m) env (goes_within (omega arith) goes) l;
+          verdict = tt;
+          exact = λ k. absurd k;
+        })
 
   -- Two regions were related by what was recorded.
   module _ (m : Meaning Key Id Name) (x y : InferCtxtInner Key) (v : Variance) (e : ParamEnvKey Key)
@@ -161,6 +165,7 @@ module _ {Key Id Name : Type 0} (j : ℕ) where
         answer = record {
           passes = solver_passes v e (stays_same m) env (goes_within (omega arith) goes) l;
           verdict = record { outcome = outcome; answer = may_itself solver_manner (store_of m y) (m.region a); known = sure };
+          exact = λ k. absurd k;
         }
 
   -- The same by what the variance asks for.
@@ -217,6 +222,7 @@ module _ {Key Id Name : Type 0} (j : ℕ) where
           };
           known = subst (λ z. IsTrue (known z)) (sym answer) sure;
         };
+        exact = λ k. absurd k;
       }
 
   -- What is shown of two types as they are read is shown of the types.
@@ -508,6 +514,7 @@ module _ {Key Id Name : Type 0} (j : ℕ) where
         lawful = (h.passes).lawful;
       };
       verdict = verdict result h.verdict;
+      exact = λ k. absurd k;
     }
       where
         verdict : (r : Result X (RelateFault Key Id Name)) →

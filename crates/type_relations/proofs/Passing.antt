@@ -185,10 +185,10 @@ module _ {Key Id Name : Type 0} where
       LeadsExactly M r q a b x y → Related M q p r.ambient x y tree result → Related M r p r.ambient a b tree result
   unfolding passes_then
   parts_related {X} {r} {q} {p} M F a b x y tree result g l exactly f = record {
-      passes = passes_then g f.passes small;
-      verdict = verdict result f.verdict;
-      exact = exact_led M r.store q.store p.store a b x y r.ambient r.ambient (λ e. e) exactly result f.exact;
-    }
+    passes = passes_then g f.passes small;
+    verdict = verdict result f.verdict;
+    exact = exact_led M r.store q.store p.store a b x y r.ambient r.ambient (λ e. e) exactly result f.exact;
+  }
     where
       small : weight q.store x + weight q.store y ≤ grown (g.goes).spent (weight r.store a + weight r.store b)
       small =

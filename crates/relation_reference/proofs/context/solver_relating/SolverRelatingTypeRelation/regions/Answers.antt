@@ -10,14 +10,11 @@ returns-in_err-relate_regions g c =
     let m = g.I.Interner.meaning r.infcx.now.interner in
     let q = c.relate_regions.new.self in
     let f = c.relate_regions.ensures in
-    record {
-      related = memory_refused r.infcx.ghost_name _ m (g.I.Interner.meaning q.interner) r.infcx.now.inner q.inner
-          r.ambient_variance r.param_env c.requires.lawful.1 (ap g.I.Interner.meaning f.interner) f.lawful
-          (m.region c.args.a.now) (m.region c.args.b.now) (g.I.Interner.meaning q.interner).region
-          c.from_residual.result
-          (as_err c.from_residual.result Memory c.from_residual.ensures.0 c.from_residual.ensures.1) f.goes;
-      exact = λ k. absurd k;
-    }
+    memory_refused r.infcx.ghost_name _ m (g.I.Interner.meaning q.interner) r.infcx.now.inner q.inner
+    r.ambient_variance r.param_env c.requires.lawful.1 (ap g.I.Interner.meaning f.interner) f.lawful
+    (m.region c.args.a.now) (m.region c.args.b.now) (g.I.Interner.meaning q.interner).region
+    c.from_residual.result
+    (as_err c.from_residual.result Memory c.from_residual.ensures.0 c.from_residual.ensures.1) f.goes
 
 pub returns : goal.returns
 returns g c =
@@ -27,11 +24,8 @@ returns g c =
     let f = c.relate_regions.ensures in
     let k = c.requires.asked in
     let is = g.met.I.Interner.is_region r.infcx.now.interner in
-    record {
-      related = regions_recorded r.infcx.ghost_name m r.infcx.now.inner q.inner r.ambient_variance r.param_env
-          c.args.a.now c.args.b.now c.requires.decides (is c.args.a.now k.left_known, k.left_in)
-          (is c.args.b.now k.right_known, k.right_in) f.goes c.in_ok-relate_regions.ensures.adds
-          (g.I.Interner.meaning q.interner) c.dup.result (ap g.I.Interner.meaning f.interner) c.dup.ensures f.lawful
-          c.requires.lawful.1 k.left_known;
-      exact = λ k. absurd k;
-    }
+    regions_recorded r.infcx.ghost_name m r.infcx.now.inner q.inner r.ambient_variance r.param_env
+    c.args.a.now c.args.b.now c.requires.decides (is c.args.a.now k.left_known, k.left_in)
+    (is c.args.b.now k.right_known, k.right_in) f.goes c.in_ok-relate_regions.ensures.adds
+    (g.I.Interner.meaning q.interner) c.dup.result (ap g.I.Interner.meaning f.interner) c.dup.ensures f.lawful
+    c.requires.lawful.1 k.left_known

@@ -1,33 +1,23 @@
 use Rattle.std.proofs.Common.{sym}
 use Rattle.relation_tools.specs.declared.error.RelateFault.TheVariants.{Memory}
 use Rattle.type_relations.proofs.Passing.{as_err}
-use Rattle.relation_reference.proofs.Plain.{regions_related, regions_exact, nothing_exact, not_recorded}
+use Rattle.relation_reference.proofs.Plain.{regions_related, not_recorded}
 use Rattle.relation_reference.proofs.tests.plain.PlainRelationTypeRelation.regions.Goals as goal
 
 pub returns-in_err-push : goal.returns-in_err-push
 returns-in_err-push g c =
     let m = g.I.Interner.meaning c.args.self.now.interner in
-    let failed = as_err c.from_residual.result Memory c.from_residual.ensures.0 c.from_residual.ensures.1 in
-    record {
-      related = not_recorded m c.args.self.now.ambient c.args.self.now.ambient c.args.self.now.constraints.items
-          (m.region c.args.a.now) (m.region c.args.b.now) m.region c.push.new.self.items c.from_residual.result
-          c.in_err-push.ensures.items failed;
-      exact = nothing_exact m c.args.self.now.ambient c.args.self.now.ambient c.args.self.now.constraints.items
-          (m.region c.args.a.now) (m.region c.args.b.now) m.region c.push.new.self.items c.from_residual.result failed;
-    }
+    not_recorded m c.args.self.now.ambient c.args.self.now.ambient c.args.self.now.constraints.items
+    (m.region c.args.a.now) (m.region c.args.b.now) m.region c.push.new.self.items c.from_residual.result
+    c.in_err-push.ensures.items
+    (as_err c.from_residual.result Memory c.from_residual.ensures.0 c.from_residual.ensures.1)
 
 pub returns : goal.returns
 returns g c =
     let m = g.I.Interner.meaning c.args.self.now.interner in
     let is = g.met.I.Interner.is_region c.args.self.now.interner in
     let k = c.requires.asked in
-    record {
-      related = regions_related m c.args.self.now.ambient c.args.self.now.constraints.items c.in-Some.constraint
-          c.args.a.now c.args.b.now c.constraint.result (sym c.constraint.ensures) c.in-Some.is
-          (is c.args.a.now k.left_known, k.left_in) (is c.args.b.now k.right_known, k.right_in)
-          c.push.new.self.items c.dup-2.result c.in_ok-push.ensures.items c.dup-2.ensures k.left_known;
-      exact = regions_exact m c.args.self.now.ambient c.args.self.now.constraints.items c.in-Some.constraint
-          c.args.a.now c.args.b.now c.constraint.result (sym c.constraint.ensures) c.in-Some.is
-          (is c.args.a.now k.left_known, k.left_in) (is c.args.b.now k.right_known, k.right_in)
-          c.push.new.self.items c.dup-2.result c.in_ok-push.ensures.items;
-    }
+    regions_related m c.args.self.now.ambient c.args.self.now.constraints.items c.in-Some.constraint c.args.a.now
+    c.args.b.now c.constraint.result (sym c.constraint.ensures) c.in-Some.is
+    (is c.args.a.now k.left_known, k.left_in) (is c.args.b.now k.right_known, k.right_in)
+    c.push.new.self.items c.dup-2.result c.in_ok-push.ensures.items c.dup-2.ensures k.left_known
