@@ -54,6 +54,12 @@ use Rattle.relation_reference.proofs.Relating.{answered_alike}
 use Rattle.relation_reference.proofs.Binding.{binding_goes_at, instantiated_refused, instantiated_refused_back}
 use Rattle.relation_reference.proofs.Binding.{refused_goes}
 use Rattle.relation_reference.proofs.Instantiating.{root_above, root_above_back, binding_square, bound_in}
+use Rattle.relation_reference.proofs.Exactly.{regions_exactly, read_pair, reading_exact, read_first_order, step_read}
+use Rattle.relation_reference.proofs.Exactly.{bound_pair, bound_steps, left_apart, right_apart}
+use Rattle.type_relations.specs.Headline.{IsFirstOrderPair}
+use Rattle.type_relations.specs.FirstOrder.{IsFirstOrderStore}
+use Rattle.type_relations.specs.Outcomes.{Exact, ExactStep}
+use Rattle.type_relations.specs.Lawful.{ExactResult}
 
 -- A variable is taken at invariance alone.
 pub taken_invariantly : (v : Variance) (n : ℕ) (t : Tree) → t ≡ leaf (variable type_var n) → v ≢ Bivariant →
@@ -115,7 +121,7 @@ module _ {Key Id Name : Type 0} (j : ℕ) where
         (record {
           passes = solver_passes v e (stays_same m) env (goes_within (omega arith) goes) l;
           verdict = tt;
-          exact = λ k. absurd k;
+          exact = λ k is pair. tt;
         })
 
   -- Two regions were related by what was recorded.
@@ -165,7 +171,8 @@ module _ {Key Id Name : Type 0} (j : ℕ) where
         answer = record {
           passes = solver_passes v e (stays_same m) env (goes_within (omega arith) goes) l;
           verdict = record { outcome = outcome; answer = may_itself solver_manner (store_of m y) (m.region a); known = sure };
-          exact = λ k. absurd k;
+          exact = λ k is pair. regions_exactly (store_of m x) (store_of m y) (m.region a) (m.region b) left right goes.later
+              added.same_entries added.same_universes pair.bindings;
         }
 
   -- The same by what the variance asks for.
@@ -184,23 +191,24 @@ module _ {Key Id Name : Type 0} (j : ℕ) where
       regions_related m x y Invariant e a b (Eq (record { 0 = a; 1 = b })) refl left right goes added
   regions_recorded m x y Bivariant e a b d left right goes added = absurd (d refl)
 
-  -- A step that answers, of a relation that does not promise to be exact.
+  -- A step that answers.
   pub answered_step : {K : Type 0} (F : Tree → Type 0) (m n : Meaning Key Id Name) (x y : InferCtxtInner Key)
       (v : Variance) (e : ParamEnvKey Key) (a b : Tree) (tree : K → Tree) (t : K) →
       Related solver_manner (solving j m x v e) (solving j n y v e) v a b tree (Ok t) →
       Stepped solver_manner F (solving j m x v e) (solving j n y v e) a b tree (Ok (Done t))
   answered_step F m n x y v e a b tree t h =
-      record { passes = h.passes; verdict = h.verdict; exact = λ is. absurd is }
+      record { passes = h.passes; verdict = h.verdict; exact = h.exact }
 
   -- Two types that are read as two were made one, at invariance.
   pub united_step : {K : Type 0} (F : Tree → Type 0) (m n : Meaning Key Id Name) (x y : InferCtxtInner Key)
       (v : Variance) (e : ParamEnvKey Key) (a b u : Tree) (tree : K → Tree) (t : K) → n ≡ m → v ≡ Invariant →
       IsTrue (known (m.param_env e)) → Goes (weight (store_of m x) a + weight (store_of m x) b)
       (store_of m x) (store_of m y) →
-      IsLawful m y → Unites (store_of m x) (store_of m y) a b → IsReadAs (store_of m x) a u → tree t ≡ u →
+      IsLawful m y → Unites (store_of m x) (store_of m y) a b → (IsFirstOrderPair (store_of m x) a b →
+      IsFirstOrderStore (store_of m y) × Exact (store_of m x) (store_of m y) a b) → IsReadAs (store_of m x) a u → tree t ≡ u →
       IsTrue (known u) → Stepped solver_manner F (solving j m x v e) (solving j n y v e) a b tree (Ok (Done t))
   unfolding solver_passes
-  united_step {K} F m n x y v e a b u tree t same is env goes l one reads answer sure =
+  united_step {K} F m n x y v e a b u tree t same is env goes l one exactly reads answer sure =
       answered_step F m n x y v e a b tree t
       (subst₂ (λ v n. Related solver_manner (solving j m x v e) (solving j n y v e) v a b tree (Ok t))
       (sym is) (sym same) related)
@@ -222,7 +230,7 @@ module _ {Key Id Name : Type 0} (j : ℕ) where
           };
           known = subst (λ z. IsTrue (known z)) (sym answer) sure;
         };
-        exact = λ k. absurd k;
+        exact = λ k is pair. exactly pair;
       }
 
   -- What is shown of two types as they are read is shown of the types.
@@ -268,7 +276,10 @@ module _ {Key Id Name : Type 0} (j : ℕ) where
       not_larger = let i = read_weight (store_of m x) g a (tree t) p in
           let j = read_weight (store_of m x) g b (tree u) q in omega (arith, i, j);
     };
-    exact = λ is. absurd is;
+    exact = λ k is pair. (
+      read_pair (store_of m x) a b (tree t) (tree u) p q pair,
+      reading_exact (store_of m x) g a b (tree t) (tree u) p q,
+    );
   }
 
   -- A step from a pair as it is read, to another.
@@ -348,7 +359,7 @@ module _ {Key Id Name : Type 0} (j : ℕ) where
       left_step p q h i ek el ez ew =
           subst (λ v. Stepped solver_manner F (solving j m x v e) (solving j n y v e)
           a b tree (Ok (Again k l z w Covariant)))
-          (sym is) (record { passes = passes; verdict = verdict; exact = λ o. absurd o })
+          (sym is) (record { passes = passes; verdict = verdict; exact = exactly })
         where
           above : weight was t + 1 ≤ weight was a + weight was b
           above = root_above was before.sound target a b root t p q refl h
@@ -389,6 +400,15 @@ module _ {Key Id Name : Type 0} (j : ℕ) where
               (solving j n y Invariant e) [] a b root t
               Covariant z w) (sym ez) (sym ew) led)
 
+          exactly : Unit {0} → Invariant ≡ Invariant → IsFirstOrderPair was a b → IsFirstOrderPair now (tree z) (tree w) ×
+              ExactStep was now a b (tree z) (tree w)
+          exactly o same pair = subst₂ (λ z w. IsFirstOrderPair now z w × ExactStep was now a b z w) (sym ez) (sym ew) (
+            bound_pair was now target t u before.sound t_in means steps pair.bindings
+                (read_first_order was pair.bindings b t q pair.right),
+            step_read was before.sound a b root t p q now u t
+                (bound_steps was now target t u before.sound t_in means steps).0,
+          )
+
       -- It stood on the right.
       pub right_step : IsReadAs was a t → IsReadAs was b root → IsShallow was root → IsTermIn was root →
           tree k ≡ t → tree l ≡ root → tree z ≡ t → tree w ≡ u →
@@ -397,7 +417,7 @@ module _ {Key Id Name : Type 0} (j : ℕ) where
       right_step p q h i ek el ez ew =
           subst (λ v. Stepped solver_manner F (solving j m x v e) (solving j n y v e)
           a b tree (Ok (Again k l z w Covariant)))
-          (sym is) (record { passes = passes; verdict = verdict; exact = λ o. absurd o })
+          (sym is) (record { passes = passes; verdict = verdict; exact = exactly })
         where
           above : weight was t + 1 ≤ weight was a + weight was b
           above = root_above_back was before.sound target b a root t q p refl h
@@ -438,6 +458,18 @@ module _ {Key Id Name : Type 0} (j : ℕ) where
               (solving j n y Invariant e) [] a b t root
               Covariant z w) (sym ez) (sym ew) led)
 
+          exactly : Unit {0} → Invariant ≡ Invariant → IsFirstOrderPair was a b → IsFirstOrderPair now (tree z) (tree w) ×
+              ExactStep was now a b (tree z) (tree w)
+          exactly o same pair = subst₂ (λ z w. IsFirstOrderPair now z w × ExactStep was now a b z w) (sym ez) (sym ew) (
+            turned (bound_pair was now target t u before.sound t_in means steps pair.bindings
+                (read_first_order was pair.bindings a t p pair.left)),
+            step_read was before.sound a b t root p q now t u
+                (bound_steps was now target t u before.sound t_in means steps).1,
+          )
+            where
+              turned : IsFirstOrderPair now u t → IsFirstOrderPair now t u
+              turned f = record { left = f.right; right = f.left; bindings = f.bindings }
+
   -- Nothing was bound.
   module _ {K : Type 0} (F : Tree → Type 0) (m n : Meaning Key Id Name) (grown : Extends m n) (x y : InferCtxtInner Key)
       (v : Variance) (e : ParamEnvKey Key) (env : IsTrue (known (m.param_env e))) (before : IsLawful m x)
@@ -453,12 +485,13 @@ module _ {Key Id Name : Type 0} (j : ℕ) where
 
     refused_step : Goes (weight (store_of m x) a + weight (store_of m x) b) (store_of m x) (store_of n y) →
         Answered {X = K} n (store_of m x) (store_of n y) a b (Err f) →
+        (IsFirstOrderPair (store_of m x) a b → ExactResult {X = K} (store_of m x) (store_of n y) a b (Err f)) →
         Stepped solver_manner F (solving j m x v e) (solving j n y v e) a b tree (Err f)
     unfolding solver_passes
-    refused_step g o = record {
+    refused_step g o exactly = record {
       passes = solver_passes v e grown env g after;
       verdict = refuses f sure o;
-      exact = λ is. absurd is;
+      exact = λ k is pair. exactly pair;
     }
 
     refused_work : (N : ℕ) → weight (store_of m x) t + 1 ≤ N → Goes N (store_of m x) (store_of n y)
@@ -473,6 +506,8 @@ module _ {Key Id Name : Type 0} (j : ℕ) where
         refused_step g (answered_alike n {X = K} (store_of m x) (store_of n y) a b (leaf (variable type_var target))
         t (Err f) before.sound g.later p q
         (instantiated_refused n (store_of m x) (store_of n y) target t K f formed h))
+        (λ pair. left_apart K n (store_of m x) (store_of n y) target t before.sound formed
+        (read_first_order (store_of m x) pair.bindings b t q pair.right) pair.bindings a b p q f h)
 
     pub right_refused : IsReadAs (store_of m x) a t → IsReadAs (store_of m x) b (leaf (variable type_var target)) →
         IsShallow (store_of m x) (leaf (variable type_var target)) →
@@ -483,6 +518,8 @@ module _ {Key Id Name : Type 0} (j : ℕ) where
         refused_step g (answered_alike n {X = K} (store_of m x) (store_of n y) a b t (leaf (variable type_var target))
         (Err f) before.sound g.later p q
         (instantiated_refused_back n (store_of m x) (store_of n y) target t K f formed h))
+        (λ pair. right_apart K n (store_of m x) (store_of n y) target t before.sound formed
+        (read_first_order (store_of m x) pair.bindings a t p pair.left) pair.bindings a b p q f h)
 
   -- What a relation leaves as it was need not be named, nor the reference that it held.
   module _ {X : Type 0} (m n : Meaning Key Id Name) (x y : InferCtxtInner Key) (v w : Variance) (e f : ParamEnvKey Key)
@@ -514,7 +551,7 @@ module _ {Key Id Name : Type 0} (j : ℕ) where
         lawful = (h.passes).lawful;
       };
       verdict = verdict result h.verdict;
-      exact = λ k. absurd k;
+      exact = h.exact;
     }
       where
         verdict : (r : Result X (RelateFault Key Id Name)) →

@@ -15,7 +15,8 @@ impl<I: Interner> RelateExt for RefCtxt<I> {
     ghost use Rattle.type_relations.specs.Stores.{IsTermIn, IsSound, all_bound};
     ghost use Rattle.type_relations.specs.Goals.{goals_of};
     ghost use Rattle.type_relations.specs.Steps.{IsLater};
-    ghost use Rattle.type_relations.specs.Outcomes.{NoEqualTerms};
+    ghost use Rattle.type_relations.specs.FirstOrder.{IsFirstOrderStore};
+    ghost use Rattle.type_relations.specs.Outcomes.{NoEqualTerms, Exact, NoUnifier};
     ghost use Rattle.type_relations.specs.Headline.{AnswersGoals, KeepsEqualTerms, IsFirstOrderPair};
     ghost use Rattle.type_relations.specs.Errors.{ErrorOf};
     ghost use Rattle.type_relations.specs.Taken.{IsTaken};
@@ -54,6 +55,8 @@ impl<I: Interner> RelateExt for RefCtxt<I> {
         ensures spent { IfSpent result ((store_of (I.meaning self.new.interner) self.new.inner).budget ≡ 0) }
         ensures same { (I.meaning self.old.interner).ty lhs ≡ (I.meaning self.old.interner).ty rhs → IsOkAnd result (λ goals. goals.items ≡ []) × (store_of (I.meaning self.new.interner) self.new.inner ≡ store_of (I.meaning self.old.interner) self.old.inner) }
         ensures goals { IfOk result (λ goals. variance ≡ Variance.Invariant → IsFirstOrderPair (store_of (I.meaning self.old.interner) self.old.inner) ((I.meaning self.old.interner).ty lhs) ((I.meaning self.old.interner).ty rhs) → goals.items ≡ []) }
+        ensures exact { IfOk result (λ goals. variance ≡ Variance.Invariant → IsFirstOrderPair (store_of (I.meaning self.old.interner) self.old.inner) ((I.meaning self.old.interner).ty lhs) ((I.meaning self.old.interner).ty rhs) → Exact (store_of (I.meaning self.old.interner) self.old.inner) (store_of (I.meaning self.new.interner) self.new.inner) ((I.meaning self.old.interner).ty lhs) ((I.meaning self.old.interner).ty rhs) × IsFirstOrderStore (store_of (I.meaning self.new.interner) self.new.inner)) }
+        ensures no_unifier { IfUnrelated result (λ e. variance ≡ Variance.Invariant → IsFirstOrderPair (store_of (I.meaning self.old.interner) self.old.inner) ((I.meaning self.old.interner).ty lhs) ((I.meaning self.old.interner).ty rhs) → NoUnifier (store_of (I.meaning self.old.interner) self.old.inner) ((I.meaning self.old.interner).ty lhs) ((I.meaning self.old.interner).ty rhs)) }
         ensures later { IsLater (store_of (I.meaning self.old.interner) self.old.inner) (store_of (I.meaning self.new.interner) self.new.inner) }
         ensures sound { IsSound (store_of (I.meaning self.new.interner) self.new.inner) }
         ensures budget { (store_of (I.meaning self.old.interner) self.old.inner).budget + all_bound (store_of (I.meaning self.old.interner) self.old.inner) ≡ (store_of (I.meaning self.new.interner) self.new.inner).budget + all_bound (store_of (I.meaning self.new.interner) self.new.inner) }

@@ -8,7 +8,8 @@ ghost use Rattle.type_relations.specs.Relation.{Items};
 ghost use Rattle.type_relations.specs.Stores.{Store, IsTermIn, IsSound, all_bound};
 ghost use Rattle.type_relations.specs.Goals.{goals_of};
 ghost use Rattle.type_relations.specs.Steps.{IsLater};
-ghost use Rattle.type_relations.specs.Outcomes.{NoEqualTerms};
+ghost use Rattle.type_relations.specs.FirstOrder.{IsFirstOrderStore};
+ghost use Rattle.type_relations.specs.Outcomes.{NoEqualTerms, Exact, NoUnifier};
 ghost use Rattle.type_relations.specs.Headline.{AnswersGoals, KeepsEqualTerms, IsFirstOrderPair};
 ghost use Rattle.type_relations.specs.Errors.{ErrorOf};
 ghost use Rattle.type_relations.specs.Taken.{IsTaken};
@@ -43,10 +44,12 @@ pub trait RelateExt {
     ///
     /// After `Ok`, each assignment that satisfies what is recorded and makes the goals true relates the types; and each
     /// that satisfied what was recorded and made them one extends to such a one. Equal types answer no goal and record
-    /// nothing.
+    /// nothing. Of first-order types in a first-order record at `Invariant` just those solutions up to erasure stay that
+    /// unify them, and no goal is answered: what is recorded is then a most general unifier.
     ///
     /// Answers `Unrelated` only where no assignment that satisfied what was recorded makes the types one: with the error
-    /// of two parts that stand at one place, the left side's first, or of a cycle. Answers `Budget` only where no
+    /// of two parts that stand at one place, the left side's first, or of a cycle. Of first-order types in a first-order
+    /// record at `Invariant` no solution up to erasure unifies them then. Answers `Budget` only where no
     /// instantiation is left, and `Memory` where a growth was refused. Also after an error all that was recorded
     /// stands; more may have been recorded on the way, and each variable that was newly bound to a term has taken one
     /// instantiation.
@@ -74,6 +77,8 @@ pub trait RelateExt {
         ensures spent { IfSpent result ((store self.new).budget ≡ 0) }
         ensures same { (Self.Interner.meaning (interner self.old)).ty lhs ≡ (Self.Interner.meaning (interner self.old)).ty rhs → IsOkAnd result (λ goals. goals.items ≡ []) × (store self.new ≡ store self.old) }
         ensures goals { IfOk result (λ goals. variance ≡ Variance.Invariant → IsFirstOrderPair (store self.old) ((Self.Interner.meaning (interner self.old)).ty lhs) ((Self.Interner.meaning (interner self.old)).ty rhs) → goals.items ≡ []) }
+        ensures exact { IfOk result (λ goals. variance ≡ Variance.Invariant → IsFirstOrderPair (store self.old) ((Self.Interner.meaning (interner self.old)).ty lhs) ((Self.Interner.meaning (interner self.old)).ty rhs) → Exact (store self.old) (store self.new) ((Self.Interner.meaning (interner self.old)).ty lhs) ((Self.Interner.meaning (interner self.old)).ty rhs) × IsFirstOrderStore (store self.new)) }
+        ensures no_unifier { IfUnrelated result (λ e. variance ≡ Variance.Invariant → IsFirstOrderPair (store self.old) ((Self.Interner.meaning (interner self.old)).ty lhs) ((Self.Interner.meaning (interner self.old)).ty rhs) → NoUnifier (store self.old) ((Self.Interner.meaning (interner self.old)).ty lhs) ((Self.Interner.meaning (interner self.old)).ty rhs)) }
         ensures later { IsLater (store self.old) (store self.new) }
         ensures sound { IsSound (store self.new) }
         ensures budget { (store self.old).budget + all_bound (store self.old) ≡ (store self.new).budget + all_bound (store self.new) }

@@ -6,6 +6,9 @@ use Rattle.type_relations.specs.Relation.{same}
 use Rattle.type_relations.specs.Goals.{goals_of, MakesOneTree}
 use Rattle.type_relations.specs.Headline.{AnswersGoals, KeepsEqualTerms}
 use Rattle.type_relations.specs.Lawful.{declared_by}
+use Rattle.type_relations.proofs.Unifying.{exact_itself}
+use Rattle.type_relations.proofs.Passing.{as_err}
+use Rattle.relation_reference.proofs.Exactly.{unrelated_apart}
 use Rattle.relation_reference.specs.Tables.{store_of}
 use Rattle.relation_reference.proofs.Solving.{answers_goals, keeps_equal}
 use Rattle.relation_reference.proofs.context.solver.RefCtxtRelateExt.relate.Goals as goal
@@ -16,6 +19,14 @@ returns-then-eq-clause-answers g c =
     let one = (g.met.I.Interner.same_ty c.args.self.now.interner c.args.lhs c.args.rhs k.lhs_known k.rhs_known).0
     (sym c.if-eq.ensures) in
     (λ w s sat all. same (ap (apply s) one), λ w s sat. sat)
+
+pub returns-then-eq-clause-exact : goal.returns-then-eq-clause-exact
+returns-then-eq-clause-exact g c = λ is pair.
+    let k = c.requires in
+    let m = g.I.Interner.meaning c.args.self.now.interner in
+    let one = (g.met.I.Interner.same_ty c.args.self.now.interner c.args.lhs c.args.rhs k.lhs_known k.rhs_known).0
+    (sym c.if-eq.ensures) in
+    (exact_itself (store_of m c.args.self.now.inner) (m.ty c.args.lhs) (m.ty c.args.rhs) one, pair.bindings)
 
 pub returns-then-eq-clause-keeps : goal.returns-then-eq-clause-keeps
 returns-then-eq-clause-keeps g c = λ w s sat one. (
@@ -61,3 +72,19 @@ returns-clause-keeps g c =
     (sym c.new-2.ensures.items)
     (keeps_equal 0 m n c.args.self.now.inner q.inner c.args.variance c.args.param_env a b n.ty
     c.in_ok-relate_in.field-0 c.in_ok-relate_in.ensures)
+
+pub returns-clause-exact : goal.returns-clause-exact
+returns-clause-exact g c = λ is pair. let o = (c.in_ok-relate_in.ensures).exact tt is pair in (o.1, o.0)
+
+pub returns-in_err-relate_in-clause-no_unifier : goal.returns-in_err-relate_in-clause-no_unifier
+returns-in_err-relate_in-clause-no_unifier g c =
+    let q = c.relate_in.new.infcx in
+    let m = g.I.Interner.meaning c.args.self.now.interner in
+    let was = store_of m c.args.self.now.inner in
+    let now = store_of (g.I.Interner.meaning q.interner) q.inner in
+    let a = m.ty c.args.lhs in
+    let b = m.ty c.args.rhs in
+    let f = c.in_err-relate_in.field-0.0 in
+    unrelated_apart c.args.variance was now a b (g.I.Interner.meaning q.interner).ty c.from_residual.result f
+    (as_err c.from_residual.result f c.from_residual.ensures.0 c.from_residual.ensures.1)
+    (λ is pair. (c.in_err-relate_in.ensures).exact tt is pair)

@@ -14,6 +14,7 @@ use Rattle.relation_reference.specs.Answers.{IsShallow}
 use Rattle.relation_reference.specs.Solving.{solving, solver_manner}
 use Rattle.relation_reference.proofs.Reading.{made_of_key}
 use Rattle.relation_reference.proofs.Relating.{unites_alike}
+use Rattle.relation_reference.proofs.Exactly.{roots_exactly, exact_read}
 use Rattle.relation_reference.proofs.Instantiating.{roots_goes, roots_unite}
 use Rattle.relation_reference.proofs.Solving.{answered_step, united_step, parts_step, left_step, right_step}
 use Rattle.relation_reference.proofs.Solving.{left_refused}
@@ -93,6 +94,12 @@ returns-in-Some-ty_var g c =
     (subst (IsReadAs st a) c.in-Some.ensures.is c.shallow_resolve-left.ensures.reads)
     (subst (IsReadAs st b) c.in-Some-ty_var.ensures.is c.shallow_resolve-right.ensures.reads)
     (roots_unite st later x y sound stays done.equates))
+    (λ pair. let z = roots_exactly st later x y sound stays done.equates pair.bindings in (
+      z.0,
+      exact_read st sound a b (leaf (variable type_var x)) (leaf (variable type_var y))
+          (subst (IsReadAs st a) c.in-Some.ensures.is c.shallow_resolve-left.ensures.reads)
+          (subst (IsReadAs st b) c.in-Some-ty_var.ensures.is c.shallow_resolve-right.ensures.reads) later z.1,
+    ))
     c.shallow_resolve-left.ensures.reads (ap (λ z. z.ty c.shallow_resolve-left.result) e)
     c.shallow_resolve-left.ensures.sure
 
