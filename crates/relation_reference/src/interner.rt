@@ -14,7 +14,7 @@ pub use keys::{ItemId, NoSpan, NodeKey, SymbolId};
 pub use node::Node;
 use node::{copied, place};
 use relation_terms::terms::{
-    ArgsKey, Branches, BranchesKey, Const, ConstForm, ConstKey, Dup, GenericArg, GenericArgs,
+    ArgsKey, Branches, BranchesKey, Const, ConstForm, ConstKey, GenericArg, GenericArgs,
     Interner, ItemOf, Keys, OutOfMemory, ParamEnv, ParamEnvKey, Region, RegionForm, RegionKey,
     Span, Ty, TyForm, TyKey, Tys, TysKey, ValTree, ValTreeForm, ValTreeKey, Variance,
 };
@@ -103,14 +103,14 @@ impl Interner for RefInterner {
 
     fn ty_kind(&self, ty: &Ty<Self>) -> TyForm<Self> {
         match &self.nodes[ty.0.0] {
-            Node::Ty(kind) => kind.dup(),
+            Node::Ty(kind) => *kind,
             _ => unreachable!(),
         }
     }
 
     fn region_kind(&self, region: &Region<Self>) -> RegionForm<Self> {
         match &self.nodes[region.0.0] {
-            Node::Region(kind) => kind.dup(),
+            Node::Region(kind) => *kind,
             _ => unreachable!(),
         }
     }
@@ -124,14 +124,14 @@ impl Interner for RefInterner {
 
     fn const_kind(&self, constant: &Const<Self>) -> ConstForm<Self> {
         match &self.nodes[constant.0.0] {
-            Node::Const(kind) => kind.dup(),
+            Node::Const(kind) => *kind,
             _ => unreachable!(),
         }
     }
 
     fn valtree_kind(&self, valtree: &ValTree<Self>) -> ValTreeForm<Self> {
         match &self.nodes[valtree.0.0] {
-            Node::ValTree(kind) => kind.dup(),
+            Node::ValTree(kind) => *kind,
             _ => unreachable!(),
         }
     }

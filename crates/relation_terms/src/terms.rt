@@ -1,7 +1,6 @@
 //! Terms: keys, outermost forms, and the interner.
 
 mod const_kind;
-mod dup;
 mod enums;
 mod generic_arg;
 mod goal;
@@ -14,7 +13,6 @@ mod region_kind;
 mod ty_kind;
 
 pub use const_kind::{ConstForm, ConstKind, ExprKind, ParamConst, ValTreeForm, ValTreeKind};
-pub use dup::Dup;
 pub use enums::{
     AliasRelationDirection, BoundConstness, ExternAbi, FloatTy, IntTy, Mutability,
     PredicatePolarity, Safety, UintTy, Variance,

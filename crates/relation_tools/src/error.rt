@@ -4,7 +4,7 @@ ghost use Rattle.relation_tools.specs.Faults.{InvolvesRegions, MustIncludeNote};
 
 pub use relation_terms::terms::OutOfMemory;
 use relation_terms::terms::{
-    BoundRegion, ConstKey, Dup, ExistentialPredicatesKey, ExternAbi, Keys, PredicatePolarity,
+    BoundRegion, ConstKey, ExistentialPredicatesKey, ExternAbi, Keys, PredicatePolarity,
     RegionKey, Safety, TraitId, TyKey,
 };
 use std::alloc::{AllocError, AllocFailed};
@@ -13,7 +13,7 @@ use std::alloc::{AllocError, AllocFailed};
 mod tests;
 
 /// What was asked for and what was there instead.
-#[derive(PartialEq, Eq, Debug, Drop)]
+#[derive(Clone, Copy, PartialEq, Eq, Debug)]
 pub struct ExpectedFound<T> {
     pub expected: T,
     pub found: T,
@@ -29,29 +29,10 @@ impl<T> ExpectedFound<T> {
     }
 }
 
-impl<T: Dup> Dup for ExpectedFound<T> {
-    fn dup(&self) -> Self {
-        ExpectedFound {
-            expected: self.expected.dup(),
-            found: self.found.dup(),
-        }
-    }
-}
-
-// The same pair, of values that are `Copy`.
-fn copied<T: Copy>(pair: &ExpectedFound<T>) -> ExpectedFound<T>
-    ensures { result ≡ pair.now }
-{
-    ExpectedFound {
-        expected: pair.expected,
-        found: pair.found,
-    }
-}
-
 /// Why two terms do not relate, over keys, ids of items and names.
 ///
 /// So far relating answers `Mutability`, `TupleSize`, `Sorts` and `CyclicTy`.
-#[derive(PartialEq, Eq, Debug, Drop)]
+#[derive(PartialEq, Eq, Debug)]
 pub enum TypeError<X, D, N> {
     /// Two terms differ, and nothing more is told.
     Mismatch,
@@ -154,40 +135,18 @@ impl<X, D, N> TypeError<X, D, N> {
     }
 }
 
-impl<X: Dup, D: Dup, N: Dup> Dup for TypeError<X, D, N> {
-    fn dup(&self) -> Self {
-        match self {
-            TypeError::Mismatch => TypeError::Mismatch,
-            TypeError::PolarityMismatch(pair) => TypeError::PolarityMismatch(copied(pair)),
-            TypeError::SafetyMismatch(pair) => TypeError::SafetyMismatch(copied(pair)),
-            TypeError::AbiMismatch(pair) => TypeError::AbiMismatch(copied(pair)),
-            TypeError::Mutability => TypeError::Mutability,
-            TypeError::ArgumentMutability(place) => TypeError::ArgumentMutability(*place),
-            TypeError::TupleSize(sizes) => TypeError::TupleSize(copied(sizes)),
-            TypeError::ArraySize(sizes) => TypeError::ArraySize(sizes.dup()),
-            TypeError::ArgCount => TypeError::ArgCount,
-            TypeError::RegionsDoesNotOutlive(longer, shorter) => {
-                TypeError::RegionsDoesNotOutlive(longer.dup(), shorter.dup())
-            }
-            TypeError::RegionsInsufficientlyPolymorphic(bound, region) => {
-                TypeError::RegionsInsufficientlyPolymorphic(bound.dup(), region.dup())
-            }
-            TypeError::RegionsPlaceholderMismatch => TypeError::RegionsPlaceholderMismatch,
-            TypeError::Sorts(types) => TypeError::Sorts(types.dup()),
-            TypeError::ArgumentSorts(types, place) => TypeError::ArgumentSorts(types.dup(), *place),
-            TypeError::Traits(traits) => TypeError::Traits(traits.dup()),
-            TypeError::VariadicMismatch(pair) => TypeError::VariadicMismatch(copied(pair)),
-            TypeError::CyclicTy(ty) => TypeError::CyclicTy(ty.dup()),
-            TypeError::CyclicConst(constant) => TypeError::CyclicConst(constant.dup()),
-            TypeError::ProjectionMismatched(items) => TypeError::ProjectionMismatched(items.dup()),
-            TypeError::ExistentialMismatch(lists) => TypeError::ExistentialMismatch(lists.dup()),
-            TypeError::ConstMismatch(constants) => TypeError::ConstMismatch(constants.dup()),
-            TypeError::IntrinsicCast => TypeError::IntrinsicCast,
-            TypeError::ForceInlineCast => TypeError::ForceInlineCast,
-            TypeError::TargetFeatureCast(function) => TypeError::TargetFeatureCast(function.dup()),
-        }
+// A derived copy matches over all errors, and takes its check as many seconds.
+impl<X: Copy, D: Copy, N: Copy> Clone for TypeError<X, D, N> {
+    ghost is_clone = { λ source copy. copy ≡ source };
+
+    ghost is_infallible = { λ _. Unit {0} };
+
+    fn clone(&self) -> Result<Self, AllocError> {
+        Ok(*self)
     }
 }
+
+impl<X: Copy, D: Copy, N: Copy> Copy for TypeError<X, D, N> {}
 
 /// A goal has no solution.
 #[derive(Clone, Copy, PartialEq, Eq, Hash, Debug)]
@@ -202,7 +161,7 @@ impl<X: Drop, D: Drop, N: Drop> From<TypeError<X, D, N>> for NoSolution {
 }
 
 /// Why a relation stopped.
-#[derive(PartialEq, Eq, Debug, Drop)]
+#[derive(PartialEq, Eq, Debug)]
 pub enum RelateFault<X, D, N> {
     /// A growth was refused.
     Memory,
@@ -211,6 +170,18 @@ pub enum RelateFault<X, D, N> {
     /// The terms do not relate.
     Unrelated(TypeError<X, D, N>),
 }
+
+impl<X: Copy, D: Copy, N: Copy> Clone for RelateFault<X, D, N> {
+    ghost is_clone = { λ source copy. copy ≡ source };
+
+    ghost is_infallible = { λ _. Unit {0} };
+
+    fn clone(&self) -> Result<Self, AllocError> {
+        Ok(*self)
+    }
+}
+
+impl<X: Copy, D: Copy, N: Copy> Copy for RelateFault<X, D, N> {}
 
 /// Why a relation of an interner's terms stopped.
 pub type RelateFaultOf<I> = RelateFault<<I as Keys>::Key, <I as Keys>::Id, <I as Keys>::Name>;

@@ -13,7 +13,7 @@ mod terms;
 pub use names::{Texts, TextsOf};
 use relation_reference::context::{RefCtxt, TypeVariableValue};
 use relation_terms::predicate::RegionConstraint;
-use relation_terms::terms::{Const, Dup, Interner, Ty};
+use relation_terms::terms::{Const, Interner, Ty};
 use relation_tools::error::{ExpectedFound, RelateFault, TypeError, TypeErrorOf};
 use std::fmt::{self, Write};
 pub use terms::{write_arg, write_const, write_region, write_ty};
@@ -195,7 +195,7 @@ fn bound_type<I: Interner>(ctx: &RefCtxt<I>, number: usize) -> Option<Ty<I>>
     ensures none { IfNone result ((t : Tree) → entry_of (store_of (I.meaning ctx.now.interner) ctx.now.inner) type_var number ≡ bound_to t → ⊥) }
 {
     match &ctx.inner.types[number].value {
-        TypeVariableValue::Known(ty) => Some(ty.dup()),
+        TypeVariableValue::Known(ty) => Some(*ty),
         TypeVariableValue::Unknown => None,
         TypeVariableValue::SameAs(_) => None,
     }

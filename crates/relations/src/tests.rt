@@ -8,7 +8,7 @@ use relation_reference::context::RefCtxt;
 use relation_reference::interner::{ItemId, NoSpan, NodeKey, RefInterner};
 use relation_terms::predicate::{OutlivesPredicate, RegionConstraint, RegionEqPredicate};
 use relation_terms::terms::{
-    AlternativesKey, ArgsKey, BoundVarsKey, BranchesKey, ClauseKey, ConstKey, DefId, Dup,
+    AlternativesKey, ArgsKey, BoundVarsKey, BranchesKey, ClauseKey, ConstKey, DefId,
     ExistentialPredicatesKey, GenericArgKind, Goal, Interner, Mutability, ParamEnvKey, PatKey,
     PredicateKey, RegionKey, TyKey, TyVid, UintTy, ValTreeKey, Variance,
 };
@@ -310,7 +310,7 @@ fn a_bound_variable_has_its_type(rt: HostRuntime) -> Result<(), Fail> {
     let mut ctx = RefCtxt::new(RefInterner::new(rt.alloc()), 1);
     let _ = ctx.next_ty_infer()?;
     let (param_env, lhs, rhs) = build_pair(&mut ctx, &PARAMETERS, &ITEMS, &(FIRST, U8))?;
-    let bound = rhs.dup();
+    let bound = rhs;
     let span = ctx.interner.dummy_span();
     let goals = relate(&mut ctx, param_env, lhs, Variance::Invariant, rhs, span)?;
     assert!(rt; goals.is_empty());
@@ -318,43 +318,6 @@ fn a_bound_variable_has_its_type(rt: HostRuntime) -> Result<(), Fail> {
     assert!(rt; ctx.binding(TyVid(0)) == Some(bound));
     assert_eq!(rt; ctx.budget_left(), 0);
     Ok(())
-}
-
-// Whether a copy equals its source.
-fn copies<T: Dup + PartialEq + Drop>(source: &T) -> bool {
-    source.dup() == *source
-}
-
-#[test]
-fn copies_equal_their_sources(rt: HostRuntime) {
-    let region = RegionKey(NodeKey(1));
-    let argument = GenericArgKind::Const(ConstKey(NodeKey(2)));
-    let outlives = OutlivesPredicate(argument, region.dup());
-    assert!(rt; copies(&RegionConstraint::Outlives(outlives)));
-    let equal = RegionEqPredicate(region, RegionKey(NodeKey(3)));
-    assert!(rt; copies(&RegionConstraint::Eq(equal)));
-    let goal = Goal {
-        param_env: ParamEnvKey(NodeKey(4)),
-        predicate: PredicateKey(NodeKey(5)),
-    };
-    assert!(rt; copies(&goal));
-    let types = ExpectedFound::new(TyKey(NodeKey(6)), TyKey(NodeKey(7)));
-    let error: TypeErrorOf<RefInterner> = TypeError::Sorts(types);
-    assert!(rt; copies(&error));
-}
-
-#[test]
-fn copies_of_keys_equal_their_sources(rt: HostRuntime) {
-    assert!(rt; copies(&ArgsKey(NodeKey(1))));
-    assert!(rt; copies(&PatKey(NodeKey(2))));
-    assert!(rt; copies(&ValTreeKey(NodeKey(3))));
-    assert!(rt; copies(&BranchesKey(NodeKey(4))));
-    assert!(rt; copies(&AlternativesKey(NodeKey(5))));
-    assert!(rt; copies(&ExistentialPredicatesKey(NodeKey(6))));
-    assert!(rt; copies(&BoundVarsKey(NodeKey(7))));
-    assert!(rt; copies(&ClauseKey(NodeKey(8))));
-    assert!(rt; copies(&ItemId(9)));
-    assert!(rt; copies(&NoSpan));
 }
 
 // Grows by each kind of call.
@@ -371,6 +334,6 @@ fn faults_of_growths_and_errors(rt: HostRuntime) {
     let refused: RelateFaultOf<RefInterner> = RelateFault::from(OutOfMemory::from(AllocError));
     assert!(rt; refused == RelateFault::Memory);
     let error: TypeErrorOf<RefInterner> = TypeError::CyclicTy(TyKey(NodeKey(1)));
-    let fault = RelateFault::from(error.dup());
+    let fault = RelateFault::from(error);
     assert!(rt; fault == RelateFault::Unrelated(error));
 }

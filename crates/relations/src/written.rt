@@ -10,7 +10,7 @@ ghost use Rattle.relations.specs.declared.written.BuildFault.TheVariants.{Memory
 
 use relation_reference::context::RefCtxt;
 use relation_terms::terms::{
-    AdtId, Const, ConstKind, Dup, EarlyParamRegion, GenericArgKind, GenericArgs, Interner,
+    AdtId, Const, ConstKind, EarlyParamRegion, GenericArgKind, GenericArgs, Interner,
     Mutability, OutOfMemory, Region, RegionForm, RegionKind, RegionVid, Ty, TyForm, TyKind, Tys,
     UintTy, ValTreeKind,
 };
@@ -45,14 +45,14 @@ pub enum Written {
 }
 
 /// A named region parameter: its name in an interner, and its text.
-#[derive(Drop)]
+#[derive(Clone, Copy)]
 pub struct Parameter<N> {
     pub name: N,
     pub text: &'static str,
 }
 
 /// An item's id in an interner, and its text.
-#[derive(Drop)]
+#[derive(Clone, Copy)]
 pub struct ItemText<D> {
     pub id: D,
     pub text: &'static str,
@@ -154,7 +154,7 @@ fn make_args<I: Interner>(
 {
     let mut args = Vec::new(ctx.interner.alloc());
     for ty in types {
-        args.push(GenericArgKind::Ty(ty.dup()))?;
+        args.push(GenericArgKind::Ty(*ty))?;
     }
     let list = ctx.interner.mk_args(&args)?;
     Ok(list)
@@ -210,7 +210,7 @@ fn build_region<I: Interner>(
             let Ok(index) = u32::try_from(place) else {
                 return Err(BuildFault::Missing);
             };
-            let name = parameter.name.dup();
+            let name = parameter.name;
             make_region(
                 ctx,
                 RegionKind::ReEarlyParam(EarlyParamRegion { index, name }),
@@ -227,7 +227,7 @@ fn variable_of<I: Interner>(ctx: &RefCtxt<I>, number: usize) -> Ty<I>
     ensures is_in { IsTermIn (store_of (I.meaning ctx.now.interner) ctx.now.inner) ((I.meaning ctx.now.interner).ty result) }
     ensures means { (I.meaning ctx.now.interner).ty result ≡ leaf (variable type_var number) }
 {
-    ctx.inner.types[number].key.dup()
+    ctx.inner.types[number].key
 }
 
 /// The type that is written, over the variables of a context.
@@ -307,7 +307,7 @@ fn build_item<I: Interner>(
     };
     let types = build_all(ctx, parameters, items, written)?;
     let args = make_args(ctx, &types)?;
-    make_ty(ctx, TyKind::Adt(AdtId(item.id.dup()), args))
+    make_ty(ctx, TyKind::Adt(AdtId(item.id), args))
 }
 
 // The types that are written, in order.

@@ -20,7 +20,7 @@ use relation_terms::terms::{Keys, TyKey, Variance};
 pub use type_relation::TypeRelation;
 
 /// What comes of two terms in one step of a relation.
-#[derive(Drop)]
+#[derive(Clone, Copy)]
 pub enum Step<T> {
     /// They are related, and this is the answer.
     Done(T),
@@ -48,7 +48,7 @@ pub enum StructurallyRelateAliases {
 }
 
 /// Why two terms are related at invariance, for whoever explains an error. No answer of relating looks at it.
-#[derive(PartialEq, Eq, Debug, Drop)]
+#[derive(Clone, Copy, PartialEq, Eq, Debug)]
 pub enum VarianceDiagInfo<X> {
     /// Nothing is known.
     None,

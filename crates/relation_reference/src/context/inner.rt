@@ -3,7 +3,7 @@ use relation_terms::predicate::RegionConstraint;
 use relation_terms::terms::{TyKey, TyVid, UniverseIndex};
 
 /// What is recorded of a type variable.
-#[derive(Debug, Drop)]
+#[derive(Clone, Copy, Debug)]
 pub enum TypeVariableValue<X> {
     /// Nothing.
     Unknown,
@@ -14,7 +14,7 @@ pub enum TypeVariableValue<X> {
 }
 
 /// A type variable: its key, what is recorded of it, and its universe.
-#[derive(Debug, Drop)]
+#[derive(Clone, Copy, Debug)]
 pub struct TypeVariable<X> {
     pub key: TyKey<X>,
     pub value: TypeVariableValue<X>,

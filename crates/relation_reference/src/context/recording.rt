@@ -13,7 +13,7 @@ ghost use Rattle.relation_reference.specs.Tables.{store_of, IsLawful};
 use crate::context::{RefCtxt, TypeVariable, TypeVariableValue};
 use relation_terms::predicate::{OutlivesPredicate, RegionConstraint, RegionEqPredicate};
 use relation_terms::terms::{
-    Dup, GenericArgKind, InferTy, Interner, OutOfMemory, Region, RegionKind, RegionVid, Ty, TyKind,
+    GenericArgKind, InferTy, Interner, OutOfMemory, Region, RegionKind, RegionVid, Ty, TyKind,
     TyVid, UniverseIndex, Variance,
 };
 
@@ -43,7 +43,7 @@ impl<I: Interner> RefCtxt<I> {
             .interner
             .mk_ty(TyKind::Infer(InferTy::TyVar(TyVid(number))))?;
         self.inner.types.push(TypeVariable {
-            key: key.dup(),
+            key: key,
             value: TypeVariableValue::Unknown,
             universe,
         })?;
@@ -83,7 +83,7 @@ impl<I: Interner> RefCtxt<I> {
         ensures refused { OnErr result (store_of (I.meaning self.old.interner) self.new.inner ≡ store_of (I.meaning self.old.interner) self.old.inner) }
         ensures goes { Goes 0 (store_of (I.meaning self.old.interner) self.old.inner) (store_of (I.meaning self.old.interner) self.new.inner) }
     {
-        let equal = RegionEqPredicate(a.dup(), b.dup());
+        let equal = RegionEqPredicate(*a, *b);
         self.inner.constraints.push(RegionConstraint::Eq(equal))?;
         Ok(())
     }
@@ -103,7 +103,7 @@ impl<I: Interner> RefCtxt<I> {
         ensures refused { OnErr result (store_of (I.meaning self.old.interner) self.new.inner ≡ store_of (I.meaning self.old.interner) self.old.inner) }
         ensures goes { Goes 0 (store_of (I.meaning self.old.interner) self.old.inner) (store_of (I.meaning self.old.interner) self.new.inner) }
     {
-        let outlives = OutlivesPredicate(GenericArgKind::Lifetime(sup.dup()), sub.dup());
+        let outlives = OutlivesPredicate(GenericArgKind::Lifetime(*sup), *sub);
         self.inner
             .constraints
             .push(RegionConstraint::Outlives(outlives))?;

@@ -13,7 +13,7 @@ ghost use Rattle.relation_reference.specs.Answers.{IsShallow, Instantiated, Step
 use crate::context::variables::ty_vid;
 use crate::context::{RefCtxt, TypeVariableValue};
 use relation_terms::terms::{
-    Branches, Const, ConstKind, Dup, GenericArg, GenericArgKind, GenericArgs, Interner,
+    Branches, Const, ConstKind, GenericArg, GenericArgKind, GenericArgs, Interner,
     OutOfMemory, Ty, TyForm, TyKind, TyVid, Tys, ValTree, ValTreeKind,
 };
 use relation_tools::error::{RelateFault, RelateFaultOf, TypeError};
@@ -89,7 +89,7 @@ impl<I: Interner> RefCtxt<I> {
         ensures sure { IsTrue (known ((I.meaning self.now.interner).ty result)) }
         ensures means { (I.meaning self.now.interner).ty result ≡ nth i ((I.meaning self.now.interner).tys tys.now) }
     {
-        self.interner.tys(tys)[i].dup()
+        self.interner.tys(tys)[i]
     }
 
     // The number of elements of a list.
@@ -108,7 +108,7 @@ impl<I: Interner> RefCtxt<I> {
         ensures sure { IsTrue (known (arg_tree (I.meaning self.now.interner) result)) }
         ensures means { arg_tree (I.meaning self.now.interner) result ≡ nth i ((I.meaning self.now.interner).args args.now) }
     {
-        self.interner.args(args)[i].dup()
+        self.interner.args(args)[i]
     }
 
     // The number of elements of a list.
@@ -127,7 +127,7 @@ impl<I: Interner> RefCtxt<I> {
         ensures sure { IsTrue (known ((I.meaning self.now.interner).const_ result)) }
         ensures means { (I.meaning self.now.interner).const_ result ≡ nth i ((I.meaning self.now.interner).branches branches.now) }
     {
-        self.interner.branches(branches)[i].dup()
+        self.interner.branches(branches)[i]
     }
 
     // The type with each variable that has a term replaced by it, at every depth, and each other by its root.
@@ -185,9 +185,9 @@ impl<I: Interner> RefCtxt<I> {
             TyKind::Ref(region, pointee, mutability) => {
                 let pointee = self.resolve_vars_if_possible(pointee)?;
                 self.interner
-                    .mk_ty(TyKind::Ref(region.dup(), pointee, *mutability))
+                    .mk_ty(TyKind::Ref(*region, pointee, *mutability))
             }
-            _ => Ok(ty.dup()),
+            _ => Ok(*ty),
         }
     }
 
@@ -222,7 +222,7 @@ impl<I: Interner> RefCtxt<I> {
         ensures resolves { IfOk result (λ t. arg_tree (I.meaning self.new.interner) t ≡ apply (resolved (store_of (I.meaning self.old.interner) self.old.inner)) (arg_tree (I.meaning self.old.interner) arg.now)) }
     {
         match arg {
-            GenericArgKind::Lifetime(region) => Ok(GenericArgKind::Lifetime(region.dup())),
+            GenericArgKind::Lifetime(region) => Ok(GenericArgKind::Lifetime(*region)),
             GenericArgKind::Ty(ty) => {
                 let ty = self.resolve_vars_if_possible(ty)?;
                 Ok(GenericArgKind::Ty(ty))
@@ -265,8 +265,8 @@ impl<I: Interner> RefCtxt<I> {
         ensures resolves { IfOk result (λ t. (I.meaning self.new.interner).const_ t ≡ apply (resolved (store_of (I.meaning self.old.interner) self.old.inner)) ((I.meaning self.old.interner).const_ constant.now)) }
     {
         match self.interner.const_kind(constant) {
-            ConstKind::Param(_) => Ok(constant.dup()),
-            ConstKind::Placeholder(_) => Ok(constant.dup()),
+            ConstKind::Param(_) => Ok(*constant),
+            ConstKind::Placeholder(_) => Ok(*constant),
             ConstKind::Value(ty, value) => {
                 let ty = self.resolve_vars_if_possible(&ty)?;
                 let value = self.resolve_value(&value)?;
@@ -290,7 +290,7 @@ impl<I: Interner> RefCtxt<I> {
         ensures resolves { IfOk result (λ t. (I.meaning self.new.interner).valtree t ≡ apply (resolved (store_of (I.meaning self.old.interner) self.old.inner)) ((I.meaning self.old.interner).valtree value.now)) }
     {
         match self.interner.valtree_kind(value) {
-            ValTreeKind::Leaf { .. } => Ok(value.dup()),
+            ValTreeKind::Leaf { .. } => Ok(*value),
             ValTreeKind::Branch(branches) => {
                 let branches = self.resolve_branches(&branches)?;
                 self.interner.mk_valtree(ValTreeKind::Branch(branches))
@@ -358,7 +358,7 @@ impl<I: Interner> RefCtxt<I> {
             return Err(RelateFault::Unrelated(TypeError::CyclicTy(bound)));
         }
         let universe = self.universe_of_ty(target.0);
-        self.record(target.0, TypeVariableValue::Known(bound.dup()), universe);
+        self.record(target.0, TypeVariableValue::Known(bound), universe);
         self.inner.budget -= 1;
         Ok(bound)
     }

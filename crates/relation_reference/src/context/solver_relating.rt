@@ -8,7 +8,7 @@ ghost use Rattle.relation_reference.specs.Solving.{solving, solver_manner};
 
 use crate::context::RefCtxt;
 use relation_terms::terms::{
-    Const, Dup, GenericArgs, Interner, ItemOf, ParamEnv, Region, Ty, Variance,
+    Const, GenericArgs, Interner, ItemOf, ParamEnv, Region, Ty, Variance,
 };
 use relation_tools::error::RelateResult;
 use type_relations::relate::structural::tys;
@@ -134,7 +134,7 @@ impl<'a, I: Interner> TypeRelation<I> for SolverRelating<'a, I> {
 
     fn tys(&mut self, a: &Ty<I>, b: &Ty<I>) -> RelateResult<I, Step<Ty<I>>> {
         if a == b {
-            return Ok(Step::Done(a.dup()));
+            return Ok(Step::Done(*a));
         }
         let left = self.infcx.shallow_resolve(a);
         let right = self.infcx.shallow_resolve(b);
@@ -148,7 +148,7 @@ impl<'a, I: Interner> TypeRelation<I> for SolverRelating<'a, I> {
                     let bound = self.infcx.instantiate_ty_var_raw(x, &right)?;
                     Ok(Step::Again {
                         x: bound,
-                        y: right.dup(),
+                        y: right,
                         a: left,
                         b: right,
                         variance: Variance::Covariant,
@@ -159,7 +159,7 @@ impl<'a, I: Interner> TypeRelation<I> for SolverRelating<'a, I> {
                 Some(y) => {
                     let bound = self.infcx.instantiate_ty_var_raw(y, &left)?;
                     Ok(Step::Again {
-                        x: left.dup(),
+                        x: left,
                         y: bound,
                         a: left,
                         b: right,
@@ -176,14 +176,14 @@ impl<'a, I: Interner> TypeRelation<I> for SolverRelating<'a, I> {
         let _a = self.infcx.interner.const_kind(a);
         let _b = self.infcx.interner.const_kind(b);
         Ok(Step::Parts {
-            a: a.dup(),
-            b: b.dup(),
+            a: *a,
+            b: *b,
         })
     }
 
     fn regions(&mut self, a: &Region<I>, b: &Region<I>) -> RelateResult<I, Region<I>> {
         self.infcx.relate_regions(self.ambient_variance, a, b)?;
-        Ok(a.dup())
+        Ok(*a)
     }
 
     fn tys_done(&mut self, _a: &Ty<I>, _b: &Ty<I>) -> RelateResult<I, ()> {

@@ -11,7 +11,7 @@ ghost use Rattle.relation_reference.specs.Answers.{LeadsTo, IsRoot, IsShallow};
 
 use crate::context::{InferCtxtInner, TypeVariableValue};
 use relation_terms::predicate::RegionConstraint;
-use relation_terms::terms::{Dup, InferTy, Interner, Ty, TyKind, TyVid, UniverseIndex};
+use relation_terms::terms::{InferTy, Interner, Ty, TyKind, TyVid, UniverseIndex};
 
 /// An inference context: an interner, and what is recorded of variables and regions.
 #[derive(Drop)]
@@ -74,7 +74,7 @@ impl<I: Interner> RefCtxt<I> {
         match &self.inner.types[v].value {
             TypeVariableValue::Unknown => TypeVariableValue::Unknown,
             TypeVariableValue::SameAs(other) => TypeVariableValue::SameAs(*other),
-            TypeVariableValue::Known(ty) => TypeVariableValue::Known(ty.dup()),
+            TypeVariableValue::Known(ty) => TypeVariableValue::Known(*ty),
         }
     }
 
@@ -122,12 +122,12 @@ impl<I: Interner> RefCtxt<I> {
         ensures shallow { IsShallow (store_of (I.meaning self.now.interner) self.now.inner) ((I.meaning self.now.interner).ty result) }
     {
         let TyKind::Infer(variable) = self.interner.ty_kind(ty) else {
-            return ty.dup();
+            return *ty;
         };
         let root = self.root_ty_var(ty_vid(variable));
         match self.probe(root.0) {
             TypeVariableValue::Known(bound) => bound,
-            TypeVariableValue::Unknown => self.inner.types[root.0].key.dup(),
+            TypeVariableValue::Unknown => self.inner.types[root.0].key,
             TypeVariableValue::SameAs(_) => unreachable!(),
         }
     }

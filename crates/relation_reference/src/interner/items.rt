@@ -5,7 +5,7 @@ use crate::interner::{ItemId, RefInterner, SymbolId};
 use relation_terms::terms::{Interner, OutOfMemory, TraitId, Variance};
 
 /// Which kind of item an item is.
-#[derive(PartialEq, Eq, Debug, Drop)]
+#[derive(Clone, Copy, PartialEq, Eq, Debug)]
 pub enum DefKind {
     /// A struct, an enum or a union.
     Adt,

@@ -1,5 +1,4 @@
 //! The representations of the reference interner: all are numbers.
-use relation_terms::terms::Dup;
 
 /// The number of a node.
 #[derive(Clone, Copy, PartialEq, Eq, Hash, Debug)]
@@ -16,27 +15,3 @@ pub struct SymbolId(pub usize);
 /// The place of what has none.
 #[derive(Clone, Copy, PartialEq, Eq, Hash, Debug)]
 pub struct NoSpan;
-
-impl Dup for NodeKey {
-    fn dup(&self) -> Self {
-        *self
-    }
-}
-
-impl Dup for ItemId {
-    fn dup(&self) -> Self {
-        *self
-    }
-}
-
-impl Dup for SymbolId {
-    fn dup(&self) -> Self {
-        *self
-    }
-}
-
-impl Dup for NoSpan {
-    fn dup(&self) -> Self {
-        *self
-    }
-}

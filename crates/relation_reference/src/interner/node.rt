@@ -5,7 +5,7 @@ ghost use Rattle.relation_reference.specs.declared.interner.node.Node.{Node};
 
 use crate::interner::{ItemId, NodeKey, SymbolId};
 use relation_terms::terms::{
-    ConstKey, ConstKind, Dup, GenericArgKind, OutOfMemory, RegionKind, TyKey, TyKind, ValTreeKind,
+    ConstKey, ConstKind, GenericArgKind, OutOfMemory, RegionKind, TyKey, TyKind, ValTreeKind,
 };
 use std::alloc::Global;
 
@@ -31,12 +31,12 @@ pub enum Node {
 }
 
 // The same values, in memory of their own.
-pub fn copied<T: Dup + Drop>(alloc: Global, values: &[T]) -> Result<Vec<T>, OutOfMemory>
+pub fn copied<T: Copy>(alloc: Global, values: &[T]) -> Result<Vec<T>, OutOfMemory>
     ensures { IfOk result (λ v. v.items ≡ values.now) }
 {
     let mut copies = Vec::new(alloc);
     for value in values {
-        copies.push(value.dup())?;
+        copies.push(*value)?;
     }
     Ok(copies)
 }

@@ -19,7 +19,7 @@ fn same<T: PartialEq + Drop>(left: T, right: T) -> bool {
 fn ty_reads_back<I: Interner>(cx: &mut I, kind: TyForm<I>) -> Result<bool, OutOfMemory>
     requires { IsTrue (known (kind_tree (I.meaning cx.old) kind)) }
 {
-    let ty = cx.mk_ty(kind.dup())?;
+    let ty = cx.mk_ty(kind)?;
     Ok(same(cx.ty_kind(&ty), kind))
 }
 
@@ -32,7 +32,7 @@ fn slice_reads_back<I: Interner>(cx: &mut I) -> Result<bool, OutOfMemory> {
 fn tuple_reads_back<I: Interner>(cx: &mut I) -> Result<bool, OutOfMemory> {
     let int = cx.mk_ty(TyKind::Int(IntTy::I32))?;
     let mut members = Vec::new(cx.alloc());
-    members.push(int.dup())?;
+    members.push(int)?;
     let list = cx.mk_type_list(&members)?;
     let read = cx.tys(&list).len() == 1 && cx.tys(&list)[0] == int;
     Ok(ty_reads_back(cx, TyKind::Tuple(list))? && read)
@@ -42,7 +42,7 @@ fn tuple_reads_back<I: Interner>(cx: &mut I) -> Result<bool, OutOfMemory> {
 fn reference_reads_back<I: Interner>(cx: &mut I, name: I::Name) -> Result<bool, OutOfMemory> {
     let pointee = cx.mk_ty(TyKind::Infer(InferTy::TyVar(TyVid(3))))?;
     let parameter = EarlyParamRegion { index: 1, name };
-    let region = cx.mk_region(RegionKind::ReEarlyParam(parameter.dup()))?;
+    let region = cx.mk_region(RegionKind::ReEarlyParam(parameter))?;
     let read = same(cx.region_kind(&region), RegionKind::ReEarlyParam(parameter));
     Ok(ty_reads_back(cx, TyKind::Ref(region, pointee, Mutability::Mut))? && read)
 }
@@ -64,9 +64,9 @@ fn consts_read_back<I: Interner>(
 ) -> Result<bool, OutOfMemory>
     requires { IsTrue (known (const_tree (I.meaning cx.old) value)) }
 {
-    let five = cx.mk_const(value.dup())?;
+    let five = cx.mk_const(value)?;
     let parameter = ParamConst { index: 2, name };
-    let constant = cx.mk_const(ConstKind::Param(parameter.dup()))?;
+    let constant = cx.mk_const(ConstKind::Param(parameter))?;
     let reads = same(cx.const_kind(&constant), ConstKind::Param(parameter));
     Ok(reads && constant != five && same(cx.const_kind(&five), value))
 }
@@ -81,10 +81,10 @@ fn constants_read_back<I: Interner>(cx: &mut I, name: I::Name) -> Result<bool, O
 fn branches_read_back<I: Interner>(cx: &mut I, name: I::Name) -> Result<bool, OutOfMemory> {
     let constant = cx.mk_const(ConstKind::Param(ParamConst { index: 0, name }))?;
     let mut constants = Vec::new(cx.alloc());
-    constants.push(constant.dup())?;
+    constants.push(constant)?;
     let list = cx.mk_branches(&constants)?;
     let read = cx.branches(&list).len() == 1 && cx.branches(&list)[0] == constant;
-    let branch = cx.mk_valtree(ValTreeKind::Branch(list.dup()))?;
+    let branch = cx.mk_valtree(ValTreeKind::Branch(list))?;
     Ok(read && same(cx.valtree_kind(&branch), ValTreeKind::Branch(list)))
 }
 
@@ -120,8 +120,8 @@ fn one_key_of_lists<I: Interner>(cx: &mut I) -> Result<bool, OutOfMemory> {
 #[tactic(auto, using(relation_terms::proofs::Stays::knows_args))]
 fn one_key_of_expressions<I: Interner>(cx: &mut I) -> Result<bool, OutOfMemory> {
     let none = cx.mk_args(&Vec::new(cx.alloc()))?;
-    let sum = cx.mk_const(ConstKind::Expr(ExprKind(0), none.dup()))?;
-    let sum_again = cx.mk_const(ConstKind::Expr(ExprKind(0), none.dup()))?;
+    let sum = cx.mk_const(ConstKind::Expr(ExprKind(0), none))?;
+    let sum_again = cx.mk_const(ConstKind::Expr(ExprKind(0), none))?;
     let product = cx.mk_const(ConstKind::Expr(ExprKind(1), none))?;
     Ok(sum == sum_again && sum != product)
 }

@@ -11,7 +11,7 @@ use crate::interner::{
 };
 use relation_terms::predicate::{OutlivesPredicate, RegionConstraint, RegionEqPredicate};
 use relation_terms::terms::{
-    AdtId, Dup, EarlyParamRegion, GenericArgKind, Interner, Mutability, OutOfMemory, Region,
+    AdtId, EarlyParamRegion, GenericArgKind, Interner, Mutability, OutOfMemory, Region,
     RegionKey, RegionKind, Ty, TyForm, TyKey, TyKind, UintTy, Variance,
 };
 use relation_tools::error::{RelateFault, RelateResult, TypeError};
@@ -36,7 +36,7 @@ pub(super) fn make_region<I: Interner>(
     ensures grown { Extends (I.meaning cx.old) (I.meaning cx.new) }
     ensures concrete { IfOk result (λ k. IsConcrete ((I.meaning cx.new).region k)) }
 {
-    let name = name.dup();
+    let name = *name;
     cx.mk_region(RegionKind::ReEarlyParam(EarlyParamRegion { index, name }))
 }
 
@@ -58,7 +58,7 @@ pub(super) fn make_ref<I: Interner>(cx: &mut I, region: &Region<I>) -> Result<Ty
     ensures concrete { IfOk result (λ k. IsConcrete ((I.meaning cx.new).ty k)) }
 {
     let byte = make_ty(cx, TyKind::Uint(UintTy::U8))?;
-    make_ty(cx, TyKind::Ref(region.dup(), byte, Mutability::Not))
+    make_ty(cx, TyKind::Ref(*region, byte, Mutability::Not))
 }
 
 // The type `&'a mut &'b u8`.
@@ -70,7 +70,7 @@ fn make_nested<I: Interner>(cx: &mut I, a: &Region<I>, b: &Region<I>) -> Result<
     ensures concrete { IfOk result (λ k. IsConcrete ((I.meaning cx.new).ty k)) }
 {
     let inner = make_ref(cx, b)?;
-    make_ty(cx, TyKind::Ref(a.dup(), inner, Mutability::Mut))
+    make_ty(cx, TyKind::Ref(*a, inner, Mutability::Mut))
 }
 
 // The type `*const u8` or `*mut u8`.
@@ -98,7 +98,7 @@ fn make_applied<I: Interner>(
     let mut args = Vec::new(cx.alloc());
     args.push(GenericArgKind::Ty(argument))?;
     let args = cx.mk_args(&args)?;
-    make_ty(cx, TyKind::Adt(AdtId(item.dup()), args))
+    make_ty(cx, TyKind::Adt(AdtId(*item), args))
 }
 
 // The first region outlives the second.
@@ -188,8 +188,8 @@ fn by_context<I: Interner + Drop>(
     let param_env = cx.empty_param_env()?;
     let mut ctx = RefCtxt::new(cx, 0);
     let span = ctx.interner.dummy_span();
-    let lhs = question.lhs.dup();
-    let rhs = question.rhs.dup();
+    let lhs = question.lhs;
+    let rhs = question.rhs;
     ctx.relate(param_env, lhs, variance, rhs, span)?;
     let inner = ctx.inner;
     Ok(inner.constraints)

@@ -1,12 +1,12 @@
 //! Folders: one that puts terms for a variable and the like, and one that puts none.
 use relation_terms::terms::{
-    Const, ConstKey, ConstKind, Dup, InferTy, Interner, OutOfMemory, Region, RegionKey, RegionKind,
+    Const, ConstKey, ConstKind, InferTy, Interner, OutOfMemory, Region, RegionKey, RegionKind,
     RegionVid, Ty, TyKey, TyKind, TyVid,
 };
 use relation_tools::fold::{Fold, TypeFolder};
 
 /// Puts a type for a type variable, a region for a region variable and a constant for a parameter, each of one number.
-#[derive(Drop)]
+#[derive(Clone, Copy)]
 pub struct Puts<X> {
     pub variable: TyVid,
     pub ty: TyKey<X>,
@@ -32,7 +32,7 @@ impl<I: Interner> TypeFolder<I> for Puts<I::Key> {
         let kind = cx.ty_kind(ty);
         match &kind {
             TyKind::Infer(InferTy::TyVar(variable)) if *variable == self.variable => {
-                Ok(Fold::Replace(self.ty.dup()))
+                Ok(Fold::Replace(self.ty))
             }
             _ => Ok(Fold::Descend),
         }
@@ -47,7 +47,7 @@ impl<I: Interner> TypeFolder<I> for Puts<I::Key> {
         let kind = cx.region_kind(region);
         match &kind {
             RegionKind::ReVar(variable) if *variable == self.region_variable => {
-                Ok(Fold::Replace(self.region.dup()))
+                Ok(Fold::Replace(self.region))
             }
             _ => Ok(Fold::Descend),
         }
@@ -62,7 +62,7 @@ impl<I: Interner> TypeFolder<I> for Puts<I::Key> {
         let kind = cx.const_kind(constant);
         match &kind {
             ConstKind::Param(parameter) if parameter.index == self.parameter => {
-                Ok(Fold::Replace(self.constant.dup()))
+                Ok(Fold::Replace(self.constant))
             }
             _ => Ok(Fold::Descend),
         }

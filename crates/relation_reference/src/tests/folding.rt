@@ -10,7 +10,7 @@ use super::forms::{
     make_leaf_region, make_leaf_ty, make_parts, make_ty,
 };
 use crate::interner::{ItemId, RefInterner, SymbolId};
-use relation_terms::terms::{Dup, GenericArgKind, Interner, OutOfMemory, TermKind, TyKind};
+use relation_terms::terms::{GenericArgKind, Interner, OutOfMemory, TermKind, TyKind};
 use relation_tools::error::ExpectedFound;
 use relation_tools::fold::{TypeFoldable, TypeFolder};
 use std::test::Fail;
@@ -171,24 +171,24 @@ fn arg_folds<I: Interner, F: TypeFolder<I>>(
 {
     match part {
         Folded::RegionArg => {
-            let wanted = GenericArgKind::Lifetime(wanted.region.dup());
+            let wanted = GenericArgKind::Lifetime(wanted.region);
             folds(
                 cx,
                 folder,
-                &GenericArgKind::Lifetime(of.region.dup()),
+                &GenericArgKind::Lifetime(of.region),
                 &wanted,
             )
         }
         Folded::TyArg => {
-            let wanted = GenericArgKind::Ty(wanted.ty.dup());
-            folds(cx, folder, &GenericArgKind::Ty(of.ty.dup()), &wanted)
+            let wanted = GenericArgKind::Ty(wanted.ty);
+            folds(cx, folder, &GenericArgKind::Ty(of.ty), &wanted)
         }
         _ => {
-            let wanted = GenericArgKind::Const(wanted.constant.dup());
+            let wanted = GenericArgKind::Const(wanted.constant);
             folds(
                 cx,
                 folder,
-                &GenericArgKind::Const(of.constant.dup()),
+                &GenericArgKind::Const(of.constant),
                 &wanted,
             )
         }
@@ -208,12 +208,12 @@ fn wrapped_folds<I: Interner, F: TypeFolder<I>>(
 {
     match part {
         Folded::TyTerm => {
-            let wanted = TermKind::Ty(wanted.ty.dup());
-            folds(cx, folder, &TermKind::Ty(of.ty.dup()), &wanted)
+            let wanted = TermKind::Ty(wanted.ty);
+            folds(cx, folder, &TermKind::Ty(of.ty), &wanted)
         }
         Folded::ConstTerm => {
-            let wanted = TermKind::Const(wanted.constant.dup());
-            folds(cx, folder, &TermKind::Const(of.constant.dup()), &wanted)
+            let wanted = TermKind::Const(wanted.constant);
+            folds(cx, folder, &TermKind::Const(of.constant), &wanted)
         }
         _ => arg_folds(cx, folder, part, of, wanted),
     }
@@ -273,7 +273,7 @@ fn pairs_fold<I: Interner>(cx: &mut I, name: &I::Name) -> Result<bool, OutOfMemo
     let put = make_leaf_ty(cx, Leaves::Put)?;
     let never = cx.mk_ty(TyKind::Never)?;
     let mut folder = make_folder(cx, name)?;
-    let pair = ExpectedFound::new(variable, never.dup());
+    let pair = ExpectedFound::new(variable, never);
     let wanted = ExpectedFound::new(put, never);
     folds(cx, &mut folder, &pair, &wanted)
 }

@@ -6,7 +6,7 @@ ghost use Rattle.relation_reference.specs.Putting.{KnowsParts};
 
 use relation_terms::terms::{
     AdtId, ArgsKey, BoundConst, BoundTy, BoundVar, Branches, BranchesKey, ClosureId, Const,
-    ConstForm, ConstKey, ConstKind, CoroutineClosureId, CoroutineId, Dup, ExprKind, FloatTy,
+    ConstForm, ConstKey, ConstKind, CoroutineClosureId, CoroutineId, ExprKind, FloatTy,
     ForeignId, FunctionId, GenericArgKind, GenericArgs, InferTy, IntTy, Interner, Mutability,
     OutOfMemory, ParamConst, ParamTy, Placeholder, Region, RegionKey, RegionKind, RegionVid, Ty,
     TyForm, TyKey, TyKind, TyVid, Tys, TysKey, UintTy, UniverseIndex, ValTree, ValTreeKey,
@@ -74,7 +74,7 @@ pub const REGION_VARIABLE: RegionVid = RegionVid(2);
 pub const PARAMETER: u32 = 3;
 
 /// What a term of any form is made of.
-#[derive(Drop)]
+#[derive(Clone, Copy)]
 pub struct Parts<X> {
     pub ty: TyKey<X>,
     pub region: RegionKey<X>,
@@ -127,7 +127,7 @@ pub fn make_leaf_const<I: Interner>(
     };
     cx.mk_const(ConstKind::Param(ParamConst {
         index,
-        name: name.dup(),
+        name: *name,
     }))
 }
 
@@ -145,9 +145,9 @@ fn make_args<I: Interner>(
     ensures sure { IfOk result (λ k. IsTrue (known ((I.meaning cx.new).args k))) }
 {
     let mut args = Vec::new(cx.alloc());
-    args.push(GenericArgKind::Lifetime(region.dup()))?;
-    args.push(GenericArgKind::Ty(ty.dup()))?;
-    args.push(GenericArgKind::Const(constant.dup()))?;
+    args.push(GenericArgKind::Lifetime(*region))?;
+    args.push(GenericArgKind::Ty(*ty))?;
+    args.push(GenericArgKind::Const(*constant))?;
     cx.mk_args(&args)
 }
 
@@ -158,9 +158,9 @@ fn make_members<I: Interner>(cx: &mut I, ty: &Ty<I>) -> Result<Tys<I>, OutOfMemo
     ensures grown { Extends (I.meaning cx.old) (I.meaning cx.new) }
     ensures sure { IfOk result (λ k. IsTrue (known ((I.meaning cx.new).tys k))) }
 {
-    let slice = cx.mk_ty(TyKind::Slice(ty.dup()))?;
+    let slice = cx.mk_ty(TyKind::Slice(*ty))?;
     let mut members = Vec::new(cx.alloc());
-    members.push(ty.dup())?;
+    members.push(*ty)?;
     members.push(slice)?;
     cx.mk_type_list(&members)
 }
@@ -187,9 +187,9 @@ fn make_branches<I: Interner>(
     ensures grown { Extends (I.meaning cx.old) (I.meaning cx.new) }
     ensures sure { IfOk result (λ k. IsTrue (known ((I.meaning cx.new).branches k))) }
 {
-    let five = cx.mk_const(ConstKind::Value(ty.dup(), leaf.dup()))?;
+    let five = cx.mk_const(ConstKind::Value(*ty, *leaf))?;
     let mut constants = Vec::new(cx.alloc());
-    constants.push(constant.dup())?;
+    constants.push(*constant)?;
     constants.push(five)?;
     cx.mk_branches(&constants)
 }
@@ -212,7 +212,7 @@ fn make_parts_over<I: Interner>(
     let members = make_members(cx, &ty)?;
     let leaf = make_leaf_value(cx)?;
     let branches = make_branches(cx, &ty, &constant, &leaf)?;
-    let branch = cx.mk_valtree(ValTreeKind::Branch(branches.dup()))?;
+    let branch = cx.mk_valtree(ValTreeKind::Branch(branches))?;
     Ok(Parts {
         ty,
         region,
@@ -252,18 +252,18 @@ fn plain_form<I: Interner>(_cx: &I, label: Label, id: &I::Id, name: &I::Name) ->
         Label::Int => TyKind::Int(IntTy::I8),
         Label::Uint => TyKind::Uint(UintTy::U8),
         Label::Float => TyKind::Float(FloatTy::F32),
-        Label::Foreign => TyKind::Foreign(ForeignId(id.dup())),
+        Label::Foreign => TyKind::Foreign(ForeignId(*id)),
         Label::Str => TyKind::Str,
         Label::Never => TyKind::Never,
         Label::Param => TyKind::Param(ParamTy {
             index: PARAMETER,
-            name: name.dup(),
+            name: *name,
         }),
         Label::Placeholder => TyKind::Placeholder(Placeholder {
             universe: UniverseIndex(1),
             bound: BoundTy {
                 var: BoundVar(1),
-                name: name.dup(),
+                name: *name,
             },
         }),
         _ => TyKind::Infer(InferTy::TyVar(TyVid(9))),
@@ -282,21 +282,21 @@ fn ty_form<I: Interner>(
     ensures { IsTrue (known (kind_tree (I.meaning cx.now) result)) }
 {
     match label {
-        Label::Adt => TyKind::Adt(AdtId(id.dup()), parts.args.dup()),
-        Label::Array => TyKind::Array(parts.ty.dup(), parts.constant.dup()),
-        Label::Slice => TyKind::Slice(parts.ty.dup()),
-        Label::RawPtr => TyKind::RawPtr(parts.ty.dup(), Mutability::Mut),
-        Label::Ref => TyKind::Ref(parts.region.dup(), parts.ty.dup(), Mutability::Mut),
-        Label::FnDef => TyKind::FnDef(FunctionId(id.dup()), parts.args.dup()),
-        Label::Closure => TyKind::Closure(ClosureId(id.dup()), parts.args.dup()),
+        Label::Adt => TyKind::Adt(AdtId(*id), parts.args),
+        Label::Array => TyKind::Array(parts.ty, parts.constant),
+        Label::Slice => TyKind::Slice(parts.ty),
+        Label::RawPtr => TyKind::RawPtr(parts.ty, Mutability::Mut),
+        Label::Ref => TyKind::Ref(parts.region, parts.ty, Mutability::Mut),
+        Label::FnDef => TyKind::FnDef(FunctionId(*id), parts.args),
+        Label::Closure => TyKind::Closure(ClosureId(*id), parts.args),
         Label::CoroutineClosure => {
-            TyKind::CoroutineClosure(CoroutineClosureId(id.dup()), parts.args.dup())
+            TyKind::CoroutineClosure(CoroutineClosureId(*id), parts.args)
         }
-        Label::Coroutine => TyKind::Coroutine(CoroutineId(id.dup()), parts.args.dup()),
+        Label::Coroutine => TyKind::Coroutine(CoroutineId(*id), parts.args),
         Label::CoroutineWitness => {
-            TyKind::CoroutineWitness(CoroutineId(id.dup()), parts.args.dup())
+            TyKind::CoroutineWitness(CoroutineId(*id), parts.args)
         }
-        Label::Tuple => TyKind::Tuple(parts.members.dup()),
+        Label::Tuple => TyKind::Tuple(parts.members),
         _ => plain_form(cx, label, id, name),
     }
 }
@@ -314,18 +314,18 @@ fn const_form<I: Interner>(
     match shape {
         Shape::Param => ConstKind::Param(ParamConst {
             index: 9,
-            name: name.dup(),
+            name: *name,
         }),
         Shape::Placeholder => ConstKind::Placeholder(Placeholder {
             universe: UniverseIndex(1),
             bound: BoundConst {
                 var: BoundVar(1),
-                name: name.dup(),
+                name: *name,
             },
         }),
-        Shape::Leaf => ConstKind::Value(parts.ty.dup(), parts.leaf.dup()),
-        Shape::Branch => ConstKind::Value(parts.ty.dup(), parts.branch.dup()),
-        Shape::Expr => ConstKind::Expr(ExprKind(7), parts.args.dup()),
+        Shape::Leaf => ConstKind::Value(parts.ty, parts.leaf),
+        Shape::Branch => ConstKind::Value(parts.ty, parts.branch),
+        Shape::Expr => ConstKind::Expr(ExprKind(7), parts.args),
     }
 }
 

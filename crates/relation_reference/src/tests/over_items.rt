@@ -16,7 +16,7 @@ use super::relating::{make_args, make_two, only};
 use crate::interner::{ItemId, NodeKey, RefInterner, SymbolId};
 use relation_terms::predicate::RegionConstraint;
 use relation_terms::terms::{
-    ArgsKey, DefId, Dup, GenericArgs, Interner, OutOfMemory, Ty, TyKey, TyKind, UintTy, Variance,
+    ArgsKey, DefId, GenericArgs, Interner, OutOfMemory, Ty, TyKey, TyKind, UintTy, Variance,
 };
 use relation_tools::error::{ExpectedFound, RelateFault, RelateResult, TypeError};
 use std::test::Fail;
@@ -24,14 +24,14 @@ use type_relations::relate::forms::{ItemForm, kind_of_item};
 use type_relations::relate::relate_ty_args;
 
 /// A type over an item, and its arguments.
-#[derive(Drop)]
+#[derive(Clone, Copy)]
 struct OverItem<X> {
     ty: TyKey<X>,
     args: ArgsKey<X>,
 }
 
 /// Two types over one item.
-#[derive(Drop)]
+#[derive(Clone, Copy)]
 struct Sides<X> {
     left: OverItem<X>,
     right: OverItem<X>,
@@ -50,7 +50,7 @@ fn make_item<I: Interner>(
     ensures sure { IfOk result (λ k. IsTrue (known ((I.meaning cx.new).ty k))) }
     ensures made { IfOk result (λ k. (I.meaning cx.new).ty k ≡ node (item_head form ((I.meaning cx.old).id item.now)) ((I.meaning cx.old).args args)) }
 {
-    cx.mk_ty(kind_of_item(form, item.dup(), args))
+    cx.mk_ty(kind_of_item(form, *item, args))
 }
 
 // The same of one argument.
@@ -67,7 +67,7 @@ fn make_over<I: Interner>(
     ensures is { IfOk result (λ t. (I.meaning cx.new).ty t.ty ≡ node (item_head form ((I.meaning cx.old).id item.now)) (cons ((I.meaning cx.old).ty argument.now) nil)) }
 {
     let args = make_args(cx, argument)?;
-    let ty = make_item(cx, form, item, args.dup())?;
+    let ty = make_item(cx, form, item, args)?;
     Ok(OverItem { ty, args })
 }
 
@@ -169,7 +169,7 @@ fn functions_are_related(rt: HostRuntime) -> Result<(), Fail> {
 }
 
 /// Two types that do not relate.
-#[derive(Drop)]
+#[derive(Clone, Copy)]
 struct Unlike<X> {
     left: TyKey<X>,
     right: TyKey<X>,

@@ -13,7 +13,7 @@ ghost use Rattle.relation_reference.specs.Plain.{as_is, plain_store, plain_state
 
 use relation_terms::predicate::{OutlivesPredicate, RegionConstraint, RegionEqPredicate};
 use relation_terms::terms::{
-    Const, Dup, GenericArgKind, GenericArgs, Interner, ItemOf, Region, RegionKey, Ty, Variance,
+    Const, GenericArgKind, GenericArgs, Interner, ItemOf, Region, RegionKey, Ty, Variance,
 };
 use relation_tools::error::RelateResult;
 use type_relations::relate::structural::tys;
@@ -61,7 +61,7 @@ pub fn constraints_of<I: Interner + Drop>(
 }
 
 // What relating two regions at a variance asks of them.
-fn constraint<X: Dup>(
+fn constraint<X: Copy>(
     v: Variance,
     a: &RegionKey<X>,
     b: &RegionKey<X>,
@@ -70,14 +70,14 @@ fn constraint<X: Dup>(
 {
     match v {
         Variance::Covariant => Some(RegionConstraint::Outlives(OutlivesPredicate(
-            GenericArgKind::Lifetime(a.dup()),
-            b.dup(),
+            GenericArgKind::Lifetime(*a),
+            *b,
         ))),
         Variance::Contravariant => Some(RegionConstraint::Outlives(OutlivesPredicate(
-            GenericArgKind::Lifetime(b.dup()),
-            a.dup(),
+            GenericArgKind::Lifetime(*b),
+            *a,
         ))),
-        Variance::Invariant => Some(RegionConstraint::Eq(RegionEqPredicate(a.dup(), b.dup()))),
+        Variance::Invariant => Some(RegionConstraint::Eq(RegionEqPredicate(*a, *b))),
         Variance::Bivariant => None,
     }
 }
@@ -117,8 +117,8 @@ impl<I: Interner> TypeRelation<I> for PlainRelation<I> {
 
     fn tys(&mut self, a: &Ty<I>, b: &Ty<I>) -> RelateResult<I, Step<Ty<I>>> {
         Ok(Step::Parts {
-            a: a.dup(),
-            b: b.dup(),
+            a: *a,
+            b: *b,
         })
     }
 
@@ -127,17 +127,17 @@ impl<I: Interner> TypeRelation<I> for PlainRelation<I> {
         let _a = self.interner.const_kind(a);
         let _b = self.interner.const_kind(b);
         Ok(Step::Parts {
-            a: a.dup(),
-            b: b.dup(),
+            a: *a,
+            b: *b,
         })
     }
 
     fn regions(&mut self, a: &Region<I>, b: &Region<I>) -> RelateResult<I, Region<I>> {
         let Some(constraint) = constraint(self.ambient, a, b) else {
-            return Ok(a.dup());
+            return Ok(*a);
         };
         self.constraints.push(constraint)?;
-        Ok(a.dup())
+        Ok(*a)
     }
 
     fn tys_done(&mut self, _a: &Ty<I>, _b: &Ty<I>) -> RelateResult<I, ()> {

@@ -13,7 +13,7 @@ use super::plain::PlainRelation;
 use crate::interner::{RefInterner, SymbolId};
 use relation_terms::predicate::{RegionConstraint, RegionEqPredicate};
 use relation_terms::terms::{
-    ArgsKey, DefId, Dup, GenericArgKind, GenericArgs, Interner, ItemOf, OutOfMemory, RegionKey,
+    ArgsKey, DefId, GenericArgKind, GenericArgs, Interner, ItemOf, OutOfMemory, RegionKey,
     TermKind, TyKey, Variance,
 };
 use relation_tools::error::RelateResult;
@@ -22,7 +22,7 @@ use std::test::Fail;
 use type_relations::relate::{Relate, relate_args_with_variances};
 
 /// Two regions, and the types `&'a u8` and `&'b u8` of these.
-#[derive(Drop)]
+#[derive(Clone, Copy)]
 pub(super) struct Two<X> {
     pub(super) a: RegionKey<X>,
     pub(super) b: RegionKey<X>,
@@ -172,12 +172,12 @@ pub(super) fn make_args<I: Interner>(
     ensures is { IfOk result (λ k. (I.meaning cx.new).args k ≡ cons ((I.meaning cx.old).ty ty.now) nil) }
 {
     let mut args = Vec::new(cx.alloc());
-    args.push(GenericArgKind::Ty(ty.dup()))?;
+    args.push(GenericArgKind::Ty(*ty))?;
     cx.mk_args(&args)
 }
 
 /// Two lists of one argument each, and the regions in them.
-#[derive(Drop)]
+#[derive(Clone, Copy)]
 struct Lists<X> {
     a: RegionKey<X>,
     b: RegionKey<X>,

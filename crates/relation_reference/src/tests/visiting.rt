@@ -9,7 +9,7 @@ use super::forms::{
 use super::questions::Questions;
 use crate::interner::{ItemId, RefInterner, SymbolId};
 use relation_terms::terms::{
-    BoundRegion, BoundVar, Dup, GenericArgKind, Interner, OutOfMemory, TermKind,
+    BoundRegion, BoundVar, GenericArgKind, Interner, OutOfMemory, TermKind,
 };
 use relation_tools::error::{ExpectedFound, TypeError, TypeErrorOf};
 use relation_tools::visit::{TypeSuperVisitable, TypeVisitable, Visit};
@@ -248,9 +248,9 @@ fn lists_ask<I: Interner>(cx: &mut I, name: &I::Name) -> Result<bool, OutOfMemor
 
 fn arguments_ask<I: Interner>(cx: &mut I, name: &I::Name) -> Result<bool, OutOfMemory> {
     let parts = make_parts(cx, Leaves::Replaced, name)?;
-    let region = GenericArgKind::Lifetime(parts.region.dup());
-    let ty = GenericArgKind::Ty(parts.ty.dup());
-    let constant = GenericArgKind::Const(parts.constant.dup());
+    let region = GenericArgKind::Lifetime(parts.region);
+    let ty = GenericArgKind::Ty(parts.ty);
+    let constant = GenericArgKind::Const(parts.constant);
     Ok(
         asks_all(cx, &region, &[Label::RegionVar])
             && asks_all(cx, &ty, &[Label::Infer])
@@ -260,8 +260,8 @@ fn arguments_ask<I: Interner>(cx: &mut I, name: &I::Name) -> Result<bool, OutOfM
 
 fn terms_ask<I: Interner>(cx: &mut I, name: &I::Name) -> Result<bool, OutOfMemory> {
     let parts = make_parts(cx, Leaves::Replaced, name)?;
-    let ty = TermKind::Ty(parts.ty.dup());
-    let constant = TermKind::Const(parts.constant.dup());
+    let ty = TermKind::Ty(parts.ty);
+    let constant = TermKind::Const(parts.constant);
     Ok(asks_all(cx, &ty, &[Label::Infer]) && asks_all(cx, &constant, &[Label::ConstParam]))
 }
 
@@ -291,7 +291,7 @@ fn pairs_ask<I: Interner>(cx: &mut I) -> Result<bool, OutOfMemory> {
     let both = [Label::Infer, Label::Bool];
     let all = asks_all(cx, &pair, &both);
     let first = asks(cx, &pair, Label::Infer, Visit::Stop, &[Label::Infer]);
-    let sorts: TypeErrorOf<I> = TypeError::Sorts(pair.dup());
+    let sorts: TypeErrorOf<I> = TypeError::Sorts(pair);
     let sorts_ask = taken_asks(cx, sorts, &both);
     let arguments: TypeErrorOf<I> = TypeError::ArgumentSorts(pair, 1);
     Ok(all && first && sorts_ask && taken_asks(cx, arguments, &both))
@@ -303,11 +303,11 @@ fn region_errors_ask<I: Interner>(cx: &mut I, name: &I::Name) -> Result<bool, Ou
     let shorter = make_leaf_region(cx, Leaves::Put)?;
     let bound = BoundRegion {
         var: BoundVar(0),
-        name: name.dup(),
+        name: *name,
     };
-    let general: TypeErrorOf<I> = TypeError::RegionsInsufficientlyPolymorphic(bound, shorter.dup());
+    let general: TypeErrorOf<I> = TypeError::RegionsInsufficientlyPolymorphic(bound, shorter);
     let general_asks = taken_asks(cx, general, &[Label::Static]);
-    let outlives: TypeErrorOf<I> = TypeError::RegionsDoesNotOutlive(longer.dup(), shorter.dup());
+    let outlives: TypeErrorOf<I> = TypeError::RegionsDoesNotOutlive(longer, shorter);
     let outlives_asks = taken_asks(cx, outlives, &[Label::RegionVar, Label::Static]);
     let stopped: TypeErrorOf<I> = TypeError::RegionsDoesNotOutlive(longer, shorter);
     Ok(general_asks && outlives_asks && stops_at_once(cx, stopped, Label::RegionVar))
@@ -317,11 +317,11 @@ fn region_errors_ask<I: Interner>(cx: &mut I, name: &I::Name) -> Result<bool, Ou
 fn constant_errors_ask<I: Interner>(cx: &mut I, name: &I::Name) -> Result<bool, OutOfMemory> {
     let value = make_const(cx, Leaves::Put, Shape::Leaf, name)?;
     let parameter = make_leaf_const(cx, Leaves::Put, name)?;
-    let cyclic: TypeErrorOf<I> = TypeError::CyclicConst(parameter.dup());
+    let cyclic: TypeErrorOf<I> = TypeError::CyclicConst(parameter);
     let cyclic_asks = taken_asks(cx, cyclic, &[Label::ConstParam]);
     let both = [Label::Value, Label::Bool, Label::ConstParam];
     let pair = ExpectedFound::new(value, parameter);
-    let sizes: TypeErrorOf<I> = TypeError::ArraySize(pair.dup());
+    let sizes: TypeErrorOf<I> = TypeError::ArraySize(pair);
     let sizes_ask = taken_asks(cx, sizes, &both);
     let differ: TypeErrorOf<I> = TypeError::ConstMismatch(pair);
     Ok(cyclic_asks && sizes_ask && taken_asks(cx, differ, &both))

@@ -1,18 +1,9 @@
 //! Goals.
-use crate::terms::{Dup, ParamEnvKey};
+use crate::terms::ParamEnvKey;
 
 /// A predicate that is to be shown in an environment.
-#[derive(PartialEq, Eq, Hash, Debug, Drop)]
+#[derive(Clone, Copy, PartialEq, Eq, Hash, Debug)]
 pub struct Goal<X, P> {
     pub param_env: ParamEnvKey<X>,
     pub predicate: P,
-}
-
-impl<X: Dup, P: Dup> Dup for Goal<X, P> {
-    fn dup(&self) -> Self {
-        Goal {
-            param_env: self.param_env.dup(),
-            predicate: self.predicate.dup(),
-        }
-    }
 }

@@ -4,90 +4,42 @@
 //! which converts into the id of any item.
 ghost use Rattle.std.specs.Prelude.{◌≡◌};
 
-use crate::terms::{Dup, Keys};
+use crate::terms::Keys;
 
 /// The id of an item of any kind.
-#[derive(PartialEq, Eq, Hash, Debug, Drop)]
+#[derive(Clone, Copy, PartialEq, Eq, Hash, Debug)]
 pub struct DefId<D>(pub D);
 
 /// The id of a struct, an enum or a union.
-#[derive(PartialEq, Eq, Hash, Debug, Drop)]
+#[derive(Clone, Copy, PartialEq, Eq, Hash, Debug)]
 pub struct AdtId<D>(pub D);
 
 /// The id of a function.
-#[derive(PartialEq, Eq, Hash, Debug, Drop)]
+#[derive(Clone, Copy, PartialEq, Eq, Hash, Debug)]
 pub struct FunctionId<D>(pub D);
 
 /// The id of a closure.
-#[derive(PartialEq, Eq, Hash, Debug, Drop)]
+#[derive(Clone, Copy, PartialEq, Eq, Hash, Debug)]
 pub struct ClosureId<D>(pub D);
 
 /// The id of a closure that answers coroutines.
-#[derive(PartialEq, Eq, Hash, Debug, Drop)]
+#[derive(Clone, Copy, PartialEq, Eq, Hash, Debug)]
 pub struct CoroutineClosureId<D>(pub D);
 
 /// The id of a coroutine.
-#[derive(PartialEq, Eq, Hash, Debug, Drop)]
+#[derive(Clone, Copy, PartialEq, Eq, Hash, Debug)]
 pub struct CoroutineId<D>(pub D);
 
 /// The id of a type that is defined outside the language.
-#[derive(PartialEq, Eq, Hash, Debug, Drop)]
+#[derive(Clone, Copy, PartialEq, Eq, Hash, Debug)]
 pub struct ForeignId<D>(pub D);
 
 /// The id of a trait.
-#[derive(PartialEq, Eq, Hash, Debug, Drop)]
+#[derive(Clone, Copy, PartialEq, Eq, Hash, Debug)]
 pub struct TraitId<D>(pub D);
 
 /// The id of an item of an interner.
 pub type ItemOf<I> = DefId<<I as Keys>::Id>;
-
-impl<D: Dup> Dup for DefId<D> {
-    fn dup(&self) -> Self {
-        DefId(self.0.dup())
-    }
-}
-
-impl<D: Dup> Dup for AdtId<D> {
-    fn dup(&self) -> Self {
-        AdtId(self.0.dup())
-    }
-}
-
-impl<D: Dup> Dup for FunctionId<D> {
-    fn dup(&self) -> Self {
-        FunctionId(self.0.dup())
-    }
-}
-
-impl<D: Dup> Dup for ClosureId<D> {
-    fn dup(&self) -> Self {
-        ClosureId(self.0.dup())
-    }
-}
-
-impl<D: Dup> Dup for CoroutineClosureId<D> {
-    fn dup(&self) -> Self {
-        CoroutineClosureId(self.0.dup())
-    }
-}
-
-impl<D: Dup> Dup for CoroutineId<D> {
-    fn dup(&self) -> Self {
-        CoroutineId(self.0.dup())
-    }
-}
-
-impl<D: Dup> Dup for ForeignId<D> {
-    fn dup(&self) -> Self {
-        ForeignId(self.0.dup())
-    }
-}
-
-impl<D: Dup> Dup for TraitId<D> {
-    fn dup(&self) -> Self {
-        TraitId(self.0.dup())
-    }
-}
 
 impl<D> From<AdtId<D>> for DefId<D> {
     ghost from_gives = { λ id d. d ≡ record { 0 = id.0 } };

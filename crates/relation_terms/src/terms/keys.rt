@@ -2,163 +2,78 @@
 //!
 //! There is one representation of keys, one of ids and one of names, so that a bound on an interner stays small.
 //! Each sort of term has a type of its own over the first.
-use crate::terms::Dup;
 use std::hash::Hash;
 
 /// The representations that an interner has chosen.
 pub trait Keys {
     /// Whatever is interned.
-    type Key: Eq + Hash + Dup + Drop;
+    type Key: Copy + Eq + Hash;
 
     /// Items.
-    type Id: Eq + Hash + Dup + Drop;
+    type Id: Copy + Eq + Hash;
 
     /// Names in the source.
-    type Name: Eq + Hash + Dup + Drop;
+    type Name: Copy + Eq + Hash;
 
     /// Places in the source.
-    type Span: Dup + Drop;
+    type Span: Copy;
 }
 
 /// The key of a type.
-#[derive(PartialEq, Eq, Hash, Debug, Drop)]
+#[derive(Clone, Copy, PartialEq, Eq, Hash, Debug)]
 pub struct TyKey<X>(pub X);
 
-impl<X: Dup> Dup for TyKey<X> {
-    fn dup(&self) -> Self {
-        TyKey(self.0.dup())
-    }
-}
-
 /// The key of a region.
-#[derive(PartialEq, Eq, Hash, Debug, Drop)]
+#[derive(Clone, Copy, PartialEq, Eq, Hash, Debug)]
 pub struct RegionKey<X>(pub X);
 
-impl<X: Dup> Dup for RegionKey<X> {
-    fn dup(&self) -> Self {
-        RegionKey(self.0.dup())
-    }
-}
-
 /// The key of a constant.
-#[derive(PartialEq, Eq, Hash, Debug, Drop)]
+#[derive(Clone, Copy, PartialEq, Eq, Hash, Debug)]
 pub struct ConstKey<X>(pub X);
 
-impl<X: Dup> Dup for ConstKey<X> {
-    fn dup(&self) -> Self {
-        ConstKey(self.0.dup())
-    }
-}
-
 /// The key of a list of generic arguments.
-#[derive(PartialEq, Eq, Hash, Debug, Drop)]
+#[derive(Clone, Copy, PartialEq, Eq, Hash, Debug)]
 pub struct ArgsKey<X>(pub X);
 
-impl<X: Dup> Dup for ArgsKey<X> {
-    fn dup(&self) -> Self {
-        ArgsKey(self.0.dup())
-    }
-}
-
 /// The key of a list of types.
-#[derive(PartialEq, Eq, Hash, Debug, Drop)]
+#[derive(Clone, Copy, PartialEq, Eq, Hash, Debug)]
 pub struct TysKey<X>(pub X);
 
-impl<X: Dup> Dup for TysKey<X> {
-    fn dup(&self) -> Self {
-        TysKey(self.0.dup())
-    }
-}
-
 /// The key of a pattern.
-#[derive(PartialEq, Eq, Hash, Debug, Drop)]
+#[derive(Clone, Copy, PartialEq, Eq, Hash, Debug)]
 pub struct PatKey<X>(pub X);
 
-impl<X: Dup> Dup for PatKey<X> {
-    fn dup(&self) -> Self {
-        PatKey(self.0.dup())
-    }
-}
-
 /// The key of a value tree.
-#[derive(PartialEq, Eq, Hash, Debug, Drop)]
+#[derive(Clone, Copy, PartialEq, Eq, Hash, Debug)]
 pub struct ValTreeKey<X>(pub X);
 
-impl<X: Dup> Dup for ValTreeKey<X> {
-    fn dup(&self) -> Self {
-        ValTreeKey(self.0.dup())
-    }
-}
-
 /// The key of a list of constants, the branches of a value tree.
-#[derive(PartialEq, Eq, Hash, Debug, Drop)]
+#[derive(Clone, Copy, PartialEq, Eq, Hash, Debug)]
 pub struct BranchesKey<X>(pub X);
 
-impl<X: Dup> Dup for BranchesKey<X> {
-    fn dup(&self) -> Self {
-        BranchesKey(self.0.dup())
-    }
-}
-
 /// The key of a list of patterns, the alternatives of a pattern.
-#[derive(PartialEq, Eq, Hash, Debug, Drop)]
+#[derive(Clone, Copy, PartialEq, Eq, Hash, Debug)]
 pub struct AlternativesKey<X>(pub X);
 
-impl<X: Dup> Dup for AlternativesKey<X> {
-    fn dup(&self) -> Self {
-        AlternativesKey(self.0.dup())
-    }
-}
-
 /// The key of the list of a trait object's predicates.
-#[derive(PartialEq, Eq, Hash, Debug, Drop)]
+#[derive(Clone, Copy, PartialEq, Eq, Hash, Debug)]
 pub struct ExistentialPredicatesKey<X>(pub X);
 
-impl<X: Dup> Dup for ExistentialPredicatesKey<X> {
-    fn dup(&self) -> Self {
-        ExistentialPredicatesKey(self.0.dup())
-    }
-}
-
 /// The key of the list of a binder's variables.
-#[derive(PartialEq, Eq, Hash, Debug, Drop)]
+#[derive(Clone, Copy, PartialEq, Eq, Hash, Debug)]
 pub struct BoundVarsKey<X>(pub X);
 
-impl<X: Dup> Dup for BoundVarsKey<X> {
-    fn dup(&self) -> Self {
-        BoundVarsKey(self.0.dup())
-    }
-}
-
 /// The key of a predicate.
-#[derive(PartialEq, Eq, Hash, Debug, Drop)]
+#[derive(Clone, Copy, PartialEq, Eq, Hash, Debug)]
 pub struct PredicateKey<X>(pub X);
 
-impl<X: Dup> Dup for PredicateKey<X> {
-    fn dup(&self) -> Self {
-        PredicateKey(self.0.dup())
-    }
-}
-
 /// The key of a clause.
-#[derive(PartialEq, Eq, Hash, Debug, Drop)]
+#[derive(Clone, Copy, PartialEq, Eq, Hash, Debug)]
 pub struct ClauseKey<X>(pub X);
 
-impl<X: Dup> Dup for ClauseKey<X> {
-    fn dup(&self) -> Self {
-        ClauseKey(self.0.dup())
-    }
-}
-
 /// The key of an environment, the list of clauses that are taken to hold.
-#[derive(PartialEq, Eq, Hash, Debug, Drop)]
+#[derive(Clone, Copy, PartialEq, Eq, Hash, Debug)]
 pub struct ParamEnvKey<X>(pub X);
-
-impl<X: Dup> Dup for ParamEnvKey<X> {
-    fn dup(&self) -> Self {
-        ParamEnvKey(self.0.dup())
-    }
-}
 
 /// A type of an interner.
 pub type Ty<I> = TyKey<<I as Keys>::Key>;

@@ -1,8 +1,8 @@
 //! The forms of regions.
-use crate::terms::{BoundVar, Dup, Keys, RegionVid};
+use crate::terms::{BoundVar, Keys, RegionVid};
 
 /// The form of a region, over names.
-#[derive(PartialEq, Eq, Hash, Debug, Drop)]
+#[derive(Clone, Copy, PartialEq, Eq, Hash, Debug)]
 pub enum RegionKind<N> {
     ReStatic,
     ReEarlyParam(EarlyParamRegion<N>),
@@ -10,14 +10,14 @@ pub enum RegionKind<N> {
 }
 
 /// A region parameter of an item, by its index and its name.
-#[derive(PartialEq, Eq, Hash, Debug, Drop)]
+#[derive(Clone, Copy, PartialEq, Eq, Hash, Debug)]
 pub struct EarlyParamRegion<N> {
     pub index: u32,
     pub name: N,
 }
 
 /// A region that a binder binds, by its place in the binder's list and its name.
-#[derive(PartialEq, Eq, Hash, Debug, Drop)]
+#[derive(Clone, Copy, PartialEq, Eq, Hash, Debug)]
 pub struct BoundRegion<N> {
     pub var: BoundVar,
     pub name: N,
@@ -25,31 +25,3 @@ pub struct BoundRegion<N> {
 
 /// The form of an interner's region.
 pub type RegionForm<I> = RegionKind<<I as Keys>::Name>;
-
-impl<N: Dup> Dup for EarlyParamRegion<N> {
-    fn dup(&self) -> Self {
-        EarlyParamRegion {
-            index: self.index,
-            name: self.name.dup(),
-        }
-    }
-}
-
-impl<N: Dup> Dup for BoundRegion<N> {
-    fn dup(&self) -> Self {
-        BoundRegion {
-            var: self.var,
-            name: self.name.dup(),
-        }
-    }
-}
-
-impl<N: Dup> Dup for RegionKind<N> {
-    fn dup(&self) -> Self {
-        match self {
-            RegionKind::ReStatic => RegionKind::ReStatic,
-            RegionKind::ReEarlyParam(parameter) => RegionKind::ReEarlyParam(parameter.dup()),
-            RegionKind::ReVar(variable) => RegionKind::ReVar(*variable),
-        }
-    }
-}

@@ -2,19 +2,13 @@
 
 use crate::error::{ExpectedFound, NoSolution, TypeError};
 use relation_terms::terms::{
-    BoundRegion, BoundVar, ConstKey, Dup, ExistentialPredicatesKey, ExternAbi, PredicatePolarity,
+    BoundRegion, BoundVar, ConstKey, ExistentialPredicatesKey, ExternAbi, PredicatePolarity,
     RegionKey, Safety, TraitId, TyKey,
 };
 
 // A key, an id and a name.
 #[derive(Clone, Copy, PartialEq, Eq, Debug)]
 struct Number(u8);
-
-impl Dup for Number {
-    fn dup(&self) -> Self {
-        *self
-    }
-}
 
 type NumberError = TypeError<Number, Number, Number>;
 
@@ -97,15 +91,12 @@ const UNNOTED: [NumberError; 11] = [
 fn tells_errors_apart(rt: HostRuntime) {
     for error in &ABOUT_REGIONS {
         assert!(rt; error.involves_regions() && error.must_include_note());
-        assert!(rt; error.dup() == *error);
     }
     for error in &NOTED {
         assert!(rt; !error.involves_regions() && error.must_include_note());
-        assert!(rt; error.dup() == *error);
     }
     for error in &UNNOTED {
         assert!(rt; !error.involves_regions() && !error.must_include_note());
-        assert!(rt; error.dup() == *error);
     }
 }
 

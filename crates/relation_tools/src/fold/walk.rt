@@ -7,7 +7,7 @@ ghost use Rattle.relation_tools.specs.Folds.{Steps, folded, folded_parts};
 use crate::fold::lists::copied;
 use crate::fold::{Fold, TypeFolder};
 use relation_terms::terms::{
-    Branches, Const, ConstForm, ConstKind, Dup, GenericArg, GenericArgKind, GenericArgs, Interner,
+    Branches, Const, ConstForm, ConstKind, GenericArg, GenericArgKind, GenericArgs, Interner,
     OutOfMemory, Region, Ty, TyForm, TyKind, Tys, ValTree, ValTreeKind,
 };
 
@@ -47,7 +47,7 @@ pub fn fold_region_with<I: Interner, F: TypeFolder<I>>(
 {
     match folder.fold_region(cx, region)? {
         Fold::Replace(by) => Ok(by),
-        Fold::Descend => Ok(region.dup()),
+        Fold::Descend => Ok(*region),
     }
 }
 
@@ -196,7 +196,7 @@ pub fn fold_valtree_with<I: Interner, F: TypeFolder<I>>(
     ensures made { IfOk result (λ k. (I.meaning cx.new).valtree k ≡ folded (F.replaces (I.meaning cx.old) folder.old) ((I.meaning cx.old).valtree valtree.now)) }
 {
     match cx.valtree_kind(valtree) {
-        ValTreeKind::Leaf { .. } => Ok(valtree.dup()),
+        ValTreeKind::Leaf { .. } => Ok(*valtree),
         ValTreeKind::Branch(branches) => {
             let branches = fold_branches_with(cx, &branches, folder)?;
             let made = cx.mk_valtree(ValTreeKind::Branch(branches))?;

@@ -9,7 +9,7 @@ use crate::written::{ItemText, Parameter};
 use relation_reference::interner::{ItemId, NodeKey, RefInterner, SymbolId};
 use relation_terms::terms::{
     AdtId, BoundConst, BoundTy, BoundVar, ClosureId, Const, ConstForm, ConstKind,
-    CoroutineClosureId, CoroutineId, Dup, ExprKind, ExternAbi, FloatTy, ForeignId, FunctionId,
+    CoroutineClosureId, CoroutineId, ExprKind, ExternAbi, FloatTy, ForeignId, FunctionId,
     GenericArgKind, GenericArgs, InferTy, IntTy, Interner, Mutability, OutOfMemory, ParamConst,
     ParamTy, Placeholder, PredicatePolarity, RegionKind, RegionVid, Safety, TyForm, TyKind, TyVid,
     UintTy, UniverseIndex, ValTreeKind,
@@ -125,11 +125,11 @@ fn make_length<I: Interner>(cx: &mut I, length: u128) -> Result<Const<I>, OutOfM
 fn types_without_parts_print(rt: HostRuntime) -> Result<(), Fail> {
     for (kind, name) in &INTEGERS {
         let mut cx = RefInterner::new(rt.alloc());
-        assert!(rt; ty_prints(&mut cx, &TEXTS, kind.dup(), name)?);
+        assert!(rt; ty_prints(&mut cx, &TEXTS, *kind, name)?);
     }
     for (kind, name) in &PLAIN {
         let mut cx = RefInterner::new(rt.alloc());
-        assert!(rt; ty_prints(&mut cx, &TEXTS, kind.dup(), name)?);
+        assert!(rt; ty_prints(&mut cx, &TEXTS, *kind, name)?);
     }
     Ok(())
 }
@@ -138,9 +138,9 @@ fn types_without_parts_print(rt: HostRuntime) -> Result<(), Fail> {
 fn pointers_print<I: Interner>(cx: &mut I, texts: &TextsOf<I>) -> Result<bool, Fail> {
     let pointee = cx.mk_ty(TyKind::Str)?;
     let region = cx.mk_region(RegionKind::ReStatic)?;
-    let shared = TyKind::Ref(region.dup(), pointee.dup(), Mutability::Not);
-    let unique = TyKind::Ref(region, pointee.dup(), Mutability::Mut);
-    let constant = TyKind::RawPtr(pointee.dup(), Mutability::Not);
+    let shared = TyKind::Ref(region, pointee, Mutability::Not);
+    let unique = TyKind::Ref(region, pointee, Mutability::Mut);
+    let constant = TyKind::RawPtr(pointee, Mutability::Not);
     let mutable = TyKind::RawPtr(pointee, Mutability::Mut);
     Ok(
         ty_prints(cx, texts, shared, "&'static str")?
@@ -154,7 +154,7 @@ fn pointers_print<I: Interner>(cx: &mut I, texts: &TextsOf<I>) -> Result<bool, F
 fn sequences_print<I: Interner>(cx: &mut I, texts: &TextsOf<I>) -> Result<bool, Fail> {
     let element = cx.mk_ty(TyKind::Uint(UintTy::U8))?;
     let length = make_length(cx, 3)?;
-    let array = TyKind::Array(element.dup(), length);
+    let array = TyKind::Array(element, length);
     let slice = TyKind::Slice(element);
     Ok(ty_prints(cx, texts, array, "[u8; 3]")? && ty_prints(cx, texts, slice, "[u8]")?)
 }
@@ -194,9 +194,9 @@ fn items_print<I: Interner>(
 ) -> Result<bool, Fail>
     requires { IsTrue (known ((I.meaning cx.old).args args.now)) }
 {
-    let adt = TyKind::Adt(AdtId(id.dup()), args.dup());
-    let function = TyKind::FnDef(FunctionId(id.dup()), args.dup());
-    let closure = TyKind::Closure(ClosureId(id.dup()), args.dup());
+    let adt = TyKind::Adt(AdtId(*id), *args);
+    let function = TyKind::FnDef(FunctionId(*id), *args);
+    let closure = TyKind::Closure(ClosureId(*id), *args);
     Ok(
         ty_prints(cx, texts, adt, expected)?
             && ty_prints(cx, texts, function, expected)?
@@ -215,9 +215,9 @@ fn coroutines_print<I: Interner>(
 ) -> Result<bool, Fail>
     requires { IsTrue (known ((I.meaning cx.old).args args.now)) }
 {
-    let closure = TyKind::CoroutineClosure(CoroutineClosureId(id.dup()), args.dup());
-    let coroutine = TyKind::Coroutine(CoroutineId(id.dup()), args.dup());
-    let witness = TyKind::CoroutineWitness(CoroutineId(id.dup()), args.dup());
+    let closure = TyKind::CoroutineClosure(CoroutineClosureId(*id), *args);
+    let coroutine = TyKind::Coroutine(CoroutineId(*id), *args);
+    let witness = TyKind::CoroutineWitness(CoroutineId(*id), *args);
     Ok(
         ty_prints(cx, texts, closure, expected)?
             && ty_prints(cx, texts, coroutine, expected)?
@@ -234,14 +234,14 @@ fn placeholders_print<I: Interner>(
         universe: UniverseIndex(1),
         bound: BoundTy {
             var: BoundVar(0),
-            name: name.dup(),
+            name: *name,
         },
     });
     let constant = ConstKind::Placeholder(Placeholder {
         universe: UniverseIndex(2),
         bound: BoundConst {
             var: BoundVar(0),
-            name: name.dup(),
+            name: *name,
         },
     });
     Ok(ty_prints(cx, texts, ty, "!1T")? && const_prints(cx, texts, constant, "!2T")?)
@@ -255,7 +255,7 @@ fn expressions_print<I: Interner>(cx: &mut I, texts: &TextsOf<I>) -> Result<bool
 
 #[tactic(auto, using(relation_terms::proofs::Stays::knows_const, relation_terms::proofs::Stays::knows_ty, relation_terms::proofs::Stays::knows_valtree))]
 fn values_print<I: Interner>(cx: &mut I, texts: &TextsOf<I>, name: &I::Name) -> Result<bool, Fail> {
-    let name = name.dup();
+    let name = *name;
     let parameter = cx.mk_const(ConstKind::Param(ParamConst { index: 0, name }))?;
     let number = make_length(cx, u128::MAX)?;
     let mut constants = Vec::new(cx.alloc());
@@ -368,8 +368,8 @@ fn terms_print<I: Interner>(cx: &mut I, texts: &TextsOf<I>) -> Result<bool, Fail
 fn constants_print<I: Interner>(cx: &mut I, texts: &TextsOf<I>) -> Result<bool, Fail> {
     let first = make_length(cx, 2)?;
     let second = make_length(cx, 3)?;
-    let cyclic = TypeError::CyclicConst(first.dup());
-    let sizes = TypeError::ArraySize(ExpectedFound::new(first.dup(), second.dup()));
+    let cyclic = TypeError::CyclicConst(first);
+    let sizes = TypeError::ArraySize(ExpectedFound::new(first, second));
     let differ = TypeError::ConstMismatch(ExpectedFound::new(first, second));
     Ok(
         prints(cx, texts, cyclic, "CyclicConst(2)")?

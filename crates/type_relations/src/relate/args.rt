@@ -14,12 +14,12 @@ use crate::relate::TypeRelation;
 use crate::relate::reading::{declared_at, note_declared};
 use crate::relate::structural::relate_with_variance;
 use relation_terms::terms::{
-    DefId, Dup, GenericArg, GenericArgs, Interner, ItemOf, OutOfMemory, Ty, TyKind, Variance,
+    DefId, GenericArg, GenericArgs, Interner, ItemOf, OutOfMemory, Ty, TyKind, Variance,
 };
 use relation_tools::error::RelateResult;
 
 // The variances at which arguments are related.
-#[derive(Drop)]
+#[derive(Clone, Copy)]
 pub(crate) enum ArgVariances<D> {
     // Invariance, of all of them.
     Invariant,
@@ -45,7 +45,7 @@ fn arg_at<I: Interner>(cx: &I, args: &GenericArgs<I>, i: usize) -> GenericArg<I>
     ensures sure { IsTrue (known (arg_tree (I.meaning cx.now) result)) }
     ensures means { arg_tree (I.meaning cx.now) result ≡ nth i ((I.meaning cx.now).args args.now) }
 {
-    cx.args(args)[i].dup()
+    cx.args(args)[i]
 }
 
 // The same, in a relation's words.
@@ -165,7 +165,7 @@ pub fn relate_args_with_variances<I: Interner, R: TypeRelation<I>>(
     requires as_many { count ((R.state r.old).meaning.args a.now) ≡ count ((R.state r.old).meaning.args b.now) }
     ensures { Related R.manner (R.state r.old) (R.state r.new) (R.state r.old).ambient (node (adt ((R.state r.old).meaning.id (def_id.now).0)) ((R.state r.old).meaning.args a.now)) (node (adt ((R.state r.old).meaning.id (def_id.now).0)) ((R.state r.old).meaning.args b.now)) (λ k. node (adt ((R.state r.new).meaning.id (def_id.now).0)) ((R.state r.new).meaning.args k)) result }
 {
-    relate_args(r, &ArgVariances::Adt(DefId(def_id.0.dup())), a, b)
+    relate_args(r, &ArgVariances::Adt(DefId(def_id.0)), a, b)
 }
 
 // The type that a call makes of arguments.
@@ -201,7 +201,7 @@ fn item_variances<I: Interner, R: TypeRelation<I>>(
     ensures { (b ts us : _) → AreOverItem ((R.state r.now).meaning.id (def_id.now).0) ((R.state r.now).meaning.ty ty.now) b ts us → ((R.state r.now).meaning.ty ty.now ≡ node (args_head (R.state r.now).meaning result) ts) × (b ≡ node (args_head (R.state r.now).meaning result) us) }
 {
     let kind = r.cx().ty_kind(ty);
-    let def_id = DefId(def_id.0.dup());
+    let def_id = DefId(def_id.0);
     match &kind {
         TyKind::FnDef(..) => ArgVariances::FnDef(def_id),
         _ => ArgVariances::Adt(def_id),

@@ -8,7 +8,7 @@ ghost use Rattle.type_relations.specs.Parts.{item_kind};
 ghost use Rattle.type_relations.specs.Parts.{IsFormedConst};
 
 use crate::relate::forms::{ItemTy, item_of};
-use relation_terms::terms::{Const, ConstKind, Dup, Interner, Ty, TyKind, ValTree, ValTreeKind};
+use relation_terms::terms::{Const, ConstKind, Interner, Ty, TyKind, ValTree, ValTreeKind};
 use relation_tools::error::{ExpectedFound, TypeError, TypeErrorOf};
 
 /// Answers `Ok` where two types are of one outermost form, with as many parts, which are not compared. Parameters are
@@ -196,7 +196,7 @@ fn is_one_value<I: Interner>(cx: &I, a: &ValTree<I>, b: &ValTree<I>) -> bool
 fn unlike<I: Interner>(a: &Ty<I>, b: &Ty<I>) -> TypeErrorOf<I>
     ensures { result ≡ Sorts (record { expected = a.now; found = b.now }) }
 {
-    TypeError::Sorts(ExpectedFound::new(a.dup(), b.dup()))
+    TypeError::Sorts(ExpectedFound::new(*a, *b))
 }
 
 // Two tuples of unlike lengths; where one is empty, two types of unlike forms.
@@ -214,5 +214,5 @@ fn unlike_lengths<I: Interner>(a: &Ty<I>, b: &Ty<I>, n: usize, m: usize) -> Type
 fn unlike_consts<I: Interner>(a: &Const<I>, b: &Const<I>) -> TypeErrorOf<I>
     ensures { result ≡ ConstMismatch (record { expected = a.now; found = b.now }) }
 {
-    TypeError::ConstMismatch(ExpectedFound::new(a.dup(), b.dup()))
+    TypeError::ConstMismatch(ExpectedFound::new(*a, *b))
 }

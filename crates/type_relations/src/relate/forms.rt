@@ -3,7 +3,7 @@ ghost use Rattle.std.specs.Prelude.{◌≡◌, IfSome, IfNone};
 ghost use Rattle.type_relations.specs.Parts.{item_kind, IsNoItem};
 
 use relation_terms::terms::{
-    AdtId, ArgsKey, ClosureId, CoroutineClosureId, CoroutineId, Dup, FunctionId, TyKind,
+    AdtId, ArgsKey, ClosureId, CoroutineClosureId, CoroutineId, FunctionId, TyKind,
 };
 
 /// Which form a type over an item has. Each is the form of `TyKind` of that name.
@@ -18,25 +18,25 @@ pub enum ItemForm {
 }
 
 /// The form of a type over an item and its arguments: which it is, the item's id, and the list of arguments.
-#[derive(Debug, Drop)]
+#[derive(Clone, Copy, Debug)]
 pub struct ItemTy<X, D> {
     pub form: ItemForm,
     pub def_id: D,
     pub args: ArgsKey<X>,
 }
 
-fn item<X: Dup, D: Dup>(form: ItemForm, def_id: &D, args: &ArgsKey<X>) -> ItemTy<X, D>
+fn item<X: Copy, D: Copy>(form: ItemForm, def_id: &D, args: &ArgsKey<X>) -> ItemTy<X, D>
     ensures { result ≡ record { form = form; def_id = def_id.now; args = args.now } }
 {
     ItemTy {
         form,
-        def_id: def_id.dup(),
-        args: args.dup(),
+        def_id: *def_id,
+        args: *args,
     }
 }
 
 /// The form, the item and the arguments of a type that is over an item. Answers `None` for every other form.
-pub fn item_of<X: Dup, D: Dup, N>(kind: &TyKind<X, D, N>) -> Option<ItemTy<X, D>>
+pub fn item_of<X: Copy, D: Copy, N>(kind: &TyKind<X, D, N>) -> Option<ItemTy<X, D>>
     ensures is { IfSome result (λ t. kind.now ≡ item_kind t) }
     ensures is_none { IfNone result (IsNoItem kind.now) }
 {

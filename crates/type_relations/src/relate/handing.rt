@@ -4,7 +4,7 @@ ghost use Rattle.relation_terms.specs.Trees.{known};
 ghost use Rattle.type_relations.specs.Handing.{IsFaultOfTy, IsFaultOfConst, IsResultOfTy, IsResultOfConst};
 
 use relation_terms::terms::{
-    Const, ConstKind, Dup, GenericArg, GenericArgKind, Interner, Ty, TyKind,
+    Const, ConstKind, GenericArg, GenericArgKind, Interner, Ty, TyKind,
 };
 use relation_tools::error::{ExpectedFound, RelateFault, RelateFaultOf, RelateResult, TypeError};
 
@@ -34,7 +34,7 @@ fn of_ty<I: Interner>(
     let GenericArgKind::Const(y) = y else {
         return fault;
     };
-    RelateFault::Unrelated(TypeError::ArraySize(ExpectedFound::new(x.dup(), y.dup())))
+    RelateFault::Unrelated(TypeError::ArraySize(ExpectedFound::new(*x, *y)))
 }
 
 // The fault of two constants where one of their parts has failed: where branches differ the whole values differ.
@@ -53,7 +53,7 @@ fn of_const<I: Interner>(
     let ConstKind::Value(..) = cx.const_kind(a) else {
         return fault;
     };
-    RelateFault::Unrelated(TypeError::ConstMismatch(ExpectedFound::new(a.dup(), b.dup())))
+    RelateFault::Unrelated(TypeError::ConstMismatch(ExpectedFound::new(*a, *b)))
 }
 
 /// What relating two types answers where relating two of their parts, `x` and `y`, has answered `related`. `ty` is the

@@ -10,7 +10,7 @@ ghost use Rattle.type_relations.specs.Making.{sort_at, Fit, over, const_over, Ma
 use crate::relate::TypeRelation;
 use crate::relate::forms::{item_of, kind_of_item};
 use relation_terms::terms::{
-    Const, ConstKind, Dup, GenericArg, GenericArgKind, Interner, OutOfMemory, Region, Ty, TyKind,
+    Const, ConstKind, GenericArg, GenericArgKind, Interner, OutOfMemory, Region, Ty, TyKind,
     ValTreeKind,
 };
 use relation_tools::error::RelateResult;
@@ -22,7 +22,7 @@ fn region_at<I: Interner>(cx: &I, parts: &[GenericArg<I>], i: usize) -> Region<I
 {
     let _ = cx;
     match &parts[i] {
-        GenericArgKind::Lifetime(region) => region.dup(),
+        GenericArgKind::Lifetime(region) => *region,
         GenericArgKind::Ty(_) => unreachable!(),
         GenericArgKind::Const(_) => unreachable!(),
     }
@@ -35,7 +35,7 @@ fn ty_at<I: Interner>(cx: &I, parts: &[GenericArg<I>], i: usize) -> Ty<I>
 {
     let _ = cx;
     match &parts[i] {
-        GenericArgKind::Ty(ty) => ty.dup(),
+        GenericArgKind::Ty(ty) => *ty,
         GenericArgKind::Lifetime(_) => unreachable!(),
         GenericArgKind::Const(_) => unreachable!(),
     }
@@ -48,7 +48,7 @@ fn const_at<I: Interner>(cx: &I, parts: &[GenericArg<I>], i: usize) -> Const<I>
 {
     let _ = cx;
     match &parts[i] {
-        GenericArgKind::Const(constant) => constant.dup(),
+        GenericArgKind::Const(constant) => *constant,
         GenericArgKind::Lifetime(_) => unreachable!(),
         GenericArgKind::Ty(_) => unreachable!(),
     }
@@ -118,7 +118,7 @@ fn ty_with_parts<I: Interner>(
             let members = cx.mk_type_list(members.as_slice())?;
             cx.mk_ty(TyKind::Tuple(members))
         }
-        _ => Ok(ty.dup()),
+        _ => Ok(*ty),
     }
 }
 
@@ -140,15 +140,15 @@ fn const_with_parts<I: Interner>(
         }
         ConstKind::Value(ty, value) => {
             let ValTreeKind::Branch(_) = cx.valtree_kind(&value) else {
-                return Ok(constant.dup());
+                return Ok(*constant);
             };
             let branches = consts_of(cx, parts)?;
             let branches = cx.mk_branches(branches.as_slice())?;
             let value = cx.mk_valtree(ValTreeKind::Branch(branches))?;
             cx.mk_const(ConstKind::Value(ty, value))
         }
-        ConstKind::Param(_) => Ok(constant.dup()),
-        ConstKind::Placeholder(_) => Ok(constant.dup()),
+        ConstKind::Param(_) => Ok(*constant),
+        ConstKind::Placeholder(_) => Ok(*constant),
     }
 }
 

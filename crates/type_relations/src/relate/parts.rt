@@ -6,7 +6,7 @@ ghost use Rattle.type_relations.specs.Parts.{parts_of, const_parts_of};
 
 use crate::relate::forms::item_of;
 use relation_terms::terms::{
-    Const, ConstKind, Dup, GenericArg, GenericArgKind, Interner, Ty, TyKind, ValTreeKind,
+    Const, ConstKind, GenericArg, GenericArgKind, Interner, Ty, TyKind, ValTreeKind,
 };
 
 /// How many parts a type has: the arguments of a type over an item, the element and the length of an array, the region
@@ -44,16 +44,16 @@ pub fn part<I: Interner>(cx: &I, ty: &Ty<I>, i: usize) -> GenericArg<I>
 {
     let kind = cx.ty_kind(ty);
     if let Some(item) = item_of(&kind) {
-        return cx.args(&item.args)[i].dup();
+        return cx.args(&item.args)[i];
     }
     match &kind {
-        TyKind::Slice(element) => GenericArgKind::Ty(element.dup()),
-        TyKind::RawPtr(pointee, _) => GenericArgKind::Ty(pointee.dup()),
-        TyKind::Array(element, _) if i == 0 => GenericArgKind::Ty(element.dup()),
-        TyKind::Array(_, length) => GenericArgKind::Const(length.dup()),
-        TyKind::Ref(region, _, _) if i == 0 => GenericArgKind::Lifetime(region.dup()),
-        TyKind::Ref(_, pointee, _) => GenericArgKind::Ty(pointee.dup()),
-        TyKind::Tuple(members) => GenericArgKind::Ty(cx.tys(members)[i].dup()),
+        TyKind::Slice(element) => GenericArgKind::Ty(*element),
+        TyKind::RawPtr(pointee, _) => GenericArgKind::Ty(*pointee),
+        TyKind::Array(element, _) if i == 0 => GenericArgKind::Ty(*element),
+        TyKind::Array(_, length) => GenericArgKind::Const(*length),
+        TyKind::Ref(region, _, _) if i == 0 => GenericArgKind::Lifetime(*region),
+        TyKind::Ref(_, pointee, _) => GenericArgKind::Ty(*pointee),
+        TyKind::Tuple(members) => GenericArgKind::Ty(cx.tys(members)[i]),
         _ => unreachable!(),
     }
 }
@@ -89,10 +89,10 @@ pub fn const_part<I: Interner>(cx: &I, constant: &Const<I>, i: usize) -> Generic
     ensures means { arg_tree (I.meaning cx.now) result ≡ nth i (const_parts_of ((I.meaning cx.now).const_ constant.now)) }
 {
     match cx.const_kind(constant) {
-        ConstKind::Expr(_, args) => cx.args(&args)[i].dup(),
+        ConstKind::Expr(_, args) => cx.args(&args)[i],
         ConstKind::Value(_, value) => match cx.valtree_kind(&value) {
             ValTreeKind::Branch(branches) => {
-                GenericArgKind::Const(cx.branches(&branches)[i].dup())
+                GenericArgKind::Const(cx.branches(&branches)[i])
             }
             ValTreeKind::Leaf { .. } => unreachable!(),
         },

@@ -14,7 +14,7 @@ use crate::relate::comparing::{compare_consts, compare_tys};
 use crate::relate::parts::{const_part, const_parts_count, part, parts_count};
 use crate::relate::{TypeRelation, handing};
 use relation_terms::terms::{
-    Const, ConstKind, DefId, Dup, GenericArg, GenericArgs, Interner, ItemOf, Mutability, Ty,
+    Const, ConstKind, DefId, GenericArg, GenericArgs, Interner, ItemOf, Mutability, Ty,
     TyKind, Variance,
 };
 use relation_tools::error::{RelateResult, TypeErrorOf};
@@ -121,8 +121,8 @@ pub(crate) fn variance_at<I: Interner, R: TypeRelation<I>>(r: &R, ty: &Ty<I>, i:
 {
     let kind = r.cx().ty_kind(ty);
     match &kind {
-        TyKind::Adt(def, _) => declared_at(r, &DefId(def.0.dup()), i),
-        TyKind::FnDef(def, _) => declared_at(r, &DefId(def.0.dup()), i),
+        TyKind::Adt(def, _) => declared_at(r, &DefId(def.0), i),
+        TyKind::FnDef(def, _) => declared_at(r, &DefId(def.0), i),
         TyKind::Closure(..)
         | TyKind::CoroutineClosure(..)
         | TyKind::Coroutine(..)
@@ -214,13 +214,13 @@ pub(crate) fn note_args<I: Interner, R: TypeRelation<I>>(
             let TyKind::Adt(_, b_args) = &right else {
                 return Ok(());
             };
-            note_declared(r, a, b, &DefId(def.0.dup()), a_args, b_args)
+            note_declared(r, a, b, &DefId(def.0), a_args, b_args)
         }
         TyKind::FnDef(def, a_args) => {
             let TyKind::FnDef(_, b_args) = &right else {
                 return Ok(());
             };
-            note_declared(r, a, b, &DefId(def.0.dup()), a_args, b_args)
+            note_declared(r, a, b, &DefId(def.0), a_args, b_args)
         }
         _ => Ok(()),
     }

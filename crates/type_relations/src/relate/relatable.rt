@@ -10,13 +10,13 @@ use crate::relate::TypeRelation;
 use crate::relate::args::relate_args_invariantly;
 use crate::relate::structural::{consts, relate, tys};
 use relation_terms::terms::{
-    ArgsKey, ConstKey, Dup, GenericArgKind, Interner, RegionKey, TermKind, TyKey,
+    ArgsKey, ConstKey, GenericArgKind, Interner, RegionKey, TermKind, TyKey,
 };
 use relation_tools::error::{RelateFault, RelateResult, TypeError};
 use relation_tools::fold::TypeFoldable;
 
 /// What can be related: types, regions, constants, generic arguments and terms, and lists of arguments.
-pub trait Relate<I: Interner>: TypeFoldable<I> + PartialEq + Dup {
+pub trait Relate<I: Interner>: TypeFoldable<I> + PartialEq + Copy {
     // The tree that is related: its own, or the form over its parts.
     ghost term: { Meaning I.Key I.Id I.Name → Self → Tree };
 

@@ -15,7 +15,7 @@ use crate::relate::reading::{
     in_const, in_ty, note_args, part_of, parts_count_of, variance_at,
 };
 use crate::relate::{Step, TypeRelation};
-use relation_terms::terms::{Const, Dup, GenericArg, GenericArgKind, Interner, Ty, Variance};
+use relation_terms::terms::{Const, GenericArg, GenericArgKind, Interner, Ty, Variance};
 use relation_tools::error::{RelateFault, RelateResult, TypeError};
 
 /// Relates two types at the ambient variance, as the relation's steps lead: what a step answers is the answer; two forms
@@ -146,7 +146,7 @@ pub fn relate_with_variance<I: Interner, R: TypeRelation<I>>(
     let old = r.ambient();
     let new = old.xform(variance);
     if let Variance::Bivariant = new {
-        return Ok(a.dup());
+        return Ok(*a);
     }
     r.set_ambient(new);
     let answer = relate(r, a, b);
@@ -206,7 +206,7 @@ pub fn structurally_relate_consts<I: Interner, R: TypeRelation<I>>(
     ensures { Related R.manner (R.state r.old) (R.state r.new) (R.state r.old).ambient ((R.state r.old).meaning.const_ a.now) ((R.state r.old).meaning.const_ b.now) (R.state r.new).meaning.const_ result }
 {
     if a == b {
-        return Ok(a.dup());
+        return Ok(*a);
     }
     compare_consts_of::<I, R>(r, a, b)?;
     let n = const_parts_count_of::<I, R>(r, a);
