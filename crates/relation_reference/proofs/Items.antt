@@ -1,6 +1,6 @@
 -- The variances of a table's items, and that the trees of its nodes do not depend on them.
 use Rattle.std.proofs.Common.{ℕ, ◌≡◌, ◌≢◌, ◌<◌, ◌≤◌, List, [], ◌∷◌, ◌++◌, refl, ap, ap₂, sym, ◌∙◌, subst, length, map}
-use Rattle.std.proofs.Common.{get_or, inl, inr}
+use Rattle.std.proofs.Common.{get_or, inl, inr, Option, Some, None}
 use Rattle.std.proofs.lemmas.Bool.{cases_lt}
 use Rattle.std.proofs.lemmas.List.{get_or-map, length-map, map-append, get_or_append_left, get_or_past}
 use Rattle.std.proofs.Math.Seq.{get_or-append_seam}
@@ -33,7 +33,7 @@ use Rattle.relation_reference.specs.declared.interner.node.Node.{Node}
 use Rattle.relation_reference.specs.Forms.{Form, ty_form, region_form, const_form, valtree_form, args_form, tys_form}
 use Rattle.relation_reference.specs.Forms.{branches_form, environment_form, form_of}
 use Rattle.relation_reference.specs.Adding.{SameTerms, OthersStand, HasNoGenerics}
-use Rattle.relation_reference.specs.Items.{variances_at}
+use Rattle.relation_reference.specs.Items.{variances_at, alias_variances_of, alias_variances_at}
 use Rattle.relation_reference.specs.Nodes.{Entry, entry, meaning_of, form_sort, form_tree, entry_of, entries}
 use Rattle.relation_reference.specs.Nodes.{table_meaning}
 
@@ -117,10 +117,22 @@ pub variances_there : (items : List Item) (i : ℕ) (d : Item) → i < length it
     variances_at items i ≡ ((get_or items i d).variances).items
 variances_there items i d h = get_or-map (λ x. (x.variances).items) items i d [] h
 
+-- What an item declares of its parameters, and of an alias type of it.
+abbrev declared : Item → List Variance
+declared y = (y.variances).items
+
+abbrev alias_declared : Item → Option (List Variance)
+alias_declared y = alias_variances_of (y.kind).def (y.variances).items
+
 pub variances_past : (items : List Item) (i : ℕ) → length items ≤ i → variances_at items i ≡ []
 variances_past items i h =
     get_or_past (map (λ x. (x.variances).items) items) i []
     (subst (λ n. n ≤ i) (sym (length-map items (λ x. (x.variances).items))) h)
+
+alias_variances_past : (items : List Item) (i : ℕ) → length items ≤ i → alias_variances_at items i ≡ None
+alias_variances_past items i h =
+    get_or_past (map alias_declared items) i None
+    (subst (λ n. n ≤ i) (sym (length-map items alias_declared)) h)
 
 -- An id that no item has.
 pub no_generics : (items : List Item) (ns : List Node) (d : ℕ) → length items ≤ d →
@@ -129,6 +141,7 @@ unfolding meaning_of
 no_generics items ns d h = record {
   generics = ap length (variances_past items d h);
   variances = variances_past items d h;
+  alias_variances = alias_variances_past items d h;
 }
 
 -- A list and one more element, read elsewhere than at its end.
@@ -141,24 +154,22 @@ elsewhere xs x d i n = elim (cases_lt i (length xs)) [
   ]
 ]
 
--- A table and one more item.
-module _ (items : List Item) (x : Item) where
-  abbrev declared : Item → List Variance
-  declared y = (y.variances).items
+-- What is read off a table and one more item.
+module _ {A : Type 0} (reads : Item → A) (items : List Item) (x : Item) (none : A) where
+  grown : map reads (items ++ x ∷ []) ≡ map reads items ++ reads x ∷ []
+  grown = map-append reads items (x ∷ [])
 
-  grown : map declared (items ++ x ∷ []) ≡ map declared items ++ declared x ∷ []
-  grown = map-append declared items (x ∷ [])
+  read_new : get_or (map reads (items ++ x ∷ [])) (length items) none ≡ reads x
+  read_new =
+      ap (λ vs. get_or vs (length items) none) grown ∙
+      ap (λ n. get_or (map reads items ++ reads x ∷ []) n none) (sym (length-map items reads)) ∙
+      get_or-append_seam (map reads items) (reads x) [] none
 
-  variances_new : variances_at (items ++ x ∷ []) (length items) ≡ (x.variances).items
-  variances_new =
-      ap (λ vs. get_or vs (length items) []) grown ∙
-      ap (λ n. get_or (map declared items ++ declared x ∷ []) n []) (sym (length-map items declared)) ∙
-      get_or-append_seam (map declared items) (declared x) [] []
-
-  variances_other : (e : ℕ) → e ≢ length items → variances_at (items ++ x ∷ []) e ≡ variances_at items e
-  variances_other e n =
-      ap (λ vs. get_or vs e []) grown ∙
-      elsewhere (map declared items) (declared x) [] e (λ p. n (p ∙ length-map items declared))
+  read_other : (e : ℕ) → e ≢ length items →
+      get_or (map reads (items ++ x ∷ [])) e none ≡ get_or (map reads items) e none
+  read_other e n =
+      ap (λ vs. get_or vs e none) grown ∙
+      elsewhere (map reads items) (reads x) none e (λ p. n (p ∙ length-map items reads))
 
 -- The terms are the same with any items.
 pub same_terms : (items more : List Item) (ns : List Node) → SameTerms (table_meaning items ns) (table_meaning more ns)
@@ -187,7 +198,11 @@ module _ (items more : List Item) (x : Item) (ns : List Node) (d : ℕ) (added :
     (number : d ≡ length items) where
   pub new_variances : (table_meaning more ns).variances d ≡ (x.variances).items
   unfolding meaning_of
-  new_variances = ap₂ (λ ys e. variances_at ys e) added number ∙ variances_new items x
+  new_variances = ap₂ (λ ys e. variances_at ys e) added number ∙ read_new declared items x []
+
+  pub new_alias_variances : (table_meaning more ns).alias_variances d ≡ alias_declared x
+  unfolding meaning_of
+  new_alias_variances = ap₂ (λ ys e. alias_variances_at ys e) added number ∙ read_new alias_declared items x None
 
   pub new_generics : (table_meaning more ns).generics d ≡ length (x.variances).items
   unfolding meaning_of
@@ -196,11 +211,17 @@ module _ (items more : List Item) (x : Item) (ns : List Node) (d : ℕ) (added :
   other_variances : (e : ℕ) → e ≢ d → variances_at more e ≡ variances_at items e
   other_variances e n =
       ap (λ ys. variances_at ys e) added ∙
-      variances_other items x e (λ p. n (p ∙ sym number))
+      read_other declared items x [] e (λ p. n (p ∙ sym number))
+
+  other_alias_variances : (e : ℕ) → e ≢ d → alias_variances_at more e ≡ alias_variances_at items e
+  other_alias_variances e n =
+      ap (λ ys. alias_variances_at ys e) added ∙
+      read_other alias_declared items x None e (λ p. n (p ∙ sym number))
 
   pub others_stand : OthersStand (table_meaning items ns) (table_meaning more ns) d
   unfolding meaning_of
   others_stand = record {
     generics = λ e n. ap length (other_variances e n);
     variances = λ e n. other_variances e n;
+    alias_variances = λ e n. other_alias_variances e n;
   }

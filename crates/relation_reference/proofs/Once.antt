@@ -164,4 +164,5 @@ none_known items ns p e = subst (λ m. KnowsNone m) (sym (ap₂ table_meaning p 
   param_env = λ k. refl;
   generics = λ d. refl;
   variances = λ d. refl;
+  alias_variances = λ d. refl;
 })

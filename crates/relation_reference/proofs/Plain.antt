@@ -20,7 +20,7 @@ use Rattle.type_relations.specs.Steps.{AddsConstraint}
 use Rattle.type_relations.specs.Outcomes.{Outcome, Exact}
 use Rattle.type_relations.specs.Measures.{Goes}
 use Rattle.type_relations.specs.Parts.{IsFormed}
-use Rattle.type_relations.specs.Lawful.{declared_by, Passes, Related, items_in}
+use Rattle.type_relations.specs.Lawful.{items_of, Passes, Related, items_in}
 use Rattle.type_relations.specs.Constraints.{constraint_at, constraint_of}
 use Rattle.relation_reference.specs.Plain.{as_is, plain_store, plain_state, plain_manner}
 use Rattle.type_relations.proofs.Trees.{all_leaves, apply_own, own_other}
@@ -201,11 +201,11 @@ module _ {Key Id Name X : Type 0} (m n : Meaning Key Id Name) (v u : Variance) (
   each_own t = apply_own as_is t (all_leaves _ (λ l. own_other as_is l (λ k i e. refl)) t)
 
   pub related_under : (w : Interpretation) → All (ConstraintHolds w as_is) (map (constraint_of n) cs) →
-      Rel (declared_by m.variances) w (node environment nil) (at v) a b
-  related_under w all = subst₂ (Rel (declared_by m.variances) w (node environment nil) (at v)) (each_own a) (each_own b)
+      Rel (items_of m) w (node environment nil) (at v) a b
+  related_under w all = subst₂ (Rel (items_of m) w (node environment nil) (at v)) (each_own a) (each_own b)
       (((f.verdict).outcome).relates w as_is (met_by_all w all)
-      (subst (All (Holds (declared_by m.variances) w as_is)) (f.passes).lengthens
-      (All-nil (Holds (declared_by m.variances) w as_is))))
+      (subst (All (Holds (items_of m) w as_is)) (f.passes).lengthens
+      (All-nil (Holds (items_of m) w as_is))))
 
 -- So constraints stand while the interner grows.
 module _ {Key Id Name : Type 0} {m n : Meaning Key Id Name} (e : Extends m n) where

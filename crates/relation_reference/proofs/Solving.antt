@@ -33,7 +33,7 @@ use Rattle.type_relations.specs.Parts.{IsFormed}
 use Rattle.type_relations.specs.Constraints.{constraint_at, constraint_of}
 use Rattle.type_relations.specs.Taken.{IsFixedLeaf}
 use Rattle.type_relations.specs.Lawful.{Passes, Asked, Takes, Refuses, Related, Stepped, Leads, LeadsAgain}
-use Rattle.type_relations.specs.Lawful.{declared_by, State, Verdict}
+use Rattle.type_relations.specs.Lawful.{items_of, State, Verdict}
 use Rattle.type_relations.proofs.Trees.{all_leaves}
 use Rattle.type_relations.proofs.Going.{later_itself, goes_within}
 use Rattle.type_relations.proofs.ReadAs.{read_value, read_later, read_then, read_bound, read_weight}
@@ -139,7 +139,7 @@ module _ {Key Id Name : Type 0} (j : ℕ) where
         ConstraintHolds w s (constraint_of m c)
     met w s h = subst (λ o. IfSome o (λ c. ConstraintHolds w s (constraint_of m c))) is (asked_met m a b w s v h)
 
-    outcome : Outcome (declared_by m.variances) (m.param_env e) (at v) (store_of m x) (store_of m y) [] [] (m.region a)
+    outcome : Outcome (items_of m) (m.param_env e) (at v) (store_of m x) (store_of m y) [] [] (m.region a)
         (m.region b)
     outcome = record {
       later = goes.later;
@@ -220,7 +220,7 @@ module _ {Key Id Name : Type 0} (j : ℕ) where
           outcome = record {
             later = goes.later;
             goals_in = All-nil (GoalInContext (store_of m y));
-            relates = λ w s sat all. one.relates (declared_by m.variances) (m.param_env e) w s sat;
+            relates = λ w s sat all. one.relates (items_of m) (m.param_env e) w s sat;
             keeps = λ w s sat h. (s, (λ k n h. refl), (one.keeps w s sat h, All-nil (MakesOneTree s)));
           };
           answer = record {
@@ -248,7 +248,7 @@ module _ {Key Id Name : Type 0} (j : ℕ) where
           later = later_itself (store_of m x);
           goals_in = All-nil (GoalInContext (store_of m x));
           relates = λ w s sat all r.
-              subst₂ (Rel (declared_by m.variances) w (m.param_env e) (at v))
+              subst₂ (Rel (items_of m) w (m.param_env e) (at v))
               (sym (read_value (store_of m x) s sat.bindings a (tree t) p))
               (sym (read_value (store_of m x) s sat.bindings b (tree u) q)) r;
           keeps = λ w s sat one. (
@@ -286,14 +286,14 @@ module _ {Key Id Name : Type 0} (j : ℕ) where
   read_leads : (m n : Meaning Key Id Name) (x y : InferCtxtInner Key) (e : ParamEnvKey Key) (v : Variance)
       (a b u w t r : Tree) → IsReadAs (store_of m x) a u → IsReadAs (store_of m x) b w →
       IsReadAs (store_of n y) a t → IsReadAs (store_of n y) b r → IsSound (store_of n y) →
-      StepsTo (declared_by m.variances) (m.param_env e) (store_of m x) (store_of n y) [] [] (at Invariant) u w
+      StepsTo (items_of m) (m.param_env e) (store_of m x) (store_of n y) [] [] (at Invariant) u w
       (at v) t r → Leads (solving j m x Invariant e) (solving j n y Invariant e) [] a b v t r
   read_leads m n x y e v a b u w t r p q p' q' g h = record {
     steps = record {
       later = h.later;
       goals_in = h.goals_in;
       relates = λ i s sat all o. let was = ((h.later).shrinks i s sat).bindings in
-          subst₂ (Rel (declared_by m.variances) i (m.param_env e) (at Invariant))
+          subst₂ (Rel (items_of m) i (m.param_env e) (at Invariant))
           (sym (read_value (store_of m x) s was a u p)) (sym (read_value (store_of m x) s was b w q))
           (h.relates i s sat all o);
       keeps = λ i s sat one. h.keeps i s sat (sym (read_value (store_of m x) s sat.bindings a u p) ∙ one
@@ -367,9 +367,9 @@ module _ {Key Id Name : Type 0} (j : ℕ) where
           passes : Passes (weight was a + weight was b) (solving j m x Invariant e) (solving j n y Invariant e)
           passes = solver_passes Invariant e grown env (goes (weight was a + weight was b) above) after
 
-          step : StepsTo (declared_by m.variances) (m.param_env e) was now [] [] (at Invariant)
+          step : StepsTo (items_of m) (m.param_env e) was now [] [] (at Invariant)
               root t (at Invariant) u t
-          step = (instantiating_steps (declared_by m.variances) (m.param_env e) Invariant Invariant
+          step = (instantiating_steps (items_of m) (m.param_env e) Invariant Invariant
               was now [] type_var target
               t u (term_context was t t_in) steps).0
 
@@ -425,9 +425,9 @@ module _ {Key Id Name : Type 0} (j : ℕ) where
           passes : Passes (weight was a + weight was b) (solving j m x Invariant e) (solving j n y Invariant e)
           passes = solver_passes Invariant e grown env (goes (weight was a + weight was b) above) after
 
-          step : StepsTo (declared_by m.variances) (m.param_env e) was now [] [] (at Invariant)
+          step : StepsTo (items_of m) (m.param_env e) was now [] [] (at Invariant)
               t root (at Invariant) t u
-          step = (instantiating_steps (declared_by m.variances) (m.param_env e) Invariant Invariant
+          step = (instantiating_steps (items_of m) (m.param_env e) Invariant Invariant
               was now [] type_var target
               t u (term_context was t t_in) steps).1
 
@@ -575,11 +575,11 @@ module _ {Key Id Name : Type 0} (j : ℕ) where
   module _ {X : Type 0} (m n : Meaning Key Id Name) (x y : InferCtxtInner Key) (v : Variance) (e : ParamEnvKey Key)
       (a b : Tree) (tree : X → Tree) where
     pub answers_goals : (t : X) → Related solver_manner (solving j m x v e) (solving j n y v e) v a b tree (Ok t) →
-        AnswersGoals (declared_by m.variances) (store_of m x) (store_of n y) [] (m.param_env e) v a b
+        AnswersGoals (items_of m) (store_of m x) (store_of n y) [] (m.param_env e) v a b
     answers_goals t h = (
       λ w s sat all. ((h.verdict).outcome).relates w s sat
-          (subst (All (Holds (declared_by m.variances) w s)) (h.passes).lengthens
-          (All-nil (Holds (declared_by m.variances) w s))),
+          (subst (All (Holds (items_of m) w s)) (h.passes).lengthens
+          (All-nil (Holds (items_of m) w s))),
       ((h.passes).goes).later.shrinks,
     )
 

@@ -71,6 +71,7 @@ extends_append items es fs = record {
   name = λ s. refl;
   generics = refl;
   variances = refl;
+  alias_variances = refl;
 }
 
 pub entries_snoc : (es : List Entry) (ns : List Node) (n : Node) →

@@ -1,5 +1,5 @@
 -- What adding an item changes.
-use Rattle.std.specs.Prelude.{◌≡◌, ◌≢◌, ℕ, List, [], length}
+use Rattle.std.specs.Prelude.{◌≡◌, ◌≢◌, ℕ, List, [], None, length}
 use Rattle.relation_terms.specs.Meaning.{Meaning}
 use Rattle.relation_terms.specs.declared.terms.keys.TyKey.{TyKey}
 use Rattle.relation_terms.specs.declared.terms.keys.RegionKey.{RegionKey}
@@ -59,8 +59,10 @@ module _ {Key Id Name : Type 0} (m n : Meaning Key Id Name) where
   pub record OthersStand (d : ℕ) : Type 0 where
     pub generics : (e : ℕ) → e ≢ d → n.generics e ≡ m.generics e
     pub variances : (e : ℕ) → e ≢ d → n.variances e ≡ m.variances e
+    pub alias_variances : (e : ℕ) → e ≢ d → n.alias_variances e ≡ m.alias_variances e
 
 -- The item of a number has no generic parameters.
 pub record HasNoGenerics {Key Id Name : Type 0} (m : Meaning Key Id Name) (d : ℕ) : Type 0 where
   pub generics : m.generics d ≡ 0
   pub variances : m.variances d ≡ []
+  pub alias_variances : m.alias_variances d ≡ None

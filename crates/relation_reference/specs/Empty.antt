@@ -1,5 +1,5 @@
 -- An interner that knows nothing.
-use Rattle.std.specs.Prelude.{◌≡◌, ℕ, IsFalse, IsNone, []}
+use Rattle.std.specs.Prelude.{◌≡◌, ℕ, IsFalse, IsNone, None, []}
 use Rattle.relation_terms.specs.Trees.{known}
 use Rattle.relation_terms.specs.Meaning.{Meaning}
 use Rattle.relation_terms.specs.declared.terms.keys.TyKey.{TyKey}
@@ -35,3 +35,4 @@ pub record KnowsNone {Key Id Name : Type 0} (m : Meaning Key Id Name) : Type 0 w
   pub param_env : (k : ParamEnvKey Key) → IsFalse (known (m.param_env k))
   pub generics : (n : ℕ) → m.generics n ≡ 0
   pub variances : (n : ℕ) → m.variances n ≡ []
+  pub alias_variances : (n : ℕ) → m.alias_variances n ≡ None

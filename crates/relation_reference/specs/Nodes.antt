@@ -11,7 +11,7 @@ use Rattle.relation_reference.specs.declared.interner.node.Node.{Node}
 use Rattle.relation_reference.specs.declared.interner.items.Item.{Item}
 use Rattle.relation_reference.specs.Forms.{Form, ty_form, region_form, const_form, valtree_form, args_form, tys_form}
 use Rattle.relation_reference.specs.Forms.{branches_form, environment_form, form_of}
-use Rattle.relation_reference.specs.Items.{variances_at}
+use Rattle.relation_reference.specs.Items.{variances_at, alias_variances_at}
 
 -- What a key may stand for.
 pub data NodeSort : Type 0 where
@@ -60,6 +60,7 @@ meaning_of items es = record {
   name = λ s. s.0;
   generics = λ n. length (variances_at items n);
   variances = λ n. variances_at items n;
+  alias_variances = λ n. alias_variances_at items n;
 }
 
 -- The sort of a form.

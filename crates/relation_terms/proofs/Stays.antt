@@ -59,6 +59,7 @@ stays_same m = record {
   name = λ k. refl;
   generics = refl;
   variances = refl;
+  alias_variances = refl;
 }
 
 -- A step and the steps after it, at one key.
@@ -89,6 +90,7 @@ module _ {Key Id Name : Type 0} {m n o : Meaning Key Id Name} where
     name = λ s. f.name s ∙ e.name s;
     generics = f.generics ∙ e.generics;
     variances = f.variances ∙ e.variances;
+    alias_variances = f.alias_variances ∙ e.alias_variances;
   }
 
 -- What is known stays known.

@@ -48,8 +48,9 @@ use Rattle.relation_terms.specs.declared.terms.generic_arg.TermKind.{TermKind}
 use Rattle.relation_terms.specs.declared.terms.generic_arg.TermKind.TheVariants.{Ty as TyTerm, Const as ConstTerm}
 
 -- The tree of each key, the list of lists' trees, the number of each id and name, and of the item of a number how
--- many generic parameters it has and the variances that are declared of them. What an interner does not know has a
--- tree with the leaf `unknown`, and of a binder's variables none.
+-- many generic parameters it has, the variances that are declared of them, and the variances at which an alias type of
+-- the item is related, where it has any. What an interner does not know has a tree with the leaf `unknown`, and of a
+-- binder's variables none.
 pub record Meaning (Key Id Name : Type 0) : Type 0 where
   pub ty : TyKey Key → Tree
   pub region : RegionKey Key → Tree
@@ -69,6 +70,7 @@ pub record Meaning (Key Id Name : Type 0) : Type 0 where
   pub name : Name → ℕ
   pub generics : ℕ → ℕ
   pub variances : ℕ → List Variance
+  pub alias_variances : ℕ → Option (List Variance)
 
 -- The second has all that the first knows, and by the same trees.
 pub record Extends {Key Id Name : Type 0} (m n : Meaning Key Id Name) : Type 0 where
@@ -91,6 +93,7 @@ pub record Extends {Key Id Name : Type 0} (m n : Meaning Key Id Name) : Type 0 w
   pub name : (s : Name) → n.name s ≡ m.name s
   pub generics : n.generics ≡ m.generics
   pub variances : n.variances ≡ m.variances
+  pub alias_variances : n.alias_variances ≡ m.alias_variances
 
 -- The tree of a variable.
 abbrev pub infer_tree : InferTy → Tree

@@ -1,5 +1,5 @@
 -- Steps and calls over a relation, one after another.
-use Rattle.std.proofs.Common.{◌≡◌, ◌↔◌, ℕ, ◌+◌, ◌≤◌, refl, sym, ap, ◌∙◌, subst, subst₂, arith, List, [], ◌++◌, All, IsTrue, Result, Ok, Err, IfOk}
+use Rattle.std.proofs.Common.{◌≡◌, ◌↔◌, ℕ, ◌+◌, ◌≤◌, refl, sym, ap, ap₂, ◌∙◌, subst, subst₂, arith, List, [], ◌++◌, All, IsTrue, Result, Ok, Err, IfOk}
 use Rattle.std.proofs.Common.{append_assoc, get_or}
 use Rattle.std.proofs.lemmas.List.{append-nil}
 use Rattle.std.proofs.lemmas.Bool.{false≢true}
@@ -27,7 +27,7 @@ use Rattle.type_relations.specs.Measures.{grown, Goes}
 use Rattle.type_relations.specs.Lawful.{State, Manner, MayAnswer, Passes, Asked, Refuses, Answers, Verdict, Related, Leads}
 use Rattle.type_relations.specs.Lawful.{ExactResult, ExactlyRelated}
 use Rattle.type_relations.proofs.Exactness.{exact_steps_compose}
-use Rattle.type_relations.specs.Lawful.{LeadsToParts, LeadsAgain, Noted, Turned, Stepped, OnlyMemory, WithMeaning, declared_by, items_in}
+use Rattle.type_relations.specs.Lawful.{LeadsToParts, LeadsAgain, Noted, Turned, Stepped, OnlyMemory, WithMeaning, declared_by, items_of, items_in}
 use Rattle.type_relations.proofs.Going.{goes_nowhere, goes_within, goes_then, le_grown, later_itself, later_through}
 use Rattle.type_relations.proofs.Composing.{steps_compose, goals_both, first_goals}
 use Rattle.type_relations.proofs.Standing.{later_term}
@@ -105,7 +105,7 @@ module _ {Key Id Name : Type 0} where
 
   -- Items declare what they declared.
   pub same_items : {n : ℕ} {r q : State Key Id Name} → Passes n r q → items_in q ≡ items_in r
-  same_items g = ap declared_by (g.extends).variances
+  same_items g = ap₂ declared_by (g.extends).variances (g.extends).alias_variances
 
   pub asked_later : {n : ℕ} {r q : State Key Id Name} (M : Manner) (v : Variance) (a b : Tree) → Passes n r q →
       Asked M r v a b → Asked M q v a b
@@ -328,7 +328,7 @@ module _ {Key Id Name : Type 0} where
     turned_answers : (added : List Goal) (z : Tree) → Answers M t q added v a b z → Answers M r u added v a b z
     turned_answers added z h = record {
       outcome = subst₂ (λ s k. Outcome (items_in r) r.environment (at v) s k r.goals added a b) there.store (sym back.store)
-          (moved (at v) t.store q.store added a b (ap (λ m. declared_by m.variances) there.meaning) there.environment
+          (moved (at v) t.store q.store added a b (ap items_of there.meaning) there.environment
           there.goals h.outcome);
       answer = subst (λ s. MayAnswer M s a z) (sym back.store) h.answer;
       known = h.known;

@@ -1,5 +1,5 @@
 -- What contracts see of a relation in steps, and what its steps and the calls over it do.
-use Rattle.std.specs.Prelude.{◌≡◌, ◌↔◌, ℕ, suc, ◌+◌, ◌≤◌, List, ◌++◌, All, IsTrue, Result, Ok, Err, get_or, None}
+use Rattle.std.specs.Prelude.{◌≡◌, ◌↔◌, ℕ, suc, ◌+◌, ◌≤◌, List, ◌++◌, All, IsTrue, Result, Ok, Err, get_or, Option, Some, None}
 use Rattle.relation_terms.specs.declared.terms.enums.Variance.{Variance}
 use Rattle.relation_terms.specs.declared.terms.enums.Variance.TheVariants.{Invariant}
 use Rattle.relation_terms.specs.Heads.{Head, Leaf}
@@ -22,9 +22,22 @@ use Rattle.type_relations.specs.FirstOrder.{IsFirstOrderStore, IsErasedSolution}
 use Rattle.type_relations.specs.Errors.{ErrorOf}
 use Rattle.type_relations.specs.Measures.{Goes, grown}
 
--- The variances that a table declares of items' parameters, by the items' numbers; of any other parameter, invariance.
-abbrev pub declared_by : (ℕ → List Variance) → Items
-declared_by table = record { declared = λ d i. get_or (table d) i Invariant; of_alias = λ d. None }
+-- The variances of a list, by their places; past its end, invariance.
+abbrev pub listed : List Variance → ℕ → Variance
+listed vs i = get_or vs i Invariant
+
+-- The same of a list that may not be there.
+abbrev pub listed_if_any : Option (List Variance) → Option (ℕ → Variance)
+listed_if_any None = None
+listed_if_any (Some vs) = Some (listed vs)
+
+-- The variances that two tables declare of items' parameters and of alias types, by the items' numbers.
+abbrev pub declared_by : (ℕ → List Variance) → (ℕ → Option (List Variance)) → Items
+declared_by table aliases = record { declared = λ d. listed (table d); of_alias = λ d. listed_if_any (aliases d) }
+
+-- The variances that an interner declares of its items' parameters and of alias types.
+abbrev pub items_of : {Key Id Name : Type 0} → Meaning Key Id Name → Items
+items_of m = declared_by m.variances m.alias_variances
 
 -- A relation as it stands: what the keys of its interner mean; what it has recorded; the goals that it has registered,
 -- and the environment in which they are to hold; the variance at which it relates; the reference that it holds, by its
@@ -40,7 +53,7 @@ pub record State (Key Id Name : Type 0) : Type 1 where
 
 -- The declared variances of a relation's items.
 abbrev pub items_in : {Key Id Name : Type 0} → State Key Id Name → Items
-items_in r = declared_by (r.meaning).variances
+items_in r = items_of r.meaning
 
 -- What a relation takes and gives: which leaves may stand in terms at a variance; whether it promises that what it
 -- answers for a pair has the left side's value, or is the left side; and whether it promises to be exact.

@@ -20,14 +20,14 @@ impl<I: Interner> RelateExt for RefCtxt<I> {
     ghost use Rattle.type_relations.specs.Headline.{AnswersGoals, KeepsEqualTerms, IsFirstOrderPair};
     ghost use Rattle.type_relations.specs.Errors.{ErrorOf};
     ghost use Rattle.type_relations.specs.Taken.{IsTaken};
-    ghost use Rattle.type_relations.specs.Lawful.{declared_by};
+    ghost use Rattle.type_relations.specs.Lawful.{items_of};
     ghost use Rattle.relation_reference.specs.Tables.{store_of, IsLawful};
 
     ghost interner = { λ c. c.interner };
 
     ghost store = { λ c. store_of (I.meaning c.interner) c.inner };
 
-    ghost items = { λ c. declared_by (I.meaning c.interner).variances };
+    ghost items = { λ c. items_of (I.meaning c.interner) };
 
     ghost is_lawful = { λ c. IsLawful (I.meaning c.interner) c.inner };
 
@@ -48,7 +48,7 @@ impl<I: Interner> RelateExt for RefCtxt<I> {
         requires rhs_taken { IsTaken variance ((I.meaning self.old.interner).ty rhs) }
         requires lhs_in { IsTermIn (store_of (I.meaning self.old.interner) self.old.inner) ((I.meaning self.old.interner).ty lhs) }
         requires rhs_in { IsTermIn (store_of (I.meaning self.old.interner) self.old.inner) ((I.meaning self.old.interner).ty rhs) }
-        ensures answers { IfOk result (λ goals. AnswersGoals (declared_by (I.meaning self.old.interner).variances) (store_of (I.meaning self.old.interner) self.old.inner) (store_of (I.meaning self.new.interner) self.new.inner) (goals_of (I.meaning self.new.interner) goals.items) ((I.meaning self.old.interner).param_env param_env) variance ((I.meaning self.old.interner).ty lhs) ((I.meaning self.old.interner).ty rhs)) }
+        ensures answers { IfOk result (λ goals. AnswersGoals (items_of (I.meaning self.old.interner)) (store_of (I.meaning self.old.interner) self.old.inner) (store_of (I.meaning self.new.interner) self.new.inner) (goals_of (I.meaning self.new.interner) goals.items) ((I.meaning self.old.interner).param_env param_env) variance ((I.meaning self.old.interner).ty lhs) ((I.meaning self.old.interner).ty rhs)) }
         ensures keeps { IfOk result (λ goals. KeepsEqualTerms (store_of (I.meaning self.old.interner) self.old.inner) (store_of (I.meaning self.new.interner) self.new.inner) (goals_of (I.meaning self.new.interner) goals.items) ((I.meaning self.old.interner).ty lhs) ((I.meaning self.old.interner).ty rhs)) }
         ensures apart { IfUnrelated result (λ e. NoEqualTerms (store_of (I.meaning self.old.interner) self.old.inner) ((I.meaning self.old.interner).ty lhs) ((I.meaning self.old.interner).ty rhs)) }
         ensures errors { IfUnrelated result (λ e. ErrorOf (I.meaning self.new.interner) (store_of (I.meaning self.new.interner) self.new.inner) e ((I.meaning self.old.interner).ty lhs) ((I.meaning self.old.interner).ty rhs)) }

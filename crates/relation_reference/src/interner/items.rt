@@ -67,6 +67,7 @@ pub struct Item {
 
 impl RefInterner {
     ghost use Rattle.relation_reference.specs.Adding.{items_of, item_count, SameTerms, OthersStand, HasNoGenerics};
+    ghost use Rattle.relation_reference.specs.Items.{alias_variances_of};
 
     /// How many items were added.
     pub fn item_count(&self) -> usize
@@ -93,6 +94,7 @@ impl RefInterner {
         ensures terms { SameTerms (⟦<RefInterner as Interner>⟧.meaning self.old) (⟦<RefInterner as Interner>⟧.meaning self.new) }
         ensures generics { IfOk result (λ d. (⟦<RefInterner as Interner>⟧.meaning self.new).generics d.0 ≡ length variances.items) }
         ensures variances { IfOk result (λ d. (⟦<RefInterner as Interner>⟧.meaning self.new).variances d.0 ≡ variances.items) }
+        ensures alias_variances { IfOk result (λ d. (⟦<RefInterner as Interner>⟧.meaning self.new).alias_variances d.0 ≡ alias_variances_of kind.def variances.items) }
         ensures others { IfOk result (λ d. OthersStand (⟦<RefInterner as Interner>⟧.meaning self.old) (⟦<RefInterner as Interner>⟧.meaning self.new) d.0) }
         ensures refused { OnErr result (⟦<RefInterner as Interner>⟧.meaning self.new ≡ ⟦<RefInterner as Interner>⟧.meaning self.old) }
         ensures none_recorded { OnErr result (items_of self.new ≡ items_of self.old) }

@@ -7,7 +7,7 @@ ghost use Rattle.relation_terms.specs.Heads.{environment};
 ghost use Rattle.relation_terms.specs.Trees.{node, nil};
 ghost use Rattle.type_relations.specs.Relation.{Interpretation, Rel, at};
 ghost use Rattle.type_relations.specs.Stores.{ConstraintHolds, IsSound};
-ghost use Rattle.type_relations.specs.Lawful.{Asked, declared_by};
+ghost use Rattle.type_relations.specs.Lawful.{Asked, items_of};
 ghost use Rattle.type_relations.specs.Constraints.{constraint_at, constraint_of};
 ghost use Rattle.relation_reference.specs.Plain.{as_is, plain_store, plain_state, plain_manner};
 
@@ -53,7 +53,7 @@ pub fn constraints_of<I: Interner + Drop>(
 ) -> RelateResult<I, PlainRelation<I>>
     requires decides { ambient ≢ Bivariant }
     requires asked { Asked plain_manner (plain_state (I.meaning interner) ambient []) ambient ((I.meaning interner).ty a.now) ((I.meaning interner).ty b.now) }
-    ensures { IfOk result (λ r. (w : Interpretation) → All (ConstraintHolds w as_is) (map (constraint_of (I.meaning r.interner)) r.constraints.items) → Rel (declared_by (I.meaning interner).variances) w (node environment nil) (at ambient) ((I.meaning interner).ty a.now) ((I.meaning interner).ty b.now)) }
+    ensures { IfOk result (λ r. (w : Interpretation) → All (ConstraintHolds w as_is) (map (constraint_of (I.meaning r.interner)) r.constraints.items) → Rel (items_of (I.meaning interner)) w (node environment nil) (at ambient) ((I.meaning interner).ty a.now) ((I.meaning interner).ty b.now)) }
 {
     let mut r = PlainRelation::new(interner, ambient);
     tys(&mut r, a, b)?;

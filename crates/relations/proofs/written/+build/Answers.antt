@@ -202,8 +202,8 @@ build_item-returns-clause-made g t c =
     let m = g.I.Interner.meaning c.args.ctx.now.interner in
     let n = g.I.Interner.meaning c.make_args.new.ctx.interner in
     ok_as c.make_ty.result (g.I.Interner.meaning c.make_ty.new.ctx.interner).ty _ _
-    (item_written n.id m.id (extends_on c.build_all.ensures.grown c.make_args.ensures.grown).id c.args.items.now c.args.place c.in-Some.item.now c.dup.result _ _
-    (slice_get-get_or c.args.items.now c.args.place c.in-Some.item.now c.in-Some.ensures.lookup.3.0 ∙ ap Some (sym c.in-Some.ensures.lookup.1)) c.dup.ensures
+    (item_written n.id m.id (extends_on c.build_all.ensures.grown c.make_args.ensures.grown).id c.args.items.now c.args.place c.in-Some.item.now (c.in-Some.item.now).id _ _
+    (slice_get-get_or c.args.items.now c.args.place c.in-Some.item.now c.in-Some.ensures.lookup.3.0 ∙ ap Some (sym c.in-Some.ensures.lookup.1)) refl
     (c.in_ok-args.ensures.made
     ∙ (ap (list_tree (g.I.Interner.meaning c.build_all.new.ctx.interner).ty) c.deref.ensures.value
     ∙ c.in_ok-types.ensures.made)))

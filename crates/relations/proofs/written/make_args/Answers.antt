@@ -11,7 +11,7 @@ pub loop-ty-preserved : goal.loop-ty-preserved
 loop-ty-preserved g c =
     let m = g.I.Interner.meaning c.args.ctx.now.interner in
     next_written (arg_tree m) m.ty c.loop-ty.args.items _ _ c.args.types.now c.loop-ty.ty-index c.ty-item.result (omega arith) c.in_ok-push.ensures.items c.ty-item.is
-    c.loop-ty.invariant (ap m.ty c.dup.ensures)
+    c.loop-ty.invariant refl
 
 pub mk_args-requires : goal.mk_args-requires
 mk_args-requires g c =

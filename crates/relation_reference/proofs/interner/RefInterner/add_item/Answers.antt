@@ -1,5 +1,6 @@
 use Rattle.std.proofs.Common.{◌≤◌, subst, sym, length, le_refl}
-use Rattle.relation_reference.proofs.Items.{same_terms, no_generics, new_variances, new_generics, others_stand}
+use Rattle.relation_reference.proofs.Items.{same_terms, no_generics, new_variances, new_generics, new_alias_variances}
+use Rattle.relation_reference.proofs.Items.{others_stand}
 use Rattle.relation_reference.proofs.interner.RefInterner.add_item.Goals as goal
 
 pub returns-clause-fresh : goal.returns-clause-fresh
@@ -21,6 +22,13 @@ returns-clause-generics c =
 pub returns-clause-variances : goal.returns-clause-variances
 returns-clause-variances c =
     new_variances c.args.self.now.items.items c.push.new.self.items
+    (record { kind = c.args.kind; name = c.args.name; variances = c.args.variances })
+    c.args.self.now.nodes.items c.item_count-number.result c.in_ok-push.ensures.items
+    c.item_count-number.ensures
+
+pub returns-clause-alias_variances : goal.returns-clause-alias_variances
+returns-clause-alias_variances c =
+    new_alias_variances c.args.self.now.items.items c.push.new.self.items
     (record { kind = c.args.kind; name = c.args.name; variances = c.args.variances })
     c.args.self.now.nodes.items c.item_count-number.result c.in_ok-push.ensures.items
     c.item_count-number.ensures

@@ -25,4 +25,4 @@ returns c =
     let ns = c.args.self.now.nodes.items in
     key_read items ns const_node (c.args.constant.now.0).0 c.requires c.index.result.now c.index.ensures
     (const_form c.in-Const.kind) (ap form_of c.in-Const.is) ∙
-    ap (const_tree (table_meaning items ns)) (sym c.dup.ensures)
+    ap (const_tree (table_meaning items ns)) refl

@@ -25,4 +25,4 @@ returns c =
     let ns = c.args.self.now.nodes.items in
     key_read items ns region_node (c.args.region.now.0).0 c.requires c.index.result.now c.index.ensures
     (region_form c.in-Region.kind) (ap form_of c.in-Region.is) ∙
-    ap (region_tree (table_meaning items ns)) (sym c.dup.ensures)
+    ap (region_tree (table_meaning items ns)) refl

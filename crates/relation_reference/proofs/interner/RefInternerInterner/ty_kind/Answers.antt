@@ -25,4 +25,4 @@ returns c =
     let ns = c.args.self.now.nodes.items in
     key_read items ns ty_node (c.args.ty.now.0).0 c.requires c.index.result.now c.index.ensures
     (ty_form c.in-Ty.kind) (ap form_of c.in-Ty.is) ∙
-    ap (kind_tree (table_meaning items ns)) (sym c.dup.ensures)
+    ap (kind_tree (table_meaning items ns)) refl

@@ -25,4 +25,4 @@ returns c =
     let ns = c.args.self.now.nodes.items in
     key_read items ns valtree_node (c.args.valtree.now.0).0 c.requires c.index.result.now c.index.ensures
     (valtree_form c.in-ValTree.kind) (ap form_of c.in-ValTree.is) ∙
-    ap (valtree_tree (table_meaning items ns)) (sym c.dup.ensures)
+    ap (valtree_tree (table_meaning items ns)) refl

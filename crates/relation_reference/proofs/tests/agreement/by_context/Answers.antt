@@ -9,36 +9,36 @@ relate-requires-clause-lawful g c = subst (λ i. IsLawful (g.I.Interner.meaning 
 
 pub relate-requires-clause-lhs_known : goal.relate-requires-clause-lhs_known
 relate-requires-clause-lhs_known g c =
-    concrete_known ((g.I.Interner.meaning c.new-ctx.result.interner).ty c.dup-lhs.result)
-    (given_concrete g.I.Interner.meaning c.new-ctx.ensures.interner c.empty_param_env.ensures.grown c.dup-lhs.ensures
+    concrete_known ((g.I.Interner.meaning c.new-ctx.result.interner).ty (c.args.question.now).lhs)
+    (given_concrete g.I.Interner.meaning c.new-ctx.ensures.interner c.empty_param_env.ensures.grown refl
     c.requires.lhs)
 
 pub relate-requires-clause-rhs_known : goal.relate-requires-clause-rhs_known
 relate-requires-clause-rhs_known g c =
-    concrete_known ((g.I.Interner.meaning c.new-ctx.result.interner).ty c.dup-rhs.result)
-    (given_concrete g.I.Interner.meaning c.new-ctx.ensures.interner c.empty_param_env.ensures.grown c.dup-rhs.ensures
+    concrete_known ((g.I.Interner.meaning c.new-ctx.result.interner).ty (c.args.question.now).rhs)
+    (given_concrete g.I.Interner.meaning c.new-ctx.ensures.interner c.empty_param_env.ensures.grown refl
     c.requires.rhs)
 
 pub relate-requires-clause-lhs_taken : goal.relate-requires-clause-lhs_taken
 relate-requires-clause-lhs_taken g c =
-    concrete_taken c.args.variance ((g.I.Interner.meaning c.new-ctx.result.interner).ty c.dup-lhs.result)
-    (given_concrete g.I.Interner.meaning c.new-ctx.ensures.interner c.empty_param_env.ensures.grown c.dup-lhs.ensures
+    concrete_taken c.args.variance ((g.I.Interner.meaning c.new-ctx.result.interner).ty (c.args.question.now).lhs)
+    (given_concrete g.I.Interner.meaning c.new-ctx.ensures.interner c.empty_param_env.ensures.grown refl
     c.requires.lhs)
 
 pub relate-requires-clause-rhs_taken : goal.relate-requires-clause-rhs_taken
 relate-requires-clause-rhs_taken g c =
-    concrete_taken c.args.variance ((g.I.Interner.meaning c.new-ctx.result.interner).ty c.dup-rhs.result)
-    (given_concrete g.I.Interner.meaning c.new-ctx.ensures.interner c.empty_param_env.ensures.grown c.dup-rhs.ensures
+    concrete_taken c.args.variance ((g.I.Interner.meaning c.new-ctx.result.interner).ty (c.args.question.now).rhs)
+    (given_concrete g.I.Interner.meaning c.new-ctx.ensures.interner c.empty_param_env.ensures.grown refl
     c.requires.rhs)
 
 pub relate-requires-clause-lhs_in : goal.relate-requires-clause-lhs_in
 relate-requires-clause-lhs_in g c =
-    concrete_in _ ((g.I.Interner.meaning c.new-ctx.result.interner).ty c.dup-lhs.result)
-    (given_concrete g.I.Interner.meaning c.new-ctx.ensures.interner c.empty_param_env.ensures.grown c.dup-lhs.ensures
+    concrete_in _ ((g.I.Interner.meaning c.new-ctx.result.interner).ty (c.args.question.now).lhs)
+    (given_concrete g.I.Interner.meaning c.new-ctx.ensures.interner c.empty_param_env.ensures.grown refl
     c.requires.lhs)
 
 pub relate-requires-clause-rhs_in : goal.relate-requires-clause-rhs_in
 relate-requires-clause-rhs_in g c =
-    concrete_in _ ((g.I.Interner.meaning c.new-ctx.result.interner).ty c.dup-rhs.result)
-    (given_concrete g.I.Interner.meaning c.new-ctx.ensures.interner c.empty_param_env.ensures.grown c.dup-rhs.ensures
+    concrete_in _ ((g.I.Interner.meaning c.new-ctx.result.interner).ty (c.args.question.now).rhs)
+    (given_concrete g.I.Interner.meaning c.new-ctx.ensures.interner c.empty_param_env.ensures.grown refl
     c.requires.rhs)

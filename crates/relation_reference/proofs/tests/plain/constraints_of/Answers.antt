@@ -2,13 +2,13 @@ use Rattle.std.proofs.Common.{ap, subst₂}
 use Rattle.relation_terms.specs.Heads.{environment}
 use Rattle.relation_terms.specs.Trees.{node, nil}
 use Rattle.type_relations.specs.Relation.{Rel, at}
-use Rattle.type_relations.specs.Lawful.{declared_by}
+use Rattle.type_relations.specs.Lawful.{items_of}
 use Rattle.relation_reference.proofs.Plain.{related_under}
 use Rattle.relation_reference.proofs.tests.plain.constraints_of.Goals as goal
 
 pub returns : goal.returns
 returns g c = λ w all.
-    subst₂ (λ m v. Rel (declared_by m.variances) w (node environment nil) (at v) (m.ty c.args.a.now)
+    subst₂ (λ m v. Rel (items_of m) w (node environment nil) (at v) (m.ty c.args.a.now)
     (m.ty c.args.b.now))
     (ap g.I.Interner.meaning c.new-r.ensures.interner) c.new-r.ensures.ambient
     (related_under _ _ c.new-r.result.ambient c.tys.new.r.ambient c.new-r.result.constraints.items

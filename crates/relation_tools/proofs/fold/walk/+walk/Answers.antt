@@ -506,8 +506,8 @@ fold_valtree_with-returns-in-Leaf g t c =
     c.valtree_kind.ensures ∙ ap (valtree_tree m) c.in-Leaf.is in
     record {
       steps = steps_none m c.args.folder.now c.requires.ready;
-      sure = subst (λ x. IsTrue (known (m.valtree x))) (sym c.dup.ensures) c.requires.known;
-      made = ap m.valtree c.dup.ensures ∙ (e ∙ ap (folded p) (sym e));
+      sure = c.requires.known;
+      made = e ∙ ap (folded p) (sym e);
     }
 
 pub fold_valtree_with-returns-in_err-made-in-Branch-clause-steps :

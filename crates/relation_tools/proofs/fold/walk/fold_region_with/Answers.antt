@@ -35,14 +35,11 @@ returns-in-Descend g c =
     let k = c.args.region.now in
     let r = c.in_ok-by.ensures in
     let stay = r.steps.grown.region k c.requires.known in
-    let copy : n.region c.dup.result ≡ m.region k = ap n.region c.dup.ensures ∙ stay in
-    let sure : IsTrue (known (n.region c.dup.result)) =
-    knows_as (m.region k) (n.region c.dup.result) copy c.requires.known in
+    let sure : IsTrue (known (n.region k)) = knows_as (m.region k) (n.region k) stay c.requires.known in
     record {
       steps = r.steps;
       sure = sure;
-      made = copy ∙ sym (region_left p (m.region k) (g.met.I.Interner.is_region c.args.cx.now k c.requires.known)
+      made = stay ∙ sym (region_left p (m.region k) (g.met.I.Interner.is_region c.args.cx.now k c.requires.known)
           (r.made ∙ ap (answered n.region) c.in-Descend.is));
-      same = λ q. (g.met.I.Interner.same_region c.fold_region.new.cx c.dup.result k sure
-          (knows_as (m.region k) (n.region k) stay c.requires.known)).1 (copy ∙ sym stay);
+      same = λ q. (g.met.I.Interner.same_region c.fold_region.new.cx k k sure sure).1 refl;
     }

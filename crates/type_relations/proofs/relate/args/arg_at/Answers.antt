@@ -20,10 +20,10 @@ pub returns : goal.returns
 returns g c =
     let m = g.I.Interner.meaning c.args.cx.now in
     let at = c.index-args-i.result in
-    let is = c.dup.ensures ∙ c.index-args-i.is in
+    let is = c.index-args-i.is in
     record {
       sure = slice_sure (arg_tree m) c.args-2.result.now (m.args c.args.args.now) c.args-2.ensures
-          (m.args c.args.args.now) refl c.requires.args_known c.args.i at c.dup.result c.requires.in_bounds is;
+          (m.args c.args.args.now) refl c.requires.args_known c.args.i at at c.requires.in_bounds is;
       means = slice_nth (arg_tree m) c.args-2.result.now (m.args c.args.args.now) c.args-2.ensures
-          (m.args c.args.args.now) refl c.args.i at c.dup.result c.requires.in_bounds is;
+          (m.args c.args.args.now) refl c.args.i at at c.requires.in_bounds is;
     }

@@ -10,4 +10,4 @@ returns g c =
     let q = g.R.TypeRelation.state c.relate_args.new.r in
     subst (λ d. Related g.R.TypeRelation.manner r q r.ambient (node (adt ((r.meaning).id d)) ((r.meaning).args c.args.a.now))
     (node (adt ((r.meaning).id d)) ((r.meaning).args c.args.b.now))
-    (λ k. node (adt ((q.meaning).id d)) ((q.meaning).args k)) c.relate_args.result) c.dup.ensures c.relate_args.ensures
+    (λ k. node (adt ((q.meaning).id d)) ((q.meaning).args k)) c.relate_args.result) refl c.relate_args.ensures

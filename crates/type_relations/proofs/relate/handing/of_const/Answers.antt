@@ -9,4 +9,4 @@ pub returns : goal.returns
 returns g c =
     let m = g.I.Interner.meaning c.args.cx.now in
     whole c.in-Unrelated.field-0 (c.const_kind.ensures ∙ ap (const_tree m) c.in-Value.is) c.in-Unrelated.is
-    (ap₂ (λ x y. Unrelated (ConstMismatch (record { expected = x; found = y }))) (c.new.ensures.expected_kept ∙ c.dup.ensures) (c.new.ensures.found_kept ∙ c.dup-2.ensures))
+    (ap₂ (λ x y. Unrelated (ConstMismatch (record { expected = x; found = y }))) (c.new.ensures.expected_kept) (c.new.ensures.found_kept))

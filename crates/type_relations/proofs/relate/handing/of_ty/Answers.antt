@@ -28,4 +28,4 @@ pub returns : goal.returns
 returns g c =
     let m = g.I.Interner.meaning c.args.cx.now in
     sized c.in-Const.x c.in-Const-y.y c.in-ConstMismatch.field-0 (c.ty_kind.ensures ∙ ap (kind_tree m) c.in-Array.is) c.in-Const.is c.in-Const-y.is (c.in-Unrelated.is ∙ ap Unrelated c.in-ConstMismatch.is)
-    (ap₂ (λ x y. Unrelated (ArraySize (record { expected = x; found = y }))) (c.new.ensures.expected_kept ∙ c.dup.ensures) (c.new.ensures.found_kept ∙ c.dup-2.ensures))
+    (ap₂ (λ x y. Unrelated (ArraySize (record { expected = x; found = y }))) (c.new.ensures.expected_kept) (c.new.ensures.found_kept))

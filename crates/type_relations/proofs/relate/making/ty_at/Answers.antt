@@ -32,5 +32,5 @@ pub returns : goal.returns
 returns g c =
     let m = g.I.Interner.meaning c.args.cx.now in
     let below = type_below c.args.i c.args.parts.now c.requires in
-    ap m.ty c.dup.ensures ∙ ap (arg_tree m) (sym c.in-Ty.is ∙ c.index-parts-i.is)
+    ap (arg_tree m) (sym c.in-Ty.is ∙ c.index-parts-i.is)
     ∙ sym (list_nth (arg_tree m) c.args.parts.now c.args.i c.index-parts-i.result below)

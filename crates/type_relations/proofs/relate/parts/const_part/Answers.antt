@@ -29,13 +29,13 @@ returns-in-Expr g c =
     let t = m.const_ c.args.constant.now in
     let over = expression_parts m c.in-Expr.field-0 c.in-Expr.args t
     (c.const_kind.ensures ∙ ap (const_tree m) c.in-Expr.is) in
-    let is = c.dup.ensures ∙ c.index-args-i.is in
+    let is = c.index-args-i.is in
     record {
       sure = slice_sure (arg_tree m) c.args-in-Expr.result.now (m.args c.in-Expr.args) c.args-in-Expr.ensures
           (const_parts_of t) over (known_const_parts t c.requires.constant_known) c.args.i c.index-args-i.result
-          c.dup.result c.requires.in_bounds is;
+          c.index-args-i.result c.requires.in_bounds is;
       means = slice_nth (arg_tree m) c.args-in-Expr.result.now (m.args c.in-Expr.args) c.args-in-Expr.ensures
-          (const_parts_of t) over c.args.i c.index-args-i.result c.dup.result c.requires.in_bounds is;
+          (const_parts_of t) over c.args.i c.index-args-i.result c.index-args-i.result c.requires.in_bounds is;
     }
 
 pub bounds-branches-i : goal.bounds-branches-i
@@ -64,11 +64,11 @@ returns-in-Branch g c =
     let over = value_branches m c.in-Value.field-0 c.in-Value.value c.in-Branch.branches t
     (c.const_kind.ensures ∙ ap (const_tree m) c.in-Value.is)
     (c.valtree_kind.ensures ∙ ap (valtree_tree m) c.in-Branch.is) in
-    let is = c.dup-in-Branch.ensures ∙ c.index-branches-i.is in
+    let is = c.index-branches-i.is in
     record {
       sure = slice_sure m.const_ c.branches.result.now (m.branches c.in-Branch.branches) c.branches.ensures
           (const_parts_of t) over (known_const_parts t c.requires.constant_known) c.args.i c.index-branches-i.result
-          c.dup-in-Branch.result c.requires.in_bounds is;
+          c.index-branches-i.result c.requires.in_bounds is;
       means = slice_nth m.const_ c.branches.result.now (m.branches c.in-Branch.branches) c.branches.ensures
-          (const_parts_of t) over c.args.i c.index-branches-i.result c.dup-in-Branch.result c.requires.in_bounds is;
+          (const_parts_of t) over c.args.i c.index-branches-i.result c.index-branches-i.result c.requires.in_bounds is;
     }

@@ -32,12 +32,12 @@ returns-in-Some g c =
     let t = m.ty c.args.ty.now in
     let over = item_parts m item c.ty_kind-kind.result t c.ty_kind-kind.ensures c.in-Some.ensures.is in
     let at = c.index-args-i.result in
-    let is = c.dup.ensures ∙ c.index-args-i.is in
+    let is = c.index-args-i.is in
     record {
       sure = slice_sure (arg_tree m) c.args-in-Some.result.now (m.args item.args) c.args-in-Some.ensures
-          (parts_of t) over (known_parts t c.requires.ty_known) c.args.i at c.dup.result c.requires.in_bounds is;
+          (parts_of t) over (known_parts t c.requires.ty_known) c.args.i at at c.requires.in_bounds is;
       means = slice_nth (arg_tree m) c.args-in-Some.result.now (m.args item.args) c.args-in-Some.ensures
-          (parts_of t) over c.args.i at c.dup.result c.requires.in_bounds is;
+          (parts_of t) over c.args.i at at c.requires.in_bounds is;
     }
 
 pub bounds-tys-i : goal.bounds-tys-i
@@ -63,10 +63,10 @@ returns-in-Tuple g c =
     let t = m.ty c.args.ty.now in
     let over = parts_are tuple ts t (c.ty_kind-kind.ensures ∙ ap (kind_tree m) c.in-Tuple.is) in
     let at = c.index-tys-i.result in
-    let is = c.dup-in-Tuple.ensures ∙ c.index-tys-i.is in
+    let is = c.index-tys-i.is in
     record {
       sure = slice_sure m.ty c.tys.result.now ts c.tys.ensures (parts_of t) over (known_parts t c.requires.ty_known)
-          c.args.i at c.dup-in-Tuple.result c.requires.in_bounds is;
-      means = slice_nth m.ty c.tys.result.now ts c.tys.ensures (parts_of t) over c.args.i at c.dup-in-Tuple.result
+          c.args.i at at c.requires.in_bounds is;
+      means = slice_nth m.ty c.tys.result.now ts c.tys.ensures (parts_of t) over c.args.i at at
           c.requires.in_bounds is;
     }

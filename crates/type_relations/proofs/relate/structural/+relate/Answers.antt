@@ -552,9 +552,9 @@ relate_with_variance-returns-in-Bivariant g t c =
     let e : v ≡ Bivariant =
     sym (c.xform-new.ensures ∙ ap (λ z. xform z c.args.variance) c.ambient-old.ensures) ∙ c.in-Bivariant.is in
     record {
-      related = unlooked M r v (arg_tree r.meaning c.args.a.now) (arg_tree r.meaning c.args.b.now) (arg_tree r.meaning) c.dup.result e
-          (c.requires.asked).left_known (ap (arg_tree r.meaning) c.dup.ensures);
-      kind = ap arg_sort c.dup.ensures;
+      related = unlooked M r v (arg_tree r.meaning c.args.a.now) (arg_tree r.meaning c.args.b.now) (arg_tree r.meaning) c.args.a.now e
+          (c.requires.asked).left_known refl;
+      kind = refl;
     }
 
 pub relate_with_variance-returns : goal.relate_with_variance-returns
@@ -594,7 +594,7 @@ structurally_relate_consts-returns-then-eq g t c =
     subst (λ m. IsTrue (known (m.const_ c.args.a.now)) → IsTrue (known (m.const_ c.args.b.now)) →
     (IsTrue (g.I.Key.PartialEq.eq (c.args.a.now).0 (c.args.b.now).0) ↔ (m.const_ c.args.a.now ≡ m.const_ c.args.b.now)))
     (sym e) (g.met.I.Interner.same_const cx c.args.a.now c.args.b.now) k.left_known k.right_known in
-    itself_related M r r.ambient (r.meaning).const_ a b c.dup.result (same.0 (sym c.if-eq.ensures)) (ap (r.meaning).const_ c.dup.ensures) k.left_known
+    itself_related M r r.ambient (r.meaning).const_ a b c.args.a.now (same.0 (sym c.if-eq.ensures)) refl k.left_known
 
 pub structurally_relate_consts-compare_consts_of-requires-clause-differ : goal.structurally_relate_consts-compare_consts_of-requires-clause-differ
 structurally_relate_consts-compare_consts_of-requires-clause-differ g t c =

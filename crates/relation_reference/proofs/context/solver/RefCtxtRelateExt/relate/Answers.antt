@@ -5,7 +5,7 @@ use Rattle.relation_terms.specs.Trees.{apply}
 use Rattle.type_relations.specs.Relation.{same}
 use Rattle.type_relations.specs.Goals.{goals_of, MakesOneTree}
 use Rattle.type_relations.specs.Headline.{AnswersGoals, KeepsEqualTerms}
-use Rattle.type_relations.specs.Lawful.{declared_by}
+use Rattle.type_relations.specs.Lawful.{items_of}
 use Rattle.type_relations.proofs.Unifying.{exact_itself}
 use Rattle.type_relations.proofs.Passing.{as_err}
 use Rattle.relation_reference.proofs.Exactly.{unrelated_apart}
@@ -56,7 +56,7 @@ returns-clause-answers g c =
     let n = g.I.Interner.meaning q.interner in
     let a = m.ty c.args.lhs in
     let b = m.ty c.args.rhs in
-    subst (λ gs. AnswersGoals (declared_by m.variances) (store_of m c.args.self.now.inner) (store_of n q.inner)
+    subst (λ gs. AnswersGoals (items_of m) (store_of m c.args.self.now.inner) (store_of n q.inner)
     (goals_of n gs) (m.param_env c.args.param_env) c.args.variance a b) (sym c.new-2.ensures.items)
     (answers_goals 0 m n c.args.self.now.inner q.inner c.args.variance c.args.param_env a b n.ty
     c.in_ok-relate_in.field-0 c.in_ok-relate_in.ensures)

@@ -10,6 +10,6 @@ returns g c =
     let m = g.I.Interner.meaning r.infcx.now.interner in
     parts_left solver_manner IsFormedConst (solving r.infcx.ghost_name m r.infcx.now.inner
     r.ambient_variance r.param_env) m.const_
-    c.args.a.now c.args.b.now c.dup.result c.dup-2.result c.dup.ensures c.dup-2.ensures c.requires.asked
+    c.args.a.now c.args.b.now c.args.a.now c.args.b.now refl refl c.requires.asked
     (formed_const m c.const_kind-a.result c.args.a.now c.const_kind-a.ensures)
     (formed_const m c.const_kind-b.result c.args.b.now c.const_kind-b.ensures)

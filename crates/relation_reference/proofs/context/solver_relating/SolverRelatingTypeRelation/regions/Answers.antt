@@ -27,5 +27,5 @@ returns g c =
     regions_recorded r.infcx.ghost_name m r.infcx.now.inner q.inner r.ambient_variance r.param_env
     c.args.a.now c.args.b.now c.requires.decides (is c.args.a.now k.left_known, k.left_in)
     (is c.args.b.now k.right_known, k.right_in) f.goes c.in_ok-relate_regions.ensures.adds
-    (g.I.Interner.meaning q.interner) c.dup.result (ap g.I.Interner.meaning f.interner) c.dup.ensures f.lawful
+    (g.I.Interner.meaning q.interner) c.args.a.now (ap g.I.Interner.meaning f.interner) refl f.lawful
     c.requires.lawful.1 k.left_known

@@ -30,10 +30,10 @@ returns-then-eq g c =
     (sym c.if-eq.ensures) in
     answered_step r.infcx.ghost_name IsFormed m m r.infcx.now.inner r.infcx.now.inner r.ambient_variance
     r.param_env (m.ty c.args.a.now)
-    (m.ty c.args.b.now) m.ty c.dup.result
+    (m.ty c.args.b.now) m.ty c.args.a.now
     (itself_related solver_manner (solving r.infcx.ghost_name m r.infcx.now.inner r.ambient_variance r.param_env)
     r.ambient_variance m.ty
-    (m.ty c.args.a.now) (m.ty c.args.b.now) c.dup.result same (ap m.ty c.dup.ensures) k.left_known)
+    (m.ty c.args.a.now) (m.ty c.args.b.now) c.args.a.now same refl k.left_known)
 
 pub equate_ty_vids_raw-requires-clause-a_made : goal.equate_ty_vids_raw-requires-clause-a_made
 equate_ty_vids_raw-requires-clause-a_made g c =
@@ -174,10 +174,10 @@ returns-in_ok-bound-in-None-ty_var g c =
     (m.ty t.result) (o.ty z) c.in-None-ty_var.ensures.formed (t.ensures.resolves.is_in k.right_in) t.ensures.sure
     h.sure (g.met.I.Interner.is_ty q.interner z h.sure) h.answers.1 h.answers.0 h.answers.2 h.steps IsFormed a b
     r.ambient_variance (taken_invariantly r.ambient_variance c.in-Some.x.0 (m.ty l.result) is c.requires.decides taken)
-    l.result t.result z c.dup-in-None-ty_var.result o.ty
+    l.result t.result z t.result o.ty
     (subst (IsReadAs st a) is l.ensures.reads) t.ensures.reads (subst (IsShallow st) is l.ensures.shallow)
     (subst (IsTermIn st) is (l.ensures.resolves.is_in k.left_in)) (h.grown.ty l.result l.ensures.sure ∙ is) t_stays refl
-    (ap o.ty c.dup-in-None-ty_var.ensures ∙ t_stays)
+    t_stays
 
 pub returns-in_ok-bound-in-Some-ty_var-2 : goal.returns-in_ok-bound-in-Some-ty_var-2
 returns-in_ok-bound-in-Some-ty_var-2 g c =
@@ -204,10 +204,10 @@ returns-in_ok-bound-in-Some-ty_var-2 g c =
     h.answers.2 h.steps IsFormed
     a b r.ambient_variance
     (taken_invariantly r.ambient_variance c.in-Some-ty_var-2.y.0 (m.ty l.result) is c.requires.decides taken)
-    t.result l.result c.dup-in-Some-ty_var-2.result z o.ty
+    t.result l.result t.result z o.ty
     t.ensures.reads (subst (IsReadAs st b) is l.ensures.reads) (subst (IsShallow st) is l.ensures.shallow)
     (subst (IsTermIn st) is (l.ensures.resolves.is_in k.right_in)) t_stays (h.grown.ty l.result l.ensures.sure ∙ is)
-    (ap o.ty c.dup-in-Some-ty_var-2.ensures ∙ t_stays) refl
+    t_stays refl
 
 pub returns-in-None-ty_var-2 : goal.returns-in-None-ty_var-2
 returns-in-None-ty_var-2 g c =

@@ -318,8 +318,8 @@ resolve_parts-mk_ty-requires-in-Ref g t c =
     known_first (ref c.in-Ref.mutability) (m.region c.in-Ref.region) (m.ty c.in-Ref.pointee) u q
     c.requires.ty_known in
     let n = g.I.Interner.meaning c.resolve_vars_if_possible-in-Ref.new.self.interner in
-    known_two (n.region c.dup.result) (n.ty c.in_ok-pointee-in-Ref.pointee)
-    (subst (λ z. IsTrue (known (n.region z))) (sym c.dup.ensures)
+    known_two (n.region c.in-Ref.region) (n.ty c.in_ok-pointee-in-Ref.pointee)
+    (subst (λ z. IsTrue (known (n.region z))) refl
     (knows_region c.in_ok-pointee-in-Ref.ensures.grown c.in-Ref.region sure))
     c.in_ok-pointee-in-Ref.ensures.sure
 
@@ -341,10 +341,10 @@ resolve_parts-returns-in_ok-pointee-in-Ref-clause-resolves g t c =
     let n = g.I.Interner.meaning c.resolve_vars_if_possible-in-Ref.new.self.interner in
     let o = g.I.Interner.meaning c.mk_ty-in-Ref.new.self in
     made_as c.mk_ty-in-Ref.result o.ty (node (ref c.in-Ref.mutability)
-    (cons (n.region c.dup.result) (cons (n.ty c.in_ok-pointee-in-Ref.pointee) nil))) (apply (resolved st) u)
+    (cons (n.region c.in-Ref.region) (cons (n.ty c.in_ok-pointee-in-Ref.pointee) nil))) (apply (resolved st) u)
     (pair_comes (resolved st) (ref c.in-Ref.mutability) (m.region c.in-Ref.region) (m.ty c.in-Ref.pointee)
-    (n.region c.dup.result) (n.ty c.in_ok-pointee-in-Ref.pointee) u q
-    (ap n.region c.dup.ensures ∙ c.in_ok-pointee-in-Ref.ensures.grown.region c.in-Ref.region sure
+    (n.region c.in-Ref.region) (n.ty c.in_ok-pointee-in-Ref.pointee) u q
+    (c.in_ok-pointee-in-Ref.ensures.grown.region c.in-Ref.region sure
     ∙ sym (region_resolved st c.requires.lawful.sound (m.region c.in-Ref.region)
     (g.met.I.Interner.is_region c.args.self.now.interner c.in-Ref.region sure)))
     c.in_ok-pointee-in-Ref.ensures.resolves)
@@ -363,8 +363,8 @@ resolve_parts-returns-in_default-kind g t c =
     record {
       inner = refl;
       grown = stays_same m;
-      sure = subst (λ z. IsTrue (known (m.ty z))) (sym c.dup-in_default-kind.ensures) c.requires.ty_known;
-      resolves = ap m.ty c.dup-in_default-kind.ensures ∙ e ∙ kept ∙ sym (ap (apply (resolved st)) e);
+      sure = c.requires.ty_known;
+      resolves = e ∙ kept ∙ sym (ap (apply (resolved st)) e);
     }
 
 pub resolve_list-resolve_vars_if_possible-requires : goal.resolve_list-resolve_vars_if_possible-requires
@@ -656,7 +656,7 @@ resolve_arg-returns-in-Lifetime-clause-resolves g t c =
     let q : arg_tree m c.args.arg.now ≡ m.region c.in-Lifetime.region = ap (arg_tree m) c.in-Lifetime.is in
     let sure : IsTrue (known (m.region c.in-Lifetime.region)) =
     subst (λ z. IsTrue (known z)) q c.requires.arg_known in
-    ap m.region c.dup.ensures ∙ sym (region_resolved st c.requires.lawful.sound (m.region c.in-Lifetime.region)
+    sym (region_resolved st c.requires.lawful.sound (m.region c.in-Lifetime.region)
     (g.met.I.Interner.is_region c.args.self.now.interner c.in-Lifetime.region sure))
     ∙ sym (ap (apply (resolved st)) q)
 
@@ -780,7 +780,7 @@ resolve_const-returns-in-Param-clause-resolves g t c =
     let m = g.I.Interner.meaning c.args.self.now.interner in
     let st = store_of m c.args.self.now.inner in
     let u = m.const_ c.args.constant.now in
-    ap m.const_ c.dup.ensures ∙ leaf_comes (resolved st) _ u
+    leaf_comes (resolved st) _ u
     (c.const_kind.ensures ∙ ap (const_tree m) c.in-Param.is) refl
 
 pub resolve_const-returns-in-Placeholder-clause-resolves : goal.resolve_const-returns-in-Placeholder-clause-resolves
@@ -788,7 +788,7 @@ resolve_const-returns-in-Placeholder-clause-resolves g t c =
     let m = g.I.Interner.meaning c.args.self.now.interner in
     let st = store_of m c.args.self.now.inner in
     let u = m.const_ c.args.constant.now in
-    ap m.const_ c.dup-in-Placeholder.ensures ∙ leaf_comes (resolved st) _ u
+    leaf_comes (resolved st) _ u
     (c.const_kind.ensures ∙ ap (const_tree m) c.in-Placeholder.is) refl
 
 pub resolve_value-resolve_branches-requires : goal.resolve_value-resolve_branches-requires
@@ -835,5 +835,5 @@ resolve_value-returns-in-Leaf-clause-resolves g t c =
     let m = g.I.Interner.meaning c.args.self.now.interner in
     let st = store_of m c.args.self.now.inner in
     let u = m.valtree c.args.value.now in
-    ap m.valtree c.dup.ensures ∙ leaf_comes (resolved st) _ u
+    leaf_comes (resolved st) _ u
     (c.valtree_kind.ensures ∙ ap (valtree_tree m) c.in-Leaf.is) refl

@@ -20,11 +20,11 @@ pub returns : goal.returns
 returns g c =
     let m = g.I.Interner.meaning c.args.self.now.interner in
     let at = c.index-branches-i.result in
-    let is = c.dup.ensures ∙ c.index-branches-i.is in
+    let is = c.index-branches-i.is in
     record {
       sure = slice_sure m.const_ c.branches.result.now (m.branches c.args.branches.now) c.branches.ensures
-          (m.branches c.args.branches.now) refl c.requires.branches_known c.args.i at c.dup.result
+          (m.branches c.args.branches.now) refl c.requires.branches_known c.args.i at at
           c.requires.in_bounds is;
       means = slice_nth m.const_ c.branches.result.now (m.branches c.args.branches.now) c.branches.ensures
-          (m.branches c.args.branches.now) refl c.args.i at c.dup.result c.requires.in_bounds is;
+          (m.branches c.args.branches.now) refl c.args.i at at c.requires.in_bounds is;
     }

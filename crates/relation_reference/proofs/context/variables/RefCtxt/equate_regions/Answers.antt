@@ -32,7 +32,7 @@ returns g c =
     let y = record x { constraints = c.push.new.self } in
     let r : RegionConstraint g.row.I-Key.Denot = Eq (record { 0 = c.args.a.now; 1 = c.args.b.now }) in
     let more = c.in_ok-push.ensures.items
-    ∙ ap₂ (λ p q. x.constraints.items ++ Eq (record { 0 = p; 1 = q }) ∷ []) c.dup.ensures c.dup-2.ensures in
+    ∙ ap₂ (λ p q. x.constraints.items ++ Eq (record { 0 = p; 1 = q }) ∷ []) refl refl in
     record {
       interner = refl;
       lawful = constraint_lawful m x y c.requires.lawful r (c.requires.a_in, c.requires.b_in) refl refl more refl refl;

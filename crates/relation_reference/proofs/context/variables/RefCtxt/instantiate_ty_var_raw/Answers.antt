@@ -72,7 +72,7 @@ returns g c =
     let same_tables = c.resolve_vars_if_possible.ensures.inner in
     let stands = g.met.I.Interner.is_ty c.record.new.self.interner k sure in
     let e' = c.record.ensures in
-    let values = e'.values ∙ ap (λ v. set (map (λ t. t.value) z.types.items) c.args.target.0 (Known v)) c.dup.ensures in
+    let values = e'.values ∙ ap (λ v. set (map (λ t. t.value) z.types.items) c.args.target.0 (Known v)) refl in
     let u = c.universe_of_ty-universe.result in
     record {
       lawful = target_lawful grown x z y same_tables c.requires.lawful c.args.target.0 k u c.requires.target_made c.requires.target_unbound t c.requires.source_in c.requires.source_formed means stands absent in_universe

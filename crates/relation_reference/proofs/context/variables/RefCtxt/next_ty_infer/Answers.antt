@@ -19,12 +19,12 @@ returns-in_err-push-clause-refused g c = on_err c.from_residual-in_err-push.resu
 
 pub returns-clause-lawful : goal.returns-clause-lawful
 returns-clause-lawful g c = type_made_lawful c.in_ok-key.ensures.grown c.args.self.now.inner (record c.args.self.now.inner { types = c.push.new.self }) c.requires _ c.in_ok-push.ensures.items refl refl
-    (ap (g.I.Interner.meaning c.mk_ty.new.self).ty c.dup.ensures ∙ c.in_ok-key.ensures.made ∙ ap (λ n. leaf (variable type_var n)) (let e : c.len-number.result ≡ length c.args.self.now.inner.types.items = omega (arith, c.len-number.ensures, c.args.self.now.inner.types.ok.0) in e)) refl refl refl refl
+    (c.in_ok-key.ensures.made ∙ ap (λ n. leaf (variable type_var n)) (let e : c.len-number.result ≡ length c.args.self.now.inner.types.items = omega (arith, c.len-number.ensures, c.args.self.now.inner.types.ok.0) in e)) refl refl refl refl
 
 pub returns-clause-later : goal.returns-clause-later
 returns-clause-later g c = type_made_later c.in_ok-key.ensures.grown c.args.self.now.inner (record c.args.self.now.inner { types = c.push.new.self }) c.requires _ c.in_ok-push.ensures.items refl refl
-    (ap (g.I.Interner.meaning c.mk_ty.new.self).ty c.dup.ensures ∙ c.in_ok-key.ensures.made ∙ ap (λ n. leaf (variable type_var n)) (let e : c.len-number.result ≡ length c.args.self.now.inner.types.items = omega (arith, c.len-number.ensures, c.args.self.now.inner.types.ok.0) in e)) refl refl refl refl
+    (c.in_ok-key.ensures.made ∙ ap (λ n. leaf (variable type_var n)) (let e : c.len-number.result ≡ length c.args.self.now.inner.types.items = omega (arith, c.len-number.ensures, c.args.self.now.inner.types.ok.0) in e)) refl refl refl refl
 
 pub returns-clause-makes : goal.returns-clause-makes
 returns-clause-makes g c = type_made c.in_ok-key.ensures.grown c.args.self.now.inner (record c.args.self.now.inner { types = c.push.new.self }) c.requires _ c.in_ok-push.ensures.items refl refl
-    (ap (g.I.Interner.meaning c.mk_ty.new.self).ty c.dup.ensures ∙ c.in_ok-key.ensures.made ∙ ap (λ n. leaf (variable type_var n)) (let e : c.len-number.result ≡ length c.args.self.now.inner.types.items = omega (arith, c.len-number.ensures, c.args.self.now.inner.types.ok.0) in e)) refl refl refl refl
+    (c.in_ok-key.ensures.made ∙ ap (λ n. leaf (variable type_var n)) (let e : c.len-number.result ≡ length c.args.self.now.inner.types.items = omega (arith, c.len-number.ensures, c.args.self.now.inner.types.ok.0) in e)) refl refl refl refl

@@ -40,40 +40,40 @@ pub returns-in-Unknown-clause-sure : goal.returns-in-Unknown-clause-sure
 returns-in-Unknown-clause-sure g c =
     let m = g.I.Interner.meaning c.args.self.now.interner in
     let x = c.args.self.now.inner in
-    root_known m x c.requires.lawful (m.ty c.dup-in-Unknown.result) c.root_ty_var-root.result.0
-    (ap m.ty c.dup-in-Unknown.ensures ∙ ap (λ v. m.ty v.key) c.index.ensures ∙ key_of m x c.requires.lawful c.root_ty_var-root.result.0 c.index.result.now c.root_ty_var-root.ensures.made)
+    root_known m x c.requires.lawful (m.ty (c.index.result.now).key) c.root_ty_var-root.result.0
+    (ap (λ v. m.ty v.key) c.index.ensures ∙ key_of m x c.requires.lawful c.root_ty_var-root.result.0 c.index.result.now c.root_ty_var-root.ensures.made)
 
 pub returns-in-Unknown-clause-reads : goal.returns-in-Unknown-clause-reads
 returns-in-Unknown-clause-reads g c =
     let m = g.I.Interner.meaning c.args.self.now.interner in
     let x = c.args.self.now.inner in
-    root_read m x c.requires.lawful (m.ty c.args.ty.now) (m.ty c.dup-in-Unknown.result) _ c.root_ty_var-root.result.0 (c.in-Infer.ensures ∙ c.ty_vid.ensures) c.root_ty_var-root.ensures.leads
-    (ap m.ty c.dup-in-Unknown.ensures ∙ ap (λ v. m.ty v.key) c.index.ensures ∙ key_of m x c.requires.lawful c.root_ty_var-root.result.0 c.index.result.now c.root_ty_var-root.ensures.made)
+    root_read m x c.requires.lawful (m.ty c.args.ty.now) (m.ty (c.index.result.now).key) _ c.root_ty_var-root.result.0 (c.in-Infer.ensures ∙ c.ty_vid.ensures) c.root_ty_var-root.ensures.leads
+    (ap (λ v. m.ty v.key) c.index.ensures ∙ key_of m x c.requires.lawful c.root_ty_var-root.result.0 c.index.result.now c.root_ty_var-root.ensures.made)
 
 pub returns-in-Unknown-clause-resolves : goal.returns-in-Unknown-clause-resolves
 returns-in-Unknown-clause-resolves g c =
     let m = g.I.Interner.meaning c.args.self.now.interner in
     let x = c.args.self.now.inner in
-    read_resolves (store_of m x) c.requires.lawful.sound (m.ty c.args.ty.now) (m.ty c.dup-in-Unknown.result)
-    (root_read m x c.requires.lawful (m.ty c.args.ty.now) (m.ty c.dup-in-Unknown.result) _ c.root_ty_var-root.result.0 (c.in-Infer.ensures ∙ c.ty_vid.ensures) c.root_ty_var-root.ensures.leads
-    (ap m.ty c.dup-in-Unknown.ensures ∙ ap (λ v. m.ty v.key) c.index.ensures ∙ key_of m x c.requires.lawful c.root_ty_var-root.result.0 c.index.result.now c.root_ty_var-root.ensures.made))
+    read_resolves (store_of m x) c.requires.lawful.sound (m.ty c.args.ty.now) (m.ty (c.index.result.now).key)
+    (root_read m x c.requires.lawful (m.ty c.args.ty.now) (m.ty (c.index.result.now).key) _ c.root_ty_var-root.result.0 (c.in-Infer.ensures ∙ c.ty_vid.ensures) c.root_ty_var-root.ensures.leads
+    (ap (λ v. m.ty v.key) c.index.ensures ∙ key_of m x c.requires.lawful c.root_ty_var-root.result.0 c.index.result.now c.root_ty_var-root.ensures.made))
 
 pub returns-in-Unknown-clause-shallow : goal.returns-in-Unknown-clause-shallow
 returns-in-Unknown-clause-shallow g c =
     let m = g.I.Interner.meaning c.args.self.now.interner in
     let x = c.args.self.now.inner in
-    root_shallow m x c.requires.lawful (m.ty c.dup-in-Unknown.result) c.root_ty_var-root.result.0
-    (ap m.ty c.dup-in-Unknown.ensures ∙ ap (λ v. m.ty v.key) c.index.ensures ∙ key_of m x c.requires.lawful c.root_ty_var-root.result.0 c.index.result.now c.root_ty_var-root.ensures.made)
+    root_shallow m x c.requires.lawful (m.ty (c.index.result.now).key) c.root_ty_var-root.result.0
+    (ap (λ v. m.ty v.key) c.index.ensures ∙ key_of m x c.requires.lawful c.root_ty_var-root.result.0 c.index.result.now c.root_ty_var-root.ensures.made)
     c.in-Unknown.ensures
 
 pub returns-in_default : goal.returns-in_default
 returns-in_default g c =
     let m = g.I.Interner.meaning c.args.self.now.interner in
     let st = store_of m c.args.self.now.inner in
-    let same : m.ty c.args.ty.now ≡ m.ty c.dup.result = ap m.ty (sym c.dup.ensures) in
+    let same : m.ty c.args.ty.now ≡ m.ty c.args.ty.now = refl in
     record {
       sure = subst (λ t. IsTrue (known t)) same c.requires.ty_known;
       reads = itself same;
-      resolves = read_resolves st c.requires.lawful.sound (m.ty c.args.ty.now) (m.ty c.dup.result) (itself same);
+      resolves = read_resolves st c.requires.lawful.sound (m.ty c.args.ty.now) (m.ty c.args.ty.now) (itself same);
       shallow = formed (subst IsFormed (sym c.ty_kind.ensures ∙ same) (formed_kind m c.ty_kind.result c.in_default.not-Infer));
     }

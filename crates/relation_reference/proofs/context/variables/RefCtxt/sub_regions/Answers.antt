@@ -33,7 +33,7 @@ returns g c =
     let y = record x { constraints = c.push.new.self } in
     let r : RegionConstraint g.row.I-Key.Denot = Outlives (record { 0 = Lifetime c.args.sup.now; 1 = c.args.sub.now }) in
     let more = c.in_ok-push.ensures.items
-    ∙ ap₂ (λ p q. x.constraints.items ++ Outlives (record { 0 = Lifetime p; 1 = q }) ∷ []) c.dup.ensures c.dup-2.ensures in
+    ∙ ap₂ (λ p q. x.constraints.items ++ Outlives (record { 0 = Lifetime p; 1 = q }) ∷ []) refl refl in
     record {
       interner = refl;
       lawful = constraint_lawful m x y c.requires.lawful r (c.requires.sup_in, c.requires.sub_in) refl refl more refl refl;

@@ -9,6 +9,6 @@ returns g c =
     let m = g.I.Interner.meaning c.args.self.now.interner in
     parts_left plain_manner IsFormedConst
     (plain_state m c.args.self.now.ambient c.args.self.now.constraints.items) m.const_
-    c.args.a.now c.args.b.now c.dup.result c.dup-2.result c.dup.ensures c.dup-2.ensures c.requires.asked
+    c.args.a.now c.args.b.now c.args.a.now c.args.b.now refl refl c.requires.asked
     (formed_const m c.const_kind-a.result c.args.a.now c.const_kind-a.ensures)
     (formed_const m c.const_kind-b.result c.args.b.now c.const_kind-b.ensures)

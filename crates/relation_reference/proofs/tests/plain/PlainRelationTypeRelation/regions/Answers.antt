@@ -20,4 +20,4 @@ returns g c =
     regions_related m c.args.self.now.ambient c.args.self.now.constraints.items c.in-Some.constraint c.args.a.now
     c.args.b.now c.constraint.result (sym c.constraint.ensures) c.in-Some.is
     (is c.args.a.now k.left_known, k.left_in) (is c.args.b.now k.right_known, k.right_in)
-    c.push.new.self.items c.dup-2.result c.in_ok-push.ensures.items c.dup-2.ensures k.left_known
+    c.push.new.self.items c.args.a.now c.in_ok-push.ensures.items refl k.left_known

@@ -11,6 +11,6 @@ returns g c =
     let is = g.met.I.Interner.is_ty c.args.self.now.interner in
     let k = c.requires.asked in
     parts_left plain_manner IsFormed (plain_state m c.args.self.now.ambient cs) m.ty c.args.a.now c.args.b.now
-    c.dup.result c.dup-2.result c.dup.ensures c.dup-2.ensures k
+    c.args.a.now c.args.b.now refl refl k
     (formed m cs (m.ty c.args.a.now) (is c.args.a.now k.left_known) k.left_in)
     (formed m cs (m.ty c.args.b.now) (is c.args.b.now k.right_known) k.right_in)
