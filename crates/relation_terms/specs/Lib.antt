@@ -2,4 +2,5 @@ pub mod Heads
 pub mod Trees
 pub mod Variances
 pub mod Meaning
+pub mod Interning
 pub mod Erasure

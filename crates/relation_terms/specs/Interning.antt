@@ -1,0 +1,84 @@
+-- What making and reading keys promise, sort by sort.
+use Rattle.std.specs.Prelude.{◌≡◌, ◌↔◌, Bool, IsTrue, IsOk, IfOk, Result, List, ℕ}
+use Rattle.relation_terms.specs.Trees.{Tree, node, nil, known, list_tree, IsTerm, AreTerms}
+use Rattle.relation_terms.specs.Heads.{Sort, environment}
+use Rattle.relation_terms.specs.Meaning.{Meaning, kind_tree, region_tree, const_tree, valtree_tree, arg_tree}
+use Rattle.relation_terms.specs.declared.terms.keys.TyKey.{TyKey}
+use Rattle.relation_terms.specs.declared.terms.keys.RegionKey.{RegionKey}
+use Rattle.relation_terms.specs.declared.terms.keys.ConstKey.{ConstKey}
+use Rattle.relation_terms.specs.declared.terms.keys.ArgsKey.{ArgsKey}
+use Rattle.relation_terms.specs.declared.terms.keys.TysKey.{TysKey}
+use Rattle.relation_terms.specs.declared.terms.keys.ValTreeKey.{ValTreeKey}
+use Rattle.relation_terms.specs.declared.terms.keys.BranchesKey.{BranchesKey}
+use Rattle.relation_terms.specs.declared.terms.keys.ParamEnvKey.{ParamEnvKey}
+use Rattle.relation_terms.specs.declared.terms.ty_kind.TyKind.{TyKind}
+use Rattle.relation_terms.specs.declared.terms.region_kind.RegionKind.{RegionKind}
+use Rattle.relation_terms.specs.declared.terms.const_kind.ConstKind.{ConstKind}
+use Rattle.relation_terms.specs.declared.terms.const_kind.ValTreeKind.{ValTreeKind}
+use Rattle.relation_terms.specs.declared.terms.generic_arg.GenericArgKind.{GenericArgKind}
+
+-- Known keys are equal exactly where their trees are.
+abbrev pub AreEqualAsTrees : {K : Type 0} → (K → Tree) → (K → K → Bool) → Type 0
+AreEqualAsTrees {K} tree eq = (k l : K) → IsTrue (known (tree k)) → IsTrue (known (tree l)) →
+    (IsTrue (eq k l) ↔ (tree k ≡ tree l))
+
+-- The tree of a known key is a term of a sort.
+abbrev pub IsOfSort : {K : Type 0} → (K → Tree) → Sort → Type 0
+IsOfSort {K} tree sort = (k : K) → IsTrue (known (tree k)) → IsTerm sort (tree k)
+
+-- The list of a known key is one of terms of a sort.
+abbrev pub AreOfSort : {K : Type 0} → (K → Tree) → Sort → Type 0
+AreOfSort {K} tree sort = (k : K) → IsTrue (known (tree k)) → AreTerms sort (tree k)
+
+-- Ids and names are equal exactly where their numbers are.
+abbrev pub AreEqualAsNumbers : {N : Type 0} → (N → ℕ) → (N → N → Bool) → Type 0
+AreEqualAsNumbers {N} number eq = (x y : N) → (IsTrue (eq x y) ↔ (number x ≡ number y))
+
+-- Where a key of a tree is there already, it is made again, without growth and without fail.
+abbrev pub IsMadeAgain : {Key Id Name K X E : Type 0} → Meaning Key Id Name → Meaning Key Id Name → (K → Tree) → Tree →
+    Result X E → Type 0
+IsMadeAgain {K = K} before after tree t result = (k : K) → tree k ≡ t → IsOk result × (after ≡ before)
+
+-- Where the key of a list is there already, nothing grows. (The list is copied first, which may fail.)
+abbrev pub IsNotMadeAgain : {Key Id Name K : Type 0} → Meaning Key Id Name → Meaning Key Id Name → (K → Tree) → Tree →
+    Type 0
+IsNotMadeAgain {K = K} before after tree t = (k : K) → tree k ≡ t → after ≡ before
+
+module _ {Key Id Name E : Type 0} (before after : Meaning Key Id Name) where
+  -- The same of types, regions, constants and value trees, by their forms.
+  abbrev pub RemakesTy : TyKind Key Id Name → Result (TyKey Key) E → Type 0
+  RemakesTy form result = IsMadeAgain before after before.ty (kind_tree before form) result
+
+  abbrev pub RemakesRegion : RegionKind Name → Result (RegionKey Key) E → Type 0
+  RemakesRegion form result = IsMadeAgain before after before.region (region_tree before form) result
+
+  abbrev pub RemakesConst : ConstKind Key Name → Result (ConstKey Key) E → Type 0
+  RemakesConst form result = IsMadeAgain before after before.const_ (const_tree before form) result
+
+  abbrev pub RemakesValTree : ValTreeKind Key → Result (ValTreeKey Key) E → Type 0
+  RemakesValTree form result = IsMadeAgain before after before.valtree (valtree_tree before form) result
+
+  -- The same of the environment without clauses.
+  abbrev pub RemakesEmptyEnv : Result (ParamEnvKey Key) E → Type 0
+  RemakesEmptyEnv result = IsMadeAgain before after before.param_env (node environment nil) result
+
+  -- What is made of elements is their list: of types, arguments and branches.
+  abbrev pub MakesTys : List (TyKey Key) → Result (TysKey Key) E → Type 0
+  MakesTys list result = IfOk result (λ k. after.tys k ≡ list_tree before.ty list)
+
+  abbrev pub MakesArgs : List (GenericArgKind Key) → Result (ArgsKey Key) E → Type 0
+  MakesArgs list result = IfOk result (λ k. after.args k ≡ list_tree (arg_tree before) list)
+
+  abbrev pub MakesBranches : List (ConstKey Key) → Result (BranchesKey Key) E → Type 0
+  MakesBranches list result = IfOk result (λ k. after.branches k ≡ list_tree before.const_ list)
+
+module _ {Key Id Name : Type 0} (before after : Meaning Key Id Name) where
+  -- Where it is there already nothing grows: lists of types, arguments and branches, by their elements.
+  abbrev pub KeepsTys : List (TyKey Key) → Type 0
+  KeepsTys list = IsNotMadeAgain before after before.tys (list_tree before.ty list)
+
+  abbrev pub KeepsArgs : List (GenericArgKind Key) → Type 0
+  KeepsArgs list = IsNotMadeAgain before after before.args (list_tree (arg_tree before) list)
+
+  abbrev pub KeepsBranches : List (ConstKey Key) → Type 0
+  KeepsBranches list = IsNotMadeAgain before after before.branches (list_tree before.const_ list)
