@@ -16,7 +16,7 @@ pub use walk::{
 };
 
 /// What a folder answers at a type, a region or a constant.
-#[derive(Clone, Copy, PartialEq, Eq, Debug)]
+#[derive(Clone, Copy)]
 pub enum Fold<T> {
     /// Nothing is put for the term, and its parts are folded.
     Descend,

@@ -21,7 +21,7 @@ pub use walk::{
 };
 
 /// What a visitor answers at a term.
-#[derive(Clone, Copy, PartialEq, Eq, Debug)]
+#[derive(Clone, Copy)]
 pub enum Visit {
     /// The parts of the term come next.
     Enter,

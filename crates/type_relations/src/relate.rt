@@ -41,14 +41,14 @@ pub enum Step<T> {
 }
 
 /// Whether aliases are related by their items and arguments, or by a goal that is left to the solver.
-#[derive(Clone, Copy, PartialEq, Eq, Debug)]
+#[derive(Clone, Copy, PartialEq, Eq)]
 pub enum StructurallyRelateAliases {
     Yes,
     No,
 }
 
 /// Why two terms are related at invariance, for whoever explains an error. No answer of relating looks at it.
-#[derive(Clone, Copy, PartialEq, Eq, Debug)]
+#[derive(Clone, Copy, PartialEq, Eq)]
 pub enum VarianceDiagInfo<X> {
     /// Nothing is known.
     None,

@@ -3,7 +3,7 @@ use relation_terms::predicate::RegionConstraint;
 use relation_terms::terms::{TyKey, TyVid, UniverseIndex};
 
 /// What is recorded of a type variable.
-#[derive(Clone, Copy, Debug)]
+#[derive(Clone, Copy)]
 pub enum TypeVariableValue<X> {
     /// Nothing.
     Unknown,
@@ -14,7 +14,7 @@ pub enum TypeVariableValue<X> {
 }
 
 /// A type variable: its key, what is recorded of it, and its universe.
-#[derive(Clone, Copy, Debug)]
+#[derive(Clone, Copy)]
 pub struct TypeVariable<X> {
     pub key: TyKey<X>,
     pub value: TypeVariableValue<X>,
@@ -23,7 +23,7 @@ pub struct TypeVariable<X> {
 
 /// What a context has recorded: its variables by their numbers, the constraints on regions in order, the current
 /// universe, and how many instantiations may still be made.
-#[derive(Debug, Drop)]
+#[derive(Drop)]
 pub struct InferCtxtInner<X> {
     pub types: Vec<TypeVariable<X>>,
     pub regions: Vec<UniverseIndex>,

@@ -5,7 +5,7 @@ use crate::interner::{ItemId, RefInterner, SymbolId};
 use relation_terms::terms::{Interner, OutOfMemory, TraitId, Variance};
 
 /// Which kind of item an item is.
-#[derive(Clone, Copy, PartialEq, Eq, Debug)]
+#[derive(Clone, Copy, PartialEq, Eq)]
 pub enum DefKind {
     /// A struct, an enum or a union.
     Adt,
@@ -35,7 +35,7 @@ pub enum DefKind {
 }
 
 /// What a generic parameter stands for.
-#[derive(Clone, Copy, PartialEq, Eq, Debug)]
+#[derive(Clone, Copy)]
 pub enum GenericParamKind {
     Lifetime,
     Type,
@@ -43,21 +43,21 @@ pub enum GenericParamKind {
 }
 
 /// A generic parameter of an item.
-#[derive(Clone, Copy, PartialEq, Eq, Debug)]
+#[derive(Clone, Copy)]
 pub struct GenericParam {
     pub kind: GenericParamKind,
     pub name: SymbolId,
 }
 
 /// What kind of item an item is, and its generic parameters.
-#[derive(PartialEq, Eq, Debug, Drop)]
+#[derive(Drop)]
 pub struct ItemKind {
     pub def: DefKind,
     pub params: Vec<GenericParam>,
 }
 
 /// An item, as it was added.
-#[derive(PartialEq, Eq, Debug, Drop)]
+#[derive(Drop)]
 pub struct Item {
     pub kind: ItemKind,
     pub name: SymbolId,

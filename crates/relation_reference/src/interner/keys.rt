@@ -13,5 +13,5 @@ pub struct ItemId(pub usize);
 pub struct SymbolId(pub usize);
 
 /// The place of what has none.
-#[derive(Clone, Copy, PartialEq, Eq, Hash, Debug)]
+#[derive(Clone, Copy, PartialEq, Eq, Hash)]
 pub struct NoSpan;

@@ -10,7 +10,7 @@ use relation_terms::terms::{
 use std::alloc::Global;
 
 /// What one key stands for.
-#[derive(PartialEq, Eq, Debug, Drop)]
+#[derive(PartialEq, Eq, Drop)]
 pub enum Node {
     /// A type, by its outermost form.
     Ty(TyKind<NodeKey, ItemId, SymbolId>),

@@ -2,7 +2,7 @@
 use crate::terms::{ArgsKey, BranchesKey, Keys, PlaceholderConst, TyKey, ValTreeKey};
 
 /// The outermost form of a constant, over keys and names.
-#[derive(Clone, Copy, PartialEq, Eq, Hash, Debug)]
+#[derive(Clone, Copy, PartialEq, Eq, Hash)]
 pub enum ConstKind<X, N> {
     Param(ParamConst<N>),
     Placeholder(PlaceholderConst<N>),
@@ -13,18 +13,18 @@ pub enum ConstKind<X, N> {
 }
 
 /// A constant parameter of an item, by its index and its name.
-#[derive(Clone, Copy, PartialEq, Eq, Hash, Debug)]
+#[derive(Clone, Copy, PartialEq, Eq, Hash)]
 pub struct ParamConst<N> {
     pub index: u32,
     pub name: N,
 }
 
 /// Which operation an expression applies, by a number that its users choose.
-#[derive(Clone, Copy, PartialEq, Eq, Hash, Debug)]
+#[derive(Clone, Copy, PartialEq, Eq, Hash)]
 pub struct ExprKind(pub u32);
 
 /// The outermost form of a value tree, over keys.
-#[derive(Clone, Copy, PartialEq, Eq, Hash, Debug)]
+#[derive(Clone, Copy, PartialEq, Eq, Hash)]
 pub enum ValTreeKind<X> {
     /// A bit pattern and its size in bytes.
     Leaf { bits: u128, size: u8 },

@@ -36,14 +36,14 @@ impl Variance {
 }
 
 /// Whether what a pointer leads to may be changed.
-#[derive(Clone, Copy, PartialEq, Eq, Hash, Debug)]
+#[derive(Clone, Copy, PartialEq, Eq, Hash)]
 pub enum Mutability {
     Not,
     Mut,
 }
 
 /// The signed integer types.
-#[derive(Clone, Copy, PartialEq, Eq, Hash, Debug)]
+#[derive(Clone, Copy, PartialEq, Eq, Hash)]
 pub enum IntTy {
     Isize,
     I8,
@@ -54,7 +54,7 @@ pub enum IntTy {
 }
 
 /// The unsigned integer types.
-#[derive(Clone, Copy, PartialEq, Eq, Hash, Debug)]
+#[derive(Clone, Copy, PartialEq, Eq, Hash)]
 pub enum UintTy {
     Usize,
     U8,
@@ -65,7 +65,7 @@ pub enum UintTy {
 }
 
 /// The float types. They are names only: no float is computed.
-#[derive(Clone, Copy, PartialEq, Eq, Hash, Debug)]
+#[derive(Clone, Copy, PartialEq, Eq, Hash)]
 pub enum FloatTy {
     F16,
     F32,
@@ -96,14 +96,14 @@ pub enum PredicatePolarity {
 }
 
 /// Whether a bound holds in const contexts always, or where its own context is const.
-#[derive(Clone, Copy, PartialEq, Eq, Hash, Debug)]
+#[derive(Clone, Copy, PartialEq, Eq, Hash)]
 pub enum BoundConstness {
     Const,
     Maybe,
 }
 
 /// What an alias goal asks: that both sides are equal, or that the first is a subtype of the second.
-#[derive(Clone, Copy, PartialEq, Eq, Hash, Debug)]
+#[derive(Clone, Copy, PartialEq, Eq, Hash)]
 pub enum AliasRelationDirection {
     Equate,
     Subtype,

@@ -4,7 +4,7 @@ ghost use Rattle.std.specs.Prelude.{◌≡◌};
 use crate::terms::{ConstKey, Keys, RegionKey, TyKey};
 
 /// What a generic parameter may be given: a region, a type or a constant.
-#[derive(Clone, Copy, PartialEq, Eq, Hash, Debug)]
+#[derive(Clone, Copy, PartialEq, Eq, Hash)]
 pub enum GenericArgKind<X> {
     Lifetime(RegionKey<X>),
     Ty(TyKey<X>),
@@ -12,7 +12,7 @@ pub enum GenericArgKind<X> {
 }
 
 /// What a projection may come to: a type or a constant.
-#[derive(Clone, Copy, PartialEq, Eq, Hash, Debug)]
+#[derive(Clone, Copy, PartialEq, Eq, Hash)]
 pub enum TermKind<X> {
     Ty(TyKey<X>),
     Const(ConstKey<X>),

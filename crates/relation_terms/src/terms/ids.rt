@@ -7,31 +7,31 @@ ghost use Rattle.std.specs.Prelude.{◌≡◌};
 use crate::terms::Keys;
 
 /// The id of an item of any kind.
-#[derive(Clone, Copy, PartialEq, Eq, Hash, Debug)]
+#[derive(Clone, Copy, PartialEq, Eq, Hash)]
 pub struct DefId<D>(pub D);
 
 /// The id of a struct, an enum or a union.
-#[derive(Clone, Copy, PartialEq, Eq, Hash, Debug)]
+#[derive(Clone, Copy, PartialEq, Eq, Hash)]
 pub struct AdtId<D>(pub D);
 
 /// The id of a function.
-#[derive(Clone, Copy, PartialEq, Eq, Hash, Debug)]
+#[derive(Clone, Copy, PartialEq, Eq, Hash)]
 pub struct FunctionId<D>(pub D);
 
 /// The id of a closure.
-#[derive(Clone, Copy, PartialEq, Eq, Hash, Debug)]
+#[derive(Clone, Copy, PartialEq, Eq, Hash)]
 pub struct ClosureId<D>(pub D);
 
 /// The id of a closure that answers coroutines.
-#[derive(Clone, Copy, PartialEq, Eq, Hash, Debug)]
+#[derive(Clone, Copy, PartialEq, Eq, Hash)]
 pub struct CoroutineClosureId<D>(pub D);
 
 /// The id of a coroutine.
-#[derive(Clone, Copy, PartialEq, Eq, Hash, Debug)]
+#[derive(Clone, Copy, PartialEq, Eq, Hash)]
 pub struct CoroutineId<D>(pub D);
 
 /// The id of a type that is defined outside the language.
-#[derive(Clone, Copy, PartialEq, Eq, Hash, Debug)]
+#[derive(Clone, Copy, PartialEq, Eq, Hash)]
 pub struct ForeignId<D>(pub D);
 
 /// The id of a trait.

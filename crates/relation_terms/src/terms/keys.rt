@@ -32,27 +32,27 @@ pub struct RegionKey<X>(pub X);
 pub struct ConstKey<X>(pub X);
 
 /// The key of a list of generic arguments.
-#[derive(Clone, Copy, PartialEq, Eq, Hash, Debug)]
+#[derive(Clone, Copy, PartialEq, Eq, Hash)]
 pub struct ArgsKey<X>(pub X);
 
 /// The key of a list of types.
-#[derive(Clone, Copy, PartialEq, Eq, Hash, Debug)]
+#[derive(Clone, Copy, PartialEq, Eq, Hash)]
 pub struct TysKey<X>(pub X);
 
 /// The key of a pattern.
-#[derive(Clone, Copy, PartialEq, Eq, Hash, Debug)]
+#[derive(Clone, Copy, PartialEq, Eq, Hash)]
 pub struct PatKey<X>(pub X);
 
 /// The key of a value tree.
-#[derive(Clone, Copy, PartialEq, Eq, Hash, Debug)]
+#[derive(Clone, Copy, PartialEq, Eq, Hash)]
 pub struct ValTreeKey<X>(pub X);
 
 /// The key of a list of constants, the branches of a value tree.
-#[derive(Clone, Copy, PartialEq, Eq, Hash, Debug)]
+#[derive(Clone, Copy, PartialEq, Eq, Hash)]
 pub struct BranchesKey<X>(pub X);
 
 /// The key of a list of patterns, the alternatives of a pattern.
-#[derive(Clone, Copy, PartialEq, Eq, Hash, Debug)]
+#[derive(Clone, Copy, PartialEq, Eq, Hash)]
 pub struct AlternativesKey<X>(pub X);
 
 /// The key of the list of a trait object's predicates.
@@ -60,19 +60,19 @@ pub struct AlternativesKey<X>(pub X);
 pub struct ExistentialPredicatesKey<X>(pub X);
 
 /// The key of the list of a binder's variables.
-#[derive(Clone, Copy, PartialEq, Eq, Hash, Debug)]
+#[derive(Clone, Copy, PartialEq, Eq, Hash)]
 pub struct BoundVarsKey<X>(pub X);
 
 /// The key of a predicate.
-#[derive(Clone, Copy, PartialEq, Eq, Hash, Debug)]
+#[derive(Clone, Copy, PartialEq, Eq, Hash)]
 pub struct PredicateKey<X>(pub X);
 
 /// The key of a clause.
-#[derive(Clone, Copy, PartialEq, Eq, Hash, Debug)]
+#[derive(Clone, Copy, PartialEq, Eq, Hash)]
 pub struct ClauseKey<X>(pub X);
 
 /// The key of an environment, the list of clauses that are taken to hold.
-#[derive(Clone, Copy, PartialEq, Eq, Hash, Debug)]
+#[derive(Clone, Copy, PartialEq, Eq, Hash)]
 pub struct ParamEnvKey<X>(pub X);
 
 /// A type of an interner.

@@ -1,7 +1,7 @@
 //! The numbers of universes and variables, and places in a binder's list, each of a type of its own.
 
 /// The number of a universe. A universe can name the placeholders of universes up to its own.
-#[derive(Clone, Copy, PartialEq, Eq, PartialOrd, Ord, Hash, Debug)]
+#[derive(Clone, Copy, PartialEq, Eq, PartialOrd, Ord, Hash)]
 pub struct UniverseIndex(pub usize);
 
 /// The place of a variable in the list of the binder that binds it.
@@ -9,21 +9,21 @@ pub struct UniverseIndex(pub usize);
 pub struct BoundVar(pub usize);
 
 /// The number of a type variable.
-#[derive(Clone, Copy, PartialEq, Eq, PartialOrd, Ord, Hash, Debug)]
+#[derive(Clone, Copy, PartialEq, Eq, PartialOrd, Ord, Hash)]
 pub struct TyVid(pub usize);
 
 /// The number of an integer variable.
-#[derive(Clone, Copy, PartialEq, Eq, PartialOrd, Ord, Hash, Debug)]
+#[derive(Clone, Copy, PartialEq, Eq, PartialOrd, Ord, Hash)]
 pub struct IntVid(pub usize);
 
 /// The number of a float variable.
-#[derive(Clone, Copy, PartialEq, Eq, PartialOrd, Ord, Hash, Debug)]
+#[derive(Clone, Copy, PartialEq, Eq, PartialOrd, Ord, Hash)]
 pub struct FloatVid(pub usize);
 
 /// The number of a constant variable.
-#[derive(Clone, Copy, PartialEq, Eq, PartialOrd, Ord, Hash, Debug)]
+#[derive(Clone, Copy, PartialEq, Eq, PartialOrd, Ord, Hash)]
 pub struct ConstVid(pub usize);
 
 /// The number of a region variable.
-#[derive(Clone, Copy, PartialEq, Eq, PartialOrd, Ord, Hash, Debug)]
+#[derive(Clone, Copy, PartialEq, Eq, PartialOrd, Ord, Hash)]
 pub struct RegionVid(pub usize);

@@ -2,7 +2,7 @@
 use crate::terms::{BoundVar, Keys, RegionVid};
 
 /// The form of a region, over names.
-#[derive(Clone, Copy, PartialEq, Eq, Hash, Debug)]
+#[derive(Clone, Copy, PartialEq, Eq, Hash)]
 pub enum RegionKind<N> {
     ReStatic,
     ReEarlyParam(EarlyParamRegion<N>),
@@ -10,7 +10,7 @@ pub enum RegionKind<N> {
 }
 
 /// A region parameter of an item, by its index and its name.
-#[derive(Clone, Copy, PartialEq, Eq, Hash, Debug)]
+#[derive(Clone, Copy, PartialEq, Eq, Hash)]
 pub struct EarlyParamRegion<N> {
     pub index: u32,
     pub name: N,

@@ -8,7 +8,7 @@ use crate::terms::{
 use std::alloc::AllocError;
 
 /// The outermost form of a type, over keys, ids of items and names.
-#[derive(PartialEq, Eq, Hash, Debug)]
+#[derive(PartialEq, Eq, Hash)]
 pub enum TyKind<X, D, N> {
     Bool,
     Char,
@@ -35,14 +35,14 @@ pub enum TyKind<X, D, N> {
 }
 
 /// A type parameter of an item, by its index and its name.
-#[derive(Clone, Copy, PartialEq, Eq, Hash, Debug)]
+#[derive(Clone, Copy, PartialEq, Eq, Hash)]
 pub struct ParamTy<N> {
     pub index: u32,
     pub name: N,
 }
 
 /// A variable that stands for a type.
-#[derive(Clone, Copy, PartialEq, Eq, Hash, Debug)]
+#[derive(Clone, Copy, PartialEq, Eq, Hash)]
 pub enum InferTy {
     TyVar(TyVid),
 }

@@ -7,7 +7,7 @@ use relation_terms::terms::{
 };
 
 /// Which form a type over an item has. Each is the form of `TyKind` of that name.
-#[derive(Clone, Copy, PartialEq, Eq, Debug)]
+#[derive(Clone, Copy)]
 pub enum ItemForm {
     Adt,
     FnDef,
@@ -18,7 +18,7 @@ pub enum ItemForm {
 }
 
 /// The form of a type over an item and its arguments: which it is, the item's id, and the list of arguments.
-#[derive(Clone, Copy, Debug)]
+#[derive(Clone, Copy)]
 pub struct ItemTy<X, D> {
     pub form: ItemForm,
     pub def_id: D,
