@@ -10,7 +10,7 @@ returns-in_err-visit_with g c =
     let tree = g.T.TypeVisitable.tree (g.I.Interner.meaning c.args.cx.now) in
     let pair = c.args.self.now in
     let broke : c.visit_with.result ≡ Break tt = search rules in
-    over_first visits c.args.visitor.now c.visit_with.new.visitor (tree pair.expected) (cons (tree pair.found) nil)
+    over_first visits 0 c.args.visitor.now c.visit_with.new.visitor (tree pair.expected) (cons (tree pair.found) nil)
     c.visit_with.result c.from_residual.result c.visit_with.ensures broke c.from_residual.ensures
 
 pub returns : goal.returns
@@ -19,5 +19,5 @@ returns g c =
     let tree = g.T.TypeVisitable.tree (g.I.Interner.meaning c.args.cx.now) in
     let pair = c.args.self.now in
     let went : c.visit_with.result ≡ Continue tt = search rules in
-    over_two visits c.args.visitor.now c.visit_with.new.visitor c.visit_with-2.new.visitor (tree pair.expected)
+    over_two visits 0 c.args.visitor.now c.visit_with.new.visitor c.visit_with-2.new.visitor (tree pair.expected)
     (tree pair.found) c.visit_with.result c.visit_with-2.result c.visit_with.ensures went c.visit_with-2.ensures
