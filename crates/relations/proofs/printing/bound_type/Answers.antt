@@ -1,3 +1,4 @@
+use Rattle.std.proofs.Common.{refl}
 use Rattle.relations.proofs.Joining.{bound_known}
 use Rattle.relations.proofs.printing.bound_type.Goals as goal
 

@@ -1,3 +1,4 @@
+use Rattle.std.proofs.Common.{refl}
 use Rattle.relations.proofs.Joining.{is_variable, key_known, key_in}
 use Rattle.relations.proofs.written.variable_of.Goals as goal
 

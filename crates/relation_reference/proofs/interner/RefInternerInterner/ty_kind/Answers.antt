@@ -1,4 +1,4 @@
-use Rattle.std.proofs.Common.{◌<◌, ap, sym, ◌∙◌, subst}
+use Rattle.std.proofs.Common.{refl, ◌<◌, ap, sym, ◌∙◌, subst}
 use Rattle.relation_terms.specs.Meaning.{kind_tree}
 use Rattle.relation_reference.specs.Forms.{ty_form, form_of}
 use Rattle.relation_reference.specs.Nodes.{ty_node, table_meaning}

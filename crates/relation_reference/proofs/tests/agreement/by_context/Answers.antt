@@ -1,4 +1,4 @@
-use Rattle.std.proofs.Common.{sym, subst}
+use Rattle.std.proofs.Common.{refl, sym, subst}
 use Rattle.relation_reference.specs.Tables.{IsLawful}
 use Rattle.relation_reference.proofs.Concrete.{concrete_in, concrete_known, concrete_taken, given_concrete}
 use Rattle.relation_reference.proofs.tests.agreement.by_context.Goals as goal

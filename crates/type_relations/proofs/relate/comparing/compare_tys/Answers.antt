@@ -56,13 +56,13 @@ returns-in_default-right-6 g c =
       errors = unlike_param m c.ty_kind-right.result c.args.a.now c.args.b.now c.unlike-in_default-right-6.result c.ty_kind-right.ensures c.unlike-in_default-right-6.ensures c.in-Param.parameter (c.ty_kind-left.ensures ∙ ap (kind_tree m) c.in-Param.is) (λ z e i. c.in_default-right-6.not-Param z e);
     }
 
-pub returns-in-Slice-clause-alike : goal.returns-in-Slice-clause-alike
-returns-in-Slice-clause-alike g c =
+pub returns-in-Slice-right-clause-alike : goal.returns-in-Slice-right-clause-alike
+returns-in-Slice-right-clause-alike g c =
     let m = g.I.Interner.meaning c.args.cx.now in
     over_parts (c.ty_kind-left.ensures ∙ ap (kind_tree m) c.in-Slice.is) (c.ty_kind-right.ensures ∙ ap (kind_tree m) c.in-Slice-right.is) refl
 
-pub returns-in-Array-clause-alike : goal.returns-in-Array-clause-alike
-returns-in-Array-clause-alike g c =
+pub returns-in-Array-right-clause-alike : goal.returns-in-Array-right-clause-alike
+returns-in-Array-right-clause-alike g c =
     let m = g.I.Interner.meaning c.args.cx.now in
     over_parts (c.ty_kind-left.ensures ∙ ap (kind_tree m) c.in-Array.is) (c.ty_kind-right.ensures ∙ ap (kind_tree m) c.in-Array-right.is) refl
 
@@ -72,8 +72,8 @@ returns-then-n-m-clause-errors g c =
     lengths_error m _ _ (m.tys c.in-Tuple.xs) (m.tys c.in-Tuple-right.ys) c.args.a.now c.args.b.now c.unlike_lengths.result (c.ty_kind-left.ensures ∙ ap (kind_tree m) c.in-Tuple.is) (c.ty_kind-right.ensures ∙ ap (kind_tree m) c.in-Tuple-right.is)
     (sym (ap count c.tys-n.ensures ∙ list_count m.ty c.tys-n.result.now)) (sym (ap count c.tys-m.ensures ∙ list_count m.ty c.tys-m.result.now)) c.if-n-m.true c.unlike_lengths.ensures.sizes c.unlike_lengths.ensures.empty
 
-pub returns-in-Tuple-clause-alike : goal.returns-in-Tuple-clause-alike
-returns-in-Tuple-clause-alike g c =
+pub returns-else-n-m-clause-alike : goal.returns-else-n-m-clause-alike
+returns-else-n-m-clause-alike g c =
     let m = g.I.Interner.meaning c.args.cx.now in
     over_parts (c.ty_kind-left.ensures ∙ ap (kind_tree m) c.in-Tuple.is) (c.ty_kind-right.ensures ∙ ap (kind_tree m) c.in-Tuple-right.is) (ap count c.tys-n.ensures ∙ list_count m.ty c.tys-n.result.now ∙ c.if-n-m.false ∙ sym (ap count c.tys-m.ensures ∙ list_count m.ty c.tys-m.result.now))
 
@@ -83,8 +83,8 @@ returns-then-ne-clause-errors g c =
     let differ : c.in-RawPtr.mutability ≢ c.in-RawPtr-right.other = (λ e. (let t = c.if-ne.true in let h = c.ne.ensures in let k = c.if-ne.ensures in search rules)) in
     pointer_mutability (c.ty_kind-left.ensures ∙ ap (kind_tree m) c.in-RawPtr.is) (c.ty_kind-right.ensures ∙ ap (kind_tree m) c.in-RawPtr-right.is) differ
 
-pub returns-in-RawPtr-clause-alike : goal.returns-in-RawPtr-clause-alike
-returns-in-RawPtr-clause-alike g c =
+pub returns-else-ne-clause-alike : goal.returns-else-ne-clause-alike
+returns-else-ne-clause-alike g c =
     let m = g.I.Interner.meaning c.args.cx.now in
     let one : c.in-RawPtr.mutability ≡ c.in-RawPtr-right.other = (let t = c.if-ne.false in let h = c.ne.ensures in let k = c.if-ne.ensures in search rules) in
     over_parts (c.ty_kind-left.ensures ∙ ap (kind_tree m) c.in-RawPtr.is) (c.ty_kind-right.ensures ∙ ap (kind_tree m) c.in-RawPtr-right.is ∙ ap (λ u. node (raw_ptr u) (cons (m.ty c.in-RawPtr-right.field-0) nil)) (sym one)) refl
@@ -95,8 +95,8 @@ returns-then-ne-2-clause-errors g c =
     let differ : c.in-Ref.mutability ≢ c.in-Ref-right.other = (λ e. (let t = c.if-ne-2.true in let h = c.ne-in-Ref.ensures in let k = c.if-ne-2.ensures in search rules)) in
     mutability (c.ty_kind-left.ensures ∙ ap (kind_tree m) c.in-Ref.is) (c.ty_kind-right.ensures ∙ ap (kind_tree m) c.in-Ref-right.is) differ
 
-pub returns-in-Ref-clause-alike : goal.returns-in-Ref-clause-alike
-returns-in-Ref-clause-alike g c =
+pub returns-else-ne-2-clause-alike : goal.returns-else-ne-2-clause-alike
+returns-else-ne-2-clause-alike g c =
     let m = g.I.Interner.meaning c.args.cx.now in
     let one : c.in-Ref.mutability ≡ c.in-Ref-right.other = (let t = c.if-ne-2.false in let h = c.ne-in-Ref.ensures in let k = c.if-ne-2.ensures in search rules) in
     over_parts (c.ty_kind-left.ensures ∙ ap (kind_tree m) c.in-Ref.is) (c.ty_kind-right.ensures ∙ ap (kind_tree m) c.in-Ref-right.is ∙ ap (λ u. node (ref u) (cons (m.region c.in-Ref-right.field-0) (cons (m.ty c.in-Ref-right.field-1) nil))) (sym one)) refl
@@ -107,8 +107,8 @@ returns-then-parameter-other-clause-errors g c =
     let un = c.unlike-then-parameter-other in
     unlike_param m c.ty_kind-right.result c.args.a.now c.args.b.now un.result c.ty_kind-right.ensures un.ensures c.in-Param.parameter (c.ty_kind-left.ensures ∙ ap (kind_tree m) c.in-Param.is) (λ z e i. c.if-parameter-other.true (let h = sym e ∙ c.in-Param-right.is in let k : z.index ≡ c.in-Param-right.other.index = cc in i ∙ k))
 
-pub returns-in-Param-clause-alike : goal.returns-in-Param-clause-alike
-returns-in-Param-clause-alike g c =
+pub returns-else-parameter-other-clause-alike : goal.returns-else-parameter-other-clause-alike
+returns-else-parameter-other-clause-alike g c =
     let m = g.I.Interner.meaning c.args.cx.now in
     parameters (c.ty_kind-left.ensures ∙ ap (kind_tree m) c.in-Param.is) (c.ty_kind-right.ensures ∙ ap (kind_tree m) c.in-Param-right.is) (ap (λ i. type_param i 0) c.if-parameter-other.false)
 
@@ -120,8 +120,8 @@ returns-then-ne-3-clause-errors g c =
     unlike_alone m c.ty_kind-left.result c.args.a.now c.args.b.now c.unlike-then-ne-3.result c.ty_kind-left.ensures differ c.unlike-then-ne-3.ensures
     c.in_default.ensures.is_none c.in_default-left.not-Slice c.in_default-left.not-Array c.in_default-left.not-Tuple c.in_default-left.not-RawPtr c.in_default-left.not-Ref c.in_default-left.not-Param
 
-pub returns-clause-alike : goal.returns-clause-alike
-returns-clause-alike g c =
+pub returns-else-ne-3-clause-alike : goal.returns-else-ne-3-clause-alike
+returns-else-ne-3-clause-alike g c =
     let m = g.I.Interner.meaning c.args.cx.now in
     let one : m.ty c.args.a.now ≡ m.ty c.args.b.now = (g.met.I.Interner.same_ty c.args.cx.now c.args.a.now c.args.b.now c.requires.a_known c.requires.b_known).0
     (let t = c.if-ne-3.false in let h = c.ne-in_default-left.ensures in let k = c.if-ne-3.ensures in search rules) in

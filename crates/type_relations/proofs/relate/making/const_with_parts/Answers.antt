@@ -41,8 +41,8 @@ mk_const-requires-in-Value g c =
     value_known (p.ty c.in-Value.ty) (p.valtree c.in_ok-value-in-Value.value) (subst (λ z. IsTrue (known z)) (sym same) sure)
     second.sure
 
-pub returns-in-Value : goal.returns-in-Value
-returns-in-Value g c =
+pub returns-in_ok-value-in-Value : goal.returns-in_ok-value-in-Value
+returns-in_ok-value-in-Value g c =
     let m = g.I.Interner.meaning c.args.cx.now in
     let xs = c.args.parts.now in
     let k = m.const_ c.args.constant.now in

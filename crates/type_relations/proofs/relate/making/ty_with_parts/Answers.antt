@@ -151,8 +151,8 @@ tys_of-requires g c =
     let fits = c.requires.fits in
     all_sorts type_sort type_term xs (m.tys c.in-Tuple.field-0) (subst (λ z. Fit xs (parts_of z)) e fits) is.1
 
-pub returns-in-Tuple : goal.returns-in-Tuple
-returns-in-Tuple g c =
+pub returns-in_ok-members-in-Tuple-2 : goal.returns-in_ok-members-in-Tuple-2
+returns-in_ok-members-in-Tuple-2 g c =
     let m = g.I.Interner.meaning c.args.cx.now in
     let xs = c.args.parts.now in
     let t = m.ty c.args.ty.now in

@@ -7,5 +7,5 @@ returns-in_default-right g c = noted_nothing tt (g.R.TypeRelation.state c.args.r
 pub returns-in_default-right-2 : goal.returns-in_default-right-2
 returns-in_default-right-2 g c = noted_nothing tt (g.R.TypeRelation.state c.args.r.now)
 
-pub returns : goal.returns
-returns g c = noted_nothing tt (g.R.TypeRelation.state c.args.r.now)
+pub returns-in_default : goal.returns-in_default
+returns-in_default g c = noted_nothing tt (g.R.TypeRelation.state c.args.r.now)

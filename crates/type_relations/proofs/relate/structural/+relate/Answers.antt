@@ -106,8 +106,8 @@ consts-returns-in_err-relate_with_variance-in-Again g t c =
     subst (λ z. Related M r p r.ambient a b (p.meaning).const_ z) (sym failed)
     (again_refused M a b k l x y v step.passes step.verdict step.exact (arg_tree p.meaning) (p.meaning).const_ c.in_err-relate_with_variance-in-Again.field-0.0 inner)
 
-pub consts-returns : goal.consts-returns
-consts-returns g t c =
+pub consts-returns-in_ok-relate_with_variance-in-Again : goal.consts-returns-in_ok-relate_with_variance-in-Again
+consts-returns-in_ok-relate_with_variance-in-Again g t c =
     let r = g.R.TypeRelation.state c.args.r.now in
     let M = g.R.TypeRelation.manner in
     let a = (r.meaning).const_ c.args.a.now in

@@ -1,3 +1,4 @@
+use Rattle.std.proofs.Common.{refl}
 use Rattle.type_relations.specs.Parts.{IsFormedConst}
 use Rattle.type_relations.proofs.Comparing.{formed_const}
 use Rattle.type_relations.proofs.Passing.{parts_left}

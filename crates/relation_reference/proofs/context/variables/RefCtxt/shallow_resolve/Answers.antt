@@ -1,4 +1,4 @@
-use Rattle.std.proofs.Common.{◌≡◌, sym, ap, ◌∙◌, subst, IsTrue}
+use Rattle.std.proofs.Common.{refl, ◌≡◌, sym, ap, ◌∙◌, subst, IsTrue}
 use Rattle.relation_terms.specs.Trees.{known}
 use Rattle.type_relations.specs.Errors.{itself}
 use Rattle.type_relations.proofs.ReadAs.{read_resolves}

@@ -1,3 +1,4 @@
+use Rattle.std.proofs.Common.{refl}
 use Rattle.type_relations.specs.Parts.{IsFormed}
 use Rattle.relation_reference.specs.Plain.{plain_state, plain_manner}
 use Rattle.type_relations.proofs.Passing.{parts_left}
