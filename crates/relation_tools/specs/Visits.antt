@@ -7,13 +7,6 @@ use Rattle.relation_terms.specs.Heads.{BoundKind}
 use Rattle.relation_terms.specs.Heads.{Atom, type_param, type_error, fresh_type, fresh_int, fresh_float, Head, alias}
 use Rattle.relation_terms.specs.Heads.{Leaf, variable, bound, atom}
 use Rattle.relation_terms.specs.Trees.{Tree, leaf, node, bind, nil, cons}
-use Rattle.relation_terms.specs.Meaning.{Meaning}
-use Rattle.relation_tools.specs.declared.error.ExpectedFound.{ExpectedFound}
-use Rattle.relation_tools.specs.declared.error.TypeError.{TypeError}
-use Rattle.relation_tools.specs.declared.error.TypeError.TheVariants.{ArraySize, RegionsDoesNotOutlive}
-use Rattle.relation_tools.specs.declared.error.TypeError.TheVariants.{RegionsInsufficientlyPolymorphic, Sorts}
-use Rattle.relation_tools.specs.declared.error.TypeError.TheVariants.{ArgumentSorts, CyclicTy, CyclicConst}
-use Rattle.relation_tools.specs.declared.error.TypeError.TheVariants.{ConstMismatch}
 use Rattle.relation_tools.specs.declared.visit.Visit.{Visit}
 use Rattle.relation_tools.specs.declared.visit.Visit.TheVariants.{Enter, Skip, Stop}
 
@@ -62,23 +55,6 @@ pub data Walks {V : Type 0} (visits : V → ℕ → Tree → V → Visit → Typ
       Walks visits d v (cons t ts) w (Break tt)
   next_part : {d : ℕ} {v w x : V} {t ts : Tree} {r : Flow} → Walks visits d v t w (Continue tt) →
       Walks visits d w ts x r → Walks visits d v (cons t ts) x r
-
--- The trees of both of a pair, the expected one first.
-abbrev pub pair_tree : {A : Type 0} → (A → Tree) → ExpectedFound A → Tree
-pair_tree tree pair = cons (tree pair.expected) (cons (tree pair.found) nil)
-
--- What a visit of an error goes over: the types, regions and constants that it names, in order. Lists of existential
--- predicates can't be read yet, and are left out.
-abbrev pub error_tree : {Key Id Name : Type 0} → Meaning Key Id Name → TypeError Key Id Name → Tree
-error_tree m (ArraySize sizes) = pair_tree m.const_ sizes
-error_tree m (RegionsDoesNotOutlive r s) = cons (m.region r) (cons (m.region s) nil)
-error_tree m (RegionsInsufficientlyPolymorphic b r) = m.region r
-error_tree m (Sorts types) = pair_tree m.ty types
-error_tree m (ArgumentSorts types i) = pair_tree m.ty types
-error_tree m (CyclicTy t) = m.ty t
-error_tree m (CyclicConst c) = m.const_ c
-error_tree m (ConstMismatch constants) = pair_tree m.const_ constants
-error_tree m e = nil
 
 -- Some leaf has a property, which is told how many binders stand around the leaf, `depth` of them around the tree.
 abbrev pub has_leaf : (ℕ → Leaf → Bool) → ℕ → Tree → Bool

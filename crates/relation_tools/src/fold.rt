@@ -4,6 +4,7 @@ ghost use Rattle.relation_terms.specs.Trees.{Tree, known};
 ghost use Rattle.relation_terms.specs.Meaning.{Meaning, Extends};
 ghost use Rattle.relation_tools.specs.Folds.{Steps, folded, answered, KnownAnswer};
 
+use crate::tree::HasTree;
 use relation_terms::terms::{Const, Interner, OutOfMemory, Region, Ty};
 
 mod foldable;
@@ -83,26 +84,19 @@ pub trait TypeFolder<I: Interner> {
 }
 
 /// What has types, regions or constants: a key of a term, or a form over keys.
-pub trait TypeFoldable<I: Interner>: PartialEq {
-    // The tree, or the list of trees, that it means.
-    ghost tree: { Meaning I.Key I.Id I.Name → Self → Tree };
-
+pub trait TypeFoldable<I: Interner>: HasTree<I> + PartialEq {
     /// What the folder makes of it. Each type, region and constant that the folder replaces stands as the folder gave
     /// it, and all others over their folded parts. Where that is the term as it was, the answer equals it.
     ///
     /// Answers `OutOfMemory` where a growth was refused, in the folder too.
     fn fold_with<F: TypeFolder<I>>(&self, cx: &mut I, folder: &mut F) -> Result<Self, OutOfMemory>
-        requires known { IsTrue (known (tree (I.meaning cx.old) self.now)) }
+        requires known { IsTrue (known (Self.tree (I.meaning cx.old) self.now)) }
         requires ready { F.ready (I.meaning cx.old) folder.old }
         ensures steps { Steps F.ready F.replaces (I.meaning cx.old) folder.old (I.meaning cx.new) folder.new }
-        ensures sure { IfOk result (λ x. IsTrue (known (tree (I.meaning cx.new) x))) }
-        ensures made { IfOk result (λ x. tree (I.meaning cx.new) x ≡
-            folded (F.replaces (I.meaning cx.old) folder.old) 0 (tree (I.meaning cx.old) self.now)) }
+        ensures sure { IfOk result (λ x. IsTrue (known (Self.tree (I.meaning cx.new) x))) }
+        ensures made { IfOk result (λ x. Self.tree (I.meaning cx.new) x ≡
+            folded (F.replaces (I.meaning cx.old) folder.old) 0 (Self.tree (I.meaning cx.old) self.now)) }
         ensures same { IfOk result (λ x.
-            folded (F.replaces (I.meaning cx.old) folder.old) 0 (tree (I.meaning cx.old) self.now) ≡
-            tree (I.meaning cx.old) self.now → IsTrue (Self.eq x self.now)) };
-
-    // What is known keeps its tree while the interner grows.
-    ghost stays: { (m n : Meaning I.Key I.Id I.Name) → Extends m n → (x : Self) → IsTrue (known (tree m x)) → tree n x ≡
-        tree m x };
+            folded (F.replaces (I.meaning cx.old) folder.old) 0 (Self.tree (I.meaning cx.old) self.now) ≡
+            Self.tree (I.meaning cx.old) self.now → IsTrue (Self.eq x self.now)) };
 }

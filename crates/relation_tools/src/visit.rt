@@ -4,7 +4,6 @@
 //! walk is one for all visitors, and what it does follows from what the visitor does at each tree.
 ghost use Rattle.std.specs.Prelude.{ℕ, IsTrue};
 ghost use Rattle.relation_terms.specs.Trees.{Tree, known};
-ghost use Rattle.relation_terms.specs.Meaning.{Meaning};
 ghost use Rattle.relation_tools.specs.Visits.{Walks, parts};
 ghost use Rattle.relation_tools.specs.declared.visit.Visit.{Visit};
 
@@ -12,6 +11,7 @@ mod flags;
 mod visitable;
 mod walk;
 
+use crate::tree::HasTree;
 pub use flags::{has_escaping_bound_vars, has_non_region_infer, is_known_rigid};
 use relation_terms::terms::{Const, Interner, Region, Ty};
 use std::ops::ControlFlow;
@@ -55,14 +55,12 @@ pub trait TypeVisitor<I: Interner> {
         ensures { visits cx.now self.old depth ((I.meaning cx.now).const_ constant.now) self.new result };
 }
 
-/// What a visitor can go over. The ghost member `tree` is what is gone over.
-pub trait TypeVisitable<I: Interner> {
-    ghost tree: { Meaning I.Key I.Id I.Name → Self → Tree };
-
+/// What a visitor can go over: its tree.
+pub trait TypeVisitable<I: Interner>: HasTree<I> {
     /// Goes over all of it, in order, until the visitor stops: `Break` where it did. The interner knows all its terms.
     fn visit_with<V: TypeVisitor<I>>(&self, cx: &I, visitor: &mut V) -> ControlFlow<()>
-        requires { IsTrue (known (tree (I.meaning cx.now) self.now)) }
-        ensures { Walks (V.visits cx.now) 0 visitor.old (tree (I.meaning cx.now) self.now) visitor.new result };
+        requires { IsTrue (known (Self.tree (I.meaning cx.now) self.now)) }
+        ensures { Walks (V.visits cx.now) 0 visitor.old (Self.tree (I.meaning cx.now) self.now) visitor.new result };
 }
 
 /// A term that has parts.

@@ -7,7 +7,7 @@ use Rattle.relation_tools.proofs.visit.visitable.ExpectedFoundTypeVisitable.visi
 pub returns-in_err-visit_with : goal.returns-in_err-visit_with
 returns-in_err-visit_with g c =
     let visits = g.V.TypeVisitor.visits c.args.cx.now in
-    let tree = g.T.TypeVisitable.tree (g.I.Interner.meaning c.args.cx.now) in
+    let tree = g.T.HasTree.tree (g.I.Interner.meaning c.args.cx.now) in
     let pair = c.args.self.now in
     let broke : c.visit_with.result ≡ Break tt = search rules in
     over_first visits 0 c.args.visitor.now c.visit_with.new.visitor (tree pair.expected) (cons (tree pair.found) nil)
@@ -16,7 +16,7 @@ returns-in_err-visit_with g c =
 pub returns : goal.returns
 returns g c =
     let visits = g.V.TypeVisitor.visits c.args.cx.now in
-    let tree = g.T.TypeVisitable.tree (g.I.Interner.meaning c.args.cx.now) in
+    let tree = g.T.HasTree.tree (g.I.Interner.meaning c.args.cx.now) in
     let pair = c.args.self.now in
     let went : c.visit_with.result ≡ Continue tt = search rules in
     over_two visits 0 c.args.visitor.now c.visit_with.new.visitor c.visit_with-2.new.visitor (tree pair.expected)

@@ -1,7 +1,8 @@
 use Rattle.std.proofs.Common.{sym, subst}
 use Rattle.std.specs.declared.ops.ControlFlow.TheVariants.{Continue}
 use Rattle.relation_terms.specs.Trees.{cons, nil}
-use Rattle.relation_tools.specs.Visits.{error_tree, Walks, no_part}
+use Rattle.relation_tools.specs.Faults.{error_tree}
+use Rattle.relation_tools.specs.Visits.{Walks, no_part}
 use Rattle.relation_tools.proofs.Errors.{names_nothing}
 use Rattle.relation_tools.proofs.Visiting.{over_two, over_first}
 use Rattle.relation_tools.proofs.visit.visitable.TypeErrorKeyIdNameTypeVisitable.visit_with.Goals as goal
