@@ -12,8 +12,7 @@ use Rattle.relation_tools.specs.declared.error.TypeError.TheVariants.{ArraySize,
 use Rattle.relation_tools.specs.declared.error.TypeError.TheVariants.{RegionsInsufficientlyPolymorphic, Sorts}
 use Rattle.relation_tools.specs.declared.error.TypeError.TheVariants.{ArgumentSorts, CyclicTy, CyclicConst}
 use Rattle.relation_tools.specs.declared.error.TypeError.TheVariants.{ConstMismatch}
-use Rattle.relation_tools.specs.Faults.{KnowsError}
-use Rattle.relation_tools.specs.Visits.{error_tree}
+use Rattle.relation_tools.specs.Faults.{KnowsError, error_tree}
 
 -- The errors that name no term.
 pub names_nothing : {Key Id Name : Type 0} (m : Meaning Key Id Name) (e : TypeError Key Id Name) →

@@ -24,26 +24,27 @@ use Rattle.relation_terms.proofs.Stays.{extends_on, stays_same, stays_list, know
 use Rattle.relation_tools.specs.Folds.{Steps, asks, put_or, folded, folded_parts}
 
 -- Folders that put the same make the same.
-pub folded_alike : (f g : Tree → Option Tree) → ((t : Tree) → g t ≡ f t) → (t : Tree) → folded g t ≡ folded f t
-folded_alike f g e (leaf l) = ap (λ x. put_or (asks (leaf_sort l)) x (leaf l)) (e (leaf l))
-folded_alike f g e (node h ts) =
-    ap₂ (λ x y. put_or (asks (head_sort h)) x (node h y)) (e (node h ts)) (folded_alike f g e ts)
-folded_alike f g e (bind ks t) = ap (λ x. bind ks x) (folded_alike f g e t)
-folded_alike f g e nil = refl
-folded_alike f g e (cons t ts) = ap₂ (λ x y. cons x y) (folded_alike f g e t) (folded_alike f g e ts)
+pub folded_alike : (f g : ℕ → Tree → Option Tree) → ((d : ℕ) (t : Tree) → g d t ≡ f d t) → (d : ℕ) (t : Tree) →
+    folded g d t ≡ folded f d t
+folded_alike f g e d (leaf l) = ap (λ x. put_or (asks (leaf_sort l)) x (leaf l)) (e d (leaf l))
+folded_alike f g e d (node h ts) =
+    ap₂ (λ x y. put_or (asks (head_sort h)) x (node h y)) (e d (node h ts)) (folded_alike f g e d ts)
+folded_alike f g e d (bind ks t) = ap (λ x. bind ks x) (folded_alike f g e (suc d) t)
+folded_alike f g e d nil = refl
+folded_alike f g e d (cons t ts) = ap₂ (λ x y. cons x y) (folded_alike f g e d t) (folded_alike f g e d ts)
 
 -- What is made later of a tree that stayed is what was made of it first.
-pub folded_later : (f g : Tree → Option Tree) → ((t : Tree) → g t ≡ f t) → (t u : Tree) → u ≡ t →
-    folded g u ≡ folded f t
-folded_later f g e t u p = ap (folded g) p ∙ folded_alike f g e t
+pub folded_later : (f g : ℕ → Tree → Option Tree) → ((d : ℕ) (t : Tree) → g d t ≡ f d t) → (d : ℕ) (t u : Tree) →
+    u ≡ t → folded g d u ≡ folded f d t
+folded_later f g e d t u p = ap (folded g d) p ∙ folded_alike f g e d t
 
-pub parts_later : (f g : Tree → Option Tree) → ((t : Tree) → g t ≡ f t) → (t u : Tree) → u ≡ t →
-    folded_parts g u ≡ folded_parts f t
-parts_later f g e t u p = ap (folded_parts g) p ∙ parts_alike t
+pub parts_later : (f g : ℕ → Tree → Option Tree) → ((d : ℕ) (t : Tree) → g d t ≡ f d t) → (d : ℕ) (t u : Tree) →
+    u ≡ t → folded_parts g d u ≡ folded_parts f d t
+parts_later f g e d t u p = ap (folded_parts g d) p ∙ parts_alike t
   where
-    parts_alike : (t : Tree) → folded_parts g t ≡ folded_parts f t
+    parts_alike : (t : Tree) → folded_parts g d t ≡ folded_parts f d t
     parts_alike (leaf l) = refl
-    parts_alike (node h ts) = ap (λ x. node h x) (folded_alike f g e ts)
+    parts_alike (node h ts) = ap (λ x. node h x) (folded_alike f g e d ts)
     parts_alike (bind ks t) = refl
     parts_alike nil = refl
     parts_alike (cons t ts) = refl
@@ -72,51 +73,53 @@ no_region_head : (h : Head) → Admits region_sort (head_sort h) → ⊥
 no_region_head array p = p
 no_region_head h p = p
 
-pub region_left : (f : Tree → Option Tree) (t : Tree) → IsTerm region_sort t → f t ≡ None → folded f t ≡ t
-region_left f (leaf l) h e = left (asks (leaf_sort l)) (f (leaf l)) (leaf l) e
-region_left f (node g ts) h e = absurd (no_region_head g h.0)
-region_left f t h e = absurd h
+pub region_left : (f : ℕ → Tree → Option Tree) (d : ℕ) (t : Tree) → IsTerm region_sort t → f d t ≡ None →
+    folded f d t ≡ t
+region_left f d (leaf l) h e = left (asks (leaf_sort l)) (f d (leaf l)) (leaf l) e
+region_left f d (node g ts) h e = absurd (no_region_head g h.0)
+region_left f d t h e = absurd h
 
-pub folded_put : (s : Sort) → IsTrue (asks s) → (f : Tree → Option Tree) (t by : Tree) → IsTerm s t → f t ≡ Some by →
-    folded f t ≡ by
-folded_put s a f (leaf l) by h e =
-    put (asks (leaf_sort l)) (f (leaf l)) (leaf l) by (asks_of s a (leaf_sort l) h) e
-folded_put s a f (node g ts) by h e =
-    put (asks (head_sort g)) (f (node g ts)) (node g (folded f ts)) by (asks_of s a (head_sort g) h.0) e
-folded_put s a f t by h e = absurd h
+pub folded_put : (s : Sort) → IsTrue (asks s) → (f : ℕ → Tree → Option Tree) (d : ℕ) (t by : Tree) → IsTerm s t →
+    f d t ≡ Some by → folded f d t ≡ by
+folded_put s a f d (leaf l) by h e =
+    put (asks (leaf_sort l)) (f d (leaf l)) (leaf l) by (asks_of s a (leaf_sort l) h) e
+folded_put s a f d (node g ts) by h e =
+    put (asks (head_sort g)) (f d (node g ts)) (node g (folded f d ts)) by (asks_of s a (head_sort g) h.0) e
+folded_put s a f d t by h e = absurd h
 
-pub folded_left : (s : Sort) (f : Tree → Option Tree) (t : Tree) → IsTerm s t → f t ≡ None →
-    folded f t ≡ folded_parts f t
-folded_left s f (leaf l) h e = left (asks (leaf_sort l)) (f (leaf l)) (leaf l) e
-folded_left s f (node g ts) h e = left (asks (head_sort g)) (f (node g ts)) (node g (folded f ts)) e
-folded_left s f t h e = absurd h
+pub folded_left : (s : Sort) (f : ℕ → Tree → Option Tree) (d : ℕ) (t : Tree) → IsTerm s t → f d t ≡ None →
+    folded f d t ≡ folded_parts f d t
+folded_left s f d (leaf l) h e = left (asks (leaf_sort l)) (f d (leaf l)) (leaf l) e
+folded_left s f d (node g ts) h e = left (asks (head_sort g)) (f d (node g ts)) (node g (folded f d ts)) e
+folded_left s f d t h e = absurd h
 
 -- One step after another, a growth of the interner after steps, and no step.
 module _ {Key Id Name F : Type 0} {Ready : Meaning Key Id Name → F → Type 0}
-    {puts : Meaning Key Id Name → F → Tree → Option Tree} where
+    {puts : Meaning Key Id Name → F → ℕ → Tree → Option Tree} where
   pub steps_on : {m n o : Meaning Key Id Name} {f g h : F} → Steps Ready puts m f n g → Steps Ready puts n g o h →
       Steps Ready puts m f o h
   steps_on s t = record {
     grown = extends_on s.grown t.grown;
     ready = t.ready;
-    kept = λ x. t.kept x ∙ s.kept x;
+    kept = λ d x. t.kept d x ∙ s.kept d x;
   }
 
   pub steps_grown : ((m n : Meaning Key Id Name) → Extends m n → (f : F) → Ready m f → Ready n f) →
-      ((m n : Meaning Key Id Name) → Extends m n → (f : F) → Ready m f → (t : Tree) → puts n f t ≡ puts m f t) →
+      ((m n : Meaning Key Id Name) → Extends m n → (f : F) → Ready m f → (d : ℕ) (t : Tree) →
+      puts n f d t ≡ puts m f d t) →
       {m n o : Meaning Key Id Name} {f g : F} → Steps Ready puts m f n g → Extends n o → Steps Ready puts m f o g
   steps_grown r p {n = n} {o = o} {g = g} s e = record {
     grown = extends_on s.grown e;
     ready = r n o e g s.ready;
-    kept = λ x. p n o e g s.ready x ∙ s.kept x;
+    kept = λ d x. p n o e g s.ready d x ∙ s.kept d x;
   }
 
   pub steps_none : (m : Meaning Key Id Name) (f : F) → Ready m f → Steps Ready puts m f m f
-  steps_none m f r = record { grown = stays_same m; ready = r; kept = λ x. refl }
+  steps_none m f r = record { grown = stays_same m; ready = r; kept = λ d x. refl }
 
 -- A list whose members are made of the members of another.
-pub record Listed {A : Type 0} (puts : Tree → Option Tree) (f g : A → Tree) (xs ys : List A) : Type 0 where
-  pub same : list_tree g ys ≡ folded puts (list_tree f xs)
+pub record Listed {A : Type 0} (puts : ℕ → Tree → Option Tree) (d : ℕ) (f g : A → Tree) (xs ys : List A) : Type 0 where
+  pub same : list_tree g ys ≡ folded puts d (list_tree f xs)
   pub sure : IsTrue (known (list_tree g ys))
 
 both_known : (a b : Bool) → IsTrue a → IsTrue b → IsTrue (a && b)
@@ -143,26 +146,26 @@ module _ {A : Type 0} (f : A → Tree) where
       let p = and_parts (known (f y)) (known (list_tree f xs)) h in
       both_known (known (f y)) (known (list_tree f (xs ++ x ∷ []))) p.0 (push_known xs x p.1 k)
 
-module _ {A : Type 0} (puts : Tree → Option Tree) (f g : A → Tree) where
+module _ {A : Type 0} (puts : ℕ → Tree → Option Tree) (d : ℕ) (f g : A → Tree) where
   -- A list and one more member, whose tree is made when the interner has grown to `h`.
-  pub listed_next : (h : A → Tree) (xs ys xs' ys' : List A) (x y : A) → Listed puts f g xs ys →
-      ((z : A) → IsTrue (known (g z)) → h z ≡ g z) → h y ≡ folded puts (f x) → IsTrue (known (h y)) →
-      xs' ≡ xs ++ x ∷ [] → ys' ≡ ys ++ y ∷ [] → Listed puts f h xs' ys'
+  pub listed_next : (h : A → Tree) (xs ys xs' ys' : List A) (x y : A) → Listed puts d f g xs ys →
+      ((z : A) → IsTrue (known (g z)) → h z ≡ g z) → h y ≡ folded puts d (f x) → IsTrue (known (h y)) →
+      xs' ≡ xs ++ x ∷ [] → ys' ≡ ys ++ y ∷ [] → Listed puts d f h xs' ys'
   listed_next h xs ys xs' ys' x y l s e k p q =
       let stay : list_tree h ys ≡ list_tree g ys = stays_list g h ys s l.sure in
       let sure : IsTrue (known (list_tree h ys)) = knows_as (list_tree g ys) (list_tree h ys) stay l.sure in
-      let more : Listed puts f h (xs ++ x ∷ []) (ys ++ y ∷ []) = record {
+      let more : Listed puts d f h (xs ++ x ∷ []) (ys ++ y ∷ []) = record {
         same = pushed h xs ys x y (stay ∙ l.same) e;
         sure = push_known h ys y sure k;
       } in
-      subst (λ zs. Listed puts f h zs ys') (sym p) (subst (λ zs. Listed puts f h (xs ++ x ∷ []) zs) (sym q) more)
+      subst (λ zs. Listed puts d f h zs ys') (sym p) (subst (λ zs. Listed puts d f h (xs ++ x ∷ []) zs) (sym q) more)
     where
-      pushed : (h : A → Tree) (xs ys : List A) (x y : A) → list_tree h ys ≡ folded puts (list_tree f xs) →
-          h y ≡ folded puts (f x) → list_tree h (ys ++ y ∷ []) ≡ folded puts (list_tree f (xs ++ x ∷ []))
+      pushed : (h : A → Tree) (xs ys : List A) (x y : A) → list_tree h ys ≡ folded puts d (list_tree f xs) →
+          h y ≡ folded puts d (f x) → list_tree h (ys ++ y ∷ []) ≡ folded puts d (list_tree f (xs ++ x ∷ []))
       pushed h [] [] x y e p = ap (λ z. cons z nil) p
       pushed h (u ∷ xs) (v ∷ ys) x y e p =
-          let head : h v ≡ folded puts (f u) = cc in
-          let tail : list_tree h ys ≡ folded puts (list_tree f xs) = cc in
+          let head : h v ≡ folded puts d (f u) = cc in
+          let tail : list_tree h ys ≡ folded puts d (list_tree f xs) = cc in
           ap₂ (λ z zs. cons z zs) head (pushed h xs ys x y tail p)
       pushed h xs ys x y e p = absurd (cc)
 
@@ -184,17 +187,17 @@ if_ok_both (Ok x) f p q = f x p q
 if_ok_both (Err e) f p q = p
 
 -- What is made of a form's parts.
-module _ (p : Tree → Option Tree) (h : Head) (w : Tree) where
-  pub list_made : (h' : Head) (ts us : Tree) → h' ≡ h → w ≡ node h ts → us ≡ folded p ts → node h' us ≡ folded_parts
-      p w
-  list_made h' ts us i e q = ap₂ (λ x y. node x y) i q ∙ ap (folded_parts p) (sym e)
+module _ (p : ℕ → Tree → Option Tree) (d : ℕ) (h : Head) (w : Tree) where
+  pub list_made : (h' : Head) (ts us : Tree) → h' ≡ h → w ≡ node h ts → us ≡ folded p d ts → node h' us ≡
+      folded_parts p d w
+  list_made h' ts us i e q = ap₂ (λ x y. node x y) i q ∙ ap (folded_parts p d) (sym e)
 
-  pub one_made : (t u : Tree) → w ≡ node h (cons t nil) → u ≡ folded p t → node h (cons u nil) ≡ folded_parts p w
-  one_made t u e q = ap (λ x. node h (cons x nil)) q ∙ ap (folded_parts p) (sym e)
+  pub one_made : (t u : Tree) → w ≡ node h (cons t nil) → u ≡ folded p d t → node h (cons u nil) ≡ folded_parts p d w
+  one_made t u e q = ap (λ x. node h (cons x nil)) q ∙ ap (folded_parts p d) (sym e)
 
-  pub two_made : (t u t' u' : Tree) → w ≡ node h (cons t (cons u nil)) → t' ≡ folded p t → u' ≡ folded p u →
-      node h (cons t' (cons u' nil)) ≡ folded_parts p w
-  two_made t u t' u' e q r = ap₂ (λ x y. node h (cons x (cons y nil))) q r ∙ ap (folded_parts p) (sym e)
+  pub two_made : (t u t' u' : Tree) → w ≡ node h (cons t (cons u nil)) → t' ≡ folded p d t → u' ≡ folded p d u →
+      node h (cons t' (cons u' nil)) ≡ folded_parts p d w
+  two_made t u t' u' e q r = ap₂ (λ x y. node h (cons x (cons y nil))) q r ∙ ap (folded_parts p d) (sym e)
 
 -- The second part of a form, when the first is folded.
 module _ (h : Head) (w : Tree) where
@@ -216,27 +219,27 @@ one_known {a = a} h = both_known a true h refl
 
 -- What is made of a part after the steps is what is made of it before them.
 pub later : {Key Id Name F : Type 0} {Ready : Meaning Key Id Name → F → Type 0}
-    {puts : Meaning Key Id Name → F → Tree → Option Tree} {m n : Meaning Key Id Name} {f g : F} →
-    Steps Ready puts m f n g → (t u v : Tree) → u ≡ t → v ≡ folded (puts n g) u → v ≡ folded (puts m f) t
-later {puts = puts} {m = m} {n = n} {f = f} {g = g} s t u v p q =
-    q ∙ folded_later (puts m f) (puts n g) s.kept t u p
+    {puts : Meaning Key Id Name → F → ℕ → Tree → Option Tree} {m n : Meaning Key Id Name} {f g : F} →
+    Steps Ready puts m f n g → (d : ℕ) (t u v : Tree) → u ≡ t → v ≡ folded (puts n g) d u → v ≡ folded (puts m f) d t
+later {puts = puts} {m = m} {n = n} {f = f} {g = g} s d t u v p q =
+    q ∙ folded_later (puts m f) (puts n g) s.kept d t u p
 
 -- What the steps before leave as it is, those after leave too.
 pub left_later : {Key Id Name F : Type 0} {Ready : Meaning Key Id Name → F → Type 0}
-    {puts : Meaning Key Id Name → F → Tree → Option Tree} {m n : Meaning Key Id Name} {f g : F} →
-    Steps Ready puts m f n g → (t u : Tree) → u ≡ t → folded (puts m f) t ≡ t → folded (puts n g) u ≡ u
-left_later {puts = puts} {m = m} {n = n} {f = f} {g = g} s t u p q =
-    folded_later (puts m f) (puts n g) s.kept t u p ∙ (q ∙ sym p)
+    {puts : Meaning Key Id Name → F → ℕ → Tree → Option Tree} {m n : Meaning Key Id Name} {f g : F} →
+    Steps Ready puts m f n g → (d : ℕ) (t u : Tree) → u ≡ t → folded (puts m f) d t ≡ t → folded (puts n g) d u ≡ u
+left_later {puts = puts} {m = m} {n = n} {f = f} {g = g} s d t u p q =
+    folded_later (puts m f) (puts n g) s.kept d t u p ∙ (q ∙ sym p)
 
 -- A type's form without parts is left as it is.
-module _ {Key Id Name : Type 0} (m : Meaning Key Id Name) (p : Tree → Option Tree) where
+module _ {Key Id Name : Type 0} (m : Meaning Key Id Name) (p : ℕ → Tree → Option Tree) (d : ℕ) where
   pub leaf_made : (k : TyKind Key Id Name) →
       ((d : _) (a : _) → k ≡ Adt d a → ⊥) → ((t : _) (c : _) → k ≡ Array t c → ⊥) → ((t : _) → k ≡ Slice t → ⊥) →
       ((t : _) (u : _) → k ≡ RawPtr t u → ⊥) → ((r : _) (t : _) (u : _) → k ≡ Ref r t u → ⊥) →
       ((d : _) (a : _) → k ≡ FnDef d a → ⊥) → ((d : _) (a : _) → k ≡ Closure d a → ⊥) →
       ((d : _) (a : _) → k ≡ CoroutineClosure d a → ⊥) → ((d : _) (a : _) → k ≡ Coroutine d a → ⊥) →
       ((d : _) (a : _) → k ≡ CoroutineWitness d a → ⊥) → ((ts : _) → k ≡ Tuple ts → ⊥) →
-      kind_tree m k ≡ folded_parts p (kind_tree m k)
+      kind_tree m k ≡ folded_parts p d (kind_tree m k)
   leaf_made TyBool a b c d e f g h i j l = refl
   leaf_made Char a b c d e f g h i j l = refl
   leaf_made (Int w) a b c d e f g h i j l = refl
@@ -261,7 +264,7 @@ module _ {Key Id Name : Type 0} (m : Meaning Key Id Name) (p : Tree → Option T
   leaf_made (Infer (TyVar v)) a b c d e f g h i j l = refl
 
   pub const_leaf_made : (k : ConstKind Key Name) → ((t : _) (v : _) → k ≡ Value t v → ⊥) →
-      ((x : _) (a : _) → k ≡ Expr x a → ⊥) → const_tree m k ≡ folded_parts p (const_tree m k)
+      ((x : _) (a : _) → k ≡ Expr x a → ⊥) → const_tree m k ≡ folded_parts p d (const_tree m k)
   const_leaf_made (ConstParam q) a b = refl
   const_leaf_made (ConstPlaceholder q) a b = refl
   const_leaf_made (Value t v) a b = absurd (a t v refl)

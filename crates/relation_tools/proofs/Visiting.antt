@@ -70,89 +70,89 @@ region_parts (leaf l) i = refl
 region_parts (node h ts) i = absurd (no_region_head h i.0)
 region_parts t i = absurd i
 
-module _ {V : Type 0} (visits : V → Tree → V → Visit → Type 0) where
+module _ {V : Type 0} (visits : V → ℕ → Tree → V → Visit → Type 0) (d : ℕ) where
   -- What comes of each answer of a visitor.
   pub when_entered : (v w x : V) (t : Tree) (a : Visit) (r : Flow) → is_visited t ≡ true → a ≡ Enter →
-      visits v t w a → Walks visits w (parts t) x r → Walks visits v t x r
+      visits v d t w a → Walks visits d w (parts t) x r → Walks visits d v t x r
   when_entered v w x t Enter r i e h p = entered i h p
   when_entered v w x t a r i e h p = absurd (cc)
 
-  pub when_skipped : (v w : V) (t : Tree) (a : Visit) → is_visited t ≡ true → a ≡ Skip → visits v t w a →
-      Walks visits v t w (Continue tt)
+  pub when_skipped : (v w : V) (t : Tree) (a : Visit) → is_visited t ≡ true → a ≡ Skip → visits v d t w a →
+      Walks visits d v t w (Continue tt)
   when_skipped v w t Skip i e h = skipped i h
   when_skipped v w t a i e h = absurd (cc)
 
-  pub when_stopped : (v w : V) (t : Tree) (a : Visit) → is_visited t ≡ true → a ≡ Stop → visits v t w a →
-      Walks visits v t w (Break tt)
+  pub when_stopped : (v w : V) (t : Tree) (a : Visit) → is_visited t ≡ true → a ≡ Stop → visits v d t w a →
+      Walks visits d v t w (Break tt)
   when_stopped v w t Stop i e h = stopped i h
   when_stopped v w t a i e h = absurd (cc)
 
   pub when_region_left : (v w : V) (t : Tree) (a : Visit) → IsTerm region_sort t → (a ≡ Enter) ⊎ (a ≡ Skip) →
-      visits v t w a → Walks visits v t w (Continue tt)
+      visits v d t w a → Walks visits d v t w (Continue tt)
   when_region_left v w t a i (inl e) h =
       when_entered v w w t a (Continue tt) (visited_region t i) e h
-      (subst (λ ts. Walks visits w ts w (Continue tt)) (region_parts t i) no_part)
+      (subst (λ ts. Walks visits d w ts w (Continue tt)) (region_parts t i) no_part)
   when_region_left v w t a i (inr e) h = when_skipped v w t a (visited_region t i) e h
 
   -- Over no part, one part, or two.
-  pub over_none : (v : V) (r : Flow) → r ≡ Continue tt → Walks visits v nil v r
-  over_none v r e = subst (λ s. Walks visits v nil v s) (sym e) no_part
+  pub over_none : (v : V) (r : Flow) → r ≡ Continue tt → Walks visits d v nil v r
+  over_none v r e = subst (λ s. Walks visits d v nil v s) (sym e) no_part
 
-  pub over_one : (v w : V) (t : Tree) (r : Flow) → Walks visits v t w r → Walks visits v (cons t nil) w r
+  pub over_one : (v w : V) (t : Tree) (r : Flow) → Walks visits d v t w r → Walks visits d v (cons t nil) w r
   over_one v w t (Continue tt) p = next_part p no_part
   over_one v w t (Break tt) p = last_part p
 
-  pub over_two : (v w x : V) (t u : Tree) (q r : Flow) → Walks visits v t w q → q ≡ Continue tt →
-      Walks visits w u x r → Walks visits v (cons t (cons u nil)) x r
+  pub over_two : (v w x : V) (t u : Tree) (q r : Flow) → Walks visits d v t w q → q ≡ Continue tt →
+      Walks visits d w u x r → Walks visits d v (cons t (cons u nil)) x r
   over_two v w x t u q r p e o =
-      next_part (subst (λ s. Walks visits v t w s) e p) (over_one w x u r o)
+      next_part (subst (λ s. Walks visits d v t w s) e p) (over_one w x u r o)
 
   -- Over the type of a value.
-  pub over_type : (v w : V) (t : Tree) (r : Flow) → Walks visits v t w r →
-      Walks visits v (node value_type (cons t nil)) w r
+  pub over_type : (v w : V) (t : Tree) (r : Flow) → Walks visits d v t w r →
+      Walks visits d v (node value_type (cons t nil)) w r
   over_type v w t r p = passed refl (over_one v w t r p)
 
   -- Over what a value is made of.
-  pub over_branches : (v w : V) (ts : Tree) (r : Flow) → Walks visits v ts w r →
-      Walks visits v (node value_branch ts) w r
+  pub over_branches : (v w : V) (ts : Tree) (r : Flow) → Walks visits d v ts w r →
+      Walks visits d v (node value_branch ts) w r
   over_branches v w ts r p = passed refl p
 
   -- The first part is the last.
-  pub over_first : (v w : V) (t ts : Tree) (q r : Flow) → Walks visits v t w q → q ≡ Break tt → r ≡ Break tt →
-      Walks visits v (cons t ts) w r
+  pub over_first : (v w : V) (t ts : Tree) (q r : Flow) → Walks visits d v t w q → q ≡ Break tt → r ≡ Break tt →
+      Walks visits d v (cons t ts) w r
   over_first v w t ts q r p e o =
-      subst (λ s. Walks visits v (cons t ts) w s) (sym o) (last_part (subst (λ s. Walks visits v t w s) e p))
+      subst (λ s. Walks visits d v (cons t ts) w s) (sym o) (last_part (subst (λ s. Walks visits d v t w s) e p))
 
   -- Over the parts of a form that is read, or over the form.
   pub over_form : {F : Type 0} (tree : F → Tree) (v w : V) (t : Tree) (f g : F) (r : Flow) → t ≡ tree f → f ≡ g →
-      Walks visits v (tree g) w r → Walks visits v t w r
-  over_form tree v w t f g r e i p = subst (λ u. Walks visits v u w r) (sym (e ∙ ap tree i)) p
+      Walks visits d v (tree g) w r → Walks visits d v t w r
+  over_form tree v w t f g r e i p = subst (λ u. Walks visits d v u w r) (sym (e ∙ ap tree i)) p
 
   pub over_parts : {F : Type 0} (tree : F → Tree) (v w : V) (t : Tree) (f g : F) (r : Flow) → t ≡ tree f → f ≡ g →
-      Walks visits v (parts (tree g)) w r → Walks visits v (parts t) w r
-  over_parts tree v w t f g r e i p = subst (λ u. Walks visits v (parts u) w r) (sym (e ∙ ap tree i)) p
+      Walks visits d v (parts (tree g)) w r → Walks visits d v (parts t) w r
+  over_parts tree v w t f g r e i p = subst (λ u. Walks visits d v (parts u) w r) (sym (e ∙ ap tree i)) p
 
   module _ {K : Type 0} (f : K → Tree) (xs : List K) (i : ℕ) where
     -- Over the rest of a list: by its first element and what comes after that, or no further than the first.
-    pub over_rest : (v u w : V) (x : K) (q r : Flow) → i < length xs → x ≡ get_or xs i x → Walks visits v (f x) u q →
-        q ≡ Continue tt → Walks visits u (list_tree f (drop (i + 1) xs)) w r →
-        Walks visits v (list_tree f (drop i xs)) w r
+    pub over_rest : (v u w : V) (x : K) (q r : Flow) → i < length xs → x ≡ get_or xs i x → Walks visits d v (f x) u q →
+        q ≡ Continue tt → Walks visits d u (list_tree f (drop (i + 1) xs)) w r →
+        Walks visits d v (list_tree f (drop i xs)) w r
     over_rest v u w x q r h e p o n =
         let more : drop i xs ≡ x ∷ drop (i + 1) xs =
         drop_more xs i x h ∙ ap (λ y. y ∷ drop (i + 1) xs) (sym e) in
-        subst (λ ys. Walks visits v (list_tree f ys) w r) (sym more)
-        (next_part (subst (λ s. Walks visits v (f x) u s) o p) n)
+        subst (λ ys. Walks visits d v (list_tree f ys) w r) (sym more)
+        (next_part (subst (λ s. Walks visits d v (f x) u s) o p) n)
 
-    pub over_last : (v u : V) (x : K) (q r : Flow) → i < length xs → x ≡ get_or xs i x → Walks visits v (f x) u q →
-        q ≡ Break tt → r ≡ Break tt → Walks visits v (list_tree f (drop i xs)) u r
+    pub over_last : (v u : V) (x : K) (q r : Flow) → i < length xs → x ≡ get_or xs i x → Walks visits d v (f x) u q →
+        q ≡ Break tt → r ≡ Break tt → Walks visits d v (list_tree f (drop i xs)) u r
     over_last v u x q r h e p o n =
         let more : drop i xs ≡ x ∷ drop (i + 1) xs =
         drop_more xs i x h ∙ ap (λ y. y ∷ drop (i + 1) xs) (sym e) in
-        subst (λ ys. Walks visits v (list_tree f ys) u r) (sym more)
+        subst (λ ys. Walks visits d v (list_tree f ys) u r) (sym more)
         (over_first v u (f x) (list_tree f (drop (i + 1) xs)) q r p o n)
 
-    pub over_end : (v : V) → length xs ≤ i → Walks visits v (list_tree f (drop i xs)) v (Continue tt)
-    over_end v h = subst (λ ys. Walks visits v (list_tree f ys) v (Continue tt)) (sym (drop_all i xs h)) no_part
+    pub over_end : (v : V) → length xs ≤ i → Walks visits d v (list_tree f (drop i xs)) v (Continue tt)
+    over_end v h = subst (λ ys. Walks visits d v (list_tree f ys) v (Continue tt)) (sym (drop_all i xs h)) no_part
 
 -- Forms of types and of constants that have no parts.
 abbrev pub IsLeafKind : {Key Id Name : Type 0} → TyKind Key Id Name → Type 0
@@ -188,16 +188,17 @@ module _ {Key Id Name : Type 0} (m : Meaning Key Id Name) where
   leaf_const f (inl p) = ap (λ g. parts (const_tree m g)) p.1
   leaf_const f (inr p) = ap (λ g. parts (const_tree m g)) p.1
 
-module _ {V : Type 0} (visits : V → Tree → V → Visit → Type 0) {Key Id Name : Type 0} (m : Meaning Key Id Name) where
+module _ {V : Type 0} (visits : V → ℕ → Tree → V → Visit → Type 0) (d : ℕ) {Key Id Name : Type 0}
+    (m : Meaning Key Id Name) where
   pub no_parts_of_type : (v : V) (t : Tree) (f : TyKind Key Id Name) (r : Flow) → t ≡ kind_tree m f → IsLeafKind f →
-      r ≡ Continue tt → Walks visits v (parts t) v r
+      r ≡ Continue tt → Walks visits d v (parts t) v r
   no_parts_of_type v t f r e l o =
-      subst (λ ts. Walks visits v ts v r) (sym (ap parts e ∙ leaf_kind m f l)) (over_none visits v r o)
+      subst (λ ts. Walks visits d v ts v r) (sym (ap parts e ∙ leaf_kind m f l)) (over_none visits d v r o)
 
   pub no_parts_of_const : (v : V) (t : Tree) (f : ConstKind Key Name) (r : Flow) → t ≡ const_tree m f →
-      IsLeafConst f → r ≡ Continue tt → Walks visits v (parts t) v r
+      IsLeafConst f → r ≡ Continue tt → Walks visits d v (parts t) v r
   no_parts_of_const v t f r e l o =
-      subst (λ ts. Walks visits v ts v r) (sym (ap parts e ∙ leaf_const m f l)) (over_none visits v r o)
+      subst (λ ts. Walks visits d v ts v r) (sym (ap parts e ∙ leaf_const m f l)) (over_none visits d v r o)
 
 -- The parts of a list that a walk has before it.
 pub part_known : {K : Type 0} (f : K → Tree) (xs : List K) (i : ℕ) (d : K) → i < length xs →

@@ -1,7 +1,8 @@
 -- What errors are about, and what an interner knows of the terms that an error names.
-use Rattle.std.specs.Prelude.{IsTrue, Result, Ok, Err}
-use Rattle.relation_terms.specs.Trees.{Tree, known}
-use Rattle.relation_terms.specs.Meaning.{Meaning}
+use Rattle.std.specs.Prelude.{◌≡◌, refl, IsTrue, [], ◌∷◌, Result, Ok, Err}
+use Rattle.relation_terms.specs.Trees.{Tree, nil, cons, known}
+use Rattle.relation_terms.specs.Meaning.{Meaning, Extends}
+use Rattle.relation_terms.proofs.Stays.{stays_list}
 use Rattle.relation_tools.specs.declared.error.ExpectedFound.{ExpectedFound}
 use Rattle.relation_tools.specs.declared.error.TypeError.{TypeError}
 use Rattle.relation_tools.specs.declared.error.TypeError.TheVariants.{Mismatch, PolarityMismatch, SafetyMismatch}
@@ -35,6 +36,40 @@ MustIncludeNote (Sorts ts) = ⊥
 MustIncludeNote (VariadicMismatch v) = ⊥
 MustIncludeNote (TargetFeatureCast d) = ⊥
 MustIncludeNote e = Unit {0}
+
+-- The trees of both of a pair, the expected one first.
+abbrev pub pair_tree : {A : Type 0} → (A → Tree) → ExpectedFound A → Tree
+pair_tree tree pair = cons (tree pair.expected) (cons (tree pair.found) nil)
+
+-- The tree of an error: the types, regions and constants that it names, in order. Lists of existential predicates can't
+-- be read yet, and are left out.
+abbrev pub error_tree : {Key Id Name : Type 0} → Meaning Key Id Name → TypeError Key Id Name → Tree
+error_tree m (ArraySize sizes) = pair_tree m.const_ sizes
+error_tree m (RegionsDoesNotOutlive r s) = cons (m.region r) (cons (m.region s) nil)
+error_tree m (RegionsInsufficientlyPolymorphic b r) = m.region r
+error_tree m (Sorts types) = pair_tree m.ty types
+error_tree m (ArgumentSorts types i) = pair_tree m.ty types
+error_tree m (CyclicTy t) = m.ty t
+error_tree m (CyclicConst c) = m.const_ c
+error_tree m (ConstMismatch constants) = pair_tree m.const_ constants
+error_tree m e = nil
+
+-- Known terms that an error names keep their trees while the interner grows.
+pub stays_pair : {A : Type 0} (f g : A → Tree) (p : ExpectedFound A) → ((x : A) → IsTrue (known (f x)) → g x ≡ f x) →
+    IsTrue (known (pair_tree f p)) → pair_tree g p ≡ pair_tree f p
+stays_pair f g p s h = stays_list f g (p.expected ∷ p.found ∷ []) s h
+
+pub stays_error : {Key Id Name : Type 0} {m n : Meaning Key Id Name} → Extends m n → (e : TypeError Key Id Name) →
+    IsTrue (known (error_tree m e)) → error_tree n e ≡ error_tree m e
+stays_error {m = m} {n = n} x (ArraySize p) h = stays_pair m.const_ n.const_ p x.const_ h
+stays_error {m = m} {n = n} x (RegionsDoesNotOutlive r s) h = stays_list m.region n.region (r ∷ s ∷ []) x.region h
+stays_error x (RegionsInsufficientlyPolymorphic b r) h = x.region r h
+stays_error {m = m} {n = n} x (Sorts p) h = stays_pair m.ty n.ty p x.ty h
+stays_error {m = m} {n = n} x (ArgumentSorts p i) h = stays_pair m.ty n.ty p x.ty h
+stays_error x (CyclicTy t) h = x.ty t h
+stays_error x (CyclicConst c) h = x.const_ c h
+stays_error {m = m} {n = n} x (ConstMismatch p) h = stays_pair m.const_ n.const_ p x.const_ h
+stays_error x e h = refl
 
 -- Both trees are known.
 abbrev pub KnowsBoth : {A : Type 0} → (A → Tree) → ExpectedFound A → Type 0

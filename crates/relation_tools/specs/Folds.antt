@@ -1,5 +1,5 @@
 -- Folds of trees: what a folder puts for the types, regions and constants of a tree, and what comes of the whole.
-use Rattle.std.specs.Prelude.{◌≡◌, IsTrue, Bool, true, false, Option, Some, None}
+use Rattle.std.specs.Prelude.{◌≡◌, ℕ, suc, IsTrue, Bool, true, false, Option, Some, None}
 use Rattle.relation_terms.specs.Heads.{Sort, region_sort, type_sort, const_sort, leaf_sort, head_sort}
 use Rattle.relation_terms.specs.Trees.{Tree, leaf, node, bind, nil, cons, known}
 use Rattle.relation_terms.specs.Meaning.{Meaning, Extends}
@@ -19,18 +19,19 @@ put_or true (Some by) t = by
 put_or a o t = t
 
 -- The tree with each type, region and constant replaced by what is put for it, from the outside inwards. What is put
--- is not folded again.
-abbrev pub folded : (Tree → Option Tree) → Tree → Tree
-folded f (leaf l) = put_or (asks (leaf_sort l)) (f (leaf l)) (leaf l)
-folded f (node h ts) = put_or (asks (head_sort h)) (f (node h ts)) (node h (folded f ts))
-folded f (bind ks t) = bind ks (folded f t)
-folded f nil = nil
-folded f (cons t ts) = cons (folded f t) (folded f ts)
+-- is not folded again. `depth` binders stand around the tree, and what is put may depend on how many stand around each
+-- part.
+abbrev pub folded : (ℕ → Tree → Option Tree) → ℕ → Tree → Tree
+folded f depth (leaf l) = put_or (asks (leaf_sort l)) (f depth (leaf l)) (leaf l)
+folded f depth (node h ts) = put_or (asks (head_sort h)) (f depth (node h ts)) (node h (folded f depth ts))
+folded f depth (bind ks t) = bind ks (folded f (suc depth) t)
+folded f depth nil = nil
+folded f depth (cons t ts) = cons (folded f depth t) (folded f depth ts)
 
 -- The form as it is, over the folded parts.
-abbrev pub folded_parts : (Tree → Option Tree) → Tree → Tree
-folded_parts f (node h ts) = node h (folded f ts)
-folded_parts f t = t
+abbrev pub folded_parts : (ℕ → Tree → Option Tree) → ℕ → Tree → Tree
+folded_parts f depth (node h ts) = node h (folded f depth ts)
+folded_parts f depth t = t
 
 -- The tree that an answer puts, or none where it descends.
 abbrev pub answered : {K : Type 0} → (K → Tree) → Fold K → Option Tree
@@ -44,8 +45,8 @@ KnownAnswer tree (Replace by) = IsTrue (known (tree by))
 
 -- From one meaning and folder to others: the interner only grew, the folder is ready, and it puts what it put.
 pub record Steps {Key Id Name F : Type 0} (Ready : Meaning Key Id Name → F → Type 0)
-    (puts : Meaning Key Id Name → F → Tree → Option Tree) (m : Meaning Key Id Name) (f : F) (n : Meaning Key Id Name)
-    (g : F) : Type 0 where
+    (puts : Meaning Key Id Name → F → ℕ → Tree → Option Tree) (m : Meaning Key Id Name) (f : F)
+    (n : Meaning Key Id Name) (g : F) : Type 0 where
   pub grown : Extends m n
   pub ready : Ready n g
-  pub kept : (t : Tree) → puts n g t ≡ puts m f t
+  pub kept : (d : ℕ) (t : Tree) → puts n g d t ≡ puts m f d t

@@ -1,18 +1,12 @@
 -- What a visitor goes over.
-use Rattle.std.specs.Prelude.{◌≡◌, ℕ, suc, Bool, true, false, not, cond, ◌||◌, nat_lt}
+use Rattle.std.specs.Prelude.{◌≡◌, ℕ, suc, List, Bool, true, false, not, cond, ◌||◌, nat_lt}
 use Rattle.std.specs.declared.ops.ControlFlow.{ControlFlow}
 use Rattle.std.specs.declared.ops.ControlFlow.TheVariants.{Continue, Break}
 use Rattle.relation_terms.specs.Heads.{Sort, region_sort, type_sort, const_sort, leaf_sort, head_sort, region_var}
+use Rattle.relation_terms.specs.Heads.{BoundKind}
 use Rattle.relation_terms.specs.Heads.{Atom, type_param, type_error, fresh_type, fresh_int, fresh_float, Head, alias}
 use Rattle.relation_terms.specs.Heads.{Leaf, variable, bound, atom}
 use Rattle.relation_terms.specs.Trees.{Tree, leaf, node, bind, nil, cons}
-use Rattle.relation_terms.specs.Meaning.{Meaning}
-use Rattle.relation_tools.specs.declared.error.ExpectedFound.{ExpectedFound}
-use Rattle.relation_tools.specs.declared.error.TypeError.{TypeError}
-use Rattle.relation_tools.specs.declared.error.TypeError.TheVariants.{ArraySize, RegionsDoesNotOutlive}
-use Rattle.relation_tools.specs.declared.error.TypeError.TheVariants.{RegionsInsufficientlyPolymorphic, Sorts}
-use Rattle.relation_tools.specs.declared.error.TypeError.TheVariants.{ArgumentSorts, CyclicTy, CyclicConst}
-use Rattle.relation_tools.specs.declared.error.TypeError.TheVariants.{ConstMismatch}
 use Rattle.relation_tools.specs.declared.visit.Visit.{Visit}
 use Rattle.relation_tools.specs.declared.visit.Visit.TheVariants.{Enter, Skip, Stop}
 
@@ -38,41 +32,29 @@ parts t = nil
 abbrev pub Flow : Type 0
 Flow = ControlFlow (Unit {0}) (Unit {0})
 
--- From one visitor, over a tree, to another: the visitor is asked about each type, region and constant before its
--- parts, and what it enters it goes over part by part, in order, until it stops. No form that an interner reads has a
--- binder yet, and there is no rule for one.
-pub data Walks {V : Type 0} (visits : V → Tree → V → Visit → Type 0) : V → Tree → V → Flow → Type 0 where
+-- From one visitor, over a tree with `d` binders around it, to another: the visitor is asked about each type, region
+-- and constant before its parts, and what it enters it goes over part by part, in order, until it stops. It is told how
+-- many binders stand around what it is asked about.
+pub data Walks {V : Type 0} (visits : V → ℕ → Tree → V → Visit → Type 0) : ℕ → V → Tree → V → Flow → Type 0 where
   -- a term whose parts are gone over, one whose parts are not, and one that is the last
-  entered : {v w x : V} {t : Tree} {r : Flow} → is_visited t ≡ true → visits v t w Enter →
-      Walks visits w (parts t) x r → Walks visits v t x r
-  skipped : {v w : V} {t : Tree} → is_visited t ≡ true → visits v t w Skip → Walks visits v t w (Continue tt)
-  stopped : {v w : V} {t : Tree} → is_visited t ≡ true → visits v t w Stop → Walks visits v t w (Break tt)
+  entered : {d : ℕ} {v w x : V} {t : Tree} {r : Flow} → is_visited t ≡ true → visits v d t w Enter →
+      Walks visits d w (parts t) x r → Walks visits d v t x r
+  skipped : {d : ℕ} {v w : V} {t : Tree} → is_visited t ≡ true → visits v d t w Skip →
+      Walks visits d v t w (Continue tt)
+  stopped : {d : ℕ} {v w : V} {t : Tree} → is_visited t ≡ true → visits v d t w Stop → Walks visits d v t w (Break tt)
   -- what stands between a term and its parts, which no visitor is asked about
-  passed_leaf : {v : V} {l : Leaf} → is_visited (leaf l) ≡ false → Walks visits v (leaf l) v (Continue tt)
-  passed : {v w : V} {h : Head} {ts : Tree} {r : Flow} → is_visited (node h ts) ≡ false → Walks visits v ts w r →
-      Walks visits v (node h ts) w r
+  passed_leaf : {d : ℕ} {v : V} {l : Leaf} → is_visited (leaf l) ≡ false → Walks visits d v (leaf l) v (Continue tt)
+  passed : {d : ℕ} {v w : V} {h : Head} {ts : Tree} {r : Flow} → is_visited (node h ts) ≡ false →
+      Walks visits d v ts w r → Walks visits d v (node h ts) w r
+  -- what stands under a binder, one binder deeper; no form that an interner reads has one yet
+  in_binder : {d : ℕ} {v w : V} {ks : List BoundKind} {t : Tree} {r : Flow} → Walks visits (suc d) v t w r →
+      Walks visits d v (bind ks t) w r
   -- a list, part by part
-  no_part : {v : V} → Walks visits v nil v (Continue tt)
-  last_part : {v w : V} {t ts : Tree} → Walks visits v t w (Break tt) → Walks visits v (cons t ts) w (Break tt)
-  next_part : {v w x : V} {t ts : Tree} {r : Flow} → Walks visits v t w (Continue tt) → Walks visits w ts x r →
-      Walks visits v (cons t ts) x r
-
--- The trees of both of a pair, the expected one first.
-abbrev pub pair_tree : {A : Type 0} → (A → Tree) → ExpectedFound A → Tree
-pair_tree tree pair = cons (tree pair.expected) (cons (tree pair.found) nil)
-
--- What a visit of an error goes over: the types, regions and constants that it names, in order. Lists of existential
--- predicates can't be read yet, and are left out.
-abbrev pub error_tree : {Key Id Name : Type 0} → Meaning Key Id Name → TypeError Key Id Name → Tree
-error_tree m (ArraySize sizes) = pair_tree m.const_ sizes
-error_tree m (RegionsDoesNotOutlive r s) = cons (m.region r) (cons (m.region s) nil)
-error_tree m (RegionsInsufficientlyPolymorphic b r) = m.region r
-error_tree m (Sorts types) = pair_tree m.ty types
-error_tree m (ArgumentSorts types i) = pair_tree m.ty types
-error_tree m (CyclicTy t) = m.ty t
-error_tree m (CyclicConst c) = m.const_ c
-error_tree m (ConstMismatch constants) = pair_tree m.const_ constants
-error_tree m e = nil
+  no_part : {d : ℕ} {v : V} → Walks visits d v nil v (Continue tt)
+  last_part : {d : ℕ} {v w : V} {t ts : Tree} → Walks visits d v t w (Break tt) →
+      Walks visits d v (cons t ts) w (Break tt)
+  next_part : {d : ℕ} {v w x : V} {t ts : Tree} {r : Flow} → Walks visits d v t w (Continue tt) →
+      Walks visits d w ts x r → Walks visits d v (cons t ts) x r
 
 -- Some leaf has a property, which is told how many binders stand around the leaf, `depth` of them around the tree.
 abbrev pub has_leaf : (ℕ → Leaf → Bool) → ℕ → Tree → Bool
@@ -101,14 +83,14 @@ bound_var_escapes t = has_leaf is_escaping 0 t
 abbrev pub non_region_infer_stands : Tree → Bool
 non_region_infer_stands t = has_leaf is_non_region_infer 0 t
 
--- The tree is itself such a leaf.
-abbrev pub found_here : (ℕ → Leaf → Bool) → Tree → Bool
-found_here p (leaf l) = p 0 l
-found_here p t = false
+-- The tree, with `depth` binders around it, is itself such a leaf.
+abbrev pub found_here : (ℕ → Leaf → Bool) → ℕ → Tree → Bool
+found_here p depth (leaf l) = p depth l
+found_here p depth t = false
 
 -- A visitor that stops at such a leaf and enters all else.
-abbrev pub Searches : {V : Type 0} → (ℕ → Leaf → Bool) → V → Tree → V → Visit → Type 0
-Searches p v t w a = a ≡ cond (found_here p t) Stop Enter
+abbrev pub Searches : {V : Type 0} → (ℕ → Leaf → Bool) → V → ℕ → Tree → V → Visit → Type 0
+Searches p v depth t w a = a ≡ cond (found_here p depth t) Stop Enter
 
 -- A form without parts that no instantiation changes into another, and no error.
 abbrev pub rigid_atom : Atom → Bool

@@ -4,8 +4,8 @@ ghost use Rattle.relation_tools.specs.Faults.{InvolvesRegions, MustIncludeNote};
 
 pub use relation_terms::terms::OutOfMemory;
 use relation_terms::terms::{
-    BoundRegion, ConstKey, ExistentialPredicatesKey, ExternAbi, Keys, PredicatePolarity,
-    RegionKey, Safety, TraitId, TyKey,
+    BoundRegion, ConstKey, ExistentialPredicatesKey, ExternAbi, Keys, PredicatePolarity, RegionKey,
+    Safety, TraitId, TyKey,
 };
 use std::alloc::{AllocError, AllocFailed};
 

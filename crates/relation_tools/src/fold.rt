@@ -1,9 +1,10 @@
 //! Folds: a term built anew, where a folder puts other types, regions and constants for those that it has.
-ghost use Rattle.std.specs.Prelude.{◌≡◌, IsTrue, IfOk, Option};
+ghost use Rattle.std.specs.Prelude.{◌≡◌, ℕ, IsTrue, IfOk, Option};
 ghost use Rattle.relation_terms.specs.Trees.{Tree, known};
 ghost use Rattle.relation_terms.specs.Meaning.{Meaning, Extends};
 ghost use Rattle.relation_tools.specs.Folds.{Steps, folded, answered, KnownAnswer};
 
+use crate::tree::HasTree;
 use relation_terms::terms::{Const, Interner, OutOfMemory, Region, Ty};
 
 mod foldable;
@@ -26,66 +27,76 @@ pub enum Fold<T> {
 
 /// What puts terms for the types, regions and constants of a term.
 ///
-/// A folder is asked at each of them from the outside inwards, and never folds by itself: `fold_with` goes into the parts
-/// where the folder says so. Its answer depends on the term alone.
+/// A folder is asked at each of them from the outside inwards, and never folds by itself: `fold_with` goes into the
+/// parts where the folder says so. Its answer depends on the term and its depth alone. The depth is how many binders
+/// stand around the term, within what is folded; 0 until one is entered.
 pub trait TypeFolder<I: Interner> {
     // What the folder needs to find in an interner.
     ghost ready: { Meaning I.Key I.Id I.Name → Self → Type 0 };
 
-    // What it puts for a tree, if anything.
-    ghost replaces: { Meaning I.Key I.Id I.Name → Self → Tree → Option Tree };
+    // What it puts for a tree that stands under so many binders of what is folded, if anything.
+    ghost replaces: { Meaning I.Key I.Id I.Name → Self → ℕ → Tree → Option Tree };
 
-    /// What stands in the place of a type.
-    fn fold_ty(&mut self, cx: &mut I, ty: &Ty<I>) -> Result<Fold<Ty<I>>, OutOfMemory>
+    /// What stands in the place of a type that stands under `depth` binders.
+    fn fold_ty(&mut self, cx: &mut I, ty: &Ty<I>, depth: usize) -> Result<Fold<Ty<I>>, OutOfMemory>
         requires known { IsTrue (known ((I.meaning cx.old).ty ty.now)) }
         requires ready { ready (I.meaning cx.old) self.old }
         ensures steps { Steps ready replaces (I.meaning cx.old) self.old (I.meaning cx.new) self.new }
         ensures sure { IfOk result (λ a. KnownAnswer (I.meaning cx.new).ty a) }
-        ensures made { IfOk result (λ a. replaces (I.meaning cx.old) self.old ((I.meaning cx.old).ty ty.now) ≡ answered (I.meaning cx.new).ty a) };
+        ensures made { IfOk result (λ a. replaces (I.meaning cx.old) self.old depth ((I.meaning cx.old).ty ty.now) ≡
+            answered (I.meaning cx.new).ty a) };
 
-    /// What stands in the place of a region.
+    /// What stands in the place of a region that stands under `depth` binders.
     fn fold_region(
         &mut self,
         cx: &mut I,
         region: &Region<I>,
+        depth: usize,
     ) -> Result<Fold<Region<I>>, OutOfMemory>
         requires known { IsTrue (known ((I.meaning cx.old).region region.now)) }
         requires ready { ready (I.meaning cx.old) self.old }
         ensures steps { Steps ready replaces (I.meaning cx.old) self.old (I.meaning cx.new) self.new }
         ensures sure { IfOk result (λ a. KnownAnswer (I.meaning cx.new).region a) }
-        ensures made { IfOk result (λ a. replaces (I.meaning cx.old) self.old ((I.meaning cx.old).region region.now) ≡ answered (I.meaning cx.new).region a) };
+        ensures made { IfOk result (λ a.
+            replaces (I.meaning cx.old) self.old depth ((I.meaning cx.old).region region.now) ≡
+            answered (I.meaning cx.new).region a) };
 
-    /// What stands in the place of a constant.
-    fn fold_const(&mut self, cx: &mut I, constant: &Const<I>) -> Result<Fold<Const<I>>, OutOfMemory>
+    /// What stands in the place of a constant that stands under `depth` binders.
+    fn fold_const(
+        &mut self,
+        cx: &mut I,
+        constant: &Const<I>,
+        depth: usize,
+    ) -> Result<Fold<Const<I>>, OutOfMemory>
         requires known { IsTrue (known ((I.meaning cx.old).const_ constant.now)) }
         requires ready { ready (I.meaning cx.old) self.old }
         ensures steps { Steps ready replaces (I.meaning cx.old) self.old (I.meaning cx.new) self.new }
         ensures sure { IfOk result (λ a. KnownAnswer (I.meaning cx.new).const_ a) }
-        ensures made { IfOk result (λ a. replaces (I.meaning cx.old) self.old ((I.meaning cx.old).const_ constant.now) ≡ answered (I.meaning cx.new).const_ a) };
+        ensures made { IfOk result (λ a.
+            replaces (I.meaning cx.old) self.old depth ((I.meaning cx.old).const_ constant.now) ≡
+            answered (I.meaning cx.new).const_ a) };
 
     // A folder that is ready stays so while the interner grows, and puts the same.
     ghost ready_on: { (m n : Meaning I.Key I.Id I.Name) → Extends m n → (f : Self) → ready m f → ready n f };
 
-    ghost replaces_on: { (m n : Meaning I.Key I.Id I.Name) → Extends m n → (f : Self) → ready m f → (t : Tree) → replaces n f t ≡ replaces m f t };
+    ghost replaces_on: { (m n : Meaning I.Key I.Id I.Name) → Extends m n → (f : Self) → ready m f → (d : ℕ) (t : Tree) →
+        replaces n f d t ≡ replaces m f d t };
 }
 
 /// What has types, regions or constants: a key of a term, or a form over keys.
-pub trait TypeFoldable<I: Interner>: PartialEq {
-    // The tree, or the list of trees, that it means.
-    ghost tree: { Meaning I.Key I.Id I.Name → Self → Tree };
-
-    /// What the folder makes of it. Each type, region and constant that the folder replaces stands as the folder gave it,
-    /// and all others over their folded parts. Where that is the term as it was, the answer equals it.
+pub trait TypeFoldable<I: Interner>: HasTree<I> + PartialEq {
+    /// What the folder makes of it. Each type, region and constant that the folder replaces stands as the folder gave
+    /// it, and all others over their folded parts. Where that is the term as it was, the answer equals it.
     ///
     /// Answers `OutOfMemory` where a growth was refused, in the folder too.
     fn fold_with<F: TypeFolder<I>>(&self, cx: &mut I, folder: &mut F) -> Result<Self, OutOfMemory>
-        requires known { IsTrue (known (tree (I.meaning cx.old) self.now)) }
+        requires known { IsTrue (known (Self.tree (I.meaning cx.old) self.now)) }
         requires ready { F.ready (I.meaning cx.old) folder.old }
         ensures steps { Steps F.ready F.replaces (I.meaning cx.old) folder.old (I.meaning cx.new) folder.new }
-        ensures sure { IfOk result (λ x. IsTrue (known (tree (I.meaning cx.new) x))) }
-        ensures made { IfOk result (λ x. tree (I.meaning cx.new) x ≡ folded (F.replaces (I.meaning cx.old) folder.old) (tree (I.meaning cx.old) self.now)) }
-        ensures same { IfOk result (λ x. folded (F.replaces (I.meaning cx.old) folder.old) (tree (I.meaning cx.old) self.now) ≡ tree (I.meaning cx.old) self.now → IsTrue (Self.eq x self.now)) };
-
-    // What is known keeps its tree while the interner grows.
-    ghost stays: { (m n : Meaning I.Key I.Id I.Name) → Extends m n → (x : Self) → IsTrue (known (tree m x)) → tree n x ≡ tree m x };
+        ensures sure { IfOk result (λ x. IsTrue (known (Self.tree (I.meaning cx.new) x))) }
+        ensures made { IfOk result (λ x. Self.tree (I.meaning cx.new) x ≡
+            folded (F.replaces (I.meaning cx.old) folder.old) 0 (Self.tree (I.meaning cx.old) self.now)) }
+        ensures same { IfOk result (λ x.
+            folded (F.replaces (I.meaning cx.old) folder.old) 0 (Self.tree (I.meaning cx.old) self.now) ≡
+            Self.tree (I.meaning cx.old) self.now → IsTrue (Self.eq x self.now)) };
 }

@@ -3,4 +3,5 @@
 
 pub mod error;
 pub mod fold;
+pub mod tree;
 pub mod visit;

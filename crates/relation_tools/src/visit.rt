@@ -2,9 +2,8 @@
 //!
 //! A visitor answers whether the parts of what it was asked about come next, and never goes over them itself. So the
 //! walk is one for all visitors, and what it does follows from what the visitor does at each tree.
-ghost use Rattle.std.specs.Prelude.{IsTrue};
+ghost use Rattle.std.specs.Prelude.{ℕ, IsTrue};
 ghost use Rattle.relation_terms.specs.Trees.{Tree, known};
-ghost use Rattle.relation_terms.specs.Meaning.{Meaning};
 ghost use Rattle.relation_tools.specs.Visits.{Walks, parts};
 ghost use Rattle.relation_tools.specs.declared.visit.Visit.{Visit};
 
@@ -12,6 +11,7 @@ mod flags;
 mod visitable;
 mod walk;
 
+use crate::tree::HasTree;
 pub use flags::{has_escaping_bound_vars, has_non_region_infer, is_known_rigid};
 use relation_terms::terms::{Const, Interner, Region, Ty};
 use std::ops::ControlFlow;
@@ -33,34 +33,34 @@ pub enum Visit {
 
 /// What is asked about the types, regions and constants of a term.
 ///
-/// Its ghost member `visits` says from which visitor it may go, asked about a tree, to which, and by which answer.
+/// Each question comes with a depth: how many binders stand around the term, within what is visited; 0 until one is
+/// entered. The ghost member `visits` says from which visitor it may go, asked about a tree at a depth, to which, and
+/// by which answer.
 pub trait TypeVisitor<I: Interner> {
-    ghost visits: { I → Self → Tree → Self → Visit → Type 0 };
+    ghost visits: { I → Self → ℕ → Tree → Self → Visit → Type 0 };
 
-    /// The visitor is asked about a type, which the interner knows.
-    fn visit_ty(&mut self, cx: &I, ty: &Ty<I>) -> Visit
+    /// The visitor is asked about a type under `depth` binders, which the interner knows.
+    fn visit_ty(&mut self, cx: &I, ty: &Ty<I>, depth: usize) -> Visit
         requires { IsTrue (known ((I.meaning cx.now).ty ty.now)) }
-        ensures { visits cx.now self.old ((I.meaning cx.now).ty ty.now) self.new result };
+        ensures { visits cx.now self.old depth ((I.meaning cx.now).ty ty.now) self.new result };
 
-    /// The visitor is asked about a region, which the interner knows.
-    fn visit_region(&mut self, cx: &I, region: &Region<I>) -> Visit
+    /// The visitor is asked about a region under `depth` binders, which the interner knows.
+    fn visit_region(&mut self, cx: &I, region: &Region<I>, depth: usize) -> Visit
         requires { IsTrue (known ((I.meaning cx.now).region region.now)) }
-        ensures { visits cx.now self.old ((I.meaning cx.now).region region.now) self.new result };
+        ensures { visits cx.now self.old depth ((I.meaning cx.now).region region.now) self.new result };
 
-    /// The visitor is asked about a constant, which the interner knows.
-    fn visit_const(&mut self, cx: &I, constant: &Const<I>) -> Visit
+    /// The visitor is asked about a constant under `depth` binders, which the interner knows.
+    fn visit_const(&mut self, cx: &I, constant: &Const<I>, depth: usize) -> Visit
         requires { IsTrue (known ((I.meaning cx.now).const_ constant.now)) }
-        ensures { visits cx.now self.old ((I.meaning cx.now).const_ constant.now) self.new result };
+        ensures { visits cx.now self.old depth ((I.meaning cx.now).const_ constant.now) self.new result };
 }
 
-/// What a visitor can go over. The ghost member `tree` is what is gone over.
-pub trait TypeVisitable<I: Interner> {
-    ghost tree: { Meaning I.Key I.Id I.Name → Self → Tree };
-
+/// What a visitor can go over: its tree.
+pub trait TypeVisitable<I: Interner>: HasTree<I> {
     /// Goes over all of it, in order, until the visitor stops: `Break` where it did. The interner knows all its terms.
     fn visit_with<V: TypeVisitor<I>>(&self, cx: &I, visitor: &mut V) -> ControlFlow<()>
-        requires { IsTrue (known (tree (I.meaning cx.now) self.now)) }
-        ensures { Walks (V.visits cx.now) visitor.old (tree (I.meaning cx.now) self.now) visitor.new result };
+        requires { IsTrue (known (Self.tree (I.meaning cx.now) self.now)) }
+        ensures { Walks (V.visits cx.now) 0 visitor.old (Self.tree (I.meaning cx.now) self.now) visitor.new result };
 }
 
 /// A term that has parts.
@@ -68,5 +68,6 @@ pub trait TypeSuperVisitable<I: Interner>: TypeVisitable<I> {
     /// Goes over the parts of the term alone, in order, until the visitor stops. The interner knows the term.
     fn super_visit_with<V: TypeVisitor<I>>(&self, cx: &I, visitor: &mut V) -> ControlFlow<()>
         requires { IsTrue (known (Self.tree (I.meaning cx.now) self.now)) }
-        ensures { Walks (V.visits cx.now) visitor.old (parts (Self.tree (I.meaning cx.now) self.now)) visitor.new result };
+        ensures { Walks (V.visits cx.now) 0 visitor.old
+            (parts (Self.tree (I.meaning cx.now) self.now)) visitor.new result };
 }

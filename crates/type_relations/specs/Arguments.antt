@@ -1,10 +1,15 @@
 -- Lists of arguments, as what they are related for.
-use Rattle.std.specs.Prelude.{◌≡◌, ℕ}
+use Rattle.std.specs.Prelude.{◌≡◌, ℕ, Option, Some, None}
 use Rattle.relation_terms.specs.Heads.{Head, adt, fn_def, arguments}
 use Rattle.relation_terms.specs.Trees.{Tree, node}
 use Rattle.relation_terms.specs.Meaning.{Meaning}
 use Rattle.type_relations.specs.declared.relate.args.ArgVariances.{ArgVariances}
 use Rattle.type_relations.specs.declared.relate.args.ArgVariances.TheVariants.{Invariant, Adt, FnDef}
+
+-- What is related of a tree: the tree itself, or the form over a list.
+abbrev pub related_tree : Option Head → Tree → Tree
+related_tree None t = t
+related_tree (Some h) ts = node h ts
 
 -- The form over arguments whose parts stand at these variances.
 abbrev pub args_head : {Key Id Name : Type 0} → Meaning Key Id Name → ArgVariances Id → Head

@@ -25,10 +25,16 @@ impl<I: Interner> TypeFolder<I> for Puts<I::Key> {
 
     ghost ready = { λ m f. IsTrue (known (m.ty f.ty)) × IsTrue (known (m.region f.region)) × IsTrue (known (m.const_ f.constant)) };
 
-    ghost replaces = { λ m f t. put_at (f.variable).0 (m.ty f.ty) (f.region_variable).0 (m.region f.region) f.parameter (m.const_ f.constant) t };
+    ghost replaces = { λ m f d t. put_at (f.variable).0 (m.ty f.ty) (f.region_variable).0 (m.region f.region)
+        f.parameter (m.const_ f.constant) t };
 
     #[tactic(auto, using(relation_terms::proofs::Stays::stays_same))]
-    fn fold_ty(&mut self, cx: &mut I, ty: &Ty<I>) -> Result<Fold<Ty<I>>, OutOfMemory> {
+    fn fold_ty(
+        &mut self,
+        cx: &mut I,
+        ty: &Ty<I>,
+        _depth: usize,
+    ) -> Result<Fold<Ty<I>>, OutOfMemory> {
         let kind = cx.ty_kind(ty);
         match &kind {
             TyKind::Infer(InferTy::TyVar(variable)) if *variable == self.variable => {
@@ -43,6 +49,7 @@ impl<I: Interner> TypeFolder<I> for Puts<I::Key> {
         &mut self,
         cx: &mut I,
         region: &Region<I>,
+        _depth: usize,
     ) -> Result<Fold<Region<I>>, OutOfMemory> {
         let kind = cx.region_kind(region);
         match &kind {
@@ -58,6 +65,7 @@ impl<I: Interner> TypeFolder<I> for Puts<I::Key> {
         &mut self,
         cx: &mut I,
         constant: &Const<I>,
+        _depth: usize,
     ) -> Result<Fold<Const<I>>, OutOfMemory> {
         let kind = cx.const_kind(constant);
         match &kind {
@@ -70,7 +78,9 @@ impl<I: Interner> TypeFolder<I> for Puts<I::Key> {
 
     ghost ready_on = { λ m n e f h. (knows_ty e f.ty h.0, knows_region e f.region h.1, knows_const e f.constant h.2) };
 
-    ghost replaces_on = { λ m n e f h t. put_stays (f.variable).0 (f.region_variable).0 f.parameter (m.ty f.ty) (n.ty f.ty) (m.region f.region) (n.region f.region) (m.const_ f.constant) (n.const_ f.constant) t (e.ty f.ty h.0) (e.region f.region h.1) (e.const_ f.constant h.2) };
+    ghost replaces_on = { λ m n e f h d t. put_stays (f.variable).0 (f.region_variable).0 f.parameter
+        (m.ty f.ty) (n.ty f.ty) (m.region f.region) (n.region f.region) (m.const_ f.constant) (n.const_ f.constant)
+        t (e.ty f.ty h.0) (e.region f.region h.1) (e.const_ f.constant h.2) };
 }
 
 /// Puts nothing.
@@ -82,10 +92,15 @@ impl<I: Interner> TypeFolder<I> for PutsNothing {
 
     ghost ready = { λ m f. Unit {0} };
 
-    ghost replaces = { λ m f t. None };
+    ghost replaces = { λ m f d t. None };
 
     #[tactic(auto, using(relation_terms::proofs::Stays::stays_same))]
-    fn fold_ty(&mut self, _cx: &mut I, _ty: &Ty<I>) -> Result<Fold<Ty<I>>, OutOfMemory> {
+    fn fold_ty(
+        &mut self,
+        _cx: &mut I,
+        _ty: &Ty<I>,
+        _depth: usize,
+    ) -> Result<Fold<Ty<I>>, OutOfMemory> {
         Ok(Fold::Descend)
     }
 
@@ -94,6 +109,7 @@ impl<I: Interner> TypeFolder<I> for PutsNothing {
         &mut self,
         _cx: &mut I,
         _region: &Region<I>,
+        _depth: usize,
     ) -> Result<Fold<Region<I>>, OutOfMemory> {
         Ok(Fold::Descend)
     }
@@ -103,11 +119,12 @@ impl<I: Interner> TypeFolder<I> for PutsNothing {
         &mut self,
         _cx: &mut I,
         _constant: &Const<I>,
+        _depth: usize,
     ) -> Result<Fold<Const<I>>, OutOfMemory> {
         Ok(Fold::Descend)
     }
 
     ghost ready_on = { λ m n e f h. tt };
 
-    ghost replaces_on = { λ m n e f h t. refl };
+    ghost replaces_on = { λ m n e f h d t. refl };
 }

@@ -90,19 +90,19 @@ fn const_label<I: Interner>(kind: &ConstForm<I>) -> Label {
 }
 
 impl<'a, I: Interner> TypeVisitor<I> for Questions<'a> {
-    ghost visits = { λ cx v t w a. Unit {0} };
+    ghost visits = { λ cx v d t w a. Unit {0} };
 
-    fn visit_ty(&mut self, cx: &I, ty: &Ty<I>) -> Visit {
+    fn visit_ty(&mut self, cx: &I, ty: &Ty<I>, _depth: usize) -> Visit {
         let label = ty_label::<I>(&cx.ty_kind(ty));
         self.answer(label)
     }
 
-    fn visit_region(&mut self, cx: &I, region: &Region<I>) -> Visit {
+    fn visit_region(&mut self, cx: &I, region: &Region<I>, _depth: usize) -> Visit {
         let label = region_label::<I>(&cx.region_kind(region));
         self.answer(label)
     }
 
-    fn visit_const(&mut self, cx: &I, constant: &Const<I>) -> Visit {
+    fn visit_const(&mut self, cx: &I, constant: &Const<I>, _depth: usize) -> Visit {
         let label = const_label::<I>(&cx.const_kind(constant));
         self.answer(label)
     }

@@ -4,6 +4,7 @@ ghost use Rattle.relation_terms.specs.Heads.{adt};
 ghost use Rattle.relation_terms.specs.Trees.{node, nil, cons, count};
 ghost use Rattle.relation_terms.specs.Meaning.{Extends};
 ghost use Rattle.relation_terms.specs.declared.terms.enums.Variance.TheVariants.{Bivariant};
+ghost use Rattle.type_relations.specs.Arguments.{related_tree};
 ghost use Rattle.type_relations.specs.Lawful.{Asked};
 ghost use Rattle.relation_reference.specs.Concrete.{IsConcrete};
 ghost use Rattle.relation_reference.specs.Plain.{plain_state, plain_manner};
@@ -53,7 +54,8 @@ fn related<I: Interner + Drop, T: Relate<I> + Drop>(
     b: &T,
 ) -> RelateResult<I, PlainRelation<I>>
     requires decides { variance ≢ Bivariant }
-    requires asked { Asked plain_manner (plain_state (I.meaning cx) variance []) variance (T.term (I.meaning cx) a.now) (T.term (I.meaning cx) b.now) }
+    requires asked { Asked plain_manner (plain_state (I.meaning cx) variance []) variance
+        (related_tree T.over (T.tree (I.meaning cx) a.now)) (related_tree T.over (T.tree (I.meaning cx) b.now)) }
     requires fits { T.fits (I.meaning cx) a.now b.now }
 {
     let mut relation = PlainRelation::new(cx, variance);
@@ -69,8 +71,8 @@ fn asked<I: Interner + Drop, T: Relate<I> + Drop>(
     b: &T,
 ) -> RelateResult<I, Vec<RegionConstraint<I::Key>>>
     requires decides { variance ≢ Bivariant }
-    requires lhs { IsConcrete (T.term (I.meaning cx) a.now) }
-    requires rhs { IsConcrete (T.term (I.meaning cx) b.now) }
+    requires lhs { IsConcrete (related_tree T.over (T.tree (I.meaning cx) a.now)) }
+    requires rhs { IsConcrete (related_tree T.over (T.tree (I.meaning cx) b.now)) }
     requires fits { T.fits (I.meaning cx) a.now b.now }
 {
     let relation = related(cx, variance, a, b)?;

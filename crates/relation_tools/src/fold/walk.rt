@@ -1,4 +1,6 @@
 //! The walk of a folder through a term: plain functions over keys, so that no folder folds by itself.
+//!
+//! No form that an interner reads has a binder yet, so every depth is 0.
 ghost use Rattle.std.specs.Prelude.{◌≡◌, IsTrue, IfOk};
 ghost use Rattle.relation_terms.specs.Trees.{known};
 ghost use Rattle.relation_terms.specs.Meaning.{arg_tree, kind_tree, const_tree};
@@ -23,10 +25,13 @@ pub fn fold_ty_with<I: Interner, F: TypeFolder<I>>(
     requires ready { F.ready (I.meaning cx.old) folder.old }
     ensures steps { Steps F.ready F.replaces (I.meaning cx.old) folder.old (I.meaning cx.new) folder.new }
     ensures sure { IfOk result (λ k. IsTrue (known ((I.meaning cx.new).ty k))) }
-    ensures made { IfOk result (λ k. (I.meaning cx.new).ty k ≡ folded (F.replaces (I.meaning cx.old) folder.old) ((I.meaning cx.old).ty ty.now)) }
-    ensures same { IfOk result (λ k. folded (F.replaces (I.meaning cx.old) folder.old) ((I.meaning cx.old).ty ty.now) ≡ (I.meaning cx.old).ty ty.now → IsTrue (I.Key.eq k.0 ty.now.0)) }
+    ensures made { IfOk result (λ k. (I.meaning cx.new).ty k ≡
+        folded (F.replaces (I.meaning cx.old) folder.old) 0 ((I.meaning cx.old).ty ty.now)) }
+    ensures same { IfOk result (λ k.
+        folded (F.replaces (I.meaning cx.old) folder.old) 0 ((I.meaning cx.old).ty ty.now) ≡
+        (I.meaning cx.old).ty ty.now → IsTrue (I.Key.eq k.0 ty.now.0)) }
 {
-    match folder.fold_ty(cx, ty)? {
+    match folder.fold_ty(cx, ty, 0)? {
         Fold::Replace(by) => Ok(by),
         Fold::Descend => super_fold_ty(cx, ty, folder),
     }
@@ -42,10 +47,13 @@ pub fn fold_region_with<I: Interner, F: TypeFolder<I>>(
     requires ready { F.ready (I.meaning cx.old) folder.old }
     ensures steps { Steps F.ready F.replaces (I.meaning cx.old) folder.old (I.meaning cx.new) folder.new }
     ensures sure { IfOk result (λ k. IsTrue (known ((I.meaning cx.new).region k))) }
-    ensures made { IfOk result (λ k. (I.meaning cx.new).region k ≡ folded (F.replaces (I.meaning cx.old) folder.old) ((I.meaning cx.old).region region.now)) }
-    ensures same { IfOk result (λ k. folded (F.replaces (I.meaning cx.old) folder.old) ((I.meaning cx.old).region region.now) ≡ (I.meaning cx.old).region region.now → IsTrue (I.Key.eq k.0 region.now.0)) }
+    ensures made { IfOk result (λ k. (I.meaning cx.new).region k ≡
+        folded (F.replaces (I.meaning cx.old) folder.old) 0 ((I.meaning cx.old).region region.now)) }
+    ensures same { IfOk result (λ k.
+        folded (F.replaces (I.meaning cx.old) folder.old) 0 ((I.meaning cx.old).region region.now) ≡
+        (I.meaning cx.old).region region.now → IsTrue (I.Key.eq k.0 region.now.0)) }
 {
-    match folder.fold_region(cx, region)? {
+    match folder.fold_region(cx, region, 0)? {
         Fold::Replace(by) => Ok(by),
         Fold::Descend => Ok(*region),
     }
@@ -63,10 +71,13 @@ pub fn fold_const_with<I: Interner, F: TypeFolder<I>>(
     requires ready { F.ready (I.meaning cx.old) folder.old }
     ensures steps { Steps F.ready F.replaces (I.meaning cx.old) folder.old (I.meaning cx.new) folder.new }
     ensures sure { IfOk result (λ k. IsTrue (known ((I.meaning cx.new).const_ k))) }
-    ensures made { IfOk result (λ k. (I.meaning cx.new).const_ k ≡ folded (F.replaces (I.meaning cx.old) folder.old) ((I.meaning cx.old).const_ constant.now)) }
-    ensures same { IfOk result (λ k. folded (F.replaces (I.meaning cx.old) folder.old) ((I.meaning cx.old).const_ constant.now) ≡ (I.meaning cx.old).const_ constant.now → IsTrue (I.Key.eq k.0 constant.now.0)) }
+    ensures made { IfOk result (λ k. (I.meaning cx.new).const_ k ≡
+        folded (F.replaces (I.meaning cx.old) folder.old) 0 ((I.meaning cx.old).const_ constant.now)) }
+    ensures same { IfOk result (λ k.
+        folded (F.replaces (I.meaning cx.old) folder.old) 0 ((I.meaning cx.old).const_ constant.now) ≡
+        (I.meaning cx.old).const_ constant.now → IsTrue (I.Key.eq k.0 constant.now.0)) }
 {
-    match folder.fold_const(cx, constant)? {
+    match folder.fold_const(cx, constant, 0)? {
         Fold::Replace(by) => Ok(by),
         Fold::Descend => super_fold_const(cx, constant, folder),
     }
@@ -84,7 +95,8 @@ pub fn super_fold_ty<I: Interner, F: TypeFolder<I>>(
     requires ready { F.ready (I.meaning cx.old) folder.old }
     ensures steps { Steps F.ready F.replaces (I.meaning cx.old) folder.old (I.meaning cx.new) folder.new }
     ensures sure { IfOk result (λ k. IsTrue (known ((I.meaning cx.new).ty k))) }
-    ensures made { IfOk result (λ k. (I.meaning cx.new).ty k ≡ folded_parts (F.replaces (I.meaning cx.old) folder.old) ((I.meaning cx.old).ty ty.now)) }
+    ensures made { IfOk result (λ k. (I.meaning cx.new).ty k ≡
+        folded_parts (F.replaces (I.meaning cx.old) folder.old) 0 ((I.meaning cx.old).ty ty.now)) }
 {
     let kind = fold_kind(cx, cx.ty_kind(ty), folder)?;
     let made = cx.mk_ty(kind)?;
@@ -103,7 +115,8 @@ fn fold_kind<I: Interner, F: TypeFolder<I>>(
     requires ready { F.ready (I.meaning cx.old) folder.old }
     ensures steps { Steps F.ready F.replaces (I.meaning cx.old) folder.old (I.meaning cx.new) folder.new }
     ensures sure { IfOk result (λ k. IsTrue (known (kind_tree (I.meaning cx.new) k))) }
-    ensures made { IfOk result (λ k. kind_tree (I.meaning cx.new) k ≡ folded_parts (F.replaces (I.meaning cx.old) folder.old) (kind_tree (I.meaning cx.old) kind)) }
+    ensures made { IfOk result (λ k. kind_tree (I.meaning cx.new) k ≡
+        folded_parts (F.replaces (I.meaning cx.old) folder.old) 0 (kind_tree (I.meaning cx.old) kind)) }
 {
     match kind {
         TyKind::Adt(def, args) => Ok(TyKind::Adt(def, fold_args_with(cx, &args, folder)?)),
@@ -147,7 +160,8 @@ pub fn super_fold_const<I: Interner, F: TypeFolder<I>>(
     requires ready { F.ready (I.meaning cx.old) folder.old }
     ensures steps { Steps F.ready F.replaces (I.meaning cx.old) folder.old (I.meaning cx.new) folder.new }
     ensures sure { IfOk result (λ k. IsTrue (known ((I.meaning cx.new).const_ k))) }
-    ensures made { IfOk result (λ k. (I.meaning cx.new).const_ k ≡ folded_parts (F.replaces (I.meaning cx.old) folder.old) ((I.meaning cx.old).const_ constant.now)) }
+    ensures made { IfOk result (λ k. (I.meaning cx.new).const_ k ≡
+        folded_parts (F.replaces (I.meaning cx.old) folder.old) 0 ((I.meaning cx.old).const_ constant.now)) }
 {
     let kind = fold_const_kind(cx, cx.const_kind(constant), folder)?;
     let made = cx.mk_const(kind)?;
@@ -166,7 +180,8 @@ fn fold_const_kind<I: Interner, F: TypeFolder<I>>(
     requires ready { F.ready (I.meaning cx.old) folder.old }
     ensures steps { Steps F.ready F.replaces (I.meaning cx.old) folder.old (I.meaning cx.new) folder.new }
     ensures sure { IfOk result (λ k. IsTrue (known (const_tree (I.meaning cx.new) k))) }
-    ensures made { IfOk result (λ k. const_tree (I.meaning cx.new) k ≡ folded_parts (F.replaces (I.meaning cx.old) folder.old) (const_tree (I.meaning cx.old) kind)) }
+    ensures made { IfOk result (λ k. const_tree (I.meaning cx.new) k ≡
+        folded_parts (F.replaces (I.meaning cx.old) folder.old) 0 (const_tree (I.meaning cx.old) kind)) }
 {
     match kind {
         ConstKind::Value(ty, value) => {
@@ -193,7 +208,8 @@ pub fn fold_valtree_with<I: Interner, F: TypeFolder<I>>(
     requires ready { F.ready (I.meaning cx.old) folder.old }
     ensures steps { Steps F.ready F.replaces (I.meaning cx.old) folder.old (I.meaning cx.new) folder.new }
     ensures sure { IfOk result (λ k. IsTrue (known ((I.meaning cx.new).valtree k))) }
-    ensures made { IfOk result (λ k. (I.meaning cx.new).valtree k ≡ folded (F.replaces (I.meaning cx.old) folder.old) ((I.meaning cx.old).valtree valtree.now)) }
+    ensures made { IfOk result (λ k. (I.meaning cx.new).valtree k ≡
+        folded (F.replaces (I.meaning cx.old) folder.old) 0 ((I.meaning cx.old).valtree valtree.now)) }
 {
     match cx.valtree_kind(valtree) {
         ValTreeKind::Leaf { .. } => Ok(*valtree),
@@ -217,7 +233,8 @@ pub fn fold_arg_with<I: Interner, F: TypeFolder<I>>(
     requires ready { F.ready (I.meaning cx.old) folder.old }
     ensures steps { Steps F.ready F.replaces (I.meaning cx.old) folder.old (I.meaning cx.new) folder.new }
     ensures sure { IfOk result (λ k. IsTrue (known (arg_tree (I.meaning cx.new) k))) }
-    ensures made { IfOk result (λ k. arg_tree (I.meaning cx.new) k ≡ folded (F.replaces (I.meaning cx.old) folder.old) (arg_tree (I.meaning cx.old) arg.now)) }
+    ensures made { IfOk result (λ k. arg_tree (I.meaning cx.new) k ≡
+        folded (F.replaces (I.meaning cx.old) folder.old) 0 (arg_tree (I.meaning cx.old) arg.now)) }
 {
     match arg {
         GenericArgKind::Lifetime(region) => {
@@ -242,8 +259,11 @@ pub fn fold_args_with<I: Interner, F: TypeFolder<I>>(
     requires ready { F.ready (I.meaning cx.old) folder.old }
     ensures steps { Steps F.ready F.replaces (I.meaning cx.old) folder.old (I.meaning cx.new) folder.new }
     ensures sure { IfOk result (λ k. IsTrue (known ((I.meaning cx.new).args k))) }
-    ensures made { IfOk result (λ k. (I.meaning cx.new).args k ≡ folded (F.replaces (I.meaning cx.old) folder.old) ((I.meaning cx.old).args args.now)) }
-    ensures same { IfOk result (λ k. folded (F.replaces (I.meaning cx.old) folder.old) ((I.meaning cx.old).args args.now) ≡ (I.meaning cx.old).args args.now → IsTrue (I.Key.eq k.0 args.now.0)) }
+    ensures made { IfOk result (λ k. (I.meaning cx.new).args k ≡
+        folded (F.replaces (I.meaning cx.old) folder.old) 0 ((I.meaning cx.old).args args.now)) }
+    ensures same { IfOk result (λ k.
+        folded (F.replaces (I.meaning cx.old) folder.old) 0 ((I.meaning cx.old).args args.now) ≡
+        (I.meaning cx.old).args args.now → IsTrue (I.Key.eq k.0 args.now.0)) }
 {
     let list = copied(cx.args(args), cx.alloc())?;
     let mut made = Vec::new(cx.alloc());
@@ -266,8 +286,11 @@ pub fn fold_tys_with<I: Interner, F: TypeFolder<I>>(
     requires ready { F.ready (I.meaning cx.old) folder.old }
     ensures steps { Steps F.ready F.replaces (I.meaning cx.old) folder.old (I.meaning cx.new) folder.new }
     ensures sure { IfOk result (λ k. IsTrue (known ((I.meaning cx.new).tys k))) }
-    ensures made { IfOk result (λ k. (I.meaning cx.new).tys k ≡ folded (F.replaces (I.meaning cx.old) folder.old) ((I.meaning cx.old).tys tys.now)) }
-    ensures same { IfOk result (λ k. folded (F.replaces (I.meaning cx.old) folder.old) ((I.meaning cx.old).tys tys.now) ≡ (I.meaning cx.old).tys tys.now → IsTrue (I.Key.eq k.0 tys.now.0)) }
+    ensures made { IfOk result (λ k. (I.meaning cx.new).tys k ≡
+        folded (F.replaces (I.meaning cx.old) folder.old) 0 ((I.meaning cx.old).tys tys.now)) }
+    ensures same { IfOk result (λ k.
+        folded (F.replaces (I.meaning cx.old) folder.old) 0 ((I.meaning cx.old).tys tys.now) ≡
+        (I.meaning cx.old).tys tys.now → IsTrue (I.Key.eq k.0 tys.now.0)) }
 {
     let list = copied(cx.tys(tys), cx.alloc())?;
     let mut made = Vec::new(cx.alloc());
@@ -290,7 +313,8 @@ pub fn fold_branches_with<I: Interner, F: TypeFolder<I>>(
     requires ready { F.ready (I.meaning cx.old) folder.old }
     ensures steps { Steps F.ready F.replaces (I.meaning cx.old) folder.old (I.meaning cx.new) folder.new }
     ensures sure { IfOk result (λ k. IsTrue (known ((I.meaning cx.new).branches k))) }
-    ensures made { IfOk result (λ k. (I.meaning cx.new).branches k ≡ folded (F.replaces (I.meaning cx.old) folder.old) ((I.meaning cx.old).branches branches.now)) }
+    ensures made { IfOk result (λ k. (I.meaning cx.new).branches k ≡
+        folded (F.replaces (I.meaning cx.old) folder.old) 0 ((I.meaning cx.old).branches branches.now)) }
 {
     let list = copied(cx.branches(branches), cx.alloc())?;
     let mut made = Vec::new(cx.alloc());

@@ -13,9 +13,9 @@ struct FindsNonRegionInfer;
 impl<I: Interner> TypeVisitor<I> for FindsNonRegionInfer {
     ghost use Rattle.relation_tools.specs.Visits.{Searches, is_non_region_infer};
 
-    ghost visits = { λ cx v t w a. Searches is_non_region_infer v t w a };
+    ghost visits = { λ cx v d t w a. Searches is_non_region_infer v d t w a };
 
-    fn visit_ty(&mut self, cx: &I, ty: &Ty<I>) -> Visit {
+    fn visit_ty(&mut self, cx: &I, ty: &Ty<I>, _depth: usize) -> Visit {
         let kind = cx.ty_kind(ty);
         match &kind {
             TyKind::Infer(_) => Visit::Stop,
@@ -23,11 +23,11 @@ impl<I: Interner> TypeVisitor<I> for FindsNonRegionInfer {
         }
     }
 
-    fn visit_region(&mut self, _cx: &I, _region: &Region<I>) -> Visit {
+    fn visit_region(&mut self, _cx: &I, _region: &Region<I>, _depth: usize) -> Visit {
         Visit::Enter
     }
 
-    fn visit_const(&mut self, cx: &I, constant: &Const<I>) -> Visit {
+    fn visit_const(&mut self, cx: &I, constant: &Const<I>, _depth: usize) -> Visit {
         let kind = cx.const_kind(constant);
         match &kind {
             ConstKind::Param(_)
@@ -46,9 +46,9 @@ struct FindsEscaping;
 impl<I: Interner> TypeVisitor<I> for FindsEscaping {
     ghost use Rattle.relation_tools.specs.Visits.{Searches, is_escaping};
 
-    ghost visits = { λ cx v t w a. Searches is_escaping v t w a };
+    ghost visits = { λ cx v d t w a. Searches is_escaping v d t w a };
 
-    fn visit_ty(&mut self, cx: &I, ty: &Ty<I>) -> Visit {
+    fn visit_ty(&mut self, cx: &I, ty: &Ty<I>, _depth: usize) -> Visit {
         let kind = cx.ty_kind(ty);
         match &kind {
             TyKind::Bool
@@ -76,7 +76,7 @@ impl<I: Interner> TypeVisitor<I> for FindsEscaping {
         }
     }
 
-    fn visit_region(&mut self, cx: &I, region: &Region<I>) -> Visit {
+    fn visit_region(&mut self, cx: &I, region: &Region<I>, _depth: usize) -> Visit {
         let kind = cx.region_kind(region);
         match &kind {
             RegionKind::ReStatic | RegionKind::ReEarlyParam(_) | RegionKind::ReVar(_) =>
@@ -84,7 +84,7 @@ impl<I: Interner> TypeVisitor<I> for FindsEscaping {
         }
     }
 
-    fn visit_const(&mut self, cx: &I, constant: &Const<I>) -> Visit {
+    fn visit_const(&mut self, cx: &I, constant: &Const<I>, _depth: usize) -> Visit {
         let kind = cx.const_kind(constant);
         match &kind {
             ConstKind::Param(_)

@@ -1,6 +1,7 @@
 //! The walk over a term's parts, by its keys.
 //!
 //! It stands beside the visitors, which never call it: one proof serves all of them.
+//! No form that an interner reads has a binder yet, so every depth is 0.
 ghost use Rattle.std.specs.Prelude.{IsTrue};
 ghost use Rattle.relation_terms.specs.Trees.{known};
 ghost use Rattle.relation_terms.specs.Meaning.{arg_tree};
@@ -22,9 +23,9 @@ pub fn visit_ty_with<I: Interner, V: TypeVisitor<I>>(
     visitor: &mut V,
 ) -> ControlFlow<()>
     requires { IsTrue (known ((I.meaning cx.now).ty ty.now)) }
-    ensures { Walks (V.visits cx.now) visitor.old ((I.meaning cx.now).ty ty.now) visitor.new result }
+    ensures { Walks (V.visits cx.now) 0 visitor.old ((I.meaning cx.now).ty ty.now) visitor.new result }
 {
-    match visitor.visit_ty(cx, ty) {
+    match visitor.visit_ty(cx, ty, 0) {
         Visit::Enter => super_visit_ty(cx, ty, visitor),
         Visit::Skip => ControlFlow::Continue(()),
         Visit::Stop => ControlFlow::Break(()),
@@ -40,7 +41,7 @@ pub fn super_visit_ty<I: Interner, V: TypeVisitor<I>>(
     visitor: &mut V,
 ) -> ControlFlow<()>
     requires { IsTrue (known ((I.meaning cx.now).ty ty.now)) }
-    ensures { Walks (V.visits cx.now) visitor.old (parts ((I.meaning cx.now).ty ty.now)) visitor.new result }
+    ensures { Walks (V.visits cx.now) 0 visitor.old (parts ((I.meaning cx.now).ty ty.now)) visitor.new result }
 {
     let kind = cx.ty_kind(ty);
     match &kind {
@@ -82,9 +83,9 @@ pub fn visit_region_with<I: Interner, V: TypeVisitor<I>>(
     visitor: &mut V,
 ) -> ControlFlow<()>
     requires { IsTrue (known ((I.meaning cx.now).region region.now)) }
-    ensures { Walks (V.visits cx.now) visitor.old ((I.meaning cx.now).region region.now) visitor.new result }
+    ensures { Walks (V.visits cx.now) 0 visitor.old ((I.meaning cx.now).region region.now) visitor.new result }
 {
-    match visitor.visit_region(cx, region) {
+    match visitor.visit_region(cx, region, 0) {
         Visit::Enter | Visit::Skip => ControlFlow::Continue(()),
         Visit::Stop => ControlFlow::Break(()),
     }
@@ -99,9 +100,9 @@ pub fn visit_const_with<I: Interner, V: TypeVisitor<I>>(
     visitor: &mut V,
 ) -> ControlFlow<()>
     requires { IsTrue (known ((I.meaning cx.now).const_ constant.now)) }
-    ensures { Walks (V.visits cx.now) visitor.old ((I.meaning cx.now).const_ constant.now) visitor.new result }
+    ensures { Walks (V.visits cx.now) 0 visitor.old ((I.meaning cx.now).const_ constant.now) visitor.new result }
 {
-    match visitor.visit_const(cx, constant) {
+    match visitor.visit_const(cx, constant, 0) {
         Visit::Enter => super_visit_const(cx, constant, visitor),
         Visit::Skip => ControlFlow::Continue(()),
         Visit::Stop => ControlFlow::Break(()),
@@ -117,7 +118,8 @@ pub fn super_visit_const<I: Interner, V: TypeVisitor<I>>(
     visitor: &mut V,
 ) -> ControlFlow<()>
     requires { IsTrue (known ((I.meaning cx.now).const_ constant.now)) }
-    ensures { Walks (V.visits cx.now) visitor.old (parts ((I.meaning cx.now).const_ constant.now)) visitor.new result }
+    ensures { Walks (V.visits cx.now) 0 visitor.old
+        (parts ((I.meaning cx.now).const_ constant.now)) visitor.new result }
 {
     let kind = cx.const_kind(constant);
     match &kind {
@@ -139,7 +141,7 @@ pub fn visit_valtree_with<I: Interner, V: TypeVisitor<I>>(
     visitor: &mut V,
 ) -> ControlFlow<()>
     requires { IsTrue (known ((I.meaning cx.now).valtree value.now)) }
-    ensures { Walks (V.visits cx.now) visitor.old ((I.meaning cx.now).valtree value.now) visitor.new result }
+    ensures { Walks (V.visits cx.now) 0 visitor.old ((I.meaning cx.now).valtree value.now) visitor.new result }
 {
     let kind = cx.valtree_kind(value);
     match &kind {
@@ -157,7 +159,7 @@ pub fn visit_branches_with<I: Interner, V: TypeVisitor<I>>(
     visitor: &mut V,
 ) -> ControlFlow<()>
     requires { IsTrue (known ((I.meaning cx.now).branches branches.now)) }
-    ensures { Walks (V.visits cx.now) visitor.old ((I.meaning cx.now).branches branches.now) visitor.new result }
+    ensures { Walks (V.visits cx.now) 0 visitor.old ((I.meaning cx.now).branches branches.now) visitor.new result }
 {
     for constant in cx.branches(branches) {
         visit_const_with(cx, constant, visitor)?;
@@ -174,7 +176,7 @@ pub fn visit_arg_with<I: Interner, V: TypeVisitor<I>>(
     visitor: &mut V,
 ) -> ControlFlow<()>
     requires { IsTrue (known (arg_tree (I.meaning cx.now) arg.now)) }
-    ensures { Walks (V.visits cx.now) visitor.old (arg_tree (I.meaning cx.now) arg.now) visitor.new result }
+    ensures { Walks (V.visits cx.now) 0 visitor.old (arg_tree (I.meaning cx.now) arg.now) visitor.new result }
 {
     match arg {
         GenericArgKind::Lifetime(region) => visit_region_with(cx, region, visitor),
@@ -192,7 +194,7 @@ pub fn visit_args_with<I: Interner, V: TypeVisitor<I>>(
     visitor: &mut V,
 ) -> ControlFlow<()>
     requires { IsTrue (known ((I.meaning cx.now).args args.now)) }
-    ensures { Walks (V.visits cx.now) visitor.old ((I.meaning cx.now).args args.now) visitor.new result }
+    ensures { Walks (V.visits cx.now) 0 visitor.old ((I.meaning cx.now).args args.now) visitor.new result }
 {
     for arg in cx.args(args) {
         visit_arg_with(cx, arg, visitor)?;
@@ -209,7 +211,7 @@ pub fn visit_tys_with<I: Interner, V: TypeVisitor<I>>(
     visitor: &mut V,
 ) -> ControlFlow<()>
     requires { IsTrue (known ((I.meaning cx.now).tys tys.now)) }
-    ensures { Walks (V.visits cx.now) visitor.old ((I.meaning cx.now).tys tys.now) visitor.new result }
+    ensures { Walks (V.visits cx.now) 0 visitor.old ((I.meaning cx.now).tys tys.now) visitor.new result }
 {
     for ty in cx.tys(tys) {
         visit_ty_with(cx, ty, visitor)?;

@@ -1,9 +1,11 @@
 //! What can be related.
-ghost use Rattle.std.specs.Prelude.{◌≡◌, ◌≢◌};
+ghost use Rattle.std.specs.Prelude.{◌≡◌, ◌≢◌, IsTrue, Option, Some, None};
+ghost use Rattle.std.proofs.Common.{ap, sym, ◌∙◌};
 ghost use Rattle.relation_terms.specs.declared.terms.enums.Variance.TheVariants.{Bivariant};
-ghost use Rattle.relation_terms.specs.Meaning.{Meaning, arg_tree, term_tree};
-ghost use Rattle.relation_terms.specs.Trees.{Tree, node, count};
-ghost use Rattle.relation_terms.specs.Heads.{arguments};
+ghost use Rattle.relation_terms.specs.Meaning.{Meaning, Extends};
+ghost use Rattle.relation_terms.specs.Trees.{known, count};
+ghost use Rattle.relation_terms.specs.Heads.{Head, arguments};
+ghost use Rattle.type_relations.specs.Arguments.{related_tree};
 ghost use Rattle.type_relations.specs.Lawful.{Asked, Related};
 
 use crate::relate::TypeRelation;
@@ -16,9 +18,11 @@ use relation_tools::error::{RelateFault, RelateResult, TypeError};
 use relation_tools::fold::TypeFoldable;
 
 /// What can be related: types, regions, constants, generic arguments and terms, and lists of arguments.
+///
+/// What is related of it is its tree, or of a list a form over its tree, which the ghost member `over` names.
 pub trait Relate<I: Interner>: TypeFoldable<I> + PartialEq + Copy {
-    // The tree that is related: its own, or the form over its parts.
-    ghost term: { Meaning I.Key I.Id I.Name → Self → Tree };
+    // The form over its tree that is related, where that is not the tree itself.
+    ghost over: { Option Head };
 
     // What is asked of the two besides.
     ghost fits: { Meaning I.Key I.Id I.Name → Self → Self → Type 0 };
@@ -35,52 +39,69 @@ pub trait Relate<I: Interner>: TypeFoldable<I> + PartialEq + Copy {
         requires lawful { (R.state r.old).lawful }
         requires decides { (R.state r.old).ambient ≢ Bivariant }
         requires fits { fits (R.state r.old).meaning a.now b.now }
-        requires asked { Asked R.manner (R.state r.old) (R.state r.old).ambient (term (R.state r.old).meaning a.now) (term (R.state r.old).meaning b.now) }
-        ensures { Related R.manner (R.state r.old) (R.state r.new) (R.state r.old).ambient (term (R.state r.old).meaning a.now) (term (R.state r.old).meaning b.now) (term (R.state r.new).meaning) result };
+        requires asked { Asked R.manner (R.state r.old) (R.state r.old).ambient
+            (related_tree over (Self.tree (R.state r.old).meaning a.now))
+            (related_tree over (Self.tree (R.state r.old).meaning b.now)) }
+        ensures { Related R.manner (R.state r.old) (R.state r.new) (R.state r.old).ambient
+            (related_tree over (Self.tree (R.state r.old).meaning a.now))
+            (related_tree over (Self.tree (R.state r.old).meaning b.now))
+            (λ x. related_tree over (Self.tree (R.state r.new).meaning x)) result };
+
+    // What is asked of two that are known holds on while the interner grows.
+    ghost fits_on: { (m n : Meaning I.Key I.Id I.Name) → Extends m n → (x y : Self) → IsTrue (known (Self.tree m x)) →
+        IsTrue (known (Self.tree m y)) → fits m x y → fits n x y };
 }
 
 impl<I: Interner> Relate<I> for TyKey<I::Key> {
-    ghost term = { λ m k. m.ty k };
+    ghost over = { None };
 
     ghost fits = { λ m a b. Unit {0} };
 
     fn relate<R: TypeRelation<I>>(r: &mut R, a: &Self, b: &Self) -> RelateResult<I, Self> {
         tys(r, a, b)
     }
+
+    ghost fits_on = { λ m n e x y h k f. tt };
 }
 
 impl<I: Interner> Relate<I> for RegionKey<I::Key> {
-    ghost term = { λ m k. m.region k };
+    ghost over = { None };
 
     ghost fits = { λ m a b. Unit {0} };
 
     fn relate<R: TypeRelation<I>>(r: &mut R, a: &Self, b: &Self) -> RelateResult<I, Self> {
         r.regions(a, b)
     }
+
+    ghost fits_on = { λ m n e x y h k f. tt };
 }
 
 impl<I: Interner> Relate<I> for ConstKey<I::Key> {
-    ghost term = { λ m k. m.const_ k };
+    ghost over = { None };
 
     ghost fits = { λ m a b. Unit {0} };
 
     fn relate<R: TypeRelation<I>>(r: &mut R, a: &Self, b: &Self) -> RelateResult<I, Self> {
         consts(r, a, b)
     }
+
+    ghost fits_on = { λ m n e x y h k f. tt };
 }
 
 impl<I: Interner> Relate<I> for GenericArgKind<I::Key> {
-    ghost term = { λ m a. arg_tree m a };
+    ghost over = { None };
 
     ghost fits = { λ m a b. Unit {0} };
 
     fn relate<R: TypeRelation<I>>(r: &mut R, a: &Self, b: &Self) -> RelateResult<I, Self> {
         relate(r, a, b)
     }
+
+    ghost fits_on = { λ m n e x y h k f. tt };
 }
 
 impl<I: Interner> Relate<I> for ArgsKey<I::Key> {
-    ghost term = { λ m k. node arguments (m.args k) };
+    ghost over = { Some arguments };
 
     ghost fits = { λ m a b. count (m.args a) ≡ count (m.args b) };
 
@@ -88,10 +109,12 @@ impl<I: Interner> Relate<I> for ArgsKey<I::Key> {
     fn relate<R: TypeRelation<I>>(r: &mut R, a: &Self, b: &Self) -> RelateResult<I, Self> {
         relate_args_invariantly(r, a, b)
     }
+
+    ghost fits_on = { λ m n e x y h k f. ap count (e.args x h) ∙ (f ∙ sym (ap count (e.args y k))) };
 }
 
 impl<I: Interner> Relate<I> for TermKind<I::Key> {
-    ghost term = { λ m t. term_tree m t };
+    ghost over = { None };
 
     ghost fits = { λ m a b. Unit {0} };
 
@@ -112,4 +135,6 @@ impl<I: Interner> Relate<I> for TermKind<I::Key> {
             }
         }
     }
+
+    ghost fits_on = { λ m n e x y h k f. tt };
 }

@@ -41,7 +41,7 @@ fold_ty_with-returns-in-Replace g t c =
     let by = c.in-Replace.by in
     let stay : n.ty c.args.ty.now ≡ m.ty c.args.ty.now = r.steps.grown.ty c.args.ty.now c.requires.known in
     let sure : IsTrue (known (n.ty by)) = subst (λ a. KnownAnswer n.ty a) c.in-Replace.is r.sure in
-    let made : n.ty by ≡ folded p (m.ty c.args.ty.now) = sym (folded_put type_sort refl p (m.ty c.args.ty.now) (n.ty
+    let made : n.ty by ≡ folded p 0 (m.ty c.args.ty.now) = sym (folded_put type_sort refl p 0 (m.ty c.args.ty.now) (n.ty
     by)
     (g.met.I.Interner.is_ty c.args.cx.now c.args.ty.now c.requires.known) (r.made ∙ ap (answered n.ty)
     c.in-Replace.is)) in
@@ -61,16 +61,16 @@ fold_ty_with-returns-in-Descend g t c =
     let q = g.F.TypeFolder.replaces n c.fold_ty.new.self in
     let r = c.in_ok-by.ensures in
     let stay : n.ty c.args.ty.now ≡ m.ty c.args.ty.now = r.steps.grown.ty c.args.ty.now c.requires.known in
-    let left : folded p (m.ty c.args.ty.now) ≡ folded_parts p (m.ty c.args.ty.now) =
-    folded_left type_sort p (m.ty c.args.ty.now) (g.met.I.Interner.is_ty c.args.cx.now c.args.ty.now
+    let left : folded p 0 (m.ty c.args.ty.now) ≡ folded_parts p 0 (m.ty c.args.ty.now) =
+    folded_left type_sort p 0 (m.ty c.args.ty.now) (g.met.I.Interner.is_ty c.args.cx.now c.args.ty.now
     c.requires.known)
     (r.made ∙ ap (answered n.ty) c.in-Descend.is) in
-    let parts : folded_parts q (n.ty c.args.ty.now) ≡ folded_parts p (m.ty c.args.ty.now) =
-    parts_later p q r.steps.kept (m.ty c.args.ty.now) (n.ty c.args.ty.now) stay in
+    let parts : folded_parts q 0 (n.ty c.args.ty.now) ≡ folded_parts p 0 (m.ty c.args.ty.now) =
+    parts_later p q r.steps.kept 0 (m.ty c.args.ty.now) (n.ty c.args.ty.now) stay in
     let steps = steps_on r.steps c.super_fold_ty.ensures.steps in
     let o = g.I.Interner.meaning c.super_fold_ty.new.cx in
     let later : o.ty c.args.ty.now ≡ m.ty c.args.ty.now = steps.grown.ty c.args.ty.now c.requires.known in
-    let made : IfOk c.super_fold_ty.result (λ x. o.ty x ≡ folded p (m.ty c.args.ty.now)) =
+    let made : IfOk c.super_fold_ty.result (λ x. o.ty x ≡ folded p 0 (m.ty c.args.ty.now)) =
     if_ok c.super_fold_ty.result (λ x e. e ∙ (parts ∙ sym left)) c.super_fold_ty.ensures.made in
     record {
       steps = steps;
@@ -108,7 +108,7 @@ fold_const_with-returns-in-Replace g t c =
     let stay : n.const_ c.args.constant.now ≡ m.const_ c.args.constant.now = r.steps.grown.const_ c.args.constant.now
     c.requires.known in
     let sure : IsTrue (known (n.const_ by)) = subst (λ a. KnownAnswer n.const_ a) c.in-Replace.is r.sure in
-    let made : n.const_ by ≡ folded p (m.const_ c.args.constant.now) = sym (folded_put const_sort refl p (m.const_
+    let made : n.const_ by ≡ folded p 0 (m.const_ c.args.constant.now) = sym (folded_put const_sort refl p 0 (m.const_
     c.args.constant.now) (n.const_ by)
     (g.met.I.Interner.is_const c.args.cx.now c.args.constant.now c.requires.known) (r.made ∙ ap (answered
     n.const_) c.in-Replace.is)) in
@@ -130,17 +130,17 @@ fold_const_with-returns-in-Descend g t c =
     let r = c.in_ok-by.ensures in
     let stay : n.const_ c.args.constant.now ≡ m.const_ c.args.constant.now = r.steps.grown.const_ c.args.constant.now
     c.requires.known in
-    let left : folded p (m.const_ c.args.constant.now) ≡ folded_parts p (m.const_ c.args.constant.now) =
-    folded_left const_sort p (m.const_ c.args.constant.now) (g.met.I.Interner.is_const c.args.cx.now
+    let left : folded p 0 (m.const_ c.args.constant.now) ≡ folded_parts p 0 (m.const_ c.args.constant.now) =
+    folded_left const_sort p 0 (m.const_ c.args.constant.now) (g.met.I.Interner.is_const c.args.cx.now
     c.args.constant.now c.requires.known)
     (r.made ∙ ap (answered n.const_) c.in-Descend.is) in
-    let parts : folded_parts q (n.const_ c.args.constant.now) ≡ folded_parts p (m.const_ c.args.constant.now) =
-    parts_later p q r.steps.kept (m.const_ c.args.constant.now) (n.const_ c.args.constant.now) stay in
+    let parts : folded_parts q 0 (n.const_ c.args.constant.now) ≡ folded_parts p 0 (m.const_ c.args.constant.now) =
+    parts_later p q r.steps.kept 0 (m.const_ c.args.constant.now) (n.const_ c.args.constant.now) stay in
     let steps = steps_on r.steps c.super_fold_const.ensures.steps in
     let o = g.I.Interner.meaning c.super_fold_const.new.cx in
     let later : o.const_ c.args.constant.now ≡ m.const_ c.args.constant.now = steps.grown.const_ c.args.constant.now
     c.requires.known in
-    let made : IfOk c.super_fold_const.result (λ x. o.const_ x ≡ folded p (m.const_ c.args.constant.now)) =
+    let made : IfOk c.super_fold_const.result (λ x. o.const_ x ≡ folded p 0 (m.const_ c.args.constant.now)) =
     if_ok c.super_fold_const.result (λ x e. e ∙ (parts ∙ sym left)) c.super_fold_const.ensures.made in
     record {
       steps = steps;
@@ -167,7 +167,7 @@ super_fold_ty-returns g t c =
       steps = steps_grown g.met.F.TypeFolder.ready_on g.met.F.TypeFolder.replaces_on c.in_ok-kind.ensures.steps
           r.grown;
       sure = r.sure;
-      made = r.made ∙ (c.in_ok-kind.ensures.made ∙ ap (folded_parts p) (sym c.ty_kind.ensures));
+      made = r.made ∙ (c.in_ok-kind.ensures.made ∙ ap (folded_parts p 0) (sym c.ty_kind.ensures));
     }
 
 pub super_fold_const-returns-in_err-made-clause-steps :
@@ -185,7 +185,7 @@ super_fold_const-returns g t c =
       steps = steps_grown g.met.F.TypeFolder.ready_on g.met.F.TypeFolder.replaces_on c.in_ok-kind.ensures.steps
           r.grown;
       sure = r.sure;
-      made = r.made ∙ (c.in_ok-kind.ensures.made ∙ ap (folded_parts p) (sym c.const_kind.ensures));
+      made = r.made ∙ (c.in_ok-kind.ensures.made ∙ ap (folded_parts p 0) (sym c.const_kind.ensures));
     }
 
 pub fold_kind-returns-in_ok-fold_args_with-in-Adt : goal.fold_kind-returns-in_ok-fold_args_with-in-Adt
@@ -196,7 +196,7 @@ fold_kind-returns-in_ok-fold_args_with-in-Adt g t c =
     record {
       steps = r.steps;
       sure = r.sure;
-      made = list_made p (adt (m.id c.in-Adt.def.0)) (kind_tree m c.args.kind) _ (m.args c.in-Adt.args) _
+      made = list_made p 0 (adt (m.id c.in-Adt.def.0)) (kind_tree m c.args.kind) _ (m.args c.in-Adt.args) _
           (ap (λ x. adt x) (r.steps.grown.id c.in-Adt.def.0)) (ap (kind_tree m) c.in-Adt.is) r.made;
     }
 
@@ -209,7 +209,7 @@ fold_kind-returns-in_ok-fold_args_with-in-FnDef g t c =
     record {
       steps = r.steps;
       sure = r.sure;
-      made = list_made p (fn_def (m.id c.in-FnDef.def.0)) (kind_tree m c.args.kind) _ (m.args c.in-FnDef.args) _
+      made = list_made p 0 (fn_def (m.id c.in-FnDef.def.0)) (kind_tree m c.args.kind) _ (m.args c.in-FnDef.args) _
           (ap (λ x. fn_def x) (r.steps.grown.id c.in-FnDef.def.0)) (ap (kind_tree m) c.in-FnDef.is) r.made;
     }
 
@@ -222,7 +222,7 @@ fold_kind-returns-in_ok-fold_args_with-in-Closure g t c =
     record {
       steps = r.steps;
       sure = r.sure;
-      made = list_made p (closure (m.id c.in-Closure.def.0)) (kind_tree m c.args.kind) _ (m.args c.in-Closure.args) _
+      made = list_made p 0 (closure (m.id c.in-Closure.def.0)) (kind_tree m c.args.kind) _ (m.args c.in-Closure.args) _
           (ap (λ x. closure x) (r.steps.grown.id c.in-Closure.def.0)) (ap (kind_tree m) c.in-Closure.is) r.made;
     }
 
@@ -235,7 +235,7 @@ fold_kind-returns-in_ok-fold_args_with-in-CoroutineClosure g t c =
     record {
       steps = r.steps;
       sure = r.sure;
-      made = list_made p (coroutine_closure (m.id c.in-CoroutineClosure.def.0)) (kind_tree m c.args.kind) _ (m.args
+      made = list_made p 0 (coroutine_closure (m.id c.in-CoroutineClosure.def.0)) (kind_tree m c.args.kind) _ (m.args
           c.in-CoroutineClosure.args) _
           (ap (λ x. coroutine_closure x) (r.steps.grown.id c.in-CoroutineClosure.def.0)) (ap (kind_tree m)
           c.in-CoroutineClosure.is) r.made;
@@ -250,7 +250,7 @@ fold_kind-returns-in_ok-fold_args_with-in-Coroutine g t c =
     record {
       steps = r.steps;
       sure = r.sure;
-      made = list_made p (coroutine (m.id c.in-Coroutine.def.0)) (kind_tree m c.args.kind) _ (m.args
+      made = list_made p 0 (coroutine (m.id c.in-Coroutine.def.0)) (kind_tree m c.args.kind) _ (m.args
           c.in-Coroutine.args) _
           (ap (λ x. coroutine x) (r.steps.grown.id c.in-Coroutine.def.0)) (ap (kind_tree m) c.in-Coroutine.is) r.made;
     }
@@ -264,7 +264,7 @@ fold_kind-returns-in_ok-fold_args_with-in-CoroutineWitness g t c =
     record {
       steps = r.steps;
       sure = r.sure;
-      made = list_made p (coroutine_witness (m.id c.in-CoroutineWitness.def.0)) (kind_tree m c.args.kind) _ (m.args
+      made = list_made p 0 (coroutine_witness (m.id c.in-CoroutineWitness.def.0)) (kind_tree m c.args.kind) _ (m.args
           c.in-CoroutineWitness.args) _
           (ap (λ x. coroutine_witness x) (r.steps.grown.id c.in-CoroutineWitness.def.0)) (ap (kind_tree m)
           c.in-CoroutineWitness.is) r.made;
@@ -279,7 +279,7 @@ fold_kind-returns-in_ok-fold_tys_with-in-Tuple g t c =
     record {
       steps = r.steps;
       sure = r.sure;
-      made = list_made p tuple (kind_tree m c.args.kind) tuple (m.tys c.in-Tuple.members) _ refl
+      made = list_made p 0 tuple (kind_tree m c.args.kind) tuple (m.tys c.in-Tuple.members) _ refl
           (ap (kind_tree m) c.in-Tuple.is) r.made;
     }
 
@@ -291,7 +291,7 @@ fold_kind-returns-in_ok-fold_ty_with-in-Slice g t c =
     record {
       steps = r.steps;
       sure = one_known r.sure;
-      made = one_made p slice (kind_tree m c.args.kind) (m.ty c.in-Slice.element) _ (ap (kind_tree m) c.in-Slice.is)
+      made = one_made p 0 slice (kind_tree m c.args.kind) (m.ty c.in-Slice.element) _ (ap (kind_tree m) c.in-Slice.is)
           r.made;
     }
 
@@ -304,7 +304,7 @@ fold_kind-returns-in_ok-fold_ty_with-in-RawPtr g t c =
     record {
       steps = r.steps;
       sure = one_known r.sure;
-      made = one_made p (raw_ptr c.in-RawPtr.mutability) (kind_tree m c.args.kind) (m.ty c.in-RawPtr.pointee) _ (ap
+      made = one_made p 0 (raw_ptr c.in-RawPtr.mutability) (kind_tree m c.args.kind) (m.ty c.in-RawPtr.pointee) _ (ap
           (kind_tree m) c.in-RawPtr.is) r.made;
     }
 
@@ -355,8 +355,8 @@ fold_kind-returns-in_ok-fold_const_with-in-Array g t c =
     record {
       steps = steps_on a.ensures.steps b.ensures.steps;
       sure = two_known x b.ensures.sure;
-      made = two_made p array (kind_tree m c.args.kind) (m.ty c.in-Array.element) (m.const_ u) (o.ty a.element) _ is
-          q (later c.in_ok-element-in-Array.ensures.steps (m.const_ u) _ _ e b.ensures.made);
+      made = two_made p 0 array (kind_tree m c.args.kind) (m.ty c.in-Array.element) (m.const_ u) (o.ty a.element) _ is
+          q (later c.in_ok-element-in-Array.ensures.steps 0 (m.const_ u) _ _ e b.ensures.made);
     }
 
 pub fold_kind-fold_ty_with-requires-in-Ref : goal.fold_kind-fold_ty_with-requires-in-Ref
@@ -404,8 +404,8 @@ fold_kind-returns-in_ok-fold_ty_with-in-Ref g t c =
     record {
       steps = steps_on a.ensures.steps b.ensures.steps;
       sure = two_known x b.ensures.sure;
-      made = two_made p (ref c.in-Ref.mutability) (kind_tree m c.args.kind) (m.region c.in-Ref.region) (m.ty u)
-          (o.region a.region) _ is q (later c.in_ok-region-in-Ref.ensures.steps (m.ty u) _ _ e b.ensures.made);
+      made = two_made p 0 (ref c.in-Ref.mutability) (kind_tree m c.args.kind) (m.region c.in-Ref.region) (m.ty u)
+          (o.region a.region) _ is q (later c.in_ok-region-in-Ref.ensures.steps 0 (m.ty u) _ _ e b.ensures.made);
     }
 
 pub fold_const_kind-fold_valtree_with-requires : goal.fold_const_kind-fold_valtree_with-requires
@@ -455,9 +455,9 @@ fold_const_kind-returns-in_ok-fold_valtree_with-in-Value g t c =
     record {
       steps = steps_on a.ensures.steps b.ensures.steps;
       sure = two_known (one_known x) b.ensures.sure;
-      made = two_made p value (const_tree m c.args.kind) (node value_type (cons (m.ty c.in-Value.ty) nil)) (m.valtree
+      made = two_made p 0 value (const_tree m c.args.kind) (node value_type (cons (m.ty c.in-Value.ty) nil)) (m.valtree
           u) (node value_type (cons (o.ty a.ty) nil)) _ is (ap (λ z. node value_type (cons z nil)) q) (later
-          c.in_ok-ty-in-Value.ensures.steps (m.valtree u) _ _ e b.ensures.made);
+          c.in_ok-ty-in-Value.ensures.steps 0 (m.valtree u) _ _ e b.ensures.made);
     }
 
 pub fold_kind-returns-in_default : goal.fold_kind-returns-in_default
@@ -468,7 +468,7 @@ fold_kind-returns-in_default g t c =
     record {
       steps = steps_none m c.args.folder.now c.requires.ready;
       sure = c.requires.known;
-      made = leaf_made m p c.args.kind n.not-Adt n.not-Array n.not-Slice n.not-RawPtr n.not-Ref n.not-FnDef
+      made = leaf_made m p 0 c.args.kind n.not-Adt n.not-Array n.not-Slice n.not-RawPtr n.not-Ref n.not-FnDef
           n.not-Closure
           n.not-CoroutineClosure n.not-Coroutine n.not-CoroutineWitness n.not-Tuple;
     }
@@ -481,7 +481,7 @@ fold_const_kind-returns-in_default g t c =
     record {
       steps = steps_none m c.args.folder.now c.requires.ready;
       sure = c.requires.known;
-      made = const_leaf_made m p c.args.kind n.not-Value n.not-Expr;
+      made = const_leaf_made m p 0 c.args.kind n.not-Value n.not-Expr;
     }
 
 pub fold_const_kind-returns-in_ok-fold_args_with-in-Expr :
@@ -493,7 +493,7 @@ fold_const_kind-returns-in_ok-fold_args_with-in-Expr g t c =
     record {
       steps = r.steps;
       sure = r.sure;
-      made = list_made p (expression c.in-Expr.kind.0) (const_tree m c.args.kind) _ (m.args c.in-Expr.args) _ refl
+      made = list_made p 0 (expression c.in-Expr.kind.0) (const_tree m c.args.kind) _ (m.args c.in-Expr.args) _ refl
           (ap (const_tree m) c.in-Expr.is) r.made;
     }
 
@@ -507,7 +507,7 @@ fold_valtree_with-returns-in-Leaf g t c =
     record {
       steps = steps_none m c.args.folder.now c.requires.ready;
       sure = c.requires.known;
-      made = e ∙ ap (folded p) (sym e);
+      made = e ∙ ap (folded p 0) (sym e);
     }
 
 pub fold_valtree_with-returns-in_err-made-in-Branch-clause-steps :
@@ -528,7 +528,7 @@ fold_valtree_with-returns-in_ok-made-in-Branch g t c =
     record {
       steps = steps_grown g.met.F.TypeFolder.ready_on g.met.F.TypeFolder.replaces_on a.steps b.grown;
       sure = b.sure;
-      made = b.made ∙ (ap (λ x. node value_branch x) a.made ∙ ap (folded p) (sym e));
+      made = b.made ∙ (ap (λ x. node value_branch x) a.made ∙ ap (folded p 0) (sym e));
     }
 
 pub fold_arg_with-returns-in_ok-fold_region_with-in-Lifetime :
@@ -540,7 +540,7 @@ fold_arg_with-returns-in_ok-fold_region_with-in-Lifetime g t c =
     record {
       steps = r.steps;
       sure = r.sure;
-      made = r.made ∙ ap (λ a. folded p (arg_tree m a)) (sym c.in-Lifetime.is);
+      made = r.made ∙ ap (λ a. folded p 0 (arg_tree m a)) (sym c.in-Lifetime.is);
     }
 
 pub fold_arg_with-returns-in_ok-fold_ty_with-in-Ty :
@@ -552,7 +552,7 @@ fold_arg_with-returns-in_ok-fold_ty_with-in-Ty g t c =
     record {
       steps = r.steps;
       sure = r.sure;
-      made = r.made ∙ ap (λ a. folded p (arg_tree m a)) (sym c.in-Ty.is);
+      made = r.made ∙ ap (λ a. folded p 0 (arg_tree m a)) (sym c.in-Ty.is);
     }
 
 pub fold_arg_with-returns-in_ok-fold_const_with-in-Const :
@@ -564,7 +564,7 @@ fold_arg_with-returns-in_ok-fold_const_with-in-Const g t c =
     record {
       steps = r.steps;
       sure = r.sure;
-      made = r.made ∙ ap (λ a. folded p (arg_tree m a)) (sym c.in-Const.is);
+      made = r.made ∙ ap (λ a. folded p 0 (arg_tree m a)) (sym c.in-Const.is);
     }
 
 pub fold_args_with-fold_arg_with-requires : goal.fold_args_with-fold_arg_with-requires
@@ -612,14 +612,14 @@ fold_args_with-loop-arg-preserved g t c =
     let o = g.I.Interner.meaning c.fold_arg_with.new.cx in
     let r = c.in_ok-fold_arg_with.ensures in
     let y = c.in_ok-fold_arg_with.field-0 in
-    let made : (arg_tree o) y ≡ folded p ((arg_tree m) x) = later s ((arg_tree m) x) ((arg_tree n) x) ((arg_tree o)
+    let made : (arg_tree o) y ≡ folded p 0 ((arg_tree m) x) = later s 0 ((arg_tree m) x) ((arg_tree n) x) ((arg_tree o)
     y) e r.made in
     let is = c.arg-item.is in
     let more : take (i + 1) items ≡ take i items ++ x ∷ [] =
     take_more items i x less ∙ ap (λ z. take i items ++ z ∷ []) (sym is) in
     record {
       steps = steps_on s r.steps;
-      listed = listed_next p (arg_tree m) (arg_tree n) (arg_tree o) _ _ _ _ x y c.loop-arg.invariant.listed (λ z k.
+      listed = listed_next p 0 (arg_tree m) (arg_tree n) (arg_tree o) _ _ _ _ x y c.loop-arg.invariant.listed (λ z k.
           stays_arg r.steps.grown z k) made
           r.sure more c.in_ok-push.ensures.items;
     }
@@ -640,9 +640,9 @@ fold_args_with-returns-clause-same g t c =
     read.ensures ∙ ap (list_tree (arg_tree m)) (sym (c.deref-arg-items.ensures.value ∙ c.in_ok-list.ensures)) in
     let over : length items ≤ c.loop-arg.arg-index = (let h = c.loop-arg-test.false in omega (arith, h)) in
     let all : take c.loop-arg.arg-index items ≡ items = take_all items c.loop-arg.arg-index over in
-    let rest : folded p (list_tree (arg_tree m) (take c.loop-arg.arg-index items)) ≡ folded p (m.args k) =
-    ap (λ z. folded p (list_tree (arg_tree m) z)) all ∙ ap (folded p) (sym whole) in
-    let made : o.args x ≡ folded p (m.args k) =
+    let rest : folded p 0 (list_tree (arg_tree m) (take c.loop-arg.arg-index items)) ≡ folded p 0 (m.args k) =
+    ap (λ z. folded p 0 (list_tree (arg_tree m) z)) all ∙ ap (folded p 0) (sym whole) in
+    let made : o.args x ≡ folded p 0 (m.args k) =
     c.in_ok-folded.ensures.made ∙ (ap (list_tree (arg_tree n)) c.deref.ensures.value ∙
     (c.loop-arg.invariant.listed.same ∙ rest)) in
     λ q. (g.met.I.Interner.same_args c.mk_args.new.self x k c.in_ok-folded.ensures.sure
@@ -703,13 +703,13 @@ fold_tys_with-loop-ty-preserved g t c =
     let o = g.I.Interner.meaning c.fold_ty_with.new.cx in
     let r = c.in_ok-fold_ty_with.ensures in
     let y = c.in_ok-fold_ty_with.field-0 in
-    let made : o.ty y ≡ folded p (m.ty x) = later s (m.ty x) (n.ty x) (o.ty y) e r.made in
+    let made : o.ty y ≡ folded p 0 (m.ty x) = later s 0 (m.ty x) (n.ty x) (o.ty y) e r.made in
     let is = c.ty-item.is in
     let more : take (i + 1) items ≡ take i items ++ x ∷ [] =
     take_more items i x less ∙ ap (λ z. take i items ++ z ∷ []) (sym is) in
     record {
       steps = steps_on s r.steps;
-      listed = listed_next p m.ty n.ty o.ty _ _ _ _ x y c.loop-ty.invariant.listed (r.steps.grown.ty) made
+      listed = listed_next p 0 m.ty n.ty o.ty _ _ _ _ x y c.loop-ty.invariant.listed (r.steps.grown.ty) made
           r.sure more c.in_ok-push.ensures.items;
     }
 
@@ -729,9 +729,9 @@ fold_tys_with-returns-clause-same g t c =
     read.ensures ∙ ap (list_tree m.ty) (sym (c.deref-ty-items.ensures.value ∙ c.in_ok-list.ensures)) in
     let over : length items ≤ c.loop-ty.ty-index = (let h = c.loop-ty-test.false in omega (arith, h)) in
     let all : take c.loop-ty.ty-index items ≡ items = take_all items c.loop-ty.ty-index over in
-    let rest : folded p (list_tree m.ty (take c.loop-ty.ty-index items)) ≡ folded p (m.tys k) =
-    ap (λ z. folded p (list_tree m.ty z)) all ∙ ap (folded p) (sym whole) in
-    let made : o.tys x ≡ folded p (m.tys k) =
+    let rest : folded p 0 (list_tree m.ty (take c.loop-ty.ty-index items)) ≡ folded p 0 (m.tys k) =
+    ap (λ z. folded p 0 (list_tree m.ty z)) all ∙ ap (folded p 0) (sym whole) in
+    let made : o.tys x ≡ folded p 0 (m.tys k) =
     c.in_ok-folded.ensures.made ∙ (ap (list_tree n.ty) c.deref.ensures.value ∙ (c.loop-ty.invariant.listed.same ∙
     rest)) in
     λ q. (g.met.I.Interner.same_tys c.mk_type_list.new.self x k c.in_ok-folded.ensures.sure
@@ -793,13 +793,13 @@ fold_branches_with-loop-constant-preserved g t c =
     let o = g.I.Interner.meaning c.fold_const_with.new.cx in
     let r = c.in_ok-fold_const_with.ensures in
     let y = c.in_ok-fold_const_with.field-0 in
-    let made : o.const_ y ≡ folded p (m.const_ x) = later s (m.const_ x) (n.const_ x) (o.const_ y) e r.made in
+    let made : o.const_ y ≡ folded p 0 (m.const_ x) = later s 0 (m.const_ x) (n.const_ x) (o.const_ y) e r.made in
     let is = c.constant-item.is in
     let more : take (i + 1) items ≡ take i items ++ x ∷ [] =
     take_more items i x less ∙ ap (λ z. take i items ++ z ∷ []) (sym is) in
     record {
       steps = steps_on s r.steps;
-      listed = listed_next p m.const_ n.const_ o.const_ _ _ _ _ x y c.loop-constant.invariant.listed
+      listed = listed_next p 0 m.const_ n.const_ o.const_ _ _ _ _ x y c.loop-constant.invariant.listed
           (r.steps.grown.const_) made
           r.sure more c.in_ok-push.ensures.items;
     }

@@ -42,7 +42,7 @@ abbrev pub invariant-fold_args_with-loop-arg : goal.invariant-fold_args_with-loo
 invariant-fold_args_with-loop-arg g l = record {
   steps : Steps g.F.TypeFolder.ready g.F.TypeFolder.replaces (g.I.Interner.meaning l.fn.cx) l.fn.folder
       (g.I.Interner.meaning l.cx) l.folder;
-  listed : Listed (g.F.TypeFolder.replaces (g.I.Interner.meaning l.fn.cx) l.fn.folder)
+  listed : Listed (g.F.TypeFolder.replaces (g.I.Interner.meaning l.fn.cx) l.fn.folder) 0
       (arg_tree (g.I.Interner.meaning l.fn.cx)) (arg_tree (g.I.Interner.meaning l.cx))
       (take l.arg-index l.arg-items) l.made.items;
 }
@@ -51,7 +51,7 @@ abbrev pub invariant-fold_tys_with-loop-ty : goal.invariant-fold_tys_with-loop-t
 invariant-fold_tys_with-loop-ty g l = record {
   steps : Steps g.F.TypeFolder.ready g.F.TypeFolder.replaces (g.I.Interner.meaning l.fn.cx) l.fn.folder
       (g.I.Interner.meaning l.cx) l.folder;
-  listed : Listed (g.F.TypeFolder.replaces (g.I.Interner.meaning l.fn.cx) l.fn.folder)
+  listed : Listed (g.F.TypeFolder.replaces (g.I.Interner.meaning l.fn.cx) l.fn.folder) 0
       (g.I.Interner.meaning l.fn.cx).ty (g.I.Interner.meaning l.cx).ty (take l.ty-index l.ty-items) l.made.items;
 }
 
@@ -59,7 +59,7 @@ abbrev pub invariant-fold_branches_with-loop-constant : goal.invariant-fold_bran
 invariant-fold_branches_with-loop-constant g l = record {
   steps : Steps g.F.TypeFolder.ready g.F.TypeFolder.replaces (g.I.Interner.meaning l.fn.cx) l.fn.folder
       (g.I.Interner.meaning l.cx) l.folder;
-  listed : Listed (g.F.TypeFolder.replaces (g.I.Interner.meaning l.fn.cx) l.fn.folder)
+  listed : Listed (g.F.TypeFolder.replaces (g.I.Interner.meaning l.fn.cx) l.fn.folder) 0
       (g.I.Interner.meaning l.fn.cx).const_ (g.I.Interner.meaning l.cx).const_
       (take l.constant-index l.constant-items) l.made.items;
 }

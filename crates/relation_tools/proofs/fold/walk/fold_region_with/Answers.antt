@@ -16,7 +16,7 @@ returns-in-Replace g c =
     let by = c.in-Replace.by in
     let stay : n.region k ≡ m.region k = r.steps.grown.region k c.requires.known in
     let sure : IsTrue (known (n.region by)) = subst (λ a. KnownAnswer n.region a) c.in-Replace.is r.sure in
-    let made : n.region by ≡ folded p (m.region k) = sym (folded_put region_sort refl p (m.region k) (n.region by)
+    let made : n.region by ≡ folded p 0 (m.region k) = sym (folded_put region_sort refl p 0 (m.region k) (n.region by)
     (g.met.I.Interner.is_region c.args.cx.now k c.requires.known) (r.made ∙ ap (answered n.region)
     c.in-Replace.is)) in
     record {
@@ -39,7 +39,7 @@ returns-in-Descend g c =
     record {
       steps = r.steps;
       sure = sure;
-      made = stay ∙ sym (region_left p (m.region k) (g.met.I.Interner.is_region c.args.cx.now k c.requires.known)
+      made = stay ∙ sym (region_left p 0 (m.region k) (g.met.I.Interner.is_region c.args.cx.now k c.requires.known)
           (r.made ∙ ap (answered n.region) c.in-Descend.is));
       same = λ q. (g.met.I.Interner.same_region c.fold_region.new.cx k k sure sure).1 refl;
     }

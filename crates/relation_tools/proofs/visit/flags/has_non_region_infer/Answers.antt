@@ -4,7 +4,8 @@ use Rattle.relation_tools.proofs.visit.flags.has_non_region_infer.Goals as goal
 
 pub returns : goal.returns
 returns g c =
-    let t = g.T.TypeVisitable.tree (g.I.Interner.meaning c.args.cx.now) c.args.term.now in
+    let t = g.T.HasTree.tree (g.I.Interner.meaning c.args.cx.now) c.args.term.now in
     let r = c.visit_with.result in
-    let walked = searched is_non_region_infer infer_visited (record {}) c.visit_with.new.visitor t r c.visit_with.ensures in
+    let walked = searched is_non_region_infer infer_visited 0 (record {}) c.visit_with.new.visitor t r
+    c.visit_with.ensures in
     found (non_region_infer_stands t) c.is_break.result r c.is_break.ensures walked

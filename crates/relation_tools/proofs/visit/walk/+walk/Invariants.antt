@@ -35,20 +35,20 @@ decreases-visit_tys_with g l = 4 * size ((g.I.Interner.meaning l.cx.now).tys l.t
 abbrev pub invariant-visit_args_with-loop-arg : goal.invariant-visit_args_with-loop-arg
 invariant-visit_args_with-loop-arg g l =
     (w : _) (r : Flow) →
-    Walks (g.V.TypeVisitor.visits l.cx) l.visitor
+    Walks (g.V.TypeVisitor.visits l.cx) 0 l.visitor
     (list_tree (arg_tree (g.I.Interner.meaning l.cx)) (drop l.arg-index l.arg-items)) w r →
-    Walks (g.V.TypeVisitor.visits l.cx) l.fn.visitor ((g.I.Interner.meaning l.cx).args l.args) w r
+    Walks (g.V.TypeVisitor.visits l.cx) 0 l.fn.visitor ((g.I.Interner.meaning l.cx).args l.args) w r
 
 abbrev pub invariant-visit_branches_with-loop-constant : goal.invariant-visit_branches_with-loop-constant
 invariant-visit_branches_with-loop-constant g l =
     (w : _) (r : Flow) →
-    Walks (g.V.TypeVisitor.visits l.cx) l.visitor
+    Walks (g.V.TypeVisitor.visits l.cx) 0 l.visitor
     (list_tree (g.I.Interner.meaning l.cx).const_ (drop l.constant-index l.constant-items)) w r →
-    Walks (g.V.TypeVisitor.visits l.cx) l.fn.visitor ((g.I.Interner.meaning l.cx).branches l.branches) w r
+    Walks (g.V.TypeVisitor.visits l.cx) 0 l.fn.visitor ((g.I.Interner.meaning l.cx).branches l.branches) w r
 
 abbrev pub invariant-visit_tys_with-loop-ty : goal.invariant-visit_tys_with-loop-ty
 invariant-visit_tys_with-loop-ty g l =
     (w : _) (r : Flow) →
-    Walks (g.V.TypeVisitor.visits l.cx) l.visitor
+    Walks (g.V.TypeVisitor.visits l.cx) 0 l.visitor
     (list_tree (g.I.Interner.meaning l.cx).ty (drop l.ty-index l.ty-items)) w r →
-    Walks (g.V.TypeVisitor.visits l.cx) l.fn.visitor ((g.I.Interner.meaning l.cx).tys l.tys) w r
+    Walks (g.V.TypeVisitor.visits l.cx) 0 l.fn.visitor ((g.I.Interner.meaning l.cx).tys l.tys) w r

@@ -1,7 +1,8 @@
 use Rattle.std.proofs.Common.{sym, subst}
 use Rattle.std.specs.declared.ops.ControlFlow.TheVariants.{Continue}
 use Rattle.relation_terms.specs.Trees.{cons, nil}
-use Rattle.relation_tools.specs.Visits.{error_tree, Walks, no_part}
+use Rattle.relation_tools.specs.Faults.{error_tree}
+use Rattle.relation_tools.specs.Visits.{Walks, no_part}
 use Rattle.relation_tools.proofs.Errors.{names_nothing}
 use Rattle.relation_tools.proofs.Visiting.{over_two, over_first}
 use Rattle.relation_tools.proofs.visit.visitable.TypeErrorKeyIdNameTypeVisitable.visit_with.Goals as goal
@@ -13,8 +14,8 @@ returns-in_err-visit_with-in-RegionsDoesNotOutlive g c =
     let v = c.args.visitor.now in
     let w = c.visit_with.new.visitor in
     let two = c.in-RegionsDoesNotOutlive in
-    subst (λ e. Walks visits v (error_tree m e) w c.from_residual.result) (sym two.is)
-    (over_first visits v w (m.region two.longer) (cons (m.region two.shorter) nil) c.visit_with.result
+    subst (λ e. Walks visits 0 v (error_tree m e) w c.from_residual.result) (sym two.is)
+    (over_first visits 0 v w (m.region two.longer) (cons (m.region two.shorter) nil) c.visit_with.result
     c.from_residual.result c.visit_with.ensures (c.in_err-visit_with-in-RegionsDoesNotOutlive.was)
     c.from_residual.ensures)
 
@@ -26,8 +27,8 @@ returns-in_ok-visit_with-in-RegionsDoesNotOutlive g c =
     let w = c.visit_with-in-RegionsDoesNotOutlive.new.visitor in
     let r = c.visit_with-in-RegionsDoesNotOutlive.result in
     let two = c.in-RegionsDoesNotOutlive in
-    subst (λ e. Walks visits v (error_tree m e) w r) (sym two.is)
-    (over_two visits v c.visit_with.new.visitor w (m.region two.longer) (m.region two.shorter) c.visit_with.result r
+    subst (λ e. Walks visits 0 v (error_tree m e) w r) (sym two.is)
+    (over_two visits 0 v c.visit_with.new.visitor w (m.region two.longer) (m.region two.shorter) c.visit_with.result r
     c.visit_with.ensures (c.in_ok-visit_with-in-RegionsDoesNotOutlive.was)
     c.visit_with-in-RegionsDoesNotOutlive.ensures)
 
@@ -40,4 +41,4 @@ returns-in_default g c =
     let none = names_nothing m c.args.self.now d.not-ArraySize d.not-RegionsDoesNotOutlive
     d.not-RegionsInsufficientlyPolymorphic d.not-Sorts d.not-ArgumentSorts d.not-CyclicTy d.not-CyclicConst
     d.not-ConstMismatch in
-    subst (λ t. Walks visits v t v (Continue tt)) (sym none) no_part
+    subst (λ t. Walks visits 0 v t v (Continue tt)) (sym none) no_part
