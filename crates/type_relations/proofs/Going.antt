@@ -12,6 +12,7 @@ later_itself st = record {
   grows = λ k n h. h;
   entries_stand = λ k n h o. refl;
   constraints_stand = ([], sym (append-nil st.constraints));
+  universes_fall = λ k n h. omega arith;
   universe_stands = omega arith;
   shrinks = λ w s h. h;
 }
@@ -24,6 +25,7 @@ later_through {r} {q} {p} a b = record {
     a.constraints_stand.0 ++ b.constraints_stand.0,
     b.constraints_stand.1 ∙ ap (λ cs. cs ++ b.constraints_stand.0) a.constraints_stand.1 ∙ append_assoc r.constraints a.constraints_stand.0 b.constraints_stand.0,
   );
+  universes_fall = λ k n h. le_trans (b.universes_fall k n (a.grows k n h)) (a.universes_fall k n h);
   universe_stands = le_trans a.universe_stands b.universe_stands;
   shrinks = λ w s h. a.shrinks w s (b.shrinks w s h);
 }

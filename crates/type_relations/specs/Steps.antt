@@ -13,12 +13,14 @@ use Rattle.type_relations.specs.Stores.{OnlyShrinks, Constraint, resolved}
 use Rattle.type_relations.specs.FirstOrder.{IsFirstOrder, IsFirstOrderStore, IsRegionLeaf, Unifies, IsErasedSolution}
 
 -- A later state: entries stand, though an unbound variable may have got one; constraints stand, and others may stand
--- behind them; the current universe is not lower; and only satisfying assignments were lost.
+-- behind them; no variable's universe rises, and the current one does not fall; and only satisfying assignments were
+-- lost.
 pub record IsLater (before after : Store) : Type 0 where
   pub grows : (k : VarKind) (n : ℕ) → IsMade before k n → IsMade after k n
   pub entries_stand : (k : VarKind) (n : ℕ) → IsMade before k n → (entry_of before k n ≡ unbound → ⊥) →
       entry_of after k n ≡ entry_of before k n
   pub constraints_stand : (more : List Constraint) × (after.constraints ≡ before.constraints ++ more)
+  pub universes_fall : (k : VarKind) (n : ℕ) → IsMade before k n → universe_of after k n ≤ universe_of before k n
   pub universe_stands : before.universe ≤ after.universe
   pub shrinks : OnlyShrinks before after
 
