@@ -24,6 +24,18 @@ pub record IsLater (before after : Store) : Type 0 where
   pub universe_stands : before.universe ≤ after.universe
   pub shrinks : OnlyShrinks before after
 
+-- No variable was made: there are as many of each kind.
+abbrev pub MakesNone : Store → Store → Type 0
+MakesNone before after = (k : VarKind) → length (after.entries k) ≡ length (before.entries k)
+
+-- Each variable that was newly bound to a term was the context's and unbound; or it was made on the way, and then an
+-- instantiation took one of the budget, or a universe was entered.
+abbrev pub BindsItsOwn : Store → Store → Type 0
+BindsItsOwn before after = (k : VarKind) (n : ℕ) (t : Tree) → entry_of after k n ≡ bound_to t →
+    ((u : Tree) → entry_of before k n ≡ bound_to u → ⊥) →
+    (IsMade before k n × (entry_of before k n ≡ unbound)) ⊎
+    ((IsMade before k n → ⊥) × ((after.budget < before.budget) ⊎ (before.universe < after.universe)))
+
 -- One unbound variable got an entry. The entries of all others, the number of variables, the current universe, the
 -- constraints and the taint stand.
 pub record WritesEntry (before after : Store) (k : VarKind) (n : ℕ) (x : Entry) : Type 0 where
