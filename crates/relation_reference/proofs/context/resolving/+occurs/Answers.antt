@@ -11,10 +11,7 @@ use Rattle.type_relations.specs.Parts.{IsFormed}
 use Rattle.type_relations.proofs.Parts.{size_part, size_const_part, occurs_nth, occurs_parts, occurs_const_parts}
 use Rattle.type_relations.proofs.Parts.{nowhere, occurs_formed, nowhere_in_const, kind_formed, only_type}
 use Rattle.relation_reference.proofs.context.resolving.+occurs.Goals.{occurs_in_const-in-Value+else-occurs}
-use Rattle.relation_reference.proofs.context.resolving.+occurs.Goals.{occurs_in_const-in_default+in-Param-1}
-use Rattle.relation_reference.proofs.context.resolving.+occurs.Goals.{occurs_in_const-in_default+in-Placeholder-1}
-use Rattle.relation_reference.proofs.context.resolving.+occurs.Goals.{occurs_in_const-in_default+in-Expr-1}
-use Rattle.relation_reference.proofs.context.resolving.+occurs.Goals.{occurs_in_const-in_default+in-Value-1}
+use Rattle.relation_reference.proofs.context.resolving.+occurs.Goals.{occurs_in_const-in_default}
 use Rattle.relation_reference.proofs.context.resolving.+occurs.Goals as goal
 
 pub occurs-occurs_in_arg-requires : goal.occurs-occurs_in_arg-requires
@@ -85,10 +82,7 @@ occurs_in_const-returns-clause-absent g t c h o =
     elim c.match-const_kind.branch [
       | occurs_in_const-in-Value+else-occurs w ↦ only_type m n k w.in-Value.ty w.in-Value.field-1 w.in-Value.is
           (w.occurs.ensures.absent w.if-occurs.false)
-      | occurs_in_const-in_default+in-Param-1 w ↦ λ ty v q. absurd (w.in_default.not-Value ty v q)
-      | occurs_in_const-in_default+in-Placeholder-1 w ↦ λ ty v q. absurd (w.in_default.not-Value ty v q)
-      | occurs_in_const-in_default+in-Expr-1 w ↦ λ ty v q. absurd (w.in_default.not-Value ty v q)
-      | occurs_in_const-in_default+in-Value-1 w ↦ λ ty v q. absurd (w.in_default.not-Value ty v q)
+      | occurs_in_const-in_default w ↦ λ ty v q. absurd (w.in_default.not-Value ty v q)
     ] in
     let in_parts : Occurs type_var n (const_parts_of u) → ⊥ =
     nowhere type_var n (const_parts_of u) c.const_parts_count-i-end.ensures.is_list

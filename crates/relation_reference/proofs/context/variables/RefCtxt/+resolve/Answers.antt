@@ -708,13 +708,13 @@ resolve_const-mk_const-requires g t c =
     (known_one (o.ty c.in_ok-ty-in-Value.ty) (knows_ty c.in_ok-value-in-Value.ensures.grown
     c.in_ok-ty-in-Value.ty c.in_ok-ty-in-Value.ensures.sure)) c.in_ok-value-in-Value.ensures.sure
 
-pub resolve_const-returns-in-Value-clause-grown : goal.resolve_const-returns-in-Value-clause-grown
-resolve_const-returns-in-Value-clause-grown g t c =
+pub resolve_const-returns-in_ok-value-in-Value-clause-grown : goal.resolve_const-returns-in_ok-value-in-Value-clause-grown
+resolve_const-returns-in_ok-value-in-Value-clause-grown g t c =
     extends_on c.in_ok-ty-in-Value.ensures.grown (extends_on c.in_ok-value-in-Value.ensures.grown
     c.mk_const.ensures.grown)
 
-pub resolve_const-returns-in-Value-clause-resolves : goal.resolve_const-returns-in-Value-clause-resolves
-resolve_const-returns-in-Value-clause-resolves g t c =
+pub resolve_const-returns-in_ok-value-in-Value-clause-resolves : goal.resolve_const-returns-in_ok-value-in-Value-clause-resolves
+resolve_const-returns-in_ok-value-in-Value-clause-resolves g t c =
     let m = g.I.Interner.meaning c.args.self.now.interner in
     let st = store_of m c.args.self.now.inner in
     let u = m.const_ c.args.constant.now in
@@ -757,12 +757,12 @@ pub resolve_const-mk_const-requires-in-Expr : goal.resolve_const-mk_const-requir
 resolve_const-mk_const-requires-in-Expr g t c =
     c.in_ok-args-in-Expr.ensures.sure
 
-pub resolve_const-returns-clause-grown : goal.resolve_const-returns-clause-grown
-resolve_const-returns-clause-grown g t c =
+pub resolve_const-returns-in_ok-args-in-Expr-clause-grown : goal.resolve_const-returns-in_ok-args-in-Expr-clause-grown
+resolve_const-returns-in_ok-args-in-Expr-clause-grown g t c =
     extends_on c.in_ok-args-in-Expr.ensures.grown c.mk_const-in-Expr.ensures.grown
 
-pub resolve_const-returns-clause-resolves : goal.resolve_const-returns-clause-resolves
-resolve_const-returns-clause-resolves g t c =
+pub resolve_const-returns-in_ok-args-in-Expr-clause-resolves : goal.resolve_const-returns-in_ok-args-in-Expr-clause-resolves
+resolve_const-returns-in_ok-args-in-Expr-clause-resolves g t c =
     let m = g.I.Interner.meaning c.args.self.now.interner in
     let st = store_of m c.args.self.now.inner in
     let u = m.const_ c.args.constant.now in
