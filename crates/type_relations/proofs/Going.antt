@@ -1,10 +1,11 @@
--- States in a row, and sizes and budgets over parts of the work.
-use Rattle.std.proofs.Common.{ℕ, suc, zero, ◌+◌, ◌*◌, ◌≤◌, ◌<◌, ◌≡◌, refl, arith, ap, sym, ◌∙◌, subst, zero-add, le_trans, [], ◌++◌, append_assoc}
+-- States in a row, what is made and bound between them, and sizes and budgets over parts of the work.
+use Rattle.std.proofs.Common.{ℕ, suc, zero, ◌+◌, ◌*◌, ◌≤◌, ◌<◌, ◌≡◌, refl, arith, ap, sym, ◌∙◌, subst, zero-add, le_trans, inl, [], ◌++◌, append_assoc, length}
+use native.Mathlib.Decide.{dec_le}
 use Rattle.std.proofs.Math.Nat.{suc-add, mul-le-mul}
-use Rattle.std.proofs.lemmas.List.{append-nil}
+use Rattle.std.proofs.lemmas.List.{append-nil, get_or_past}
 use Rattle.relation_terms.specs.Trees.{Tree, cons}
-use Rattle.type_relations.specs.Stores.{Store, weight}
-use Rattle.type_relations.specs.Steps.{IsLater}
+use Rattle.type_relations.specs.Stores.{Store, Entry, unbound, same_as, bound_to, entry_of, IsMade, weight}
+use Rattle.type_relations.specs.Steps.{IsLater, MakesNone, BindsItsOwn}
 use Rattle.type_relations.specs.Measures.{grown, depth, Goes}
 
 pub later_itself : (st : Store) → IsLater st st
@@ -12,6 +13,7 @@ later_itself st = record {
   grows = λ k n h. h;
   entries_stand = λ k n h o. refl;
   constraints_stand = ([], sym (append-nil st.constraints));
+  universes_fall = λ k n h. omega arith;
   universe_stands = omega arith;
   shrinks = λ w s h. h;
 }
@@ -24,9 +26,26 @@ later_through {r} {q} {p} a b = record {
     a.constraints_stand.0 ++ b.constraints_stand.0,
     b.constraints_stand.1 ∙ ap (λ cs. cs ++ b.constraints_stand.0) a.constraints_stand.1 ∙ append_assoc r.constraints a.constraints_stand.0 b.constraints_stand.0,
   );
+  universes_fall = λ k n h. le_trans (b.universes_fall k n (a.grows k n h)) (a.universes_fall k n h);
   universe_stands = le_trans a.universe_stands b.universe_stands;
   shrinks = λ w s h. a.shrinks w s (b.shrinks w s h);
 }
+
+-- Where no variable was made, each that was newly bound was there and unbound.
+pub binds_its_own : (before after : Store) → IsLater before after → MakesNone before after → BindsItsOwn before after
+binds_its_own before after l none k n t now new = inl (made, free (entry_of before k n) refl)
+  where
+    then_made : Dec (suc n ≤ length (after.entries k)) → IsMade before k n
+    then_made (yes h) = let e = none k in omega arith
+    then_made (no h) = absurd (let e : entry_of after k n ≡ unbound = get_or_past (after.entries k) n unbound (omega arith) in cc)
+
+    made : IsMade before k n
+    made = then_made (dec_le (suc n) (length (after.entries k)))
+
+    free : (e : Entry) → entry_of before k n ≡ e → entry_of before k n ≡ unbound
+    free unbound q = q
+    free (same_as m) q = absurd (let s : entry_of after k n ≡ entry_of before k n = l.entries_stand k n made (λ u. absurd (cc)) in cc)
+    free (bound_to u) q = absurd (new u q)
 
 le_refl_at : (n : ℕ) → n ≤ n
 le_refl_at n = omega arith
@@ -70,14 +89,15 @@ pub under : (k m n : ℕ) → m < n → 4 * depth k m + 3 < 4 * depth k n + 1
 under k m n h = let d : depth k m < depth k n = depth-strict k m n h in omega arith
 
 pub goes_nowhere : (n : ℕ) (r : Store) → Goes n r r
-goes_nowhere n r = record { later = later_itself r; spent = 0; counts = omega arith; binds = omega arith; grows = λ m t above below. below }
+goes_nowhere n r = record { later = later_itself r; none_made = λ k. refl; spent = 0; counts = omega arith; binds = omega arith; grows = λ m t above below. below }
 
 pub goes_within : {n m : ℕ} {r q : Store} → n ≤ m → Goes n r q → Goes m r q
-goes_within {n} {m} h g = record { later = g.later; spent = g.spent; counts = g.counts; binds = g.binds; grows = λ k t above below. g.grows k t (omega arith) below }
+goes_within {n} {m} h g = record { later = g.later; none_made = g.none_made; spent = g.spent; counts = g.counts; binds = g.binds; grows = λ k t above below. g.grows k t (omega arith) below }
 
 pub goes_then : {n m : ℕ} {r q p : Store} → (g : Goes n r q) → Goes m q p → m ≤ grown g.spent n → Goes n r p
 goes_then {n} {m} {r} {q} {p} g f h = record {
   later = later_through g.later f.later;
+  none_made = λ k. f.none_made k ∙ g.none_made k;
   spent = g.spent + f.spent;
   counts = let e = g.counts in let d = f.counts in omega arith;
   binds = let e = g.binds in let d = f.binds in omega arith;

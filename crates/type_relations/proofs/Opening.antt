@@ -82,6 +82,7 @@ module _ (before after : Store) (h : ChangesNothing before after) where
     grows = made_still;
     entries_stand = λ k n m o. ap (λ z. get_or z n unbound) (h.same_entries k);
     constraints_stand = ([], h.same_constraints ∙ sym (append-nil before.constraints));
+    universes_fall = λ k n m. let e = same_universe_of k n in omega arith;
     universe_stands = h.universe_stands;
     shrinks = satisfied_then;
   }

@@ -279,6 +279,7 @@ module _ (before after : Store) (k : VarKind) (n : ℕ) (x : Entry) (t : Tree) (
       grows = made_after;
       entries_stand = λ j i m o. w.others_stand j i (λ a b. o (ap₂ (entry_of before) a b ∙ w.was_unbound));
       constraints_stand = ([], w.same_constraints ∙ sym (append-nil before.constraints));
+      universes_fall = λ j i m. smaller j i;
       universe_stands = omega (arith, w.same_universe);
       shrinks = shrinks;
     }

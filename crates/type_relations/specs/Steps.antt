@@ -13,14 +13,28 @@ use Rattle.type_relations.specs.Stores.{OnlyShrinks, Constraint, resolved}
 use Rattle.type_relations.specs.FirstOrder.{IsFirstOrder, IsFirstOrderStore, IsRegionLeaf, Unifies, IsErasedSolution}
 
 -- A later state: entries stand, though an unbound variable may have got one; constraints stand, and others may stand
--- behind them; the current universe is not lower; and only satisfying assignments were lost.
+-- behind them; no variable's universe rises, and the current one does not fall; and only satisfying assignments were
+-- lost.
 pub record IsLater (before after : Store) : Type 0 where
   pub grows : (k : VarKind) (n : ℕ) → IsMade before k n → IsMade after k n
   pub entries_stand : (k : VarKind) (n : ℕ) → IsMade before k n → (entry_of before k n ≡ unbound → ⊥) →
       entry_of after k n ≡ entry_of before k n
   pub constraints_stand : (more : List Constraint) × (after.constraints ≡ before.constraints ++ more)
+  pub universes_fall : (k : VarKind) (n : ℕ) → IsMade before k n → universe_of after k n ≤ universe_of before k n
   pub universe_stands : before.universe ≤ after.universe
   pub shrinks : OnlyShrinks before after
+
+-- No variable was made: there are as many of each kind.
+abbrev pub MakesNone : Store → Store → Type 0
+MakesNone before after = (k : VarKind) → length (after.entries k) ≡ length (before.entries k)
+
+-- Each variable that was newly bound to a term was the context's and unbound; or it was made on the way, and then an
+-- instantiation took one of the budget, or a universe was entered.
+abbrev pub BindsItsOwn : Store → Store → Type 0
+BindsItsOwn before after = (k : VarKind) (n : ℕ) (t : Tree) → entry_of after k n ≡ bound_to t →
+    ((u : Tree) → entry_of before k n ≡ bound_to u → ⊥) →
+    (IsMade before k n × (entry_of before k n ≡ unbound)) ⊎
+    ((IsMade before k n → ⊥) × ((after.budget < before.budget) ⊎ (before.universe < after.universe)))
 
 -- One unbound variable got an entry. The entries of all others, the number of variables, the current universe, the
 -- constraints and the taint stand.

@@ -7,7 +7,7 @@ ghost use Rattle.relation_tools.specs.Faults.{KnowsFault, IfUnrelated, IfSpent};
 ghost use Rattle.type_relations.specs.Relation.{Items};
 ghost use Rattle.type_relations.specs.Stores.{Store, IsTermIn, IsSound, all_bound};
 ghost use Rattle.type_relations.specs.Goals.{goals_of};
-ghost use Rattle.type_relations.specs.Steps.{IsLater};
+ghost use Rattle.type_relations.specs.Steps.{IsLater, MakesNone, BindsItsOwn};
 ghost use Rattle.type_relations.specs.FirstOrder.{IsFirstOrderStore};
 ghost use Rattle.type_relations.specs.Outcomes.{NoEqualTerms, Exact, NoUnifier};
 ghost use Rattle.type_relations.specs.Headline.{AnswersGoals, KeepsEqualTerms, IsFirstOrderPair};
@@ -50,9 +50,11 @@ pub trait RelateExt {
     /// Answers `Unrelated` only where no assignment that satisfied what was recorded makes the types one: with the error
     /// of two parts that stand at one place, the left side's first, or of a cycle. Of first-order types in a first-order
     /// record at `Invariant` no solution up to erasure unifies them then. Answers `Budget` only where no
-    /// instantiation is left, and `Memory` where a growth was refused. Also after an error all that was recorded
-    /// stands; more may have been recorded on the way, and each variable that was newly bound to a term has taken one
-    /// instantiation.
+    /// instantiation is left, and `Memory` where a growth was refused.
+    ///
+    /// On each outcome all that was recorded stands. It makes no variable, and binds only what was the context's and
+    /// unbound, each for one instantiation; so no error and no spent budget comes of variables of its own. After an
+    /// error more may have been recorded on the way.
     fn relate(
         &mut self,
         param_env: ParamEnv<Self::Interner>,
@@ -80,6 +82,8 @@ pub trait RelateExt {
         ensures exact { IfOk result (λ goals. variance ≡ Variance.Invariant → IsFirstOrderPair (store self.old) ((Self.Interner.meaning (interner self.old)).ty lhs) ((Self.Interner.meaning (interner self.old)).ty rhs) → Exact (store self.old) (store self.new) ((Self.Interner.meaning (interner self.old)).ty lhs) ((Self.Interner.meaning (interner self.old)).ty rhs) × IsFirstOrderStore (store self.new)) }
         ensures no_unifier { IfUnrelated result (λ e. variance ≡ Variance.Invariant → IsFirstOrderPair (store self.old) ((Self.Interner.meaning (interner self.old)).ty lhs) ((Self.Interner.meaning (interner self.old)).ty rhs) → NoUnifier (store self.old) ((Self.Interner.meaning (interner self.old)).ty lhs) ((Self.Interner.meaning (interner self.old)).ty rhs)) }
         ensures later { IsLater (store self.old) (store self.new) }
+        ensures made { MakesNone (store self.old) (store self.new) }
+        ensures bound { BindsItsOwn (store self.old) (store self.new) }
         ensures sound { IsSound (store self.new) }
         ensures budget { (store self.old).budget + all_bound (store self.old) ≡ (store self.new).budget + all_bound (store self.new) }
         ensures lawful { is_lawful self.new }
