@@ -3,9 +3,7 @@ ghost use Rattle.std.specs.Prelude.{◌≡◌, IsTrue};
 ghost use Rattle.relation_terms.specs.Trees.{known};
 ghost use Rattle.type_relations.specs.Handing.{IsFaultOfTy, IsFaultOfConst, IsResultOfTy, IsResultOfConst};
 
-use relation_terms::terms::{
-    Const, ConstKind, GenericArg, GenericArgKind, Interner, Ty, TyKind,
-};
+use relation_terms::terms::{Const, ConstKind, GenericArg, GenericArgKind, Interner, Ty, TyKind};
 use relation_tools::error::{ExpectedFound, RelateFault, RelateFaultOf, RelateResult, TypeError};
 
 // The fault of two types where one of their parts has failed: lengths of arrays that differ are sizes that differ.

@@ -91,9 +91,7 @@ pub fn const_part<I: Interner>(cx: &I, constant: &Const<I>, i: usize) -> Generic
     match cx.const_kind(constant) {
         ConstKind::Expr(_, args) => cx.args(&args)[i],
         ConstKind::Value(_, value) => match cx.valtree_kind(&value) {
-            ValTreeKind::Branch(branches) => {
-                GenericArgKind::Const(cx.branches(&branches)[i])
-            }
+            ValTreeKind::Branch(branches) => { GenericArgKind::Const(cx.branches(&branches)[i]) }
             ValTreeKind::Leaf { .. } => unreachable!(),
         },
         ConstKind::Param(_) => unreachable!(),

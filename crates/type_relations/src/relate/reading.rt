@@ -14,8 +14,8 @@ use crate::relate::comparing::{compare_consts, compare_tys};
 use crate::relate::parts::{const_part, const_parts_count, part, parts_count};
 use crate::relate::{TypeRelation, handing};
 use relation_terms::terms::{
-    Const, ConstKind, DefId, GenericArg, GenericArgs, Interner, ItemOf, Mutability, Ty,
-    TyKind, Variance,
+    Const, ConstKind, DefId, GenericArg, GenericArgs, Interner, ItemOf, Mutability, Ty, TyKind,
+    Variance,
 };
 use relation_tools::error::{RelateResult, TypeErrorOf};
 
