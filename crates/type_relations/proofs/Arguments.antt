@@ -12,10 +12,10 @@ use Rattle.type_relations.specs.declared.relate.args.ArgVariances.TheVariants.{I
 use Rattle.type_relations.specs.Relation.{forms, part_at, IsRelatedHead}
 use Rattle.type_relations.specs.Errors.{ErrorOf, IsHandedOn, of_parts, AreOfOneForm, over_parts}
 use Rattle.type_relations.specs.Arguments.{args_head}
-use Rattle.type_relations.specs.Lawful.{State, Manner, MayAnswer, Refuses, Related, ExactlyRelated, items_in}
+use Rattle.type_relations.specs.Lawful.{State, Manner, MayAnswer, Passes, Refuses, Related, ExactlyRelated, items_in}
 use Rattle.type_relations.proofs.OneParts.{parts_equal}
 use Rattle.type_relations.proofs.PartSizes.{weight_parts_most}
-use Rattle.type_relations.proofs.Passing.{passes_within}
+use Rattle.type_relations.proofs.Passing.{passes_within, same_items}
 use Rattle.type_relations.proofs.Fronts.{Fronted, AreParts, IsLookedAt, fronted_all, fronted_never, fronted_passes, fronted_apart, fronted_exactly}
 use Rattle.type_relations.proofs.Structural.{types_never}
 use Rattle.type_relations.proofs.Answering.{may_itself}
@@ -82,16 +82,18 @@ module _ {Key Id Name : Type 0} {r q : State Key Id Name} (M : Manner) (v : Vari
   -- Two parts of two forms were refused, and so are the forms.
   module _ (x y : Tree) (lx : i < count ts) (ly : i < count us) (ex : x ≡ nth i ts) (ey : y ≡ nth i us)
       (handed : (g : TypeError Key Id Name) → IsHandedOn g h x y) where
-    refuses : (p : State Key Id Name) (e : RelateFault Key Id Name) → Refuses q p (part_at (items_in r) h i v) x y e →
-        Refuses r p v (node h ts) (node h us) e
-    refuses p (Unrelated g) o = (
+    refuses : {k : ℕ} {p : State Key Id Name} (l : Passes k q p) (e : RelateFault Key Id Name) →
+        Refuses q p (part_at (items_in r) h i v) x y e → Refuses r p v (node h ts) (node h us) e
+    refuses {p = p} l (Unrelated g) o = (
       types_never r.store v (node h ts) (node h us) one_form (fronted_never h v i ts us x y f lx ly ex ey are o.0),
       of_parts i refl refl n lx (subst₂ (IsHandedOn g h) ex ey (handed g))
-          (subst₂ (ErrorOf p.meaning p.store g) ex ey o.1),
+          (subst₂ (ErrorOf p.meaning (items_in p) p.store (part_at (items_in p) h i v) g) ex ey
+          (subst (λ c. ErrorOf p.meaning (items_in p) p.store (part_at c h i v) g x y)
+          (sym (same_items l ∙ same_items f.passes)) o.1)),
       o.2,
     )
-    refuses p Budget o = o
-    refuses p Memory o = tt
+    refuses l Budget o = o
+    refuses l Memory o = tt
 
     exactly : (A B : Type 0) (p : State Key Id Name) (e : RelateFault Key Id Name) →
         ExactlyRelated {X = A} M q.store p.store (part_at (items_in r) h i v) x y (Err e) →
@@ -108,7 +110,7 @@ module _ {Key Id Name : Type 0} {r q : State Key Id Name} (M : Manner) (v : Vari
     form_refused {A} {B} {p} tree answer e g = record {
       passes = passes_within (omega (arith, weight_parts_most r.store (node h ts), weight_parts_most r.store (node h us)))
           (fronted_passes h v i ts us x y f lx ly ex ey g.passes);
-      verdict = refuses p e g.verdict;
+      verdict = refuses g.passes e g.verdict;
       exact = exactly A B p e g.exact;
     }
 

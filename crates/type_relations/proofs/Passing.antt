@@ -141,7 +141,7 @@ module _ {Key Id Name : Type 0} where
   led_refuses {r = r} {q = q} {p = p} g f a b x y v l (Unrelated e) h = (
     (steps_compose (items_in r) r.environment (at r.ambient) (at v) r.store q.store p.store r.goals g.added f.added
         a b x y l.steps).1 h.0,
-    l.errors p.meaning p.store e (f.goes).later h.1,
+    l.errors p.meaning (items_in p) p.store e (f.goes).later h.1,
     h.2,
   )
   led_refuses g f a b x y v l Budget h = h
@@ -319,7 +319,7 @@ module _ {Key Id Name : Type 0} where
     turned_refuses : (e : RelateFault Key Id Name) → Refuses t q v a b e → Refuses r u v a b e
     turned_refuses (Unrelated e) h = (
       subst (λ s. NeverOne (at v) s a b) there.store h.0,
-      subst₂ (λ m s. ErrorOf m s e a b) (sym back.meaning) (sym back.store) h.1,
+      subst₂ (λ m s. ErrorOf m (items_of m) s v e a b) (sym back.meaning) (sym back.store) h.1,
       subst (λ m. KnowsError m e) (sym back.meaning) h.2,
     )
     turned_refuses Budget h = ap (λ s. s.budget) back.store ∙ h
@@ -500,7 +500,7 @@ module _ {Key Id Name K : Type 0} (M : Manner) (F : Tree → Type 0) (r : State 
           relates = λ w s sat all h. h;
           keeps = λ w s sat one. (s, (λ j i h. refl), (sat, All-nil (MakesOneTree s), one));
         };
-        errors = λ m st e l h. h;
+        errors = λ m c st e l h. h;
       };
       asked = k;
       left_form = f;

@@ -14,7 +14,7 @@ use Rattle.relation_tools.specs.declared.error.TypeError.TheVariants.{ArraySize,
 use Rattle.relation_tools.specs.declared.error.RelateFault.{RelateFault}
 use Rattle.relation_tools.specs.declared.error.RelateFault.TheVariants.{Memory, Budget, Unrelated}
 use Rattle.relation_tools.specs.Faults.{KnowsFault}
-use Rattle.type_relations.specs.Relation.{Interpretation, at, parts, part_at, Rel, same, atoms, forms, sort_of}
+use Rattle.type_relations.specs.Relation.{Items, Interpretation, at, parts, part_at, Rel, same, atoms, forms, sort_of}
 use Rattle.type_relations.specs.Stores.{Store, Satisfies}
 use Rattle.type_relations.specs.Goals.{Holds}
 use Rattle.type_relations.specs.Outcomes.{NeverOne}
@@ -23,7 +23,7 @@ use Rattle.type_relations.specs.Errors.{AreOfOneConst}
 use Rattle.type_relations.specs.Parts.{IsFormed, parts_of, const_parts_of, head_of, const_head_of}
 use Rattle.type_relations.specs.Handing.{IsPassedOn, IsNoLength, IsFaultOfTy, passed, sized, IsFaultOfConst, passed_const, whole}
 use Rattle.type_relations.specs.Lawful.{State, Manner, MayAnswer, Passes, Refuses, Related, ExactResult, ExactlyRelated, items_in}
-use Rattle.type_relations.proofs.Passing.{passes_within}
+use Rattle.type_relations.proofs.Passing.{passes_within, same_items}
 use Rattle.type_relations.proofs.Fronts.{Fronted, AreParts, fronted_never, fronted_all, fronted_passes, fronted_apart, fronted_exactly}
 use Rattle.type_relations.proofs.Unifying.{first_order_parts, formed_looked_at, types_unify, exact_as, apart_as}
 use Rattle.type_relations.specs.Headline.{IsFirstOrderPair}
@@ -53,43 +53,46 @@ module _ {Key Id Name : Type 0} (n p : Meaning Key Id Name) (e : Extends n p) (s
   handed_on value_branch ts f g o = absurd (cc)
   handed_on h ts f g o = tt
 
-  module _ (x y : Tree) (ex : arg_tree n X ≡ x) (ey : arg_tree n Y ≡ y) where
+  module _ (x y : Tree) (ex : arg_tree n X ≡ x) (ey : arg_tree n Y ≡ y) (j : Items) (v : Variance) where
     -- The types' own error.
     ty_error : (st : Store) (f : TypeError Key Id Name) (h : Head) (ts us : Tree) → a ≡ node h ts → b ≡ node h us → head_sort h ≡ type_sort → count ts ≡ count us → i < count ts → x ≡ nth i ts → y ≡ nth i us
-        → IsPassedOn (Unrelated f) a X Y → ErrorOf p st f x y → ErrorOf p st f a b
+        → IsPassedOn (Unrelated f) a X Y → ErrorOf p j st (part_at j h i v) f x y → ErrorOf p j st v f a b
     ty_error st f h ts us d c g m l z w o u = of_parts i d c m l
-        (subst₂ (IsHandedOn f h) (ex ∙ z) (ey ∙ w) (handed_on h ts f g (subst (λ t. IsPassedOn (Unrelated f) t X Y) d o))) (subst₂ (ErrorOf p st f) z w u)
+        (subst₂ (IsHandedOn f h) (ex ∙ z) (ey ∙ w) (handed_on h ts f g (subst (λ t. IsPassedOn (Unrelated f) t X Y) d o))) (subst₂ (ErrorOf p j st (part_at j h i v) f) z w u)
 
     length_error : (st : Store) (f : ExpectedFound (ConstKey Key)) (c d : ConstKey Key) (ts us : Tree) (h : Head) (vs : Tree) → a ≡ node h ts → b ≡ node h us → a ≡ node array vs → count ts ≡ count us → i < count ts
-        → x ≡ nth i ts → y ≡ nth i us → X ≡ Const c → Y ≡ Const d → ErrorOf p st (ConstMismatch f) x y → ErrorOf p st (ArraySize (record { expected = c; found = d })) a b
-    length_error st f c d ts us h vs j k v m l z w u o t =
-        let is : h ≡ array = (let q = sym j ∙ v in cc) in
-        of_length c d i (j ∙ ap (λ z. node z ts) is) (k ∙ ap (λ z. node z us) is) m l
+        → x ≡ nth i ts → y ≡ nth i us → X ≡ Const c → Y ≡ Const d → ErrorOf p j st (part_at j h i v) (ConstMismatch f) x y → ErrorOf p j st v (ArraySize (record { expected = c; found = d })) a b
+    length_error st f c d ts us h vs s' k g m l z w u o t =
+        let is : h ≡ array = (let q = sym s' ∙ g in cc) in
+        of_length c d i (s' ∙ ap (λ z. node z ts) is) (k ∙ ap (λ z. node z us) is) m l
         (sym z ∙ sym ex ∙ ap (arg_tree n) u ∙ sym (e.const_ c (subst (λ z. IsTrue (known (arg_tree n z))) u x_known)))
         (sym w ∙ sym ey ∙ ap (arg_tree n) o ∙ sym (e.const_ d (subst (λ z. IsTrue (known (arg_tree n z))) o y_known)))
-        (subst₂ (ErrorOf p st (ConstMismatch f)) z w t)
+        (subst (λ h. ErrorOf p j st (part_at j h i v) (ConstMismatch f) (nth i ts) (nth i us)) is
+        (subst₂ (ErrorOf p j st (part_at j h i v) (ConstMismatch f)) z w t))
 
     pub ty_complains : (st : Store) (f : TypeError Key Id Name) (g : RelateFault Key Id Name) → IsFormed a →
         AreOfOneForm a b → i < count (parts_of a) → x ≡ nth i (parts_of a) → y ≡ nth i (parts_of b) →
-        IsFaultOfTy a X Y (Unrelated f) g → ErrorOf p st f x y →
-        (k : TypeError Key Id Name) × (g ≡ Unrelated k) × ErrorOf p st k a b
-    ty_complains st f g t (one_leaf j k) l z w o h =
-        absurd (let c : count (parts_of a) ≡ 0 = ap (λ z. count (parts_of z)) j in omega (arith, c, l))
-    ty_complains st f g t (parameters j k v) l z w o h =
-        absurd (let c : count (parts_of a) ≡ 0 = ap (λ z. count (parts_of z)) j in omega (arith, c, l))
-    ty_complains st f g t (over_parts {h = hd} {ts} {us} j k v) l z w (passed is o) h = (
+        IsFaultOfTy a X Y (Unrelated f) g → ErrorOf p j st (part_at j (head_of a) i v) f x y →
+        (k : TypeError Key Id Name) × (g ≡ Unrelated k) × ErrorOf p j st v k a b
+    ty_complains st f g t (one_leaf s' k) l z w o h =
+        absurd (let c : count (parts_of a) ≡ 0 = ap (λ z. count (parts_of z)) s' in omega (arith, c, l))
+    ty_complains st f g t (parameters s' k m) l z w o h =
+        absurd (let c : count (parts_of a) ≡ 0 = ap (λ z. count (parts_of z)) s' in omega (arith, c, l))
+    ty_complains st f g t (over_parts {h = hd} {ts} {us} s' k m) l z w (passed is o) h = (
       f,
       is,
-      ty_error st f hd ts us j k (subst IsFormed j t) v (subst (λ z. i < count (parts_of z)) j l)
-          (z ∙ ap (λ z. nth i (parts_of z)) j) (w ∙ ap (λ z. nth i (parts_of z)) k) o h,
+      ty_error st f hd ts us s' k (subst IsFormed s' t) m (subst (λ z. i < count (parts_of z)) s' l)
+          (z ∙ ap (λ z. nth i (parts_of z)) s') (w ∙ ap (λ z. nth i (parts_of z)) k) o
+          (subst (λ z. ErrorOf p j st (part_at j (head_of z) i v) f x y) s' h),
     )
-    ty_complains st f g t (over_parts {h = hd} {ts} {us} j k v) l z w (sized {ts = vs} c d o j' k' l' is eq) h =
+    ty_complains st f g t (over_parts {h = hd} {ts} {us} s' k m) l z w (sized {ts = vs} c d o j' k' l' is eq) h =
         let same : f ≡ ConstMismatch o = cc in (
           ArraySize (record { expected = c; found = d }),
           eq,
-          length_error st o c d ts us hd vs j k j' v (subst (λ z. i < count (parts_of z)) j l)
-              (z ∙ ap (λ z. nth i (parts_of z)) j) (w ∙ ap (λ z. nth i (parts_of z)) k) k' l'
-              (subst (λ z. ErrorOf p st z x y) same h),
+          length_error st o c d ts us hd vs s' k j' m (subst (λ z. i < count (parts_of z)) s' l)
+              (z ∙ ap (λ z. nth i (parts_of z)) s') (w ∙ ap (λ z. nth i (parts_of z)) k) k' l'
+              (subst (λ z. ErrorOf p j st (part_at j hd i v) z x y) same
+              (subst (λ z. ErrorOf p j st (part_at j (head_of z) i v) f x y) s' h)),
         )
 
 -- A fault of two parts as the fault of the types, and as that of the constants.
@@ -142,8 +145,11 @@ module _ {Key Id Name : Type 0} {r q : State Key Id Name} (M : Manner) (v : Vari
     ty_refuses {p = p} g Budget k kx ky t h =
         subst (Refuses r p v a b) (sym (same_fault a X Y Budget k t (λ e z. cc))) h
     ty_refuses {p = p} g (Unrelated e) k kx ky t h =
+        let same : items_in p ≡ items_in r = same_items g ∙ same_items f.passes in
         let z = ty_complains q.meaning p.meaning g.extends s a b i X Y x_known y_known (arg_tree q.meaning X)
-        (arg_tree q.meaning Y) refl refl p.store e k is_formed o lx ex ey t h.1 in
+        (arg_tree q.meaning Y) refl refl (items_in p) v p.store e k is_formed o lx ex ey t
+        (subst (λ c. ErrorOf p.meaning (items_in p) p.store (part_at c (head_of a) i v) e (arg_tree q.meaning X)
+        (arg_tree q.meaning Y)) (sym same) h.1) in
         subst (Refuses r p v a b) (sym z.1) (
           types_never r.store v a b o (fronted_never (head_of a) v i (parts_of a) (parts_of b) (arg_tree q.meaning X)
               (arg_tree q.meaning Y) f lx ly ex ey are h.0),

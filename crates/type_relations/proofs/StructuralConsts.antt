@@ -1,5 +1,5 @@
 -- Constants that are related by their outermost forms and their parts, and terms whose outermost forms differ.
-use Rattle.std.proofs.Common.{◌≡◌, ℕ, ◌+◌, ◌<◌, refl, sym, ap, ◌∙◌, subst, subst₂, arith, ◌++◌, All, IsTrue, Ok, Err}
+use Rattle.std.proofs.Common.{◌≡◌, ◌≢◌, ℕ, ◌+◌, ◌<◌, refl, sym, ap, ◌∙◌, subst, subst₂, arith, ◌++◌, All, IsTrue, Ok, Err}
 use Rattle.relation_terms.specs.declared.terms.enums.Variance.{Variance}
 use Rattle.relation_terms.specs.declared.terms.enums.Variance.TheVariants.{Covariant, Contravariant, Invariant, Bivariant}
 use Rattle.relation_terms.specs.Variances.{xform}
@@ -25,8 +25,8 @@ use Rattle.type_relations.specs.Errors.{ErrorOf, of_parts, of_branches, of_kinds
 use Rattle.type_relations.specs.Errors.{AreOfOneConst, AreOfOneValue, values, expressions, const_parameters, one_value, as_many_branches}
 use Rattle.type_relations.specs.Parts.{IsFormed, IsFormedConst, const_parts_of, branches_of, const_head_of}
 use Rattle.type_relations.specs.Handing.{IsPassedOnConst, IsFaultOfConst, passed_const, whole}
-use Rattle.type_relations.specs.Lawful.{State, Manner, MayAnswer, Refuses, Related, ExactResult, ExactlyRelated, items_in}
-use Rattle.type_relations.proofs.Passing.{passes_within, passes_nowhere}
+use Rattle.type_relations.specs.Lawful.{State, Manner, MayAnswer, Passes, Refuses, Related, ExactResult, ExactlyRelated, items_in}
+use Rattle.type_relations.proofs.Passing.{passes_within, passes_nowhere, same_items}
 use Rattle.type_relations.proofs.Fronts.{Fronted, AreParts, fronted_never, fronted_all, fronted_passes, fronted_apart, fronted_exactly}
 use Rattle.type_relations.proofs.Unifying.{first_order_const_parts, const_looked_at, consts_unify, exact_as, apart_as, exact_itself}
 use Rattle.type_relations.proofs.Unifying.{forms_not_unified, const_forms_not_unified, erased_sort}
@@ -38,27 +38,30 @@ use Rattle.type_relations.proofs.PartSizes.{weight_const_parts_most}
 use Rattle.type_relations.proofs.Answering.{may_itself}
 
 -- The error of two parts of two constants as the error of the constants.
-module _ {Key Id Name : Type 0} (p : Meaning Key Id Name) (c d : ConstKey Key) (i : ℕ) (x y : Tree) where
+module _ {Key Id Name : Type 0} (p : Meaning Key Id Name) (js : Items) (at_v : Variance) (c d : ConstKey Key) (i : ℕ)
+    (x y : Tree) where
   branch_error : (st : Store) (e : TypeError Key Id Name) (t u v w : Tree) →
       p.const_ c ≡ node value (cons (node value_type (cons t nil)) (cons v nil)) →
       p.const_ d ≡ node value (cons (node value_type (cons u nil)) (cons w nil)) → AreOfOneValue v w →
-      i < count (branches_of v) → x ≡ nth i (branches_of v) → y ≡ nth i (branches_of w) → ErrorOf p st e x y →
-      ErrorOf p st (ConstMismatch (record { expected = c; found = d })) (p.const_ c) (p.const_ d)
+      i < count (branches_of v) → x ≡ nth i (branches_of v) → y ≡ nth i (branches_of w) →
+      ErrorOf p js st (part_at js value_branch i at_v) e x y →
+      ErrorOf p js st at_v (ConstMismatch (record { expected = c; found = d })) (p.const_ c) (p.const_ d)
   branch_error st e t u v w j k (as_many_branches {ts} {us} a b n) l z o h =
       of_branches c d i (j ∙ ap (λ z. node value (cons (node value_type (cons t nil)) (cons z nil))) a)
       (k ∙ ap (λ z. node value (cons (node value_type (cons u nil)) (cons z nil))) b) n
       (subst (λ z. i < count (branches_of z)) a l)
-      (subst₂ (ErrorOf p st e) (z ∙ ap (λ z. nth i (branches_of z)) a) (o ∙ ap (λ z. nth i (branches_of z)) b) h)
+      (subst₂ (ErrorOf p js st (part_at js value_branch i at_v) e) (z ∙ ap (λ z. nth i (branches_of z)) a) (o ∙ ap (λ z. nth i (branches_of z)) b) h)
   branch_error st e t u (node value_branch ts) w j k (one_value a) l z o h =
       of_branches c d i j (k ∙ ap (λ z. node value (cons (node value_type (cons u nil)) (cons z nil))) (sym a)) refl l
-      (subst₂ (ErrorOf p st e) z (o ∙ ap (λ z. nth i (branches_of z)) (sym a)) h)
+      (subst₂ (ErrorOf p js st (part_at js value_branch i at_v) e) z (o ∙ ap (λ z. nth i (branches_of z)) (sym a)) h)
   branch_error st e t u v w j k (one_value a) l z o h = absurd (omega (arith, l))
 
   pub const_complains : (st : Store) (f : TypeError Key Id Name) (g : RelateFault Key Id Name) →
       AreOfOneConst (p.const_ c) (p.const_ d) → i < count (const_parts_of (p.const_ c)) →
       x ≡ nth i (const_parts_of (p.const_ c)) → y ≡ nth i (const_parts_of (p.const_ d)) →
-      IsFaultOfConst (p.const_ c) c d (Unrelated f) g → ErrorOf p st f x y →
-      (k : TypeError Key Id Name) × (g ≡ Unrelated k) × ErrorOf p st k (p.const_ c) (p.const_ d)
+      IsFaultOfConst (p.const_ c) c d (Unrelated f) g →
+      ErrorOf p js st (part_at js (const_head_of (p.const_ c)) i at_v) f x y →
+      (k : TypeError Key Id Name) × (g ≡ Unrelated k) × ErrorOf p js st at_v k (p.const_ c) (p.const_ d)
   const_complains st f g (const_parameters j k n) l z w o h =
       absurd (let e : count (const_parts_of (p.const_ c)) ≡ 0 = ap (λ z. count (const_parts_of z)) j in omega (arith, e, l))
   const_complains st f g (values j k n) l z w (passed_const is o) h = absurd (subst (IsPassedOnConst (Unrelated f)) j o)
@@ -66,13 +69,15 @@ module _ {Key Id Name : Type 0} (p : Meaning Key Id Name) (c d : ConstKey Key) (
     ConstMismatch (record { expected = c; found = d }),
     eq,
     branch_error st f t t' v v' j k n (subst (λ z. i < count z) (ap const_parts_of j) l)
-        (z ∙ ap (λ z. nth i (const_parts_of z)) j) (w ∙ ap (λ z. nth i (const_parts_of z)) k) h,
+        (z ∙ ap (λ z. nth i (const_parts_of z)) j) (w ∙ ap (λ z. nth i (const_parts_of z)) k)
+        (subst (λ z. ErrorOf p js st (part_at js (const_head_of z) i at_v) f x y) j h),
   )
   const_complains st f g (expressions {k = op} {ts} {us} j k n) l z w (passed_const is o) h = (
     f,
     is,
     of_parts i j k n (subst (λ z. i < count (const_parts_of z)) j l) tt
-        (subst₂ (ErrorOf p st f) (z ∙ ap (λ z. nth i (const_parts_of z)) j) (w ∙ ap (λ z. nth i (const_parts_of z)) k) h),
+        (subst₂ (ErrorOf p js st (part_at js (expression op) i at_v) f) (z ∙ ap (λ z. nth i (const_parts_of z)) j) (w ∙ ap (λ z. nth i (const_parts_of z)) k)
+        (subst (λ z. ErrorOf p js st (part_at js (const_head_of z) i at_v) f x y) j h)),
   )
   const_complains st f g (expressions {k = op} {ts} {us} j k n) l z w (whole {ts = vs} e o is eq) h =
       absurd (let y' = sym j ∙ o in cc)
@@ -93,16 +98,17 @@ const_parts_pair st a b pair = record {
 }
 
 -- The same, of trees that are the constants'.
-pub consts_complain : {Key Id Name : Type 0} (p : Meaning Key Id Name) (c d : ConstKey Key) (i : ℕ) (x y a b : Tree) →
-    p.const_ c ≡ a → p.const_ d ≡ b → (st : Store) (f : TypeError Key Id Name) (g : RelateFault Key Id Name) →
+pub consts_complain : {Key Id Name : Type 0} (p : Meaning Key Id Name) (js : Items) (at_v : Variance)
+    (c d : ConstKey Key) (i : ℕ) (x y a b : Tree) → p.const_ c ≡ a → p.const_ d ≡ b → (st : Store) (f : TypeError Key Id Name) (g : RelateFault Key Id Name) →
     AreOfOneConst a b → i < count (const_parts_of a) → x ≡ nth i (const_parts_of a) → y ≡ nth i (const_parts_of b) →
-    IsFaultOfConst a c d (Unrelated f) g → ErrorOf p st f x y →
-    (k : TypeError Key Id Name) × (g ≡ Unrelated k) × ErrorOf p st k a b
-consts_complain p c d i x y a b j k st f g o l z w t h =
-    subst₂ (λ a b. (k : TypeError _ _ _) × (g ≡ Unrelated k) × ErrorOf p st k a b) j k
-    (const_complains p c d i x y st f g (subst₂ AreOfOneConst (sym j) (sym k) o)
+    IsFaultOfConst a c d (Unrelated f) g → ErrorOf p js st (part_at js (const_head_of a) i at_v) f x y →
+    (k : TypeError Key Id Name) × (g ≡ Unrelated k) × ErrorOf p js st at_v k a b
+consts_complain p js at_v c d i x y a b j k st f g o l z w t h =
+    subst₂ (λ a b. (k : TypeError _ _ _) × (g ≡ Unrelated k) × ErrorOf p js st at_v k a b) j k
+    (const_complains p js at_v c d i x y st f g (subst₂ AreOfOneConst (sym j) (sym k) o)
     (subst (λ v. i < count (const_parts_of v)) (sym j) l) (z ∙ ap (λ v. nth i (const_parts_of v)) (sym j))
-    (w ∙ ap (λ v. nth i (const_parts_of v)) (sym k)) (subst (λ v. IsFaultOfConst v c d (Unrelated f) g) (sym j) t) h)
+    (w ∙ ap (λ v. nth i (const_parts_of v)) (sym k)) (subst (λ v. IsFaultOfConst v c d (Unrelated f) g) (sym j) t)
+    (subst (λ v. ErrorOf p js st (part_at js (const_head_of v) i at_v) f x y) (sym j) h))
 
 -- Seen from a variance, covariance is the variance itself.
 pub covariantly : (v : Variance) → xform v Covariant ≡ v
@@ -125,15 +131,18 @@ module _ {Key Id Name : Type 0} {r q : State Key Id Name} (M : Manner) (v : Vari
       (are : AreParts r.store (const_parts_of a) (const_parts_of b)) (c d : ConstKey Key) (x y : Tree)
       (lx : i < count (const_parts_of a)) (ly : i < count (const_parts_of b))
       (ex : x ≡ nth i (const_parts_of a)) (ey : y ≡ nth i (const_parts_of b)) where
-    const_refuses : (p : State Key Id Name) (e k : RelateFault Key Id Name) → (p.meaning).const_ c ≡ a →
+    const_refuses : {n : ℕ} {p : State Key Id Name} (g : Passes n q p) (e k : RelateFault Key Id Name) →
+        (p.meaning).const_ c ≡ a →
         (p.meaning).const_ d ≡ b → IsTrue (known a) → IsTrue (known b) → IsFaultOfConst a c d e k →
         Refuses q p (part_at (items_in r) (const_head_of a) i v) x y e → Refuses r p v a b k
-    const_refuses p Memory k ec ed ka kb t h =
+    const_refuses {p = p} g Memory k ec ed ka kb t h =
         subst (Refuses r p v a b) (sym (same_const_fault a c d Memory k t (λ e z. cc))) tt
-    const_refuses p Budget k ec ed ka kb t h =
+    const_refuses {p = p} g Budget k ec ed ka kb t h =
         subst (Refuses r p v a b) (sym (same_const_fault a c d Budget k t (λ e z. cc))) h
-    const_refuses p (Unrelated e) k ec ed ka kb t h =
-        let z = consts_complain p.meaning c d i x y a b ec ed p.store e k o lx ex ey t h.1 in
+    const_refuses {p = p} g (Unrelated e) k ec ed ka kb t h =
+        let same : items_in p ≡ items_in r = same_items g ∙ same_items f.passes in
+        let z = consts_complain p.meaning (items_in p) v c d i x y a b ec ed p.store e k o lx ex ey t
+        (subst (λ s. ErrorOf p.meaning (items_in p) p.store (part_at s (const_head_of a) i v) e x y) (sym same) h.1) in
         subst (Refuses r p v a b) (sym z.1) (
           consts_never r.store v a b o
               (fronted_never (const_head_of a) v i (const_parts_of a) (const_parts_of b) x y f lx ly ex ey are h.0),
@@ -165,7 +174,7 @@ module _ {Key Id Name : Type 0} {r q : State Key Id Name} (M : Manner) (v : Vari
     const_refused {A} {B} {p} tree answer e k fa fb ec ed ka kb t g = record {
       passes = passes_within (omega (arith, weight_const_parts_most r.store a, weight_const_parts_most r.store b))
           (fronted_passes (const_head_of a) v i (const_parts_of a) (const_parts_of b) x y f lx ly ex ey g.passes);
-      verdict = const_refuses p e k ec ed ka kb t g.verdict;
+      verdict = const_refuses g.passes e k ec ed ka kb t g.verdict;
       exact = const_exactly A B p e k fa fb t g.exact;
     }
 
@@ -247,7 +256,7 @@ module _ {Key Id Name : Type 0} {X : Type 0} (M : Manner) (r : State Key Id Name
 
   -- Two terms are refused at once.
   refused_here : (a b : Tree) (e : TypeError Key Id Name) → NeverOne (at v) r.store a b →
-      ErrorOf r.meaning r.store e a b → KnowsError r.meaning e → (IsFirstOrderPair r.store a b → NoUnifier r.store a b) →
+      ErrorOf r.meaning (items_in r) r.store v e a b → KnowsError r.meaning e → (IsFirstOrderPair r.store a b → NoUnifier r.store a b) →
       Related M r r v a b tree (Err (Unrelated e))
   unfolding passes_nowhere
   refused_here a b e n o k u = record {
@@ -256,23 +265,23 @@ module _ {Key Id Name : Type 0} {X : Type 0} (M : Manner) (r : State Key Id Name
     exact = λ exact is pair. u pair;
   }
 
-  pub types_differ : (x y : TyKey Key) (e : TypeError Key Id Name) → IsFormed ((r.meaning).ty x) →
+  pub types_differ : (x y : TyKey Key) (e : TypeError Key Id Name) → v ≢ Bivariant → IsFormed ((r.meaning).ty x) →
       IsFormed ((r.meaning).ty y) → IsTerm type_sort ((r.meaning).ty x) → IsTerm type_sort ((r.meaning).ty y) →
       IsTrue (known ((r.meaning).ty x)) → IsTrue (known ((r.meaning).ty y)) → FormError r.meaning x y e →
       Related M r r v ((r.meaning).ty x) ((r.meaning).ty y) tree (Err (Unrelated e))
-  types_differ x y e f g s t k l h =
+  types_differ x y e d f g s t k l h =
       refused_here ((r.meaning).ty x) ((r.meaning).ty y) e (form_apart r.meaning r.store x y e f g s t h)
-      (of_forms x y refl refl (formed_no_variable ((r.meaning).ty x) f) (formed_no_variable ((r.meaning).ty y) g) h)
+      (of_forms x y d refl refl (formed_no_variable ((r.meaning).ty x) f) (formed_no_variable ((r.meaning).ty y) g) h)
       (known_error r.meaning x y e k l h) (λ pair j sol one. forms_not_unified r.meaning j x y e f g s t h one)
 
-  pub consts_differ : (x y : ConstKey Key) (e : TypeError Key Id Name) → IsFormedConst ((r.meaning).const_ x) →
+  pub consts_differ : (x y : ConstKey Key) (e : TypeError Key Id Name) → v ≢ Bivariant → IsFormedConst ((r.meaning).const_ x) →
       IsFormedConst ((r.meaning).const_ y) → IsTerm const_sort ((r.meaning).const_ x) →
       IsTerm const_sort ((r.meaning).const_ y) → IsTrue (known ((r.meaning).const_ x)) →
       IsTrue (known ((r.meaning).const_ y)) → ConstFormError r.meaning x y e →
       Related M r r v ((r.meaning).const_ x) ((r.meaning).const_ y) tree (Err (Unrelated e))
-  consts_differ x y e f g s t k l h =
+  consts_differ x y e d f g s t k l h =
       refused_here ((r.meaning).const_ x) ((r.meaning).const_ y) e (const_form_apart r.meaning r.store x y e f g s t h)
-      (of_const_forms x y refl refl (formed_const_no_variable ((r.meaning).const_ x) f)
+      (of_const_forms x y d refl refl (formed_const_no_variable ((r.meaning).const_ x) f)
       (formed_const_no_variable ((r.meaning).const_ y) g) h)
       (known_const_error r.meaning x y e k l h)
       (λ pair j sol one. const_forms_not_unified r.meaning j x y e f g s t pair.left h one)
@@ -303,17 +312,17 @@ module _ {Key Id Name : Type 0} (m : Meaning Key Id Name) (sorted : Sorted m) wh
   two_sorts (Const r) (Const s) z w o a b e = o
   two_sorts X Y z w o a b e = absurd (cc)
 
-  pub kinds_differ : {X : Type 0} (M : Manner) (r : State Key Id Name) (v : Variance) (tree : X → Tree) → r.meaning ≡ m →
-      (X Y : GenericArgKind Key) → AreOfTwoKinds X Y → IsTrue (known (arg_tree m X)) → IsTrue (known (arg_tree m Y)) →
+  pub kinds_differ : {X : Type 0} (M : Manner) (r : State Key Id Name) (v : Variance) (tree : X → Tree) → v ≢ Bivariant →
+      r.meaning ≡ m → (X Y : GenericArgKind Key) → AreOfTwoKinds X Y → IsTrue (known (arg_tree m X)) → IsTrue (known (arg_tree m Y)) →
       IsTermIn r.store (arg_tree m X) → IsTermIn r.store (arg_tree m Y) →
       Related M r r v (arg_tree m X) (arg_tree m Y) tree (Err (Unrelated Mismatch))
   unfolding IsTermIn
-  kinds_differ M r v tree is X Y o k l x y =
+  kinds_differ M r v tree d is X Y o k l x y =
       refused_here M r v tree (arg_tree m X) (arg_tree m Y) Mismatch
       (λ w s sat e. two_sorts X Y (sort_of (apply s (arg_tree m X))) (sort_of (apply s (arg_tree m Y))) o
       (value_top r.store s (kind_sort X) (arg_tree m X) (kind_top X) sat.assigns x.0 (kind_term X k))
       (value_top r.store s (kind_sort Y) (arg_tree m Y) (kind_top Y) sat.assigns y.0 (kind_term Y l)) (ap sort_of e))
-      (of_kinds (λ e. two_sorts X Y (sort_of (arg_tree m X)) (sort_of (arg_tree m Y)) o
+      (of_kinds d (λ e. two_sorts X Y (sort_of (arg_tree m X)) (sort_of (arg_tree m Y)) o
       (at_top (kind_sort X) _ (kind_top X) (sort_is (kind_sort X) (arg_tree m X) (kind_term X k)))
       (at_top (kind_sort Y) _ (kind_top Y) (sort_is (kind_sort Y) (arg_tree m Y) (kind_term Y l))) e))
       tt

@@ -1,5 +1,7 @@
--- Which error comes of relating two types.
+-- Which error comes of relating two terms.
 use Rattle.std.specs.Prelude.{◌≡◌, ◌≢◌, ◌⊎◌, ℕ, zero, ◌<◌, Some}
+use Rattle.relation_terms.specs.declared.terms.enums.Variance.{Variance}
+use Rattle.relation_terms.specs.declared.terms.enums.Variance.TheVariants.{Bivariant}
 use Rattle.relation_terms.specs.declared.terms.keys.TyKey.{TyKey}
 use Rattle.relation_terms.specs.declared.terms.keys.ConstKey.{ConstKey}
 use Rattle.relation_terms.specs.Heads.{const_sort, VarKind, type_var, Atom, Head, array, tuple, raw_ptr, ref}
@@ -10,7 +12,7 @@ use Rattle.relation_tools.specs.declared.error.ExpectedFound.{ExpectedFound}
 use Rattle.relation_tools.specs.declared.error.TypeError.{TypeError}
 use Rattle.relation_tools.specs.declared.error.TypeError.TheVariants.{Mismatch, Mutability, TupleSize, ArraySize}
 use Rattle.relation_tools.specs.declared.error.TypeError.TheVariants.{Sorts, CyclicTy, ConstMismatch}
-use Rattle.type_relations.specs.Relation.{plain_atom, sort_of}
+use Rattle.type_relations.specs.Relation.{Items, plain_atom, sort_of, part_at}
 use Rattle.type_relations.specs.Stores.{Store, bound_term, resolved}
 
 -- Two forms without parts that are one but for a parameter's name.
@@ -99,28 +101,33 @@ module _ {Key Id Name : Type 0} (m : Meaning Key Id Name) where
     operations : {k l : ℕ} {ts us : Tree} → m.const_ x ≡ node (expression k) ts → m.const_ y ≡ node (expression l) us →
         (k ≢ l) ⊎ (count ts ≢ count us) → ConstFormError x y Mismatch
 
-  -- The error comes of a pair that is met when two terms are related: of two types or constants, as read, that differ
-  -- in form; of what they are read as by what is recorded; of two arguments of different kinds; of two parts at one
-  -- place of one form, as the whole's error; or of a variable that stands in what the other type comes to.
-  pub data ErrorOf (st : Store) : TypeError Key Id Name → Tree → Tree → Type 0 where
-    of_forms : {e : _} {a b : Tree} (x y : TyKey Key) → m.ty x ≡ a → m.ty y ≡ b → IsNoVariable a → IsNoVariable b →
-        FormError x y e → ErrorOf st e a b
-    of_const_forms : {e : _} {a b : Tree} (x y : ConstKey Key) → m.const_ x ≡ a → m.const_ y ≡ b → IsNoVariable a →
-        IsNoVariable b → ConstFormError x y e → ErrorOf st e a b
-    of_kinds : {a b : Tree} → sort_of a ≢ sort_of b → ErrorOf st Mismatch a b
-    of_entries : {e : _} {a b t u : Tree} → IsReadAs st a t → IsReadAs st b u → ErrorOf st e t u → ErrorOf st e a b
-    of_parts : {e : _} {h : Head} {a b ts us : Tree} (i : ℕ) → a ≡ node h ts → b ≡ node h us → count ts ≡ count us →
-        i < count ts → IsHandedOn e h (nth i ts) (nth i us) → ErrorOf st e (nth i ts) (nth i us) → ErrorOf st e a b
-    of_length : {p : ExpectedFound (ConstKey Key)} {a b ts us : Tree} (x y : ConstKey Key) (i : ℕ) → a ≡ node array ts →
-        b ≡ node array us → count ts ≡ count us → i < count ts → nth i ts ≡ m.const_ x → nth i us ≡ m.const_ y →
-        ErrorOf st (ConstMismatch p) (nth i ts) (nth i us) →
-        ErrorOf st (ArraySize (record { expected = x; found = y })) a b
-    of_branches : {e : _} {t u ts us : Tree} (x y : ConstKey Key) (i : ℕ) →
+  -- The error comes of a pair that is met when two terms are related at a variance that is not bivariance: of two types
+  -- or constants, as read, that differ in form; of what they are read as by what is recorded; of two arguments of
+  -- different kinds; of two parts at one place of one form, at the variance of that place, as the whole's error; or of a
+  -- variable that stands in what the other type comes to.
+  pub data ErrorOf (c : Items) (st : Store) : Variance → TypeError Key Id Name → Tree → Tree → Type 0 where
+    of_forms : {v : Variance} {e : _} {a b : Tree} (x y : TyKey Key) → v ≢ Bivariant → m.ty x ≡ a → m.ty y ≡ b →
+        IsNoVariable a → IsNoVariable b → FormError x y e → ErrorOf c st v e a b
+    of_const_forms : {v : Variance} {e : _} {a b : Tree} (x y : ConstKey Key) → v ≢ Bivariant → m.const_ x ≡ a →
+        m.const_ y ≡ b → IsNoVariable a → IsNoVariable b → ConstFormError x y e → ErrorOf c st v e a b
+    of_kinds : {v : Variance} {a b : Tree} → v ≢ Bivariant → sort_of a ≢ sort_of b → ErrorOf c st v Mismatch a b
+    of_entries : {v : Variance} {e : _} {a b t u : Tree} → IsReadAs st a t → IsReadAs st b u → ErrorOf c st v e t u →
+        ErrorOf c st v e a b
+    of_parts : {v : Variance} {e : _} {h : Head} {a b ts us : Tree} (i : ℕ) → a ≡ node h ts → b ≡ node h us →
+        count ts ≡ count us → i < count ts → IsHandedOn e h (nth i ts) (nth i us) →
+        ErrorOf c st (part_at c h i v) e (nth i ts) (nth i us) → ErrorOf c st v e a b
+    of_length : {v : Variance} {p : ExpectedFound (ConstKey Key)} {a b ts us : Tree} (x y : ConstKey Key) (i : ℕ) →
+        a ≡ node array ts → b ≡ node array us → count ts ≡ count us → i < count ts → nth i ts ≡ m.const_ x →
+        nth i us ≡ m.const_ y → ErrorOf c st (part_at c array i v) (ConstMismatch p) (nth i ts) (nth i us) →
+        ErrorOf c st v (ArraySize (record { expected = x; found = y })) a b
+    of_branches : {v : Variance} {e : _} {t u ts us : Tree} (x y : ConstKey Key) (i : ℕ) →
         m.const_ x ≡ node value (cons t (cons (node value_branch ts) nil)) →
         m.const_ y ≡ node value (cons u (cons (node value_branch us) nil)) → count ts ≡ count us → i < count ts →
-        ErrorOf st e (nth i ts) (nth i us) →
-        ErrorOf st (ConstMismatch (record { expected = x; found = y })) (m.const_ x) (m.const_ y)
-    of_cycle : {e : _} {a b : Tree} (n : ℕ) (k : TyKey Key) → a ≡ leaf (variable type_var n) →
-        m.ty k ≡ apply (resolved st) b → IsCycle n (m.ty k) → e ≡ CyclicTy k → ErrorOf st e a b
-    of_cycle_back : {e : _} {a b : Tree} (n : ℕ) (k : TyKey Key) → b ≡ leaf (variable type_var n) →
-        m.ty k ≡ apply (resolved st) a → IsCycle n (m.ty k) → e ≡ CyclicTy k → ErrorOf st e a b
+        ErrorOf c st (part_at c value_branch i v) e (nth i ts) (nth i us) →
+        ErrorOf c st v (ConstMismatch (record { expected = x; found = y })) (m.const_ x) (m.const_ y)
+    of_cycle : {v : Variance} {e : _} {a b : Tree} (n : ℕ) (k : TyKey Key) → v ≢ Bivariant →
+        a ≡ leaf (variable type_var n) → m.ty k ≡ apply (resolved st) b → IsCycle n (m.ty k) → e ≡ CyclicTy k →
+        ErrorOf c st v e a b
+    of_cycle_back : {v : Variance} {e : _} {a b : Tree} (n : ℕ) (k : TyKey Key) → v ≢ Bivariant →
+        b ≡ leaf (variable type_var n) → m.ty k ≡ apply (resolved st) a → IsCycle n (m.ty k) → e ≡ CyclicTy k →
+        ErrorOf c st v e a b

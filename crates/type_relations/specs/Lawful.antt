@@ -119,10 +119,10 @@ module _ {Key Id Name : Type 0} where
     pub left_taken : Takes M v a
     pub right_taken : Takes M v b
 
-  -- What a fault says of two terms: a type error that no assignment makes them one, and which error it is, over known
-  -- terms; a spent budget that nothing is left of it; want of memory nothing.
+  -- What a fault says of two terms at a variance: a type error that no assignment makes them one, and which error it is,
+  -- over known terms; a spent budget that nothing is left of it; want of memory nothing.
   abbrev pub Refuses : State Key Id Name → State Key Id Name → Variance → Tree → Tree → RelateFault Key Id Name → Type 0
-  Refuses r q v a b (Unrelated e) = NeverOne (at v) r.store a b × ErrorOf q.meaning q.store e a b ×
+  Refuses r q v a b (Unrelated e) = NeverOne (at v) r.store a b × ErrorOf q.meaning (items_in q) q.store v e a b ×
       KnowsError q.meaning e
   Refuses r q v a b Budget = (q.store).budget ≡ 0
   Refuses r q v a b Memory = Unit {0}
@@ -162,11 +162,11 @@ module _ {Key Id Name : Type 0} where
     pub exact : ExactlyRelated M r.store q.store v a b result
 
   -- A step led from one pair to another, at a variance: what relates the second relates the first, no equal pair is
-  -- lost, and an error of the second is one of the first.
+  -- lost, and an error of the second at its variance is one of the first at the ambient one.
   pub record Leads (r q : State Key Id Name) (added : List Goal) (a b : Tree) (v : Variance) (x y : Tree) : Type 0 where
     pub steps : StepsTo (items_in r) r.environment r.store q.store r.goals added (at r.ambient) a b (at v) x y
-    pub errors : (m : Meaning Key Id Name) (st : Store) (e : TypeError Key Id Name) → IsLater q.store st →
-        ErrorOf m st e x y → ErrorOf m st e a b
+    pub errors : (m : Meaning Key Id Name) (c : Items) (st : Store) (e : TypeError Key Id Name) → IsLater q.store st →
+        ErrorOf m c st v e x y → ErrorOf m c st r.ambient e a b
 
   -- A step to two forms that are to be related by their parts, which costs nothing of the budget.
   pub record LeadsToParts (M : Manner) (IsForm : Tree → Type 0) (r q : State Key Id Name) (added : List Goal)

@@ -4,7 +4,6 @@ ghost use Rattle.std.specs.Result.{IsOkAnd};
 ghost use Rattle.relation_terms.specs.Trees.{known};
 ghost use Rattle.relation_terms.specs.Meaning.{Meaning, Extends};
 ghost use Rattle.relation_tools.specs.Faults.{KnowsFault, IfUnrelated, IfSpent};
-ghost use Rattle.type_relations.specs.Relation.{Items};
 ghost use Rattle.type_relations.specs.Stores.{Store, IsTermIn, IsSound, all_bound};
 ghost use Rattle.type_relations.specs.Goals.{goals_of};
 ghost use Rattle.type_relations.specs.Steps.{IsLater, MakesNone, BindsItsOwn};
@@ -13,6 +12,7 @@ ghost use Rattle.type_relations.specs.Outcomes.{NoEqualTerms, Exact, NoUnifier};
 ghost use Rattle.type_relations.specs.Headline.{AnswersGoals, KeepsEqualTerms, IsFirstOrderPair};
 ghost use Rattle.type_relations.specs.Errors.{ErrorOf};
 ghost use Rattle.type_relations.specs.Taken.{IsTaken};
+ghost use Rattle.type_relations.specs.Lawful.{items_of};
 
 use relation_terms::terms::{Goal, Interner, Keys, ParamEnv, Predicate, Span, Ty, Variance};
 use relation_tools::error::RelateResult;
@@ -30,9 +30,6 @@ pub trait RelateExt {
 
     // What the context has recorded.
     ghost store: { Self → Store };
-
-    // The declared variances of items.
-    ghost items: { Self → Items };
 
     // The context's own invariant, which each of its calls keeps.
     ghost is_lawful: { Self → Type 0 };
@@ -72,10 +69,10 @@ pub trait RelateExt {
         requires rhs_taken { IsTaken variance ((Self.Interner.meaning (interner self.old)).ty rhs) }
         requires lhs_in { IsTermIn (store self.old) ((Self.Interner.meaning (interner self.old)).ty lhs) }
         requires rhs_in { IsTermIn (store self.old) ((Self.Interner.meaning (interner self.old)).ty rhs) }
-        ensures answers { IfOk result (λ goals. AnswersGoals (items self.old) (store self.old) (store self.new) (goals_of (Self.Interner.meaning (interner self.new)) goals.items) ((Self.Interner.meaning (interner self.old)).param_env param_env) variance ((Self.Interner.meaning (interner self.old)).ty lhs) ((Self.Interner.meaning (interner self.old)).ty rhs)) }
+        ensures answers { IfOk result (λ goals. AnswersGoals (items_of (Self.Interner.meaning (interner self.old))) (store self.old) (store self.new) (goals_of (Self.Interner.meaning (interner self.new)) goals.items) ((Self.Interner.meaning (interner self.old)).param_env param_env) variance ((Self.Interner.meaning (interner self.old)).ty lhs) ((Self.Interner.meaning (interner self.old)).ty rhs)) }
         ensures keeps { IfOk result (λ goals. KeepsEqualTerms (store self.old) (store self.new) (goals_of (Self.Interner.meaning (interner self.new)) goals.items) ((Self.Interner.meaning (interner self.old)).ty lhs) ((Self.Interner.meaning (interner self.old)).ty rhs)) }
         ensures apart { IfUnrelated result (λ e. NoEqualTerms (store self.old) ((Self.Interner.meaning (interner self.old)).ty lhs) ((Self.Interner.meaning (interner self.old)).ty rhs)) }
-        ensures errors { IfUnrelated result (λ e. ErrorOf (Self.Interner.meaning (interner self.new)) (store self.new) e ((Self.Interner.meaning (interner self.old)).ty lhs) ((Self.Interner.meaning (interner self.old)).ty rhs)) }
+        ensures errors { IfUnrelated result (λ e. ErrorOf (Self.Interner.meaning (interner self.new)) (items_of (Self.Interner.meaning (interner self.new))) (store self.new) variance e ((Self.Interner.meaning (interner self.old)).ty lhs) ((Self.Interner.meaning (interner self.old)).ty rhs)) }
         ensures spent { IfSpent result ((store self.new).budget ≡ 0) }
         ensures same { (Self.Interner.meaning (interner self.old)).ty lhs ≡ (Self.Interner.meaning (interner self.old)).ty rhs → IsOkAnd result (λ goals. goals.items ≡ []) × (store self.new ≡ store self.old) }
         ensures goals { IfOk result (λ goals. variance ≡ Variance.Invariant → IsFirstOrderPair (store self.old) ((Self.Interner.meaning (interner self.old)).ty lhs) ((Self.Interner.meaning (interner self.old)).ty rhs) → goals.items ≡ []) }

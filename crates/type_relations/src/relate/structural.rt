@@ -2,6 +2,7 @@
 //!
 //! These calls stand beside the relation, whose steps never call them: one proof serves all relations.
 ghost use Rattle.std.specs.Prelude.{◌≡◌, ◌≢◌, IsTrue, IfOk};
+ghost use Rattle.std.specs.Result.{IsOkAnd};
 ghost use Rattle.relation_terms.specs.declared.terms.enums.Variance.TheVariants.{Bivariant};
 ghost use Rattle.relation_terms.specs.Variances.{xform};
 ghost use Rattle.relation_terms.specs.Meaning.{arg_tree};
@@ -127,7 +128,7 @@ pub fn relate<I: Interner, R: TypeRelation<I>>(
 }
 
 /// Relates two generic arguments at a variance, seen from the ambient one, which is put back after it, also after an
-/// error. At bivariance they are not looked at, and the first is the answer.
+/// error. At bivariance they are not looked at: the first is the answer, and the relation stays as it was.
 ///
 /// Both are the relation's, which takes them at that variance. Errors are those of `tys`. Upstream this is a call of the
 /// relation.
@@ -141,6 +142,7 @@ pub fn relate_with_variance<I: Interner, R: TypeRelation<I>>(
     requires lawful { (R.state r.old).lawful }
     requires asked { Asked R.manner (R.state r.old) (xform (R.state r.old).ambient variance) (arg_tree (R.state r.old).meaning a.now) (arg_tree (R.state r.old).meaning b.now) }
     ensures related { Related R.manner (R.state r.old) (R.state r.new) (xform (R.state r.old).ambient variance) (arg_tree (R.state r.old).meaning a.now) (arg_tree (R.state r.old).meaning b.now) (arg_tree (R.state r.new).meaning) result }
+    ensures skipped { xform (R.state r.old).ambient variance ≡ Bivariant → IsOkAnd result (λ k. k ≡ a.now) × (r.new ≡ r.old) }
     ensures kind { IfOk result (λ k. arg_sort k ≡ arg_sort a.now) }
 {
     let old = r.ambient();

@@ -450,7 +450,7 @@ relate-returns-in_default g t c =
     }) in
     let k = c.requires.asked in
     record {
-      related = kinds_differ r.meaning sorted M r r.ambient (arg_tree r.meaning) refl c.args.a.now c.args.b.now
+      related = kinds_differ r.meaning sorted M r r.ambient (arg_tree r.meaning) c.requires.decides refl c.args.a.now c.args.b.now
           (subst (λ z. AreOfTwoKinds z c.args.b.now) (sym c.in-Lifetime.is) (no_lifetime c.in-Lifetime.a c.args.b.now c.in_default.not-Lifetime))
           k.left_known k.right_known k.left_in k.right_in;
       kind = tt;
@@ -473,7 +473,7 @@ relate-returns-in_default-b g t c =
     }) in
     let k = c.requires.asked in
     record {
-      related = kinds_differ r.meaning sorted M r r.ambient (arg_tree r.meaning) refl c.args.a.now c.args.b.now
+      related = kinds_differ r.meaning sorted M r r.ambient (arg_tree r.meaning) c.requires.decides refl c.args.a.now c.args.b.now
           (subst (λ z. AreOfTwoKinds z c.args.b.now) (sym c.in-Ty.is) (no_ty c.in-Ty.a c.args.b.now c.in_default-b.not-Ty))
           k.left_known k.right_known k.left_in k.right_in;
       kind = tt;
@@ -496,7 +496,7 @@ relate-returns-in_default-b-2 g t c =
     }) in
     let k = c.requires.asked in
     record {
-      related = kinds_differ r.meaning sorted M r r.ambient (arg_tree r.meaning) refl c.args.a.now c.args.b.now
+      related = kinds_differ r.meaning sorted M r r.ambient (arg_tree r.meaning) c.requires.decides refl c.args.a.now c.args.b.now
           (subst (λ z. AreOfTwoKinds z c.args.b.now) (sym c.in-Const.is) (no_const_arg c.in-Const.a c.args.b.now c.in_default-b-2.not-Const))
           k.left_known k.right_known k.left_in k.right_in;
       kind = tt;
@@ -554,6 +554,7 @@ relate_with_variance-returns-in-Bivariant g t c =
     record {
       related = unlooked M r v (arg_tree r.meaning c.args.a.now) (arg_tree r.meaning c.args.b.now) (arg_tree r.meaning) c.args.a.now e
           (c.requires.asked).left_known refl;
+      skipped = λ z. (refl, refl);
       kind = refl;
     }
 
@@ -578,6 +579,7 @@ relate_with_variance-returns g t c =
     record {
       related = subst (λ z. Related M r u z a b (arg_tree u.meaning) res) e
           (turned M c.xform-new.result a b (arg_tree u.meaning) there back res k);
+      skipped = λ z. absurd (c.in_default.not-Bivariant (e ∙ z));
       kind = (c.relate-answer.ensures).kind;
     }
 
@@ -632,7 +634,7 @@ structurally_relate_consts-returns-in_err-compare_consts_of g t c =
     let k = c.requires.asked in
     let failed = as_err c.from_residual.result (Unrelated n.field-0.0) c.from_residual.ensures.0 c.from_residual.ensures.1 in
     subst (λ z. Related M r r r.ambient a b (r.meaning).const_ z) (sym failed)
-    (consts_differ M r r.ambient (r.meaning).const_ c.args.a.now c.args.b.now n.field-0.0 c.requires.a_formed c.requires.b_formed
+    (consts_differ M r r.ambient (r.meaning).const_ c.args.a.now c.args.b.now n.field-0.0 c.requires.decides c.requires.a_formed c.requires.b_formed
     (sorted.const_ c.args.a.now k.left_known) (sorted.const_ c.args.b.now k.right_known) k.left_known k.right_known
     (n.ensures).errors)
 
@@ -961,7 +963,7 @@ structurally_relate_tys-returns-in_err-compare_tys_of g t c =
     let k = c.requires.asked in
     let failed = as_err c.from_residual.result (Unrelated n.field-0.0) c.from_residual.ensures.0 c.from_residual.ensures.1 in
     subst (λ z. Related M r r r.ambient a b (r.meaning).ty z) (sym failed)
-    (types_differ M r r.ambient (r.meaning).ty c.args.a.now c.args.b.now n.field-0.0 c.requires.a_formed c.requires.b_formed
+    (types_differ M r r.ambient (r.meaning).ty c.args.a.now c.args.b.now n.field-0.0 c.requires.decides c.requires.a_formed c.requires.b_formed
     (sorted.ty c.args.a.now k.left_known) (sorted.ty c.args.b.now k.right_known) k.left_known k.right_known
     (n.ensures).errors)
 

@@ -31,7 +31,7 @@ returns-in_default g c =
     c.requires.asked in
     subst₂ (λ a b. Related M r r r.ambient (term_tree r.meaning a) (term_tree r.meaning b) (term_tree r.meaning)
     (Err (Unrelated Mismatch))) (sym c.in-Ty.is) (sym z.1)
-    (kinds_differ r.meaning sorted M r r.ambient (term_tree r.meaning) refl (TyArg c.in-Ty.a) (ConstArg z.0) tt
+    (kinds_differ r.meaning sorted M r r.ambient (term_tree r.meaning) c.requires.decides refl (TyArg c.in-Ty.a) (ConstArg z.0) tt
     k.left_known k.right_known k.left_in k.right_in)
 
 pub returns-in_default-b : goal.returns-in_default-b
@@ -54,7 +54,7 @@ returns-in_default-b g c =
     c.requires.asked in
     subst₂ (λ a b. Related M r r r.ambient (term_tree r.meaning a) (term_tree r.meaning b) (term_tree r.meaning)
     (Err (Unrelated Mismatch))) (sym c.in-Const.is) (sym z.1)
-    (kinds_differ r.meaning sorted M r r.ambient (term_tree r.meaning) refl (ConstArg c.in-Const.a) (TyArg z.0) tt
+    (kinds_differ r.meaning sorted M r r.ambient (term_tree r.meaning) c.requires.decides refl (ConstArg c.in-Const.a) (TyArg z.0) tt
     k.left_known k.right_known k.left_in k.right_in)
 
 pub returns-in_ok-tys-in-Ty : goal.returns-in_ok-tys-in-Ty
