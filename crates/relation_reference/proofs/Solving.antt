@@ -1,6 +1,6 @@
 -- Relating in a context, step by step.
 use Rattle.std.proofs.Common.{◌≡◌, ◌≢◌, ℕ, ◌+◌, ◌≤◌, refl, sym, ap, ◌∙◌, arith, subst, subst₂, [], All, IsTrue, Some}
-use Rattle.std.proofs.Common.{IfSome}
+use Rattle.std.proofs.Common.{IfSome, ◌++◌}
 use Rattle.std.proofs.Common.{Result, Ok, Err}
 use Rattle.std.proofs.lemmas.List.Elements.{All-nil}
 use Rattle.relation_terms.specs.declared.terms.enums.Variance.{Variance}
@@ -30,7 +30,7 @@ use Rattle.type_relations.specs.Outcomes.{Outcome, StepsTo}
 use Rattle.type_relations.specs.Measures.{Goes}
 use Rattle.type_relations.specs.Errors.{IsReadAs, itself, by_entry, of_entries}
 use Rattle.type_relations.specs.Parts.{IsFormed}
-use Rattle.type_relations.specs.Constraints.{constraint_at, constraint_of}
+use Rattle.type_relations.specs.Constraints.{constraint_at, constraint_of, asked_constraints}
 use Rattle.type_relations.specs.Taken.{IsFixedLeaf}
 use Rattle.type_relations.specs.Lawful.{Passes, Asked, Takes, Refuses, Related, Stepped, Leads, LeadsAgain}
 use Rattle.type_relations.specs.Lawful.{items_of, State, Verdict}
@@ -601,3 +601,13 @@ module _ {Key Id Name : Type 0} (j : ℕ) where
     reference = refl;
     lawful = λ k. (lawful_grows grown x l.0, subst (λ t. IsTrue (known t)) (sym (grown.param_env e l.1)) l.1);
   }
+
+-- What was recorded of two regions is what their variance asks for, behind all that was.
+pub asked_recorded : {Key Id Name : Type 0} (m : Meaning Key Id Name) (x y : InferCtxtInner Key) (v : Variance)
+    (a b : RegionKey Key) → v ≢ Bivariant →
+    IfSome (constraint_at v a b) (λ c. AddsConstraint (store_of m x) (store_of m y) (constraint_of m c)) →
+    (store_of m y).constraints ≡ (store_of m x).constraints ++ asked_constraints m (constraint_at v a b)
+asked_recorded m x y Covariant a b d h = h.one_more
+asked_recorded m x y Contravariant a b d h = h.one_more
+asked_recorded m x y Invariant a b d h = h.one_more
+asked_recorded m x y Bivariant a b d h = absurd (d refl)

@@ -27,9 +27,16 @@ solving j m x v e = record {
   lawful = IsLawful m x × IsTrue (known (m.param_env e));
 }
 
--- It takes terms with variables at invariance alone, what it answers has the left side's value, and it is exact.
+-- It takes terms with variables at invariance alone, what it answers has the left side's value, it is exact, and it
+-- records just what is asked of regions.
 abbrev pub solver_manner : Manner
-solver_manner = record { takes = IsTakenLeaf; keeps_value = Unit {0}; keeps_left = ⊥; is_exact = Unit {0} }
+solver_manner = record {
+  takes = IsTakenLeaf;
+  keeps_value = Unit {0};
+  keeps_left = ⊥;
+  is_exact = Unit {0};
+  records_asked = Unit {0};
+}
 
 -- What has no variable but a region's is taken everywhere.
 fixed_taken : (v : Variance) (l : Leaf) → IsFixedLeaf l → IsTakenLeaf v l

@@ -4,14 +4,16 @@ use Rattle.relation_terms.specs.declared.terms.enums.Variance.{Variance}
 use Rattle.relation_terms.specs.Heads.{Sort, Head, adt, fn_def}
 use Rattle.relation_terms.specs.Trees.{Tree, leaf, node, bind, nil, cons, known, count, nth, IsList, AreTerms}
 use Rattle.relation_terms.specs.Meaning.{Meaning, Extends}
+use Rattle.relation_terms.specs.declared.terms.keys.TyKey.{TyKey}
+use Rattle.relation_terms.specs.declared.terms.keys.ArgsKey.{ArgsKey}
 use Rattle.relation_tools.specs.declared.error.TypeError.{TypeError}
 use Rattle.relation_tools.specs.declared.error.RelateFault.{RelateFault}
 use Rattle.relation_tools.specs.declared.error.RelateFault.TheVariants.{Memory, Budget, Unrelated}
 use Rattle.type_relations.specs.declared.relate.args.ArgVariances.{ArgVariances}
 use Rattle.type_relations.specs.declared.relate.args.ArgVariances.TheVariants.{Invariant, Adt, FnDef}
 use Rattle.type_relations.specs.Relation.{forms, part_at, IsRelatedHead}
-use Rattle.type_relations.specs.Errors.{ErrorOf, IsHandedOn, of_parts, AreOfOneForm, over_parts}
-use Rattle.type_relations.specs.Arguments.{args_head}
+use Rattle.type_relations.specs.Errors.{ErrorOf, IsHandedOn, of_parts, AreOfOneForm, over_parts, one_leaf, parameters}
+use Rattle.type_relations.specs.Arguments.{args_head, AreOverItem, adts, functions}
 use Rattle.type_relations.specs.Lawful.{State, Manner, MayAnswer, Passes, Refuses, Related, ExactlyRelated, items_in}
 use Rattle.type_relations.proofs.OneParts.{parts_equal}
 use Rattle.type_relations.proofs.PartSizes.{weight_parts_most}
@@ -127,3 +129,37 @@ are_list k (cons t ts) h = are_list k ts h.1
 are_list k (leaf l) h = absurd h
 are_list k (node g ts) h = absurd h
 are_list k (bind ks t) h = absurd h
+
+-- Two types of one form, one over an item and the other over an item in the same form: the items are one.
+pub over_one_adt : (d e : ℕ) (a b ts us : Tree) → a ≡ node (adt d) ts → b ≡ node (adt e) us → AreOfOneForm a b →
+    AreOverItem d a b ts us
+over_one_adt d e a b ts us x y (over_parts p q n) =
+    let k : e ≡ d = cc in adts x (y ∙ ap (λ z. node (adt z) us) k)
+over_one_adt d e a b ts us x y (one_leaf p q) = cc
+over_one_adt d e a b ts us x y (parameters p q i) = cc
+
+pub over_one_function : (d e : ℕ) (a b ts us : Tree) → a ≡ node (fn_def d) ts → b ≡ node (fn_def e) us →
+    AreOfOneForm a b → AreOverItem d a b ts us
+over_one_function d e a b ts us x y (over_parts p q n) =
+    let k : e ≡ d = cc in functions x (y ∙ ap (λ z. node (fn_def z) us) k)
+over_one_function d e a b ts us x y (one_leaf p q) = cc
+over_one_function d e a b ts us x y (parameters p q i) = cc
+
+-- The lists that two known types are over are known.
+pub over_knows : (d : ℕ) (a b ts us : Tree) → AreOverItem d a b ts us → IsTrue (known a) → IsTrue (known b) →
+    IsTrue (known ts) × IsTrue (known us)
+over_knows d a b ts us (adts p q) x y =
+    (subst (λ z. IsTrue (known z)) p x, subst (λ z. IsTrue (known z)) q y)
+over_knows d a b ts us (functions p q) x y =
+    (subst (λ z. IsTrue (known z)) p x, subst (λ z. IsTrue (known z)) q y)
+
+-- They are over them still while keys are added to.
+pub over_later : {Key Id Name : Type 0} {m n : Meaning Key Id Name} (e : Extends m n) (d : Id) (a b : TyKey Key)
+    (ts us : ArgsKey Key) → IsTrue (known (m.ty a)) → IsTrue (known (m.ty b)) →
+    AreOverItem (m.id d) (m.ty a) (m.ty b) (m.args ts) (m.args us) →
+    AreOverItem (n.id d) (n.ty a) (n.ty b) (n.args ts) (n.args us)
+over_later {m = m} {n = n} e d a b ts us x y h =
+    let both = over_knows (m.id d) (m.ty a) (m.ty b) (m.args ts) (m.args us) h x y in
+    subst₂ (λ t u. AreOverItem (n.id d) t u (n.args ts) (n.args us)) (sym (e.ty a x)) (sym (e.ty b y))
+    (subst₂ (λ t u. AreOverItem (n.id d) (m.ty a) (m.ty b) t u) (sym (e.args ts both.0)) (sym (e.args us both.1))
+    (subst (λ i. AreOverItem i (m.ty a) (m.ty b) (m.args ts) (m.args us)) (sym (e.id d)) h))

@@ -1,5 +1,6 @@
 -- What relating two regions asks for, and what a recorded constraint asks.
 use Rattle.std.specs.Prelude.{Option, Some, None}
+use Rattle.std.specs.Prelude.{List, [], ◌∷◌}
 use Rattle.relation_terms.specs.declared.terms.enums.Variance.{Variance}
 use Rattle.relation_terms.specs.declared.terms.enums.Variance.TheVariants.{Covariant, Contravariant, Invariant}
 use Rattle.relation_terms.specs.declared.terms.enums.Variance.TheVariants.{Bivariant}
@@ -21,3 +22,9 @@ constraint_at Bivariant a b = None
 abbrev pub constraint_of : {Key Id Name : Type 0} → Meaning Key Id Name → RegionConstraint Key → Constraint
 constraint_of m (Outlives p) = outlives_constraint (arg_tree m p.0) (m.region p.1)
 constraint_of m (Eq p) = equal_constraint (m.region p.0) (m.region p.1)
+
+-- What is to be recorded, behind all that was: one constraint, or none.
+abbrev pub asked_constraints : {Key Id Name : Type 0} → Meaning Key Id Name → Option (RegionConstraint Key) →
+    List Constraint
+asked_constraints m None = []
+asked_constraints m (Some c) = constraint_of m c ∷ []

@@ -56,12 +56,14 @@ abbrev pub items_in : {Key Id Name : Type 0} → State Key Id Name → Items
 items_in r = items_of r.meaning
 
 -- What a relation takes and gives: which leaves may stand in terms at a variance; whether it promises that what it
--- answers for a pair has the left side's value, or is the left side; and whether it promises to be exact.
+-- answers for a pair has the left side's value, or is the left side; whether it promises to be exact; and whether it
+-- promises to record of two regions just what their variance asks for.
 pub record Manner : Type 1 where
   pub takes : Variance → Leaf → Type 0
   pub keeps_value : Type 0
   pub keeps_left : Type 0
   pub is_exact : Type 0
+  pub records_asked : Type 0
 
 -- A term is taken at a variance: its leaves may stand there.
 abbrev pub Takes : Manner → Variance → Tree → Type 0

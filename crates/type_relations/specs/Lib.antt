@@ -21,3 +21,4 @@ pub mod Constraints
 pub mod Taken
 pub mod Arguments
 pub mod Making
+pub mod Keyed

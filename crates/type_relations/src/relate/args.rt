@@ -6,7 +6,8 @@ ghost use Rattle.relation_terms.specs.Trees.{known, node, count, nth, IsList, li
 ghost use Rattle.relation_terms.specs.Meaning.{Extends, arg_tree};
 ghost use Rattle.relation_terms.specs.Variances.{xform};
 ghost use Rattle.type_relations.specs.Relation.{part_at};
-ghost use Rattle.type_relations.specs.Lawful.{Asked, Related, WithMeaning, OnlyMemory, items_in};
+ghost use Rattle.type_relations.specs.Lawful.{WithMeaning, OnlyMemory, items_in};
+ghost use Rattle.type_relations.specs.Keyed.{AreOver, AskedLists, AskedTys, RelatedLists, RelatedTys};
 ghost use Rattle.type_relations.specs.Arguments.{args_head, AreOverItem};
 ghost use Rattle.type_relations.specs.Parts.{head_of};
 
@@ -108,9 +109,9 @@ fn relate_args<I: Interner, R: TypeRelation<I>>(
 ) -> RelateResult<I, GenericArgs<I>>
     requires lawful { (R.state r.old).lawful }
     requires decides { (R.state r.old).ambient ≢ Bivariant }
-    requires asked { Asked R.manner (R.state r.old) (R.state r.old).ambient (node (args_head (R.state r.old).meaning variances.now) ((R.state r.old).meaning.args a.now)) (node (args_head (R.state r.old).meaning variances.now) ((R.state r.old).meaning.args b.now)) }
+    requires asked { AskedLists R.manner (R.state r.old) (λ m. args_head m variances.now) a.now b.now }
     requires as_many { count ((R.state r.old).meaning.args a.now) ≡ count ((R.state r.old).meaning.args b.now) }
-    ensures { Related R.manner (R.state r.old) (R.state r.new) (R.state r.old).ambient (node (args_head (R.state r.old).meaning variances.now) ((R.state r.old).meaning.args a.now)) (node (args_head (R.state r.old).meaning variances.now) ((R.state r.old).meaning.args b.now)) (λ k. node (args_head (R.state r.new).meaning variances.now) ((R.state r.new).meaning.args k)) result }
+    ensures { RelatedLists R.manner (R.state r.old) (R.state r.new) (λ m. args_head m variances.now) a.now b.now result }
 {
     let n = args_count_of::<I, R>(r, a);
     let mut answers = Vec::new(r.cx().alloc());
@@ -138,9 +139,9 @@ pub fn relate_args_invariantly<I: Interner, R: TypeRelation<I>>(
 ) -> RelateResult<I, GenericArgs<I>>
     requires lawful { (R.state r.old).lawful }
     requires decides { (R.state r.old).ambient ≢ Bivariant }
-    requires asked { Asked R.manner (R.state r.old) (R.state r.old).ambient (node arguments ((R.state r.old).meaning.args a.now)) (node arguments ((R.state r.old).meaning.args b.now)) }
+    requires asked { AskedLists R.manner (R.state r.old) (λ m. arguments) a.now b.now }
     requires as_many { count ((R.state r.old).meaning.args a.now) ≡ count ((R.state r.old).meaning.args b.now) }
-    ensures { Related R.manner (R.state r.old) (R.state r.new) (R.state r.old).ambient (node arguments ((R.state r.old).meaning.args a.now)) (node arguments ((R.state r.old).meaning.args b.now)) (λ k. node arguments ((R.state r.new).meaning.args k)) result }
+    ensures { RelatedLists R.manner (R.state r.old) (R.state r.new) (λ m. arguments) a.now b.now result }
 {
     relate_args(r, &ArgVariances::Invariant, a, b)
 }
@@ -161,9 +162,9 @@ pub fn relate_args_with_variances<I: Interner, R: TypeRelation<I>>(
 ) -> RelateResult<I, GenericArgs<I>>
     requires lawful { (R.state r.old).lawful }
     requires decides { (R.state r.old).ambient ≢ Bivariant }
-    requires asked { Asked R.manner (R.state r.old) (R.state r.old).ambient (node (adt ((R.state r.old).meaning.id (def_id.now).0)) ((R.state r.old).meaning.args a.now)) (node (adt ((R.state r.old).meaning.id (def_id.now).0)) ((R.state r.old).meaning.args b.now)) }
+    requires asked { AskedLists R.manner (R.state r.old) (λ m. adt (m.id (def_id.now).0)) a.now b.now }
     requires as_many { count ((R.state r.old).meaning.args a.now) ≡ count ((R.state r.old).meaning.args b.now) }
-    ensures { Related R.manner (R.state r.old) (R.state r.new) (R.state r.old).ambient (node (adt ((R.state r.old).meaning.id (def_id.now).0)) ((R.state r.old).meaning.args a.now)) (node (adt ((R.state r.old).meaning.id (def_id.now).0)) ((R.state r.old).meaning.args b.now)) (λ k. node (adt ((R.state r.new).meaning.id (def_id.now).0)) ((R.state r.new).meaning.args k)) result }
+    ensures { RelatedLists R.manner (R.state r.old) (R.state r.new) (λ m. adt (m.id (def_id.now).0)) a.now b.now result }
 {
     relate_args(r, &ArgVariances::Adt(DefId(def_id.0)), a, b)
 }
@@ -233,14 +234,14 @@ pub fn relate_ty_args<
 ) -> RelateResult<I, Ty<I>>
     requires lawful { (R.state r.old).lawful }
     requires decides { (R.state r.old).ambient ≢ Bivariant }
-    requires asked { Asked R.manner (R.state r.old) (R.state r.old).ambient ((R.state r.old).meaning.ty a_ty.now) ((R.state r.old).meaning.ty b_ty.now) }
+    requires asked { AskedTys R.manner (R.state r.old) a_ty.now b_ty.now }
     requires args_known { IsTrue (known ((R.state r.old).meaning.args a_args.now)) }
-    requires over { AreOverItem ((R.state r.old).meaning.id (def_id.now).0) ((R.state r.old).meaning.ty a_ty.now) ((R.state r.old).meaning.ty b_ty.now) ((R.state r.old).meaning.args a_args.now) ((R.state r.old).meaning.args b_args.now) }
+    requires over { AreOver (R.state r.old) def_id.now a_ty.now b_ty.now a_args.now b_args.now }
     requires as_many { count ((R.state r.old).meaning.args a_args.now) ≡ count ((R.state r.old).meaning.args b_args.now) }
     requires callable { (cx : _) (list : _) → Extends (R.state r.old).meaning (I.meaning cx.now) → IsTrue (known ((I.meaning cx.now).args list)) → F.pre mk cx list }
     requires grows { (cx : _) (list : _) (res : _) (left : _) → F.post mk cx list res left → Extends (I.meaning cx.now) (I.meaning left.now) }
     requires makes { (cx : _) (list : _) (res : _) (left : _) → Extends (R.state r.old).meaning (I.meaning cx.now) → F.post mk cx list res left → IfOk res (λ k. IsTrue (known ((I.meaning left.now).ty k)) × ((I.meaning left.now).ty k ≡ node (head_of ((R.state r.old).meaning.ty a_ty.now)) ((I.meaning cx.now).args list))) }
-    ensures { Related R.manner (R.state r.old) (R.state r.new) (R.state r.old).ambient ((R.state r.old).meaning.ty a_ty.now) ((R.state r.old).meaning.ty b_ty.now) (R.state r.new).meaning.ty result }
+    ensures { RelatedTys R.manner (R.state r.old) (R.state r.new) a_ty.now b_ty.now result }
 {
     let variances = item_variances::<I, R>(r, a_ty, def_id);
     let args = relate_args(r, &variances, a_args, b_args)?;

@@ -7,7 +7,8 @@ ghost use Rattle.relation_terms.specs.Meaning.{arg_tree};
 ghost use Rattle.type_relations.specs.Relation.{part_at, pointee_variance};
 ghost use Rattle.type_relations.specs.Errors.{FormError, ConstFormError, AreOfOneForm, AreOfOneConst};
 ghost use Rattle.type_relations.specs.Parts.{parts_of, const_parts_of, head_of, const_head_of};
-ghost use Rattle.type_relations.specs.Lawful.{Asked, Noted, items_in};
+ghost use Rattle.type_relations.specs.Lawful.{Noted, items_in};
+ghost use Rattle.type_relations.specs.Keyed.{AskedTys, RelatesTys, AreOver};
 ghost use Rattle.type_relations.specs.Handing.{IsResultOfTy, IsResultOfConst};
 
 use crate::relate::comparing::{compare_consts, compare_tys};
@@ -187,7 +188,9 @@ pub(crate) fn note_declared<I: Interner, R: TypeRelation<I>>(
 ) -> RelateResult<I, ()>
     requires lawful { (R.state r.old).lawful }
     requires decides { (R.state r.old).ambient ≢ Bivariant }
-    requires asked { Asked R.manner (R.state r.old) (R.state r.old).ambient ((R.state r.old).meaning.ty a.now) ((R.state r.old).meaning.ty b.now) }
+    requires asked { AskedTys R.manner (R.state r.old) a.now b.now }
+    requires over { AreOver (R.state r.old) def_id.now a.now b.now a_args.now b_args.now }
+    requires related { RelatesTys (R.state r.old) a.now b.now }
     ensures { Noted (R.state r.old) (R.state r.new) result }
 {
     if r.item_variances(def_id).is_none() {
@@ -204,7 +207,9 @@ pub(crate) fn note_args<I: Interner, R: TypeRelation<I>>(
 ) -> RelateResult<I, ()>
     requires lawful { (R.state r.old).lawful }
     requires decides { (R.state r.old).ambient ≢ Bivariant }
-    requires asked { Asked R.manner (R.state r.old) (R.state r.old).ambient ((R.state r.old).meaning.ty a.now) ((R.state r.old).meaning.ty b.now) }
+    requires asked { AskedTys R.manner (R.state r.old) a.now b.now }
+    requires one_form { AreOfOneForm ((R.state r.old).meaning.ty a.now) ((R.state r.old).meaning.ty b.now) }
+    requires related { RelatesTys (R.state r.old) a.now b.now }
     ensures { Noted (R.state r.old) (R.state r.new) result }
 {
     let right = r.cx().ty_kind(b);

@@ -7,7 +7,7 @@ ghost use Rattle.relation_terms.specs.declared.terms.enums.Variance.TheVariants.
 ghost use Rattle.relation_terms.specs.Variances.{xform};
 ghost use Rattle.relation_terms.specs.Meaning.{arg_tree};
 ghost use Rattle.type_relations.specs.Parts.{IsFormed, IsFormedConst};
-ghost use Rattle.type_relations.specs.Lawful.{Asked, Related};
+ghost use Rattle.type_relations.specs.Keyed.{AskedArgs, AskedArgsAt, AskedConsts, AskedTys, RelatedArgs, RelatedArgsAt, RelatedConsts, RelatedTys};
 ghost use Rattle.type_relations.specs.Making.{arg_sort};
 
 use crate::relate::making::{make_const, make_ty};
@@ -36,8 +36,8 @@ pub fn tys<I: Interner, R: TypeRelation<I>>(
 ) -> RelateResult<I, Ty<I>>
     requires lawful { (R.state r.old).lawful }
     requires decides { (R.state r.old).ambient ≢ Bivariant }
-    requires asked { Asked R.manner (R.state r.old) (R.state r.old).ambient ((R.state r.old).meaning.ty a.now) ((R.state r.old).meaning.ty b.now) }
-    ensures { Related R.manner (R.state r.old) (R.state r.new) (R.state r.old).ambient ((R.state r.old).meaning.ty a.now) ((R.state r.old).meaning.ty b.now) (R.state r.new).meaning.ty result }
+    requires asked { AskedTys R.manner (R.state r.old) a.now b.now }
+    ensures { RelatedTys R.manner (R.state r.old) (R.state r.new) a.now b.now result }
 {
     match r.tys(a, b)? {
         Step::Done(answer) => Ok(answer),
@@ -70,8 +70,8 @@ pub fn consts<I: Interner, R: TypeRelation<I>>(
 ) -> RelateResult<I, Const<I>>
     requires lawful { (R.state r.old).lawful }
     requires decides { (R.state r.old).ambient ≢ Bivariant }
-    requires asked { Asked R.manner (R.state r.old) (R.state r.old).ambient ((R.state r.old).meaning.const_ a.now) ((R.state r.old).meaning.const_ b.now) }
-    ensures { Related R.manner (R.state r.old) (R.state r.new) (R.state r.old).ambient ((R.state r.old).meaning.const_ a.now) ((R.state r.old).meaning.const_ b.now) (R.state r.new).meaning.const_ result }
+    requires asked { AskedConsts R.manner (R.state r.old) a.now b.now }
+    ensures { RelatedConsts R.manner (R.state r.old) (R.state r.new) a.now b.now result }
 {
     match r.consts(a, b)? {
         Step::Done(answer) => Ok(answer),
@@ -101,8 +101,8 @@ pub fn relate<I: Interner, R: TypeRelation<I>>(
 ) -> RelateResult<I, GenericArg<I>>
     requires lawful { (R.state r.old).lawful }
     requires decides { (R.state r.old).ambient ≢ Bivariant }
-    requires asked { Asked R.manner (R.state r.old) (R.state r.old).ambient (arg_tree (R.state r.old).meaning a.now) (arg_tree (R.state r.old).meaning b.now) }
-    ensures related { Related R.manner (R.state r.old) (R.state r.new) (R.state r.old).ambient (arg_tree (R.state r.old).meaning a.now) (arg_tree (R.state r.old).meaning b.now) (arg_tree (R.state r.new).meaning) result }
+    requires asked { AskedArgs R.manner (R.state r.old) a.now b.now }
+    ensures related { RelatedArgs R.manner (R.state r.old) (R.state r.new) a.now b.now result }
     ensures kind { IfOk result (λ k. arg_sort k ≡ arg_sort a.now) }
 {
     match a {
@@ -140,8 +140,8 @@ pub fn relate_with_variance<I: Interner, R: TypeRelation<I>>(
     b: &GenericArg<I>,
 ) -> RelateResult<I, GenericArg<I>>
     requires lawful { (R.state r.old).lawful }
-    requires asked { Asked R.manner (R.state r.old) (xform (R.state r.old).ambient variance) (arg_tree (R.state r.old).meaning a.now) (arg_tree (R.state r.old).meaning b.now) }
-    ensures related { Related R.manner (R.state r.old) (R.state r.new) (xform (R.state r.old).ambient variance) (arg_tree (R.state r.old).meaning a.now) (arg_tree (R.state r.old).meaning b.now) (arg_tree (R.state r.new).meaning) result }
+    requires asked { AskedArgsAt R.manner (R.state r.old) variance a.now b.now }
+    ensures related { RelatedArgsAt R.manner (R.state r.old) (R.state r.new) variance a.now b.now result }
     ensures skipped { xform (R.state r.old).ambient variance ≡ Bivariant → IsOkAnd result (λ k. k ≡ a.now) × (r.new ≡ r.old) }
     ensures kind { IfOk result (λ k. arg_sort k ≡ arg_sort a.now) }
 {
@@ -169,10 +169,10 @@ pub fn structurally_relate_tys<I: Interner, R: TypeRelation<I>>(
 ) -> RelateResult<I, Ty<I>>
     requires lawful { (R.state r.old).lawful }
     requires decides { (R.state r.old).ambient ≢ Bivariant }
-    requires asked { Asked R.manner (R.state r.old) (R.state r.old).ambient ((R.state r.old).meaning.ty a.now) ((R.state r.old).meaning.ty b.now) }
+    requires asked { AskedTys R.manner (R.state r.old) a.now b.now }
     requires a_formed { IsFormed ((R.state r.old).meaning.ty a.now) }
     requires b_formed { IsFormed ((R.state r.old).meaning.ty b.now) }
-    ensures { Related R.manner (R.state r.old) (R.state r.new) (R.state r.old).ambient ((R.state r.old).meaning.ty a.now) ((R.state r.old).meaning.ty b.now) (R.state r.new).meaning.ty result }
+    ensures { RelatedTys R.manner (R.state r.old) (R.state r.new) a.now b.now result }
 {
     compare_tys_of::<I, R>(r, a, b)?;
     let n = parts_count_of::<I, R>(r, a);
@@ -202,10 +202,10 @@ pub fn structurally_relate_consts<I: Interner, R: TypeRelation<I>>(
 ) -> RelateResult<I, Const<I>>
     requires lawful { (R.state r.old).lawful }
     requires decides { (R.state r.old).ambient ≢ Bivariant }
-    requires asked { Asked R.manner (R.state r.old) (R.state r.old).ambient ((R.state r.old).meaning.const_ a.now) ((R.state r.old).meaning.const_ b.now) }
+    requires asked { AskedConsts R.manner (R.state r.old) a.now b.now }
     requires a_formed { IsFormedConst ((R.state r.old).meaning.const_ a.now) }
     requires b_formed { IsFormedConst ((R.state r.old).meaning.const_ b.now) }
-    ensures { Related R.manner (R.state r.old) (R.state r.new) (R.state r.old).ambient ((R.state r.old).meaning.const_ a.now) ((R.state r.old).meaning.const_ b.now) (R.state r.new).meaning.const_ result }
+    ensures { RelatedConsts R.manner (R.state r.old) (R.state r.new) a.now b.now result }
 {
     if a == b {
         return Ok(*a);

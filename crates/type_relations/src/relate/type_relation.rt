@@ -1,13 +1,13 @@
 //! Relations in steps, none of which relates anything by itself.
-ghost use Rattle.std.specs.Prelude.{◌≡◌, ◌≢◌, IfSome, IfNone};
+ghost use Rattle.std.specs.Prelude.{◌≡◌, ◌≢◌, IfSome, IfNone, IfOk};
 ghost use Rattle.std.specs.Borrow.{sem, Lends};
 ghost use Rattle.relation_terms.specs.Meaning.{Extends};
 ghost use Rattle.relation_terms.specs.declared.terms.enums.Variance.{Variance};
 ghost use Rattle.relation_terms.specs.declared.terms.enums.Variance.TheVariants.{Invariant, Bivariant};
 ghost use Rattle.type_relations.specs.Stores.{IsSound};
-ghost use Rattle.type_relations.specs.Goals.{Relates};
-ghost use Rattle.type_relations.specs.Parts.{IsFormed, IsFormedConst};
-ghost use Rattle.type_relations.specs.Lawful.{State, Manner, TakesParts, Turned, Asked, Related, Stepped, Noted, WithMeaning, items_in};
+ghost use Rattle.type_relations.specs.Lawful.{State, Manner, TakesParts, Turned, Noted, WithMeaning};
+ghost use Rattle.type_relations.specs.Keyed.{AskedConsts, AskedRegions, AskedTys, RelatedRegions, RelatesTys};
+ghost use Rattle.type_relations.specs.Keyed.{SteppedConsts, SteppedTys, AreOver, RecordsAsked};
 
 use crate::relate::Step;
 use relation_terms::terms::{Const, GenericArgs, Interner, ItemOf, Region, Ty, Variance};
@@ -64,32 +64,34 @@ pub trait TypeRelation<I: Interner> {
     fn tys(&mut self, a: &Ty<I>, b: &Ty<I>) -> RelateResult<I, Step<Ty<I>>>
         requires lawful { (state self.old).lawful }
         requires decides { (state self.old).ambient ≢ Bivariant }
-        requires asked { Asked manner (state self.old) (state self.old).ambient ((state self.old).meaning.ty a.now) ((state self.old).meaning.ty b.now) }
-        ensures { Stepped manner IsFormed (state self.old) (state self.new) ((state self.old).meaning.ty a.now) ((state self.old).meaning.ty b.now) (state self.new).meaning.ty result };
+        requires asked { AskedTys manner (state self.old) a.now b.now }
+        ensures { SteppedTys manner (state self.old) (state self.new) a.now b.now result };
 
     /// What comes of two constants.
     fn consts(&mut self, a: &Const<I>, b: &Const<I>) -> RelateResult<I, Step<Const<I>>>
         requires lawful { (state self.old).lawful }
         requires decides { (state self.old).ambient ≢ Bivariant }
-        requires asked { Asked manner (state self.old) (state self.old).ambient ((state self.old).meaning.const_ a.now) ((state self.old).meaning.const_ b.now) }
-        ensures { Stepped manner IsFormedConst (state self.old) (state self.new) ((state self.old).meaning.const_ a.now) ((state self.old).meaning.const_ b.now) (state self.new).meaning.const_ result };
+        requires asked { AskedConsts manner (state self.old) a.now b.now }
+        ensures { SteppedConsts manner (state self.old) (state self.new) a.now b.now result };
 
     /// Relates two regions.
     fn regions(&mut self, a: &Region<I>, b: &Region<I>) -> RelateResult<I, Region<I>>
         requires lawful { (state self.old).lawful }
         requires decides { (state self.old).ambient ≢ Bivariant }
-        requires asked { Asked manner (state self.old) (state self.old).ambient ((state self.old).meaning.region a.now) ((state self.old).meaning.region b.now) }
-        ensures { Related manner (state self.old) (state self.new) (state self.old).ambient ((state self.old).meaning.region a.now) ((state self.old).meaning.region b.now) (state self.new).meaning.region result };
+        requires asked { AskedRegions manner (state self.old) a.now b.now }
+        ensures related { RelatedRegions manner (state self.old) (state self.new) a.now b.now result }
+        ensures recorded { IfOk result (λ _. RecordsAsked manner (state self.old) (state self.new) a.now b.now) };
 
     /// Takes note that two types, as `tys` read them, were related.
     fn tys_done(&mut self, a: &Ty<I>, b: &Ty<I>) -> RelateResult<I, ()>
         requires lawful { (state self.old).lawful }
         requires decides { (state self.old).ambient ≢ Bivariant }
-        requires asked { Asked manner (state self.old) (state self.old).ambient ((state self.old).meaning.ty a.now) ((state self.old).meaning.ty b.now) }
-        requires related { Relates (items_in (state self.old)) (state self.old).store (state self.old).goals (state self.old).environment (state self.old).ambient ((state self.old).meaning.ty a.now) ((state self.old).meaning.ty b.now) }
+        requires asked { AskedTys manner (state self.old) a.now b.now }
+        requires related { RelatesTys (state self.old) a.now b.now }
         ensures { Noted (state self.old) (state self.new) result };
 
-    /// Takes note that the arguments of two types over one item were related at the variances that it declares.
+    /// Takes note that the arguments of two types over one item were related at the variances that it declares, and so
+    /// the types. The lists are theirs.
     fn ty_args_done(
         &mut self,
         a_ty: &Ty<I>,
@@ -100,7 +102,9 @@ pub trait TypeRelation<I: Interner> {
     ) -> RelateResult<I, ()>
         requires lawful { (state self.old).lawful }
         requires decides { (state self.old).ambient ≢ Bivariant }
-        requires asked { Asked manner (state self.old) (state self.old).ambient ((state self.old).meaning.ty a_ty.now) ((state self.old).meaning.ty b_ty.now) }
+        requires asked { AskedTys manner (state self.old) a_ty.now b_ty.now }
+        requires over { AreOver (state self.old) def_id.now a_ty.now b_ty.now a_args.now b_args.now }
+        requires related { RelatesTys (state self.old) a_ty.now b_ty.now }
         ensures { Noted (state self.old) (state self.new) result };
 
     // Its keys mean what they mean to the interner.

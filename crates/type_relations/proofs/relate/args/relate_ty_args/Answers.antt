@@ -3,9 +3,10 @@ use Rattle.relation_terms.specs.declared.terms.keys.ArgsKey.{ArgsKey}
 use Rattle.relation_terms.specs.Trees.{Tree, node, known}
 use Rattle.type_relations.specs.Parts.{head_of}
 use Rattle.type_relations.specs.Arguments.{args_head}
-use Rattle.type_relations.specs.Lawful.{Asked, Related, MayAnswer}
-use Rattle.type_relations.proofs.Passing.{as_err, asked_later, refused_again, noted_related, noted_refused, made_or_not}
-use Rattle.type_relations.proofs.Arguments.{args_heads}
+use Rattle.type_relations.specs.Lawful.{Asked, Related, MayAnswer, items_in}
+use Rattle.type_relations.specs.Goals.{Relates}
+use Rattle.type_relations.proofs.Passing.{as_err, asked_later, refused_again, noted_related, noted_refused, made_or_not, relates_now}
+use Rattle.type_relations.proofs.Arguments.{args_heads, over_later}
 use Rattle.type_relations.proofs.Answering.{if_ok_both}
 use Rattle.type_relations.proofs.relate.args.relate_ty_args.Goals as goal
 
@@ -47,6 +48,32 @@ note_declared-requires-clause-asked g c =
     (sym ((passes.extends).ty c.args.b_ty.now k.right_known))
     (subst (λ v. Asked M q v (m.ty c.args.a_ty.now) (m.ty c.args.b_ty.now)) (sym passes.ambient)
     (asked_later M r.ambient (m.ty c.args.a_ty.now) (m.ty c.args.b_ty.now) passes k))
+
+pub note_declared-requires-clause-over : goal.note_declared-requires-clause-over
+note_declared-requires-clause-over g c =
+    let k = c.requires.asked in
+    over_later (((c.in_ok-args.ensures).passes).extends) c.args.def_id.now.0 c.args.a_ty.now c.args.b_ty.now
+    c.args.a_args.now c.args.b_args.now k.left_known k.right_known c.requires.over
+
+pub note_declared-requires-clause-related : goal.note_declared-requires-clause-related
+note_declared-requires-clause-related g c =
+    let r = g.R.TypeRelation.state c.args.r.now in
+    let q = g.R.TypeRelation.state c.relate_args.new.r in
+    let M = g.R.TypeRelation.manner in
+    let m = r.meaning in
+    let v = c.item_variances-variances.result in
+    let a = m.ty c.args.a_ty.now in
+    let b = m.ty c.args.b_ty.now in
+    let k = c.requires.asked in
+    let is = c.item_variances-variances.ensures b (m.args c.args.a_args.now) (m.args c.args.b_args.now) c.requires.over in
+    let args = c.in_ok-args.args in
+    let done = subst₂ (λ a b. Related M r q r.ambient a b (λ k. node (args_head (q.meaning) v) ((q.meaning).args k))
+    (Ok args)) (sym is.0) (sym is.1) c.in_ok-args.ensures in
+    let passes = done.passes in
+    subst₂ (λ t u. Relates (items_in q) q.store q.goals q.environment q.ambient t u)
+    (sym ((passes.extends).ty c.args.a_ty.now k.left_known)) (sym ((passes.extends).ty c.args.b_ty.now k.right_known))
+    (subst (λ v. Relates (items_in q) q.store q.goals q.environment v a b) (sym passes.ambient)
+    (relates_now M r.ambient a b (λ k. node (args_head (q.meaning) v) ((q.meaning).args k)) args done))
 
 pub returns-in_err-note_declared : goal.returns-in_err-note_declared
 returns-in_err-note_declared g c =

@@ -11,6 +11,7 @@ use Rattle.relation_terms.proofs.Stays.{knows_arg}
 use Rattle.relation_tools.specs.declared.error.RelateFault.TheVariants.{Unrelated, Memory}
 use Rattle.type_relations.specs.Relation.{part_at}
 use Rattle.type_relations.specs.Goals.{Relates}
+use Rattle.type_relations.specs.Errors.{AreOfOneForm}
 use Rattle.type_relations.specs.Parts.{IsFormed, IsFormedConst, parts_of, const_parts_of, head_of, const_head_of}
 use Rattle.type_relations.specs.Handing.{IsResultOfTy, IsResultOfConst}
 use Rattle.type_relations.specs.Making.{arg_sort, Fit, over, const_over}
@@ -512,7 +513,7 @@ relate-returns-in_ok-regions-in-Lifetime g t c =
       related = subst₂ (λ t u. Related M r q r.ambient (arg_tree r.meaning t) (arg_tree r.meaning u) (arg_tree q.meaning) (Ok (Lifetime n.field-0)))
           (sym c.in-Lifetime.is) (sym c.in-Lifetime-b.is)
           (retold M r.ambient ((r.meaning).region c.in-Lifetime.a) ((r.meaning).region c.in-Lifetime-b.b) (q.meaning).region n.field-0
-          (arg_tree q.meaning) (Lifetime n.field-0) refl n.ensures);
+          (arg_tree q.meaning) (Lifetime n.field-0) refl n.ensures.related);
       kind = ap arg_sort (sym c.in-Lifetime.is);
     }
 
@@ -1226,6 +1227,47 @@ structurally_relate_tys-returns-in_err-push g t c =
     c.from_residual-in_err-push.ensures.1))
     (stopped M r.ambient a b (p.meaning).ty (passes_within (omega (arith, weight_parts_most r.store a, weight_parts_most r.store b))
     next.passes))
+
+pub structurally_relate_tys-note_args-requires-clause-one_form : goal.structurally_relate_tys-note_args-requires-clause-one_form
+structurally_relate_tys-note_args-requires-clause-one_form g t c =
+    let r = g.R.TypeRelation.state c.args.r.now in
+    let M = g.R.TypeRelation.manner in
+    let a = (r.meaning).ty c.args.a.now in
+    let b = (r.meaning).ty c.args.b.now in
+    let q = g.R.TypeRelation.state c.loop-i.r in
+    let i = c.loop-i.i in
+    let inv = c.loop-i.invariant in
+    let k = c.requires.asked in
+    let extends = ((inv.fronted).passes).extends in
+    let same_a : (q.meaning).ty c.args.a.now ≡ a = extends.ty c.args.a.now k.left_known in
+    let same_b : (q.meaning).ty c.args.b.now ≡ b = extends.ty c.args.b.now k.right_known in
+    let alike = (c.in_ok-compare_tys_of.ensures).alike in
+    subst₂ AreOfOneForm (sym same_a) (sym same_b) alike
+
+pub structurally_relate_tys-note_args-requires-clause-related : goal.structurally_relate_tys-note_args-requires-clause-related
+structurally_relate_tys-note_args-requires-clause-related g t c =
+    let r = g.R.TypeRelation.state c.args.r.now in
+    let M = g.R.TypeRelation.manner in
+    let a = (r.meaning).ty c.args.a.now in
+    let b = (r.meaning).ty c.args.b.now in
+    let q = g.R.TypeRelation.state c.loop-i.r in
+    let i = c.loop-i.i in
+    let inv = c.loop-i.invariant in
+    let k = c.requires.asked in
+    let extends = ((inv.fronted).passes).extends in
+    let same_a : (q.meaning).ty c.args.a.now ≡ a = extends.ty c.args.a.now k.left_known in
+    let same_b : (q.meaning).ty c.args.b.now ≡ b = extends.ty c.args.b.now k.right_known in
+    let alike = (c.in_ok-compare_tys_of.ensures).alike in
+    let test = c.loop-i-test.false in
+    let end = (c.loop-i.auto).i-end in
+    let left : i ≡ count (parts_of a) = omega (arith, test, end, inv.left_count) in
+    let right : i ≡ count (parts_of b) = omega (arith, test, end, inv.right_count) in
+    let done : Related M r q r.ambient a b (q.meaning).ty (Ok c.args.a.now) =
+    types_related M r.ambient a b i (q.meaning).ty c.args.a.now c.requires.a_formed c.requires.b_formed alike inv.fronted inv.are_parts left
+    right same_a k.left_known in
+    subst₂ (λ t u. Relates (items_in q) q.store q.goals q.environment q.ambient t u) (sym same_a) (sym same_b)
+    (subst (λ v. Relates (items_in q) q.store q.goals q.environment v a b) (sym ((inv.fronted).passes).ambient)
+    (relates_now M r.ambient a b (q.meaning).ty c.args.a.now done))
 
 pub structurally_relate_tys-note_args-requires-clause-asked : goal.structurally_relate_tys-note_args-requires-clause-asked
 structurally_relate_tys-note_args-requires-clause-asked g t c =
