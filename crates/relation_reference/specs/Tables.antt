@@ -6,6 +6,7 @@ use Rattle.relation_terms.specs.Meaning.{Meaning}
 use Rattle.type_relations.specs.Stores.{Store, Entry, entry_of, unbound, same_as, bound_to, IsSound}
 use Rattle.type_relations.specs.Constraints.{constraint_of}
 use Rattle.type_relations.specs.Parts.{IsFormed}
+use Rattle.type_relations.specs.Contexts.{Context}
 use Rattle.relation_reference.specs.declared.context.inner.TypeVariableValue.{TypeVariableValue}
 use Rattle.relation_reference.specs.declared.context.inner.TypeVariableValue.TheVariants.{Unknown, SameAs, Known}
 use Rattle.relation_reference.specs.declared.context.inner.InferCtxtInner.{InferCtxtInner}
@@ -44,3 +45,7 @@ module _ {Key Id Name : Type 0} (m : Meaning Key Id Name) where
         get_or (map (λ v. m.ty v.key) x.types.items) n nil ≡ leaf (variable type_var n)
     pub formed : (n : ℕ) (t : Tree) → entry_of (store_of x) type_var n ≡ bound_to t → IsFormed t
     pub first_universe : (x.universe).0 ≡ 0
+
+  -- A context of these tables, as contracts see it.
+  abbrev pub context_of : InferCtxtInner Key → Context Key Id Name
+  context_of x = record { meaning = m; store = store_of x; lawful = IsLawful x }

@@ -3,12 +3,10 @@ ghost use Rattle.std.specs.Prelude.{◌≡◌, ◌≢◌, ◌+◌, ◌&&◌, ◌
 ghost use Rattle.relation_terms.specs.Heads.{environment};
 ghost use Rattle.relation_terms.specs.Trees.{known, node, nil};
 ghost use Rattle.relation_terms.specs.Meaning.{Extends};
-ghost use Rattle.relation_tools.specs.Faults.{KnowsFault, IfUnrelated};
+ghost use Rattle.relation_tools.specs.Faults.{KnowsFault};
 ghost use Rattle.type_relations.specs.Stores.{IsTermIn};
-ghost use Rattle.type_relations.specs.Goals.{goals_of};
 ghost use Rattle.type_relations.specs.Steps.{IsLater};
-ghost use Rattle.type_relations.specs.Outcomes.{NoEqualTerms};
-ghost use Rattle.type_relations.specs.Headline.{AnswersGoals};
+ghost use Rattle.type_relations.specs.Contexts.{KnowsEnv, KnowsTy, TakesTy, HasTy, AnswersTys, TellsApart};
 ghost use Rattle.type_relations.specs.Taken.{IsTaken};
 ghost use Rattle.relation_reference.specs.Tables.{store_of, IsLawful};
 ghost use Rattle.relations.specs.Types.{written_tree, has_all};
@@ -106,20 +104,20 @@ pub fn relate<C: RelateExt>(
     rhs: Ty<C::Interner>,
     span: Span<C::Interner>,
 ) -> RelateGoals<C::Interner>
-    requires lawful { C.is_lawful ctx.old }
+    requires lawful { (C.state ctx.old).lawful }
     requires decides { variance ≢ Variance.Bivariant }
-    requires env_known { IsTrue (known ((C.Interner.meaning (C.interner ctx.old)).param_env param_env)) }
-    requires lhs_known { IsTrue (known ((C.Interner.meaning (C.interner ctx.old)).ty lhs)) }
-    requires rhs_known { IsTrue (known ((C.Interner.meaning (C.interner ctx.old)).ty rhs)) }
-    requires lhs_taken { IsTaken variance ((C.Interner.meaning (C.interner ctx.old)).ty lhs) }
-    requires rhs_taken { IsTaken variance ((C.Interner.meaning (C.interner ctx.old)).ty rhs) }
-    requires lhs_in { IsTermIn (C.store ctx.old) ((C.Interner.meaning (C.interner ctx.old)).ty lhs) }
-    requires rhs_in { IsTermIn (C.store ctx.old) ((C.Interner.meaning (C.interner ctx.old)).ty rhs) }
-    ensures answers { IfOk result (λ goals. AnswersGoals (C.items ctx.old) (C.store ctx.old) (C.store ctx.new) (goals_of (C.Interner.meaning (C.interner ctx.new)) goals.items) ((C.Interner.meaning (C.interner ctx.old)).param_env param_env) variance ((C.Interner.meaning (C.interner ctx.old)).ty lhs) ((C.Interner.meaning (C.interner ctx.old)).ty rhs)) }
-    ensures apart { IfUnrelated result (λ e. NoEqualTerms (C.store ctx.old) ((C.Interner.meaning (C.interner ctx.old)).ty lhs) ((C.Interner.meaning (C.interner ctx.old)).ty rhs)) }
-    ensures lawful { C.is_lawful ctx.new }
-    ensures later { IsLater (C.store ctx.old) (C.store ctx.new) }
-    ensures why_known { IfErr result (λ e. KnowsFault (C.Interner.meaning (C.interner ctx.new)) e) }
+    requires env_known { KnowsEnv (C.state ctx.old) param_env }
+    requires lhs_known { KnowsTy (C.state ctx.old) lhs }
+    requires rhs_known { KnowsTy (C.state ctx.old) rhs }
+    requires lhs_taken { TakesTy (C.state ctx.old) variance lhs }
+    requires rhs_taken { TakesTy (C.state ctx.old) variance rhs }
+    requires lhs_in { HasTy (C.state ctx.old) lhs }
+    requires rhs_in { HasTy (C.state ctx.old) rhs }
+    ensures answers { AnswersTys (C.state ctx.old) (C.state ctx.new) param_env variance lhs rhs result }
+    ensures apart { TellsApart (C.state ctx.old) (C.state ctx.new) lhs rhs result }
+    ensures lawful { (C.state ctx.new).lawful }
+    ensures later { IsLater (C.state ctx.old).store (C.state ctx.new).store }
+    ensures why_known { IfErr result (λ e. KnowsFault (C.state ctx.new).meaning e) }
 {
     ctx.relate(param_env, lhs, variance, rhs, span)
 }

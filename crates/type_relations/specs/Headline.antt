@@ -26,11 +26,6 @@ pub record IsFirstOrderPair (before : Store) (a b : Tree) : Type 0 where
   pub right : IsFirstOrder b
   pub bindings : IsFirstOrderStore before
 
--- Exact: no goal is answered, and of the assignments that met the store before, up to erasure, just those that unify
--- are left. So the store after is a most general one.
-abbrev pub AnswersExactly : Store → Store → List Goal → Tree → Tree → Type 0
-AnswersExactly before after goals a b = (goals ≡ []) × Exact before after a b
-
 -- What exactness says of an earlier assignment: it unifies the terms just where it extends to the store after.
 abbrev pub KeepsUnifiers : Store → Store → Tree → Tree → Type 0
 KeepsUnifiers before after a b = (s : Assign) → IsErasedSolution before s → Unifies s a b ↔

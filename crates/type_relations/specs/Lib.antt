@@ -22,3 +22,4 @@ pub mod Taken
 pub mod Arguments
 pub mod Making
 pub mod Keyed
+pub mod Contexts
