@@ -14,7 +14,7 @@ impl<I: Interner> RelateExt for RefCtxt<I> {
     ghost use Rattle.relation_tools.specs.Faults.{KnowsFault, IfUnrelated, IfSpent};
     ghost use Rattle.type_relations.specs.Stores.{IsTermIn, IsSound, all_bound};
     ghost use Rattle.type_relations.specs.Goals.{goals_of};
-    ghost use Rattle.type_relations.specs.Steps.{IsLater};
+    ghost use Rattle.type_relations.specs.Steps.{IsLater, MakesNone, BindsItsOwn};
     ghost use Rattle.type_relations.specs.FirstOrder.{IsFirstOrderStore};
     ghost use Rattle.type_relations.specs.Outcomes.{NoEqualTerms, Exact, NoUnifier};
     ghost use Rattle.type_relations.specs.Headline.{AnswersGoals, KeepsEqualTerms, IsFirstOrderPair};
@@ -58,6 +58,8 @@ impl<I: Interner> RelateExt for RefCtxt<I> {
         ensures exact { IfOk result (λ goals. variance ≡ Variance.Invariant → IsFirstOrderPair (store_of (I.meaning self.old.interner) self.old.inner) ((I.meaning self.old.interner).ty lhs) ((I.meaning self.old.interner).ty rhs) → Exact (store_of (I.meaning self.old.interner) self.old.inner) (store_of (I.meaning self.new.interner) self.new.inner) ((I.meaning self.old.interner).ty lhs) ((I.meaning self.old.interner).ty rhs) × IsFirstOrderStore (store_of (I.meaning self.new.interner) self.new.inner)) }
         ensures no_unifier { IfUnrelated result (λ e. variance ≡ Variance.Invariant → IsFirstOrderPair (store_of (I.meaning self.old.interner) self.old.inner) ((I.meaning self.old.interner).ty lhs) ((I.meaning self.old.interner).ty rhs) → NoUnifier (store_of (I.meaning self.old.interner) self.old.inner) ((I.meaning self.old.interner).ty lhs) ((I.meaning self.old.interner).ty rhs)) }
         ensures later { IsLater (store_of (I.meaning self.old.interner) self.old.inner) (store_of (I.meaning self.new.interner) self.new.inner) }
+        ensures made { MakesNone (store_of (I.meaning self.old.interner) self.old.inner) (store_of (I.meaning self.new.interner) self.new.inner) }
+        ensures bound { BindsItsOwn (store_of (I.meaning self.old.interner) self.old.inner) (store_of (I.meaning self.new.interner) self.new.inner) }
         ensures sound { IsSound (store_of (I.meaning self.new.interner) self.new.inner) }
         ensures budget { (store_of (I.meaning self.old.interner) self.old.inner).budget + all_bound (store_of (I.meaning self.old.interner) self.old.inner) ≡ (store_of (I.meaning self.new.interner) self.new.inner).budget + all_bound (store_of (I.meaning self.new.interner) self.new.inner) }
         ensures lawful { IsLawful (I.meaning self.new.interner) self.new.inner }
