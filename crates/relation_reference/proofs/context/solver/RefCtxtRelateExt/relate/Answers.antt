@@ -6,6 +6,7 @@ use Rattle.type_relations.specs.Relation.{same}
 use Rattle.type_relations.specs.Goals.{goals_of, MakesOneTree}
 use Rattle.type_relations.specs.Headline.{AnswersGoals, KeepsEqualTerms}
 use Rattle.type_relations.specs.Lawful.{items_of}
+use Rattle.type_relations.proofs.Going.{later_itself, binds_its_own}
 use Rattle.type_relations.proofs.Unifying.{exact_itself}
 use Rattle.type_relations.proofs.Passing.{as_err}
 use Rattle.relation_reference.proofs.Exactly.{unrelated_apart}
@@ -38,6 +39,21 @@ returns-then-eq-clause-keeps g c = λ w s sat one. (
         (sym c.new.ensures.items) (All-nil (MakesOneTree s)),
   ),
 )
+
+pub returns-then-eq-clause-bound : goal.returns-then-eq-clause-bound
+returns-then-eq-clause-bound g c =
+    let st = store_of (g.I.Interner.meaning c.args.self.now.interner) c.args.self.now.inner in
+    binds_its_own st st (later_itself st) (λ k. refl)
+
+pub returns-in_err-relate_in-clause-bound : goal.returns-in_err-relate_in-clause-bound
+returns-in_err-relate_in-clause-bound g c =
+    let goes = ((c.in_err-relate_in.ensures).passes).goes in
+    binds_its_own _ _ goes.later goes.none_made
+
+pub returns-clause-bound : goal.returns-clause-bound
+returns-clause-bound g c =
+    let goes = ((c.in_ok-relate_in.ensures).passes).goes in
+    binds_its_own _ _ goes.later goes.none_made
 
 pub returns-in_err-relate_in-clause-same : goal.returns-in_err-relate_in-clause-same
 returns-in_err-relate_in-clause-same g c = λ e. absurd (false≢true (c.if-eq.ensures
