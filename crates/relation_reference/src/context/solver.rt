@@ -27,8 +27,6 @@ impl<I: Interner> RelateExt for RefCtxt<I> {
 
     ghost store = { λ c. store_of (I.meaning c.interner) c.inner };
 
-    ghost items = { λ c. items_of (I.meaning c.interner) };
-
     ghost is_lawful = { λ c. IsLawful (I.meaning c.interner) c.inner };
 
     fn relate(
@@ -51,7 +49,7 @@ impl<I: Interner> RelateExt for RefCtxt<I> {
         ensures answers { IfOk result (λ goals. AnswersGoals (items_of (I.meaning self.old.interner)) (store_of (I.meaning self.old.interner) self.old.inner) (store_of (I.meaning self.new.interner) self.new.inner) (goals_of (I.meaning self.new.interner) goals.items) ((I.meaning self.old.interner).param_env param_env) variance ((I.meaning self.old.interner).ty lhs) ((I.meaning self.old.interner).ty rhs)) }
         ensures keeps { IfOk result (λ goals. KeepsEqualTerms (store_of (I.meaning self.old.interner) self.old.inner) (store_of (I.meaning self.new.interner) self.new.inner) (goals_of (I.meaning self.new.interner) goals.items) ((I.meaning self.old.interner).ty lhs) ((I.meaning self.old.interner).ty rhs)) }
         ensures apart { IfUnrelated result (λ e. NoEqualTerms (store_of (I.meaning self.old.interner) self.old.inner) ((I.meaning self.old.interner).ty lhs) ((I.meaning self.old.interner).ty rhs)) }
-        ensures errors { IfUnrelated result (λ e. ErrorOf (I.meaning self.new.interner) (store_of (I.meaning self.new.interner) self.new.inner) e ((I.meaning self.old.interner).ty lhs) ((I.meaning self.old.interner).ty rhs)) }
+        ensures errors { IfUnrelated result (λ e. ErrorOf (I.meaning self.new.interner) (items_of (I.meaning self.new.interner)) (store_of (I.meaning self.new.interner) self.new.inner) variance e ((I.meaning self.old.interner).ty lhs) ((I.meaning self.old.interner).ty rhs)) }
         ensures spent { IfSpent result ((store_of (I.meaning self.new.interner) self.new.inner).budget ≡ 0) }
         ensures same { (I.meaning self.old.interner).ty lhs ≡ (I.meaning self.old.interner).ty rhs → IsOkAnd result (λ goals. goals.items ≡ []) × (store_of (I.meaning self.new.interner) self.new.inner ≡ store_of (I.meaning self.old.interner) self.old.inner) }
         ensures goals { IfOk result (λ goals. variance ≡ Variance.Invariant → IsFirstOrderPair (store_of (I.meaning self.old.interner) self.old.inner) ((I.meaning self.old.interner).ty lhs) ((I.meaning self.old.interner).ty rhs) → goals.items ≡ []) }
