@@ -28,7 +28,7 @@ use Rattle.type_relations.specs.Headline.{AnswersGoals, KeepsEqualTerms}
 use Rattle.type_relations.specs.Steps.{AddsConstraint, BindsTo, Instantiates}
 use Rattle.type_relations.specs.Outcomes.{Outcome, StepsTo}
 use Rattle.type_relations.specs.Measures.{Goes}
-use Rattle.type_relations.specs.Errors.{IsReadAs, itself, by_entry, of_entries}
+use Rattle.type_relations.specs.Errors.{ErrorOf, IsReadAs, itself, by_entry, of_entries}
 use Rattle.type_relations.specs.Parts.{IsFormed}
 use Rattle.type_relations.specs.Constraints.{constraint_at, constraint_of, asked_constraints}
 use Rattle.type_relations.specs.Taken.{IsFixedLeaf}
@@ -262,7 +262,7 @@ module _ {Key Id Name : Type 0} (j : ℕ) where
             ),
           );
         };
-        errors = λ n st f l o. of_entries (read_later (store_of m x) st g l a (tree t) p)
+        errors = λ n c st f l o. of_entries (read_later (store_of m x) st g l a (tree t) p)
             (read_later (store_of m x) st g l b (tree u) q) o;
       };
       asked = k;
@@ -282,13 +282,13 @@ module _ {Key Id Name : Type 0} (j : ℕ) where
     );
   }
 
-  -- A step from a pair as it is read, to another.
-  read_leads : (m n : Meaning Key Id Name) (x y : InferCtxtInner Key) (e : ParamEnvKey Key) (v : Variance)
+  -- A step from a pair as it is read, to another, at invariance.
+  read_leads : (m n : Meaning Key Id Name) (x y : InferCtxtInner Key) (e : ParamEnvKey Key)
       (a b u w t r : Tree) → IsReadAs (store_of m x) a u → IsReadAs (store_of m x) b w →
       IsReadAs (store_of n y) a t → IsReadAs (store_of n y) b r → IsSound (store_of n y) →
       StepsTo (items_of m) (m.param_env e) (store_of m x) (store_of n y) [] [] (at Invariant) u w
-      (at v) t r → Leads (solving j m x Invariant e) (solving j n y Invariant e) [] a b v t r
-  read_leads m n x y e v a b u w t r p q p' q' g h = record {
+      (at Invariant) t r → Leads (solving j m x Invariant e) (solving j n y Invariant e) [] a b Invariant t r
+  read_leads m n x y e a b u w t r p q p' q' g h = record {
     steps = record {
       later = h.later;
       goals_in = h.goals_in;
@@ -299,7 +299,7 @@ module _ {Key Id Name : Type 0} (j : ℕ) where
       keeps = λ i s sat one. h.keeps i s sat (sym (read_value (store_of m x) s sat.bindings a u p) ∙ one
           ∙ read_value (store_of m x) s sat.bindings b w q);
     };
-    errors = λ k st f l o. of_entries (read_later (store_of n y) st g l a t p')
+    errors = λ k c st f l o. of_entries (read_later (store_of n y) st g l a t p')
         (read_later (store_of n y) st g l b r q') o;
   }
 
@@ -376,8 +376,8 @@ module _ {Key Id Name : Type 0} (j : ℕ) where
           led : LeadsAgain solver_manner (solving j m x Invariant e) (solving j n y Invariant e)
               [] a b root t Covariant u t
           led = record {
-            leads = read_leads m n x y e Invariant a b root t u t p q (root_reads a p) (reads b q) after.sound step;
-            read_leads = read_leads m n x y e Invariant root t root t u t (itself refl) (itself refl)
+            leads = read_leads m n x y e a b root t u t p q (root_reads a p) (reads b q) after.sound step;
+            read_leads = read_leads m n x y e root t root t u t (itself refl) (itself refl)
                 (root_reads root (itself refl)) (reads t (itself refl)) after.sound step;
             read_asked = asked_now root t refl t_known (later root i) (later t t_in);
             asked = asked_now u t u_known t_known u_in (later t t_in);
@@ -434,8 +434,8 @@ module _ {Key Id Name : Type 0} (j : ℕ) where
           led : LeadsAgain solver_manner (solving j m x Invariant e) (solving j n y Invariant e)
               [] a b t root Covariant t u
           led = record {
-            leads = read_leads m n x y e Invariant a b t root t u p q (reads a p) (root_reads b q) after.sound step;
-            read_leads = read_leads m n x y e Invariant t root t root t u (itself refl) (itself refl)
+            leads = read_leads m n x y e a b t root t u p q (reads a p) (root_reads b q) after.sound step;
+            read_leads = read_leads m n x y e t root t root t u (itself refl) (itself refl)
                 (reads t (itself refl)) (root_reads root (itself refl)) after.sound step;
             read_asked = asked_now t root t_known refl (later t t_in) (later root i);
             asked = asked_now t u t_known u_known (later t t_in) u_in;
@@ -474,12 +474,16 @@ module _ {Key Id Name : Type 0} (j : ℕ) where
   module _ {K : Type 0} (F : Tree → Type 0) (m n : Meaning Key Id Name) (grown : Extends m n) (x y : InferCtxtInner Key)
       (v : Variance) (e : ParamEnvKey Key) (env : IsTrue (known (m.param_env e))) (before : IsLawful m x)
       (after : IsLawful n y) (target : ℕ) (t : Tree) (formed : IsFormed t) (a b : Tree) (tree : K → Tree)
-      (f : RelateFault Key Id Name) (sure : KnowsFault n f)
+      (f : RelateFault Key Id Name) (sure : KnowsFault n f) (is : v ≡ Invariant)
       (h : Instantiated n (store_of m x) (store_of n y) target t (Err f)) where
     refuses : (f : RelateFault Key Id Name) → KnowsFault n f → Answered {X = K} n (store_of m x)
         (store_of n y) a b (Err f) →
         Refuses (solving j m x v e) (solving j n y v e) v a b f
-    refuses (Unrelated g) k o = (o.0, o.1, k)
+    refuses (Unrelated g) k o = (
+      o.0,
+      subst (λ v. ErrorOf n (items_of n) (store_of n y) v g a b) (sym is) o.1,
+      k,
+    )
     refuses Budget k o = o
     refuses Memory k o = tt
 

@@ -13,6 +13,7 @@ use Rattle.type_relations.specs.Stores.{Store, same_as, entry_of, bound_term, re
 use Rattle.type_relations.specs.Steps.{BindsTo, ChangesNothing, Instantiates, RefusesToInstantiate}
 use Rattle.type_relations.specs.Outcomes.{NoEqualTerms}
 use Rattle.type_relations.specs.Errors.{ErrorOf}
+use Rattle.type_relations.specs.Lawful.{items_of}
 use Rattle.type_relations.specs.Parts.{IsFormed}
 
 -- From a variable the entries lead to another of the same class.
@@ -54,11 +55,12 @@ StepsByInstantiating m before after n t (Err (Unrelated e)) = RefusesToInstantia
 StepsByInstantiating m before after n t (Err Budget) = ChangesNothing before after
 StepsByInstantiating m before after n t (Err Memory) = ChangesNothing before after
 
--- What relating two terms answers; nothing is claimed where memory ran out, and no instantiation is left where the
+-- What relating two terms at invariance answers; nothing is claimed where memory ran out, and no instantiation is left where the
 -- budget did. An error is one of a pair that was met, by what is recorded after.
 abbrev pub Answered : {X Key Id Name : Type 0} → Meaning Key Id Name → Store → Store → Tree → Tree →
     Result X (RelateFault Key Id Name) → Type 0
 Answered m before after a b (Ok x) = Unites before after a b
-Answered m before after a b (Err (Unrelated e)) = NoEqualTerms before a b × ErrorOf m after e a b
+Answered m before after a b (Err (Unrelated e)) = NoEqualTerms before a b ×
+    ErrorOf m (items_of m) after Invariant e a b
 Answered m before after a b (Err Budget) = after.budget ≡ 0
 Answered m before after a b (Err Memory) = Unit {0}

@@ -1,5 +1,8 @@
--- Lists of arguments, as what they are related for.
-use Rattle.std.specs.Prelude.{◌≡◌, ℕ, Option, Some, None}
+-- Arguments that are not looked at, what is related of a tree, and lists of arguments as what they are related for.
+use Rattle.std.specs.Prelude.{◌≡◌, ℕ, Option, Some, None, Result}
+use Rattle.std.specs.Result.{IsOkAnd}
+use Rattle.relation_terms.specs.declared.terms.enums.Variance.{Variance}
+use Rattle.relation_terms.specs.declared.terms.enums.Variance.TheVariants.{Bivariant}
 use Rattle.relation_terms.specs.Heads.{Head, adt, fn_def, arguments}
 use Rattle.relation_terms.specs.Trees.{Tree, node}
 use Rattle.relation_terms.specs.Meaning.{Meaning}
@@ -10,6 +13,10 @@ use Rattle.type_relations.specs.declared.relate.args.ArgVariances.TheVariants.{I
 abbrev pub related_tree : Option Head → Tree → Tree
 related_tree None t = t
 related_tree (Some h) ts = node h ts
+
+-- At bivariance two arguments are not looked at: the left one is the answer, and the relation is what it was.
+abbrev pub IsSkipped : {A F R : Type 0} → Variance → R → R → A → Result A F → Type 0
+IsSkipped v old new a result = v ≡ Bivariant → IsOkAnd result (λ k. k ≡ a) × (new ≡ old)
 
 -- The form over arguments whose parts stand at these variances.
 abbrev pub args_head : {Key Id Name : Type 0} → Meaning Key Id Name → ArgVariances Id → Head

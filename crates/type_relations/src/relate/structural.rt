@@ -2,13 +2,13 @@
 //!
 //! These calls stand beside the relation, whose steps never call them: one proof serves all relations.
 ghost use Rattle.std.specs.Prelude.{◌≡◌, ◌≢◌, IsTrue, IfOk};
-ghost use Rattle.std.specs.Result.{IsOkAnd};
 ghost use Rattle.relation_terms.specs.declared.terms.enums.Variance.TheVariants.{Bivariant};
 ghost use Rattle.relation_terms.specs.Variances.{xform};
 ghost use Rattle.relation_terms.specs.Meaning.{arg_tree};
 ghost use Rattle.type_relations.specs.Parts.{IsFormed, IsFormedConst};
 ghost use Rattle.type_relations.specs.Keyed.{AskedArgs, AskedArgsAt, AskedConsts, AskedTys, RelatedArgs, RelatedArgsAt, RelatedConsts, RelatedTys};
 ghost use Rattle.type_relations.specs.Making.{arg_sort};
+ghost use Rattle.type_relations.specs.Arguments.{IsSkipped};
 
 use crate::relate::making::{make_const, make_ty};
 use crate::relate::reading::{
@@ -142,7 +142,7 @@ pub fn relate_with_variance<I: Interner, R: TypeRelation<I>>(
     requires lawful { (R.state r.old).lawful }
     requires asked { AskedArgsAt R.manner (R.state r.old) variance a.now b.now }
     ensures related { RelatedArgsAt R.manner (R.state r.old) (R.state r.new) variance a.now b.now result }
-    ensures skipped { xform (R.state r.old).ambient variance ≡ Bivariant → IsOkAnd result (λ k. k ≡ a.now) × (r.new ≡ r.old) }
+    ensures skipped { IsSkipped (xform (R.state r.old).ambient variance) r.old r.new a.now result }
     ensures kind { IfOk result (λ k. arg_sort k ≡ arg_sort a.now) }
 {
     let old = r.ambient();

@@ -114,6 +114,11 @@ returns-in_err-bound-in-None-ty_var g c =
     let b = m.ty c.args.b.now in
     let f = c.in_err-bound-in-None-ty_var.field-0.0 in
     let h = c.in_err-bound-in-None-ty_var.ensures in
+    let l = m.ty c.shallow_resolve-left.result in
+    let k = c.requires.asked in
+    let taken = read_taken st r.ambient_variance a l
+    (g.met.I.Interner.is_ty r.infcx.now.interner c.args.a.now k.left_known)
+    c.shallow_resolve-left.ensures.reads k.left_taken in
     subst (λ res. Stepped solver_manner IsFormed (solving r.infcx.ghost_name m r.infcx.now.inner
     r.ambient_variance r.param_env)
     (solving r.infcx.ghost_name o q.inner r.ambient_variance r.param_env) a b o.ty res)
@@ -121,7 +126,8 @@ returns-in_err-bound-in-None-ty_var g c =
     (left_refused r.infcx.ghost_name IsFormed m o h.grown r.infcx.now.inner q.inner r.ambient_variance
     r.param_env c.requires.lawful.1
     c.requires.lawful.0 h.lawful c.in-Some.x.0 (m.ty c.shallow_resolve-right.result) c.in-None-ty_var.ensures.formed a b
-    o.ty f h.why_known h.answers
+    o.ty f h.why_known
+    (taken_invariantly r.ambient_variance c.in-Some.x.0 l c.in-Some.ensures.is c.requires.decides taken) h.answers
     (subst (IsReadAs st a) c.in-Some.ensures.is c.shallow_resolve-left.ensures.reads)
     c.shallow_resolve-right.ensures.reads
     (subst (IsShallow st) c.in-Some.ensures.is c.shallow_resolve-left.ensures.shallow))
@@ -137,6 +143,11 @@ returns-in_err-bound-in-Some-ty_var-2 g c =
     let b = m.ty c.args.b.now in
     let f = c.in_err-bound-in-Some-ty_var-2.field-0.0 in
     let h = c.in_err-bound-in-Some-ty_var-2.ensures in
+    let l = m.ty c.shallow_resolve-right.result in
+    let k = c.requires.asked in
+    let taken = read_taken st r.ambient_variance b l
+    (g.met.I.Interner.is_ty r.infcx.now.interner c.args.b.now k.right_known)
+    c.shallow_resolve-right.ensures.reads k.right_taken in
     let res = c.from_residual-in_err-bound-in-Some-ty_var-2 in
     subst (λ res. Stepped solver_manner IsFormed (solving r.infcx.ghost_name m r.infcx.now.inner
     r.ambient_variance r.param_env)
@@ -146,7 +157,9 @@ returns-in_err-bound-in-Some-ty_var-2 g c =
     r.param_env c.requires.lawful.1
     c.requires.lawful.0 h.lawful c.in-Some-ty_var-2.y.0 (m.ty c.shallow_resolve-left.result)
     c.in-None.ensures.formed a b
-    o.ty f h.why_known h.answers c.shallow_resolve-left.ensures.reads
+    o.ty f h.why_known
+    (taken_invariantly r.ambient_variance c.in-Some-ty_var-2.y.0 l c.in-Some-ty_var-2.ensures.is c.requires.decides
+    taken) h.answers c.shallow_resolve-left.ensures.reads
     (subst (IsReadAs st b) c.in-Some-ty_var-2.ensures.is c.shallow_resolve-right.ensures.reads)
     (subst (IsShallow st) c.in-Some-ty_var-2.ensures.is c.shallow_resolve-right.ensures.shallow))
 
