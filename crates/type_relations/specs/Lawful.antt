@@ -12,7 +12,7 @@ use Rattle.relation_tools.specs.declared.error.RelateFault.TheVariants.{Memory, 
 use Rattle.relation_tools.specs.Faults.{KnowsError}
 use Rattle.type_relations.specs.declared.relate.Step.{Step}
 use Rattle.type_relations.specs.declared.relate.Step.TheVariants.{Done, Parts, Again}
-use Rattle.type_relations.specs.Relation.{Items, Interpretation, at, part_at}
+use Rattle.type_relations.specs.Relation.{Items, Interpretation, part_at, Way, at, parts, second_opened, first_opened}
 use Rattle.type_relations.specs.Stores.{Store, Satisfies, IsTermIn, weight}
 use Rattle.type_relations.specs.Goals.{Goal, GoalInContext, IsQuiet}
 use Rattle.type_relations.specs.Steps.{IsLater}
@@ -78,6 +78,13 @@ pub record MayAnswer (M : Manner) (st : Store) (t u : Tree) : Type 0 where
   pub value : M.keeps_value → (w : Interpretation) (s : Assign) → Satisfies w st s → apply s t ≡ apply s u
   pub left : M.keeps_left → u ≡ t
 
+-- The variance at which two things are brought together.
+abbrev pub seen_at : Way → Variance
+seen_at (at v) = v
+seen_at (parts h i v) = v
+seen_at (second_opened ks ls v) = v
+seen_at (first_opened ks ls v) = v
+
 module _ {Key Id Name : Type 0} where
   -- Only the variance at which a relation relates was changed.
   pub record Turned (v : Variance) (r q : State Key Id Name) : Type 0 where
@@ -123,25 +130,37 @@ module _ {Key Id Name : Type 0} where
 
   -- What a fault says of two terms at a variance: a type error that no assignment makes them one, and which error it is,
   -- over known terms; a spent budget that nothing is left of it; want of memory nothing.
-  abbrev pub Refuses : State Key Id Name → State Key Id Name → Variance → Tree → Tree → RelateFault Key Id Name → Type 0
-  Refuses r q v a b (Unrelated e) = NeverOne (at v) r.store a b × ErrorOf q.meaning (items_in q) q.store v e a b ×
-      KnowsError q.meaning e
-  Refuses r q v a b Budget = (q.store).budget ≡ 0
-  Refuses r q v a b Memory = Unit {0}
+  abbrev pub RefusesBy : State Key Id Name → State Key Id Name → Way → Tree → Tree → RelateFault Key Id Name → Type 0
+  RefusesBy r q way a b (Unrelated e) = NeverOne way r.store a b ×
+      ErrorOf q.meaning (items_in q) q.store (seen_at way) e a b × KnowsError q.meaning e
+  RefusesBy r q way a b Budget = (q.store).budget ≡ 0
+  RefusesBy r q way a b Memory = Unit {0}
 
-  -- What an answer says of two terms at a variance: they are related, no equal pair is lost, and a known term is
-  -- answered.
-  pub record Answers (M : Manner) (r q : State Key Id Name) (added : List Goal) (v : Variance)
+  -- The same of two terms at a variance.
+  abbrev pub Refuses : State Key Id Name → State Key Id Name → Variance → Tree → Tree → RelateFault Key Id Name → Type 0
+  Refuses r q v = RefusesBy r q (at v)
+
+  -- What an answer says of two things: they are related, no equal pair is lost, and a known term is answered.
+  pub record AnswersBy (M : Manner) (r q : State Key Id Name) (added : List Goal) (way : Way)
       (a b t : Tree) : Type 0 where
-    pub outcome : Outcome (items_in r) r.environment (at v) r.store q.store r.goals added a b
+    pub outcome : Outcome (items_in r) r.environment way r.store q.store r.goals added a b
     pub answer : MayAnswer M q.store a t
     pub known : IsTrue (known t)
 
-  -- What a result says of two terms.
+  -- The same of two terms at a variance.
+  abbrev pub Answers : Manner → State Key Id Name → State Key Id Name → List Goal → Variance → Tree → Tree → Tree →
+      Type 0
+  Answers M r q added v = AnswersBy M r q added (at v)
+
+  -- What a result says of two things, and of two terms at a variance.
+  abbrev pub VerdictBy : {X : Type 0} → Manner → State Key Id Name → State Key Id Name → List Goal → Way → Tree →
+      Tree → (X → Tree) → Result X (RelateFault Key Id Name) → Type 0
+  VerdictBy M r q added way a b tree (Ok x) = AnswersBy M r q added way a b (tree x)
+  VerdictBy M r q added way a b tree (Err f) = RefusesBy r q way a b f
+
   abbrev pub Verdict : {X : Type 0} → Manner → State Key Id Name → State Key Id Name → List Goal → Variance → Tree →
       Tree → (X → Tree) → Result X (RelateFault Key Id Name) → Type 0
-  Verdict M r q added v a b tree (Ok x) = Answers M r q added v a b (tree x)
-  Verdict M r q added v a b tree (Err f) = Refuses r q v a b f
+  Verdict M r q added v = VerdictBy M r q added (at v)
 
   -- What a result says besides where the relation promises to be exact, of first-order terms and records at
   -- invariance: the record stays first-order, and up to erasure just the solutions that unify the terms stay; a type
@@ -156,19 +175,37 @@ module _ {Key Id Name : Type 0} where
   ExactlyRelated M before after v a b result = M.is_exact → v ≡ Invariant → IsFirstOrderPair before a b →
       ExactResult before after a b result
 
-  -- Two terms were related at a variance.
-  pub record Related {X : Type 0} (M : Manner) (r q : State Key Id Name) (v : Variance) (a b : Tree) (tree : X → Tree)
+  -- The same of two terms that are brought together as such, and not as parts or opened bodies.
+  abbrev pub ExactlyBy : {X : Type 0} → Manner → Store → Store → Way → Tree → Tree →
+      Result X (RelateFault Key Id Name) → Type 0
+  ExactlyBy M before after (at v) a b result = ExactlyRelated M before after v a b result
+  ExactlyBy M before after (parts h i v) a b result = Unit {0}
+  ExactlyBy M before after (second_opened ks ls v) a b result = Unit {0}
+  ExactlyBy M before after (first_opened ks ls v) a b result = Unit {0}
+
+  -- Two things were related.
+  pub record RelatedBy {X : Type 0} (M : Manner) (r q : State Key Id Name) (way : Way) (a b : Tree) (tree : X → Tree)
       (result : Result X (RelateFault Key Id Name)) : Type 0 where
     pub passes : Passes (weight r.store a + weight r.store b) r q
-    pub verdict : Verdict M r q passes.added v a b tree result
-    pub exact : ExactlyRelated M r.store q.store v a b result
+    pub verdict : VerdictBy M r q passes.added way a b tree result
+    pub exact : ExactlyBy M r.store q.store way a b result
+
+  -- Two terms were related at a variance.
+  abbrev pub Related : {X : Type 0} → Manner → State Key Id Name → State Key Id Name → Variance → Tree → Tree →
+      (X → Tree) → Result X (RelateFault Key Id Name) → Type 0
+  Related M r q v = RelatedBy M r q (at v)
 
   -- A step led from one pair to another, at a variance: what relates the second relates the first, no equal pair is
   -- lost, and an error of the second at its variance is one of the first at the ambient one.
-  pub record Leads (r q : State Key Id Name) (added : List Goal) (a b : Tree) (v : Variance) (x y : Tree) : Type 0 where
-    pub steps : StepsTo (items_in r) r.environment r.store q.store r.goals added (at r.ambient) a b (at v) x y
+  pub record LeadsBy (r q : State Key Id Name) (added : List Goal) (way : Way) (a b : Tree) (way' : Way)
+      (x y : Tree) : Type 0 where
+    pub steps : StepsTo (items_in r) r.environment r.store q.store r.goals added way a b way' x y
     pub errors : (m : Meaning Key Id Name) (c : Items) (st : Store) (e : TypeError Key Id Name) → IsLater q.store st →
-        ErrorOf m c st v e x y → ErrorOf m c st r.ambient e a b
+        ErrorOf m c st (seen_at way') e x y → ErrorOf m c st (seen_at way) e a b
+
+  -- The same of terms: of the first two at the ambient variance.
+  abbrev pub Leads : State Key Id Name → State Key Id Name → List Goal → Tree → Tree → Variance → Tree → Tree → Type 0
+  Leads r q added a b v x y = LeadsBy r q added (at r.ambient) a b (at v) x y
 
   -- A step to two forms that are to be related by their parts, which costs nothing of the budget.
   pub record LeadsToParts (M : Manner) (IsForm : Tree → Type 0) (r q : State Key Id Name) (added : List Goal)

@@ -7,7 +7,7 @@ use relation_terms::terms::{
 };
 
 /// Which form a type over an item has. Each is the form of `TyKind` of that name.
-#[derive(Clone, Copy)]
+#[derive(Clone, Copy, PartialEq, Eq)]
 pub enum ItemForm {
     Adt,
     FnDef,
