@@ -11,10 +11,10 @@ use crate::interner::{
 };
 use relation_terms::predicate::{OutlivesPredicate, RegionConstraint, RegionEqPredicate};
 use relation_terms::terms::{
-    AdtId, EarlyParamRegion, GenericArgKind, Interner, Mutability, OutOfMemory, Region,
-    RegionKey, RegionKind, Ty, TyForm, TyKey, TyKind, UintTy, Variance,
+    AdtId, EarlyParamRegion, GenericArgKind, Interner, Mutability, OutOfMemory, Region, RegionKey,
+    RegionKind, Ty, TyForm, TyKey, TyKind, UintTy, Variance,
 };
-use relation_tools::error::{RelateFault, RelateResult, TypeError};
+use relation_tools::error::{ExpectedFound, RelateFault, RelateResult, TypeError};
 use std::alloc::Global;
 use std::test::Fail;
 use type_relations::relate::solver_relating::RelateExt;
@@ -83,6 +83,23 @@ fn make_pointer<I: Interner>(cx: &mut I, mutability: Mutability) -> Result<Ty<I>
     make_ty(cx, TyKind::RawPtr(byte, mutability))
 }
 
+// The type `K<T>` of an item `K` and a type `T`.
+#[tactic(auto, using(relation_terms::proofs::Stays::extends_on, crate::proofs::Concrete::concrete_known))]
+fn make_over<I: Interner>(
+    cx: &mut I,
+    item: &I::Id,
+    argument: &TyKey<I::Key>,
+) -> Result<Ty<I>, OutOfMemory>
+    requires { IsConcrete ((I.meaning cx.old).ty argument.now) }
+    ensures grown { Extends (I.meaning cx.old) (I.meaning cx.new) }
+    ensures concrete { IfOk result (λ k. IsConcrete ((I.meaning cx.new).ty k)) }
+{
+    let mut args = Vec::new(cx.alloc());
+    args.push(GenericArgKind::Ty(*argument))?;
+    let args = cx.mk_args(&args)?;
+    make_ty(cx, TyKind::Adt(AdtId(*item), args))
+}
+
 // The type `K<&'r u8>` of an item `K`.
 #[tactic(auto, using(relation_terms::proofs::Stays::extends_on, crate::proofs::Concrete::concrete_known))]
 fn make_applied<I: Interner>(
@@ -95,10 +112,7 @@ fn make_applied<I: Interner>(
     ensures concrete { IfOk result (λ k. IsConcrete ((I.meaning cx.new).ty k)) }
 {
     let argument = make_ref(cx, region)?;
-    let mut args = Vec::new(cx.alloc());
-    args.push(GenericArgKind::Ty(argument))?;
-    let args = cx.mk_args(&args)?;
-    make_ty(cx, TyKind::Adt(AdtId(*item), args))
+    make_over(cx, item, &argument)
 }
 
 // The first region outlives the second.
@@ -160,6 +174,33 @@ fn ask_applied<I: Interner>(
     Ok(Question { lhs, rhs, asks })
 }
 
+/// Two types over an item that have unlike arguments, and these.
+#[derive(Drop)]
+struct Unlike<X> {
+    question: Question<X>,
+    left: TyKey<X>,
+    right: TyKey<X>,
+}
+
+// `K<u8>` and `K<bool>` of an item `K`. Where they are related, nothing is asked of regions.
+#[tactic(auto, using(relation_terms::proofs::Stays::extends_on, crate::proofs::Concrete::stays_concrete))]
+fn ask_unlike<I: Interner>(cx: &mut I, item: &I::Id) -> Result<Unlike<I::Key>, OutOfMemory>
+    ensures lhs { IfOk result (λ u. IsConcrete ((I.meaning cx.new).ty u.question.lhs)) }
+    ensures rhs { IfOk result (λ u. IsConcrete ((I.meaning cx.new).ty u.question.rhs)) }
+{
+    let left = make_ty(cx, TyKind::Uint(UintTy::U8))?;
+    let lhs = make_over(cx, item, &left)?;
+    let right = make_ty(cx, TyKind::Bool)?;
+    let rhs = make_over(cx, item, &right)?;
+    let asks = Vec::new(cx.alloc());
+    let question = Question { lhs, rhs, asks };
+    Ok(Unlike {
+        question,
+        left,
+        right,
+    })
+}
+
 // What the relation without variables asks of regions.
 #[tactic(auto, using(crate::proofs::Concrete::concrete_asked))]
 fn by_parts<I: Interner + Drop>(
@@ -195,9 +236,10 @@ fn by_context<I: Interner + Drop>(
     Ok(inner.constraints)
 }
 
-// An item that is contravariant in its one parameter, a type.
-pub(super) fn add_contravariant(
+// An item with one parameter, a type, that is declared at this variance.
+fn add_declared(
     cx: &mut RefInterner,
+    variance: Variance,
     alloc: Global,
 ) -> Result<ItemId, OutOfMemory> {
     let mut params = Vec::new(alloc);
@@ -206,9 +248,17 @@ pub(super) fn add_contravariant(
         name: SymbolId(1),
     })?;
     let mut variances = Vec::new(alloc);
-    variances.push(Variance::Contravariant)?;
+    variances.push(variance)?;
     let def = DefKind::Adt;
     cx.add_item(ItemKind { def, params }, SymbolId(0), variances)
+}
+
+// An item that is contravariant in its one parameter, a type.
+pub(super) fn add_contravariant(
+    cx: &mut RefInterner,
+    alloc: Global,
+) -> Result<ItemId, OutOfMemory> {
+    add_declared(cx, Variance::Contravariant, alloc)
 }
 
 #[test]
@@ -249,6 +299,32 @@ fn declared_variances_ask_the_same(rt: HostRuntime) -> Result<(), Fail> {
         let parts = by_parts(first, variance, &asked);
         let context = by_context(second, variance, &again);
         assert!(rt; parts == Ok(asked.asks), "{variance:?}");
+        assert!(rt; context == parts, "{variance:?}");
+    }
+    Ok(())
+}
+
+#[test]
+fn bivariant_arguments_are_skipped(rt: HostRuntime) -> Result<(), Fail> {
+    for variance in [
+        Variance::Covariant,
+        Variance::Contravariant,
+        Variance::Invariant,
+    ] {
+        let mut first = RefInterner::new(rt.alloc());
+        let item = add_declared(&mut first, Variance::Bivariant, rt.alloc())?;
+        let asked = ask_unlike(&mut first, &item)?;
+        let mut second = RefInterner::new(rt.alloc());
+        let item = add_declared(&mut second, Variance::Bivariant, rt.alloc())?;
+        let again = ask_unlike(&mut second, &item)?;
+        let parts = by_parts(first, variance, &asked.question);
+        let context = by_context(second, variance, &again.question);
+        let sorts = TypeError::Sorts(ExpectedFound::new(asked.left, asked.right));
+        let answer = match variance {
+            Variance::Invariant => Err(RelateFault::Unrelated(sorts)),
+            _ => Ok(Vec::new(rt.alloc())),
+        };
+        assert!(rt; parts == answer, "{variance:?}");
         assert!(rt; context == parts, "{variance:?}");
     }
     Ok(())
