@@ -31,11 +31,18 @@ impl<I: Interner> RefCtxt<I> {
         requires { IsLawful (I.meaning self.old.interner) self.old.inner }
         ensures lawful { IsLawful (I.meaning self.new.interner) self.new.inner }
         ensures grown { Extends (I.meaning self.old.interner) (I.meaning self.new.interner) }
-        ensures later { IsLater (store_of (I.meaning self.old.interner) self.old.inner) (store_of (I.meaning self.new.interner) self.new.inner) }
+        ensures later { let before = store_of (I.meaning self.old.interner) self.old.inner in
+            let after = store_of (I.meaning self.new.interner) self.new.inner in
+            IsLater before after }
         ensures sure { IfOk result (λ t. IsTrue (known ((I.meaning self.new.interner).ty t))) }
-        ensures means { IfOk result (λ t. (I.meaning self.new.interner).ty t ≡ leaf (variable type_var (length self.old.inner.types.items))) }
-        ensures makes { OnOk result (MakesVariable (store_of (I.meaning self.old.interner) self.old.inner) (store_of (I.meaning self.new.interner) self.new.inner) type_var (length self.old.inner.types.items) self.old.inner.universe.0) }
-        ensures refused { OnErr result (store_of (I.meaning self.new.interner) self.new.inner ≡ store_of (I.meaning self.old.interner) self.old.inner) }
+        ensures means { let number = length self.old.inner.types.items in
+            IfOk result (λ t. (I.meaning self.new.interner).ty t ≡ leaf (variable type_var number)) }
+        ensures makes { let before = store_of (I.meaning self.old.interner) self.old.inner in
+            let after = store_of (I.meaning self.new.interner) self.new.inner in
+            OnOk result (MakesVariable before after type_var (length self.old.inner.types.items) self.old.inner.universe.0) }
+        ensures refused { let before = store_of (I.meaning self.old.interner) self.old.inner in
+            let after = store_of (I.meaning self.new.interner) self.new.inner in
+            OnErr result (after ≡ before) }
     {
         let number = self.inner.types.len();
         let universe = self.inner.universe;
@@ -43,7 +50,7 @@ impl<I: Interner> RefCtxt<I> {
             .interner
             .mk_ty(TyKind::Infer(InferTy::TyVar(TyVid(number))))?;
         self.inner.types.push(TypeVariable {
-            key: key,
+            key,
             value: TypeVariableValue::Unknown,
             universe,
         })?;
@@ -57,11 +64,18 @@ impl<I: Interner> RefCtxt<I> {
         requires { IsLawful (I.meaning self.old.interner) self.old.inner }
         ensures lawful { IsLawful (I.meaning self.new.interner) self.new.inner }
         ensures grown { Extends (I.meaning self.old.interner) (I.meaning self.new.interner) }
-        ensures later { IsLater (store_of (I.meaning self.old.interner) self.old.inner) (store_of (I.meaning self.new.interner) self.new.inner) }
+        ensures later { let before = store_of (I.meaning self.old.interner) self.old.inner in
+            let after = store_of (I.meaning self.new.interner) self.new.inner in
+            IsLater before after }
         ensures sure { IfOk result (λ r. IsTrue (known ((I.meaning self.new.interner).region r))) }
-        ensures means { IfOk result (λ r. (I.meaning self.new.interner).region r ≡ leaf (variable region_var (length self.old.inner.regions.items))) }
-        ensures makes { OnOk result (MakesVariable (store_of (I.meaning self.old.interner) self.old.inner) (store_of (I.meaning self.new.interner) self.new.inner) region_var (length self.old.inner.regions.items) self.old.inner.universe.0) }
-        ensures refused { OnErr result (store_of (I.meaning self.new.interner) self.new.inner ≡ store_of (I.meaning self.old.interner) self.old.inner) }
+        ensures means { let number = length self.old.inner.regions.items in
+            IfOk result (λ r. (I.meaning self.new.interner).region r ≡ leaf (variable region_var number)) }
+        ensures makes { let before = store_of (I.meaning self.old.interner) self.old.inner in
+            let after = store_of (I.meaning self.new.interner) self.new.inner in
+            OnOk result (MakesVariable before after region_var (length self.old.inner.regions.items) self.old.inner.universe.0) }
+        ensures refused { let before = store_of (I.meaning self.old.interner) self.old.inner in
+            let after = store_of (I.meaning self.new.interner) self.new.inner in
+            OnErr result (after ≡ before) }
     {
         let number = self.inner.regions.len();
         let universe = self.inner.universe;

@@ -100,8 +100,11 @@ impl<I: Interner> RefCtxt<I> {
     pub fn binding(&self, var: TyVid) -> Option<Ty<I>>
         requires lawful { IsLawful (I.meaning self.now.interner) self.now.inner }
         requires made { var.0 < length self.now.inner.types.items }
-        ensures bound { IfSome result (λ t. (n : ℕ) × LeadsTo (store_of (I.meaning self.now.interner) self.now.inner) var.0 n × (entry_of (store_of (I.meaning self.now.interner) self.now.inner) type_var n ≡ bound_to ((I.meaning self.now.interner).ty t))) }
-        ensures unbound { IfNone result ((n : ℕ) × LeadsTo (store_of (I.meaning self.now.interner) self.now.inner) var.0 n × (entry_of (store_of (I.meaning self.now.interner) self.now.inner) type_var n ≡ unbound)) }
+        ensures bound { let st = store_of (I.meaning self.now.interner) self.now.inner in
+            let m = I.meaning self.now.interner in
+            IfSome result (λ t. (n : ℕ) × LeadsTo st var.0 n × (entry_of st type_var n ≡ bound_to (m.ty t))) }
+        ensures unbound { let st = store_of (I.meaning self.now.interner) self.now.inner in
+            IfNone result ((n : ℕ) × LeadsTo st var.0 n × (entry_of st type_var n ≡ unbound)) }
     {
         let root = self.root_ty_var(var);
         match self.probe(root.0) {

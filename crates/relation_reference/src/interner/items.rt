@@ -66,7 +66,7 @@ pub struct Item {
 }
 
 impl RefInterner {
-    ghost use Rattle.relation_reference.specs.Adding.{items_of, item_count, SameTerms, OthersStand, HasNoGenerics};
+    ghost use Rattle.relation_reference.specs.Adding.{items_of, item_count, meaning_in, SameTerms, OthersStand, HasNoGenerics};
     ghost use Rattle.relation_reference.specs.Items.{alias_variances_of};
 
     /// How many items were added.
@@ -88,15 +88,17 @@ impl RefInterner {
         variances: Vec<Variance>,
     ) -> Result<ItemId, OutOfMemory>
         ensures number { IfOk result (λ d. d.0 ≡ item_count self.old) }
-        ensures recorded { IfOk result (λ d. items_of self.new ≡ items_of self.old ++ record { kind = kind; name = name; variances = variances } ∷ []) }
+        ensures recorded { let item = record { kind = kind; name = name; variances = variances } in
+            IfOk result (λ d. items_of self.new ≡ items_of self.old ++ item ∷ []) }
         ensures one_more { IfOk result (λ d. item_count self.new ≡ suc (item_count self.old)) }
-        ensures fresh { IfOk result (λ d. HasNoGenerics (⟦<RefInterner as Interner>⟧.meaning self.old) d.0) }
-        ensures terms { SameTerms (⟦<RefInterner as Interner>⟧.meaning self.old) (⟦<RefInterner as Interner>⟧.meaning self.new) }
-        ensures generics { IfOk result (λ d. (⟦<RefInterner as Interner>⟧.meaning self.new).generics d.0 ≡ length variances.items) }
-        ensures variances { IfOk result (λ d. (⟦<RefInterner as Interner>⟧.meaning self.new).variances d.0 ≡ variances.items) }
-        ensures alias_variances { IfOk result (λ d. (⟦<RefInterner as Interner>⟧.meaning self.new).alias_variances d.0 ≡ alias_variances_of kind.def variances.items) }
-        ensures others { IfOk result (λ d. OthersStand (⟦<RefInterner as Interner>⟧.meaning self.old) (⟦<RefInterner as Interner>⟧.meaning self.new) d.0) }
-        ensures refused { OnErr result (⟦<RefInterner as Interner>⟧.meaning self.new ≡ ⟦<RefInterner as Interner>⟧.meaning self.old) }
+        ensures fresh { IfOk result (λ d. HasNoGenerics (meaning_in self.old) d.0) }
+        ensures terms { SameTerms (meaning_in self.old) (meaning_in self.new) }
+        ensures generics { IfOk result (λ d. (meaning_in self.new).generics d.0 ≡ length variances.items) }
+        ensures variances { IfOk result (λ d. (meaning_in self.new).variances d.0 ≡ variances.items) }
+        ensures alias_variances { let is = alias_variances_of kind.def variances.items in
+            IfOk result (λ d. (meaning_in self.new).alias_variances d.0 ≡ is) }
+        ensures others { IfOk result (λ d. OthersStand (meaning_in self.old) (meaning_in self.new) d.0) }
+        ensures refused { OnErr result (meaning_in self.new ≡ meaning_in self.old) }
         ensures none_recorded { OnErr result (items_of self.new ≡ items_of self.old) }
     {
         let number = self.item_count();
