@@ -88,8 +88,8 @@ impl RefInterner {
         variances: Vec<Variance>,
     ) -> Result<ItemId, OutOfMemory>
         ensures number { IfOk result (λ d. d.0 ≡ item_count self.old) }
-        ensures recorded { let item = record { kind = kind; name = name; variances = variances } in
-            IfOk result (λ d. items_of self.new ≡ items_of self.old ++ item ∷ []) }
+        ensures recorded { IfOk result (λ d. items_of self.new ≡ items_of self.old ++
+            record { kind = kind; name = name; variances = variances } ∷ []) }
         ensures one_more { IfOk result (λ d. item_count self.new ≡ suc (item_count self.old)) }
         ensures fresh { IfOk result (λ d. HasNoGenerics (meaning_in self.old) d.0) }
         ensures terms { SameTerms (meaning_in self.old) (meaning_in self.new) }
