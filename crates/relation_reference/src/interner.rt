@@ -14,9 +14,9 @@ pub use keys::{ItemId, NoSpan, NodeKey, SymbolId};
 pub use node::Node;
 use node::{copied, place};
 use relation_terms::terms::{
-    ArgsKey, Branches, BranchesKey, Const, ConstForm, ConstKey, GenericArg, GenericArgs,
-    Interner, ItemOf, Keys, OutOfMemory, ParamEnv, ParamEnvKey, Region, RegionForm, RegionKey,
-    Span, Ty, TyForm, TyKey, Tys, TysKey, ValTree, ValTreeForm, ValTreeKey, Variance,
+    ArgsKey, Branches, BranchesKey, Const, ConstForm, ConstKey, GenericArg, GenericArgs, Interner,
+    ItemOf, Keys, OutOfMemory, ParamEnv, ParamEnvKey, Region, RegionForm, RegionKey, Span, Ty,
+    TyForm, TyKey, Tys, TysKey, ValTree, ValTreeForm, ValTreeKey, Variance,
 };
 use std::alloc::Global;
 

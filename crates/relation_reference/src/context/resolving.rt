@@ -13,8 +13,8 @@ ghost use Rattle.relation_reference.specs.Answers.{IsShallow, Instantiated, Step
 use crate::context::variables::ty_vid;
 use crate::context::{RefCtxt, TypeVariableValue};
 use relation_terms::terms::{
-    Branches, Const, ConstKind, GenericArg, GenericArgKind, GenericArgs, Interner,
-    OutOfMemory, Ty, TyForm, TyKind, TyVid, Tys, ValTree, ValTreeKind,
+    Branches, Const, ConstKind, GenericArg, GenericArgKind, GenericArgs, Interner, OutOfMemory, Ty,
+    TyForm, TyKind, TyVid, Tys, ValTree, ValTreeKind,
 };
 use relation_tools::error::{RelateFault, RelateFaultOf, TypeError};
 use type_relations::relate::forms::{item_of, kind_of_item};

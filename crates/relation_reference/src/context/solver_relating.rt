@@ -7,9 +7,7 @@ ghost use Rattle.relation_reference.specs.Tables.{IsLawful};
 ghost use Rattle.relation_reference.specs.Solving.{solving, solver_manner};
 
 use crate::context::RefCtxt;
-use relation_terms::terms::{
-    Const, GenericArgs, Interner, ItemOf, ParamEnv, Region, Ty, Variance,
-};
+use relation_terms::terms::{Const, GenericArgs, Interner, ItemOf, ParamEnv, Region, Ty, Variance};
 use relation_tools::error::RelateResult;
 use type_relations::relate::structural::tys;
 use type_relations::relate::{Step, TypeRelation};
@@ -175,10 +173,7 @@ impl<'a, I: Interner> TypeRelation<I> for SolverRelating<'a, I> {
         // Reading shows that both are of forms that are related by their parts.
         let _a = self.infcx.interner.const_kind(a);
         let _b = self.infcx.interner.const_kind(b);
-        Ok(Step::Parts {
-            a: *a,
-            b: *b,
-        })
+        Ok(Step::Parts { a: *a, b: *b })
     }
 
     fn regions(&mut self, a: &Region<I>, b: &Region<I>) -> RelateResult<I, Region<I>> {

@@ -11,8 +11,8 @@ use crate::interner::{
 };
 use relation_terms::predicate::{OutlivesPredicate, RegionConstraint, RegionEqPredicate};
 use relation_terms::terms::{
-    AdtId, EarlyParamRegion, GenericArgKind, Interner, Mutability, OutOfMemory, Region,
-    RegionKey, RegionKind, Ty, TyForm, TyKey, TyKind, UintTy, Variance,
+    AdtId, EarlyParamRegion, GenericArgKind, Interner, Mutability, OutOfMemory, Region, RegionKey,
+    RegionKind, Ty, TyForm, TyKey, TyKind, UintTy, Variance,
 };
 use relation_tools::error::{RelateFault, RelateResult, TypeError};
 use std::alloc::Global;

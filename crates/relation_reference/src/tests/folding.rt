@@ -172,12 +172,7 @@ fn arg_folds<I: Interner, F: TypeFolder<I>>(
     match part {
         Folded::RegionArg => {
             let wanted = GenericArgKind::Lifetime(wanted.region);
-            folds(
-                cx,
-                folder,
-                &GenericArgKind::Lifetime(of.region),
-                &wanted,
-            )
+            folds(cx, folder, &GenericArgKind::Lifetime(of.region), &wanted)
         }
         Folded::TyArg => {
             let wanted = GenericArgKind::Ty(wanted.ty);
@@ -185,12 +180,7 @@ fn arg_folds<I: Interner, F: TypeFolder<I>>(
         }
         _ => {
             let wanted = GenericArgKind::Const(wanted.constant);
-            folds(
-                cx,
-                folder,
-                &GenericArgKind::Const(of.constant),
-                &wanted,
-            )
+            folds(cx, folder, &GenericArgKind::Const(of.constant), &wanted)
         }
     }
 }

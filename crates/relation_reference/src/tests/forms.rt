@@ -6,11 +6,10 @@ ghost use Rattle.relation_reference.specs.Putting.{KnowsParts};
 
 use relation_terms::terms::{
     AdtId, ArgsKey, BoundConst, BoundTy, BoundVar, Branches, BranchesKey, ClosureId, Const,
-    ConstForm, ConstKey, ConstKind, CoroutineClosureId, CoroutineId, ExprKind, FloatTy,
-    ForeignId, FunctionId, GenericArgKind, GenericArgs, InferTy, IntTy, Interner, Mutability,
-    OutOfMemory, ParamConst, ParamTy, Placeholder, Region, RegionKey, RegionKind, RegionVid, Ty,
-    TyForm, TyKey, TyKind, TyVid, Tys, TysKey, UintTy, UniverseIndex, ValTree, ValTreeKey,
-    ValTreeKind,
+    ConstForm, ConstKey, ConstKind, CoroutineClosureId, CoroutineId, ExprKind, FloatTy, ForeignId,
+    FunctionId, GenericArgKind, GenericArgs, InferTy, IntTy, Interner, Mutability, OutOfMemory,
+    ParamConst, ParamTy, Placeholder, Region, RegionKey, RegionKind, RegionVid, Ty, TyForm, TyKey,
+    TyKind, TyVid, Tys, TysKey, UintTy, UniverseIndex, ValTree, ValTreeKey, ValTreeKind,
 };
 
 /// The outermost form of a type, of a region or of a constant.
@@ -125,10 +124,7 @@ pub fn make_leaf_const<I: Interner>(
         Leaves::Replaced => PARAMETER,
         Leaves::Put => 4,
     };
-    cx.mk_const(ConstKind::Param(ParamConst {
-        index,
-        name: *name,
-    }))
+    cx.mk_const(ConstKind::Param(ParamConst { index, name: *name }))
 }
 
 // The region, the type and the constant as arguments.
@@ -289,13 +285,9 @@ fn ty_form<I: Interner>(
         Label::Ref => TyKind::Ref(parts.region, parts.ty, Mutability::Mut),
         Label::FnDef => TyKind::FnDef(FunctionId(*id), parts.args),
         Label::Closure => TyKind::Closure(ClosureId(*id), parts.args),
-        Label::CoroutineClosure => {
-            TyKind::CoroutineClosure(CoroutineClosureId(*id), parts.args)
-        }
+        Label::CoroutineClosure => { TyKind::CoroutineClosure(CoroutineClosureId(*id), parts.args) }
         Label::Coroutine => TyKind::Coroutine(CoroutineId(*id), parts.args),
-        Label::CoroutineWitness => {
-            TyKind::CoroutineWitness(CoroutineId(*id), parts.args)
-        }
+        Label::CoroutineWitness => { TyKind::CoroutineWitness(CoroutineId(*id), parts.args) }
         Label::Tuple => TyKind::Tuple(parts.members),
         _ => plain_form(cx, label, id, name),
     }

@@ -116,20 +116,14 @@ impl<I: Interner> TypeRelation<I> for PlainRelation<I> {
     }
 
     fn tys(&mut self, a: &Ty<I>, b: &Ty<I>) -> RelateResult<I, Step<Ty<I>>> {
-        Ok(Step::Parts {
-            a: *a,
-            b: *b,
-        })
+        Ok(Step::Parts { a: *a, b: *b })
     }
 
     fn consts(&mut self, a: &Const<I>, b: &Const<I>) -> RelateResult<I, Step<Const<I>>> {
         // Reading shows that both are of forms that are related by their parts.
         let _a = self.interner.const_kind(a);
         let _b = self.interner.const_kind(b);
-        Ok(Step::Parts {
-            a: *a,
-            b: *b,
-        })
+        Ok(Step::Parts { a: *a, b: *b })
     }
 
     fn regions(&mut self, a: &Region<I>, b: &Region<I>) -> RelateResult<I, Region<I>> {
