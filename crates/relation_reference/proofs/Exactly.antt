@@ -13,11 +13,12 @@ use Rattle.relation_tools.specs.declared.error.RelateFault.{RelateFault}
 use Rattle.relation_tools.specs.declared.error.RelateFault.TheVariants.{Memory, Budget, Unrelated}
 use Rattle.type_relations.specs.Lawful.{ExactResult}
 use Rattle.type_relations.specs.Parts.{IsFormed}
-use Rattle.type_relations.specs.Stores.{Store, unbound, entry_of, entry_term, bound_term, IsNamable, IsTermIn, IsRegionIn, IsSound, resolved}
+use Rattle.type_relations.specs.Stores.{Store, unbound, same_as, entry_of, entry_term, bound_term, IsNamable, IsTermIn, IsRegionIn, IsSound, resolved}
 use Rattle.type_relations.specs.FirstOrder.{IsFirstOrder, IsFirstOrderStore, Unifies, IsErasedSolution}
 use Rattle.type_relations.specs.Headline.{IsFirstOrderPair}
-use Rattle.type_relations.specs.Errors.{IsReadAs, itself, by_entry}
+use Rattle.type_relations.specs.Errors.{IsReadAs, itself, by_class, by_binding}
 use Rattle.type_relations.specs.Steps.{IsLater, Equates, Instantiates}
+use Rattle.type_relations.proofs.Written.{OtherTerm, term_stays, term_led, others}
 use Rattle.type_relations.specs.Outcomes.{Exact, ExactStep, NoUnifier}
 use Rattle.type_relations.proofs.ReadAs.{read_resolves}
 use Rattle.type_relations.proofs.Going.{later_itself}
@@ -67,7 +68,9 @@ module _ (st : Store) (g : IsSound st) (a b u w : Tree) (p : IsReadAs st a u) (q
 pub read_first_order : (st : Store) → IsFirstOrderStore st → (a u : Tree) → IsReadAs st a u → IsFirstOrder a →
     IsFirstOrder u
 read_first_order st h a u (itself e) f = subst IsFirstOrder e f
-read_first_order st h a u (by_entry {u = x} k n e b r) f = read_first_order st h x u r (h k n x b)
+read_first_order st h a u (by_class k n m e c r) f = read_first_order st h (leaf (variable k m)) u r tt
+read_first_order st h a u (by_binding {u = x} k n e b r) f =
+    read_first_order st h x u r (h k n x (ap (entry_term k) b))
 
 pub read_pair : (st : Store) (a b u w : Tree) → IsReadAs st a u → IsReadAs st b w → IsFirstOrderPair st a b →
     IsFirstOrderPair st u w
@@ -80,7 +83,7 @@ read_pair st a b u w p q pair = record {
 -- One variable got an entry, of a first-order term.
 written_first_order : (before after : Store) (k : VarKind) (n : ℕ) (t : Tree) →
     bound_term after k n ≡ Some t →
-    ((j : VarKind) (i : ℕ) → (j ≡ k → i ≡ n → ⊥) → bound_term after j i ≡ bound_term before j i) → IsFirstOrder t →
+    ((j : VarKind) (i : ℕ) → (j ≡ k → i ≡ n → ⊥) → OtherTerm before after k n t j i) → IsFirstOrder t →
     IsFirstOrderStore before → IsFirstOrderStore after
 written_first_order before after k n t now same f h j i u e = go (which j k i n)
   where
@@ -89,7 +92,11 @@ written_first_order before after k n t now same f h j i u e = go (which j k i n)
         let z : bound_term after j i ≡ bound_term after k n = ap₂ (bound_term after) p q in
         let is : t ≡ u = cc (z, e, now) in
         subst IsFirstOrder is f
-    go (inr o) = h j i u (sym (same j i o) ∙ e)
+    go (inr o) = other (same j i o)
+      where
+        other : OtherTerm before after k n t j i → IsFirstOrder u
+        other (term_stays r) = h j i u (sym r ∙ e)
+        other (term_led a b c) = let is : t ≡ u = cc (c, e) in subst IsFirstOrder is f
 
 -- Binding a variable is an exact step to what was bound and the type.
 module _ (before after : Store) (n : ℕ) (t u : Tree) (g : IsSound before) (t_in : IsTermIn before t)
@@ -107,7 +114,7 @@ module _ (before after : Store) (n : ℕ) (t u : Tree) (g : IsSound before) (t_i
     left = bound_first_order h k;
     right = k;
     bindings = written_first_order before after type_var n u (ap (entry_term type_var) f.now_bound)
-        (λ j i o. ap (entry_term j) (f.others_stand j i o)) (bound_first_order h k) h;
+        (λ j i o. term_stays (ap (entry_term j) (f.others_stand j i o))) (bound_first_order h k) h;
   }
 
 -- Making two roots one is exact.
@@ -135,7 +142,7 @@ module _ (before after : Store) (x y : ℕ) (g : IsSound before) (stays : x ≡ 
       go (no o) = (
         written_first_order before after type_var (max x y) (var (min x y))
             (ap (entry_term type_var) ((q o).links).written)
-            (λ j i z. ap (entry_term j) (((q o).links).others_stand j i z)) tt h,
+            (others before after type_var (max x y) (same_as (min x y)) (var (min x y)) (q o).links refl) tt h,
         order (dec_le x y),
       )
         where

@@ -8,21 +8,21 @@ use Rattle.relation_terms.specs.declared.terms.ty_kind.TyKind.{TyKind}
 use Rattle.relation_terms.specs.declared.terms.ty_kind.TyKind.TheVariants.{Infer}
 use Rattle.relation_terms.specs.declared.terms.ty_kind.InferTy.{InferTy}
 use Rattle.type_relations.specs.Stores.{Store, unbound, same_as, bound_to, entry_of, entry_term, IsMade, IsSound, IsTermIn}
-use Rattle.type_relations.specs.Errors.{IsReadAs, itself}
+use Rattle.type_relations.specs.Errors.{IsReadAs, itself, by_class}
 use Rattle.type_relations.proofs.Standing.{made_of_term, term_of_made}
-use Rattle.type_relations.proofs.ReadAs.{read_then, read_same, read_bound}
+use Rattle.type_relations.proofs.ReadAs.{read_bound}
 use Rattle.relation_reference.specs.declared.context.inner.TypeVariable.{TypeVariable}
 use Rattle.relation_reference.specs.declared.context.inner.InferCtxtInner.{InferCtxtInner}
 use Rattle.relation_reference.specs.Tables.{store_of, IsLawful}
 use Rattle.type_relations.specs.Parts.{IsFormed}
-use Rattle.relation_reference.specs.Answers.{LeadsTo, here, next, IsShallow, root, formed}
+use Rattle.type_relations.specs.Steps.{LeadsTo, here, next}
+use Rattle.relation_reference.specs.Answers.{IsShallow, root, formed}
 
 -- What a variable leads to is what it is read as.
-leads_read : (st : Store) (n m : ℕ) (t : Tree) → LeadsTo st n m → IsReadAs st (leaf (variable type_var m)) t → IsReadAs st (leaf (variable type_var n)) t
-leads_read st n m t (here e) r = subst (λ z. IsReadAs st (leaf (variable type_var z)) t) (sym e) r
-leads_read st n m t (next {p = p} e l) r = read_then st (leaf (variable type_var n)) (leaf (variable type_var p)) t (read_same st n p e) (leads_read st p m t l r)
+leads_read : (st : Store) (n m : ℕ) (t : Tree) → LeadsTo st type_var n m → IsReadAs st (leaf (variable type_var m)) t → IsReadAs st (leaf (variable type_var n)) t
+leads_read st n m t l r = by_class type_var n m refl (m, l, here refl) r
 
-pub leads_on : (st : Store) (n m p : ℕ) → LeadsTo st n m → entry_of st type_var m ≡ same_as p → LeadsTo st n p
+pub leads_on : (st : Store) (n m p : ℕ) → LeadsTo st type_var n m → entry_of st type_var m ≡ same_as p → LeadsTo st type_var n p
 leads_on st n m p (here e) q = next (ap (entry_of st type_var) e ∙ q) (here refl)
 leads_on st n m p (next {p = r} e l) q = next e (leads_on st r m p l q)
 
@@ -55,10 +55,10 @@ module _ {Key Id Name : Type 0} (m : Meaning Key Id Name) (x : InferCtxtInner Ke
   pub made_of_key : (t : Tree) (n : ℕ) → t ≡ leaf (variable type_var n) → IsTermIn st t → n < length x.types.items
   made_of_key t n e h = table_of_made m x n (made_of_term st type_var n (subst (IsTermIn st) e h))
 
-  pub root_read : (t u : Tree) (n r : ℕ) → t ≡ leaf (variable type_var n) → LeadsTo st n r → u ≡ leaf (variable type_var r) → IsReadAs st t u
+  pub root_read : (t u : Tree) (n r : ℕ) → t ≡ leaf (variable type_var n) → LeadsTo st type_var n r → u ≡ leaf (variable type_var r) → IsReadAs st t u
   root_read t u n r e d q = subst (λ z. IsReadAs st z u) (sym e) (leads_read st n r u d (itself (sym q)))
 
-  pub bound_read : (t u : Tree) (n r : ℕ) → t ≡ leaf (variable type_var n) → LeadsTo st n r → bound_to u ≡ entry_of st type_var r → IsReadAs st t u
+  pub bound_read : (t u : Tree) (n r : ℕ) → t ≡ leaf (variable type_var n) → LeadsTo st type_var n r → bound_to u ≡ entry_of st type_var r → IsReadAs st t u
   bound_read t u n r e d q = subst (λ z. IsReadAs st z u) (sym e) (leads_read st n r u d (read_bound st r u (sym q)))
 
   pub root_shallow : (u : Tree) (r : ℕ) → u ≡ leaf (variable type_var r) → unbound ≡ entry_of st type_var r → IsShallow st u

@@ -29,5 +29,5 @@ module _ {Key Id Name : Type 0} (m : Meaning Key Id Name) where
   answered_alike before after a b a' b' (Err Budget) g l p q h = h
   answered_alike before after a b a' b' (Err (Unrelated f)) g l p q h = (
     λ w s sat e. h.0 w s sat (sym (read_value before s sat.bindings a a' p) ∙ e ∙ read_value before s sat.bindings b b' q),
-    of_entries (read_later before after g l a a' p) (read_later before after g l b b' q) h.1,
+    of_entries (read_later before after l a a' p) (read_later before after l b b' q) h.1,
   )

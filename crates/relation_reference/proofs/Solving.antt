@@ -28,7 +28,7 @@ use Rattle.type_relations.specs.Headline.{AnswersGoals, KeepsEqualTerms}
 use Rattle.type_relations.specs.Steps.{AddsConstraint, BindsTo, Instantiates}
 use Rattle.type_relations.specs.Outcomes.{Outcome, StepsTo}
 use Rattle.type_relations.specs.Measures.{Goes}
-use Rattle.type_relations.specs.Errors.{ErrorOf, IsReadAs, itself, by_entry, of_entries}
+use Rattle.type_relations.specs.Errors.{ErrorOf, IsReadAs, itself, by_class, by_binding, of_entries}
 use Rattle.type_relations.specs.Parts.{IsFormed}
 use Rattle.type_relations.specs.Constraints.{constraint_at, constraint_of, asked_constraints}
 use Rattle.type_relations.specs.Taken.{IsFixedLeaf}
@@ -80,12 +80,18 @@ no_entry float_var n s h = h
 pub read_taken : (st : Store) (v : Variance) (a u : Tree) → IsTerm type_sort a → IsReadAs st a u →
     Takes solver_manner v a → Takes solver_manner v u
 read_taken st v a u s (itself e) h = subst (Takes solver_manner v) e h
-read_taken st Covariant a u s (by_entry k n e b r) h =
+read_taken st Covariant a u s (by_class k n m e c r) h =
     absurd (no_entry k n (subst (IsTerm type_sort) e s) (subst (Leaves IsFixedLeaf) e h))
-read_taken st Contravariant a u s (by_entry k n e b r) h =
+read_taken st Covariant a u s (by_binding k n e b r) h =
     absurd (no_entry k n (subst (IsTerm type_sort) e s) (subst (Leaves IsFixedLeaf) e h))
-read_taken st Invariant a u s (by_entry k n e b r) h = all_leaves _ (λ l. tt) u
-read_taken st Bivariant a u s (by_entry k n e b r) h = all_leaves _ (λ l. tt) u
+read_taken st Contravariant a u s (by_class k n m e c r) h =
+    absurd (no_entry k n (subst (IsTerm type_sort) e s) (subst (Leaves IsFixedLeaf) e h))
+read_taken st Contravariant a u s (by_binding k n e b r) h =
+    absurd (no_entry k n (subst (IsTerm type_sort) e s) (subst (Leaves IsFixedLeaf) e h))
+read_taken st Invariant a u s (by_class k n m e c r) h = all_leaves _ (λ l. tt) u
+read_taken st Invariant a u s (by_binding k n e b r) h = all_leaves _ (λ l. tt) u
+read_taken st Bivariant a u s (by_class k n m e c r) h = all_leaves _ (λ l. tt) u
+read_taken st Bivariant a u s (by_binding k n e b r) h = all_leaves _ (λ l. tt) u
 
 -- At invariance all is taken.
 all_taken : (t : Tree) → Takes solver_manner Invariant t
@@ -262,8 +268,8 @@ module _ {Key Id Name : Type 0} (j : ℕ) where
             ),
           );
         };
-        errors = λ n c st f l o. of_entries (read_later (store_of m x) st g l a (tree t) p)
-            (read_later (store_of m x) st g l b (tree u) q) o;
+        errors = λ n c st f l o. of_entries (read_later (store_of m x) st l a (tree t) p)
+            (read_later (store_of m x) st l b (tree u) q) o;
       };
       asked = k;
       left_form = f;
@@ -299,8 +305,8 @@ module _ {Key Id Name : Type 0} (j : ℕ) where
       keeps = λ i s sat one. h.keeps i s sat (sym (read_value (store_of m x) s sat.bindings a u p) ∙ one
           ∙ read_value (store_of m x) s sat.bindings b w q);
     };
-    errors = λ k c st f l o. of_entries (read_later (store_of n y) st g l a t p')
-        (read_later (store_of n y) st g l b r q') o;
+    errors = λ k c st f l o. of_entries (read_later (store_of n y) st l a t p')
+        (read_later (store_of n y) st l b r q') o;
   }
 
   -- A variable was bound to what a type comes to.
@@ -332,11 +338,11 @@ module _ {Key Id Name : Type 0} (j : ℕ) where
     later z h = later_term was now (steps.later).grows (steps.later).universe_stands z h
 
     root_reads : (a : Tree) → IsReadAs was a root → IsReadAs now a u
-    root_reads a p = read_then now a root u (read_later was now before.sound steps.later a root p)
+    root_reads a p = read_then now a root u (read_later was now steps.later a root p)
         (read_bound now target u steps.now_bound)
 
     reads : (a : Tree) → IsReadAs was a t → IsReadAs now a t
-    reads a p = read_later was now before.sound steps.later a t p
+    reads a p = read_later was now steps.later a t p
 
     asked_now : (a b : Tree) → IsTrue (known a) → IsTrue (known b) → IsTermIn now a → IsTermIn now b →
         Asked solver_manner (solving j n y Invariant e) Invariant a b

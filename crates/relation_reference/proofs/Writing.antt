@@ -8,7 +8,7 @@ use Rattle.relation_terms.specs.Meaning.{Meaning}
 use Rattle.relation_terms.specs.declared.terms.numbers.UniverseIndex.{UniverseIndex}
 use Rattle.relation_terms.specs.declared.terms.keys.TyKey.{TyKey}
 use Rattle.type_relations.specs.Stores.{Store, Entry, unbound, same_as, bound_to, entry_of, universe_of, IsMade, IsSound}
-use Rattle.type_relations.specs.Steps.{WritesEntry, Equates, BindsTo}
+use Rattle.type_relations.specs.Steps.{WritesEntry, StandsBeside, as_it_was, led_on, Equates, BindsTo}
 use Rattle.type_relations.proofs.Equating.{equated_sound}
 use Rattle.relation_reference.specs.declared.context.inner.TypeVariableValue.{TypeVariableValue}
 use Rattle.relation_reference.specs.declared.context.inner.TypeVariableValue.TheVariants.{Unknown, SameAs, Known}
@@ -56,7 +56,11 @@ module _ {Key Id Name : Type 0} (m : Meaning Key Id Name) (x y : InferCtxtInner 
     where
       go : (i : ℕ) (t : Tree) → entry_of (store_of m y) type_var i ≡ bound_to t → Dec (i ≡ n) → IsFormed t
       go i t h (yes q) = f t (sym w.written ∙ sym (ap (entry_of (store_of m y) type_var) q) ∙ h)
-      go i t h (no o) = l.formed i t (sym (w.others_stand type_var i (λ _ q. o q)) ∙ h)
+      go i t h (no o) = other (w.others_stand type_var i (λ _ q. o q))
+        where
+          other : StandsBeside (store_of m x) (store_of m y) type_var n e type_var i → IsFormed t
+          other (as_it_was r) = l.formed i t (sym r ∙ h)
+          other (led_on r a b c d) = absurd (cc (d, h))
 
 -- Entries of two writings in a row.
 at_first : (es : List Entry) (n r : ℕ) (e : Entry) → n < length es → (n ≡ r → ⊥) → get_or (set (set es n e) r unbound) n unbound ≡ e
@@ -133,7 +137,7 @@ module _ {Key Id Name : Type 0} (m : Meaning Key Id Name) (x z y : InferCtxtInne
     made = made;
     was_unbound = child_unbound;
     written = ap (λ es. get_or es child unbound) entries ∙ at_first (old.entries type_var) child root (same_as root) made differ;
-    others_stand = others;
+    others_stand = λ j i o. as_it_was (others j i o);
     as_many = many;
     as_many_universes = many_universes;
     same_constraints = ap (map (constraint_of m)) constraints;
@@ -264,7 +268,7 @@ module _ {Key Id Name : Type 0} (m : Meaning Key Id Name) (x y : InferCtxtInner 
     made = bind_made;
     was_unbound = free;
     written = ap (λ es. get_or es n unbound) bind_entries ∙ get_or-set_same ((store_of m x).entries type_var) n (bound_to (m.ty t)) unbound bind_made;
-    others_stand = bind_others;
+    others_stand = λ j i o. as_it_was (bind_others j i o);
     as_many = bind_many;
     as_many_universes = bind_many_universes;
     same_constraints = ap (map (constraint_of m)) constraints;

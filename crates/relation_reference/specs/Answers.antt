@@ -16,11 +16,6 @@ use Rattle.type_relations.specs.Errors.{ErrorOf}
 use Rattle.type_relations.specs.Lawful.{items_of}
 use Rattle.type_relations.specs.Parts.{IsFormed}
 
--- From a variable the entries lead to another of the same class.
-pub data LeadsTo (st : Store) : ℕ → ℕ → Type 0 where
-  here : {n m : ℕ} → n ≡ m → LeadsTo st n m
-  next : {n p m : ℕ} → entry_of st type_var n ≡ same_as p → LeadsTo st p m → LeadsTo st n m
-
 -- No entry leads on.
 abbrev pub IsRoot : Store → ℕ → Type 0
 IsRoot st n = (p : ℕ) → entry_of st type_var n ≡ same_as p → ⊥

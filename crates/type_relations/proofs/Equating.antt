@@ -1,5 +1,5 @@
 -- Making two variables one, and binding a variable to a term.
-use Rattle.std.proofs.Common.{◌≡◌, ◌⊎◌, ℕ, ◌*◌, ◌≤◌, ◌<◌, min, refl, sym, ap, ap₂, ◌∙◌, arith, inl, inr, subst, subst₂, Some, None, le_trans, le_of_eq}
+use Rattle.std.proofs.Common.{◌≡◌, ◌⊎◌, ℕ, ◌*◌, ◌≤◌, ◌<◌, min, refl, sym, ap, ap₂, arith, inl, inr, subst, subst₂, Some, None, le_trans, le_of_eq}
 use Rattle.std.proofs.Math.Nat.{mul-le-mul}
 use native.Mathlib.Decide.{dec_le}
 use Rattle.relation_terms.specs.Heads.{VarKind, VarKind_discrete, region_var, Leaf, variable, bound, placeholder, atom, unknown}
@@ -12,7 +12,7 @@ use Rattle.type_relations.proofs.Trees.{Leaves_map}
 use Rattle.type_relations.proofs.Only.{which}
 use Rattle.type_relations.proofs.Resolved.{resolved_free, resolved_weight}
 use Rattle.type_relations.proofs.Standing.{itself_stands, namable_mono, term_of_made}
-use Rattle.type_relations.proofs.Written.{sound_after, is_later, equal, keeps, weight_after, made_after, kind_more, kinds_stand}
+use Rattle.type_relations.proofs.Written.{sound_after, is_later, equal, keeps, weight_after, made_after, free_stays, kind_more, kinds_stand}
 use Rattle.type_relations.proofs.Tallies.{bound_more, bound_alike}
 use Rattle.type_relations.specs.ErasureLaws.{IsTypeOrConst}
 
@@ -37,7 +37,7 @@ module _ (before after : Store) (k : VarKind) (child root : ℕ) (q : Equates be
       go (inr o) = le_of_eq (q.other_universes j i o)
 
   root_free_after : bound_term after k root ≡ None
-  root_free_after = ap (entry_term k) (q.links.others_stand k root (λ _ e. differ e) ∙ q.root_unbound)
+  root_free_after = free_stays before after k child (same_as root) to q.links refl k root (λ _ e. differ e) root_free
 
   kept : (j : VarKind) (i : ℕ) (u : Tree) → bound_term after j i ≡ Some u → universe_of after j i ≡ universe_of before j i
   kept j i u e = go (which j k i root)
@@ -72,7 +72,7 @@ module _ (before after : Store) (k : VarKind) (child root : ℕ) (q : Equates be
   none_bound j = go (VarKind_discrete j k)
     where
       go : Dec (j ≡ k) → tally counts_bound (after.entries j) ≡ tally counts_bound (before.entries j)
-      go (yes e) = subst (λ z. tally counts_bound (after.entries z) ≡ tally counts_bound (before.entries z)) (sym e) (let h = kind_more before after k child (same_as root) to q.links refl counts_bound refl in omega (arith, h))
+      go (yes e) = subst (λ z. tally counts_bound (after.entries z) ≡ tally counts_bound (before.entries z)) (sym e) (let h = kind_more before after k child (same_as root) to q.links refl counts_bound refl (λ p q. refl) in omega (arith, h))
       go (no o) = kinds_stand before after k child (same_as root) to q.links refl counts_bound j o
 
   pub equated_goes : Goes 0 before after
@@ -137,7 +137,7 @@ module _ (before after : Store) (k : VarKind) (n : ℕ) (t : Tree) (q : BindsTo 
     none_made = q.writes.as_many;
     spent = 1;
     counts = let b = q.one_spent in omega arith;
-    binds = bound_more before after 1 k counted (kind_more before after k n (bound_to t) t q.writes refl counts_bound refl) (kinds_stand before after k n (bound_to t) t q.writes refl counts_bound);
+    binds = bound_more before after 1 k counted (kind_more before after k n (bound_to t) t q.writes refl counts_bound refl (λ p q. refl)) (kinds_stand before after k n (bound_to t) t q.writes refl counts_bound);
     grows = λ m u above below.
         let h : weight after u ≤ weight before u * weight before t = weight_after before after k n (bound_to t) t q.writes refl g absent u in
         let d : weight before u * weight before t ≤ m * m = mul-le-mul below (le_trans small above) in le_trans h d;

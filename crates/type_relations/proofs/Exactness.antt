@@ -14,7 +14,7 @@ use Rattle.type_relations.proofs.Trees.{Leaves_map}
 use Rattle.type_relations.proofs.Only.{which}
 use Rattle.type_relations.proofs.Values.{apply-nth}
 use Rattle.type_relations.proofs.Standing.{namable_mono, term_context}
-use Rattle.type_relations.proofs.Written.{unbound_before, now_bound, others, made_after, made_before}
+use Rattle.type_relations.proofs.Written.{OtherTerm, term_stays, term_led, now_bound, others, unlike, made_after, made_before}
 use Rattle.type_relations.proofs.Going.{later_through}
 use Rattle.type_relations.proofs.Composing.{below_or, heads_one, tails_one}
 
@@ -152,14 +152,24 @@ module _ (before after : Store) (k : VarKind) (n : ℕ) (x : Entry) (t : Tree) (
   erased_binding s = (λ h. (earlier h, h k n t (now_bound before after k n x t w e)), λ h. later h.0 h.1)
     where
       earlier : MeetsErased after s → MeetsErased before s
-      earlier h j m u q = h j m u (others before after k n x t w e j m (λ a b. let z : bound_term before j m ≡ bound_term before k n = ap₂ (bound_term before) a b in let o = unbound_before before after k n x t w e in cc (z, q, o)) ∙ q)
+      earlier h j m u q = go (others before after k n x t w e j m (unlike before after k n x t w e j m u q))
+        where
+          go : OtherTerm before after k n t j m → Unifies s (leaf (variable j m)) u
+          go (term_stays r) = h j m u (r ∙ q)
+          go (term_led a b c) = let is : leaf (variable k n) ≡ u = cc (b, q) in
+              h j m t c ∙ sym (h k n t (now_bound before after k n x t w e)) ∙ ap (λ z. erase (apply s z)) is
 
       later : MeetsErased before s → Unifies s (leaf (variable k n)) t → MeetsErased after s
       later h p j m u q = go (which j k m n)
         where
           go : ((j ≡ k) × (m ≡ n)) ⊎ (j ≡ k → m ≡ n → ⊥) → Unifies s (leaf (variable j m)) u
           go (inl (a, b)) = let z : bound_term after j m ≡ bound_term after k n = ap₂ (bound_term after) a b in let o = now_bound before after k n x t w e in let tu : t ≡ u = cc (z, q, o) in ap₂ (λ c d. erase (s c d)) a b ∙ p ∙ ap (λ c. erase (apply s c)) tu
-          go (inr o) = h j m u (sym (others before after k n x t w e j m o) ∙ q)
+          go (inr o) = other (others before after k n x t w e j m o)
+            where
+              other : OtherTerm before after k n t j m → Unifies s (leaf (variable j m)) u
+              other (term_stays r) = h j m u (sym r ∙ q)
+              other (term_led a b c) = let is : t ≡ u = cc (c, q) in
+                  h j m (leaf (variable k n)) b ∙ p ∙ ap (λ z. erase (apply s z)) is
 
   -- Where universes stand, it is exact.
   module _ (l : IsLater before after) (same : (j : VarKind) (i : ℕ) → universe_of after j i ≡ universe_of before j i) where

@@ -7,11 +7,12 @@ use Rattle.relation_terms.specs.Trees.{Tree, cons}
 use Rattle.type_relations.specs.Stores.{Store, Entry, unbound, same_as, bound_to, entry_of, IsMade, weight}
 use Rattle.type_relations.specs.Steps.{IsLater, MakesNone, BindsItsOwn}
 use Rattle.type_relations.specs.Measures.{grown, depth, Goes}
+use Rattle.type_relations.proofs.Classes.{entry_kept, stands_from, stands_through}
 
 pub later_itself : (st : Store) → IsLater st st
 later_itself st = record {
   grows = λ k n h. h;
-  entries_stand = λ k n h o. refl;
+  entries_stand = λ k n. entry_kept st k (entry_of st k n) (entry_of st k n) refl;
   constraints_stand = ([], sym (append-nil st.constraints));
   universes_fall = λ k n h. omega arith;
   universe_stands = omega arith;
@@ -21,7 +22,7 @@ later_itself st = record {
 pub later_through : {r q p : Store} → IsLater r q → IsLater q p → IsLater r p
 later_through {r} {q} {p} a b = record {
   grows = λ k n h. b.grows k n (a.grows k n h);
-  entries_stand = λ k n h o. let e = a.entries_stand k n h o in b.entries_stand k n (a.grows k n h) (λ u. o (sym e ∙ u)) ∙ e;
+  entries_stand = λ k n. stands_through q p b k (entry_of r k n) (entry_of q k n) (entry_of p k n) (a.entries_stand k n) (b.entries_stand k n);
   constraints_stand = (
     a.constraints_stand.0 ++ b.constraints_stand.0,
     b.constraints_stand.1 ∙ ap (λ cs. cs ++ b.constraints_stand.0) a.constraints_stand.1 ∙ append_assoc r.constraints a.constraints_stand.0 b.constraints_stand.0,
@@ -44,7 +45,7 @@ binds_its_own before after l none k n t now new = inl (made, free (entry_of befo
 
     free : (e : Entry) → entry_of before k n ≡ e → entry_of before k n ≡ unbound
     free unbound q = q
-    free (same_as m) q = absurd (let s : entry_of after k n ≡ entry_of before k n = l.entries_stand k n made (λ u. absurd (cc)) in cc)
+    free (same_as m) q = absurd (let s = stands_from before after l k n (same_as m) q in let e = s.1 in cc (e, now))
     free (bound_to u) q = absurd (new u q)
 
 le_refl_at : (n : ℕ) → n ≤ n

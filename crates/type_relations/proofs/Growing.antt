@@ -9,6 +9,7 @@ use Rattle.type_relations.specs.Relation.{Interpretation}
 use Rattle.type_relations.specs.Stores.{Store, Entry, unbound, entry_of, entry_term, bound_term, universe_of, IsMade, IsFree, IsInScope, IsNamable, IsSound, Satisfies, ConstraintHolds, Constraint, ConstraintIn, resolved, all_tally, all_bound, tally, counts_term, counts_bound, weight}
 use Rattle.type_relations.specs.Steps.{MakesVariable, AddsConstraint, IsLater}
 use Rattle.type_relations.proofs.Trees.{Leaves_map, apply_alike}
+use Rattle.type_relations.proofs.Classes.{entry_kept}
 use Rattle.type_relations.proofs.Resolved.{resolved_same, resolved_free}
 use Rattle.type_relations.proofs.Standing.{own_scope, later_term, later_constraint}
 use Rattle.type_relations.proofs.Tallies.{tally_append, all_more, all_alike, bound_alike}
@@ -154,7 +155,7 @@ module _ (before after : Store) (k : VarKind) (n u : ℕ) (b : MakesVariable bef
     pub made_is_later : IsLater before after
     made_is_later = record {
       grows = made_later;
-      entries_stand = λ j m h o. same_entries j m;
+      entries_stand = λ j m. entry_kept after j _ _ (same_entries j m);
       constraints_stand = ([], b.same_constraints ∙ sym (append-nil before.constraints));
       universes_fall = λ j m h. let e = universes_stand j m h in omega arith;
       universe_stands = omega (arith, b.same_universe);
@@ -227,7 +228,7 @@ module _ (before after : Store) (q : Constraint) (b : AddsConstraint before afte
   pub constraint_is_later : IsLater before after
   constraint_is_later = record {
     grows = constraint_made;
-    entries_stand = λ j m h o. ap (λ es. get_or es m unbound) (b.same_entries j);
+    entries_stand = λ j m. entry_kept after j _ _ (ap (λ es. get_or es m unbound) (b.same_entries j));
     constraints_stand = (q ∷ [], b.one_more);
     universes_fall = λ j m h. let e = same_universe_of j m in omega arith;
     universe_stands = omega (arith, b.same_universe);

@@ -11,7 +11,7 @@ use Rattle.type_relations.proofs.Trees.{Leaves_map, Leaves-replace}
 use Rattle.type_relations.proofs.Values.{apply-list}
 use Rattle.type_relations.proofs.Resolved.{HasTerm, is_free, is_bound, has_term, resolve_free, resolve_bound, resolved_value, resolved_twice, cycles_do_not_unify}
 use Rattle.type_relations.proofs.Standing.{later_term, stands_apply}
-use Rattle.type_relations.proofs.Written.{made_after}
+use Rattle.type_relations.proofs.Written.{made_after, others_bound}
 use Rattle.type_relations.proofs.Equating.{bound_sound, bound_later, bound_keeps}
 use Rattle.type_relations.proofs.Exactness.{entry_is_exact}
 use Rattle.type_relations.proofs.Erased.{erased_occurs_check}
@@ -105,7 +105,7 @@ module _ (before after : Store) (v : Variance) (k : VarKind) (n : ℕ) (source :
     made = q.writes.made;
     was_unbound = q.writes.was_unbound;
     now_bound = q.writes.written;
-    others_stand = q.writes.others_stand;
+    others_stand = others_bound before after k n term q.writes;
     same_universes = λ j i m. q.same_universes j i;
     same_constraints = q.writes.same_constraints;
     same_universe = q.writes.same_universe;

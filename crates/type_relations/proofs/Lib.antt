@@ -25,6 +25,7 @@ pub mod Looping
 pub mod Lists
 pub mod Parts
 pub mod OneParts
+pub mod Classes
 pub mod Comparing
 pub mod Handing
 pub mod PartSizes

@@ -14,6 +14,7 @@ use Rattle.type_relations.specs.Outcomes.{StepsTo}
 use Rattle.type_relations.specs.StepLaws.{InstantiatingSteps, OpeningSteps, OneRoundRelates, TwoRoundsRelate, UnusedBindersRelate}
 use Rattle.type_relations.proofs.Trees.{apply-inst, inst_within, StaysIn}
 use Rattle.type_relations.proofs.Values.{value_namable, stays_in, stays_apply, variables_fit, fresh_later, placeholders_stay, placeholders_fit, placeholders_namable, some_values, some_values_fit, some_values_namable, some_placeholders, some_are_placeholders, same_value, in_context}
+use Rattle.type_relations.proofs.Classes.{entry_kept}
 use Rattle.type_relations.proofs.Going.{later_through}
 use Rattle.type_relations.proofs.Composing.{extends_through, goals_both, first_goals, all_goals, values_still}
 
@@ -80,7 +81,7 @@ module _ (before after : Store) (h : ChangesNothing before after) where
   pub changes_later : IsLater before after
   changes_later = record {
     grows = made_still;
-    entries_stand = λ k n m o. ap (λ z. get_or z n unbound) (h.same_entries k);
+    entries_stand = λ k n. entry_kept after k _ _ (ap (λ z. get_or z n unbound) (h.same_entries k));
     constraints_stand = ([], h.same_constraints ∙ sym (append-nil before.constraints));
     universes_fall = λ k n m. let e = same_universe_of k n in omega arith;
     universe_stands = h.universe_stands;

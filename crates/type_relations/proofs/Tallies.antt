@@ -4,13 +4,13 @@ use Rattle.relation_terms.specs.Heads.{VarKind, type_var, int_var, float_var, co
 use Rattle.type_relations.specs.Stores.{Store, Entry, unbound, tally, all_tally, counts_bound, all_bound}
 use Rattle.type_relations.specs.ErasureLaws.{IsTypeOrConst}
 
-pub tally_alike : (f : Entry → ℕ) (es fs : List Entry) → length fs ≡ length es → ((m : ℕ) → get_or fs m unbound ≡ get_or es m unbound) → tally f fs ≡ tally f es
+pub tally_alike : (f : Entry → ℕ) (es fs : List Entry) → length fs ≡ length es → ((m : ℕ) → f (get_or fs m unbound) ≡ f (get_or es m unbound)) → tally f fs ≡ tally f es
 tally_alike f [] [] l h = refl
 tally_alike f [] (y ∷ fs) l h = absurd (omega arith)
 tally_alike f (x ∷ es) [] l h = absurd (omega arith)
-tally_alike f (x ∷ es) (y ∷ fs) l h = let p = ap f (h 0) in let q = tally_alike f es fs (omega arith) (λ m. h (suc m)) in omega (arith, p, q)
+tally_alike f (x ∷ es) (y ∷ fs) l h = let p = h 0 in let q = tally_alike f es fs (omega arith) (λ m. h (suc m)) in omega (arith, p, q)
 
-pub tally_written : (f : Entry → ℕ) (es fs : List Entry) (n : ℕ) → f unbound ≡ 0 → length fs ≡ length es → n < length es → get_or es n unbound ≡ unbound → ((m : ℕ) → (m ≡ n → ⊥) → get_or fs m unbound ≡ get_or es m unbound) → tally f fs ≡ f (get_or fs n unbound) + tally f es
+pub tally_written : (f : Entry → ℕ) (es fs : List Entry) (n : ℕ) → f unbound ≡ 0 → length fs ≡ length es → n < length es → get_or es n unbound ≡ unbound → ((m : ℕ) → (m ≡ n → ⊥) → f (get_or fs m unbound) ≡ f (get_or es m unbound)) → tally f fs ≡ f (get_or fs n unbound) + tally f es
 tally_written f [] fs n z l h e o = absurd (omega arith)
 tally_written f (x ∷ es) [] n z l h e o = absurd (omega arith)
 tally_written f (x ∷ es) (y ∷ fs) zero z l h e o =
@@ -18,7 +18,7 @@ tally_written f (x ∷ es) (y ∷ fs) zero z l h e o =
     let p = ap f e in omega (arith, p, q, z)
 tally_written f (x ∷ es) (y ∷ fs) (suc n) z l h e o =
     let q = tally_written f es fs n z (omega arith) (omega arith) e (λ m d. o (suc m) (λ b. d (omega arith))) in
-    let p = ap f (o 0 (λ b. omega arith)) in omega (arith, p, q)
+    let p = o 0 (λ b. omega arith) in omega (arith, p, q)
 
 pub tally_append : (f : Entry → ℕ) (es : List Entry) (x : Entry) → tally f (es ++ x ∷ []) ≡ tally f es + f x
 tally_append f [] x = omega arith

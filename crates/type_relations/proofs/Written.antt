@@ -6,12 +6,27 @@ use Rattle.relation_terms.specs.Heads.{VarKind, region_var, Leaf, atom, variable
 use Rattle.relation_terms.specs.Trees.{Tree, leaf, node, bind, nil, cons, Assign, assigned, apply, Leaves, Occurs, size}
 use Rattle.type_relations.specs.Relation.{Interpretation}
 use Rattle.type_relations.specs.Stores.{Store, Entry, unbound, same_as, bound_to, entry_of, entry_term, bound_term, universe_of, IsMade, IsFree, IsInScope, IsNamable, MayStandFor, MayHave, IsTermIn, IsSound, MeetsBindings, Satisfies, OnlyShrinks, ConstraintHolds, ConstraintIn, resolve, resolved, rounds_for, all_taken, all_tally, tally, counts_term, weight}
-use Rattle.type_relations.specs.Steps.{WritesEntry, IsLater}
+use Rattle.type_relations.specs.Steps.{WritesEntry, StandsBeside, as_it_was, led_on, IsLater, EntryStands}
+use Rattle.type_relations.proofs.Classes.{entry_kept, class_next}
 use Rattle.type_relations.proofs.Trees.{Leaves_map, Leaves_map₂, Leaves-replace, apply_alike, apply-apply}
 use Rattle.type_relations.proofs.Only.{only, only_same, only_other, which, absent, absent_leaves, only_size}
 use Rattle.type_relations.proofs.Resolved.{HasTerm, is_free, is_bound, has_term, resolve_free, resolve_bound, resolve_none, resolve_start, settled_more, settled_term, general, over_free, resolved_free, resolved_meets}
 use Rattle.type_relations.proofs.Standing.{scope_mono, own_scope, namable_mono, later_term, later_constraint}
 use Rattle.type_relations.proofs.Tallies.{tally_alike, tally_written, all_more}
+
+-- What comes of another variable's term: it stands; or it was the variable that got an entry, and is that one's term.
+pub data OtherTerm (before after : Store) (k : VarKind) (n : ℕ) (t : Tree) (j : VarKind) (m : ℕ) : Type 0 where
+  term_stays : bound_term after j m ≡ bound_term before j m → OtherTerm before after k n t j m
+  term_led : j ≡ k → bound_term before j m ≡ Some (leaf (variable k n)) → bound_term after j m ≡ Some t →
+      OtherTerm before after k n t j m
+
+-- Where the entry is a term, all others stand.
+pub others_bound : (before after : Store) (k : VarKind) (n : ℕ) (t : Tree) → WritesEntry before after k n (bound_to t) → (j : VarKind) (m : ℕ) → (j ≡ k → m ≡ n → ⊥) → entry_of after j m ≡ entry_of before j m
+others_bound before after k n t w j m o = go (w.others_stand j m o)
+  where
+    go : StandsBeside before after k n (bound_to t) j m → entry_of after j m ≡ entry_of before j m
+    go (as_it_was h) = h
+    go (led_on r a b c d) = absurd (cc)
 
 module _ (before after : Store) (k : VarKind) (n : ℕ) (x : Entry) (t : Tree) (w : WritesEntry before after k n x) (e : entry_term k x ≡ Some t) where
   pub unbound_before : bound_term before k n ≡ None
@@ -20,8 +35,31 @@ module _ (before after : Store) (k : VarKind) (n : ℕ) (x : Entry) (t : Tree) (
   pub now_bound : bound_term after k n ≡ Some t
   now_bound = ap (entry_term k) w.written ∙ e
 
-  pub others : (j : VarKind) (m : ℕ) → (j ≡ k → m ≡ n → ⊥) → bound_term after j m ≡ bound_term before j m
-  others j m o = ap (entry_term j) (w.others_stand j m o)
+  pub others : (j : VarKind) (m : ℕ) → (j ≡ k → m ≡ n → ⊥) → OtherTerm before after k n t j m
+  others j m o = go (w.others_stand j m o)
+    where
+      go : StandsBeside before after k n x j m → OtherTerm before after k n t j m
+      go (as_it_was h) = term_stays (ap (entry_term j) h)
+      go (led_on r a b c d) = term_led a (ap (entry_term j) b ∙ ap (λ z. Some (leaf (variable z n))) a)
+          (ap (entry_term j) d ∙ ap (λ z. Some (leaf (variable z r))) a ∙ sym (ap (entry_term k) c) ∙ e)
+
+  pub free_stays : (j : VarKind) (m : ℕ) → (j ≡ k → m ≡ n → ⊥) → bound_term before j m ≡ None → bound_term after j m ≡ None
+  free_stays j m o q = go (others j m o)
+    where
+      go : OtherTerm before after k n t j m → bound_term after j m ≡ None
+      go (term_stays h) = h ∙ q
+      go (term_led a b c) = absurd (cc (b, q))
+
+  was_free_too : (j : VarKind) (m : ℕ) → (j ≡ k → m ≡ n → ⊥) → bound_term after j m ≡ None → bound_term before j m ≡ None
+  was_free_too j m o q = go (others j m o)
+    where
+      go : OtherTerm before after k n t j m → bound_term before j m ≡ None
+      go (term_stays h) = sym h ∙ q
+      go (term_led a b c) = absurd (cc (c, q))
+
+  -- A variable with a term is another.
+  pub unlike : (j : VarKind) (m : ℕ) (u : Tree) → bound_term before j m ≡ Some u → j ≡ k → m ≡ n → ⊥
+  unlike j m u q a b = let z : bound_term before j m ≡ bound_term before k n = ap₂ (bound_term before) a b in cc (z, q, unbound_before)
 
   pub made_after : (j : VarKind) (i : ℕ) → IsMade before j i → IsMade after j i
   made_after j i h = subst (λ z. i < z) (sym (w.as_many j)) h
@@ -30,14 +68,22 @@ module _ (before after : Store) (k : VarKind) (n : ℕ) (x : Entry) (t : Tree) (
   made_before j i h = subst (λ z. i < z) (w.as_many j) h
 
   -- What is counted of entries.
-  pub kind_more : (f : Entry → ℕ) → f unbound ≡ 0 → tally f (after.entries k) ≡ f x + tally f (before.entries k)
-  kind_more f z = tally_written f (before.entries k) (after.entries k) n z (w.as_many k) w.made w.was_unbound (λ m o. w.others_stand k m (λ _ q. o q)) ∙ ap (λ y. f y + tally f (before.entries k)) w.written
+  pub kind_more : (f : Entry → ℕ) → f unbound ≡ 0 → ((p q : ℕ) → f (same_as p) ≡ f (same_as q)) → tally f (after.entries k) ≡ f x + tally f (before.entries k)
+  kind_more f z alike = tally_written f (before.entries k) (after.entries k) n z (w.as_many k) w.made w.was_unbound (λ m o. counts m (w.others_stand k m (λ _ q. o q))) ∙ ap (λ y. f y + tally f (before.entries k)) w.written
+    where
+      counts : (m : ℕ) → StandsBeside before after k n x k m → f (entry_of after k m) ≡ f (entry_of before k m)
+      counts m (as_it_was h) = ap f h
+      counts m (led_on r a b c d) = ap f d ∙ alike r n ∙ sym (ap f b)
 
   pub kinds_stand : (f : Entry → ℕ) (j : VarKind) → (j ≡ k → ⊥) → tally f (after.entries j) ≡ tally f (before.entries j)
-  kinds_stand f j o = tally_alike f (before.entries j) (after.entries j) (w.as_many j) (λ m. w.others_stand j m (λ q _. o q))
+  kinds_stand f j o = tally_alike f (before.entries j) (after.entries j) (w.as_many j) (λ m. counts m (w.others_stand j m (λ q _. o q)))
+    where
+      counts : (m : ℕ) → StandsBeside before after k n x j m → f (entry_of after j m) ≡ f (entry_of before j m)
+      counts m (as_it_was h) = ap f h
+      counts m (led_on r a b c d) = absurd (o a)
 
-  tally_more : (f : Entry → ℕ) → f unbound ≡ 0 → all_tally f after ≡ f x + all_tally f before
-  tally_more f z = all_more f before after (f x) k (kind_more f z) (kinds_stand f)
+  tally_more : (f : Entry → ℕ) → f unbound ≡ 0 → ((p q : ℕ) → f (same_as p) ≡ f (same_as q)) → all_tally f after ≡ f x + all_tally f before
+  tally_more f z alike = all_more f before after (f x) k (kind_more f z alike) (kinds_stand f)
 
   counts_one : (y : Entry) → entry_term k y ≡ Some t → counts_term y ≡ 1
   counts_one unbound q = absurd (cc)
@@ -45,21 +91,29 @@ module _ (before after : Store) (k : VarKind) (n : ℕ) (x : Entry) (t : Tree) (
   counts_one (bound_to u) q = refl
 
   pub more_taken : all_taken after ≡ suc (all_taken before)
-  more_taken = let c = counts_one x e in let h = tally_more counts_term refl in omega (arith, c, h)
+  more_taken = let c = counts_one x e in let h = tally_more counts_term refl (λ p q. refl) in omega (arith, c, h)
 
   -- What meets the bindings.
   pub binding_is_exact : (s : Assign) → MeetsBindings after s ↔ MeetsBindings before s × (s k n ≡ apply s t)
   binding_is_exact s = (λ h. (earlier h, h k n t now_bound), λ h. later h.0 h.1)
     where
       earlier : MeetsBindings after s → MeetsBindings before s
-      earlier h j m u q = h j m u (others j m (λ a b. let z : bound_term before j m ≡ bound_term before k n = ap₂ (bound_term before) a b in cc (z, q, unbound_before)) ∙ q)
+      earlier h j m u q = go (others j m (unlike j m u q))
+        where
+          go : OtherTerm before after k n t j m → s j m ≡ apply s u
+          go (term_stays r) = h j m u (r ∙ q)
+          go (term_led a b c) = let is : leaf (variable k n) ≡ u = cc (b, q) in h j m t c ∙ sym (h k n t now_bound) ∙ ap (apply s) is
 
       later : MeetsBindings before s → s k n ≡ apply s t → MeetsBindings after s
       later h p j m u q = go (which j k m n)
         where
           go : ((j ≡ k) × (m ≡ n)) ⊎ (j ≡ k → m ≡ n → ⊥) → s j m ≡ apply s u
           go (inl (a, b)) = let z : bound_term after j m ≡ bound_term after k n = ap₂ (bound_term after) a b in let tu : t ≡ u = cc (z, q, now_bound) in ap₂ s a b ∙ p ∙ ap (apply s) tu
-          go (inr o) = h j m u (sym (others j m o) ∙ q)
+          go (inr o) = other (others j m o)
+            where
+              other : OtherTerm before after k n t j m → s j m ≡ apply s u
+              other (term_stays r) = h j m u (sym r ∙ q)
+              other (term_led a b c) = let is : t ≡ u = cc (c, q) in h j m (leaf (variable k n)) b ∙ p ∙ ap (apply s) is
 
   -- Where the variable is not reached, nothing changes.
   away_leaf : (f : ℕ) → ((j : VarKind) (m : ℕ) → (Occurs k n (resolve f before j m) → ⊥) → resolve f after j m ≡ resolve f before j m) → (l : Leaf) → (Occurs k n (assigned (resolve f before) l) → ⊥) → assigned (resolve f after) l ≡ assigned (resolve f before) l
@@ -77,16 +131,21 @@ module _ (before after : Store) (k : VarKind) (n : ℕ) (x : Entry) (t : Tree) (
   away_step f h j m p = go (has_term before j m)
     where
       go : HasTerm before j m → resolve (suc f) after j m ≡ resolve (suc f) before j m
-      go (is_free q) = resolve_free (suc f) after j m (others j m (λ a b. p (subst (Occurs k n) (sym (resolve_free (suc f) before j m q)) (ap₂ (λ c d. leaf (variable c d)) a b))) ∙ q) ∙ sym (resolve_free (suc f) before j m q)
-      go (is_bound u q) = resolve_bound f after j m u (others j m (λ a b. let i : bound_term before j m ≡ bound_term before k n = ap₂ (bound_term before) a b in cc (i, q, unbound_before)) ∙ q)
-          ∙ away_term f h u (λ r. p (subst (Occurs k n) (sym (resolve_bound f before j m u q)) r)) ∙ sym (resolve_bound f before j m u q)
+      go (is_free q) = resolve_free (suc f) after j m (free_stays j m (λ a b. p (subst (Occurs k n) (sym (resolve_free (suc f) before j m q)) (ap₂ (λ c d. leaf (variable c d)) a b))) q) ∙ sym (resolve_free (suc f) before j m q)
+      go (is_bound u q) = other (others j m (unlike j m u q))
+        where
+          other : OtherTerm before after k n t j m → resolve (suc f) after j m ≡ resolve (suc f) before j m
+          other (term_stays r) = resolve_bound f after j m u (r ∙ q)
+              ∙ away_term f h u (λ r. p (subst (Occurs k n) (sym (resolve_bound f before j m u q)) r)) ∙ sym (resolve_bound f before j m u q)
+          other (term_led a b c) = absurd (p (subst (Occurs k n)
+              (sym (resolve_bound f before j m (leaf (variable k n)) b ∙ resolve_free f before k n unbound_before)) refl))
 
   away : (f : ℕ) (j : VarKind) (m : ℕ) → (Occurs k n (resolve f before j m) → ⊥) → resolve f after j m ≡ resolve f before j m
   away zero j m p = resolve_none after before j m
   away (suc f) j m p = away_step f (away f) j m p
 
   free_after : (l : Leaf) → IsFree before l → (leaf l ≡ leaf (variable k n) → ⊥) → IsFree after l
-  free_after (variable j m) f o = others j m (λ p q. o (ap₂ (λ y z. leaf (variable y z)) p q)) ∙ f
+  free_after (variable j m) f o = free_stays j m (λ p q. o (ap₂ (λ y z. leaf (variable y z)) p q)) f
   free_after (bound j d i) f o = tt
   free_after (placeholder j u i) f o = tt
   free_after (atom y) f o = tt
@@ -122,7 +181,7 @@ module _ (before after : Store) (k : VarKind) (n : ℕ) (x : Entry) (t : Tree) (
       where
         go : ((j ≡ k) × (m ≡ n)) ⊎ (j ≡ k → m ≡ n → ⊥) → Leaves (IsFree after) (resolve (suc rs + f) after j m)
         go (inl (a, b)) = subst (λ z. Leaves (IsFree after) (resolve (suc rs + f) after z m)) (sym a) (subst (λ z. Leaves (IsFree after) (resolve (suc rs + f) after k z)) (sym b) (more_itself f))
-        go (inr o) = let q' : bound_term after j m ≡ None = others j m o ∙ q in subst (Leaves (IsFree after)) (sym (resolve_free (suc rs + f) after j m q')) q'
+        go (inr o) = let q' : bound_term after j m ≡ None = free_stays j m o q in subst (Leaves (IsFree after)) (sym (resolve_free (suc rs + f) after j m q')) q'
 
     later_leaf : (f : ℕ) → ((j : VarKind) (m : ℕ) → Leaves (IsFree before) (resolve f before j m) → Leaves (IsFree after) (resolve (suc rs + f) after j m)) → (l : Leaf) → Leaves (IsFree before) (assigned (resolve f before) l) → Leaves (IsFree after) (assigned (resolve (suc rs + f) after) l)
     later_leaf f ih (variable j m) h = ih j m h
@@ -143,9 +202,16 @@ module _ (before after : Store) (k : VarKind) (n : ℕ) (x : Entry) (t : Tree) (
       where
         go : HasTerm before j m → Leaves (IsFree after) (resolve (suc rs + suc f) after j m)
         go (is_free q) = was_free (suc f) j m q
-        go (is_bound u q) = let q' : bound_term after j m ≡ Some u = others j m (λ a b. let i : bound_term before j m ≡ bound_term before k n = ap₂ (bound_term before) a b in cc (i, q, unbound_before)) ∙ q in
-            let r : suc rs + suc f ≡ suc (suc rs + f) = omega arith in
-            subst (λ z. Leaves (IsFree after) (resolve z after j m)) (sym r) (subst (Leaves (IsFree after)) (sym (resolve_bound (suc rs + f) after j m u q')) (later_tree f ih u (subst (Leaves (IsFree before)) (resolve_bound f before j m u q) h)))
+        go (is_bound u q) = other (others j m (unlike j m u q))
+          where
+            r : suc rs + suc f ≡ suc (suc rs + f)
+            r = omega arith
+
+            other : OtherTerm before after k n t j m → Leaves (IsFree after) (resolve (suc rs + suc f) after j m)
+            other (term_stays s) = subst (λ z. Leaves (IsFree after) (resolve z after j m)) (sym r) (subst (Leaves (IsFree after)) (sym (resolve_bound (suc rs + f) after j m u (s ∙ q))) (later_tree f ih u (subst (Leaves (IsFree before)) (resolve_bound f before j m u q) h)))
+            other (term_led a b c) = subst (λ z. Leaves (IsFree after) (resolve z after j m)) (sym r)
+                (subst (Leaves (IsFree after)) (resolve_bound (suc rs + f) after k n t now_bound ∙ sym (resolve_bound (suc rs + f) after j m t c))
+                (subst (λ z. Leaves (IsFree after) (resolve z after k n)) r (more_itself (suc f))))
 
     later_rounds : (f : ℕ) (j : VarKind) (m : ℕ) → Leaves (IsFree before) (resolve f before j m) → Leaves (IsFree after) (resolve (suc rs + f) after j m)
     later_rounds zero j m h = was_free zero j m (resolve_start before j m h)
@@ -180,7 +246,7 @@ module _ (before after : Store) (k : VarKind) (n : ℕ) (x : Entry) (t : Tree) (
       where
         go : ((j ≡ k) × (m ≡ n)) ⊎ (j ≡ k → m ≡ n → ⊥) → apply single (resolved before j m) ≡ leaf (variable j m)
         go (inl (a, b)) = let i : bound_term after j m ≡ bound_term after k n = ap₂ (bound_term after) a b in absurd (cc (i, q, now_bound))
-        go (inr o) = ap (apply single) (resolved_free before j m (sym (others j m o) ∙ q)) ∙ only_other k n target j m o
+        go (inr o) = ap (apply single) (resolved_free before j m (was_free_too j m o q)) ∙ only_other k n target j m o
 
     value_meets_before : MeetsBindings before value
     unfolding value
@@ -243,15 +309,31 @@ module _ (before after : Store) (k : VarKind) (n : ℕ) (x : Entry) (t : Tree) (
                 is_in = subst (IsTermIn after) tu (later_term before after made_after same_now t is_in);
                 stands = subst (MayStandFor k) tu stands;
               })
-          go (inr o) = let h = g.bindings j i u (sym (others j i o) ∙ q) in
-              record { made = made_after j i h.made; is_in = later_term before after made_after same_now u h.is_in; stands = h.stands }
+          go (inr o) = other (others j i o)
+            where
+              other : OtherTerm before after k n t j i → MayHave after j i u
+              other (term_stays r) = let h = g.bindings j i u (sym r ∙ q) in
+                  record { made = made_after j i h.made; is_in = later_term before after made_after same_now u h.is_in; stands = h.stands }
+              other (term_led a b c) = let tu : t ≡ u = cc (c, q) in record {
+                made = made_after j i (g.bindings j i (leaf (variable k n)) b).made;
+                is_in = subst (IsTermIn after) tu (later_term before after made_after same_now t is_in);
+                stands = subst (λ z. MayStandFor z u) (sym a) (subst (MayStandFor k) tu stands);
+              }
 
       all_fall : (j : VarKind) (i m : ℕ) → entry_of after j i ≡ same_as m → m < i
       all_fall j i m q = go (which j k i n)
         where
           go : ((j ≡ k) × (i ≡ n)) ⊎ (j ≡ k → i ≡ n → ⊥) → m < i
           go (inl (a, b)) = subst (λ z. m < z) (sym b) (falls m (sym w.written ∙ sym (ap₂ (entry_of after) a b) ∙ q))
-          go (inr o) = g.falls j i m (sym (w.others_stand j i o) ∙ q)
+          go (inr o) = other (w.others_stand j i o)
+            where
+              other : StandsBeside before after k n x j i → m < i
+              other (as_it_was r) = g.falls j i m (sym r ∙ q)
+              other (led_on r a b c d) = let first = falls r c in let then = g.falls j i n b in let is : r ≡ m = cc (d, q) in omega arith
+
+      regions : (i : ℕ) → StandsBeside before after k n x region_var i → entry_of after region_var i ≡ unbound
+      regions i (as_it_was r) = r ∙ g.regions_unbound i
+      regions i (led_on r a b c d) = absurd (not_region (sym a))
 
       pub sound_after : IsSound after
       sound_after = record {
@@ -259,7 +341,7 @@ module _ (before after : Store) (k : VarKind) (n : ℕ) (x : Entry) (t : Tree) (
         bindings = bindings;
         in_scope = scopes;
         falls = all_fall;
-        regions_unbound = λ i. w.others_stand region_var i (λ a b. not_region (sym a)) ∙ g.regions_unbound i;
+        regions_unbound = λ i. regions i (w.others_stand region_var i (λ a b. not_region (sym a)));
         one_universe_each = λ j. w.as_many_universes j ∙ g.one_universe_each j ∙ sym (w.as_many j);
         below_current = λ j i. subst (λ z. universe_of after j i ≤ z) (sym w.same_universe) (le_trans (smaller j i) (g.below_current j i));
         constraints_in = subst (All (ConstraintIn after)) (sym w.same_constraints) (λ i d h. later_constraint before after made_after same_now _ (g.constraints_in i d h));
@@ -274,10 +356,22 @@ module _ (before after : Store) (k : VarKind) (n : ℕ) (x : Entry) (t : Tree) (
       regions = subst (All (ConstraintHolds v s)) w.same_constraints h.regions;
     }
 
+    entries_stand : (j : VarKind) (i : ℕ) → EntryStands after j (entry_of before j i) (entry_of after j i)
+    entries_stand j i = go (which j k i n)
+      where
+        other : StandsBeside before after k n x j i → EntryStands after j (entry_of before j i) (entry_of after j i)
+        other (as_it_was r) = entry_kept after j (entry_of before j i) (entry_of after j i) r
+        other (led_on r a b c d) = subst (λ z. EntryStands after j z (entry_of after j i)) (sym b)
+            (r, d, class_next after j n r (ap (λ z. entry_of after z n) a ∙ w.written ∙ c))
+
+        go : ((j ≡ k) × (i ≡ n)) ⊎ (j ≡ k → i ≡ n → ⊥) → EntryStands after j (entry_of before j i) (entry_of after j i)
+        go (inl (a, b)) = subst (λ z. EntryStands after j z (entry_of after j i)) (sym (ap₂ (entry_of before) a b ∙ w.was_unbound)) tt
+        go (inr o) = other (w.others_stand j i o)
+
     pub is_later : IsLater before after
     is_later = record {
       grows = made_after;
-      entries_stand = λ j i m o. w.others_stand j i (λ a b. o (ap₂ (entry_of before) a b ∙ w.was_unbound));
+      entries_stand = entries_stand;
       constraints_stand = ([], w.same_constraints ∙ sym (append-nil before.constraints));
       universes_fall = λ j i m. smaller j i;
       universe_stands = omega (arith, w.same_universe);

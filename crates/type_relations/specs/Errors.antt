@@ -1,5 +1,5 @@
 -- Which error comes of relating two terms.
-use Rattle.std.specs.Prelude.{◌≡◌, ◌≢◌, ◌⊎◌, ℕ, zero, ◌<◌, Some}
+use Rattle.std.specs.Prelude.{◌≡◌, ◌≢◌, ◌⊎◌, ℕ, zero, ◌<◌}
 use Rattle.relation_terms.specs.declared.terms.enums.Variance.{Variance}
 use Rattle.relation_terms.specs.declared.terms.enums.Variance.TheVariants.{Bivariant}
 use Rattle.relation_terms.specs.declared.terms.keys.TyKey.{TyKey}
@@ -13,7 +13,8 @@ use Rattle.relation_tools.specs.declared.error.TypeError.{TypeError}
 use Rattle.relation_tools.specs.declared.error.TypeError.TheVariants.{Mismatch, Mutability, TupleSize, ArraySize}
 use Rattle.relation_tools.specs.declared.error.TypeError.TheVariants.{Sorts, CyclicTy, ConstMismatch}
 use Rattle.type_relations.specs.Relation.{Items, plain_atom, sort_of, part_at}
-use Rattle.type_relations.specs.Stores.{Store, bound_term, resolved}
+use Rattle.type_relations.specs.Stores.{Store, bound_to, entry_of, resolved}
+use Rattle.type_relations.specs.Steps.{OneClass}
 
 -- Two forms without parts that are one but for a parameter's name.
 abbrev pub AreAlikeLeaves : Leaf → Leaf → Type 0
@@ -73,10 +74,13 @@ IsCycle n t = Occurs type_var n t × (t ≢ leaf (variable type_var n))
 abbrev pub IsNoVariable : Tree → Type 0
 IsNoVariable t = (k : VarKind) (n : ℕ) → t ≢ leaf (variable k n)
 
--- By the entries of a store a type is read as another: itself, or what a variable's entry is read as.
+-- By the entries of a store a type is read as another: itself; a variable as each of its class, and as what the term is
+-- read as that it is bound to.
 pub data IsReadAs (st : Store) : Tree → Tree → Type 0 where
   itself : {t u : Tree} → t ≡ u → IsReadAs st t u
-  by_entry : {t u v : Tree} (k : VarKind) (n : ℕ) → t ≡ leaf (variable k n) → bound_term st k n ≡ Some u →
+  by_class : {t u : Tree} (k : VarKind) (n m : ℕ) → t ≡ leaf (variable k n) → OneClass st k n m →
+      IsReadAs st (leaf (variable k m)) u → IsReadAs st t u
+  by_binding : {t u v : Tree} (k : VarKind) (n : ℕ) → t ≡ leaf (variable k n) → entry_of st k n ≡ bound_to u →
       IsReadAs st u v → IsReadAs st t v
 
 module _ {Key Id Name : Type 0} (m : Meaning Key Id Name) where

@@ -12,13 +12,27 @@ use Rattle.type_relations.specs.Stores.{IsNamable, IsSound, IsIntegerAtom, IsFlo
 use Rattle.type_relations.specs.Stores.{OnlyShrinks, Constraint, resolved}
 use Rattle.type_relations.specs.FirstOrder.{IsFirstOrder, IsFirstOrderStore, IsRegionLeaf, Unifies, IsErasedSolution}
 
--- A later state: entries stand, though an unbound variable may have got one; constraints stand, and others may stand
--- behind them; no variable's universe rises, and the current one does not fall; and only satisfying assignments were
--- lost.
+-- The entries lead from a variable to another of its kind, or to itself.
+pub data LeadsTo (st : Store) (k : VarKind) : ℕ → ℕ → Type 0 where
+  here : {n m : ℕ} → n ≡ m → LeadsTo st k n m
+  next : {n p m : ℕ} → entry_of st k n ≡ same_as p → LeadsTo st k p m → LeadsTo st k n m
+
+-- Two variables are of one class: the entries lead from both to a common one.
+abbrev pub OneClass : Store → VarKind → ℕ → ℕ → Type 0
+OneClass st k n m = (r : ℕ) × LeadsTo st k n r × LeadsTo st k m r
+
+-- What a later state has of an entry: of a term the same; of another variable one of that one's class.
+abbrev pub EntryStands : Store → VarKind → Entry → Entry → Type 0
+EntryStands after k unbound y = Unit {0}
+EntryStands after k (same_as m) y = (n : ℕ) × (y ≡ same_as n) × OneClass after k m n
+EntryStands after k (bound_to t) y = y ≡ bound_to t
+
+-- A later state: entries stand, but that an unbound variable may have got one, and that one variable of a class may
+-- stand for another; constraints stand, and others may stand behind them; no variable's universe rises, and the current
+-- one does not fall; and only satisfying assignments were lost.
 pub record IsLater (before after : Store) : Type 0 where
   pub grows : (k : VarKind) (n : ℕ) → IsMade before k n → IsMade after k n
-  pub entries_stand : (k : VarKind) (n : ℕ) → IsMade before k n → (entry_of before k n ≡ unbound → ⊥) →
-      entry_of after k n ≡ entry_of before k n
+  pub entries_stand : (k : VarKind) (n : ℕ) → EntryStands after k (entry_of before k n) (entry_of after k n)
   pub constraints_stand : (more : List Constraint) × (after.constraints ≡ before.constraints ++ more)
   pub universes_fall : (k : VarKind) (n : ℕ) → IsMade before k n → universe_of after k n ≤ universe_of before k n
   pub universe_stands : before.universe ≤ after.universe
@@ -36,13 +50,20 @@ BindsItsOwn before after = (k : VarKind) (n : ℕ) (t : Tree) → entry_of after
     (IsMade before k n × (entry_of before k n ≡ unbound)) ⊎
     ((IsMade before k n → ⊥) × ((after.budget < before.budget) ⊎ (before.universe < after.universe)))
 
--- One unbound variable got an entry. The entries of all others, the number of variables, the current universe, the
--- constraints and the taint stand.
+-- What comes of another variable's entry where a variable got one: it stands; or it was the same as that variable, and
+-- is now the same as what that one is the same as.
+pub data StandsBeside (before after : Store) (k : VarKind) (n : ℕ) (x : Entry) (j : VarKind) (m : ℕ) : Type 0 where
+  as_it_was : entry_of after j m ≡ entry_of before j m → StandsBeside before after k n x j m
+  led_on : (r : ℕ) → j ≡ k → entry_of before j m ≡ same_as n → x ≡ same_as r → entry_of after j m ≡ same_as r →
+      StandsBeside before after k n x j m
+
+-- One unbound variable got an entry. The entries of all others stand, though those that led to it may lead on to what
+-- it is the same as now; so do the number of variables, the current universe, the constraints and the taint.
 pub record WritesEntry (before after : Store) (k : VarKind) (n : ℕ) (x : Entry) : Type 0 where
   pub made : IsMade before k n
   pub was_unbound : entry_of before k n ≡ unbound
   pub written : entry_of after k n ≡ x
-  pub others_stand : (j : VarKind) (m : ℕ) → (j ≡ k → m ≡ n → ⊥) → entry_of after j m ≡ entry_of before j m
+  pub others_stand : (j : VarKind) (m : ℕ) → (j ≡ k → m ≡ n → ⊥) → StandsBeside before after k n x j m
   pub as_many : (j : VarKind) → length (after.entries j) ≡ length (before.entries j)
   pub as_many_universes : (j : VarKind) → length (after.universes j) ≡ length (before.universes j)
   pub same_constraints : after.constraints ≡ before.constraints

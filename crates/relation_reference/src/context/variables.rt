@@ -4,10 +4,10 @@ ghost use Rattle.relation_terms.specs.Heads.{type_var, variable};
 ghost use Rattle.relation_terms.specs.Trees.{leaf, known};
 ghost use Rattle.relation_terms.specs.Meaning.{infer_tree};
 ghost use Rattle.type_relations.specs.Stores.{unbound, entry_of, bound_to, IsTermIn};
-ghost use Rattle.type_relations.specs.Steps.{Resolves};
+ghost use Rattle.type_relations.specs.Steps.{LeadsTo, Resolves};
 ghost use Rattle.type_relations.specs.Errors.{IsReadAs};
 ghost use Rattle.relation_reference.specs.Tables.{store_of, IsLawful, entry_of_value};
-ghost use Rattle.relation_reference.specs.Answers.{LeadsTo, IsRoot, IsShallow};
+ghost use Rattle.relation_reference.specs.Answers.{IsRoot, IsShallow};
 
 use crate::context::{InferCtxtInner, TypeVariableValue};
 use relation_terms::predicate::RegionConstraint;
@@ -83,7 +83,7 @@ impl<I: Interner> RefCtxt<I> {
         requires lawful { IsLawful (I.meaning self.now.interner) self.now.inner }
         requires made { var.0 < length self.now.inner.types.items }
         ensures made { result.0 < length self.now.inner.types.items }
-        ensures leads { LeadsTo (store_of (I.meaning self.now.interner) self.now.inner) var.0 result.0 }
+        ensures leads { LeadsTo (store_of (I.meaning self.now.interner) self.now.inner) type_var var.0 result.0 }
         ensures root { IsRoot (store_of (I.meaning self.now.interner) self.now.inner) result.0 }
     {
         let mut at = var.0;
@@ -102,9 +102,9 @@ impl<I: Interner> RefCtxt<I> {
         requires made { var.0 < length self.now.inner.types.items }
         ensures bound { let st = store_of (I.meaning self.now.interner) self.now.inner in
             let m = I.meaning self.now.interner in
-            IfSome result (λ t. (n : ℕ) × LeadsTo st var.0 n × (entry_of st type_var n ≡ bound_to (m.ty t))) }
+            IfSome result (λ t. (n : ℕ) × LeadsTo st type_var var.0 n × (entry_of st type_var n ≡ bound_to (m.ty t))) }
         ensures unbound { let st = store_of (I.meaning self.now.interner) self.now.inner in
-            IfNone result ((n : ℕ) × LeadsTo st var.0 n × (entry_of st type_var n ≡ unbound)) }
+            IfNone result ((n : ℕ) × LeadsTo st type_var var.0 n × (entry_of st type_var n ≡ unbound)) }
     {
         let root = self.root_ty_var(var);
         match self.probe(root.0) {

@@ -40,6 +40,10 @@ returns-then-eq-clause-keeps g c = λ w s sat one. (
   ),
 )
 
+pub returns-then-eq-clause-later : goal.returns-then-eq-clause-later
+returns-then-eq-clause-later g c =
+    later_itself (store_of (g.I.Interner.meaning c.args.self.now.interner) c.args.self.now.inner)
+
 pub returns-then-eq-clause-bound : goal.returns-then-eq-clause-bound
 returns-then-eq-clause-bound g c =
     let st = store_of (g.I.Interner.meaning c.args.self.now.interner) c.args.self.now.inner in

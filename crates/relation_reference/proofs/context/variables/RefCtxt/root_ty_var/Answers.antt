@@ -1,7 +1,7 @@
 use Rattle.std.proofs.Common.{refl, sym}
 use Rattle.relation_terms.specs.Heads.{type_var}
 use Rattle.relation_reference.specs.Tables.{store_of}
-use Rattle.relation_reference.specs.Answers.{here}
+use Rattle.type_relations.specs.Steps.{here}
 use Rattle.relation_reference.proofs.Reading.{leads_on, leads_made, table_of_made}
 use Rattle.relation_reference.proofs.context.variables.RefCtxt.root_ty_var.Goals as goal
 
