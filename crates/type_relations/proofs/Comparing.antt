@@ -30,9 +30,9 @@ use Rattle.relation_tools.specs.declared.error.TypeError.TheVariants.{TupleSize,
 use Rattle.relation_tools.specs.declared.error.RelateFault.{RelateFault}
 use Rattle.relation_tools.specs.declared.error.RelateFault.TheVariants.{Unrelated}
 use Rattle.relation_tools.specs.Faults.{KnowsError, KnowsFault}
-use Rattle.type_relations.specs.Relation.{plain_atom}
+use Rattle.type_relations.specs.Relation.{plain_atom, IsError}
 use Rattle.type_relations.specs.Stores.{Store}
-use Rattle.type_relations.specs.Errors.{AreOfOneForm, over_parts, one_leaf, AreAlike, AreAlikeLeaves, AreAlikeConsts, AreOfOneValue, one_value, as_many_branches, IsNoVariable}
+use Rattle.type_relations.specs.Errors.{AreOfOneForm, over_parts, one_leaf, AreAlike, AreAlikeLeaves, AreAlikeConsts, AreOfOneValue, one_value, as_many_branches, IsVariableFor, AreBindable, HaveNoError}
 use Rattle.type_relations.specs.Errors.{FormError, mutability, pointer_mutability, tuple_size, empty_tuple, as_many, sorts}
 use Rattle.type_relations.specs.Errors.{ConstFormError, const_mismatch, operations}
 use Rattle.type_relations.specs.Outcomes.{NoEqualTerms}
@@ -47,11 +47,36 @@ use Rattle.type_relations.specs.declared.relate.forms.ItemForm.TheVariants.{Coro
 use Rattle.type_relations.specs.declared.relate.forms.ItemTy.{ItemTy}
 use Rattle.type_relations.proofs.OneParts.{lists_apart, count_applied}
 
-pub formed_no_variable : (t : Tree) → IsFormed t → IsNoVariable t
-formed_no_variable t h k n e = subst IsFormed e h
+formed_no_variable : (t u : Tree) → IsFormed t → IsVariableFor t u → ⊥
+formed_no_variable (leaf (variable k n)) u h e = h
+formed_no_variable (leaf (bound k d i)) u h e = e
+formed_no_variable (leaf (placeholder k w n)) u h e = e
+formed_no_variable (leaf (atom x)) u h e = e
+formed_no_variable (leaf unknown) u h e = e
+formed_no_variable (node h ts) u f e = e
+formed_no_variable (bind ks t) u h e = e
+formed_no_variable nil u h e = e
+formed_no_variable (cons t ts) u h e = e
 
-pub formed_const_no_variable : (t : Tree) → IsFormedConst t → IsNoVariable t
-formed_const_no_variable t h k n e = subst IsFormedConst e h
+formed_const_no_variable : (t u : Tree) → IsFormedConst t → IsVariableFor t u → ⊥
+formed_const_no_variable (leaf (variable k n)) u h e = h
+formed_const_no_variable (leaf (bound k d i)) u h e = e
+formed_const_no_variable (leaf (placeholder k w n)) u h e = e
+formed_const_no_variable (leaf (atom x)) u h e = e
+formed_const_no_variable (leaf unknown) u h e = e
+formed_const_no_variable (node h ts) u f e = e
+formed_const_no_variable (bind ks t) u h e = e
+formed_const_no_variable nil u h e = e
+formed_const_no_variable (cons t ts) u h e = e
+
+-- Forms are no variables.
+pub formed_not_bindable : (t u : Tree) → IsFormed t → IsFormed u → AreBindable t u → ⊥
+formed_not_bindable t u f g (inl e) = formed_no_variable t u f e
+formed_not_bindable t u f g (inr e) = formed_no_variable u t g e
+
+pub formed_consts_not_bindable : (t u : Tree) → IsFormedConst t → IsFormedConst u → AreBindable t u → ⊥
+formed_consts_not_bindable t u f g (inl e) = formed_const_no_variable t u f e
+formed_consts_not_bindable t u f g (inr e) = formed_const_no_variable u t g e
 
 -- Value trees with branches that are of one form have as many.
 pub branches_counted : (v w ts us : Tree) → v ≡ node value_branch ts → w ≡ node value_branch us → AreOfOneValue v w → count ts ≡ count us
@@ -230,31 +255,36 @@ module _ {Key Id Name : Type 0} (m : Meaning Key Id Name) where
       go CoroutineForm t = refl
       go WitnessForm t = refl
 
+  -- No type of a form is an error.
+  no_error : (l : TyKind Key Id Name) → IsError (kind_tree m l) → ⊥
+  no_error (Infer (TyVar v)) h = h
+  no_error l h = h
+
   -- The error of two types that are of unlike forms.
-  unlike_as : (x y : TyKey Key) (t u : Tree) (e : TypeError Key Id Name) → m.ty x ≡ t → m.ty y ≡ u → (AreAlike t u → ⊥) → e ≡ Sorts (record { expected = x; found = y }) → FormError m x y e
-  unlike_as x y t u e p q o is = subst (FormError m x y) (sym is) (sorts (λ a. o (subst (λ z. AreAlike z u) p (subst (AreAlike (m.ty x)) q a))))
+  unlike_as : (x y : TyKey Key) (t u : Tree) (e : TypeError Key Id Name) → m.ty x ≡ t → m.ty y ≡ u → HaveNoError t u → (AreAlike t u → ⊥) → e ≡ Sorts (record { expected = x; found = y }) → FormError m x y e
+  unlike_as x y t u e p q n o is = subst (FormError m x y) (sym is) (sorts (subst₂ HaveNoError (sym p) (sym q) n) (λ a. o (subst (λ z. AreAlike z u) p (subst (AreAlike (m.ty x)) q a))))
 
   module _ (l : TyKind Key Id Name) (x y : TyKey Key) (e : TypeError Key Id Name) (q : m.ty y ≡ kind_tree m l) (is : e ≡ Sorts (record { expected = x; found = y })) where
     pub unlike_slice : (k : TyKey Key) → m.ty x ≡ kind_tree {Name = Name} m (Slice k) → ((z : TyKey Key) → l ≡ Slice z → ⊥) → FormError m x y e
-    unlike_slice k p o = unlike_as x y (node slice (cons (m.ty k) nil)) (kind_tree m l) e p q (λ a. alike_slice (cons (m.ty k) nil) l a o) is
+    unlike_slice k p o = unlike_as x y (node slice (cons (m.ty k) nil)) (kind_tree m l) e p q ((λ z. z), no_error l) (λ a. alike_slice (cons (m.ty k) nil) l a o) is
 
     pub unlike_array : (k : TyKey Key) (c : ConstKey Key) → m.ty x ≡ kind_tree {Name = Name} m (Array k c) → ((z : TyKey Key) (d : ConstKey Key) → l ≡ Array z d → ⊥) → FormError m x y e
-    unlike_array k c p o = unlike_as x y (node array (cons (m.ty k) (cons (m.const_ c) nil))) (kind_tree m l) e p q (λ a. alike_array (cons (m.ty k) (cons (m.const_ c) nil)) l a o) is
+    unlike_array k c p o = unlike_as x y (node array (cons (m.ty k) (cons (m.const_ c) nil))) (kind_tree m l) e p q ((λ z. z), no_error l) (λ a. alike_array (cons (m.ty k) (cons (m.const_ c) nil)) l a o) is
 
     pub unlike_tuple : (k : TysKey Key) → m.ty x ≡ kind_tree {Name = Name} m (Tuple k) → ((z : TysKey Key) → l ≡ Tuple z → ⊥) → FormError m x y e
-    unlike_tuple k p o = unlike_as x y (node tuple (m.tys k)) (kind_tree m l) e p q (λ a. alike_tuple (m.tys k) l a o) is
+    unlike_tuple k p o = unlike_as x y (node tuple (m.tys k)) (kind_tree m l) e p q ((λ z. z), no_error l) (λ a. alike_tuple (m.tys k) l a o) is
 
     pub unlike_raw : (k : TyKey Key) (u : Mutability) → m.ty x ≡ kind_tree {Name = Name} m (RawPtr k u) → ((z : TyKey Key) (v : Mutability) → l ≡ RawPtr z v → ⊥) → FormError m x y e
-    unlike_raw k u p o = unlike_as x y (node (raw_ptr u) (cons (m.ty k) nil)) (kind_tree m l) e p q (λ a. alike_raw u (cons (m.ty k) nil) l a o) is
+    unlike_raw k u p o = unlike_as x y (node (raw_ptr u) (cons (m.ty k) nil)) (kind_tree m l) e p q ((λ z. z), no_error l) (λ a. alike_raw u (cons (m.ty k) nil) l a o) is
 
     pub unlike_ref : (r : RegionKey Key) (k : TyKey Key) (u : Mutability) → m.ty x ≡ kind_tree {Name = Name} m (Ref r k u) → ((s : RegionKey Key) (z : TyKey Key) (v : Mutability) → l ≡ Ref s z v → ⊥) → FormError m x y e
-    unlike_ref r k u p o = unlike_as x y (node (ref u) (cons (m.region r) (cons (m.ty k) nil))) (kind_tree m l) e p q (λ a. alike_ref u (cons (m.region r) (cons (m.ty k) nil)) l a o) is
+    unlike_ref r k u p o = unlike_as x y (node (ref u) (cons (m.region r) (cons (m.ty k) nil))) (kind_tree m l) e p q ((λ z. z), no_error l) (λ a. alike_ref u (cons (m.region r) (cons (m.ty k) nil)) l a o) is
 
     pub unlike_param : (k : ParamTy Name) → m.ty x ≡ kind_tree m (TyParam k) → ((z : ParamTy Name) → l ≡ TyParam z → k.index ≡ z.index → ⊥) → FormError m x y e
-    unlike_param k p o = unlike_as x y (leaf (atom (type_param k.index (m.name k.name)))) (kind_tree m l) e p q (λ a. alike_param k.index (m.name k.name) l a o) is
+    unlike_param k p o = unlike_as x y (leaf (atom (type_param k.index (m.name k.name)))) (kind_tree m l) e p q ((λ z. z), no_error l) (λ a. alike_param k.index (m.name k.name) l a o) is
 
     pub unlike_item : (t : ItemTy Key Id) → m.ty x ≡ kind_tree {Name = Name} m (item_kind t) → IsNoItem l → FormError m x y e
-    unlike_item t p o = unlike_as x y (node (item_head t.form (m.id t.def_id)) (m.args t.args)) (kind_tree m l) e (p ∙ item_tree t) q (alike_item t.form (m.id t.def_id) (m.args t.args) l o) is
+    unlike_item t p o = unlike_as x y (node (item_head t.form (m.id t.def_id)) (m.args t.args)) (kind_tree m l) e (p ∙ item_tree t) q ((λ z. z), no_error l) (alike_item t.form (m.id t.def_id) (m.args t.args) l o) is
 
   -- The first is a type without parts, and no parameter.
   abbrev IsAlone : TyKind Key Id Name → Type 0
@@ -278,12 +308,12 @@ module _ {Key Id Name : Type 0} (m : Meaning Key Id Name) where
   alone_kind (CoroutineWitness q z) i a b c d e f = absurd i
   alone_kind k i a b c d e f = (_, refl, tt)
 
-  pub unlike_alone : (k : TyKind Key Id Name) (x y : TyKey Key) (e : TypeError Key Id Name) → m.ty x ≡ kind_tree m k → m.ty x ≢ m.ty y → e ≡ Sorts (record { expected = x; found = y })
+  pub unlike_alone : (k other : TyKind Key Id Name) (x y : TyKey Key) (e : TypeError Key Id Name) → m.ty x ≡ kind_tree m k → m.ty y ≡ kind_tree m other → m.ty x ≢ m.ty y → e ≡ Sorts (record { expected = x; found = y })
       → IsNoItem k → ((x : TyKey Key) → k ≡ Slice x → ⊥) → ((x : TyKey Key) (c : ConstKey Key) → k ≡ Array x c → ⊥) → ((x : TysKey Key) → k ≡ Tuple x → ⊥)
       → ((x : TyKey Key) (u : Mutability) → k ≡ RawPtr x u → ⊥) → ((r : RegionKey Key) (x : TyKey Key) (u : Mutability) → k ≡ Ref r x u → ⊥) → ((p : ParamTy Name) → k ≡ TyParam p → ⊥) → FormError m x y e
-  unlike_alone k x y e p differ is i a b c d f g =
+  unlike_alone k other x y e p w differ is i a b c d f g =
       let (l, q, plain) = alone_kind k i a b c d f g in
-      unlike_as x y (leaf l) (m.ty y) e (p ∙ q) refl (λ h. differ (p ∙ q ∙ alone l (m.ty y) plain h)) is
+      unlike_as x y (leaf l) (m.ty y) e (p ∙ q) refl ((λ h. no_error k (subst IsError (sym q) h)), (λ h. no_error other (subst IsError w h))) (λ h. differ (p ∙ q ∙ alone l (m.ty y) plain h)) is
 
   -- Where the two are one, they are of one form without parts.
   pub one_alone : (k : TyKind Key Id Name) (a b : Tree) → a ≡ kind_tree m k → a ≡ b → IsNoItem k → ((x : TyKey Key) → k ≡ Slice x → ⊥) → ((x : TyKey Key) (c : ConstKey Key) → k ≡ Array x c → ⊥) → ((x : TysKey Key) → k ≡ Tuple x → ⊥)
@@ -310,7 +340,7 @@ module _ {Key Id Name : Type 0} (m : Meaning Key Id Name) where
   pub items_error : (s t : ItemTy Key Id) (x y : TyKey Key) (e : TypeError Key Id Name) → m.ty x ≡ kind_tree {Name = Name} m (item_kind s) → m.ty y ≡ kind_tree {Name = Name} m (item_kind t)
       → (s.form ≡ t.form → m.id s.def_id ≡ m.id t.def_id → ⊥) → e ≡ Sorts (record { expected = x; found = y }) → FormError m x y e
   items_error s t x y e p q o is =
-      unlike_as x y (node (item_head s.form (m.id s.def_id)) (m.args s.args)) (node (item_head t.form (m.id t.def_id)) (m.args t.args)) e (p ∙ item_tree s) (q ∙ item_tree t)
+      unlike_as x y (node (item_head s.form (m.id s.def_id)) (m.args s.args)) (node (item_head t.form (m.id t.def_id)) (m.args t.args)) e (p ∙ item_tree s) (q ∙ item_tree t) ((λ z. z), (λ z. z))
       (λ a. let h = alike_items s.form t.form (m.id s.def_id) (m.id t.def_id) (m.args s.args) (m.args t.args) a in o h.0 h.1) is
 
   item_no_tuple : (f : ItemForm) (n : ℕ) → item_head f n ≢ tuple
@@ -370,7 +400,7 @@ module _ {Key Id Name : Type 0} (m : Meaning Key Id Name) where
   form_apart st x y e f g s t (tuple_size {ts} {us} p q i j differ) = lists_apart st tuple tuple ts us (m.ty x) (m.ty y) p q (list_of tuple type_sort ts (m.ty x) p s) (list_of tuple type_sort us (m.ty y) q t) differ
   form_apart st x y e f g s t (empty_tuple {ts} {us} p q differ o) = lists_apart st tuple tuple ts us (m.ty x) (m.ty y) p q (list_of tuple type_sort ts (m.ty x) p s) (list_of tuple type_sort us (m.ty y) q t) differ
   form_apart st x y e f g s t (as_many {h} {ts} {us} p q o differ) = lists_apart st h h ts us (m.ty x) (m.ty y) p q (list_of h type_sort ts (m.ty x) p s) (list_of h type_sort us (m.ty y) q t) differ
-  form_apart st x y e f g s t (sorts o) = λ w a sat z. o (alike_applied a (m.ty x) (m.ty y) f g z)
+  form_apart st x y e f g s t (sorts n o) = λ w a sat z. o (alike_applied a (m.ty x) (m.ty y) f g z)
 
   pub known_error : (x y : TyKey Key) (e : TypeError Key Id Name) → IsTrue (known (m.ty x)) → IsTrue (known (m.ty y)) → FormError m x y e → KnowsError m e
   known_error x y e a b (mutability p q o) = tt
@@ -378,7 +408,7 @@ module _ {Key Id Name : Type 0} (m : Meaning Key Id Name) where
   known_error x y e a b (tuple_size p q i j o) = tt
   known_error x y e a b (empty_tuple p q o i) = (a, b)
   known_error x y e a b (as_many p q o i) = (a, b)
-  known_error x y e a b (sorts o) = (a, b)
+  known_error x y e a b (sorts n o) = (a, b)
 
   pub form_known : {X : Type 0} (x y : TyKey Key) (e : TypeError Key Id Name) → IsTrue (known (m.ty x)) → IsTrue (known (m.ty y)) → FormError m x y e
       → (r : Result X (RelateFault Key Id Name)) → IsErr r × IsErrAnd r (λ f. f ≡ Unrelated e) → IfErr r (KnowsFault m)
@@ -395,9 +425,15 @@ module _ {Key Id Name : Type 0} (m : Meaning Key Id Name) where
       go (Value t v) = tt
       go (Expr x a) = tt
 
+  no_const_error : (l : ConstKind Key Name) → IsError (const_tree m l) → ⊥
+  no_const_error (ConstParam p) h = h
+  no_const_error (ConstPlaceholder p) h = h
+  no_const_error (Value t v) h = h
+  no_const_error (Expr x a) h = h
+
   -- The error of two constants that are of unlike forms.
-  unlike_consts_as : (x y : ConstKey Key) (t u : Tree) (e : TypeError Key Id Name) → m.const_ x ≡ t → m.const_ y ≡ u → (AreAlikeConsts t u → ⊥) → e ≡ ConstMismatch (record { expected = x; found = y }) → ConstFormError m x y e
-  unlike_consts_as x y t u e p q o is = subst (ConstFormError m x y) (sym is) (const_mismatch (λ a. o (subst (λ z. AreAlikeConsts z u) p (subst (AreAlikeConsts (m.const_ x)) q a))))
+  unlike_consts_as : (x y : ConstKey Key) (t u : Tree) (e : TypeError Key Id Name) → m.const_ x ≡ t → m.const_ y ≡ u → HaveNoError t u → (AreAlikeConsts t u → ⊥) → e ≡ ConstMismatch (record { expected = x; found = y }) → ConstFormError m x y e
+  unlike_consts_as x y t u e p q n o is = subst (ConstFormError m x y) (sym is) (const_mismatch (subst₂ HaveNoError (sym p) (sym q) n) (λ a. o (subst (λ z. AreAlikeConsts z u) p (subst (AreAlikeConsts (m.const_ x)) q a))))
 
   abbrev pub IsUnlikeConst : ConstKind Key Name → ConstKind Key Name → Type 0
   IsUnlikeConst (ConstParam p) (ConstParam q) = p.index ≢ q.index
@@ -415,7 +451,7 @@ module _ {Key Id Name : Type 0} (m : Meaning Key Id Name) where
   unlike_const_trees k l o a = first_of (cc, search a)
 
   pub unlike_const : (k l : ConstKind Key Name) (x y : ConstKey Key) (e : TypeError Key Id Name) → m.const_ x ≡ const_tree m k → m.const_ y ≡ const_tree m l → IsUnlikeConst k l → e ≡ ConstMismatch (record { expected = x; found = y }) → ConstFormError m x y e
-  unlike_const k l x y e p q o is = unlike_consts_as x y (const_tree m k) (const_tree m l) e p q (unlike_const_trees k l o) is
+  unlike_const k l x y e p q o is = unlike_consts_as x y (const_tree m k) (const_tree m l) e p q (no_const_error k, no_const_error l) (unlike_const_trees k l o) is
 
   pub param_const : (p : ParamConst Name) (l : ConstKind Key Name) → ((q : ParamConst Name) → l ≡ ConstParam q → p.index ≡ q.index → ⊥) → IsUnlikeConst (ConstParam p) l
   param_const p (ConstParam q) o = o q refl
@@ -464,12 +500,12 @@ module _ {Key Id Name : Type 0} (m : Meaning Key Id Name) where
   alike_consts_applied s (node h ts) b f g p q e = absurd f
 
   pub const_form_apart : (st : Store) (x y : ConstKey Key) (e : TypeError Key Id Name) → IsFormedConst (m.const_ x) → IsFormedConst (m.const_ y) → IsTerm const_sort (m.const_ x) → IsTerm const_sort (m.const_ y) → ConstFormError m x y e → NoEqualTerms st (m.const_ x) (m.const_ y)
-  const_form_apart st x y e f g s t (const_mismatch o) = λ w a sat z. o (alike_consts_applied a (m.const_ x) (m.const_ y) f g s t z)
+  const_form_apart st x y e f g s t (const_mismatch n o) = λ w a sat z. o (alike_consts_applied a (m.const_ x) (m.const_ y) f g s t z)
   const_form_apart st x y e f g s t (operations {k} {l} {ts} {us} p q (inl d)) = λ w a sat z. d (let h = sym (ap (apply a) p) ∙ z ∙ ap (apply a) q in cc)
   const_form_apart st x y e f g s t (operations {k} {l} {ts} {us} p q (inr d)) = lists_apart st (expression k) (expression l) ts us (m.const_ x) (m.const_ y) p q (list_of (expression k) const_sort ts (m.const_ x) p s) (list_of (expression l) const_sort us (m.const_ y) q t) d
 
   pub known_const_error : (x y : ConstKey Key) (e : TypeError Key Id Name) → IsTrue (known (m.const_ x)) → IsTrue (known (m.const_ y)) → ConstFormError m x y e → KnowsError m e
-  known_const_error x y e a b (const_mismatch o) = (a, b)
+  known_const_error x y e a b (const_mismatch n o) = (a, b)
   known_const_error x y e a b (operations p q o) = tt
 
   pub const_form_known : {X : Type 0} (x y : ConstKey Key) (e : TypeError Key Id Name) → IsTrue (known (m.const_ x)) → IsTrue (known (m.const_ y)) → ConstFormError m x y e

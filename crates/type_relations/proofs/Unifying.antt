@@ -260,14 +260,14 @@ module _ {Key Id Name : Type 0} (m : Meaning Key Id Name) where
   forms_not_unified s x y e f g k l (as_many {h} {ts} {us} p q o differ) z =
       differ (unified_counts s h ts us (m.ty x) (m.ty y) (no_value_type h (subst IsFormed p f)) p q
       (list_of h type_sort ts (m.ty x) p k) (list_of h type_sort us (m.ty y) q l) z)
-  forms_not_unified s x y e f g k l (sorts o) z = o (alike_unified s (m.ty x) (m.ty y) f g z)
+  forms_not_unified s x y e f g k l (sorts n o) z = o (alike_unified s (m.ty x) (m.ty y) f g z)
 
   -- Nor are first-order constants.
   pub const_forms_not_unified : (s : Assign) (x y : ConstKey Key) (e : TypeError Key Id Name) →
       IsFormedConst (m.const_ x) → IsFormedConst (m.const_ y) → IsTerm const_sort (m.const_ x) →
       IsTerm const_sort (m.const_ y) → IsFirstOrder (m.const_ x) → ConstFormError m x y e →
       Unifies s (m.const_ x) (m.const_ y) → ⊥
-  const_forms_not_unified s x y e f g k l h (const_mismatch o) z =
+  const_forms_not_unified s x y e f g k l h (const_mismatch n o) z =
       o (alike_consts_unified s (m.const_ x) (m.const_ y) f g k l z)
   const_forms_not_unified s x y e f g k l h (operations {k = op} {ts = ts} p q d) z =
       absurd (let n : IsFirstOrder (node (expression op) ts) = subst IsFirstOrder p h in n.0)

@@ -4,16 +4,18 @@ use Rattle.relation_terms.specs.declared.terms.enums.Variance.{Variance}
 use Rattle.relation_terms.specs.declared.terms.enums.Variance.TheVariants.{Bivariant}
 use Rattle.relation_terms.specs.declared.terms.keys.TyKey.{TyKey}
 use Rattle.relation_terms.specs.declared.terms.keys.ConstKey.{ConstKey}
-use Rattle.relation_terms.specs.Heads.{const_sort, VarKind, type_var, Atom, Head, array, tuple, raw_ptr, ref}
-use Rattle.relation_terms.specs.Heads.{expression, value, value_type, value_branch, Leaf, variable, atom}
-use Rattle.relation_terms.specs.Trees.{Tree, leaf, node, nil, cons, apply, count, nth, Occurs}
+use Rattle.relation_terms.specs.Heads.{const_sort, region_sort, VarKind, type_var, const_var, BoundKind, bound_sort}
+use Rattle.relation_terms.specs.Heads.{Atom, Head, array, tuple, raw_ptr, ref, alias}
+use Rattle.relation_terms.specs.Heads.{expression, value, value_type, value_branch, Leaf, variable, bound, placeholder}
+use Rattle.relation_terms.specs.Heads.{atom, unknown}
+use Rattle.relation_terms.specs.Trees.{Tree, leaf, node, bind, nil, cons, apply, count, nth, Occurs}
 use Rattle.relation_terms.specs.Meaning.{Meaning}
 use Rattle.relation_tools.specs.declared.error.ExpectedFound.{ExpectedFound}
 use Rattle.relation_tools.specs.declared.error.TypeError.{TypeError}
 use Rattle.relation_tools.specs.declared.error.TypeError.TheVariants.{Mismatch, Mutability, TupleSize, ArraySize}
-use Rattle.relation_tools.specs.declared.error.TypeError.TheVariants.{Sorts, CyclicTy, ConstMismatch}
-use Rattle.type_relations.specs.Relation.{Items, plain_atom, sort_of, part_at}
-use Rattle.type_relations.specs.Stores.{Store, bound_term, resolved}
+use Rattle.relation_tools.specs.declared.error.TypeError.TheVariants.{Sorts, CyclicTy, CyclicConst, ConstMismatch}
+use Rattle.type_relations.specs.Relation.{Items, plain_atom, sort_of, part_at, IsError}
+use Rattle.type_relations.specs.Stores.{Store, bound_term, resolved, universe_of, MayStandFor}
 
 -- Two forms without parts that are one but for a parameter's name.
 abbrev pub AreAlikeLeaves : Leaf → Leaf → Type 0
@@ -66,12 +68,37 @@ IsHandedOn (ConstMismatch p) array t u = sort_of t ≡ const_sort → sort_of u 
 IsHandedOn e h t u = Unit {0}
 
 -- The variable stands in the term, which is not the variable itself.
-abbrev pub IsCycle : ℕ → Tree → Type 0
-IsCycle n t = Occurs type_var n t × (t ≢ leaf (variable type_var n))
+abbrev pub IsCycle : VarKind → ℕ → Tree → Type 0
+IsCycle k n t = Occurs k n t × (t ≢ leaf (variable k n))
 
--- No variable of any kind.
-abbrev pub IsNoVariable : Tree → Type 0
-IsNoVariable t = (k : VarKind) (n : ℕ) → t ≢ leaf (variable k n)
+-- The leaf stands in the term, outside the aliases in it.
+abbrev pub StandsOutside : Leaf → Tree → Type 0
+StandsOutside l (leaf k) = k ≡ l
+StandsOutside l (node (alias k d) ts) = ⊥
+StandsOutside l (node h ts) = StandsOutside l ts
+StandsOutside l (bind ks t) = StandsOutside l t
+StandsOutside l nil = ⊥
+StandsOutside l (cons t ts) = StandsOutside l t ⊎ StandsOutside l ts
+
+-- The first of two terms is a variable that may be bound to the second: of a kind for which that may stand.
+abbrev pub IsVariableFor : Tree → Tree → Type 0
+IsVariableFor (leaf (variable k n)) u = MayStandFor k u
+IsVariableFor (leaf (bound k d i)) u = ⊥
+IsVariableFor (leaf (placeholder k w n)) u = ⊥
+IsVariableFor (leaf (atom x)) u = ⊥
+IsVariableFor (leaf unknown) u = ⊥
+IsVariableFor (node h ts) u = ⊥
+IsVariableFor (bind ks t) u = ⊥
+IsVariableFor nil u = ⊥
+IsVariableFor (cons t ts) u = ⊥
+
+-- One of two terms is a variable that may be bound to the other.
+abbrev pub AreBindable : Tree → Tree → Type 0
+AreBindable t u = IsVariableFor t u ⊎ IsVariableFor u t
+
+-- Neither of two terms stands for an error.
+abbrev pub HaveNoError : Tree → Tree → Type 0
+HaveNoError t u = (IsError t → ⊥) × (IsError u → ⊥)
 
 -- By the entries of a store a type is read as another: itself, or what a variable's entry is read as.
 pub data IsReadAs (st : Store) : Tree → Tree → Type 0 where
@@ -92,24 +119,38 @@ module _ {Key Id Name : Type 0} (m : Meaning Key Id Name) where
         (count ts ≡ zero) ⊎ (count us ≡ zero) → FormError x y (Sorts (record { expected = x; found = y }))
     as_many : {h : Head} {ts us : Tree} → m.ty x ≡ node h ts → m.ty y ≡ node h us → h ≢ tuple →
         count ts ≢ count us → FormError x y (Sorts (record { expected = x; found = y }))
-    sorts : (AreAlike (m.ty x) (m.ty y) → ⊥) → FormError x y (Sorts (record { expected = x; found = y }))
+    sorts : HaveNoError (m.ty x) (m.ty y) → (AreAlike (m.ty x) (m.ty y) → ⊥) →
+        FormError x y (Sorts (record { expected = x; found = y }))
 
   -- The outermost forms of two constants differ, and the error that says how.
   pub data ConstFormError (x y : ConstKey Key) : TypeError Key Id Name → Type 0 where
-    const_mismatch : (AreAlikeConsts (m.const_ x) (m.const_ y) → ⊥) →
+    const_mismatch : HaveNoError (m.const_ x) (m.const_ y) → (AreAlikeConsts (m.const_ x) (m.const_ y) → ⊥) →
         ConstFormError x y (ConstMismatch (record { expected = x; found = y }))
     operations : {k l : ℕ} {ts us : Tree} → m.const_ x ≡ node (expression k) ts → m.const_ y ≡ node (expression l) us →
         (k ≢ l) ⊎ (count ts ≢ count us) → ConstFormError x y Mismatch
 
+  -- A variable can't be bound to a term, and the error that says why: it stands in what the term comes to; or there
+  -- stands a placeholder of a type or a constant that is of a universe beyond the variable's.
+  pub data BindingError (st : Store) (a b : Tree) (e : TypeError Key Id Name) : Type 0 where
+    cyclic_ty : (n : ℕ) (k : TyKey Key) → a ≡ leaf (variable type_var n) → m.ty k ≡ apply (resolved st) b →
+        IsCycle type_var n (m.ty k) → e ≡ CyclicTy k → BindingError st a b e
+    cyclic_const : (n : ℕ) (k : ConstKey Key) → a ≡ leaf (variable const_var n) →
+        m.const_ k ≡ apply (resolved st) b → IsCycle const_var n (m.const_ k) → e ≡ CyclicConst k →
+        BindingError st a b e
+    beyond : (k : VarKind) (n : ℕ) (q : BoundKind) (u i : ℕ) → a ≡ leaf (variable k n) →
+        StandsOutside (placeholder q u i) (apply (resolved st) b) → bound_sort q ≢ region_sort →
+        universe_of st k n < u → e ≡ Mismatch → BindingError st a b e
+
   -- The error comes of a pair that is met when two terms are related at a variance that is not bivariance: of two types
   -- or constants, as read, that differ in form; of what they are read as by what is recorded; of two arguments of
   -- different kinds; of two parts at one place of one form, at the variance of that place, as the whole's error; or of a
-  -- variable that stands in what the other type comes to.
+  -- variable that can't be bound to the other side. Two terms of which one is a variable that may be bound to the other
+  -- do not differ in form.
   pub data ErrorOf (c : Items) (st : Store) : Variance → TypeError Key Id Name → Tree → Tree → Type 0 where
     of_forms : {v : Variance} {e : _} {a b : Tree} (x y : TyKey Key) → v ≢ Bivariant → m.ty x ≡ a → m.ty y ≡ b →
-        IsNoVariable a → IsNoVariable b → FormError x y e → ErrorOf c st v e a b
+        (AreBindable a b → ⊥) → FormError x y e → ErrorOf c st v e a b
     of_const_forms : {v : Variance} {e : _} {a b : Tree} (x y : ConstKey Key) → v ≢ Bivariant → m.const_ x ≡ a →
-        m.const_ y ≡ b → IsNoVariable a → IsNoVariable b → ConstFormError x y e → ErrorOf c st v e a b
+        m.const_ y ≡ b → (AreBindable a b → ⊥) → ConstFormError x y e → ErrorOf c st v e a b
     of_kinds : {v : Variance} {a b : Tree} → v ≢ Bivariant → sort_of a ≢ sort_of b → ErrorOf c st v Mismatch a b
     of_entries : {v : Variance} {e : _} {a b t u : Tree} → IsReadAs st a t → IsReadAs st b u → ErrorOf c st v e t u →
         ErrorOf c st v e a b
@@ -125,9 +166,6 @@ module _ {Key Id Name : Type 0} (m : Meaning Key Id Name) where
         m.const_ y ≡ node value (cons u (cons (node value_branch us) nil)) → count ts ≡ count us → i < count ts →
         ErrorOf c st (part_at c value_branch i v) e (nth i ts) (nth i us) →
         ErrorOf c st v (ConstMismatch (record { expected = x; found = y })) (m.const_ x) (m.const_ y)
-    of_cycle : {v : Variance} {e : _} {a b : Tree} (n : ℕ) (k : TyKey Key) → v ≢ Bivariant →
-        a ≡ leaf (variable type_var n) → m.ty k ≡ apply (resolved st) b → IsCycle n (m.ty k) → e ≡ CyclicTy k →
-        ErrorOf c st v e a b
-    of_cycle_back : {v : Variance} {e : _} {a b : Tree} (n : ℕ) (k : TyKey Key) → v ≢ Bivariant →
-        b ≡ leaf (variable type_var n) → m.ty k ≡ apply (resolved st) a → IsCycle n (m.ty k) → e ≡ CyclicTy k →
+    of_binding : {v : Variance} {e : _} {a b : Tree} → v ≢ Bivariant → BindingError st a b e → ErrorOf c st v e a b
+    of_binding_back : {v : Variance} {e : _} {a b : Tree} → v ≢ Bivariant → BindingError st b a e →
         ErrorOf c st v e a b
