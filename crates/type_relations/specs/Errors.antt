@@ -1,11 +1,19 @@
 -- Which error comes of relating two terms.
-use Rattle.std.specs.Prelude.{◌≡◌, ◌≢◌, ◌⊎◌, ℕ, zero, ◌<◌, Some}
+use Rattle.std.specs.Prelude.{◌≡◌, ◌≢◌, ◌⊎◌, ℕ, zero, suc, ◌<◌, Bool, Some}
 use Rattle.relation_terms.specs.declared.terms.enums.Variance.{Variance}
 use Rattle.relation_terms.specs.declared.terms.enums.Variance.TheVariants.{Bivariant}
+use Rattle.relation_terms.specs.declared.terms.enums.Safety.{Safety}
+use Rattle.relation_terms.specs.declared.terms.enums.ExternAbi.{ExternAbi}
 use Rattle.relation_terms.specs.declared.terms.keys.TyKey.{TyKey}
 use Rattle.relation_terms.specs.declared.terms.keys.ConstKey.{ConstKey}
 use Rattle.relation_terms.specs.Heads.{const_sort, region_sort, VarKind, type_var, const_var, BoundKind, bound_sort}
 use Rattle.relation_terms.specs.Heads.{Atom, Head, array, tuple, raw_ptr, ref, alias}
+use Rattle.relation_terms.specs.Heads.{adt, fn_def, closure, coroutine_closure, coroutine, coroutine_witness, slice}
+use Rattle.relation_terms.specs.Heads.{pattern_type, unsafe_binder, dynamic, fn_ptr, signature, inputs, unevaluated}
+use Rattle.relation_terms.specs.Heads.{range_pattern, or_pattern, arguments, object, existential_trait}
+use Rattle.relation_terms.specs.Heads.{existential_projection, trait_ref, trait_clause, host_effect, subtype}
+use Rattle.relation_terms.specs.Heads.{alias_term, region_outlives, type_outlives, projection, const_has_type}
+use Rattle.relation_terms.specs.Heads.{well_formed, const_evaluatable, coerce, normalizes_to, alias_relate, environment}
 use Rattle.relation_terms.specs.Heads.{expression, value, value_type, value_branch, Leaf, variable, bound, placeholder}
 use Rattle.relation_terms.specs.Heads.{atom, unknown}
 use Rattle.relation_terms.specs.Trees.{Tree, leaf, node, bind, nil, cons, apply, count, nth, Occurs}
@@ -14,6 +22,7 @@ use Rattle.relation_tools.specs.declared.error.ExpectedFound.{ExpectedFound}
 use Rattle.relation_tools.specs.declared.error.TypeError.{TypeError}
 use Rattle.relation_tools.specs.declared.error.TypeError.TheVariants.{Mismatch, Mutability, TupleSize, ArraySize}
 use Rattle.relation_tools.specs.declared.error.TypeError.TheVariants.{Sorts, CyclicTy, CyclicConst, ConstMismatch}
+use Rattle.relation_tools.specs.declared.error.TypeError.TheVariants.{ArgumentSorts, ArgumentMutability}
 use Rattle.type_relations.specs.Relation.{Items, plain_atom, sort_of, part_at, IsError}
 use Rattle.type_relations.specs.Stores.{Store, bound_term, resolved, universe_of, MayStandFor}
 
@@ -58,14 +67,71 @@ AreAlikeConsts (node (expression k) ts) (node (expression l) us) = Unit {0}
 AreAlikeConsts (node value (cons t (cons v nil))) (node value (cons u (cons w nil))) = AreOfOneValue v w
 AreAlikeConsts t u = ⊥
 
--- An error of two parts is the whole's error too. Not so of the lengths of two arrays, where constants that differ are
--- sizes that differ, and of what values are made of, where the whole values differ.
-abbrev pub IsHandedOn : {Key Id Name : Type 0} → TypeError Key Id Name → Head → Tree → Tree → Type 0
-IsHandedOn e value t u = ⊥
-IsHandedOn e value_type t u = ⊥
-IsHandedOn e value_branch t u = ⊥
-IsHandedOn (ConstMismatch p) array t u = sort_of t ≡ const_sort → sort_of u ≡ const_sort → ⊥
-IsHandedOn e h t u = Unit {0}
+-- No error of the lengths of two arrays, as which constants that differ are sizes that differ.
+abbrev pub IsNoLengths : {Key Id Name : Type 0} → TypeError Key Id Name → Tree → Tree → Type 0
+IsNoLengths e t u = (p : ExpectedFound (ConstKey _)) → e ≡ ConstMismatch p → sort_of t ≡ const_sort →
+    sort_of u ≡ const_sort → ⊥
+
+-- An error of two parts of a function's signature, and the same with the place of these parts.
+pub data IsPlaced {Key Id Name : Type 0} (i : ℕ) (e f : TypeError Key Id Name) : Type 0 where
+  sorts_at : (p : ExpectedFound (TyKey Key)) → e ≡ Sorts p → f ≡ ArgumentSorts p i → IsPlaced i e f
+  argument_sorts_at : (p : ExpectedFound (TyKey Key)) (j : ℕ) → e ≡ ArgumentSorts p j → f ≡ ArgumentSorts p i →
+      IsPlaced i e f
+  mutability_at : e ≡ Mutability → f ≡ ArgumentMutability i → IsPlaced i e f
+  argument_mutability_at : (j : ℕ) → e ≡ ArgumentMutability j → f ≡ ArgumentMutability i → IsPlaced i e f
+
+-- An error of parts of a signature that does not name their place.
+abbrev pub NamesNoPlace : {Key Id Name : Type 0} → TypeError Key Id Name → Type 0
+NamesNoPlace e = (f : TypeError _ _ _) → IsPlaced 0 e f → ⊥
+
+-- An error of two parts at a place is the whole's error too. Not so of the lengths of two arrays; of a function's inputs
+-- and its output, whose place is named; and of what values are made of, where the whole values differ.
+abbrev pub IsHandedOn : {Key Id Name : Type 0} → TypeError Key Id Name → Head → ℕ → Tree → Tree → Type 0
+IsHandedOn e (adt d) i t u = Unit {0}
+IsHandedOn e (fn_def d) i t u = Unit {0}
+IsHandedOn e (closure d) i t u = Unit {0}
+IsHandedOn e (coroutine_closure d) i t u = Unit {0}
+IsHandedOn e (coroutine d) i t u = Unit {0}
+IsHandedOn e (coroutine_witness d) i t u = Unit {0}
+IsHandedOn e array i t u = IsNoLengths e t u
+IsHandedOn e slice i t u = Unit {0}
+IsHandedOn e pattern_type i t u = Unit {0}
+IsHandedOn e tuple i t u = Unit {0}
+IsHandedOn e unsafe_binder i t u = Unit {0}
+IsHandedOn e dynamic i t u = Unit {0}
+IsHandedOn e fn_ptr i t u = Unit {0}
+IsHandedOn e (raw_ptr x) i t u = Unit {0}
+IsHandedOn e (ref x) i t u = Unit {0}
+IsHandedOn e (alias k d) i t u = Unit {0}
+IsHandedOn e (signature x s y) zero t u = Unit {0}
+IsHandedOn e (signature x s y) (suc i) t u = NamesNoPlace e
+IsHandedOn e inputs i t u = NamesNoPlace e
+IsHandedOn e (unevaluated d) i t u = Unit {0}
+IsHandedOn e (expression k) i t u = Unit {0}
+IsHandedOn e value i t u = ⊥
+IsHandedOn e value_type i t u = ⊥
+IsHandedOn e value_branch i t u = ⊥
+IsHandedOn e range_pattern i t u = Unit {0}
+IsHandedOn e or_pattern i t u = Unit {0}
+IsHandedOn e arguments i t u = Unit {0}
+IsHandedOn e object i t u = Unit {0}
+IsHandedOn e (existential_trait d) i t u = Unit {0}
+IsHandedOn e (existential_projection d) i t u = Unit {0}
+IsHandedOn e (trait_ref d) i t u = Unit {0}
+IsHandedOn e (trait_clause p) i t u = Unit {0}
+IsHandedOn e (host_effect z) i t u = Unit {0}
+IsHandedOn e (subtype x) i t u = Unit {0}
+IsHandedOn e (alias_term k d) i t u = Unit {0}
+IsHandedOn e region_outlives i t u = Unit {0}
+IsHandedOn e type_outlives i t u = Unit {0}
+IsHandedOn e projection i t u = Unit {0}
+IsHandedOn e const_has_type i t u = Unit {0}
+IsHandedOn e well_formed i t u = Unit {0}
+IsHandedOn e const_evaluatable i t u = Unit {0}
+IsHandedOn e coerce i t u = Unit {0}
+IsHandedOn e normalizes_to i t u = Unit {0}
+IsHandedOn e (alias_relate d) i t u = Unit {0}
+IsHandedOn e environment i t u = Unit {0}
 
 -- The variable stands in the term, which is not the variable itself.
 abbrev pub IsCycle : VarKind → ℕ → Tree → Type 0
@@ -155,12 +221,19 @@ module _ {Key Id Name : Type 0} (m : Meaning Key Id Name) where
     of_entries : {v : Variance} {e : _} {a b t u : Tree} → IsReadAs st a t → IsReadAs st b u → ErrorOf c st v e t u →
         ErrorOf c st v e a b
     of_parts : {v : Variance} {e : _} {h : Head} {a b ts us : Tree} (i : ℕ) → a ≡ node h ts → b ≡ node h us →
-        count ts ≡ count us → i < count ts → IsHandedOn e h (nth i ts) (nth i us) →
+        count ts ≡ count us → i < count ts → IsHandedOn e h i (nth i ts) (nth i us) →
         ErrorOf c st (part_at c h i v) e (nth i ts) (nth i us) → ErrorOf c st v e a b
     of_length : {v : Variance} {p : ExpectedFound (ConstKey Key)} {a b ts us : Tree} (x y : ConstKey Key) (i : ℕ) →
         a ≡ node array ts → b ≡ node array us → count ts ≡ count us → i < count ts → nth i ts ≡ m.const_ x →
         nth i us ≡ m.const_ y → ErrorOf c st (part_at c array i v) (ConstMismatch p) (nth i ts) (nth i us) →
         ErrorOf c st v (ArraySize (record { expected = x; found = y })) a b
+    of_inputs : {v : Variance} {e f : _} {a b ts us : Tree} (i : ℕ) → a ≡ node inputs ts → b ≡ node inputs us →
+        count ts ≡ count us → i < count ts → ErrorOf c st (part_at c inputs i v) e (nth i ts) (nth i us) →
+        IsPlaced i e f → ErrorOf c st v f a b
+    of_outputs : {v : Variance} {e f : _} {x y : Bool} {s t : Safety} {k l : ExternAbi} {a b p q o r : Tree} →
+        a ≡ node (signature x s k) (cons (node inputs p) (cons o nil)) →
+        b ≡ node (signature y t l) (cons (node inputs q) (cons r nil)) → count p ≡ count q →
+        ErrorOf c st (part_at c (signature x s k) 1 v) e o r → IsPlaced (count p) e f → ErrorOf c st v f a b
     of_branches : {v : Variance} {e : _} {t u ts us : Tree} (x y : ConstKey Key) (i : ℕ) →
         m.const_ x ≡ node value (cons t (cons (node value_branch ts) nil)) →
         m.const_ y ≡ node value (cons u (cons (node value_branch us) nil)) → count ts ≡ count us → i < count ts →
