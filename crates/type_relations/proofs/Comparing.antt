@@ -3,7 +3,7 @@ use Rattle.std.proofs.Common.{◌≡◌, ◌≢◌, ◌⊎◌, ℕ, zero, suc, �
 use Rattle.std.specs.Result.{IsErr, IsErrAnd}
 use Rattle.std.proofs.lemmas.Bool.{false≢true}
 use Rattle.relation_terms.specs.Heads.{Head, Sort, Part, Shape, one, row, head_parts, Admits, type_sort, const_sort, value_sort, VarKind, var_sort, type_var, int_var, float_var, const_var, region_var}
-use Rattle.relation_terms.specs.Heads.{array, slice, tuple, raw_ptr, ref, expression, value, value_branch, Atom, type_param, const_param}
+use Rattle.relation_terms.specs.Heads.{array, slice, tuple, raw_ptr, ref, unevaluated, expression, value, value_branch, Atom, type_param, const_param}
 use Rattle.relation_terms.specs.Heads.{Leaf, atom, variable, bound, placeholder, unknown}
 use Rattle.relation_terms.specs.Trees.{Tree, leaf, node, bind, nil, cons, Assign, apply, IsTerm, Fits, IsList, count, known}
 use Rattle.relation_terms.specs.Meaning.{Meaning, kind_tree, const_tree}
@@ -32,7 +32,8 @@ use Rattle.relation_tools.specs.declared.error.RelateFault.TheVariants.{Unrelate
 use Rattle.relation_tools.specs.Faults.{KnowsError, KnowsFault}
 use Rattle.type_relations.specs.Relation.{plain_atom, IsError}
 use Rattle.type_relations.specs.Stores.{Store}
-use Rattle.type_relations.specs.Errors.{AreOfOneForm, over_parts, one_leaf, AreAlike, AreAlikeLeaves, AreAlikeConsts, AreOfOneValue, one_value, as_many_branches, IsVariableFor, AreBindable, HaveNoError}
+use Rattle.type_relations.specs.Errors.{AreOfOneForm, over_parts, one_leaf, AreAlike, AreAlikeLeaves, AreAlikeConsts, AreOfOneValue, one_value, as_many_branches, IsVariableFor, AreBindable, HaveNoError, outer_head}
+use Rattle.type_relations.specs.Errors.{alike_leaves, of_one_item, both_expressions, both_values, unlike_aliases}
 use Rattle.type_relations.specs.Errors.{FormError, mutability, pointer_mutability, tuple_size, empty_tuple, as_many, sorts}
 use Rattle.type_relations.specs.Errors.{ConstFormError, const_mismatch, operations}
 use Rattle.type_relations.specs.Outcomes.{NoEqualTerms}
@@ -187,38 +188,62 @@ IsPlainLeaf (atom x) = IsNoParam x
 IsPlainLeaf l = Unit {0}
 
 leaves_alone : (x y : Leaf) → IsPlainLeaf x → AreAlikeLeaves x y → x ≡ y
-leaves_alone (atom x) (atom y) p a = ap atom (plain_alone x y p a)
+leaves_alone (atom x) (atom y) p a = (let e : plain_atom x ≡ plain_atom y = cc in ap atom (plain_alone x y p e))
+leaves_alone (atom x) y p a = absurd (cc)
+leaves_alone x (atom y) p a = absurd (cc)
 leaves_alone x y p a = a
 
 alone : (x : Leaf) (t : Tree) → IsPlainLeaf x → AreAlike (leaf x) t → leaf x ≡ t
-alone x (leaf y) p a = ap leaf (leaves_alone x y p a)
-alone x t p a = absurd a
+alone x (leaf y) p a = (let e : AreAlikeLeaves x y = cc in ap leaf (leaves_alone x y p e))
+alone x t p a = absurd (cc)
+
+-- Constants of one outermost form, by their forms.
+abbrev pub ConstsAlike : Tree → Tree → Type 0
+ConstsAlike (leaf x) (leaf y) = AreAlikeLeaves x y
+ConstsAlike (node (unevaluated d) ts) (node (unevaluated e) us) = d ≡ e
+ConstsAlike (node (expression k) ts) (node (expression l) us) = Unit {0}
+ConstsAlike (node value (cons t (cons v nil))) (node value (cons u (cons w nil))) = AreOfOneValue v w
+ConstsAlike t u = ⊥
+
+by_forms : (t u : Tree) → AreAlikeConsts t u → ConstsAlike t u
+by_forms t u (alike_leaves d e a) = subst₂ ConstsAlike (sym d) (sym e) a
+by_forms t u (of_one_item d e) = subst₂ ConstsAlike (sym d) (sym e) refl
+by_forms t u (both_expressions d e) = subst₂ ConstsAlike (sym d) (sym e) tt
+by_forms t u (both_values d e o) = subst₂ ConstsAlike (sym d) (sym e) o
+
+pub of_forms_alike : (t u : Tree) → ConstsAlike t u → AreAlikeConsts t u
+of_forms_alike (leaf x) (leaf y) a = alike_leaves refl refl a
+of_forms_alike (node (unevaluated d) ts) (node (unevaluated e) us) a =
+    of_one_item refl (ap (λ z. node (unevaluated z) us) (sym a))
+of_forms_alike (node (expression k) ts) (node (expression l) us) a = both_expressions refl refl
+of_forms_alike (node value (cons t (cons v nil))) (node value (cons u (cons w nil))) a = both_values refl refl a
+of_forms_alike t u a = absurd a
 
 module _ {Key Id Name : Type 0} (m : Meaning Key Id Name) where
   -- What a type that is alike to one of a form is.
   alike_slice : (ts : Tree) (l : TyKind Key Id Name) → AreAlike (node slice ts) (kind_tree m l) → ((y : TyKey Key) → l ≡ Slice y → ⊥) → ⊥
   alike_slice ts (Slice y) a o = o y refl
-  alike_slice ts (Infer (TyVar v)) a o = a
+  alike_slice ts (Infer (TyVar v)) a o = cc
   alike_slice ts l a o = first_of (cc, search a)
 
   alike_array : (ts : Tree) (l : TyKind Key Id Name) → AreAlike (node array ts) (kind_tree m l) → ((y : TyKey Key) (d : ConstKey Key) → l ≡ Array y d → ⊥) → ⊥
   alike_array ts (Array y d) a o = o y d refl
-  alike_array ts (Infer (TyVar v)) a o = a
+  alike_array ts (Infer (TyVar v)) a o = cc
   alike_array ts l a o = first_of (cc, search a)
 
   alike_tuple : (ts : Tree) (l : TyKind Key Id Name) → AreAlike (node tuple ts) (kind_tree m l) → ((y : TysKey Key) → l ≡ Tuple y → ⊥) → ⊥
   alike_tuple ts (Tuple y) a o = o y refl
-  alike_tuple ts (Infer (TyVar v)) a o = a
+  alike_tuple ts (Infer (TyVar v)) a o = cc
   alike_tuple ts l a o = first_of (cc, search a)
 
   alike_raw : (u : Mutability) (ts : Tree) (l : TyKind Key Id Name) → AreAlike (node (raw_ptr u) ts) (kind_tree m l) → ((y : TyKey Key) (v : Mutability) → l ≡ RawPtr y v → ⊥) → ⊥
   alike_raw u ts (RawPtr y v) a o = o y v refl
-  alike_raw u ts (Infer (TyVar v)) a o = a
+  alike_raw u ts (Infer (TyVar v)) a o = cc
   alike_raw u ts l a o = first_of (cc, search a)
 
   alike_ref : (u : Mutability) (ts : Tree) (l : TyKind Key Id Name) → AreAlike (node (ref u) ts) (kind_tree m l) → ((q : RegionKey Key) (y : TyKey Key) (v : Mutability) → l ≡ Ref q y v → ⊥) → ⊥
   alike_ref u ts (Ref q y v) a o = o q y v refl
-  alike_ref u ts (Infer (TyVar v)) a o = a
+  alike_ref u ts (Infer (TyVar v)) a o = cc
   alike_ref u ts l a o = first_of (cc, search a)
 
   alike_param : (i n : ℕ) (l : TyKind Key Id Name) → AreAlike (leaf (atom (type_param i n))) (kind_tree m l) → ((q : ParamTy Name) → l ≡ TyParam q → i ≡ q.index → ⊥) → ⊥
@@ -227,13 +252,13 @@ module _ {Key Id Name : Type 0} (m : Meaning Key Id Name) where
   alike_param i n l a o = first_of (cc, search a)
 
   alike_item : (f : ItemForm) (n : ℕ) (ts : Tree) (l : TyKind Key Id Name) → IsNoItem l → AreAlike (node (item_head f n) ts) (kind_tree m l) → ⊥
-  alike_item AdtForm n ts (Infer (TyVar v)) o a = a
-  alike_item FnDefForm n ts (Infer (TyVar v)) o a = a
-  alike_item ClosureForm n ts (Infer (TyVar v)) o a = a
-  alike_item AsyncForm n ts (Infer (TyVar v)) o a = a
-  alike_item CoroutineForm n ts (Infer (TyVar v)) o a = a
-  alike_item WitnessForm n ts (Infer (TyVar v)) o a = a
-  alike_item f n ts l o a = first_of (cc, search a, search o)
+  alike_item AdtForm n ts (Infer (TyVar v)) o a = cc
+  alike_item FnDefForm n ts (Infer (TyVar v)) o a = cc
+  alike_item ClosureForm n ts (Infer (TyVar v)) o a = cc
+  alike_item AsyncForm n ts (Infer (TyVar v)) o a = cc
+  alike_item CoroutineForm n ts (Infer (TyVar v)) o a = cc
+  alike_item WitnessForm n ts (Infer (TyVar v)) o a = cc
+  alike_item f n ts l o a = first_of (cc, search o)
 
   pub alike_items : (f g : ItemForm) (n k : ℕ) (ts us : Tree) → AreAlike (node (item_head f n) ts) (node (item_head g k) us) → (f ≡ g) × (n ≡ k)
   alike_items AdtForm AdtForm n k ts us a = (refl, (cc))
@@ -364,15 +389,10 @@ module _ {Key Id Name : Type 0} (m : Meaning Key Id Name) where
 
   -- Where the forms differ no assignment makes the types one.
   alike_heads : (h k : Head) (ts us : Tree) → h ≡ k → AreAlike (node h ts) (node k us)
-  alike_heads h k ts us e = subst (λ z. AreAlike (node h ts) (node z us)) e (go h)
-    where
-      go : (h : Head) → AreAlike (node h ts) (node h us)
-      go (ref u) = tt
-      go (raw_ptr u) = tt
-      go h = refl
+  alike_heads h k ts us e = ap (λ z. node (outer_head z) nil) e
 
   alike_applied : (s : Assign) (a b : Tree) → IsFormed a → IsFormed b → apply s a ≡ apply s b → AreAlike a b
-  alike_applied s (leaf (atom x)) (leaf (atom y)) f g e = (let z : x ≡ y = cc in ap plain_atom z)
+  alike_applied s (leaf (atom x)) (leaf (atom y)) f g e = (let z : x ≡ y = cc in ap (λ z. leaf (atom (plain_atom z))) z)
   alike_applied s (leaf (atom x)) (leaf (placeholder k u n)) f g e = absurd (cc)
   alike_applied s (leaf (atom x)) (node k us) f g e = absurd (cc)
   alike_applied s (leaf (placeholder k u n)) (leaf (atom y)) f g e = absurd (cc)
@@ -400,6 +420,7 @@ module _ {Key Id Name : Type 0} (m : Meaning Key Id Name) where
   form_apart st x y e f g s t (tuple_size {ts} {us} p q i j differ) = lists_apart st tuple tuple ts us (m.ty x) (m.ty y) p q (list_of tuple type_sort ts (m.ty x) p s) (list_of tuple type_sort us (m.ty y) q t) differ
   form_apart st x y e f g s t (empty_tuple {ts} {us} p q differ o) = lists_apart st tuple tuple ts us (m.ty x) (m.ty y) p q (list_of tuple type_sort ts (m.ty x) p s) (list_of tuple type_sort us (m.ty y) q t) differ
   form_apart st x y e f g s t (as_many {h} {ts} {us} p q o differ) = lists_apart st h h ts us (m.ty x) (m.ty y) p q (list_of h type_sort ts (m.ty x) p s) (list_of h type_sort us (m.ty y) q t) differ
+  form_apart st x y e f g s t (unlike_aliases {ts} {us} i j p q differ) = λ w a sat z. differ (let h = sym (ap (apply a) p) ∙ z ∙ ap (apply a) q in cc)
   form_apart st x y e f g s t (sorts n o) = λ w a sat z. o (alike_applied a (m.ty x) (m.ty y) f g z)
 
   pub known_error : (x y : TyKey Key) (e : TypeError Key Id Name) → IsTrue (known (m.ty x)) → IsTrue (known (m.ty y)) → FormError m x y e → KnowsError m e
@@ -408,6 +429,7 @@ module _ {Key Id Name : Type 0} (m : Meaning Key Id Name) where
   known_error x y e a b (tuple_size p q i j o) = tt
   known_error x y e a b (empty_tuple p q o i) = (a, b)
   known_error x y e a b (as_many p q o i) = (a, b)
+  known_error x y e a b (unlike_aliases c d p q o) = tt
   known_error x y e a b (sorts n o) = (a, b)
 
   pub form_known : {X : Type 0} (x y : TyKey Key) (e : TypeError Key Id Name) → IsTrue (known (m.ty x)) → IsTrue (known (m.ty y)) → FormError m x y e
@@ -432,8 +454,8 @@ module _ {Key Id Name : Type 0} (m : Meaning Key Id Name) where
   no_const_error (Expr x a) h = h
 
   -- The error of two constants that are of unlike forms.
-  unlike_consts_as : (x y : ConstKey Key) (t u : Tree) (e : TypeError Key Id Name) → m.const_ x ≡ t → m.const_ y ≡ u → HaveNoError t u → (AreAlikeConsts t u → ⊥) → e ≡ ConstMismatch (record { expected = x; found = y }) → ConstFormError m x y e
-  unlike_consts_as x y t u e p q n o is = subst (ConstFormError m x y) (sym is) (const_mismatch (subst₂ HaveNoError (sym p) (sym q) n) (λ a. o (subst (λ z. AreAlikeConsts z u) p (subst (AreAlikeConsts (m.const_ x)) q a))))
+  unlike_consts_as : (x y : ConstKey Key) (t u : Tree) (e : TypeError Key Id Name) → m.const_ x ≡ t → m.const_ y ≡ u → HaveNoError t u → (ConstsAlike t u → ⊥) → e ≡ ConstMismatch (record { expected = x; found = y }) → ConstFormError m x y e
+  unlike_consts_as x y t u e p q n o is = subst (ConstFormError m x y) (sym is) (const_mismatch (subst₂ HaveNoError (sym p) (sym q) n) (λ a. o (by_forms t u (subst (λ z. AreAlikeConsts z u) p (subst (AreAlikeConsts (m.const_ x)) q a)))))
 
   abbrev pub IsUnlikeConst : ConstKind Key Name → ConstKind Key Name → Type 0
   IsUnlikeConst (ConstParam p) (ConstParam q) = p.index ≢ q.index
@@ -442,7 +464,7 @@ module _ {Key Id Name : Type 0} (m : Meaning Key Id Name) where
   IsUnlikeConst (Expr x a) (Expr y b) = ⊥
   IsUnlikeConst k l = Unit {0}
 
-  unlike_const_trees : (k l : ConstKind Key Name) → IsUnlikeConst k l → AreAlikeConsts (const_tree m k) (const_tree m l) → ⊥
+  unlike_const_trees : (k l : ConstKind Key Name) → IsUnlikeConst k l → ConstsAlike (const_tree m k) (const_tree m l) → ⊥
   unlike_const_trees (ConstParam p) (ConstParam q) o a = o (cc)
   unlike_const_trees (ConstPlaceholder p) (ConstPlaceholder q) o a = o (ap leaf a)
   unlike_const_trees (ConstPlaceholder p) l o a = first_of (cc, search a)
@@ -465,8 +487,8 @@ module _ {Key Id Name : Type 0} (m : Meaning Key Id Name) where
   expr_const k a (Expr j b) o = o j b refl
   expr_const k a l o = tt
 
-  alike_consts_applied : (s : Assign) (a b : Tree) → IsFormedConst a → IsFormedConst b → IsTerm const_sort a → IsTerm const_sort b → apply s a ≡ apply s b → AreAlikeConsts a b
-  alike_consts_applied s (leaf (atom x)) (leaf (atom y)) f g p q e = (let z : x ≡ y = cc in ap plain_atom z)
+  alike_consts_applied : (s : Assign) (a b : Tree) → IsFormedConst a → IsFormedConst b → IsTerm const_sort a → IsTerm const_sort b → apply s a ≡ apply s b → ConstsAlike a b
+  alike_consts_applied s (leaf (atom x)) (leaf (atom y)) f g p q e = (let z : x ≡ y = cc in ap (λ z. atom (plain_atom z)) z)
   alike_consts_applied s (leaf (placeholder k u n)) (leaf (placeholder l v i)) f g p q e = cc
   alike_consts_applied s (leaf (atom x)) (leaf (placeholder l v i)) f g p q e = absurd (cc)
   alike_consts_applied s (leaf (placeholder k u n)) (leaf (atom y)) f g p q e = absurd (cc)
@@ -482,7 +504,7 @@ module _ {Key Id Name : Type 0} (m : Meaning Key Id Name) where
       let (u, w, c, k) = value_shape us q.1 in
       let z : apply s (node value (cons t (cons v nil))) ≡ apply s (node value (cons u (cons w nil))) = ap (λ z. apply s (node value z)) (sym d) ∙ e ∙ ap (λ z. apply s (node value z)) c in
       let y : apply s v ≡ apply s w = cc in
-      subst₂ (λ i j. AreAlikeConsts (node value i) (node value j)) (sym d) (sym c) (value_applied s v w h k y)
+      subst₂ (λ i j. ConstsAlike (node value i) (node value j)) (sym d) (sym c) (value_applied s v w h k y)
   alike_consts_applied s (leaf (variable v n)) b f g p q e = absurd f
   alike_consts_applied s (leaf (bound v d i)) b f g p q e = absurd f
   alike_consts_applied s (leaf unknown) b f g p q e = absurd f
@@ -500,7 +522,7 @@ module _ {Key Id Name : Type 0} (m : Meaning Key Id Name) where
   alike_consts_applied s (node h ts) b f g p q e = absurd f
 
   pub const_form_apart : (st : Store) (x y : ConstKey Key) (e : TypeError Key Id Name) → IsFormedConst (m.const_ x) → IsFormedConst (m.const_ y) → IsTerm const_sort (m.const_ x) → IsTerm const_sort (m.const_ y) → ConstFormError m x y e → NoEqualTerms st (m.const_ x) (m.const_ y)
-  const_form_apart st x y e f g s t (const_mismatch n o) = λ w a sat z. o (alike_consts_applied a (m.const_ x) (m.const_ y) f g s t z)
+  const_form_apart st x y e f g s t (const_mismatch n o) = λ w a sat z. o (of_forms_alike (m.const_ x) (m.const_ y) (alike_consts_applied a (m.const_ x) (m.const_ y) f g s t z))
   const_form_apart st x y e f g s t (operations {k} {l} {ts} {us} p q (inl d)) = λ w a sat z. d (let h = sym (ap (apply a) p) ∙ z ∙ ap (apply a) q in cc)
   const_form_apart st x y e f g s t (operations {k} {l} {ts} {us} p q (inr d)) = lists_apart st (expression k) (expression l) ts us (m.const_ x) (m.const_ y) p q (list_of (expression k) const_sort ts (m.const_ x) p s) (list_of (expression l) const_sort us (m.const_ y) q t) d
 

@@ -2,12 +2,13 @@
 use Rattle.std.specs.Prelude.{◌≡◌, ◌≢◌, ◌⊎◌, ℕ, zero, suc, ◌<◌, Bool, Some}
 use Rattle.relation_terms.specs.declared.terms.enums.Variance.{Variance}
 use Rattle.relation_terms.specs.declared.terms.enums.Variance.TheVariants.{Bivariant}
+use Rattle.relation_terms.specs.declared.terms.enums.Mutability.TheVariants.{Not}
 use Rattle.relation_terms.specs.declared.terms.enums.Safety.{Safety}
 use Rattle.relation_terms.specs.declared.terms.enums.ExternAbi.{ExternAbi}
 use Rattle.relation_terms.specs.declared.terms.keys.TyKey.{TyKey}
 use Rattle.relation_terms.specs.declared.terms.keys.ConstKey.{ConstKey}
 use Rattle.relation_terms.specs.Heads.{const_sort, region_sort, VarKind, type_var, const_var, BoundKind, bound_sort}
-use Rattle.relation_terms.specs.Heads.{Atom, Head, array, tuple, raw_ptr, ref, alias}
+use Rattle.relation_terms.specs.Heads.{Atom, Head, array, tuple, raw_ptr, ref, AliasKind, projection_alias, alias}
 use Rattle.relation_terms.specs.Heads.{adt, fn_def, closure, coroutine_closure, coroutine, coroutine_witness, slice}
 use Rattle.relation_terms.specs.Heads.{pattern_type, unsafe_binder, dynamic, fn_ptr, signature, inputs, unevaluated}
 use Rattle.relation_terms.specs.Heads.{range_pattern, or_pattern, arguments, object, existential_trait}
@@ -22,22 +23,80 @@ use Rattle.relation_tools.specs.declared.error.ExpectedFound.{ExpectedFound}
 use Rattle.relation_tools.specs.declared.error.TypeError.{TypeError}
 use Rattle.relation_tools.specs.declared.error.TypeError.TheVariants.{Mismatch, Mutability, TupleSize, ArraySize}
 use Rattle.relation_tools.specs.declared.error.TypeError.TheVariants.{Sorts, CyclicTy, CyclicConst, ConstMismatch}
-use Rattle.relation_tools.specs.declared.error.TypeError.TheVariants.{ArgumentSorts, ArgumentMutability}
+use Rattle.relation_tools.specs.declared.error.TypeError.TheVariants.{ArgumentSorts, ArgumentMutability, ProjectionMismatched}
 use Rattle.type_relations.specs.Relation.{Items, plain_atom, sort_of, part_at, IsError}
 use Rattle.type_relations.specs.Stores.{Store, bound_term, resolved, universe_of, MayStandFor}
 
+-- A form without parts, but for what types and constants of one form may differ in: a parameter's name.
+abbrev pub outer_leaf : Leaf → Leaf
+outer_leaf (variable k n) = variable k n
+outer_leaf (bound k d i) = bound k d i
+outer_leaf (placeholder k w n) = placeholder k w n
+outer_leaf (atom x) = atom (plain_atom x)
+outer_leaf unknown = unknown
+
+-- A form over parts, but for what has an error of its own: mutability, and the item that an alias is of.
+abbrev pub outer_head : Head → Head
+outer_head (adt d) = adt d
+outer_head (fn_def d) = fn_def d
+outer_head (closure d) = closure d
+outer_head (coroutine_closure d) = coroutine_closure d
+outer_head (coroutine d) = coroutine d
+outer_head (coroutine_witness d) = coroutine_witness d
+outer_head array = array
+outer_head slice = slice
+outer_head pattern_type = pattern_type
+outer_head tuple = tuple
+outer_head unsafe_binder = unsafe_binder
+outer_head dynamic = dynamic
+outer_head fn_ptr = fn_ptr
+outer_head (raw_ptr u) = raw_ptr Not
+outer_head (ref u) = ref Not
+outer_head (alias k d) = alias projection_alias 0
+outer_head (signature x s y) = signature x s y
+outer_head inputs = inputs
+outer_head (unevaluated d) = unevaluated d
+outer_head (expression k) = expression k
+outer_head value = value
+outer_head value_type = value_type
+outer_head value_branch = value_branch
+outer_head range_pattern = range_pattern
+outer_head or_pattern = or_pattern
+outer_head arguments = arguments
+outer_head object = object
+outer_head (existential_trait d) = existential_trait d
+outer_head (existential_projection d) = existential_projection d
+outer_head (trait_ref d) = trait_ref d
+outer_head (trait_clause p) = trait_clause p
+outer_head (host_effect z) = host_effect z
+outer_head (subtype x) = subtype x
+outer_head (alias_term k d) = alias_term k d
+outer_head region_outlives = region_outlives
+outer_head type_outlives = type_outlives
+outer_head projection = projection
+outer_head const_has_type = const_has_type
+outer_head well_formed = well_formed
+outer_head const_evaluatable = const_evaluatable
+outer_head coerce = coerce
+outer_head normalizes_to = normalizes_to
+outer_head (alias_relate d) = alias_relate d
+outer_head environment = environment
+
+-- A tree's outermost form.
+abbrev pub outermost : Tree → Tree
+outermost (leaf x) = leaf (outer_leaf x)
+outermost (node h ts) = node (outer_head h) nil
+outermost (bind ks t) = bind ks nil
+outermost nil = nil
+outermost (cons t ts) = cons nil nil
+
 -- Two forms without parts that are one but for a parameter's name.
 abbrev pub AreAlikeLeaves : Leaf → Leaf → Type 0
-AreAlikeLeaves (atom x) (atom y) = plain_atom x ≡ plain_atom y
-AreAlikeLeaves x y = x ≡ y
+AreAlikeLeaves x y = outer_leaf x ≡ outer_leaf y
 
--- Two types are of one outermost form, whatever their parts, the number of these, and mutability.
+-- Two types are of one outermost form, whatever their parts, the number of these, mutability, and an alias's item.
 abbrev pub AreAlike : Tree → Tree → Type 0
-AreAlike (leaf x) (leaf y) = AreAlikeLeaves x y
-AreAlike (node (ref u) ts) (node (ref v) us) = Unit {0}
-AreAlike (node (raw_ptr u) ts) (node (raw_ptr v) us) = Unit {0}
-AreAlike (node h ts) (node k us) = h ≡ k
-AreAlike t u = ⊥
+AreAlike t u = outermost t ≡ outermost u
 
 -- Two types of one outermost form with as many parts; or one form without parts; or two parameters of one index.
 pub data AreOfOneForm (a b : Tree) : Type 0 where
@@ -61,11 +120,14 @@ pub data AreOfOneConst (a b : Tree) : Type 0 where
       AreOfOneConst a b
 
 -- Two constants are of one outermost form; of expressions the operations and the number of arguments may differ.
-abbrev pub AreAlikeConsts : Tree → Tree → Type 0
-AreAlikeConsts (leaf x) (leaf y) = AreAlikeLeaves x y
-AreAlikeConsts (node (expression k) ts) (node (expression l) us) = Unit {0}
-AreAlikeConsts (node value (cons t (cons v nil))) (node value (cons u (cons w nil))) = AreOfOneValue v w
-AreAlikeConsts t u = ⊥
+pub data AreAlikeConsts (t u : Tree) : Type 0 where
+  alike_leaves : {x y : Leaf} → t ≡ leaf x → u ≡ leaf y → AreAlikeLeaves x y → AreAlikeConsts t u
+  of_one_item : {d : ℕ} {ts us : Tree} → t ≡ node (unevaluated d) ts → u ≡ node (unevaluated d) us →
+      AreAlikeConsts t u
+  both_expressions : {k l : ℕ} {ts us : Tree} → t ≡ node (expression k) ts → u ≡ node (expression l) us →
+      AreAlikeConsts t u
+  both_values : {x y v w : Tree} → t ≡ node value (cons x (cons v nil)) → u ≡ node value (cons y (cons w nil)) →
+      AreOfOneValue v w → AreAlikeConsts t u
 
 -- No error of the lengths of two arrays, as which constants that differ are sizes that differ.
 abbrev pub IsNoLengths : {Key Id Name : Type 0} → TypeError Key Id Name → Tree → Tree → Type 0
@@ -185,6 +247,9 @@ module _ {Key Id Name : Type 0} (m : Meaning Key Id Name) where
         (count ts ≡ zero) ⊎ (count us ≡ zero) → FormError x y (Sorts (record { expected = x; found = y }))
     as_many : {h : Head} {ts us : Tree} → m.ty x ≡ node h ts → m.ty y ≡ node h us → h ≢ tuple →
         count ts ≢ count us → FormError x y (Sorts (record { expected = x; found = y }))
+    unlike_aliases : {k l : AliasKind} {ts us : Tree} (c d : Id) → m.ty x ≡ node (alias k (m.id c)) ts →
+        m.ty y ≡ node (alias l (m.id d)) us → m.id c ≢ m.id d →
+        FormError x y (ProjectionMismatched (record { expected = c; found = d }))
     sorts : HaveNoError (m.ty x) (m.ty y) → (AreAlike (m.ty x) (m.ty y) → ⊥) →
         FormError x y (Sorts (record { expected = x; found = y }))
 
