@@ -39,10 +39,10 @@ args_looked_at m (Adt d) = tt
 args_looked_at m (FnDef d) = tt
 
 pub args_handed_on : {Key Id Name : Type 0} (m : Meaning Key Id Name) (d : ArgVariances Id) (e : TypeError Key Id Name)
-    (t u : Tree) → IsHandedOn e (args_head m d) t u
-args_handed_on m Invariant e t u = tt
-args_handed_on m (Adt d) e t u = tt
-args_handed_on m (FnDef d) e t u = tt
+    (i : ℕ) (t u : Tree) → IsHandedOn e (args_head m d) i t u
+args_handed_on m Invariant e i t u = tt
+args_handed_on m (Adt d) e i t u = tt
+args_handed_on m (FnDef d) e i t u = tt
 
 module _ {Key Id Name : Type 0} {r q : State Key Id Name} (M : Manner) (v : Variance) (h : Head) (ts us : Tree) (i : ℕ)
     (f : Fronted M r q h v i ts us) (are : AreParts r.store ts us) (n : count ts ≡ count us) (looked : IsLookedAt h) where
@@ -83,12 +83,12 @@ module _ {Key Id Name : Type 0} {r q : State Key Id Name} (M : Manner) (v : Vari
 
   -- Two parts of two forms were refused, and so are the forms.
   module _ (x y : Tree) (lx : i < count ts) (ly : i < count us) (ex : x ≡ nth i ts) (ey : y ≡ nth i us)
-      (handed : (g : TypeError Key Id Name) → IsHandedOn g h x y) where
+      (handed : (g : TypeError Key Id Name) → IsHandedOn g h i x y) where
     refuses : {k : ℕ} {p : State Key Id Name} (l : Passes k q p) (e : RelateFault Key Id Name) →
         Refuses q p (part_at (items_in r) h i v) x y e → Refuses r p v (node h ts) (node h us) e
     refuses {p = p} l (Unrelated g) o = (
       types_never r.store v (node h ts) (node h us) one_form (fronted_never h v i ts us x y f lx ly ex ey are o.0),
-      of_parts i refl refl n lx (subst₂ (IsHandedOn g h) ex ey (handed g))
+      of_parts i refl refl n lx (subst₂ (IsHandedOn g h i) ex ey (handed g))
           (subst₂ (ErrorOf p.meaning (items_in p) p.store (part_at (items_in p) h i v) g) ex ey
           (subst (λ c. ErrorOf p.meaning (items_in p) p.store (part_at c h i v) g x y)
           (sym (same_items l ∙ same_items f.passes)) o.1)),

@@ -3,7 +3,7 @@ use Rattle.std.proofs.Common.{◌≡◌, ◌≢◌, ◌⊎◌, ℕ, zero, suc, �
 use Rattle.std.specs.Result.{IsErr, IsErrAnd}
 use Rattle.std.proofs.lemmas.Bool.{false≢true}
 use Rattle.relation_terms.specs.Heads.{Head, Sort, Part, Shape, one, row, head_parts, Admits, type_sort, const_sort, value_sort, VarKind, var_sort, type_var, int_var, float_var, const_var, region_var}
-use Rattle.relation_terms.specs.Heads.{array, slice, tuple, raw_ptr, ref, expression, value, value_branch, Atom, type_param, const_param}
+use Rattle.relation_terms.specs.Heads.{array, slice, tuple, raw_ptr, ref, unevaluated, expression, value, value_branch, Atom, type_param, const_param}
 use Rattle.relation_terms.specs.Heads.{Leaf, atom, variable, bound, placeholder, unknown}
 use Rattle.relation_terms.specs.Trees.{Tree, leaf, node, bind, nil, cons, Assign, apply, IsTerm, Fits, IsList, count, known}
 use Rattle.relation_terms.specs.Meaning.{Meaning, kind_tree, const_tree}
@@ -30,9 +30,10 @@ use Rattle.relation_tools.specs.declared.error.TypeError.TheVariants.{TupleSize,
 use Rattle.relation_tools.specs.declared.error.RelateFault.{RelateFault}
 use Rattle.relation_tools.specs.declared.error.RelateFault.TheVariants.{Unrelated}
 use Rattle.relation_tools.specs.Faults.{KnowsError, KnowsFault}
-use Rattle.type_relations.specs.Relation.{plain_atom}
+use Rattle.type_relations.specs.Relation.{plain_atom, IsError}
 use Rattle.type_relations.specs.Stores.{Store}
-use Rattle.type_relations.specs.Errors.{AreOfOneForm, over_parts, one_leaf, AreAlike, AreAlikeLeaves, AreAlikeConsts, AreOfOneValue, one_value, as_many_branches, IsNoVariable}
+use Rattle.type_relations.specs.Errors.{AreOfOneForm, over_parts, one_leaf, AreAlike, AreAlikeLeaves, AreAlikeConsts, AreOfOneValue, one_value, as_many_branches, IsVariableFor, AreBindable, HaveNoError, outer_head}
+use Rattle.type_relations.specs.Errors.{alike_leaves, of_one_item, both_expressions, both_values, unlike_aliases}
 use Rattle.type_relations.specs.Errors.{FormError, mutability, pointer_mutability, tuple_size, empty_tuple, as_many, sorts}
 use Rattle.type_relations.specs.Errors.{ConstFormError, const_mismatch, operations}
 use Rattle.type_relations.specs.Outcomes.{NoEqualTerms}
@@ -47,11 +48,36 @@ use Rattle.type_relations.specs.declared.relate.forms.ItemForm.TheVariants.{Coro
 use Rattle.type_relations.specs.declared.relate.forms.ItemTy.{ItemTy}
 use Rattle.type_relations.proofs.OneParts.{lists_apart, count_applied}
 
-pub formed_no_variable : (t : Tree) → IsFormed t → IsNoVariable t
-formed_no_variable t h k n e = subst IsFormed e h
+formed_no_variable : (t u : Tree) → IsFormed t → IsVariableFor t u → ⊥
+formed_no_variable (leaf (variable k n)) u h e = h
+formed_no_variable (leaf (bound k d i)) u h e = e
+formed_no_variable (leaf (placeholder k w n)) u h e = e
+formed_no_variable (leaf (atom x)) u h e = e
+formed_no_variable (leaf unknown) u h e = e
+formed_no_variable (node h ts) u f e = e
+formed_no_variable (bind ks t) u h e = e
+formed_no_variable nil u h e = e
+formed_no_variable (cons t ts) u h e = e
 
-pub formed_const_no_variable : (t : Tree) → IsFormedConst t → IsNoVariable t
-formed_const_no_variable t h k n e = subst IsFormedConst e h
+formed_const_no_variable : (t u : Tree) → IsFormedConst t → IsVariableFor t u → ⊥
+formed_const_no_variable (leaf (variable k n)) u h e = h
+formed_const_no_variable (leaf (bound k d i)) u h e = e
+formed_const_no_variable (leaf (placeholder k w n)) u h e = e
+formed_const_no_variable (leaf (atom x)) u h e = e
+formed_const_no_variable (leaf unknown) u h e = e
+formed_const_no_variable (node h ts) u f e = e
+formed_const_no_variable (bind ks t) u h e = e
+formed_const_no_variable nil u h e = e
+formed_const_no_variable (cons t ts) u h e = e
+
+-- Forms are no variables.
+pub formed_not_bindable : (t u : Tree) → IsFormed t → IsFormed u → AreBindable t u → ⊥
+formed_not_bindable t u f g (inl e) = formed_no_variable t u f e
+formed_not_bindable t u f g (inr e) = formed_no_variable u t g e
+
+pub formed_consts_not_bindable : (t u : Tree) → IsFormedConst t → IsFormedConst u → AreBindable t u → ⊥
+formed_consts_not_bindable t u f g (inl e) = formed_const_no_variable t u f e
+formed_consts_not_bindable t u f g (inr e) = formed_const_no_variable u t g e
 
 -- Value trees with branches that are of one form have as many.
 pub branches_counted : (v w ts us : Tree) → v ≡ node value_branch ts → w ≡ node value_branch us → AreOfOneValue v w → count ts ≡ count us
@@ -162,38 +188,62 @@ IsPlainLeaf (atom x) = IsNoParam x
 IsPlainLeaf l = Unit {0}
 
 leaves_alone : (x y : Leaf) → IsPlainLeaf x → AreAlikeLeaves x y → x ≡ y
-leaves_alone (atom x) (atom y) p a = ap atom (plain_alone x y p a)
+leaves_alone (atom x) (atom y) p a = (let e : plain_atom x ≡ plain_atom y = cc in ap atom (plain_alone x y p e))
+leaves_alone (atom x) y p a = absurd (cc)
+leaves_alone x (atom y) p a = absurd (cc)
 leaves_alone x y p a = a
 
 alone : (x : Leaf) (t : Tree) → IsPlainLeaf x → AreAlike (leaf x) t → leaf x ≡ t
-alone x (leaf y) p a = ap leaf (leaves_alone x y p a)
-alone x t p a = absurd a
+alone x (leaf y) p a = (let e : AreAlikeLeaves x y = cc in ap leaf (leaves_alone x y p e))
+alone x t p a = absurd (cc)
+
+-- Constants of one outermost form, by their forms.
+abbrev pub ConstsAlike : Tree → Tree → Type 0
+ConstsAlike (leaf x) (leaf y) = AreAlikeLeaves x y
+ConstsAlike (node (unevaluated d) ts) (node (unevaluated e) us) = d ≡ e
+ConstsAlike (node (expression k) ts) (node (expression l) us) = Unit {0}
+ConstsAlike (node value (cons t (cons v nil))) (node value (cons u (cons w nil))) = AreOfOneValue v w
+ConstsAlike t u = ⊥
+
+by_forms : (t u : Tree) → AreAlikeConsts t u → ConstsAlike t u
+by_forms t u (alike_leaves d e a) = subst₂ ConstsAlike (sym d) (sym e) a
+by_forms t u (of_one_item d e) = subst₂ ConstsAlike (sym d) (sym e) refl
+by_forms t u (both_expressions d e) = subst₂ ConstsAlike (sym d) (sym e) tt
+by_forms t u (both_values d e o) = subst₂ ConstsAlike (sym d) (sym e) o
+
+pub of_forms_alike : (t u : Tree) → ConstsAlike t u → AreAlikeConsts t u
+of_forms_alike (leaf x) (leaf y) a = alike_leaves refl refl a
+of_forms_alike (node (unevaluated d) ts) (node (unevaluated e) us) a =
+    of_one_item refl (ap (λ z. node (unevaluated z) us) (sym a))
+of_forms_alike (node (expression k) ts) (node (expression l) us) a = both_expressions refl refl
+of_forms_alike (node value (cons t (cons v nil))) (node value (cons u (cons w nil))) a = both_values refl refl a
+of_forms_alike t u a = absurd a
 
 module _ {Key Id Name : Type 0} (m : Meaning Key Id Name) where
   -- What a type that is alike to one of a form is.
   alike_slice : (ts : Tree) (l : TyKind Key Id Name) → AreAlike (node slice ts) (kind_tree m l) → ((y : TyKey Key) → l ≡ Slice y → ⊥) → ⊥
   alike_slice ts (Slice y) a o = o y refl
-  alike_slice ts (Infer (TyVar v)) a o = a
+  alike_slice ts (Infer (TyVar v)) a o = cc
   alike_slice ts l a o = first_of (cc, search a)
 
   alike_array : (ts : Tree) (l : TyKind Key Id Name) → AreAlike (node array ts) (kind_tree m l) → ((y : TyKey Key) (d : ConstKey Key) → l ≡ Array y d → ⊥) → ⊥
   alike_array ts (Array y d) a o = o y d refl
-  alike_array ts (Infer (TyVar v)) a o = a
+  alike_array ts (Infer (TyVar v)) a o = cc
   alike_array ts l a o = first_of (cc, search a)
 
   alike_tuple : (ts : Tree) (l : TyKind Key Id Name) → AreAlike (node tuple ts) (kind_tree m l) → ((y : TysKey Key) → l ≡ Tuple y → ⊥) → ⊥
   alike_tuple ts (Tuple y) a o = o y refl
-  alike_tuple ts (Infer (TyVar v)) a o = a
+  alike_tuple ts (Infer (TyVar v)) a o = cc
   alike_tuple ts l a o = first_of (cc, search a)
 
   alike_raw : (u : Mutability) (ts : Tree) (l : TyKind Key Id Name) → AreAlike (node (raw_ptr u) ts) (kind_tree m l) → ((y : TyKey Key) (v : Mutability) → l ≡ RawPtr y v → ⊥) → ⊥
   alike_raw u ts (RawPtr y v) a o = o y v refl
-  alike_raw u ts (Infer (TyVar v)) a o = a
+  alike_raw u ts (Infer (TyVar v)) a o = cc
   alike_raw u ts l a o = first_of (cc, search a)
 
   alike_ref : (u : Mutability) (ts : Tree) (l : TyKind Key Id Name) → AreAlike (node (ref u) ts) (kind_tree m l) → ((q : RegionKey Key) (y : TyKey Key) (v : Mutability) → l ≡ Ref q y v → ⊥) → ⊥
   alike_ref u ts (Ref q y v) a o = o q y v refl
-  alike_ref u ts (Infer (TyVar v)) a o = a
+  alike_ref u ts (Infer (TyVar v)) a o = cc
   alike_ref u ts l a o = first_of (cc, search a)
 
   alike_param : (i n : ℕ) (l : TyKind Key Id Name) → AreAlike (leaf (atom (type_param i n))) (kind_tree m l) → ((q : ParamTy Name) → l ≡ TyParam q → i ≡ q.index → ⊥) → ⊥
@@ -202,13 +252,13 @@ module _ {Key Id Name : Type 0} (m : Meaning Key Id Name) where
   alike_param i n l a o = first_of (cc, search a)
 
   alike_item : (f : ItemForm) (n : ℕ) (ts : Tree) (l : TyKind Key Id Name) → IsNoItem l → AreAlike (node (item_head f n) ts) (kind_tree m l) → ⊥
-  alike_item AdtForm n ts (Infer (TyVar v)) o a = a
-  alike_item FnDefForm n ts (Infer (TyVar v)) o a = a
-  alike_item ClosureForm n ts (Infer (TyVar v)) o a = a
-  alike_item AsyncForm n ts (Infer (TyVar v)) o a = a
-  alike_item CoroutineForm n ts (Infer (TyVar v)) o a = a
-  alike_item WitnessForm n ts (Infer (TyVar v)) o a = a
-  alike_item f n ts l o a = first_of (cc, search a, search o)
+  alike_item AdtForm n ts (Infer (TyVar v)) o a = cc
+  alike_item FnDefForm n ts (Infer (TyVar v)) o a = cc
+  alike_item ClosureForm n ts (Infer (TyVar v)) o a = cc
+  alike_item AsyncForm n ts (Infer (TyVar v)) o a = cc
+  alike_item CoroutineForm n ts (Infer (TyVar v)) o a = cc
+  alike_item WitnessForm n ts (Infer (TyVar v)) o a = cc
+  alike_item f n ts l o a = first_of (cc, search o)
 
   pub alike_items : (f g : ItemForm) (n k : ℕ) (ts us : Tree) → AreAlike (node (item_head f n) ts) (node (item_head g k) us) → (f ≡ g) × (n ≡ k)
   alike_items AdtForm AdtForm n k ts us a = (refl, (cc))
@@ -230,31 +280,36 @@ module _ {Key Id Name : Type 0} (m : Meaning Key Id Name) where
       go CoroutineForm t = refl
       go WitnessForm t = refl
 
+  -- No type of a form is an error.
+  no_error : (l : TyKind Key Id Name) → IsError (kind_tree m l) → ⊥
+  no_error (Infer (TyVar v)) h = h
+  no_error l h = h
+
   -- The error of two types that are of unlike forms.
-  unlike_as : (x y : TyKey Key) (t u : Tree) (e : TypeError Key Id Name) → m.ty x ≡ t → m.ty y ≡ u → (AreAlike t u → ⊥) → e ≡ Sorts (record { expected = x; found = y }) → FormError m x y e
-  unlike_as x y t u e p q o is = subst (FormError m x y) (sym is) (sorts (λ a. o (subst (λ z. AreAlike z u) p (subst (AreAlike (m.ty x)) q a))))
+  unlike_as : (x y : TyKey Key) (t u : Tree) (e : TypeError Key Id Name) → m.ty x ≡ t → m.ty y ≡ u → HaveNoError t u → (AreAlike t u → ⊥) → e ≡ Sorts (record { expected = x; found = y }) → FormError m x y e
+  unlike_as x y t u e p q n o is = subst (FormError m x y) (sym is) (sorts (subst₂ HaveNoError (sym p) (sym q) n) (λ a. o (subst (λ z. AreAlike z u) p (subst (AreAlike (m.ty x)) q a))))
 
   module _ (l : TyKind Key Id Name) (x y : TyKey Key) (e : TypeError Key Id Name) (q : m.ty y ≡ kind_tree m l) (is : e ≡ Sorts (record { expected = x; found = y })) where
     pub unlike_slice : (k : TyKey Key) → m.ty x ≡ kind_tree {Name = Name} m (Slice k) → ((z : TyKey Key) → l ≡ Slice z → ⊥) → FormError m x y e
-    unlike_slice k p o = unlike_as x y (node slice (cons (m.ty k) nil)) (kind_tree m l) e p q (λ a. alike_slice (cons (m.ty k) nil) l a o) is
+    unlike_slice k p o = unlike_as x y (node slice (cons (m.ty k) nil)) (kind_tree m l) e p q ((λ z. z), no_error l) (λ a. alike_slice (cons (m.ty k) nil) l a o) is
 
     pub unlike_array : (k : TyKey Key) (c : ConstKey Key) → m.ty x ≡ kind_tree {Name = Name} m (Array k c) → ((z : TyKey Key) (d : ConstKey Key) → l ≡ Array z d → ⊥) → FormError m x y e
-    unlike_array k c p o = unlike_as x y (node array (cons (m.ty k) (cons (m.const_ c) nil))) (kind_tree m l) e p q (λ a. alike_array (cons (m.ty k) (cons (m.const_ c) nil)) l a o) is
+    unlike_array k c p o = unlike_as x y (node array (cons (m.ty k) (cons (m.const_ c) nil))) (kind_tree m l) e p q ((λ z. z), no_error l) (λ a. alike_array (cons (m.ty k) (cons (m.const_ c) nil)) l a o) is
 
     pub unlike_tuple : (k : TysKey Key) → m.ty x ≡ kind_tree {Name = Name} m (Tuple k) → ((z : TysKey Key) → l ≡ Tuple z → ⊥) → FormError m x y e
-    unlike_tuple k p o = unlike_as x y (node tuple (m.tys k)) (kind_tree m l) e p q (λ a. alike_tuple (m.tys k) l a o) is
+    unlike_tuple k p o = unlike_as x y (node tuple (m.tys k)) (kind_tree m l) e p q ((λ z. z), no_error l) (λ a. alike_tuple (m.tys k) l a o) is
 
     pub unlike_raw : (k : TyKey Key) (u : Mutability) → m.ty x ≡ kind_tree {Name = Name} m (RawPtr k u) → ((z : TyKey Key) (v : Mutability) → l ≡ RawPtr z v → ⊥) → FormError m x y e
-    unlike_raw k u p o = unlike_as x y (node (raw_ptr u) (cons (m.ty k) nil)) (kind_tree m l) e p q (λ a. alike_raw u (cons (m.ty k) nil) l a o) is
+    unlike_raw k u p o = unlike_as x y (node (raw_ptr u) (cons (m.ty k) nil)) (kind_tree m l) e p q ((λ z. z), no_error l) (λ a. alike_raw u (cons (m.ty k) nil) l a o) is
 
     pub unlike_ref : (r : RegionKey Key) (k : TyKey Key) (u : Mutability) → m.ty x ≡ kind_tree {Name = Name} m (Ref r k u) → ((s : RegionKey Key) (z : TyKey Key) (v : Mutability) → l ≡ Ref s z v → ⊥) → FormError m x y e
-    unlike_ref r k u p o = unlike_as x y (node (ref u) (cons (m.region r) (cons (m.ty k) nil))) (kind_tree m l) e p q (λ a. alike_ref u (cons (m.region r) (cons (m.ty k) nil)) l a o) is
+    unlike_ref r k u p o = unlike_as x y (node (ref u) (cons (m.region r) (cons (m.ty k) nil))) (kind_tree m l) e p q ((λ z. z), no_error l) (λ a. alike_ref u (cons (m.region r) (cons (m.ty k) nil)) l a o) is
 
     pub unlike_param : (k : ParamTy Name) → m.ty x ≡ kind_tree m (TyParam k) → ((z : ParamTy Name) → l ≡ TyParam z → k.index ≡ z.index → ⊥) → FormError m x y e
-    unlike_param k p o = unlike_as x y (leaf (atom (type_param k.index (m.name k.name)))) (kind_tree m l) e p q (λ a. alike_param k.index (m.name k.name) l a o) is
+    unlike_param k p o = unlike_as x y (leaf (atom (type_param k.index (m.name k.name)))) (kind_tree m l) e p q ((λ z. z), no_error l) (λ a. alike_param k.index (m.name k.name) l a o) is
 
     pub unlike_item : (t : ItemTy Key Id) → m.ty x ≡ kind_tree {Name = Name} m (item_kind t) → IsNoItem l → FormError m x y e
-    unlike_item t p o = unlike_as x y (node (item_head t.form (m.id t.def_id)) (m.args t.args)) (kind_tree m l) e (p ∙ item_tree t) q (alike_item t.form (m.id t.def_id) (m.args t.args) l o) is
+    unlike_item t p o = unlike_as x y (node (item_head t.form (m.id t.def_id)) (m.args t.args)) (kind_tree m l) e (p ∙ item_tree t) q ((λ z. z), no_error l) (alike_item t.form (m.id t.def_id) (m.args t.args) l o) is
 
   -- The first is a type without parts, and no parameter.
   abbrev IsAlone : TyKind Key Id Name → Type 0
@@ -278,12 +333,12 @@ module _ {Key Id Name : Type 0} (m : Meaning Key Id Name) where
   alone_kind (CoroutineWitness q z) i a b c d e f = absurd i
   alone_kind k i a b c d e f = (_, refl, tt)
 
-  pub unlike_alone : (k : TyKind Key Id Name) (x y : TyKey Key) (e : TypeError Key Id Name) → m.ty x ≡ kind_tree m k → m.ty x ≢ m.ty y → e ≡ Sorts (record { expected = x; found = y })
+  pub unlike_alone : (k other : TyKind Key Id Name) (x y : TyKey Key) (e : TypeError Key Id Name) → m.ty x ≡ kind_tree m k → m.ty y ≡ kind_tree m other → m.ty x ≢ m.ty y → e ≡ Sorts (record { expected = x; found = y })
       → IsNoItem k → ((x : TyKey Key) → k ≡ Slice x → ⊥) → ((x : TyKey Key) (c : ConstKey Key) → k ≡ Array x c → ⊥) → ((x : TysKey Key) → k ≡ Tuple x → ⊥)
       → ((x : TyKey Key) (u : Mutability) → k ≡ RawPtr x u → ⊥) → ((r : RegionKey Key) (x : TyKey Key) (u : Mutability) → k ≡ Ref r x u → ⊥) → ((p : ParamTy Name) → k ≡ TyParam p → ⊥) → FormError m x y e
-  unlike_alone k x y e p differ is i a b c d f g =
+  unlike_alone k other x y e p w differ is i a b c d f g =
       let (l, q, plain) = alone_kind k i a b c d f g in
-      unlike_as x y (leaf l) (m.ty y) e (p ∙ q) refl (λ h. differ (p ∙ q ∙ alone l (m.ty y) plain h)) is
+      unlike_as x y (leaf l) (m.ty y) e (p ∙ q) refl ((λ h. no_error k (subst IsError (sym q) h)), (λ h. no_error other (subst IsError w h))) (λ h. differ (p ∙ q ∙ alone l (m.ty y) plain h)) is
 
   -- Where the two are one, they are of one form without parts.
   pub one_alone : (k : TyKind Key Id Name) (a b : Tree) → a ≡ kind_tree m k → a ≡ b → IsNoItem k → ((x : TyKey Key) → k ≡ Slice x → ⊥) → ((x : TyKey Key) (c : ConstKey Key) → k ≡ Array x c → ⊥) → ((x : TysKey Key) → k ≡ Tuple x → ⊥)
@@ -310,7 +365,7 @@ module _ {Key Id Name : Type 0} (m : Meaning Key Id Name) where
   pub items_error : (s t : ItemTy Key Id) (x y : TyKey Key) (e : TypeError Key Id Name) → m.ty x ≡ kind_tree {Name = Name} m (item_kind s) → m.ty y ≡ kind_tree {Name = Name} m (item_kind t)
       → (s.form ≡ t.form → m.id s.def_id ≡ m.id t.def_id → ⊥) → e ≡ Sorts (record { expected = x; found = y }) → FormError m x y e
   items_error s t x y e p q o is =
-      unlike_as x y (node (item_head s.form (m.id s.def_id)) (m.args s.args)) (node (item_head t.form (m.id t.def_id)) (m.args t.args)) e (p ∙ item_tree s) (q ∙ item_tree t)
+      unlike_as x y (node (item_head s.form (m.id s.def_id)) (m.args s.args)) (node (item_head t.form (m.id t.def_id)) (m.args t.args)) e (p ∙ item_tree s) (q ∙ item_tree t) ((λ z. z), (λ z. z))
       (λ a. let h = alike_items s.form t.form (m.id s.def_id) (m.id t.def_id) (m.args s.args) (m.args t.args) a in o h.0 h.1) is
 
   item_no_tuple : (f : ItemForm) (n : ℕ) → item_head f n ≢ tuple
@@ -334,15 +389,10 @@ module _ {Key Id Name : Type 0} (m : Meaning Key Id Name) where
 
   -- Where the forms differ no assignment makes the types one.
   alike_heads : (h k : Head) (ts us : Tree) → h ≡ k → AreAlike (node h ts) (node k us)
-  alike_heads h k ts us e = subst (λ z. AreAlike (node h ts) (node z us)) e (go h)
-    where
-      go : (h : Head) → AreAlike (node h ts) (node h us)
-      go (ref u) = tt
-      go (raw_ptr u) = tt
-      go h = refl
+  alike_heads h k ts us e = ap (λ z. node (outer_head z) nil) e
 
   alike_applied : (s : Assign) (a b : Tree) → IsFormed a → IsFormed b → apply s a ≡ apply s b → AreAlike a b
-  alike_applied s (leaf (atom x)) (leaf (atom y)) f g e = (let z : x ≡ y = cc in ap plain_atom z)
+  alike_applied s (leaf (atom x)) (leaf (atom y)) f g e = (let z : x ≡ y = cc in ap (λ z. leaf (atom (plain_atom z))) z)
   alike_applied s (leaf (atom x)) (leaf (placeholder k u n)) f g e = absurd (cc)
   alike_applied s (leaf (atom x)) (node k us) f g e = absurd (cc)
   alike_applied s (leaf (placeholder k u n)) (leaf (atom y)) f g e = absurd (cc)
@@ -370,7 +420,8 @@ module _ {Key Id Name : Type 0} (m : Meaning Key Id Name) where
   form_apart st x y e f g s t (tuple_size {ts} {us} p q i j differ) = lists_apart st tuple tuple ts us (m.ty x) (m.ty y) p q (list_of tuple type_sort ts (m.ty x) p s) (list_of tuple type_sort us (m.ty y) q t) differ
   form_apart st x y e f g s t (empty_tuple {ts} {us} p q differ o) = lists_apart st tuple tuple ts us (m.ty x) (m.ty y) p q (list_of tuple type_sort ts (m.ty x) p s) (list_of tuple type_sort us (m.ty y) q t) differ
   form_apart st x y e f g s t (as_many {h} {ts} {us} p q o differ) = lists_apart st h h ts us (m.ty x) (m.ty y) p q (list_of h type_sort ts (m.ty x) p s) (list_of h type_sort us (m.ty y) q t) differ
-  form_apart st x y e f g s t (sorts o) = λ w a sat z. o (alike_applied a (m.ty x) (m.ty y) f g z)
+  form_apart st x y e f g s t (unlike_aliases {ts} {us} i j p q differ) = λ w a sat z. differ (let h = sym (ap (apply a) p) ∙ z ∙ ap (apply a) q in cc)
+  form_apart st x y e f g s t (sorts n o) = λ w a sat z. o (alike_applied a (m.ty x) (m.ty y) f g z)
 
   pub known_error : (x y : TyKey Key) (e : TypeError Key Id Name) → IsTrue (known (m.ty x)) → IsTrue (known (m.ty y)) → FormError m x y e → KnowsError m e
   known_error x y e a b (mutability p q o) = tt
@@ -378,7 +429,8 @@ module _ {Key Id Name : Type 0} (m : Meaning Key Id Name) where
   known_error x y e a b (tuple_size p q i j o) = tt
   known_error x y e a b (empty_tuple p q o i) = (a, b)
   known_error x y e a b (as_many p q o i) = (a, b)
-  known_error x y e a b (sorts o) = (a, b)
+  known_error x y e a b (unlike_aliases c d p q o) = tt
+  known_error x y e a b (sorts n o) = (a, b)
 
   pub form_known : {X : Type 0} (x y : TyKey Key) (e : TypeError Key Id Name) → IsTrue (known (m.ty x)) → IsTrue (known (m.ty y)) → FormError m x y e
       → (r : Result X (RelateFault Key Id Name)) → IsErr r × IsErrAnd r (λ f. f ≡ Unrelated e) → IfErr r (KnowsFault m)
@@ -395,9 +447,15 @@ module _ {Key Id Name : Type 0} (m : Meaning Key Id Name) where
       go (Value t v) = tt
       go (Expr x a) = tt
 
+  no_const_error : (l : ConstKind Key Name) → IsError (const_tree m l) → ⊥
+  no_const_error (ConstParam p) h = h
+  no_const_error (ConstPlaceholder p) h = h
+  no_const_error (Value t v) h = h
+  no_const_error (Expr x a) h = h
+
   -- The error of two constants that are of unlike forms.
-  unlike_consts_as : (x y : ConstKey Key) (t u : Tree) (e : TypeError Key Id Name) → m.const_ x ≡ t → m.const_ y ≡ u → (AreAlikeConsts t u → ⊥) → e ≡ ConstMismatch (record { expected = x; found = y }) → ConstFormError m x y e
-  unlike_consts_as x y t u e p q o is = subst (ConstFormError m x y) (sym is) (const_mismatch (λ a. o (subst (λ z. AreAlikeConsts z u) p (subst (AreAlikeConsts (m.const_ x)) q a))))
+  unlike_consts_as : (x y : ConstKey Key) (t u : Tree) (e : TypeError Key Id Name) → m.const_ x ≡ t → m.const_ y ≡ u → HaveNoError t u → (ConstsAlike t u → ⊥) → e ≡ ConstMismatch (record { expected = x; found = y }) → ConstFormError m x y e
+  unlike_consts_as x y t u e p q n o is = subst (ConstFormError m x y) (sym is) (const_mismatch (subst₂ HaveNoError (sym p) (sym q) n) (λ a. o (by_forms t u (subst (λ z. AreAlikeConsts z u) p (subst (AreAlikeConsts (m.const_ x)) q a)))))
 
   abbrev pub IsUnlikeConst : ConstKind Key Name → ConstKind Key Name → Type 0
   IsUnlikeConst (ConstParam p) (ConstParam q) = p.index ≢ q.index
@@ -406,7 +464,7 @@ module _ {Key Id Name : Type 0} (m : Meaning Key Id Name) where
   IsUnlikeConst (Expr x a) (Expr y b) = ⊥
   IsUnlikeConst k l = Unit {0}
 
-  unlike_const_trees : (k l : ConstKind Key Name) → IsUnlikeConst k l → AreAlikeConsts (const_tree m k) (const_tree m l) → ⊥
+  unlike_const_trees : (k l : ConstKind Key Name) → IsUnlikeConst k l → ConstsAlike (const_tree m k) (const_tree m l) → ⊥
   unlike_const_trees (ConstParam p) (ConstParam q) o a = o (cc)
   unlike_const_trees (ConstPlaceholder p) (ConstPlaceholder q) o a = o (ap leaf a)
   unlike_const_trees (ConstPlaceholder p) l o a = first_of (cc, search a)
@@ -415,7 +473,7 @@ module _ {Key Id Name : Type 0} (m : Meaning Key Id Name) where
   unlike_const_trees k l o a = first_of (cc, search a)
 
   pub unlike_const : (k l : ConstKind Key Name) (x y : ConstKey Key) (e : TypeError Key Id Name) → m.const_ x ≡ const_tree m k → m.const_ y ≡ const_tree m l → IsUnlikeConst k l → e ≡ ConstMismatch (record { expected = x; found = y }) → ConstFormError m x y e
-  unlike_const k l x y e p q o is = unlike_consts_as x y (const_tree m k) (const_tree m l) e p q (unlike_const_trees k l o) is
+  unlike_const k l x y e p q o is = unlike_consts_as x y (const_tree m k) (const_tree m l) e p q (no_const_error k, no_const_error l) (unlike_const_trees k l o) is
 
   pub param_const : (p : ParamConst Name) (l : ConstKind Key Name) → ((q : ParamConst Name) → l ≡ ConstParam q → p.index ≡ q.index → ⊥) → IsUnlikeConst (ConstParam p) l
   param_const p (ConstParam q) o = o q refl
@@ -429,8 +487,8 @@ module _ {Key Id Name : Type 0} (m : Meaning Key Id Name) where
   expr_const k a (Expr j b) o = o j b refl
   expr_const k a l o = tt
 
-  alike_consts_applied : (s : Assign) (a b : Tree) → IsFormedConst a → IsFormedConst b → IsTerm const_sort a → IsTerm const_sort b → apply s a ≡ apply s b → AreAlikeConsts a b
-  alike_consts_applied s (leaf (atom x)) (leaf (atom y)) f g p q e = (let z : x ≡ y = cc in ap plain_atom z)
+  alike_consts_applied : (s : Assign) (a b : Tree) → IsFormedConst a → IsFormedConst b → IsTerm const_sort a → IsTerm const_sort b → apply s a ≡ apply s b → ConstsAlike a b
+  alike_consts_applied s (leaf (atom x)) (leaf (atom y)) f g p q e = (let z : x ≡ y = cc in ap (λ z. atom (plain_atom z)) z)
   alike_consts_applied s (leaf (placeholder k u n)) (leaf (placeholder l v i)) f g p q e = cc
   alike_consts_applied s (leaf (atom x)) (leaf (placeholder l v i)) f g p q e = absurd (cc)
   alike_consts_applied s (leaf (placeholder k u n)) (leaf (atom y)) f g p q e = absurd (cc)
@@ -446,7 +504,7 @@ module _ {Key Id Name : Type 0} (m : Meaning Key Id Name) where
       let (u, w, c, k) = value_shape us q.1 in
       let z : apply s (node value (cons t (cons v nil))) ≡ apply s (node value (cons u (cons w nil))) = ap (λ z. apply s (node value z)) (sym d) ∙ e ∙ ap (λ z. apply s (node value z)) c in
       let y : apply s v ≡ apply s w = cc in
-      subst₂ (λ i j. AreAlikeConsts (node value i) (node value j)) (sym d) (sym c) (value_applied s v w h k y)
+      subst₂ (λ i j. ConstsAlike (node value i) (node value j)) (sym d) (sym c) (value_applied s v w h k y)
   alike_consts_applied s (leaf (variable v n)) b f g p q e = absurd f
   alike_consts_applied s (leaf (bound v d i)) b f g p q e = absurd f
   alike_consts_applied s (leaf unknown) b f g p q e = absurd f
@@ -464,12 +522,12 @@ module _ {Key Id Name : Type 0} (m : Meaning Key Id Name) where
   alike_consts_applied s (node h ts) b f g p q e = absurd f
 
   pub const_form_apart : (st : Store) (x y : ConstKey Key) (e : TypeError Key Id Name) → IsFormedConst (m.const_ x) → IsFormedConst (m.const_ y) → IsTerm const_sort (m.const_ x) → IsTerm const_sort (m.const_ y) → ConstFormError m x y e → NoEqualTerms st (m.const_ x) (m.const_ y)
-  const_form_apart st x y e f g s t (const_mismatch o) = λ w a sat z. o (alike_consts_applied a (m.const_ x) (m.const_ y) f g s t z)
+  const_form_apart st x y e f g s t (const_mismatch n o) = λ w a sat z. o (of_forms_alike (m.const_ x) (m.const_ y) (alike_consts_applied a (m.const_ x) (m.const_ y) f g s t z))
   const_form_apart st x y e f g s t (operations {k} {l} {ts} {us} p q (inl d)) = λ w a sat z. d (let h = sym (ap (apply a) p) ∙ z ∙ ap (apply a) q in cc)
   const_form_apart st x y e f g s t (operations {k} {l} {ts} {us} p q (inr d)) = lists_apart st (expression k) (expression l) ts us (m.const_ x) (m.const_ y) p q (list_of (expression k) const_sort ts (m.const_ x) p s) (list_of (expression l) const_sort us (m.const_ y) q t) d
 
   pub known_const_error : (x y : ConstKey Key) (e : TypeError Key Id Name) → IsTrue (known (m.const_ x)) → IsTrue (known (m.const_ y)) → ConstFormError m x y e → KnowsError m e
-  known_const_error x y e a b (const_mismatch o) = (a, b)
+  known_const_error x y e a b (const_mismatch n o) = (a, b)
   known_const_error x y e a b (operations p q o) = tt
 
   pub const_form_known : {X : Type 0} (x y : ConstKey Key) (e : TypeError Key Id Name) → IsTrue (known (m.const_ x)) → IsTrue (known (m.const_ y)) → ConstFormError m x y e

@@ -1,7 +1,7 @@
 -- Types and constants that are related by their outermost forms and their parts.
 use Rattle.std.proofs.Common.{◌≡◌, ℕ, ◌<◌, refl, sym, ap, ◌∙◌, subst, subst₂, arith, ◌++◌, All, IsTrue, Ok, Err}
 use Rattle.relation_terms.specs.declared.terms.enums.Variance.{Variance}
-use Rattle.relation_terms.specs.Heads.{Head, type_sort, const_sort, region_sort, Sort, Admits, head_sort, array, value, value_type, value_branch}
+use Rattle.relation_terms.specs.Heads.{Head, type_sort, const_sort, region_sort, Sort, Admits, head_sort, array, signature, inputs, value, value_type, value_branch}
 use Rattle.relation_terms.specs.Trees.{Tree, node, known, IsTerm, count, nth, apply, Assign}
 use Rattle.relation_terms.specs.Meaning.{Meaning, Extends, arg_tree}
 use Rattle.relation_terms.specs.declared.terms.keys.ConstKey.{ConstKey}
@@ -39,8 +39,8 @@ module _ {Key Id Name : Type 0} (n p : Meaning Key Id Name) (e : Extends n p) (s
   no_const : (k : Sort) (t : Tree) → (Admits k const_sort → ⊥) → IsTerm k t → sort_of t ≡ const_sort → ⊥
   no_const k t o h z = o (subst (Admits k) z (sort_is k t h))
 
-  handed_on : (h : Head) (ts : Tree) (f : TypeError Key Id Name) → head_sort h ≡ type_sort → (IsPassedOn (Unrelated f) (node h ts) X Y) → IsHandedOn f h (arg_tree n X) (arg_tree n Y)
-  handed_on array ts (ConstMismatch w) g o = lengths X Y x_known y_known o
+  handed_on : (h : Head) (ts : Tree) (f : TypeError Key Id Name) → head_sort h ≡ type_sort → (IsPassedOn (Unrelated f) (node h ts) X Y) → IsHandedOn f h i (arg_tree n X) (arg_tree n Y)
+  handed_on array ts f g o = λ w is. lengths X Y x_known y_known (subst (λ z. IsPassedOn (Unrelated z) (node array ts) X Y) is o)
     where
       lengths : (X Y : GenericArgKind Key) → IsTrue (known (arg_tree n X)) → IsTrue (known (arg_tree n Y)) → IsNoLength (node array ts) X Y → sort_of (arg_tree n X) ≡ const_sort → sort_of (arg_tree n Y) ≡ const_sort → ⊥
       lengths (Const c) (Const d) k l o = absurd o
@@ -48,6 +48,8 @@ module _ {Key Id Name : Type 0} (n p : Meaning Key Id Name) (e : Extends n p) (s
       lengths (Ty c) Y k l o = λ u v. no_const type_sort (n.ty c) (λ z. z) (s.ty c k) u
       lengths (Const c) (Lifetime d) k l o = λ u v. no_const region_sort (n.region d) (λ z. z) (s.region d l) v
       lengths (Const c) (Ty d) k l o = λ u v. no_const type_sort (n.ty d) (λ z. z) (s.ty d l) v
+  handed_on (signature x k y) ts f g o = absurd (cc)
+  handed_on inputs ts f g o = absurd (cc)
   handed_on value ts f g o = absurd (cc)
   handed_on value_type ts f g o = absurd (cc)
   handed_on value_branch ts f g o = absurd (cc)
@@ -58,7 +60,7 @@ module _ {Key Id Name : Type 0} (n p : Meaning Key Id Name) (e : Extends n p) (s
     ty_error : (st : Store) (f : TypeError Key Id Name) (h : Head) (ts us : Tree) → a ≡ node h ts → b ≡ node h us → head_sort h ≡ type_sort → count ts ≡ count us → i < count ts → x ≡ nth i ts → y ≡ nth i us
         → IsPassedOn (Unrelated f) a X Y → ErrorOf p j st (part_at j h i v) f x y → ErrorOf p j st v f a b
     ty_error st f h ts us d c g m l z w o u = of_parts i d c m l
-        (subst₂ (IsHandedOn f h) (ex ∙ z) (ey ∙ w) (handed_on h ts f g (subst (λ t. IsPassedOn (Unrelated f) t X Y) d o))) (subst₂ (ErrorOf p j st (part_at j h i v) f) z w u)
+        (subst₂ (IsHandedOn f h i) (ex ∙ z) (ey ∙ w) (handed_on h ts f g (subst (λ t. IsPassedOn (Unrelated f) t X Y) d o))) (subst₂ (ErrorOf p j st (part_at j h i v) f) z w u)
 
     length_error : (st : Store) (f : ExpectedFound (ConstKey Key)) (c d : ConstKey Key) (ts us : Tree) (h : Head) (vs : Tree) → a ≡ node h ts → b ≡ node h us → a ≡ node array vs → count ts ≡ count us → i < count ts
         → x ≡ nth i ts → y ≡ nth i us → X ≡ Const c → Y ≡ Const d → ErrorOf p j st (part_at j h i v) (ConstMismatch f) x y → ErrorOf p j st v (ArraySize (record { expected = c; found = d })) a b

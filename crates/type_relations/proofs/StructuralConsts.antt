@@ -32,7 +32,7 @@ use Rattle.type_relations.proofs.Unifying.{first_order_const_parts, const_looked
 use Rattle.type_relations.proofs.Unifying.{forms_not_unified, const_forms_not_unified, erased_sort}
 use Rattle.type_relations.proofs.Structural.{same_const_fault, consts_never}
 use Rattle.type_relations.proofs.OneParts.{const_parts_equal, sort_is}
-use Rattle.type_relations.proofs.Comparing.{form_apart, const_form_apart, known_error, known_const_error, formed_no_variable, formed_const_no_variable}
+use Rattle.type_relations.proofs.Comparing.{form_apart, const_form_apart, known_error, known_const_error, formed_not_bindable, formed_consts_not_bindable}
 use Rattle.type_relations.proofs.Handing.{const_fault_known, AreOfTwoKinds, AtTop, at_top, value_top}
 use Rattle.type_relations.proofs.PartSizes.{weight_const_parts_most}
 use Rattle.type_relations.proofs.Answering.{may_itself}
@@ -271,7 +271,7 @@ module _ {Key Id Name : Type 0} {X : Type 0} (M : Manner) (r : State Key Id Name
       Related M r r v ((r.meaning).ty x) ((r.meaning).ty y) tree (Err (Unrelated e))
   types_differ x y e d f g s t k l h =
       refused_here ((r.meaning).ty x) ((r.meaning).ty y) e (form_apart r.meaning r.store x y e f g s t h)
-      (of_forms x y d refl refl (formed_no_variable ((r.meaning).ty x) f) (formed_no_variable ((r.meaning).ty y) g) h)
+      (of_forms x y d refl refl (formed_not_bindable ((r.meaning).ty x) ((r.meaning).ty y) f g) h)
       (known_error r.meaning x y e k l h) (λ pair j sol one. forms_not_unified r.meaning j x y e f g s t h one)
 
   pub consts_differ : (x y : ConstKey Key) (e : TypeError Key Id Name) → v ≢ Bivariant → IsFormedConst ((r.meaning).const_ x) →
@@ -281,8 +281,7 @@ module _ {Key Id Name : Type 0} {X : Type 0} (M : Manner) (r : State Key Id Name
       Related M r r v ((r.meaning).const_ x) ((r.meaning).const_ y) tree (Err (Unrelated e))
   consts_differ x y e d f g s t k l h =
       refused_here ((r.meaning).const_ x) ((r.meaning).const_ y) e (const_form_apart r.meaning r.store x y e f g s t h)
-      (of_const_forms x y d refl refl (formed_const_no_variable ((r.meaning).const_ x) f)
-      (formed_const_no_variable ((r.meaning).const_ y) g) h)
+      (of_const_forms x y d refl refl (formed_consts_not_bindable ((r.meaning).const_ x) ((r.meaning).const_ y) f g) h)
       (known_const_error r.meaning x y e k l h)
       (λ pair j sol one. const_forms_not_unified r.meaning j x y e f g s t pair.left h one)
 

@@ -7,16 +7,16 @@ use Rattle.relation_terms.specs.Meaning.{Meaning}
 use Rattle.relation_terms.specs.declared.terms.keys.TyKey.{TyKey}
 use Rattle.relation_tools.specs.declared.error.TypeError.{TypeError}
 use Rattle.type_relations.specs.Errors.{AreAlikeLeaves, FormError, mutability, pointer_mutability, tuple_size, empty_tuple, as_many, sorts}
-use Rattle.type_relations.proofs.Comparing.{list_of, parts_list, value_shape, no_value_variable}
+use Rattle.type_relations.proofs.Comparing.{list_of, parts_list, value_shape, no_value_variable, ConstsAlike, of_forms_alike}
 use Rattle.type_relations.specs.Errors.{ConstFormError, const_mismatch, operations}
 use Rattle.relation_terms.specs.declared.terms.keys.ConstKey.{ConstKey}
 use Rattle.relation_terms.specs.Heads.{Admits, region_var}
-use Rattle.relation_terms.specs.Heads.{expression, value, value_type, value_branch, Leaf, tuple}
+use Rattle.relation_terms.specs.Heads.{expression, value, value_type, value_branch, Leaf, tuple, alias}
 use Rattle.relation_terms.specs.Trees.{Tree, leaf, node, bind, nil, cons, Assign, apply, count, IsList, IsTerm}
 use Rattle.relation_terms.specs.Erasure.{erase, erase_atom, erase_kinded}
 use Rattle.type_relations.specs.Relation.{plain_atom, sort_of}
 use Rattle.type_relations.specs.FirstOrder.{IsFirstOrder, Unifies}
-use Rattle.type_relations.specs.Errors.{AreAlike, AreAlikeConsts, AreOfOneForm, over_parts, one_leaf, parameters}
+use Rattle.type_relations.specs.Errors.{AreAlike, outer_head, unlike_aliases, AreOfOneForm, over_parts, one_leaf, parameters}
 use Rattle.type_relations.specs.Errors.{AreOfOneConst, values, expressions, const_parameters}
 use Rattle.type_relations.specs.Errors.{AreOfOneValue, one_value, as_many_branches}
 use Rattle.type_relations.specs.Stores.{Store}
@@ -122,18 +122,13 @@ no_form s x h ts f e = let z = sym (leaf_erased s x f.0 f.1) ∙ e in absurd (cc
 
 -- Unified types with forms are alike.
 pub alike_heads : (h k : Head) (ts us : Tree) → h ≡ k → AreAlike (node h ts) (node k us)
-alike_heads h k ts us e = subst (λ z. AreAlike (node h ts) (node z us)) e (go h)
-  where
-    go : (h : Head) → AreAlike (node h ts) (node h us)
-    go (ref u) = tt
-    go (raw_ptr u) = tt
-    go h = refl
+alike_heads h k ts us e = ap (λ z. node (outer_head z) nil) e
 
 one_head : (s : Assign) (h k : Head) (ts us : Tree) → Unifies s (node h ts) (node k us) → h ≡ k
 one_head s h k ts us e = cc
 
 alike_unified : (s : Assign) (a b : Tree) → IsFormed a → IsFormed b → Unifies s a b → AreAlike a b
-alike_unified s (leaf x) (leaf y) f g e = unified_leaves s x y (formed_leaf x f) (formed_leaf y g) e
+alike_unified s (leaf x) (leaf y) f g e = ap leaf (unified_leaves s x y (formed_leaf x f) (formed_leaf y g) e)
 alike_unified s (leaf x) (node k us) f g e = absurd (no_form s x k us (formed_leaf x f) e)
 alike_unified s (node h ts) (leaf y) f g e = absurd (no_form s y h ts (formed_leaf y g) (sym e))
 alike_unified s (node h ts) (node k us) f g e = alike_heads h k ts us (one_head s h k ts us e)
@@ -193,7 +188,7 @@ value_unified s (cons t u) w f g e = absurd f
 value_unified s (bind ks t) w f g e = absurd f
 
 alike_consts_unified : (s : Assign) (a b : Tree) → IsFormedConst a → IsFormedConst b → IsTerm const_sort a →
-    IsTerm const_sort b → Unifies s a b → AreAlikeConsts a b
+    IsTerm const_sort b → Unifies s a b → ConstsAlike a b
 alike_consts_unified s (leaf x) (leaf y) f g p q e = unified_leaves s x y (formed_const_leaf x f) (formed_const_leaf y g) e
 alike_consts_unified s (leaf x) (node h us) f g p q e = absurd (no_form s x h us (formed_const_leaf x f) e)
 alike_consts_unified s (node h ts) (leaf y) f g p q e = absurd (no_form s y h ts (formed_const_leaf y g) (sym e))
@@ -208,7 +203,7 @@ alike_consts_unified s (node value ts) (node value us) f g p q e =
     let z : Unifies s (node value (cons t (cons v nil))) (node value (cons u (cons w nil))) =
     subst₂ (λ i j. Unifies s (node value i) (node value j)) d c e in
     let y : erase (apply s v) ≡ erase (apply s w) = cc in
-    subst₂ (λ i j. AreAlikeConsts (node value i) (node value j)) (sym d) (sym c) (value_unified s v w h k y)
+    subst₂ (λ i j. ConstsAlike (node value i) (node value j)) (sym d) (sym c) (value_unified s v w h k y)
 alike_consts_unified s (bind ks t) b f g p q e = absurd f
 alike_consts_unified s nil b f g p q e = absurd f
 alike_consts_unified s (cons t u) b f g p q e = absurd f
@@ -260,15 +255,17 @@ module _ {Key Id Name : Type 0} (m : Meaning Key Id Name) where
   forms_not_unified s x y e f g k l (as_many {h} {ts} {us} p q o differ) z =
       differ (unified_counts s h ts us (m.ty x) (m.ty y) (no_value_type h (subst IsFormed p f)) p q
       (list_of h type_sort ts (m.ty x) p k) (list_of h type_sort us (m.ty y) q l) z)
-  forms_not_unified s x y e f g k l (sorts o) z = o (alike_unified s (m.ty x) (m.ty y) f g z)
+  forms_not_unified s x y e f g k l (unlike_aliases {k = i} {l = j} {ts} {us} c d p q differ) z =
+      differ (let h = one_head s (alias i (m.id c)) (alias j (m.id d)) ts us (subst₂ (Unifies s) p q z) in cc)
+  forms_not_unified s x y e f g k l (sorts n o) z = o (alike_unified s (m.ty x) (m.ty y) f g z)
 
   -- Nor are first-order constants.
   pub const_forms_not_unified : (s : Assign) (x y : ConstKey Key) (e : TypeError Key Id Name) →
       IsFormedConst (m.const_ x) → IsFormedConst (m.const_ y) → IsTerm const_sort (m.const_ x) →
       IsTerm const_sort (m.const_ y) → IsFirstOrder (m.const_ x) → ConstFormError m x y e →
       Unifies s (m.const_ x) (m.const_ y) → ⊥
-  const_forms_not_unified s x y e f g k l h (const_mismatch o) z =
-      o (alike_consts_unified s (m.const_ x) (m.const_ y) f g k l z)
+  const_forms_not_unified s x y e f g k l h (const_mismatch n o) z =
+      o (of_forms_alike (m.const_ x) (m.const_ y) (alike_consts_unified s (m.const_ x) (m.const_ y) f g k l z))
   const_forms_not_unified s x y e f g k l h (operations {k = op} {ts = ts} p q d) z =
       absurd (let n : IsFirstOrder (node (expression op) ts) = subst IsFirstOrder p h in n.0)
 

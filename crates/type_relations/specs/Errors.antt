@@ -1,33 +1,103 @@
 -- Which error comes of relating two terms.
-use Rattle.std.specs.Prelude.{◌≡◌, ◌≢◌, ◌⊎◌, ℕ, zero, ◌<◌}
+use Rattle.std.specs.Prelude.{◌≡◌, ◌≢◌, ◌⊎◌, ℕ, zero, suc, ◌<◌, Bool}
 use Rattle.relation_terms.specs.declared.terms.enums.Variance.{Variance}
 use Rattle.relation_terms.specs.declared.terms.enums.Variance.TheVariants.{Bivariant}
+use Rattle.relation_terms.specs.declared.terms.enums.Mutability.TheVariants.{Not}
+use Rattle.relation_terms.specs.declared.terms.enums.Safety.{Safety}
+use Rattle.relation_terms.specs.declared.terms.enums.ExternAbi.{ExternAbi}
 use Rattle.relation_terms.specs.declared.terms.keys.TyKey.{TyKey}
 use Rattle.relation_terms.specs.declared.terms.keys.ConstKey.{ConstKey}
-use Rattle.relation_terms.specs.Heads.{const_sort, VarKind, type_var, Atom, Head, array, tuple, raw_ptr, ref}
-use Rattle.relation_terms.specs.Heads.{expression, value, value_type, value_branch, Leaf, variable, atom}
-use Rattle.relation_terms.specs.Trees.{Tree, leaf, node, nil, cons, apply, count, nth, Occurs}
+use Rattle.relation_terms.specs.Heads.{const_sort, region_sort, VarKind, type_var, const_var, BoundKind, bound_sort}
+use Rattle.relation_terms.specs.Heads.{Atom, Head, array, tuple, raw_ptr, ref, AliasKind, projection_alias, alias}
+use Rattle.relation_terms.specs.Heads.{adt, fn_def, closure, coroutine_closure, coroutine, coroutine_witness, slice}
+use Rattle.relation_terms.specs.Heads.{pattern_type, unsafe_binder, dynamic, fn_ptr, signature, inputs, unevaluated}
+use Rattle.relation_terms.specs.Heads.{range_pattern, or_pattern, arguments, object, existential_trait}
+use Rattle.relation_terms.specs.Heads.{existential_projection, trait_ref, trait_clause, host_effect, subtype}
+use Rattle.relation_terms.specs.Heads.{alias_term, region_outlives, type_outlives, projection, const_has_type}
+use Rattle.relation_terms.specs.Heads.{well_formed, const_evaluatable, coerce, normalizes_to, alias_relate, environment}
+use Rattle.relation_terms.specs.Heads.{expression, value, value_type, value_branch, Leaf, variable, bound, placeholder}
+use Rattle.relation_terms.specs.Heads.{atom, unknown}
+use Rattle.relation_terms.specs.Trees.{Tree, leaf, node, bind, nil, cons, apply, count, nth, Occurs}
 use Rattle.relation_terms.specs.Meaning.{Meaning}
 use Rattle.relation_tools.specs.declared.error.ExpectedFound.{ExpectedFound}
 use Rattle.relation_tools.specs.declared.error.TypeError.{TypeError}
 use Rattle.relation_tools.specs.declared.error.TypeError.TheVariants.{Mismatch, Mutability, TupleSize, ArraySize}
-use Rattle.relation_tools.specs.declared.error.TypeError.TheVariants.{Sorts, CyclicTy, ConstMismatch}
-use Rattle.type_relations.specs.Relation.{Items, plain_atom, sort_of, part_at}
-use Rattle.type_relations.specs.Stores.{Store, bound_to, entry_of, resolved}
+use Rattle.relation_tools.specs.declared.error.TypeError.TheVariants.{Sorts, CyclicTy, CyclicConst, ConstMismatch}
+use Rattle.relation_tools.specs.declared.error.TypeError.TheVariants.{ArgumentSorts, ArgumentMutability, ProjectionMismatched}
+use Rattle.type_relations.specs.Relation.{Items, plain_atom, sort_of, part_at, IsError}
+use Rattle.type_relations.specs.Stores.{Store, bound_to, entry_of, resolved, universe_of, MayStandFor}
 use Rattle.type_relations.specs.Steps.{OneClass}
+
+-- A form without parts, but for what types and constants of one form may differ in: a parameter's name.
+abbrev pub outer_leaf : Leaf → Leaf
+outer_leaf (variable k n) = variable k n
+outer_leaf (bound k d i) = bound k d i
+outer_leaf (placeholder k w n) = placeholder k w n
+outer_leaf (atom x) = atom (plain_atom x)
+outer_leaf unknown = unknown
+
+-- A form over parts, but for what has an error of its own: mutability, and the item that an alias is of.
+abbrev pub outer_head : Head → Head
+outer_head (adt d) = adt d
+outer_head (fn_def d) = fn_def d
+outer_head (closure d) = closure d
+outer_head (coroutine_closure d) = coroutine_closure d
+outer_head (coroutine d) = coroutine d
+outer_head (coroutine_witness d) = coroutine_witness d
+outer_head array = array
+outer_head slice = slice
+outer_head pattern_type = pattern_type
+outer_head tuple = tuple
+outer_head unsafe_binder = unsafe_binder
+outer_head dynamic = dynamic
+outer_head fn_ptr = fn_ptr
+outer_head (raw_ptr u) = raw_ptr Not
+outer_head (ref u) = ref Not
+outer_head (alias k d) = alias projection_alias 0
+outer_head (signature x s y) = signature x s y
+outer_head inputs = inputs
+outer_head (unevaluated d) = unevaluated d
+outer_head (expression k) = expression k
+outer_head value = value
+outer_head value_type = value_type
+outer_head value_branch = value_branch
+outer_head range_pattern = range_pattern
+outer_head or_pattern = or_pattern
+outer_head arguments = arguments
+outer_head object = object
+outer_head (existential_trait d) = existential_trait d
+outer_head (existential_projection d) = existential_projection d
+outer_head (trait_ref d) = trait_ref d
+outer_head (trait_clause p) = trait_clause p
+outer_head (host_effect z) = host_effect z
+outer_head (subtype x) = subtype x
+outer_head (alias_term k d) = alias_term k d
+outer_head region_outlives = region_outlives
+outer_head type_outlives = type_outlives
+outer_head projection = projection
+outer_head const_has_type = const_has_type
+outer_head well_formed = well_formed
+outer_head const_evaluatable = const_evaluatable
+outer_head coerce = coerce
+outer_head normalizes_to = normalizes_to
+outer_head (alias_relate d) = alias_relate d
+outer_head environment = environment
+
+-- A tree's outermost form.
+abbrev pub outermost : Tree → Tree
+outermost (leaf x) = leaf (outer_leaf x)
+outermost (node h ts) = node (outer_head h) nil
+outermost (bind ks t) = bind ks nil
+outermost nil = nil
+outermost (cons t ts) = cons nil nil
 
 -- Two forms without parts that are one but for a parameter's name.
 abbrev pub AreAlikeLeaves : Leaf → Leaf → Type 0
-AreAlikeLeaves (atom x) (atom y) = plain_atom x ≡ plain_atom y
-AreAlikeLeaves x y = x ≡ y
+AreAlikeLeaves x y = outer_leaf x ≡ outer_leaf y
 
--- Two types are of one outermost form, whatever their parts, the number of these, and mutability.
+-- Two types are of one outermost form, whatever their parts, the number of these, mutability, and an alias's item.
 abbrev pub AreAlike : Tree → Tree → Type 0
-AreAlike (leaf x) (leaf y) = AreAlikeLeaves x y
-AreAlike (node (ref u) ts) (node (ref v) us) = Unit {0}
-AreAlike (node (raw_ptr u) ts) (node (raw_ptr v) us) = Unit {0}
-AreAlike (node h ts) (node k us) = h ≡ k
-AreAlike t u = ⊥
+AreAlike t u = outermost t ≡ outermost u
 
 -- Two types of one outermost form with as many parts; or one form without parts; or two parameters of one index.
 pub data AreOfOneForm (a b : Tree) : Type 0 where
@@ -51,28 +121,113 @@ pub data AreOfOneConst (a b : Tree) : Type 0 where
       AreOfOneConst a b
 
 -- Two constants are of one outermost form; of expressions the operations and the number of arguments may differ.
-abbrev pub AreAlikeConsts : Tree → Tree → Type 0
-AreAlikeConsts (leaf x) (leaf y) = AreAlikeLeaves x y
-AreAlikeConsts (node (expression k) ts) (node (expression l) us) = Unit {0}
-AreAlikeConsts (node value (cons t (cons v nil))) (node value (cons u (cons w nil))) = AreOfOneValue v w
-AreAlikeConsts t u = ⊥
+pub data AreAlikeConsts (t u : Tree) : Type 0 where
+  alike_leaves : {x y : Leaf} → t ≡ leaf x → u ≡ leaf y → AreAlikeLeaves x y → AreAlikeConsts t u
+  of_one_item : {d : ℕ} {ts us : Tree} → t ≡ node (unevaluated d) ts → u ≡ node (unevaluated d) us →
+      AreAlikeConsts t u
+  both_expressions : {k l : ℕ} {ts us : Tree} → t ≡ node (expression k) ts → u ≡ node (expression l) us →
+      AreAlikeConsts t u
+  both_values : {x y v w : Tree} → t ≡ node value (cons x (cons v nil)) → u ≡ node value (cons y (cons w nil)) →
+      AreOfOneValue v w → AreAlikeConsts t u
 
--- An error of two parts is the whole's error too. Not so of the lengths of two arrays, where constants that differ are
--- sizes that differ, and of what values are made of, where the whole values differ.
-abbrev pub IsHandedOn : {Key Id Name : Type 0} → TypeError Key Id Name → Head → Tree → Tree → Type 0
-IsHandedOn e value t u = ⊥
-IsHandedOn e value_type t u = ⊥
-IsHandedOn e value_branch t u = ⊥
-IsHandedOn (ConstMismatch p) array t u = sort_of t ≡ const_sort → sort_of u ≡ const_sort → ⊥
-IsHandedOn e h t u = Unit {0}
+-- No error of the lengths of two arrays, as which constants that differ are sizes that differ.
+abbrev pub IsNoLengths : {Key Id Name : Type 0} → TypeError Key Id Name → Tree → Tree → Type 0
+IsNoLengths e t u = (p : ExpectedFound (ConstKey _)) → e ≡ ConstMismatch p → sort_of t ≡ const_sort →
+    sort_of u ≡ const_sort → ⊥
+
+-- An error of two parts of a function's signature, and the same with the place of these parts.
+pub data IsPlaced {Key Id Name : Type 0} (i : ℕ) (e f : TypeError Key Id Name) : Type 0 where
+  sorts_at : (p : ExpectedFound (TyKey Key)) → e ≡ Sorts p → f ≡ ArgumentSorts p i → IsPlaced i e f
+  argument_sorts_at : (p : ExpectedFound (TyKey Key)) (j : ℕ) → e ≡ ArgumentSorts p j → f ≡ ArgumentSorts p i →
+      IsPlaced i e f
+  mutability_at : e ≡ Mutability → f ≡ ArgumentMutability i → IsPlaced i e f
+  argument_mutability_at : (j : ℕ) → e ≡ ArgumentMutability j → f ≡ ArgumentMutability i → IsPlaced i e f
+
+-- An error of parts of a signature that does not name their place.
+abbrev pub NamesNoPlace : {Key Id Name : Type 0} → TypeError Key Id Name → Type 0
+NamesNoPlace e = (f : TypeError _ _ _) → IsPlaced 0 e f → ⊥
+
+-- An error of two parts at a place is the whole's error too. Not so of the lengths of two arrays; of a function's inputs
+-- and its output, whose place is named; and of what values are made of, where the whole values differ.
+abbrev pub IsHandedOn : {Key Id Name : Type 0} → TypeError Key Id Name → Head → ℕ → Tree → Tree → Type 0
+IsHandedOn e (adt d) i t u = Unit {0}
+IsHandedOn e (fn_def d) i t u = Unit {0}
+IsHandedOn e (closure d) i t u = Unit {0}
+IsHandedOn e (coroutine_closure d) i t u = Unit {0}
+IsHandedOn e (coroutine d) i t u = Unit {0}
+IsHandedOn e (coroutine_witness d) i t u = Unit {0}
+IsHandedOn e array i t u = IsNoLengths e t u
+IsHandedOn e slice i t u = Unit {0}
+IsHandedOn e pattern_type i t u = Unit {0}
+IsHandedOn e tuple i t u = Unit {0}
+IsHandedOn e unsafe_binder i t u = Unit {0}
+IsHandedOn e dynamic i t u = Unit {0}
+IsHandedOn e fn_ptr i t u = Unit {0}
+IsHandedOn e (raw_ptr x) i t u = Unit {0}
+IsHandedOn e (ref x) i t u = Unit {0}
+IsHandedOn e (alias k d) i t u = Unit {0}
+IsHandedOn e (signature x s y) zero t u = Unit {0}
+IsHandedOn e (signature x s y) (suc i) t u = NamesNoPlace e
+IsHandedOn e inputs i t u = NamesNoPlace e
+IsHandedOn e (unevaluated d) i t u = Unit {0}
+IsHandedOn e (expression k) i t u = Unit {0}
+IsHandedOn e value i t u = ⊥
+IsHandedOn e value_type i t u = ⊥
+IsHandedOn e value_branch i t u = ⊥
+IsHandedOn e range_pattern i t u = Unit {0}
+IsHandedOn e or_pattern i t u = Unit {0}
+IsHandedOn e arguments i t u = Unit {0}
+IsHandedOn e object i t u = Unit {0}
+IsHandedOn e (existential_trait d) i t u = Unit {0}
+IsHandedOn e (existential_projection d) i t u = Unit {0}
+IsHandedOn e (trait_ref d) i t u = Unit {0}
+IsHandedOn e (trait_clause p) i t u = Unit {0}
+IsHandedOn e (host_effect z) i t u = Unit {0}
+IsHandedOn e (subtype x) i t u = Unit {0}
+IsHandedOn e (alias_term k d) i t u = Unit {0}
+IsHandedOn e region_outlives i t u = Unit {0}
+IsHandedOn e type_outlives i t u = Unit {0}
+IsHandedOn e projection i t u = Unit {0}
+IsHandedOn e const_has_type i t u = Unit {0}
+IsHandedOn e well_formed i t u = Unit {0}
+IsHandedOn e const_evaluatable i t u = Unit {0}
+IsHandedOn e coerce i t u = Unit {0}
+IsHandedOn e normalizes_to i t u = Unit {0}
+IsHandedOn e (alias_relate d) i t u = Unit {0}
+IsHandedOn e environment i t u = Unit {0}
 
 -- The variable stands in the term, which is not the variable itself.
-abbrev pub IsCycle : ℕ → Tree → Type 0
-IsCycle n t = Occurs type_var n t × (t ≢ leaf (variable type_var n))
+abbrev pub IsCycle : VarKind → ℕ → Tree → Type 0
+IsCycle k n t = Occurs k n t × (t ≢ leaf (variable k n))
 
--- No variable of any kind.
-abbrev pub IsNoVariable : Tree → Type 0
-IsNoVariable t = (k : VarKind) (n : ℕ) → t ≢ leaf (variable k n)
+-- The leaf stands in the term, outside the aliases in it.
+abbrev pub StandsOutside : Leaf → Tree → Type 0
+StandsOutside l (leaf k) = k ≡ l
+StandsOutside l (node (alias k d) ts) = ⊥
+StandsOutside l (node h ts) = StandsOutside l ts
+StandsOutside l (bind ks t) = StandsOutside l t
+StandsOutside l nil = ⊥
+StandsOutside l (cons t ts) = StandsOutside l t ⊎ StandsOutside l ts
+
+-- The first of two terms is a variable that may be bound to the second: of a kind for which that may stand.
+abbrev pub IsVariableFor : Tree → Tree → Type 0
+IsVariableFor (leaf (variable k n)) u = MayStandFor k u
+IsVariableFor (leaf (bound k d i)) u = ⊥
+IsVariableFor (leaf (placeholder k w n)) u = ⊥
+IsVariableFor (leaf (atom x)) u = ⊥
+IsVariableFor (leaf unknown) u = ⊥
+IsVariableFor (node h ts) u = ⊥
+IsVariableFor (bind ks t) u = ⊥
+IsVariableFor nil u = ⊥
+IsVariableFor (cons t ts) u = ⊥
+
+-- One of two terms is a variable that may be bound to the other.
+abbrev pub AreBindable : Tree → Tree → Type 0
+AreBindable t u = IsVariableFor t u ⊎ IsVariableFor u t
+
+-- Neither of two terms stands for an error.
+abbrev pub HaveNoError : Tree → Tree → Type 0
+HaveNoError t u = (IsError t → ⊥) × (IsError u → ⊥)
 
 -- By the entries of a store a type is read as another: itself; a variable as each of its class, and as what the term is
 -- read as that it is bound to.
@@ -96,42 +251,63 @@ module _ {Key Id Name : Type 0} (m : Meaning Key Id Name) where
         (count ts ≡ zero) ⊎ (count us ≡ zero) → FormError x y (Sorts (record { expected = x; found = y }))
     as_many : {h : Head} {ts us : Tree} → m.ty x ≡ node h ts → m.ty y ≡ node h us → h ≢ tuple →
         count ts ≢ count us → FormError x y (Sorts (record { expected = x; found = y }))
-    sorts : (AreAlike (m.ty x) (m.ty y) → ⊥) → FormError x y (Sorts (record { expected = x; found = y }))
+    unlike_aliases : {k l : AliasKind} {ts us : Tree} (c d : Id) → m.ty x ≡ node (alias k (m.id c)) ts →
+        m.ty y ≡ node (alias l (m.id d)) us → m.id c ≢ m.id d →
+        FormError x y (ProjectionMismatched (record { expected = c; found = d }))
+    sorts : HaveNoError (m.ty x) (m.ty y) → (AreAlike (m.ty x) (m.ty y) → ⊥) →
+        FormError x y (Sorts (record { expected = x; found = y }))
 
   -- The outermost forms of two constants differ, and the error that says how.
   pub data ConstFormError (x y : ConstKey Key) : TypeError Key Id Name → Type 0 where
-    const_mismatch : (AreAlikeConsts (m.const_ x) (m.const_ y) → ⊥) →
+    const_mismatch : HaveNoError (m.const_ x) (m.const_ y) → (AreAlikeConsts (m.const_ x) (m.const_ y) → ⊥) →
         ConstFormError x y (ConstMismatch (record { expected = x; found = y }))
     operations : {k l : ℕ} {ts us : Tree} → m.const_ x ≡ node (expression k) ts → m.const_ y ≡ node (expression l) us →
         (k ≢ l) ⊎ (count ts ≢ count us) → ConstFormError x y Mismatch
 
+  -- A variable can't be bound to a term, and the error that says why: it stands in what the term comes to; or there
+  -- stands a placeholder of a type or a constant that is of a universe beyond the variable's.
+  pub data BindingError (st : Store) (a b : Tree) (e : TypeError Key Id Name) : Type 0 where
+    cyclic_ty : (n : ℕ) (k : TyKey Key) → a ≡ leaf (variable type_var n) → m.ty k ≡ apply (resolved st) b →
+        IsCycle type_var n (m.ty k) → e ≡ CyclicTy k → BindingError st a b e
+    cyclic_const : (n : ℕ) (k : ConstKey Key) → a ≡ leaf (variable const_var n) →
+        m.const_ k ≡ apply (resolved st) b → IsCycle const_var n (m.const_ k) → e ≡ CyclicConst k →
+        BindingError st a b e
+    beyond : (k : VarKind) (n : ℕ) (q : BoundKind) (u i : ℕ) → a ≡ leaf (variable k n) →
+        StandsOutside (placeholder q u i) (apply (resolved st) b) → bound_sort q ≢ region_sort →
+        universe_of st k n < u → e ≡ Mismatch → BindingError st a b e
+
   -- The error comes of a pair that is met when two terms are related at a variance that is not bivariance: of two types
   -- or constants, as read, that differ in form; of what they are read as by what is recorded; of two arguments of
   -- different kinds; of two parts at one place of one form, at the variance of that place, as the whole's error; or of a
-  -- variable that stands in what the other type comes to.
+  -- variable that can't be bound to the other side. Two terms of which one is a variable that may be bound to the other
+  -- do not differ in form.
   pub data ErrorOf (c : Items) (st : Store) : Variance → TypeError Key Id Name → Tree → Tree → Type 0 where
     of_forms : {v : Variance} {e : _} {a b : Tree} (x y : TyKey Key) → v ≢ Bivariant → m.ty x ≡ a → m.ty y ≡ b →
-        IsNoVariable a → IsNoVariable b → FormError x y e → ErrorOf c st v e a b
+        (AreBindable a b → ⊥) → FormError x y e → ErrorOf c st v e a b
     of_const_forms : {v : Variance} {e : _} {a b : Tree} (x y : ConstKey Key) → v ≢ Bivariant → m.const_ x ≡ a →
-        m.const_ y ≡ b → IsNoVariable a → IsNoVariable b → ConstFormError x y e → ErrorOf c st v e a b
+        m.const_ y ≡ b → (AreBindable a b → ⊥) → ConstFormError x y e → ErrorOf c st v e a b
     of_kinds : {v : Variance} {a b : Tree} → v ≢ Bivariant → sort_of a ≢ sort_of b → ErrorOf c st v Mismatch a b
     of_entries : {v : Variance} {e : _} {a b t u : Tree} → IsReadAs st a t → IsReadAs st b u → ErrorOf c st v e t u →
         ErrorOf c st v e a b
     of_parts : {v : Variance} {e : _} {h : Head} {a b ts us : Tree} (i : ℕ) → a ≡ node h ts → b ≡ node h us →
-        count ts ≡ count us → i < count ts → IsHandedOn e h (nth i ts) (nth i us) →
+        count ts ≡ count us → i < count ts → IsHandedOn e h i (nth i ts) (nth i us) →
         ErrorOf c st (part_at c h i v) e (nth i ts) (nth i us) → ErrorOf c st v e a b
     of_length : {v : Variance} {p : ExpectedFound (ConstKey Key)} {a b ts us : Tree} (x y : ConstKey Key) (i : ℕ) →
         a ≡ node array ts → b ≡ node array us → count ts ≡ count us → i < count ts → nth i ts ≡ m.const_ x →
         nth i us ≡ m.const_ y → ErrorOf c st (part_at c array i v) (ConstMismatch p) (nth i ts) (nth i us) →
         ErrorOf c st v (ArraySize (record { expected = x; found = y })) a b
+    of_inputs : {v : Variance} {e f : _} {a b ts us : Tree} (i : ℕ) → a ≡ node inputs ts → b ≡ node inputs us →
+        count ts ≡ count us → i < count ts → ErrorOf c st (part_at c inputs i v) e (nth i ts) (nth i us) →
+        IsPlaced i e f → ErrorOf c st v f a b
+    of_outputs : {v : Variance} {e f : _} {x y : Bool} {s t : Safety} {k l : ExternAbi} {a b p q o r : Tree} →
+        a ≡ node (signature x s k) (cons (node inputs p) (cons o nil)) →
+        b ≡ node (signature y t l) (cons (node inputs q) (cons r nil)) → count p ≡ count q →
+        ErrorOf c st (part_at c (signature x s k) 1 v) e o r → IsPlaced (count p) e f → ErrorOf c st v f a b
     of_branches : {v : Variance} {e : _} {t u ts us : Tree} (x y : ConstKey Key) (i : ℕ) →
         m.const_ x ≡ node value (cons t (cons (node value_branch ts) nil)) →
         m.const_ y ≡ node value (cons u (cons (node value_branch us) nil)) → count ts ≡ count us → i < count ts →
         ErrorOf c st (part_at c value_branch i v) e (nth i ts) (nth i us) →
         ErrorOf c st v (ConstMismatch (record { expected = x; found = y })) (m.const_ x) (m.const_ y)
-    of_cycle : {v : Variance} {e : _} {a b : Tree} (n : ℕ) (k : TyKey Key) → v ≢ Bivariant →
-        a ≡ leaf (variable type_var n) → m.ty k ≡ apply (resolved st) b → IsCycle n (m.ty k) → e ≡ CyclicTy k →
-        ErrorOf c st v e a b
-    of_cycle_back : {v : Variance} {e : _} {a b : Tree} (n : ℕ) (k : TyKey Key) → v ≢ Bivariant →
-        b ≡ leaf (variable type_var n) → m.ty k ≡ apply (resolved st) a → IsCycle n (m.ty k) → e ≡ CyclicTy k →
+    of_binding : {v : Variance} {e : _} {a b : Tree} → v ≢ Bivariant → BindingError st a b e → ErrorOf c st v e a b
+    of_binding_back : {v : Variance} {e : _} {a b : Tree} → v ≢ Bivariant → BindingError st b a e →
         ErrorOf c st v e a b

@@ -116,7 +116,7 @@ returns-in_err-answer g c =
     (sym (as_err c.from_residual.result f c.from_residual.ensures.0 c.from_residual.ensures.1))
     (form_refused M r.ambient h ts us i inv.fronted inv.are_parts as_many
     (args_looked_at r.meaning c.args.variances.now) x y lx ly ex ey
-    (λ e. args_handed_on r.meaning c.args.variances.now e x y) (arg_tree p.meaning)
+    (λ e. args_handed_on r.meaning c.args.variances.now e i x y) (arg_tree p.meaning)
     (λ k. node (args_head p.meaning c.args.variances.now) ((p.meaning).args k)) f gone)
 
 pub returns-in_err-push : goal.returns-in_err-push

@@ -117,7 +117,7 @@ returns-then-ne-3-clause-errors g c =
     let m = g.I.Interner.meaning c.args.cx.now in
     let differ : m.ty c.args.a.now ≢ m.ty c.args.b.now = (λ e. (let t = c.if-ne-3.true in let h = c.ne-in_default-left.ensures in let k = c.if-ne-3.ensures in
     let l = (g.met.I.Interner.same_ty c.args.cx.now c.args.a.now c.args.b.now c.requires.a_known c.requires.b_known).1 e in search rules)) in
-    unlike_alone m c.ty_kind-left.result c.args.a.now c.args.b.now c.unlike-then-ne-3.result c.ty_kind-left.ensures differ c.unlike-then-ne-3.ensures
+    unlike_alone m c.ty_kind-left.result c.ty_kind-right.result c.args.a.now c.args.b.now c.unlike-then-ne-3.result c.ty_kind-left.ensures c.ty_kind-right.ensures differ c.unlike-then-ne-3.ensures
     c.in_default.ensures.is_none c.in_default-left.not-Slice c.in_default-left.not-Array c.in_default-left.not-Tuple c.in_default-left.not-RawPtr c.in_default-left.not-Ref c.in_default-left.not-Param
 
 pub returns-else-ne-3-clause-alike : goal.returns-else-ne-3-clause-alike
