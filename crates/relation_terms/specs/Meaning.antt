@@ -6,7 +6,7 @@ use Rattle.relation_terms.specs.Heads.{foreign, type_param, static_region, early
 use Rattle.relation_terms.specs.Heads.{adt, fn_def, closure, coroutine_closure, coroutine, coroutine_witness}
 use Rattle.relation_terms.specs.Heads.{array, slice, tuple, raw_ptr, ref, expression, value, value_type, value_branch}
 use Rattle.relation_terms.specs.Heads.{variable, placeholder, atom}
-use Rattle.relation_terms.specs.Trees.{Tree, leaf, node, nil, cons, known, list_tree}
+use Rattle.relation_terms.specs.Trees.{Tree, leaf, node, nil, cons, known}
 use Rattle.relation_terms.specs.declared.terms.enums.Variance.{Variance}
 use Rattle.relation_terms.specs.declared.terms.keys.TyKey.{TyKey}
 use Rattle.relation_terms.specs.declared.terms.keys.RegionKey.{RegionKey}

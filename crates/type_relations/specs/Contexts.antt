@@ -1,5 +1,5 @@
 -- What contracts see of a context, and what relating two types in it asks and promises.
-use Rattle.std.specs.Prelude.{◌≡◌, ◌+◌, IsTrue, IfOk, IfErr, Result, []}
+use Rattle.std.specs.Prelude.{◌≡◌, ◌+◌, IsTrue, IfOk, Result, []}
 use Rattle.std.specs.Global.{Vec}
 use Rattle.std.specs.Result.{IsOkAnd}
 use Rattle.relation_terms.specs.declared.terms.enums.Variance.{Variance}

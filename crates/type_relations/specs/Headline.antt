@@ -1,5 +1,5 @@
 -- What relating two terms promises, as it stands on `relate`.
-use Rattle.std.specs.Prelude.{◌≡◌, ◌↔◌, List, [], All}
+use Rattle.std.specs.Prelude.{◌≡◌, ◌↔◌, List, All}
 use Rattle.relation_terms.specs.declared.terms.enums.Variance.{Variance}
 use Rattle.relation_terms.specs.Trees.{Tree, Assign, apply}
 use Rattle.type_relations.specs.Relation.{Items, Interpretation}
@@ -7,7 +7,6 @@ use Rattle.type_relations.specs.Stores.{Store, Satisfies, OnlyShrinks}
 use Rattle.type_relations.specs.Goals.{Goal, Relates, MakesOneTree}
 use Rattle.type_relations.specs.FirstOrder.{IsFirstOrder, IsFirstOrderStore, Unifies, IsErasedSolution}
 use Rattle.type_relations.specs.Steps.{Extends, ExtendsErased}
-use Rattle.type_relations.specs.Outcomes.{Exact}
 
 -- Sound: each assignment that satisfies the store after and makes the goals answered true relates the terms at the
 -- variance in the environment, and satisfied the store before.

@@ -1,5 +1,5 @@
 -- What is asked and promised of the keys of a relation's terms, at its ambient variance where no other is named.
-use Rattle.std.specs.Prelude.{◌≡◌, ◌++◌, ℕ, IsTrue, Result}
+use Rattle.std.specs.Prelude.{◌≡◌, ◌++◌, Result}
 use Rattle.relation_terms.specs.declared.terms.enums.Variance.{Variance}
 use Rattle.relation_terms.specs.declared.terms.ids.DefId.{DefId}
 use Rattle.relation_terms.specs.declared.terms.keys.TyKey.{TyKey}
@@ -8,8 +8,8 @@ use Rattle.relation_terms.specs.declared.terms.keys.ConstKey.{ConstKey}
 use Rattle.relation_terms.specs.declared.terms.keys.ArgsKey.{ArgsKey}
 use Rattle.relation_terms.specs.declared.terms.generic_arg.GenericArgKind.{GenericArgKind}
 use Rattle.relation_terms.specs.Heads.{Head}
-use Rattle.relation_terms.specs.Trees.{Tree, node, known}
-use Rattle.relation_terms.specs.Meaning.{Meaning, Extends, arg_tree}
+use Rattle.relation_terms.specs.Trees.{node}
+use Rattle.relation_terms.specs.Meaning.{Meaning, arg_tree}
 use Rattle.relation_terms.specs.Variances.{xform}
 use Rattle.relation_tools.specs.declared.error.RelateFault.{RelateFault}
 use Rattle.type_relations.specs.declared.relate.Step.{Step}
