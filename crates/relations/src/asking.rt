@@ -9,6 +9,7 @@ ghost use Rattle.type_relations.specs.Goals.{goals_of};
 ghost use Rattle.type_relations.specs.Steps.{IsLater};
 ghost use Rattle.type_relations.specs.Outcomes.{NoEqualTerms};
 ghost use Rattle.type_relations.specs.Headline.{AnswersGoals};
+ghost use Rattle.type_relations.specs.Lawful.{items_of};
 ghost use Rattle.type_relations.specs.Taken.{IsTaken};
 ghost use Rattle.relation_reference.specs.Tables.{store_of, IsLawful};
 ghost use Rattle.relations.specs.Types.{written_tree, has_all};
@@ -115,7 +116,7 @@ pub fn relate<C: RelateExt>(
     requires rhs_taken { IsTaken variance ((C.Interner.meaning (C.interner ctx.old)).ty rhs) }
     requires lhs_in { IsTermIn (C.store ctx.old) ((C.Interner.meaning (C.interner ctx.old)).ty lhs) }
     requires rhs_in { IsTermIn (C.store ctx.old) ((C.Interner.meaning (C.interner ctx.old)).ty rhs) }
-    ensures answers { IfOk result (λ goals. AnswersGoals (C.items ctx.old) (C.store ctx.old) (C.store ctx.new) (goals_of (C.Interner.meaning (C.interner ctx.new)) goals.items) ((C.Interner.meaning (C.interner ctx.old)).param_env param_env) variance ((C.Interner.meaning (C.interner ctx.old)).ty lhs) ((C.Interner.meaning (C.interner ctx.old)).ty rhs)) }
+    ensures answers { IfOk result (λ goals. AnswersGoals (items_of (C.Interner.meaning (C.interner ctx.old))) (C.store ctx.old) (C.store ctx.new) (goals_of (C.Interner.meaning (C.interner ctx.new)) goals.items) ((C.Interner.meaning (C.interner ctx.old)).param_env param_env) variance ((C.Interner.meaning (C.interner ctx.old)).ty lhs) ((C.Interner.meaning (C.interner ctx.old)).ty rhs)) }
     ensures apart { IfUnrelated result (λ e. NoEqualTerms (C.store ctx.old) ((C.Interner.meaning (C.interner ctx.old)).ty lhs) ((C.Interner.meaning (C.interner ctx.old)).ty rhs)) }
     ensures lawful { C.is_lawful ctx.new }
     ensures later { IsLater (C.store ctx.old) (C.store ctx.new) }
