@@ -1,6 +1,6 @@
 -- The variances of a table's items, and that the trees of its nodes do not depend on them.
 use Rattle.std.proofs.Common.{ℕ, ◌≡◌, ◌≢◌, ◌<◌, ◌≤◌, List, [], ◌∷◌, ◌++◌, refl, ap, ap₂, sym, ◌∙◌, subst, length, map}
-use Rattle.std.proofs.Common.{get_or, inl, inr, Option, Some, None}
+use Rattle.std.proofs.Common.{get_or, inl, inr, Option, None}
 use Rattle.std.proofs.lemmas.Bool.{cases_lt}
 use Rattle.std.proofs.lemmas.List.{get_or-map, length-map, map-append, get_or_append_left, get_or_past}
 use Rattle.std.proofs.Math.Seq.{get_or-append_seam}

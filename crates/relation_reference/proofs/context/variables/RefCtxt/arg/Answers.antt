@@ -1,4 +1,4 @@
-use Rattle.std.proofs.Common.{◌∙◌, ◌<◌, length, refl, arith}
+use Rattle.std.proofs.Common.{◌<◌, length, refl, arith}
 use Rattle.relation_terms.specs.Meaning.{arg_tree}
 use Rattle.type_relations.proofs.Parts.{slice_below, slice_sure, slice_nth}
 use Rattle.relation_reference.proofs.context.variables.RefCtxt.arg.Goals as goal
