@@ -15,7 +15,7 @@ use Rattle.type_relations.specs.Stores.{Store, unbound, entry_of, universe_of, I
 use Rattle.type_relations.specs.Steps.{BindsTo, ChangesNothing, Instantiates, RefusesToInstantiate}
 use Rattle.type_relations.specs.Measures.{Goes}
 use Rattle.type_relations.specs.Outcomes.{NoEqualTerms}
-use Rattle.type_relations.specs.Errors.{IsCycle, cyclic_ty, of_binding, of_binding_back}
+use Rattle.type_relations.specs.Errors.{IsCycle, StandsOutside, cyclic_ty, of_binding, of_binding_back}
 use Rattle.type_relations.proofs.Resolved.{resolved_value, resolved_twice, cycles_do_not_unify}
 use Rattle.type_relations.proofs.Standing.{term_scope}
 use Rattle.type_relations.proofs.StoreCalls.{resolved_resolves}
@@ -27,6 +27,7 @@ use Rattle.relation_reference.specs.declared.context.inner.InferCtxtInner.{Infer
 use Rattle.relation_reference.specs.Tables.{store_of, IsLawful}
 use Rattle.type_relations.specs.Parts.{IsFormed}
 use Rattle.relation_reference.specs.Answers.{Unites, Answered, Instantiated, StepsByInstantiating}
+use Rattle.relation_reference.proofs.Outside.{outside_occurs}
 use Rattle.relation_reference.proofs.Grows.{store_grows, lawful_grows}
 use Rattle.relation_reference.proofs.Writing.{binds_to, bind_lawful}
 
@@ -142,16 +143,16 @@ module _ {Key Id Name : Type 0} {m n : Meaning Key Id Name} (grown : Extends m n
 
 -- What binding a root answers, by the bound type's side.
 module _ {Key Id Name : Type 0} (m : Meaning Key Id Name) (before after : Store) (n : ℕ) (t : Tree) where
-  is_cycle : {k : TyKey Key} → IsFormed t → m.ty k ≡ apply (resolved before) t → Occurs type_var n (m.ty k) → IsCycle type_var n (m.ty k)
+  is_cycle : {k : TyKey Key} → IsFormed t → m.ty k ≡ apply (resolved before) t → StandsOutside (variable type_var n) (m.ty k) → IsCycle type_var n (m.ty k)
   is_cycle f e o = (o, λ q. formed_differs n (apply (resolved before) t) (formed_applied (resolved before) t f) (sym e ∙ q))
 
   pub instantiated_refused : (X : Type 0) (f : RelateFault Key Id Name) → IsFormed t → Instantiated m before after n t (Err f) → Answered {X = X} m before after (leaf (variable type_var n)) t (Err f)
-  instantiated_refused X (Unrelated a) f h = (cycle_apart before n t f (subst (Occurs type_var n) h.2 h.3), of_binding (λ z. cc) (cyclic_ty n h.0 refl (h.2 ∙ ap (λ st. apply (resolved st) t) (sym h.5)) (is_cycle f h.2 h.3) h.1))
+  instantiated_refused X (Unrelated a) f h = (cycle_apart before n t f (subst (Occurs type_var n) h.2 (outside_occurs type_var n (m.ty h.0) h.3)), of_binding (λ z. cc) (cyclic_ty n h.0 refl (h.2 ∙ ap (λ st. apply (resolved st) t) (sym h.5)) (is_cycle f h.2 h.3) h.1))
   instantiated_refused X Budget f h = ap (λ st. st.budget) h.1 ∙ h.0
   instantiated_refused X Memory f h = tt
 
   pub instantiated_refused_back : (X : Type 0) (f : RelateFault Key Id Name) → IsFormed t → Instantiated m before after n t (Err f) → Answered {X = X} m before after t (leaf (variable type_var n)) (Err f)
-  instantiated_refused_back X (Unrelated a) f h = (λ w s sat e. cycle_apart before n t f (subst (Occurs type_var n) h.2 h.3) w s sat (sym e), of_binding_back (λ z. cc) (cyclic_ty n h.0 refl (h.2 ∙ ap (λ st. apply (resolved st) t) (sym h.5)) (is_cycle f h.2 h.3) h.1))
+  instantiated_refused_back X (Unrelated a) f h = (λ w s sat e. cycle_apart before n t f (subst (Occurs type_var n) h.2 (outside_occurs type_var n (m.ty h.0) h.3)) w s sat (sym e), of_binding_back (λ z. cc) (cyclic_ty n h.0 refl (h.2 ∙ ap (λ st. apply (resolved st) t) (sym h.5)) (is_cycle f h.2 h.3) h.1))
   instantiated_refused_back X Budget f h = ap (λ st. st.budget) h.1 ∙ h.0
   instantiated_refused_back X Memory f h = tt
 

@@ -29,6 +29,7 @@ use Rattle.type_relations.proofs.Exactness.{instantiating_is_exact_step}
 use Rattle.type_relations.proofs.StoreCalls.{equating_is_exact}
 use Rattle.type_relations.proofs.Instantiating.{resolved_first_order}
 use Rattle.type_relations.proofs.Unifying.{exact_itself}
+use Rattle.relation_reference.proofs.Outside.{outside_occurs}
 use Rattle.relation_reference.proofs.Making.{region_value}
 use Rattle.relation_reference.proofs.Binding.{cycle_refuses}
 use Rattle.relation_reference.specs.Answers.{Instantiated}
@@ -203,14 +204,14 @@ module _ {Key Id Name : Type 0} (X : Type 0) (m : Meaning Key Id Name) (before a
   pub left_apart : IsReadAs before a (leaf (variable type_var n)) → IsReadAs before b t →
       (f : RelateFault Key Id Name) → Instantiated m before after n t (Err f) → ExactResult {X = X} before after a b (Err f)
   left_apart p q (Unrelated e) h = apart_read before g a b (leaf (variable type_var n)) t p q
-      ((cycle_refuses before n t g formed (subst (Occurs type_var n) h.2 h.3)).apart_erased refl simple bindings)
+      ((cycle_refuses before n t g formed (subst (Occurs type_var n) h.2 (outside_occurs type_var n (m.ty h.0) h.3))).apart_erased refl simple bindings)
   left_apart p q Budget h = tt
   left_apart p q Memory h = tt
 
   pub right_apart : IsReadAs before a t → IsReadAs before b (leaf (variable type_var n)) →
       (f : RelateFault Key Id Name) → Instantiated m before after n t (Err f) → ExactResult {X = X} before after a b (Err f)
   right_apart p q (Unrelated e) h = apart_read before g a b t (leaf (variable type_var n)) p q
-      (λ s sol one. (cycle_refuses before n t g formed (subst (Occurs type_var n) h.2 h.3)).apart_erased refl simple
+      (λ s sol one. (cycle_refuses before n t g formed (subst (Occurs type_var n) h.2 (outside_occurs type_var n (m.ty h.0) h.3))).apart_erased refl simple
       bindings s sol (sym one))
   right_apart p q Budget h = tt
   right_apart p q Memory h = tt

@@ -12,7 +12,7 @@ use Rattle.relation_terms.specs.declared.terms.keys.TyKey.{TyKey}
 use Rattle.type_relations.specs.Stores.{Store, same_as, entry_of, bound_term, resolved, Satisfies}
 use Rattle.type_relations.specs.Steps.{BindsTo, ChangesNothing, Instantiates, RefusesToInstantiate}
 use Rattle.type_relations.specs.Outcomes.{NoEqualTerms}
-use Rattle.type_relations.specs.Errors.{ErrorOf}
+use Rattle.type_relations.specs.Errors.{ErrorOf, StandsOutside}
 use Rattle.type_relations.specs.Lawful.{items_of}
 use Rattle.type_relations.specs.Parts.{IsFormed}
 
@@ -38,7 +38,7 @@ abbrev pub Instantiated : {Key Id Name : Type 0} → Meaning Key Id Name → Sto
 Instantiated m before after n t (Ok k) = (m.ty k ≡ apply (resolved before) t) ×
     BindsTo before after type_var n (m.ty k) × (Occurs type_var n (apply (resolved before) t) → ⊥)
 Instantiated m before after n t (Err (Unrelated e)) = (k : TyKey _) × (e ≡ CyclicTy k) ×
-    (m.ty k ≡ apply (resolved before) t) × Occurs type_var n (m.ty k) × (0 < before.budget) × (after ≡ before)
+    (m.ty k ≡ apply (resolved before) t) × StandsOutside (variable type_var n) (m.ty k) × (0 < before.budget) × (after ≡ before)
 Instantiated m before after n t (Err Budget) = (before.budget ≡ 0) × (after ≡ before)
 Instantiated m before after n t (Err Memory) = (0 < before.budget) × (after ≡ before)
 

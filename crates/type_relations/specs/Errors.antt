@@ -17,7 +17,7 @@ use Rattle.relation_terms.specs.Heads.{alias_term, region_outlives, type_outlive
 use Rattle.relation_terms.specs.Heads.{well_formed, const_evaluatable, coerce, normalizes_to, alias_relate, environment}
 use Rattle.relation_terms.specs.Heads.{expression, value, value_type, value_branch, Leaf, variable, bound, placeholder}
 use Rattle.relation_terms.specs.Heads.{atom, unknown}
-use Rattle.relation_terms.specs.Trees.{Tree, leaf, node, bind, nil, cons, apply, count, nth, Occurs}
+use Rattle.relation_terms.specs.Trees.{Tree, leaf, node, bind, nil, cons, apply, count, nth}
 use Rattle.relation_terms.specs.Meaning.{Meaning}
 use Rattle.relation_tools.specs.declared.error.ExpectedFound.{ExpectedFound}
 use Rattle.relation_tools.specs.declared.error.TypeError.{TypeError}
@@ -196,18 +196,19 @@ IsHandedOn e normalizes_to i t u = Unit {0}
 IsHandedOn e (alias_relate d) i t u = Unit {0}
 IsHandedOn e environment i t u = Unit {0}
 
--- The variable stands in the term, which is not the variable itself.
-abbrev pub IsCycle : VarKind → ℕ → Tree → Type 0
-IsCycle k n t = Occurs k n t × (t ≢ leaf (variable k n))
-
 -- The leaf stands in the term, outside the aliases in it.
 abbrev pub StandsOutside : Leaf → Tree → Type 0
-StandsOutside l (leaf k) = k ≡ l
+StandsOutside l (leaf k) = leaf k ≡ leaf l
 StandsOutside l (node (alias k d) ts) = ⊥
 StandsOutside l (node h ts) = StandsOutside l ts
 StandsOutside l (bind ks t) = StandsOutside l t
 StandsOutside l nil = ⊥
 StandsOutside l (cons t ts) = StandsOutside l t ⊎ StandsOutside l ts
+
+-- The variable stands in the term outside the aliases in it, and the term is not the variable itself. In an alias it
+-- makes no cycle, as a variable takes the alias's place where the term is bound.
+abbrev pub IsCycle : VarKind → ℕ → Tree → Type 0
+IsCycle k n t = StandsOutside (variable k n) t × (t ≢ leaf (variable k n))
 
 -- The first of two terms is a variable that may be bound to the second: of a kind for which that may stand.
 abbrev pub IsVariableFor : Tree → Tree → Type 0

@@ -5,6 +5,7 @@ ghost use Rattle.relation_terms.specs.Trees.{leaf, known, apply, count, nth, Occ
 ghost use Rattle.relation_terms.specs.Meaning.{Extends, arg_tree, kind_tree};
 ghost use Rattle.type_relations.specs.Stores.{unbound, entry_of, resolved, weight, IsTermIn};
 ghost use Rattle.type_relations.specs.Measures.{Goes};
+ghost use Rattle.type_relations.specs.Errors.{StandsOutside};
 ghost use Rattle.relation_tools.specs.Faults.{KnowsFault};
 ghost use Rattle.relation_reference.specs.Tables.{store_of, IsLawful};
 ghost use Rattle.type_relations.specs.Parts.{IsFormed};
@@ -24,7 +25,7 @@ use type_relations::relate::parts::{const_part, const_parts_count, part, parts_c
 #[cycle(occurs)]
 fn occurs<I: Interner>(cx: &I, ty: &Ty<I>, var: TyVid) -> bool
     requires { IsTrue (known ((I.meaning cx.now).ty ty.now)) }
-    ensures stands { IsTrue result → Occurs type_var var.0 ((I.meaning cx.now).ty ty.now) }
+    ensures stands { IsTrue result → StandsOutside (variable type_var var.0) ((I.meaning cx.now).ty ty.now) }
     ensures absent { IsFalse result → Occurs type_var var.0 ((I.meaning cx.now).ty ty.now) → ⊥ }
 {
     if let TyKind::Infer(other) = cx.ty_kind(ty) {
@@ -42,7 +43,7 @@ fn occurs<I: Interner>(cx: &I, ty: &Ty<I>, var: TyVid) -> bool
 #[cycle(occurs)]
 fn occurs_in_arg<I: Interner>(cx: &I, arg: &GenericArg<I>, var: TyVid) -> bool
     requires { IsTrue (known (arg_tree (I.meaning cx.now) arg.now)) }
-    ensures stands { IsTrue result → Occurs type_var var.0 (arg_tree (I.meaning cx.now) arg.now) }
+    ensures stands { IsTrue result → StandsOutside (variable type_var var.0) (arg_tree (I.meaning cx.now) arg.now) }
     ensures absent { IsFalse result → Occurs type_var var.0 (arg_tree (I.meaning cx.now) arg.now) → ⊥ }
 {
     match arg {
@@ -56,7 +57,7 @@ fn occurs_in_arg<I: Interner>(cx: &I, arg: &GenericArg<I>, var: TyVid) -> bool
 #[cycle(occurs)]
 fn occurs_in_const<I: Interner>(cx: &I, constant: &Const<I>, var: TyVid) -> bool
     requires { IsTrue (known ((I.meaning cx.now).const_ constant.now)) }
-    ensures stands { IsTrue result → Occurs type_var var.0 ((I.meaning cx.now).const_ constant.now) }
+    ensures stands { IsTrue result → StandsOutside (variable type_var var.0) ((I.meaning cx.now).const_ constant.now) }
     ensures absent { IsFalse result → Occurs type_var var.0 ((I.meaning cx.now).const_ constant.now) → ⊥ }
 {
     if let ConstKind::Value(ty, _) = cx.const_kind(constant) {

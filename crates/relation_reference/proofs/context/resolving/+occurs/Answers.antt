@@ -1,6 +1,8 @@
 use Rattle.std.proofs.Common.{rules, ◌≡◌, ◌+◌, ◌*◌, sym, ap, subst, arith, ◌<◌}
 use Rattle.std.proofs.lemmas.Bool.{true≢false, false≢true}
-use Rattle.relation_terms.specs.Heads.{type_var}
+use Rattle.relation_terms.specs.Heads.{type_var, variable}
+use Rattle.type_relations.specs.Errors.{StandsOutside}
+use Rattle.relation_reference.proofs.Outside.{outside_nth, outside_parts, outside_const_parts}
 use Rattle.relation_terms.specs.Trees.{size, Occurs, IsTerm}
 use Rattle.relation_terms.specs.Meaning.{arg_tree, const_tree}
 use Rattle.relation_terms.specs.declared.terms.keys.TyKey.{TyKey}
@@ -8,7 +10,7 @@ use Rattle.relation_terms.specs.declared.terms.keys.ValTreeKey.{ValTreeKey}
 use Rattle.relation_terms.specs.declared.terms.const_kind.ConstKind.TheVariants.{Value}
 use Rattle.type_relations.specs.Parts.{parts_of, const_parts_of}
 use Rattle.type_relations.specs.Parts.{IsFormed}
-use Rattle.type_relations.proofs.Parts.{size_part, size_const_part, occurs_nth, occurs_parts, occurs_const_parts}
+use Rattle.type_relations.proofs.Parts.{size_part, size_const_part}
 use Rattle.type_relations.proofs.Parts.{nowhere, occurs_formed, nowhere_in_const, kind_formed, only_type}
 use Rattle.relation_reference.proofs.context.resolving.+occurs.Goals.{occurs_in_const-in-Value+else-occurs}
 use Rattle.relation_reference.proofs.context.resolving.+occurs.Goals.{occurs_in_const-in_default}
@@ -30,9 +32,10 @@ occurs-returns-then-occurs_in_arg g t c =
     let m = g.I.Interner.meaning c.args.cx.now in
     let u = m.ty c.args.ty.now in
     record {
-      stands = λ h. occurs_parts type_var c.args.var.0 u (occurs_nth type_var c.args.var.0 (parts_of u) c.loop-i.i
+      stands = λ h. outside_parts m c.ty_kind.result u (variable type_var c.args.var.0) c.ty_kind.ensures
+          (outside_nth (variable type_var c.args.var.0) (parts_of u) c.loop-i.i
           (omega (arith, c.loop-i-test.true, c.parts_count-i-end.ensures.counts))
-          (subst (Occurs type_var c.args.var.0) c.part.ensures.means
+          (subst (StandsOutside (variable type_var c.args.var.0)) c.part.ensures.means
           (c.occurs_in_arg.ensures.stands c.if-occurs_in_arg.true)));
       absent = λ h o. true≢false h;
     }
@@ -65,9 +68,10 @@ pub occurs_in_const-returns-then-occurs_in_arg-clause-stands :
 occurs_in_const-returns-then-occurs_in_arg-clause-stands g t c h =
     let m = g.I.Interner.meaning c.args.cx.now in
     let u = m.const_ c.args.constant.now in
-    occurs_const_parts type_var c.args.var.0 u (occurs_nth type_var c.args.var.0 (const_parts_of u) c.loop-i.i
+    outside_const_parts (variable type_var c.args.var.0) u
+    (outside_nth (variable type_var c.args.var.0) (const_parts_of u) c.loop-i.i
     (omega (arith, c.loop-i-test.true, c.const_parts_count-i-end.ensures.counts))
-    (subst (Occurs type_var c.args.var.0) c.const_part.ensures.means
+    (subst (StandsOutside (variable type_var c.args.var.0)) c.const_part.ensures.means
     (c.occurs_in_arg.ensures.stands c.if-occurs_in_arg.true)))
 
 pub occurs_in_const-returns-clause-absent : goal.occurs_in_const-returns-clause-absent

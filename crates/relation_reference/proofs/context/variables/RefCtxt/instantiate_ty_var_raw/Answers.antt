@@ -8,6 +8,7 @@ use Rattle.type_relations.specs.Stores.{resolved, universe_of}
 use Rattle.relation_reference.specs.declared.context.inner.TypeVariableValue.TheVariants.{Known}
 use Rattle.relation_reference.specs.declared.context.inner.InferCtxtInner.{InferCtxtInner}
 use Rattle.relation_reference.specs.Tables.{store_of, IsLawful}
+use Rattle.relation_reference.proofs.Outside.{outside_occurs}
 use Rattle.relation_reference.proofs.Grows.{store_grows, lawful_grows}
 use Rattle.relation_reference.proofs.Binding.{memory_instantiated, memory_steps, nothing_changed, cycle_refuses, target_bound, target_lawful, target_steps}
 use Rattle.relation_reference.proofs.context.variables.RefCtxt.instantiate_ty_var_raw.Goals as goal
@@ -46,7 +47,7 @@ returns-then-occurs g c =
       grown = c.resolve_vars_if_possible.ensures.grown;
       sure = tt;
       answers = (c.in_ok-bound.bound, refl, means, stands, (let d = c.if-self-eq0.false in omega arith), kept);
-      steps = subst (λ z. RefusesToInstantiate st z Invariant type_var c.args.target.0 t) (sym kept) (cycle_refuses st c.args.target.0 t c.requires.lawful.sound c.requires.source_formed (subst (Occurs type_var c.args.target.0) means stands));
+      steps = subst (λ z. RefusesToInstantiate st z Invariant type_var c.args.target.0 t) (sym kept) (cycle_refuses st c.args.target.0 t c.requires.lawful.sound c.requires.source_formed (subst (Occurs type_var c.args.target.0) means (outside_occurs type_var c.args.target.0 (n.ty c.in_ok-bound.bound) stands)));
       why_known = c.in_ok-bound.ensures.sure;
     }
 
