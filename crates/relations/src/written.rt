@@ -10,9 +10,9 @@ ghost use Rattle.relations.specs.declared.written.BuildFault.TheVariants.{Memory
 
 use relation_reference::context::RefCtxt;
 use relation_terms::terms::{
-    AdtId, Const, ConstKind, EarlyParamRegion, GenericArgKind, GenericArgs, Interner,
-    Mutability, OutOfMemory, Region, RegionForm, RegionKind, RegionVid, Ty, TyForm, TyKind, Tys,
-    UintTy, ValTreeKind,
+    AdtId, Const, ConstKind, EarlyParamRegion, GenericArgKind, GenericArgs, Interner, Mutability,
+    OutOfMemory, Region, RegionForm, RegionKind, RegionVid, Ty, TyForm, TyKind, Tys, UintTy,
+    ValTreeKind,
 };
 use std::alloc::AllocFailed;
 
