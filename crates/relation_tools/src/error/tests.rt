@@ -1,4 +1,4 @@
-//! Which errors are about regions, which need a note, and copies of them, at plain numbers.
+//! Which errors are about regions, and which need a note, at plain numbers.
 
 use crate::error::{ExpectedFound, NoSolution, TypeError};
 use relation_terms::terms::{
