@@ -103,6 +103,7 @@ module _ {Key Id Name : Type 0} (m : Meaning Key Id Name) where
       goals_in = All-nil (GoalInContext (plain_store m (cs ++ c ∷ [])));
       environment = refl;
       ambient = refl;
+      settings = refl;
       reference = refl;
       lawful = λ l. constraint_sound (plain_store m cs) (plain_store m (cs ++ c ∷ [])) (constraint_of m c) added l
           is_in;
@@ -166,7 +167,7 @@ module _ {Key Id Name : Type 0} (m : Meaning Key Id Name) where
     unfolding recorded_passes
     itself_answered k = record {
       passes = recorded_passes v cs c of_store _;
-      verdict = record { outcome = outcome; answer = may_itself plain_manner (plain_store m (cs ++ c ∷ [])) (m.region a); known = k };
+      verdict = record { outcome = outcome; answer = may_itself plain_manner (plain_state m v (cs ++ c ∷ [])) v (m.region a); known = k };
       exact = λ q is pair. ((λ j n t found. absurd cc), exactly);
     }
 
@@ -236,6 +237,7 @@ module _ {Key Id Name : Type 0} {m n : Meaning Key Id Name} (e : Extends m n) wh
     goals = refl;
     environment = refl;
     ambient = refl;
+    settings = refl;
     reference = refl;
     lawful = λ l. subst IsSound (sym (store_stands cs l)) l;
   }

@@ -20,7 +20,7 @@ use Rattle.relation_tools.specs.declared.error.RelateFault.{RelateFault}
 use Rattle.relation_tools.specs.declared.error.RelateFault.TheVariants.{Memory, Budget, Unrelated}
 use Rattle.relation_tools.specs.Faults.{KnowsFault}
 use Rattle.type_relations.specs.declared.relate.Step.TheVariants.{Done, Parts, Again}
-use Rattle.type_relations.specs.Relation.{Interpretation, Rel, RegionRule, regions, at}
+use Rattle.type_relations.specs.Relation.{Interpretation, Rel, RegionRule, regions, at, same as same_rel}
 use Rattle.type_relations.specs.Stores.{Store, IsTermIn, IsRegionIn, IsSound, ConstraintHolds}
 use Rattle.type_relations.specs.Stores.{weight, resolved}
 use Rattle.type_relations.specs.Goals.{GoalInContext, Holds, MakesOneTree}
@@ -45,7 +45,7 @@ use Rattle.type_relations.proofs.Passing.{passes_nowhere}
 use Rattle.type_relations.proofs.Answering.{may_itself}
 use Rattle.relation_reference.specs.declared.context.inner.InferCtxtInner.{InferCtxtInner}
 use Rattle.relation_reference.specs.Tables.{store_of, IsLawful}
-use Rattle.relation_reference.specs.Solving.{solving, solver_manner}
+use Rattle.relation_reference.specs.Solving.{solving, solver_settings, solver_manner}
 use Rattle.relation_reference.specs.Answers.{Unites, Answered, IsShallow, Instantiated}
 use Rattle.relation_reference.proofs.Grows.{store_grows, lawful_grows}
 use Rattle.type_relations.specs.Lawful.{WithMeaning}
@@ -63,7 +63,7 @@ use Rattle.type_relations.specs.Lawful.{ExactResult}
 
 -- A variable is taken at invariance alone.
 pub taken_invariantly : (v : Variance) (n : ℕ) (t : Tree) → t ≡ leaf (variable type_var n) → v ≢ Bivariant →
-    Takes solver_manner v t → v ≡ Invariant
+    Takes (solver_manner solver_settings) v t → v ≡ Invariant
 taken_invariantly Covariant n t e d h = absurd (subst (Leaves IsFixedLeaf) e h)
 taken_invariantly Contravariant n t e d h = absurd (subst (Leaves IsFixedLeaf) e h)
 taken_invariantly Invariant n t e d h = refl
@@ -78,8 +78,8 @@ no_entry int_var n s h = h
 no_entry float_var n s h = h
 
 pub read_taken : (st : Store) (v : Variance) (a u : Tree) → IsTerm type_sort a → IsReadAs st a u →
-    Takes solver_manner v a → Takes solver_manner v u
-read_taken st v a u s (itself e) h = subst (Takes solver_manner v) e h
+    Takes (solver_manner solver_settings) v a → Takes (solver_manner solver_settings) v u
+read_taken st v a u s (itself e) h = subst (Takes (solver_manner solver_settings) v) e h
 read_taken st Covariant a u s (by_class k n m e c r) h =
     absurd (no_entry k n (subst (IsTerm type_sort) e s) (subst (Leaves IsFixedLeaf) e h))
 read_taken st Covariant a u s (by_binding k n e b r) h =
@@ -94,7 +94,7 @@ read_taken st Bivariant a u s (by_class k n m e c r) h = all_leaves _ (λ l. tt)
 read_taken st Bivariant a u s (by_binding k n e b r) h = all_leaves _ (λ l. tt) u
 
 -- At invariance all is taken.
-all_taken : (t : Tree) → Takes solver_manner Invariant t
+all_taken : (t : Tree) → Takes (solver_manner solver_settings) Invariant t
 all_taken t = all_leaves _ (λ l. tt) t
 
 module _ {Key Id Name : Type 0} (j : ℕ) where
@@ -110,6 +110,7 @@ module _ {Key Id Name : Type 0} (j : ℕ) where
     goals_in = All-nil (GoalInContext (store_of n y));
     environment = grown.param_env e env;
     ambient = refl;
+    settings = refl;
     reference = refl;
     lawful = λ k. (l, subst (λ t. IsTrue (known t)) (sym (grown.param_env e env)) k.1);
   }
@@ -176,7 +177,7 @@ module _ {Key Id Name : Type 0} (j : ℕ) where
             (m.region b) m.region (Ok a)
         answer = record {
           passes = solver_passes v e (stays_same m) env (goes_within (omega arith) goes) l;
-          verdict = record { outcome = outcome; answer = may_itself solver_manner (store_of m y) (m.region a); known = sure };
+          verdict = record { outcome = outcome; answer = may_itself solver_manner (solving j m y v e) v (m.region a); known = sure };
           exact = λ k is pair. regions_exactly (store_of m x) (store_of m y) (m.region a) (m.region b) left right goes.later
               added.same_entries added.same_universes pair.bindings;
         }
@@ -230,8 +231,8 @@ module _ {Key Id Name : Type 0} (j : ℕ) where
             keeps = λ w s sat h. (s, (λ k n h. refl), (one.keeps w s sat h, All-nil (MakesOneTree s)));
           };
           answer = record {
-            value = λ k w s sat. read_value (store_of m x) s ((goes.later).shrinks w s sat).bindings a u reads
-                ∙ ap (apply s) (sym answer);
+            related = λ w s sat all. same_rel (read_value (store_of m x) s ((goes.later).shrinks w s sat).bindings a u
+                reads ∙ ap (apply s) (sym answer));
             left = λ k. absurd k;
           };
           known = subst (λ z. IsTrue (known z)) (sym answer) sure;
@@ -274,10 +275,9 @@ module _ {Key Id Name : Type 0} (j : ℕ) where
       asked = k;
       left_form = f;
       right_form = h;
-      answers = λ st z l o. record {
-        value = λ k w s sat. read_value (store_of m x) s (l.shrinks w s sat).bindings a (tree t) p ∙ o.value k w s sat;
-        left = λ k. absurd k;
-      };
+      answers = λ z w s sat all o. subst (λ i. Rel (items_of m) w (m.param_env e) (at v) i (apply s z))
+          (sym (read_value (store_of m x) s sat.bindings a (tree t) p)) o;
+      left = λ k. absurd k;
       same_budget = refl;
       not_larger = let i = read_weight (store_of m x) g a (tree t) p in
           let j = read_weight (store_of m x) g b (tree u) q in omega (arith, i, j);
@@ -360,11 +360,11 @@ module _ {Key Id Name : Type 0} (j : ℕ) where
       -- The variable stood on the left.
       pub left_step : IsReadAs was a root → IsReadAs was b t → IsShallow was root → IsTermIn was root →
           tree k ≡ root → tree l ≡ t → tree z ≡ u → tree w ≡ t →
-          Stepped solver_manner F (solving j m x v e) (solving j n y v e) a b tree (Ok (Again k l z w Covariant))
+          Stepped solver_manner F (solving j m x v e) (solving j n y v e) a b tree (Ok (Again k l z w Covariant k))
       unfolding solver_passes
       left_step p q h i ek el ez ew =
           subst (λ v. Stepped solver_manner F (solving j m x v e) (solving j n y v e)
-          a b tree (Ok (Again k l z w Covariant)))
+          a b tree (Ok (Again k l z w Covariant k)))
           (sym is) (record { passes = passes; verdict = verdict; exact = exactly })
         where
           above : weight was t + 1 ≤ weight was a + weight was b
@@ -380,17 +380,16 @@ module _ {Key Id Name : Type 0} (j : ℕ) where
               t u (term_context was t t_in) steps).0
 
           led : LeadsAgain solver_manner (solving j m x Invariant e) (solving j n y Invariant e)
-              [] a b root t Covariant u t
+              [] a b root t Covariant u t root
           led = record {
             leads = read_leads m n x y e a b root t u t p q (root_reads a p) (reads b q) after.sound step;
             read_leads = read_leads m n x y e root t root t u t (itself refl) (itself refl)
                 (root_reads root (itself refl)) (reads t (itself refl)) after.sound step;
             read_asked = asked_now root t refl t_known (later root i) (later t t_in);
             asked = asked_now u t u_known t_known u_in (later t t_in);
-            answers = λ st f. record {
-              value = λ o j s sat. read_value was s ((steps.later).shrinks j s (f.shrinks j s sat)).bindings a root p;
-              left = λ k. absurd k;
-            };
+            answers = λ j s sat all f. same_rel (read_value was s ((steps.later).shrinks j s sat).bindings a root p);
+            left = λ k. absurd k;
+            answer_known = refl;
             falls = steps.one_spent;
             not_larger = binding_square was now target t u bound before.sound before.first_universe t_in means away
                 stands (weight was a + weight was b) above;
@@ -398,13 +397,13 @@ module _ {Key Id Name : Type 0} (j : ℕ) where
 
           verdict : LeadsAgain solver_manner (solving j m x Invariant e) (solving j n y Invariant e)
               [] a b (tree k) (tree l)
-              Covariant (tree z) (tree w)
+              Covariant (tree z) (tree w) (tree k)
           verdict = subst₂ (λ k l. LeadsAgain solver_manner (solving j m x Invariant e)
               (solving j n y Invariant e) [] a b k l
-              Covariant (tree z) (tree w)) (sym ek) (sym el)
+              Covariant (tree z) (tree w) k) (sym ek) (sym el)
               (subst₂ (λ z w. LeadsAgain solver_manner (solving j m x Invariant e)
               (solving j n y Invariant e) [] a b root t
-              Covariant z w) (sym ez) (sym ew) led)
+              Covariant z w root) (sym ez) (sym ew) led)
 
           exactly : Unit {0} → Invariant ≡ Invariant → IsFirstOrderPair was a b → IsFirstOrderPair now (tree z) (tree w) ×
               ExactStep was now a b (tree z) (tree w)
@@ -418,11 +417,11 @@ module _ {Key Id Name : Type 0} (j : ℕ) where
       -- It stood on the right.
       pub right_step : IsReadAs was a t → IsReadAs was b root → IsShallow was root → IsTermIn was root →
           tree k ≡ t → tree l ≡ root → tree z ≡ t → tree w ≡ u →
-          Stepped solver_manner F (solving j m x v e) (solving j n y v e) a b tree (Ok (Again k l z w Covariant))
+          Stepped solver_manner F (solving j m x v e) (solving j n y v e) a b tree (Ok (Again k l z w Covariant k))
       unfolding solver_passes
       right_step p q h i ek el ez ew =
           subst (λ v. Stepped solver_manner F (solving j m x v e) (solving j n y v e)
-          a b tree (Ok (Again k l z w Covariant)))
+          a b tree (Ok (Again k l z w Covariant k)))
           (sym is) (record { passes = passes; verdict = verdict; exact = exactly })
         where
           above : weight was t + 1 ≤ weight was a + weight was b
@@ -438,17 +437,16 @@ module _ {Key Id Name : Type 0} (j : ℕ) where
               t u (term_context was t t_in) steps).1
 
           led : LeadsAgain solver_manner (solving j m x Invariant e) (solving j n y Invariant e)
-              [] a b t root Covariant t u
+              [] a b t root Covariant t u t
           led = record {
             leads = read_leads m n x y e a b t root t u p q (reads a p) (root_reads b q) after.sound step;
             read_leads = read_leads m n x y e t root t root t u (itself refl) (itself refl)
                 (reads t (itself refl)) (root_reads root (itself refl)) after.sound step;
             read_asked = asked_now t root t_known refl (later t t_in) (later root i);
             asked = asked_now t u t_known u_known (later t t_in) u_in;
-            answers = λ st f. record {
-              value = λ o j s sat. read_value was s ((steps.later).shrinks j s (f.shrinks j s sat)).bindings a t p;
-              left = λ k. absurd k;
-            };
+            answers = λ j s sat all f. same_rel (read_value was s ((steps.later).shrinks j s sat).bindings a t p);
+            left = λ k. absurd k;
+            answer_known = t_known;
             falls = steps.one_spent;
             not_larger = (let i = binding_square was now target t u bound before.sound before.first_universe t_in means
                 away stands (weight was a + weight was b) above in omega (arith, i));
@@ -456,13 +454,13 @@ module _ {Key Id Name : Type 0} (j : ℕ) where
 
           verdict : LeadsAgain solver_manner (solving j m x Invariant e) (solving j n y Invariant e)
               [] a b (tree k) (tree l)
-              Covariant (tree z) (tree w)
+              Covariant (tree z) (tree w) (tree k)
           verdict = subst₂ (λ k l. LeadsAgain solver_manner (solving j m x Invariant e)
               (solving j n y Invariant e) [] a b k l
-              Covariant (tree z) (tree w)) (sym ek) (sym el)
+              Covariant (tree z) (tree w) k) (sym ek) (sym el)
               (subst₂ (λ z w. LeadsAgain solver_manner (solving j m x Invariant e)
               (solving j n y Invariant e) [] a b t root
-              Covariant z w) (sym ez) (sym ew) led)
+              Covariant z w t) (sym ez) (sym ew) led)
 
           exactly : Unit {0} → Invariant ≡ Invariant → IsFirstOrderPair was a b → IsFirstOrderPair now (tree z) (tree w) ×
               ExactStep was now a b (tree z) (tree w)
@@ -542,6 +540,7 @@ module _ {Key Id Name : Type 0} (j : ℕ) where
       goals = [];
       environment = t;
       ambient = u;
+      settings = solver_settings;
       reference = l;
       lawful = IsLawful n y × IsTrue (known t);
     }
@@ -557,6 +556,7 @@ module _ {Key Id Name : Type 0} (j : ℕ) where
         goals_in = (h.passes).goals_in;
         environment = (h.passes).environment;
         ambient = (h.passes).ambient;
+        settings = refl;
         reference = refl;
         lawful = (h.passes).lawful;
       };
@@ -567,7 +567,11 @@ module _ {Key Id Name : Type 0} (j : ℕ) where
         verdict : (r : Result X (RelateFault Key Id Name)) →
             Verdict solver_manner (solving j m x v e) (solving j n y v e) ((h.passes).added) v a b tree r →
             Verdict solver_manner (solving 0 m x v e) (solving 0 n y v e) ((h.passes).added) v a b tree r
-        verdict (Ok t) o = record { outcome = o.outcome; answer = o.answer; known = o.known }
+        verdict (Ok t) o = record {
+          outcome = o.outcome;
+          answer = record { related = (o.answer).related; left = (o.answer).left };
+          known = o.known;
+        }
         verdict (Err (Unrelated g)) o = o
         verdict (Err Budget) o = o
         verdict (Err Memory) o = tt
@@ -608,6 +612,7 @@ module _ {Key Id Name : Type 0} (j : ℕ) where
     goals = refl;
     environment = grown.param_env e l.1;
     ambient = refl;
+    settings = refl;
     reference = refl;
     lawful = λ k. (lawful_grows grown x l.0, subst (λ t. IsTrue (known t)) (sym (grown.param_env e l.1)) l.1);
   }

@@ -1,5 +1,5 @@
 -- What a relation of terms without variables records, and how it stands.
-use Rattle.std.specs.Prelude.{false, List, [], map}
+use Rattle.std.specs.Prelude.{true, false, List, [], map}
 use Rattle.relation_terms.specs.declared.terms.enums.Variance.{Variance}
 use Rattle.relation_terms.specs.declared.predicate.RegionConstraint.{RegionConstraint}
 use Rattle.relation_terms.specs.Heads.{environment, variable}
@@ -7,7 +7,12 @@ use Rattle.relation_terms.specs.Trees.{leaf, node, nil, Assign}
 use Rattle.relation_terms.specs.Meaning.{Meaning}
 use Rattle.type_relations.specs.Stores.{Store, IsSound}
 use Rattle.type_relations.specs.Constraints.{constraint_of}
-use Rattle.type_relations.specs.Lawful.{State, Manner}
+use Rattle.type_relations.specs.declared.relate.StructurallyRelateAliases.TheVariants.{Yes}
+use Rattle.type_relations.specs.Lawful.{State, Settings, Manners}
+
+-- Aliases are related by their items and arguments, and no goal is left to a solver.
+abbrev pub plain_settings : Settings
+plain_settings = record { structurally_relate_aliases = Yes; next_solver = true }
 
 module _ {Key Id Name : Type 0} (m : Meaning Key Id Name) where
   -- The store without variables that has recorded these.
@@ -30,15 +35,15 @@ module _ {Key Id Name : Type 0} (m : Meaning Key Id Name) where
     goals = [];
     environment = node environment nil;
     ambient = v;
+    settings = plain_settings;
     reference = 0;
     lawful = IsSound (plain_store cs);
   }
 
 -- It takes all terms, answers the left one, is exact, and records just what is asked of regions.
-abbrev pub plain_manner : Manner
-plain_manner = record {
+abbrev pub plain_manner : Manners
+plain_manner k = record {
   takes = λ v l. Unit {0};
-  keeps_value = Unit {0};
   keeps_left = Unit {0};
   is_exact = Unit {0};
   records_asked = Unit {0};

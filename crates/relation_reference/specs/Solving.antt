@@ -1,5 +1,5 @@
 -- The relation of a context: how it stands, and which terms it takes.
-use Rattle.std.specs.Prelude.{ℕ, IsTrue, []}
+use Rattle.std.specs.Prelude.{ℕ, true, IsTrue, []}
 use Rattle.relation_terms.specs.declared.terms.enums.Variance.{Variance}
 use Rattle.relation_terms.specs.declared.terms.enums.Variance.TheVariants.{Covariant, Contravariant, Invariant}
 use Rattle.relation_terms.specs.declared.terms.enums.Variance.TheVariants.{Bivariant}
@@ -9,9 +9,14 @@ use Rattle.relation_terms.specs.Trees.{known}
 use Rattle.relation_terms.specs.Meaning.{Meaning}
 use Rattle.type_relations.specs.Relation.{Items, part_at}
 use Rattle.type_relations.specs.Taken.{IsFixedLeaf, IsTakenLeaf}
-use Rattle.type_relations.specs.Lawful.{State, Manner, TakesParts}
+use Rattle.type_relations.specs.declared.relate.StructurallyRelateAliases.TheVariants.{No}
+use Rattle.type_relations.specs.Lawful.{State, Settings, Manners, TakesParts}
 use Rattle.relation_reference.specs.declared.context.inner.InferCtxtInner.{InferCtxtInner}
 use Rattle.relation_reference.specs.Tables.{store_of, IsLawful}
+
+-- Aliases are left to goals, which the next solver answers.
+abbrev pub solver_settings : Settings
+solver_settings = record { structurally_relate_aliases = No; next_solver = true }
 
 -- Through a reference to a context terms are related at a variance, in an environment. No goal is registered yet.
 abbrev pub solving : {Key Id Name : Type 0} → ℕ → Meaning Key Id Name → InferCtxtInner Key →
@@ -23,16 +28,15 @@ solving j m x v e = record {
   goals = [];
   environment = m.param_env e;
   ambient = v;
+  settings = solver_settings;
   reference = j;
   lawful = IsLawful m x × IsTrue (known (m.param_env e));
 }
 
--- It takes terms with variables at invariance alone, what it answers has the left side's value, it is exact, and it
--- records just what is asked of regions.
-abbrev pub solver_manner : Manner
-solver_manner = record {
+-- It takes terms with variables at invariance alone, it is exact, and it records just what is asked of regions.
+abbrev pub solver_manner : Manners
+solver_manner k = record {
   takes = IsTakenLeaf;
-  keeps_value = Unit {0};
   keeps_left = ⊥;
   is_exact = Unit {0};
   records_asked = Unit {0};
@@ -55,7 +59,7 @@ taken_under_bivariant c value_type i l = tt
 taken_under_bivariant c h i l = tt
 
 pub solver_takes : TakesParts solver_manner
-solver_takes c h i Covariant l k = fixed_taken (part_at c h i Covariant) l k
-solver_takes c h i Contravariant l k = fixed_taken (part_at c h i Contravariant) l k
-solver_takes c h i Invariant l k = taken_under_invariant c h i l
-solver_takes c h i Bivariant l k = taken_under_bivariant c h i l
+solver_takes k c h i Covariant l f = fixed_taken (part_at c h i Covariant) l f
+solver_takes k c h i Contravariant l f = fixed_taken (part_at c h i Contravariant) l f
+solver_takes k c h i Invariant l f = taken_under_invariant c h i l
+solver_takes k c h i Bivariant l f = taken_under_bivariant c h i l

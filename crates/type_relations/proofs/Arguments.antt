@@ -14,13 +14,13 @@ use Rattle.type_relations.specs.declared.relate.args.ArgVariances.TheVariants.{I
 use Rattle.type_relations.specs.Relation.{forms, part_at, IsRelatedHead}
 use Rattle.type_relations.specs.Errors.{ErrorOf, IsHandedOn, of_parts, AreOfOneForm, over_parts, one_leaf, parameters}
 use Rattle.type_relations.specs.Arguments.{args_head, AreOverItem, adts, functions}
-use Rattle.type_relations.specs.Lawful.{State, Manner, MayAnswer, Passes, Refuses, Related, ExactlyRelated, items_in}
+use Rattle.type_relations.specs.Lawful.{State, Manners, MayAnswer, Passes, Refuses, Related, ExactlyRelated, items_in}
 use Rattle.type_relations.proofs.OneParts.{parts_equal}
 use Rattle.type_relations.proofs.PartSizes.{weight_parts_most}
-use Rattle.type_relations.proofs.Passing.{passes_within, same_items}
+use Rattle.type_relations.proofs.Passing.{passes_within, manner_then}
 use Rattle.type_relations.proofs.Fronts.{Fronted, AreParts, IsLookedAt, fronted_all, fronted_never, fronted_passes, fronted_apart, fronted_exactly}
 use Rattle.type_relations.proofs.Structural.{types_never}
-use Rattle.type_relations.proofs.Answering.{may_itself}
+use Rattle.type_relations.proofs.Answering.{same_items, may_itself}
 use Rattle.type_relations.proofs.Unifying.{first_order_parts, exact_as, apart_as}
 use Rattle.type_relations.proofs.Erased.{forms_unify_by_parts}
 use Rattle.type_relations.specs.Headline.{IsFirstOrderPair}
@@ -44,7 +44,7 @@ args_handed_on m Invariant e i t u = tt
 args_handed_on m (Adt d) e i t u = tt
 args_handed_on m (FnDef d) e i t u = tt
 
-module _ {Key Id Name : Type 0} {r q : State Key Id Name} (M : Manner) (v : Variance) (h : Head) (ts us : Tree) (i : ℕ)
+module _ {Key Id Name : Type 0} {r q : State Key Id Name} (M : Manners) (v : Variance) (h : Head) (ts us : Tree) (i : ℕ)
     (f : Fronted M r q h v i ts us) (are : AreParts r.store ts us) (n : count ts ≡ count us) (looked : IsLookedAt h) where
   apart : h ≢ value_type
   apart e = subst IsLookedAt e looked
@@ -73,7 +73,7 @@ module _ {Key Id Name : Type 0} {r q : State Key Id Name} (M : Manner) (v : Vari
         relates = λ w s sat all. forms is refl ((fronted_all h v i ts us are e (e ∙ n) f).relates w s sat all);
         keeps = λ w s sat z. (f.front).keeps w s sat (parts_equal (node h ts) (node h us) one_form s z);
       };
-      answer = subst (MayAnswer M q.store (node h ts)) (sym answer) (may_itself M q.store (node h ts));
+      answer = subst (MayAnswer M q v (node h ts)) (sym answer) (may_itself M q v (node h ts));
       known = subst (λ u. IsTrue (known u)) (sym answer) k;
     };
     exact = λ exact is' pair.
@@ -98,11 +98,12 @@ module _ {Key Id Name : Type 0} {r q : State Key Id Name} (M : Manner) (v : Vari
     refuses l Memory o = tt
 
     exactly : (A B : Type 0) (p : State Key Id Name) (e : RelateFault Key Id Name) →
-        ExactlyRelated {X = A} M q.store p.store (part_at (items_in r) h i v) x y (Err e) →
-        ExactlyRelated {X = B} M r.store p.store v (node h ts) (node h us) (Err e)
+        ExactlyRelated {X = A} (M q.settings) q.store p.store (part_at (items_in r) h i v) x y (Err e) →
+        ExactlyRelated {X = B} (M r.settings) r.store p.store v (node h ts) (node h us) (Err e)
     exactly A B p (Unrelated d) g exact is pair =
         apart_as r.store (node h ts) (node h us) ts us (λ s. forms_unify_by_parts s h ts us apart)
-        (fronted_apart h v i ts us x y f lx ly ex ey are exact is looked (list_pair pair) g)
+        (fronted_apart h v i ts us x y f lx ly ex ey are exact is looked (list_pair pair)
+        (λ z. g (manner_then M (λ m. m.is_exact) f.passes z)))
     exactly A B p Budget g exact is pair = tt
     exactly A B p Memory g exact is pair = tt
 

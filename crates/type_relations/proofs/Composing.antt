@@ -162,7 +162,7 @@ front_goes_on c e h v i before middle after earlier first others xs ys lx ly inx
         go w s q one = extends_through before middle after first others w s one.0 f.later f.goals_in one.1 one.2.1 (g.keeps w one.0 one.2.0 (parts_one one.0 i xs ys lx ly (values_still before s one.0 xs ys one.1 inx iny q)))
 
 -- Lists whose parts are related, place by place.
-places : (c : Items) (w : Interpretation) (e : Tree) (h : Head) (v : Variance) (i : ℕ) (xs ys : Tree) → IsList xs → IsList ys → count xs ≡ count ys → ((j : ℕ) → j < count xs → Rel c w e (at (part_at c h (i + j) v)) (nth j xs) (nth j ys)) → Rel c w e (parts h i v) xs ys
+pub places : (c : Items) (w : Interpretation) (e : Tree) (h : Head) (v : Variance) (i : ℕ) (xs ys : Tree) → IsList xs → IsList ys → count xs ≡ count ys → ((j : ℕ) → j < count xs → Rel c w e (at (part_at c h (i + j) v)) (nth j xs) (nth j ys)) → Rel c w e (parts h i v) xs ys
 places c w e h v i nil nil l m p f = no_parts
 places c w e h v i (cons x xs) (cons y ys) l m p f = next_part
     (subst (λ z. Rel c w e (at (part_at c h z v)) x y) (omega arith) (f 0 (omega arith)))

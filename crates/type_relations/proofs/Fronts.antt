@@ -12,10 +12,10 @@ use Rattle.type_relations.specs.Relation.{Items, at, parts, part_at, mode}
 use Rattle.type_relations.specs.Stores.{Store, InContext, weight, resolved}
 use Rattle.type_relations.specs.Outcomes.{Outcome, Front, NeverOne, Exact, ExactFront, NoUnifier}
 use Rattle.type_relations.specs.Measures.{grown}
-use Rattle.type_relations.specs.Lawful.{State, Manner, Passes, Related, items_in}
+use Rattle.type_relations.specs.Lawful.{State, Manners, Passes, Related, items_in}
 use Rattle.type_relations.proofs.Going.{pair_grown, later_itself}
 use Rattle.type_relations.proofs.Composing.{front_begins, front_goes_on, front_ends}
-use Rattle.type_relations.proofs.Passing.{passes_nowhere, passes_then, outcome_seen}
+use Rattle.type_relations.proofs.Passing.{passes_nowhere, passes_then, manner_then, outcome_seen}
 use Rattle.type_relations.proofs.Parts.{nth_size}
 
 -- Forms whose parts are looked at, which are at invariance where the form is.
@@ -46,11 +46,11 @@ exact_front_begins st xs ys = record {
 }
 
 -- The first `i` parts of two lists of parts of a form at a variance were related.
-pub record Fronted {Key Id Name : Type 0} (M : Manner) (r q : State Key Id Name) (h : Head) (v : Variance) (i : ℕ)
+pub record Fronted {Key Id Name : Type 0} (M : Manners) (r q : State Key Id Name) (h : Head) (v : Variance) (i : ℕ)
     (xs ys : Tree) : Type 0 where
   pub passes : Passes (weight r.store xs + weight r.store ys) r q
   pub front : Front (items_in r) r.environment h v i r.store q.store r.goals passes.added xs ys
-  pub exact : M.is_exact → v ≡ Invariant → IsLookedAt h → IsFirstOrderPair r.store xs ys →
+  pub exact : (M r.settings).is_exact → v ≡ Invariant → IsLookedAt h → IsFirstOrderPair r.store xs ys →
       IsFirstOrderStore q.store × ExactFront i r.store q.store xs ys
 
 -- What is asked of two lists of parts.
@@ -66,7 +66,7 @@ unfolding weight
 nth_weight st ts i h = nth_size (resolved st) ts i h
 
 module _ {Key Id Name : Type 0} where
-  pub fronted_none : (M : Manner) (r : State Key Id Name) (h : Head) (v : Variance) (xs ys : Tree) →
+  pub fronted_none : (M : Manners) (r : State Key Id Name) (h : Head) (v : Variance) (xs ys : Tree) →
       Fronted M r r h v 0 xs ys
   unfolding passes_nowhere
   fronted_none M r h v xs ys = record {
@@ -75,7 +75,7 @@ module _ {Key Id Name : Type 0} where
     exact = λ k is looked pair. (pair.bindings, exact_front_begins r.store xs ys);
   }
 
-  module _ {M : Manner} {r q : State Key Id Name} (h : Head) (v : Variance) (i : ℕ) (xs ys x y : Tree)
+  module _ {M : Manners} {r q : State Key Id Name} (h : Head) (v : Variance) (i : ℕ) (xs ys x y : Tree)
       (f : Fronted M r q h v i xs ys) (lx : i < count xs) (ly : i < count ys) (ex : x ≡ nth i xs) (ey : y ≡ nth i ys) where
     -- Two parts weigh less than the lists did, but for what was instantiated.
     pub part_small : weight q.store x + weight q.store y ≤
@@ -108,7 +108,7 @@ module _ {Key Id Name : Type 0} where
           (g.passes).added t u) ex ey (g.verdict).outcome));
       exact = λ k is looked pair.
           let z = f.exact k is looked pair in
-          let o = g.exact k (part_invariant (items_in r) h i v looked is) (pair_at pair z.0) in (
+          let o = g.exact (manner_then M (λ m. m.is_exact) f.passes k) (part_invariant (items_in r) h i v looked is) (pair_at pair z.0) in (
             o.0,
             (exact_front_goes_on i r.store q.store p.store xs ys are.left_list are.right_list are.left_in are.right_in
                 z.1).0 (subst₂ (Exact q.store p.store) ex ey o.1),
@@ -116,8 +116,8 @@ module _ {Key Id Name : Type 0} where
     }
 
     -- Nor are lists unified two of whose parts are not.
-    pub fronted_apart : AreParts r.store xs ys → M.is_exact → v ≡ Invariant → IsLookedAt h →
-        IsFirstOrderPair r.store xs ys → (M.is_exact → part_at (items_in r) h i v ≡ Invariant →
+    pub fronted_apart : AreParts r.store xs ys → (M r.settings).is_exact → v ≡ Invariant → IsLookedAt h →
+        IsFirstOrderPair r.store xs ys → ((M r.settings).is_exact → part_at (items_in r) h i v ≡ Invariant →
         IsFirstOrderPair q.store x y → NoUnifier q.store x y) → NoUnifier r.store xs ys
     fronted_apart are k is looked pair g =
         let z = f.exact k is looked pair in
@@ -137,8 +137,8 @@ module _ {Key Id Name : Type 0} where
     fronted_passes g = passes_then f.passes g part_small
 
   -- All parts were related exactly.
-  pub fronted_exactly : {M : Manner} {r q : State Key Id Name} (h : Head) (v : Variance) (n : ℕ) (xs ys : Tree) →
-      AreParts r.store xs ys → n ≡ count xs → n ≡ count ys → Fronted M r q h v n xs ys → M.is_exact → v ≡ Invariant →
+  pub fronted_exactly : {M : Manners} {r q : State Key Id Name} (h : Head) (v : Variance) (n : ℕ) (xs ys : Tree) →
+      AreParts r.store xs ys → n ≡ count xs → n ≡ count ys → Fronted M r q h v n xs ys → (M r.settings).is_exact → v ≡ Invariant →
       IsLookedAt h → IsFirstOrderPair r.store xs ys → IsFirstOrderStore q.store × Exact r.store q.store xs ys
   fronted_exactly {M} {r} {q} h v n xs ys are e d f k is looked pair =
       let z = f.exact k is looked pair in (
@@ -147,7 +147,7 @@ module _ {Key Id Name : Type 0} where
             (subst (λ i. ExactFront i r.store q.store xs ys) e z.1),
       )
 
-  pub fronted_all : {M : Manner} {r q : State Key Id Name} (h : Head) (v : Variance) (n : ℕ) (xs ys : Tree) →
+  pub fronted_all : {M : Manners} {r q : State Key Id Name} (h : Head) (v : Variance) (n : ℕ) (xs ys : Tree) →
       AreParts r.store xs ys → n ≡ count xs → n ≡ count ys → (f : Fronted M r q h v n xs ys) →
       Outcome (items_in r) r.environment (parts h 0 v) r.store q.store r.goals (f.passes).added xs ys
   fronted_all {M} {r} {q} h v n xs ys are e d f =

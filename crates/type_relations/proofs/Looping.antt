@@ -13,11 +13,12 @@ use Rattle.type_relations.specs.Goals.{Goal}
 use Rattle.type_relations.specs.Errors.{AreOfOneForm, over_parts, one_leaf, parameters, AreOfOneConst, values, expressions, const_parameters}
 use Rattle.type_relations.specs.Parts.{parts_of, const_parts_of, branches_of, head_of, const_head_of}
 use Rattle.type_relations.specs.Handing.{IsFaultOfTy, IsFaultOfConst, IsResultOfTy, IsResultOfConst}
-use Rattle.type_relations.specs.Lawful.{State, Manner, TakesParts, Takes, Asked, LeadsToParts, LeadsAgain, items_in}
+use Rattle.type_relations.specs.Lawful.{State, Manner, Manners, TakesParts, Takes, Asked, LeadsToParts, LeadsAgain, items_in}
 use Rattle.type_relations.proofs.Going.{depth-mono, depth-strict, depth-spent, depth_later}
 use Rattle.type_relations.proofs.Standing.{later_term}
 use Rattle.type_relations.proofs.Parts.{in_part, in_const_part}
 use Rattle.type_relations.proofs.PartSizes.{weight_parts, weight_const_parts}
+use Rattle.type_relations.proofs.Passing.{manner_then}
 use Rattle.type_relations.proofs.Fronts.{Fronted, part_small}
 
 -- The members of a list have its leaves.
@@ -33,7 +34,8 @@ leaves_map P Q f (bind ks t) h = leaves_map P Q f t h
 leaves_map P Q f nil h = tt
 leaves_map P Q f (cons t ts) h = (leaves_map P Q f t h.0, leaves_map P Q f ts h.1)
 
-module _ (M : Manner) (is : TakesParts M) (c : Items) (v : Variance) where
+module _ (M : Manner) (is : (c : Items) (h : Head) (i : ℕ) (v : Variance) (l : Leaf) → M.takes v l →
+    M.takes (part_at c h i v) l) (c : Items) (v : Variance) where
   -- What is taken at a variance has parts that are taken at theirs.
   takes_part : (h : Head) (ts : Tree) (i : ℕ) → i < count ts → Leaves (M.takes v) ts →
       Leaves (M.takes (part_at c h i v)) (nth i ts)
@@ -66,7 +68,7 @@ module _ (M : Manner) (is : TakesParts M) (c : Items) (v : Variance) where
 some_part : (i n : ℕ) → i < n → 0 < n
 some_part i n h = omega (arith, h)
 
-module _ {Key Id Name : Type 0} (M : Manner) (is : TakesParts M) (r q : State Key Id Name) (a b : Tree) (i : ℕ)
+module _ {Key Id Name : Type 0} (M : Manners) (is : TakesParts M) (r q : State Key Id Name) (a b : Tree) (i : ℕ)
     (x y : Tree) (kx : IsTrue (known x)) (ky : IsTrue (known y)) (k : Asked M r r.ambient a b) where
   -- Of types.
   module _ (f : Fronted M r q (head_of a) r.ambient i (parts_of a) (parts_of b)) (lx : i < count (parts_of a))
@@ -81,10 +83,10 @@ module _ {Key Id Name : Type 0} (M : Manner) (is : TakesParts M) (r q : State Ke
               (nth i (parts_of a)) (in_part r.store a i lx k.left_in));
           right_in = subst (IsTermIn q.store) (sym ey) (later_term r.store q.store l.grows l.universe_stands
               (nth i (parts_of b)) (in_part r.store b i ly k.right_in));
-          left_taken = subst₂ (Takes M) (sym ew) (sym ex) (takes_ty_part M is (items_in r) r.ambient a i lx
-              k.left_taken);
-          right_taken = subst₂ (Takes M) (sym eu) (sym ey) (takes_ty_part M is (items_in r) r.ambient b i ly
-              k.right_taken);
+          left_taken = manner_then M (λ z. Takes z w x) f.passes (subst₂ (Takes (M r.settings)) (sym ew) (sym ex)
+              (takes_ty_part (M r.settings) (is r.settings) (items_in r) r.ambient a i lx k.left_taken));
+          right_taken = manner_then M (λ z. Takes z w y) f.passes (subst₂ (Takes (M r.settings)) (sym eu) (sym ey)
+              (takes_ty_part (M r.settings) (is r.settings) (items_in r) r.ambient b i ly k.right_taken));
         }
 
     pub next_under : 8 * depth (q.store).budget (weight q.store x + weight q.store y) + 4 <
@@ -113,10 +115,10 @@ module _ {Key Id Name : Type 0} (M : Manner) (is : TakesParts M) (r q : State Ke
               (nth i (const_parts_of a)) (in_const_part r.store a i lx k.left_in));
           right_in = subst (IsTermIn q.store) (sym ey) (later_term r.store q.store l.grows l.universe_stands
               (nth i (const_parts_of b)) (in_const_part r.store b i ly k.right_in));
-          left_taken = subst₂ (Takes M) (sym ew) (sym ex) (takes_const_part M is (items_in r) r.ambient a i lx
-              k.left_taken);
-          right_taken = subst₂ (Takes M) (sym eu) (sym ey) (takes_const_part M is (items_in r) r.ambient b i
-              ly k.right_taken);
+          left_taken = manner_then M (λ z. Takes z w x) f.passes (subst₂ (Takes (M r.settings)) (sym ew) (sym ex)
+              (takes_const_part (M r.settings) (is r.settings) (items_in r) r.ambient a i lx k.left_taken));
+          right_taken = manner_then M (λ z. Takes z w y) f.passes (subst₂ (Takes (M r.settings)) (sym eu) (sym ey)
+              (takes_const_part (M r.settings) (is r.settings) (items_in r) r.ambient b i ly k.right_taken));
         }
 
     pub next_const_under : 8 * depth (q.store).budget (weight q.store x + weight q.store y) + 4 <
@@ -131,7 +133,7 @@ module _ {Key Id Name : Type 0} (M : Manner) (is : TakesParts M) (r q : State Ke
         (weight r.store a + weight r.store b) (omega (arith, p, s)) in
         omega (arith, d, e)
 
-module _ {Key Id Name : Type 0} {r q : State Key Id Name} (M : Manner) (a b : Tree) where
+module _ {Key Id Name : Type 0} {r q : State Key Id Name} (M : Manners) (a b : Tree) where
   -- After a step to parts, and after one to another pair.
   pub parts_under : (F : Tree → Type 0) (added : List Goal) (x y : Tree) → LeadsToParts M F r q added a b x y →
       8 * depth (q.store).budget (weight q.store x + weight q.store y) + 1 <
@@ -142,10 +144,10 @@ module _ {Key Id Name : Type 0} {r q : State Key Id Name} (M : Manner) (a b : Tr
       let e = ap (λ n. depth n (weight r.store a + weight r.store b)) l.same_budget in
       omega (arith, d, e)
 
-  pub again_under : (added : List Goal) (k l : Tree) (v : Variance) (x y : Tree) → LeadsAgain M r q added a b k l v x y →
+  pub again_under : (added : List Goal) (k l : Tree) (v : Variance) (x y u : Tree) → LeadsAgain M r q added a b k l v x y u →
       8 * depth (q.store).budget (weight q.store x + weight q.store y) + 4 <
       8 * depth (r.store).budget (weight r.store a + weight r.store b) + 2
-  again_under added k l v x y led =
+  again_under added k l v x y u led =
       let d = depth-spent 1 (q.store).budget (weight q.store x + weight q.store y) (weight r.store a + weight r.store b)
       led.not_larger in
       let e = ap (λ n. depth n (weight r.store a + weight r.store b)) led.falls in

@@ -17,21 +17,22 @@ use Rattle.type_relations.specs.Relation.{Items, Way, at, anything, Rel}
 use Rattle.type_relations.specs.declared.relate.Step.TheVariants.{Done, Parts}
 use Rattle.relation_tools.specs.Faults.{KnowsError}
 use Rattle.type_relations.specs.Errors.{ErrorOf}
-use Rattle.type_relations.specs.Stores.{Store, weight}
+use Rattle.type_relations.specs.Stores.{Store, Satisfies, weight}
 use Rattle.type_relations.specs.Goals.{Goal, GoalInContext, Holds, Relates, Asked as Asks, asked, asks_too_much, asks_nothing, IsQuiet, AsksNoPair, HasOneTree, MakesOneTree}
-use Rattle.type_relations.specs.Outcomes.{Outcome, NeverOne, Exact, ExactStep}
+use Rattle.type_relations.specs.Outcomes.{Outcome, CarriesOver, NeverOne, Exact, ExactStep}
 use Rattle.type_relations.specs.Headline.{IsFirstOrderPair}
 use Rattle.type_relations.specs.FirstOrder.{IsFirstOrderStore, IsErasedSolution}
 use Rattle.type_relations.specs.Steps.{IsLater}
 use Rattle.type_relations.specs.Measures.{grown, Goes}
-use Rattle.type_relations.specs.Lawful.{State, Manner, MayAnswer, Passes, Asked, Refuses, Answers, Verdict, Related, Leads}
+use Rattle.type_relations.specs.Lawful.{State, Manner, Manners, Takes, MayAnswer, Passes, Asked, Refuses, Answers, Verdict, Related, Leads}
 use Rattle.type_relations.specs.Lawful.{ExactResult, ExactlyRelated}
 use Rattle.type_relations.proofs.Exactness.{exact_steps_compose}
 use Rattle.type_relations.specs.Lawful.{LeadsToParts, LeadsAgain, Noted, Turned, Stepped, OnlyMemory, WithMeaning, declared_by, items_of, items_in}
 use Rattle.type_relations.proofs.Going.{goes_nowhere, goes_within, goes_then, le_grown, later_itself, later_through}
 use Rattle.type_relations.proofs.Composing.{steps_compose, goals_both, first_goals}
+use Rattle.type_relations.proofs.Growing.{All_front}
 use Rattle.type_relations.proofs.Standing.{later_term}
-use Rattle.type_relations.proofs.Answering.{may_itself, may_later, if_ok_both}
+use Rattle.type_relations.proofs.Answering.{same_items, may_itself, may_later, if_ok_both}
 
 -- An outcome over other items, in another environment, after other goals, which are the same.
 moved : {c d : Items} {e k : Tree} {gs hs : List Goal} (way : Way) (before after : Store) (added : List Goal)
@@ -72,6 +73,7 @@ module _ {Key Id Name : Type 0} where
     goals_in = All-nil (GoalInContext r.store);
     environment = refl;
     ambient = refl;
+    settings = refl;
     reference = refl;
     lawful = λ l. l;
   }
@@ -85,6 +87,7 @@ module _ {Key Id Name : Type 0} where
     goals_in = g.goals_in;
     environment = g.environment;
     ambient = g.ambient;
+    settings = g.settings;
     reference = g.reference;
     lawful = g.lawful;
   }
@@ -99,15 +102,21 @@ module _ {Key Id Name : Type 0} where
     goals_in = goals_both q.store p.store g.added f.added (f.goes).later g.goals_in f.goals_in;
     environment = f.environment ∙ g.environment;
     ambient = f.ambient ∙ g.ambient;
+    settings = f.settings ∙ g.settings;
     reference = f.reference ∙ g.reference;
     lawful = λ l. f.lawful (g.lawful l);
   }
 
-  -- Items declare what they declared.
-  pub same_items : {n : ℕ} {r q : State Key Id Name} → Passes n r q → items_in q ≡ items_in r
-  same_items g = ap₂ declared_by (g.extends).variances (g.extends).alias_variances
+  -- What a relation takes and promises stays, as its settings do.
+  pub same_manner : {n : ℕ} {r q : State Key Id Name} (M : Manners) (P : Manner → Type 0) → Passes n r q →
+      P (M q.settings) → P (M r.settings)
+  same_manner M P g h = subst (λ k. P (M k)) g.settings h
 
-  pub asked_later : {n : ℕ} {r q : State Key Id Name} (M : Manner) (v : Variance) (a b : Tree) → Passes n r q →
+  pub manner_then : {n : ℕ} {r q : State Key Id Name} (M : Manners) (P : Manner → Type 0) → Passes n r q →
+      P (M r.settings) → P (M q.settings)
+  manner_then M P g h = subst (λ k. P (M k)) (sym g.settings) h
+
+  pub asked_later : {n : ℕ} {r q : State Key Id Name} (M : Manners) (v : Variance) (a b : Tree) → Passes n r q →
       Asked M r v a b → Asked M q v a b
   asked_later {n} {r} {q} M v a b g k =
       let l = (g.goes).later in record {
@@ -115,8 +124,8 @@ module _ {Key Id Name : Type 0} where
         right_known = k.right_known;
         left_in = later_term r.store q.store l.grows l.universe_stands a k.left_in;
         right_in = later_term r.store q.store l.grows l.universe_stands b k.right_in;
-        left_taken = k.left_taken;
-        right_taken = k.right_taken;
+        left_taken = manner_then M (λ z. Takes z v a) g k.left_taken;
+        right_taken = manner_then M (λ z. Takes z v b) g k.right_taken;
       }
 
   -- An outcome after other work, seen from before it.
@@ -148,8 +157,8 @@ module _ {Key Id Name : Type 0} where
   led_refuses g f a b x y v l Memory h = tt
 
   -- A step led exactly to another pair, and what comes of that.
-  abbrev pub LeadsExactly : Manner → State Key Id Name → State Key Id Name → Tree → Tree → Tree → Tree → Type 0
-  LeadsExactly M r q a b x y = M.is_exact → r.ambient ≡ Invariant → IsFirstOrderPair r.store a b →
+  abbrev pub LeadsExactly : Manners → State Key Id Name → State Key Id Name → Tree → Tree → Tree → Tree → Type 0
+  LeadsExactly M r q a b x y = (M r.settings).is_exact → r.ambient ≡ Invariant → IsFirstOrderPair r.store a b →
       IsFirstOrderPair q.store x y × ExactStep r.store q.store a b x y
 
   exact_led : {X : Type 0} (M : Manner) (before middle after : Store) (a b x y : Tree) (v w : Variance) →
@@ -178,8 +187,28 @@ module _ {Key Id Name : Type 0} where
   nothing_said X before after a b Memory k = tt
   nothing_said X before after a b e k = absurd k
 
+  -- What is related is so under the goals that are registered then.
+  pub relates_by : {n : ℕ} {r q : State Key Id Name} (v : Variance) (a b : Tree) (g : Passes n r q) →
+      Outcome (items_in r) r.environment (at v) r.store q.store r.goals g.added a b →
+      Relates (items_in q) q.store q.goals q.environment v a b
+  relates_by {r = r} {q = q} v a b g o = λ w s sat all.
+      subst₂ (λ c e. Rel c w e (at v) (apply s a) (apply s b)) (sym (same_items g)) (sym g.environment)
+      (o.relates w s sat
+      (subst (λ gs. All (Holds (items_in r) w s) gs) g.lengthens
+      (subst (λ c. All (Holds c w s) q.goals) (same_items g) all)))
+
+  -- What relates one pair by another does so still.
+  carries_later : {n : ℕ} {q p : State Key Id Name} → Passes n q p → (way' : Way) (x y : Tree) (way : Way) (a b : Tree) →
+      CarriesOver (items_in q) q.environment q.store q.goals way' x y way a b →
+      CarriesOver (items_in p) p.environment p.store p.goals way' x y way a b
+  carries_later {q = q} {p = p} g way' x y way a b h = λ w s sat all.
+      subst₂ (λ c e. Rel c w e way' (apply s x) (apply s y) → Rel c w e way (apply s a) (apply s b)) (sym (same_items g))
+      (sym g.environment) (h w s ((g.goes).later.shrinks w s sat) (All_front (Holds (items_in q) w s) q.goals g.added
+      (subst (λ gs. All (Holds (items_in q) w s) gs) g.lengthens
+      (subst (λ c. All (Holds c w s) p.goals) (same_items g) all))))
+
   -- The two forms to which a step led were related by their parts.
-  pub parts_related : {X : Type 0} {r q p : State Key Id Name} (M : Manner) (F : Tree → Type 0) (a b x y : Tree)
+  pub parts_related : {X : Type 0} {r q p : State Key Id Name} (M : Manners) (F : Tree → Type 0) (a b x y : Tree)
       (tree : X → Tree) (result : Result X (RelateFault Key Id Name))
       (g : Passes (weight r.store a + weight r.store b) r q) → LeadsToParts M F r q g.added a b x y →
       LeadsExactly M r q a b x y → Related M q p r.ambient x y tree result → Related M r p r.ambient a b tree result
@@ -187,7 +216,8 @@ module _ {Key Id Name : Type 0} where
   parts_related {X} {r} {q} {p} M F a b x y tree result g l exactly f = record {
     passes = passes_then g f.passes small;
     verdict = verdict result f.verdict;
-    exact = exact_led M r.store q.store p.store a b x y r.ambient r.ambient (λ e. e) exactly result f.exact;
+    exact = exact_led (M r.settings) r.store q.store p.store a b x y r.ambient r.ambient (λ e. e) exactly result
+        (same_manner M (λ z. ExactlyRelated z q.store p.store r.ambient x y result) g f.exact);
   }
     where
       small : weight q.store x + weight q.store y ≤ grown (g.goes).spent (weight r.store a + weight r.store b)
@@ -200,14 +230,18 @@ module _ {Key Id Name : Type 0} where
           Verdict M r p (g.added ++ (f.passes).added) r.ambient a b tree res
       verdict (Ok t) v = record {
         outcome = led_outcome g f.passes a b x y r.ambient l.leads v.outcome;
-        answer = l.answers p.store (tree t) ((f.passes).goes).later v.answer;
+        answer = record {
+          related = λ w s sat all. carries_later f.passes (at r.ambient) x (tree t) (at r.ambient) a (tree t)
+              (l.answers (tree t)) w s sat all ((v.answer).related w s sat all);
+          left = λ k. (v.answer).left k ∙ l.left (same_manner M (λ z. z.keeps_left) (passes_then g f.passes small) k);
+        };
         known = v.known;
       }
       verdict (Err e) v = led_refuses g f.passes a b x y r.ambient l.leads e v
 
-  -- The pair to which a step led was related, and the left term as read is the answer.
-  module _ {r q : State Key Id Name} (M : Manner) (a b k l x y : Tree) (v : Variance)
-      (g : Passes (weight r.store a + weight r.store b) r q) (led : LeadsAgain M r q g.added a b k l v x y)
+  -- The pair to which a step led was related, and the answer is the one that the step named.
+  module _ {r q : State Key Id Name} (M : Manners) (a b k l x y u : Tree) (v : Variance)
+      (g : Passes (weight r.store a + weight r.store b) r q) (led : LeadsAgain M r q g.added a b k l v x y u)
       (exactly : LeadsExactly M r q a b x y) where
     one_spent : (g.goes).spent ≡ 1
     one_spent = let c = (g.goes).counts in let f = led.falls in omega arith
@@ -216,18 +250,24 @@ module _ {Key Id Name : Type 0} where
     small = subst (λ n. weight q.store x + weight q.store y ≤ grown n (weight r.store a + weight r.store b))
         (sym one_spent) led.not_larger
 
-    pub again_related : {X Y : Type 0} {p : State Key Id Name} (tree : X → Tree) (t : X) (answer : Y → Tree) (z : Y) → answer z ≡ k →
+    pub again_related : {X Y : Type 0} {p : State Key Id Name} (tree : X → Tree) (t : X) (answer : Y → Tree) (z : Y) → answer z ≡ u →
         Related M q p (xform r.ambient v) x y tree (Ok t) → Related M r p r.ambient a b answer (Ok z)
     unfolding passes_then
     again_related {Y = Y} {p = p} tree t answer z e f = record {
       passes = passes_then g f.passes small;
       verdict = record {
         outcome = led_outcome g f.passes a b x y (xform r.ambient v) led.leads (f.verdict).outcome;
-        answer = subst (MayAnswer M p.store a) (sym e) (led.answers p.store ((f.passes).goes).later);
-        known = subst (λ u. IsTrue (known u)) (sym e) (led.read_asked).left_known;
+        answer = subst (MayAnswer M p r.ambient a) (sym e) (record {
+          related = λ w s sat all. carries_later f.passes (at (xform r.ambient v)) x y (at r.ambient) a u led.answers w s
+              sat all (relates_by (xform r.ambient v) x y f.passes (f.verdict).outcome w s sat all);
+          left = λ k. led.left (same_manner M (λ z. z.keeps_left) (passes_then g f.passes small) k);
+        });
+        known = subst (λ t. IsTrue (known t)) (sym e) led.answer_known;
       };
-      exact = exact_led {X = Y} M r.store q.store p.store a b x y r.ambient (xform r.ambient v) (invariantly v) exactly
-          (Ok z) f.exact;
+      exact = exact_led {X = Y} (M r.settings) r.store q.store p.store a b x y r.ambient (xform r.ambient v)
+          (invariantly v) exactly (Ok z)
+          (same_manner M (λ m. ExactlyRelated {Key = Key} {Id = Id} {Name = Name} m q.store p.store (xform r.ambient v) x y
+          (Ok t)) g f.exact);
     }
 
     pub again_refused : {X Y : Type 0} {p : State Key Id Name} (tree : X → Tree) (answer : Y → Tree) (e : RelateFault Key Id Name) →
@@ -236,12 +276,13 @@ module _ {Key Id Name : Type 0} where
     again_refused {X = X} {Y = Y} {p = p} tree answer e f = record {
       passes = passes_then g f.passes small;
       verdict = led_refuses g f.passes a b x y (xform r.ambient v) led.leads e f.verdict;
-      exact = exact_led {X = Y} M r.store q.store p.store a b x y r.ambient (xform r.ambient v) (invariantly v) exactly
-          (Err e) (λ k is pair. exact_fault X Y q.store p.store x y e (f.exact k is pair));
+      exact = exact_led {X = Y} (M r.settings) r.store q.store p.store a b x y r.ambient (xform r.ambient v)
+          (invariantly v) exactly (Err e) (λ k is pair. exact_fault X Y q.store p.store x y e
+          (f.exact (manner_then M (λ z. z.is_exact) g k) is pair));
     }
 
   -- What is noted after two terms were related leaves them so.
-  module _ {X Y : Type 0} {r q p : State Key Id Name} (M : Manner) (v : Variance) (a b : Tree)
+  module _ {X Y : Type 0} {r q p : State Key Id Name} (M : Manners) (v : Variance) (a b : Tree)
       (tree : X → Tree) (t : X) (f : Related M r q v a b tree (Ok t)) (note : Result Y (RelateFault Key Id Name))
       (h : Noted q p note) where
     both : Passes (weight r.store a + weight r.store b) r p
@@ -279,8 +320,7 @@ module _ {Key Id Name : Type 0} where
       passes = both;
       verdict = record {
         outcome = outcome;
-        answer = subst (MayAnswer M p.store a) (sym e)
-            (may_later M q.store p.store a (tree t) ((h.passes).goes).later.shrinks (f.verdict).answer);
+        answer = subst (MayAnswer M p v a) (sym e) (may_later M v a (tree t) h.passes (f.verdict).answer);
         known = subst (λ u. IsTrue (known u)) (sym e) (f.verdict).known;
       };
       exact = λ k is pair. let z = f.exact k is pair in
@@ -301,7 +341,7 @@ module _ {Key Id Name : Type 0} where
         refuses e k = absurd k
 
   -- Another ambient variance, and the old one again.
-  module _ {X : Type 0} {r t q u : State Key Id Name} (M : Manner) (v : Variance) (a b : Tree) (tree : X → Tree)
+  module _ {X : Type 0} {r t q u : State Key Id Name} (M : Manners) (v : Variance) (a b : Tree) (tree : X → Tree)
       (there : Turned v r t) (back : Turned r.ambient q u) where
     turned_passes : Passes (weight t.store a + weight t.store b) t q → Passes (weight r.store a + weight r.store b) r u
     turned_passes f = record {
@@ -312,6 +352,7 @@ module _ {Key Id Name : Type 0} where
       goals_in = subst (λ s. All (GoalInContext s) f.added) (sym back.store) f.goals_in;
       environment = back.environment ∙ f.environment ∙ there.environment;
       ambient = back.ambient;
+      settings = back.settings ∙ f.settings ∙ there.settings;
       reference = back.reference ∙ f.reference ∙ there.reference;
       lawful = λ l. back.lawful (f.lawful (there.lawful l));
     }
@@ -330,7 +371,13 @@ module _ {Key Id Name : Type 0} where
       outcome = subst₂ (λ s k. Outcome (items_in r) r.environment (at v) s k r.goals added a b) there.store (sym back.store)
           (moved (at v) t.store q.store added a b (ap items_of there.meaning) there.environment
           there.goals h.outcome);
-      answer = subst (λ s. MayAnswer M s a z) (sym back.store) h.answer;
+      answer = record {
+        related = λ w s sat all.
+            subst₂ (λ c e. Rel c w e (at v) (apply s a) (apply s z)) (ap items_of (sym back.meaning))
+            (sym back.environment) ((h.answer).related w s (subst (λ k. Satisfies w k s) back.store sat)
+            (subst₂ (λ m gs. All (Holds (items_of m) w s) gs) back.meaning back.goals all));
+        left = λ k. (h.answer).left (subst (λ j. (M j).keeps_left) back.settings k);
+      };
       known = h.known;
     }
 
@@ -340,7 +387,8 @@ module _ {Key Id Name : Type 0} where
     turned result f = record {
       passes = turned_passes f.passes;
       verdict = verdict result f.verdict;
-      exact = subst₂ (λ s z. ExactlyRelated M s z v a b result) there.store (sym back.store) f.exact;
+      exact = subst₂ (λ s z. ExactlyRelated (M r.settings) s z v a b result) there.store (sym back.store)
+          (subst (λ k. ExactlyRelated (M k) t.store q.store v a b result) there.settings f.exact);
     }
       where
         verdict : (res : Result X (RelateFault Key Id Name)) → Verdict M t q (f.passes).added v a b tree res →
@@ -349,7 +397,7 @@ module _ {Key Id Name : Type 0} where
         verdict (Err e) h = turned_refuses e h
 
   -- Nothing is to be done at bivariance.
-  pub unlooked : {X : Type 0} (M : Manner) (r : State Key Id Name) (v : Variance) (a b : Tree)
+  pub unlooked : {X : Type 0} (M : Manners) (r : State Key Id Name) (v : Variance) (a b : Tree)
       (tree : X → Tree) (x : X) → v ≡ Bivariant → IsTrue (known a) → tree x ≡ a → Related M r r v a b tree (Ok x)
   unfolding passes_nowhere
   unlooked M r v a b tree x e k same = record {
@@ -361,7 +409,7 @@ module _ {Key Id Name : Type 0} where
         relates = λ w s sat all. anything e;
         keeps = λ w s sat one. (s, (λ k n h. refl), (sat, All-nil (MakesOneTree s)));
       };
-      answer = subst (MayAnswer M r.store a) (sym same) (may_itself M r.store a);
+      answer = subst (MayAnswer M r v a) (sym same) (may_itself M r v a);
       known = subst (λ u. IsTrue (known u)) (sym same) k;
     };
     exact = λ k is pair. absurd (invariant_is_not (sym is ∙ e));
@@ -391,14 +439,29 @@ module _ {Key Id Name : Type 0} where
     goals_in = subst (λ s. All (GoalInContext s) g.added) (sym w.store) g.goals_in;
     environment = w.environment ∙ g.environment;
     ambient = w.ambient ∙ g.ambient;
+    settings = w.settings ∙ g.settings;
     reference = w.reference ∙ g.reference;
     lawful = λ l. w.lawful (g.lawful l);
   }
 
-  module _ {X Y : Type 0} {r q p : State Key Id Name} (M : Manner) (v : Variance) (a b : Tree)
+  -- What was an answer stays one.
+  may_with : {q p : State Key Id Name} (M : Manners) (v : Variance) (t u : Tree) → ExtendsMeaning q.meaning p.meaning →
+      WithMeaning q p.meaning p → MayAnswer M q v t u → MayAnswer M p v t u
+  may_with {q} {p} M v t u e w h = record {
+    related = λ j s sat all.
+        subst₂ (λ c k. Rel c j k (at v) (apply s t) (apply s u)) (sym same) (sym w.environment)
+        (h.related j s (subst (λ k. Satisfies j k s) w.store sat)
+        (subst₂ (λ c gs. All (Holds c j s) gs) same w.goals all));
+    left = λ k. h.left (subst (λ j. (M j).keeps_left) w.settings k);
+  }
+    where
+      same : items_in p ≡ items_in q
+      same = ap₂ declared_by e.variances e.alias_variances
+
+  module _ {X Y : Type 0} {r q p : State Key Id Name} (M : Manners) (v : Variance) (a b : Tree)
       (e : ExtendsMeaning q.meaning p.meaning) (w : WithMeaning q p.meaning p) (answer : Y → Tree) where
     -- An answer was made anew of the same value.
-    pub remade : (tree : X → Tree) (t : X) → Related M r q v a b tree (Ok t) → (z : Y) → MayAnswer M q.store a (answer z) →
+    pub remade : (tree : X → Tree) (t : X) → Related M r q v a b tree (Ok t) → (z : Y) → MayAnswer M q v a (answer z) →
         IsTrue (known (answer z)) → Related M r p v a b answer (Ok z)
     unfolding passes_grown
     remade tree t f z value sure = record {
@@ -406,7 +469,7 @@ module _ {Key Id Name : Type 0} where
       verdict = record {
         outcome = subst (λ s. Outcome (items_in r) r.environment (at v) r.store s r.goals (f.passes).added a b) (sym w.store)
             (f.verdict).outcome;
-        answer = subst (λ s. MayAnswer M s a (answer z)) (sym w.store) value;
+        answer = may_with M v a (answer z) e w value;
         known = sure;
       };
       exact = λ k is pair. subst (λ s. IsFirstOrderStore s × Exact r.store s a b) (sym w.store) (f.exact k is pair);
@@ -415,7 +478,7 @@ module _ {Key Id Name : Type 0} where
     -- Or it could not be made.
     pub made_or_not : (tree : X → Tree) (t : X) → Related M r q v a b tree (Ok t) →
         (res : Result Y (RelateFault Key Id Name)) → OnlyMemory res →
-        IfOk res (λ z. MayAnswer M q.store a (answer z) × IsTrue (known (answer z))) → Related M r p v a b answer res
+        IfOk res (λ z. MayAnswer M q v a (answer z) × IsTrue (known (answer z))) → Related M r p v a b answer res
     unfolding passes_grown
     made_or_not tree t f (Ok z) only h = remade tree t f z h.0 h.1
     made_or_not tree t f (Err Memory) only h =
@@ -424,25 +487,25 @@ module _ {Key Id Name : Type 0} where
 
     -- The form over what may be answered for the parts was made, or could not be.
     pub form_made : (tree : X → Tree) (t : X) → Related M r q v a b tree (Ok t) → (res : Result Y (RelateFault Key Id Name)) →
-        OnlyMemory res → (formed made : Tree) → MayAnswer M q.store a formed → made ≡ formed →
+        OnlyMemory res → (formed made : Tree) → MayAnswer M q v a formed → made ≡ formed →
         IfOk res (λ z. IsTrue (known (answer z))) → IfOk res (λ z. answer z ≡ made) → Related M r p v a b answer res
     form_made tree t f res only formed made value same sure means = made_or_not tree t f res only
         (if_ok_both (λ z. IsTrue (known (answer z))) (λ z. answer z ≡ made)
-        (λ z. MayAnswer M q.store a (answer z) × IsTrue (known (answer z))) res
-        (λ z k is. (subst (MayAnswer M q.store a) (sym (is ∙ same)) value, k)) sure means)
+        (λ z. MayAnswer M q v a (answer z) × IsTrue (known (answer z))) res
+        (λ z k is. (subst (MayAnswer M q v a) (sym (is ∙ same)) value, k)) sure means)
 
   -- Memory ran out.
-  pub stopped : {X : Type 0} {r q : State Key Id Name} (M : Manner) (v : Variance) (a b : Tree) (tree : X → Tree) →
+  pub stopped : {X : Type 0} {r q : State Key Id Name} (M : Manners) (v : Variance) (a b : Tree) (tree : X → Tree) →
       Passes (weight r.store a + weight r.store b) r q → Related {X = X} M r q v a b tree (Err Memory)
   stopped M v a b tree g = record { passes = g; verdict = tt; exact = λ k is pair. tt }
 
   -- A step that answers.
-  pub step_done : {K : Type 0} {r q : State Key Id Name} (M : Manner) (F : Tree → Type 0) (a b : Tree) (tree : K → Tree)
+  pub step_done : {K : Type 0} {r q : State Key Id Name} (M : Manners) (F : Tree → Type 0) (a b : Tree) (tree : K → Tree)
       (t : K) → Stepped M F r q a b tree (Ok (Done t)) → Related M r q r.ambient a b tree (Ok t)
   step_done M F a b tree t s = record { passes = s.passes; verdict = s.verdict; exact = s.exact }
 
   -- The same answer in other words, and the same fault.
-  pub retold : {X Y : Type 0} {r q : State Key Id Name} (M : Manner) (v : Variance) (a b : Tree) (tree : X → Tree) (t : X)
+  pub retold : {X Y : Type 0} {r q : State Key Id Name} (M : Manners) (v : Variance) (a b : Tree) (tree : X → Tree) (t : X)
       (answer : Y → Tree) (z : Y) → answer z ≡ tree t → Related M r q v a b tree (Ok t) →
       Related M r q v a b answer (Ok z)
   retold {r = r} {q = q} M v a b tree t answer z e f = record {
@@ -451,7 +514,7 @@ module _ {Key Id Name : Type 0} where
     exact = f.exact;
   }
 
-  pub refused_again : {X Y : Type 0} {r q : State Key Id Name} (M : Manner) (v : Variance) (a b : Tree) (tree : X → Tree)
+  pub refused_again : {X Y : Type 0} {r q : State Key Id Name} (M : Manners) (v : Variance) (a b : Tree) (tree : X → Tree)
       (answer : Y → Tree) (e : RelateFault Key Id Name) → Related M r q v a b tree (Err e) →
       Related M r q v a b answer (Err e)
   refused_again {X} {Y} {r} {q} M v a b tree answer e f =
@@ -461,32 +524,22 @@ module _ {Key Id Name : Type 0} where
         exact = λ k is pair. exact_fault X Y r.store q.store a b e (f.exact k is pair);
       }
 
-  -- What is related is so under the goals that are registered then.
-  pub relates_by : {n : ℕ} {r q : State Key Id Name} (v : Variance) (a b : Tree) (g : Passes n r q) →
-      Outcome (items_in r) r.environment (at v) r.store q.store r.goals g.added a b →
-      Relates (items_in q) q.store q.goals q.environment v a b
-  relates_by {r = r} {q = q} v a b g o = λ w s sat all.
-      subst₂ (λ c e. Rel c w e (at v) (apply s a) (apply s b)) (sym (same_items g)) (sym g.environment)
-      (o.relates w s sat
-      (subst (λ gs. All (Holds (items_in r) w s) gs) g.lengthens
-      (subst (λ c. All (Holds c w s) q.goals) (same_items g) all)))
-
-  pub relates_now : {X : Type 0} {r q : State Key Id Name} (M : Manner) (v : Variance) (a b : Tree) (tree : X → Tree)
+  pub relates_now : {X : Type 0} {r q : State Key Id Name} (M : Manners) (v : Variance) (a b : Tree) (tree : X → Tree)
       (t : X) → Related M r q v a b tree (Ok t) → Relates (items_in q) q.store q.goals q.environment v a b
   relates_now M v a b tree t f = relates_by v a b f.passes (f.verdict).outcome
 
   -- So are the terms as a step read them, when the pair that it left is related.
-  pub again_relates : {X : Type 0} {r q p : State Key Id Name} (M : Manner) (a b k l x y : Tree) (v : Variance)
-      (g : Passes (weight r.store a + weight r.store b) r q) (led : LeadsAgain M r q g.added a b k l v x y)
+  pub again_relates : {X : Type 0} {r q p : State Key Id Name} (M : Manners) (a b k l x y u : Tree) (v : Variance)
+      (g : Passes (weight r.store a + weight r.store b) r q) (led : LeadsAgain M r q g.added a b k l v x y u)
       (exactly : LeadsExactly M r q a b x y) (tree : X → Tree) (t : X) → Related M q p (xform r.ambient v) x y tree (Ok t) →
       Relates (items_in p) p.store p.goals p.environment r.ambient k l
   unfolding passes_then
-  again_relates {r = r} {q = q} M a b k l x y v g led exactly tree t f =
-      relates_by r.ambient k l (passes_then g f.passes (small M a b k l x y v g led exactly))
+  again_relates {r = r} {q = q} M a b k l x y u v g led exactly tree t f =
+      relates_by r.ambient k l (passes_then g f.passes (small M a b k l x y u v g led exactly))
       (led_outcome g f.passes k l x y (xform r.ambient v) led.read_leads (f.verdict).outcome)
 
 -- A step that leaves the pair as it is.
-module _ {Key Id Name K : Type 0} (M : Manner) (F : Tree → Type 0) (r : State Key Id Name) (tree : K → Tree) where
+module _ {Key Id Name K : Type 0} (M : Manners) (F : Tree → Type 0) (r : State Key Id Name) (tree : K → Tree) where
   itself_left : (a b : K) → Asked M r r.ambient (tree a) (tree b) → F (tree a) → F (tree b) →
       Stepped M F r r (tree a) (tree b) tree (Ok (Parts a b))
   unfolding passes_nowhere
@@ -505,7 +558,8 @@ module _ {Key Id Name K : Type 0} (M : Manner) (F : Tree → Type 0) (r : State 
       asked = k;
       left_form = f;
       right_form = g;
-      answers = λ st t l h. h;
+      answers = λ t w s sat all h. h;
+      left = λ k. refl;
       same_budget = refl;
       not_larger = omega arith;
     };

@@ -22,15 +22,15 @@ use Rattle.type_relations.specs.Errors.{ErrorOf, IsHandedOn, of_parts, of_length
 use Rattle.type_relations.specs.Errors.{AreOfOneConst}
 use Rattle.type_relations.specs.Parts.{IsFormed, parts_of, const_parts_of, head_of, const_head_of}
 use Rattle.type_relations.specs.Handing.{IsPassedOn, IsNoLength, IsFaultOfTy, passed, sized, IsFaultOfConst, passed_const, whole}
-use Rattle.type_relations.specs.Lawful.{State, Manner, MayAnswer, Passes, Refuses, Related, ExactResult, ExactlyRelated, items_in}
-use Rattle.type_relations.proofs.Passing.{passes_within, same_items}
+use Rattle.type_relations.specs.Lawful.{State, Manners, MayAnswer, Passes, Refuses, Related, ExactResult, ExactlyRelated, items_in}
+use Rattle.type_relations.proofs.Passing.{passes_within, manner_then}
 use Rattle.type_relations.proofs.Fronts.{Fronted, AreParts, fronted_never, fronted_all, fronted_passes, fronted_apart, fronted_exactly}
 use Rattle.type_relations.proofs.Unifying.{first_order_parts, formed_looked_at, types_unify, exact_as, apart_as}
 use Rattle.type_relations.specs.Headline.{IsFirstOrderPair}
 use Rattle.type_relations.proofs.OneParts.{related_head, parts_equal, const_parts_equal, sort_is}
 use Rattle.type_relations.proofs.Handing.{ty_fault_known}
 use Rattle.type_relations.proofs.PartSizes.{weight_parts_most}
-use Rattle.type_relations.proofs.Answering.{may_itself}
+use Rattle.type_relations.proofs.Answering.{same_items, may_itself}
 
 -- The error of two parts of two types as the error of the types.
 module _ {Key Id Name : Type 0} (n p : Meaning Key Id Name) (e : Extends n p) (s : Sorted n) (a b : Tree)
@@ -131,7 +131,7 @@ pub consts_never : (st : Store) (v : Variance) (a b : Tree) → AreOfOneConst a 
     NeverOne (parts (const_head_of a) 0 v) st (const_parts_of a) (const_parts_of b) → NeverOne (at v) st a b
 consts_never st v a b o n w s sat q = n w s sat (const_parts_equal a b o s q)
 
-module _ {Key Id Name : Type 0} {r q : State Key Id Name} (M : Manner) (v : Variance) (a b : Tree) (i : ℕ) where
+module _ {Key Id Name : Type 0} {r q : State Key Id Name} (M : Manners) (v : Variance) (a b : Tree) (i : ℕ) where
   -- Two parts of two types were refused, and so are the types.
   module _ (is_formed : IsFormed a) (o : AreOfOneForm a b) (f : Fronted M r q (head_of a) v i (parts_of a) (parts_of b))
       (are : AreParts r.store (parts_of a) (parts_of b)) (X Y : GenericArgKind Key)
@@ -161,8 +161,8 @@ module _ {Key Id Name : Type 0} {r q : State Key Id Name} (M : Manner) (v : Vari
 
     ty_exactly : (A B : Type 0) (p : State Key Id Name) (e k : RelateFault Key Id Name) → IsFormed b →
         IsFaultOfTy a X Y e k →
-        ExactlyRelated {X = A} M q.store p.store (part_at (items_in r) (head_of a) i v) (arg_tree q.meaning X)
-        (arg_tree q.meaning Y) (Err e) → ExactlyRelated {X = B} M r.store p.store v a b (Err k)
+        ExactlyRelated {X = A} (M q.settings) q.store p.store (part_at (items_in r) (head_of a) i v) (arg_tree q.meaning X)
+        (arg_tree q.meaning Y) (Err e) → ExactlyRelated {X = B} (M r.settings) r.store p.store v a b (Err k)
     ty_exactly A B p Memory k is_formed' t g exact is pair = subst (λ k. ExactResult {X = B} r.store p.store a b (Err k))
         (sym (same_fault a X Y Memory k t (λ e z. cc))) tt
     ty_exactly A B p Budget k is_formed' t g exact is pair = subst (λ k. ExactResult {X = B} r.store p.store a b (Err k))
@@ -172,7 +172,8 @@ module _ {Key Id Name : Type 0} {r q : State Key Id Name} (M : Manner) (v : Vari
         subst (λ k. ExactResult {X = B} r.store p.store a b (Err k)) (sym z.1)
         (apart_as r.store a b (parts_of a) (parts_of b) (types_unify a b is_formed is_formed' o)
         (fronted_apart (head_of a) v i (parts_of a) (parts_of b) (arg_tree q.meaning X) (arg_tree q.meaning Y) f lx ly ex
-        ey are exact is (formed_looked_at a is_formed) (parts_pair r.store a b pair) g))
+        ey are exact is (formed_looked_at a is_formed) (parts_pair r.store a b pair)
+        (λ z. g (manner_then M (λ m. m.is_exact) f.passes z))))
 
     pub ty_refused : {A B : Type 0} {p : State Key Id Name} (tree : A → Tree) (answer : B → Tree)
         (e k : RelateFault Key Id Name) → IsFormed b → IsTrue (known (arg_tree p.meaning X)) →
@@ -219,7 +220,7 @@ module _ {Key Id Name : Type 0} {r q : State Key Id Name} (M : Manner) (v : Vari
         relates = types_relate is_formed o f are ea eb;
         keeps = λ w s sat z. (f.front).keeps w s sat (parts_equal a b o s z);
       };
-      answer = subst (MayAnswer M q.store a) (sym answer) (may_itself M q.store a);
+      answer = subst (MayAnswer M q v a) (sym answer) (may_itself M q v a);
       known = subst (λ u. IsTrue (known u)) (sym answer) k;
     };
     exact = λ exact is pair.

@@ -1,8 +1,7 @@
 -- Constants that are related by their outermost forms and their parts, and terms whose outermost forms differ.
 use Rattle.std.proofs.Common.{◌≡◌, ◌≢◌, ℕ, ◌+◌, ◌<◌, refl, sym, ap, ◌∙◌, subst, subst₂, arith, ◌++◌, All, IsTrue, Ok, Err}
 use Rattle.relation_terms.specs.declared.terms.enums.Variance.{Variance}
-use Rattle.relation_terms.specs.declared.terms.enums.Variance.TheVariants.{Covariant, Contravariant, Invariant, Bivariant}
-use Rattle.relation_terms.specs.Variances.{xform}
+use Rattle.relation_terms.specs.declared.terms.enums.Variance.TheVariants.{Bivariant}
 use Rattle.relation_terms.specs.Heads.{type_sort, const_sort, region_sort, Sort, expression, value, value_type, value_branch}
 use Rattle.relation_terms.specs.Trees.{Tree, node, nil, cons, known, IsTerm, count, nth, apply, Assign}
 use Rattle.relation_terms.specs.Meaning.{Meaning, arg_tree}
@@ -25,8 +24,8 @@ use Rattle.type_relations.specs.Errors.{ErrorOf, of_parts, of_branches, of_kinds
 use Rattle.type_relations.specs.Errors.{AreOfOneConst, AreOfOneValue, values, expressions, const_parameters, one_value, as_many_branches}
 use Rattle.type_relations.specs.Parts.{IsFormed, IsFormedConst, const_parts_of, branches_of, const_head_of}
 use Rattle.type_relations.specs.Handing.{IsPassedOnConst, IsFaultOfConst, passed_const, whole}
-use Rattle.type_relations.specs.Lawful.{State, Manner, MayAnswer, Passes, Refuses, Related, ExactResult, ExactlyRelated, items_in}
-use Rattle.type_relations.proofs.Passing.{passes_within, passes_nowhere, same_items}
+use Rattle.type_relations.specs.Lawful.{State, Manners, MayAnswer, Passes, Refuses, Related, ExactResult, ExactlyRelated, items_in}
+use Rattle.type_relations.proofs.Passing.{passes_within, passes_nowhere, manner_then}
 use Rattle.type_relations.proofs.Fronts.{Fronted, AreParts, fronted_never, fronted_all, fronted_passes, fronted_apart, fronted_exactly}
 use Rattle.type_relations.proofs.Unifying.{first_order_const_parts, const_looked_at, consts_unify, exact_as, apart_as, exact_itself}
 use Rattle.type_relations.proofs.Unifying.{forms_not_unified, const_forms_not_unified, erased_sort}
@@ -35,7 +34,7 @@ use Rattle.type_relations.proofs.OneParts.{const_parts_equal, sort_is}
 use Rattle.type_relations.proofs.Comparing.{form_apart, const_form_apart, known_error, known_const_error, formed_not_bindable, formed_consts_not_bindable}
 use Rattle.type_relations.proofs.Handing.{const_fault_known, AreOfTwoKinds, AtTop, at_top, value_top}
 use Rattle.type_relations.proofs.PartSizes.{weight_const_parts_most}
-use Rattle.type_relations.proofs.Answering.{may_itself}
+use Rattle.type_relations.proofs.Answering.{same_items, may_itself, covariantly}
 
 -- The error of two parts of two constants as the error of the constants.
 module _ {Key Id Name : Type 0} (p : Meaning Key Id Name) (js : Items) (at_v : Variance) (c d : ConstKey Key) (i : ℕ)
@@ -110,13 +109,6 @@ consts_complain p js at_v c d i x y a b j k st f g o l z w t h =
     (w ∙ ap (λ v. nth i (const_parts_of v)) (sym k)) (subst (λ v. IsFaultOfConst v c d (Unrelated f) g) (sym j) t)
     (subst (λ v. ErrorOf p js st (part_at js (const_head_of v) i at_v) f x y) (sym j) h))
 
--- Seen from a variance, covariance is the variance itself.
-pub covariantly : (v : Variance) → xform v Covariant ≡ v
-covariantly Covariant = refl
-covariantly Contravariant = refl
-covariantly Invariant = refl
-covariantly Bivariant = refl
-
 -- Two values are related by what stands beside their types.
 value_parts : (c : Items) (w : Interpretation) (e : Tree) (v : Variance) (s : Assign) (t u x y : Tree) →
     Rel c w e (at v) (apply s x) (apply s y) →
@@ -125,7 +117,7 @@ value_parts : (c : Items) (w : Interpretation) (e : Tree) (v : Variance) (s : As
 value_parts c w e v s t u x y h = forms tt refl (next_part (forms tt refl (next_part (anything refl) no_parts))
     (next_part (subst (λ z. Rel c w e (at z) (apply s x) (apply s y)) (sym (covariantly v)) h) no_parts))
 
-module _ {Key Id Name : Type 0} {r q : State Key Id Name} (M : Manner) (v : Variance) (a b : Tree) (i : ℕ) where
+module _ {Key Id Name : Type 0} {r q : State Key Id Name} (M : Manners) (v : Variance) (a b : Tree) (i : ℕ) where
   -- Two parts of two constants were refused, and so are the constants.
   module _ (o : AreOfOneConst a b) (f : Fronted M r q (const_head_of a) v i (const_parts_of a) (const_parts_of b))
       (are : AreParts r.store (const_parts_of a) (const_parts_of b)) (c d : ConstKey Key) (x y : Tree)
@@ -153,8 +145,8 @@ module _ {Key Id Name : Type 0} {r q : State Key Id Name} (M : Manner) (v : Vari
 
     const_exactly : (A B : Type 0) (p : State Key Id Name) (e k : RelateFault Key Id Name) → IsFormedConst a →
         IsFormedConst b → IsFaultOfConst a c d e k →
-        ExactlyRelated {X = A} M q.store p.store (part_at (items_in r) (const_head_of a) i v) x y (Err e) →
-        ExactlyRelated {X = B} M r.store p.store v a b (Err k)
+        ExactlyRelated {X = A} (M q.settings) q.store p.store (part_at (items_in r) (const_head_of a) i v) x y (Err e) →
+        ExactlyRelated {X = B} (M r.settings) r.store p.store v a b (Err k)
     const_exactly A B p Memory k fa fb t g exact is pair = subst (λ k. ExactResult {X = B} r.store p.store a b (Err k))
         (sym (same_const_fault a c d Memory k t (λ e z. cc))) tt
     const_exactly A B p Budget k fa fb t g exact is pair = subst (λ k. ExactResult {X = B} r.store p.store a b (Err k))
@@ -164,7 +156,7 @@ module _ {Key Id Name : Type 0} {r q : State Key Id Name} (M : Manner) (v : Vari
         subst (λ k. ExactResult {X = B} r.store p.store a b (Err k)) (sym z.1)
         (apart_as r.store a b (const_parts_of a) (const_parts_of b) (consts_unify a b fa fb o)
         (fronted_apart (const_head_of a) v i (const_parts_of a) (const_parts_of b) x y f lx ly ex ey are exact is
-        (const_looked_at a) (const_parts_pair r.store a b pair) g))
+        (const_looked_at a) (const_parts_pair r.store a b pair) (λ z. g (manner_then M (λ m. m.is_exact) f.passes z))))
 
     pub const_refused : {A B : Type 0} {p : State Key Id Name} (tree : A → Tree) (answer : B → Tree)
         (e k : RelateFault Key Id Name) → IsFormedConst a → IsFormedConst b → (p.meaning).const_ c ≡ a → (p.meaning).const_ d ≡ b → IsTrue (known a) →
@@ -225,7 +217,7 @@ module _ {Key Id Name : Type 0} {r q : State Key Id Name} (M : Manner) (v : Vari
         relates = consts_relate o f are ea eb;
         keeps = λ w s sat z. (f.front).keeps w s sat (const_parts_equal a b o s z);
       };
-      answer = subst (MayAnswer M q.store a) (sym answer) (may_itself M q.store a);
+      answer = subst (MayAnswer M q v a) (sym answer) (may_itself M q v a);
       known = subst (λ u. IsTrue (known u)) (sym answer) k;
     };
     exact = λ exact is pair.
@@ -234,7 +226,7 @@ module _ {Key Id Name : Type 0} {r q : State Key Id Name} (M : Manner) (v : Vari
         (z.0, exact_as r.store q.store a b (const_parts_of a) (const_parts_of b) (consts_unify a b fa fb o) z.1);
   }
 
-module _ {Key Id Name : Type 0} {X : Type 0} (M : Manner) (r : State Key Id Name) (v : Variance) (tree : X → Tree) where
+module _ {Key Id Name : Type 0} {X : Type 0} (M : Manners) (r : State Key Id Name) (v : Variance) (tree : X → Tree) where
   -- One term is related with itself.
   pub itself_related : (a b : Tree) (x : X) → a ≡ b → tree x ≡ a → IsTrue (known a) →
       Related M r r v a b tree (Ok x)
@@ -248,7 +240,7 @@ module _ {Key Id Name : Type 0} {X : Type 0} (M : Manner) (r : State Key Id Name
         relates = λ w s sat all. same (ap (apply s) e);
         keeps = λ w s sat one. (s, (λ k n h. refl), (sat, λ k d h. absurd (omega (arith, h))));
       };
-      answer = subst (MayAnswer M r.store a) (sym answer) (may_itself M r.store a);
+      answer = subst (MayAnswer M r v a) (sym answer) (may_itself M r v a);
       known = subst (λ u. IsTrue (known u)) (sym answer) k;
     };
     exact = λ exact is pair. (pair.bindings, exact_itself r.store a b e);
@@ -311,7 +303,7 @@ module _ {Key Id Name : Type 0} (m : Meaning Key Id Name) (sorted : Sorted m) wh
   two_sorts (Const r) (Const s) z w o a b e = o
   two_sorts X Y z w o a b e = absurd (cc)
 
-  pub kinds_differ : {X : Type 0} (M : Manner) (r : State Key Id Name) (v : Variance) (tree : X → Tree) → v ≢ Bivariant →
+  pub kinds_differ : {X : Type 0} (M : Manners) (r : State Key Id Name) (v : Variance) (tree : X → Tree) → v ≢ Bivariant →
       r.meaning ≡ m → (X Y : GenericArgKind Key) → AreOfTwoKinds X Y → IsTrue (known (arg_tree m X)) → IsTrue (known (arg_tree m Y)) →
       IsTermIn r.store (arg_tree m X) → IsTermIn r.store (arg_tree m Y) →
       Related M r r v (arg_tree m X) (arg_tree m Y) tree (Err (Unrelated Mismatch))

@@ -1,5 +1,5 @@
 -- What is asked and promised of the keys of a relation's terms, at its ambient variance where no other is named.
-use Rattle.std.specs.Prelude.{◌≡◌, ◌++◌, Result}
+use Rattle.std.specs.Prelude.{◌≡◌, ℕ, List, ◌++◌, IsTrue, Result, IfOk}
 use Rattle.relation_terms.specs.declared.terms.enums.Variance.{Variance}
 use Rattle.relation_terms.specs.declared.terms.ids.DefId.{DefId}
 use Rattle.relation_terms.specs.declared.terms.keys.TyKey.{TyKey}
@@ -7,8 +7,8 @@ use Rattle.relation_terms.specs.declared.terms.keys.RegionKey.{RegionKey}
 use Rattle.relation_terms.specs.declared.terms.keys.ConstKey.{ConstKey}
 use Rattle.relation_terms.specs.declared.terms.keys.ArgsKey.{ArgsKey}
 use Rattle.relation_terms.specs.declared.terms.generic_arg.GenericArgKind.{GenericArgKind}
-use Rattle.relation_terms.specs.Heads.{Head}
-use Rattle.relation_terms.specs.Trees.{node}
+use Rattle.relation_terms.specs.Heads.{Head, adt}
+use Rattle.relation_terms.specs.Trees.{node, known, count}
 use Rattle.relation_terms.specs.Meaning.{Meaning, arg_tree}
 use Rattle.relation_terms.specs.Variances.{xform}
 use Rattle.relation_tools.specs.declared.error.RelateFault.{RelateFault}
@@ -16,72 +16,90 @@ use Rattle.type_relations.specs.declared.relate.Step.{Step}
 use Rattle.type_relations.specs.Arguments.{AreOverItem}
 use Rattle.type_relations.specs.Constraints.{constraint_at, asked_constraints}
 use Rattle.type_relations.specs.Goals.{Relates}
-use Rattle.type_relations.specs.Lawful.{State, Manner, Asked, Related, Stepped, items_in}
-use Rattle.type_relations.specs.Parts.{IsFormed, IsFormedConst}
+use Rattle.type_relations.specs.Lawful.{State, Manners, Asked, Related, Stepped, items_in}
+use Rattle.type_relations.specs.Parts.{IsFormed, IsFormedConst, head_of}
+use Rattle.type_relations.specs.Relation.{part_at}
 
 module _ {Key Id Name : Type 0} where
+  -- The variances that an item declares of its parameters.
+  abbrev pub variances_in : State Key Id Name → DefId Id → List Variance
+  variances_in r d = (r.meaning).variances ((r.meaning).id d.0)
+
+  -- The variance of the part at a place of a form that is related at the ambient variance.
+  abbrev pub part_in : State Key Id Name → Head → ℕ → Variance
+  part_in r h i = part_at (items_in r) h i r.ambient
+
+  -- The form of a type over an item, in what its interner knows.
+  abbrev pub over_item : DefId Id → Meaning Key Id Name → Head
+  over_item d m = adt (m.id d.0)
+
+  -- Two lists have as many arguments.
+  abbrev pub AreAsMany : State Key Id Name → ArgsKey Key → ArgsKey Key → Type 0
+  AreAsMany r a b = count ((r.meaning).args a) ≡ count ((r.meaning).args b)
+
   -- Two known types of the relation's context that it takes. The same of constants, regions and arguments.
-  abbrev pub AskedTys : Manner → State Key Id Name → TyKey Key → TyKey Key → Type 0
+  abbrev pub AskedTys : Manners → State Key Id Name → TyKey Key → TyKey Key → Type 0
   AskedTys M r a b = Asked M r r.ambient ((r.meaning).ty a) ((r.meaning).ty b)
 
-  abbrev pub AskedConsts : Manner → State Key Id Name → ConstKey Key → ConstKey Key → Type 0
+  abbrev pub AskedConsts : Manners → State Key Id Name → ConstKey Key → ConstKey Key → Type 0
   AskedConsts M r a b = Asked M r r.ambient ((r.meaning).const_ a) ((r.meaning).const_ b)
 
-  abbrev pub AskedRegions : Manner → State Key Id Name → RegionKey Key → RegionKey Key → Type 0
+  abbrev pub AskedRegions : Manners → State Key Id Name → RegionKey Key → RegionKey Key → Type 0
   AskedRegions M r a b = Asked M r r.ambient ((r.meaning).region a) ((r.meaning).region b)
 
-  abbrev pub AskedArgs : Manner → State Key Id Name → GenericArgKind Key → GenericArgKind Key → Type 0
+  abbrev pub AskedArgs : Manners → State Key Id Name → GenericArgKind Key → GenericArgKind Key → Type 0
   AskedArgs M r a b = Asked M r r.ambient (arg_tree r.meaning a) (arg_tree r.meaning b)
 
   -- The same at a variance, seen from the ambient one.
-  abbrev pub AskedArgsAt : Manner → State Key Id Name → Variance → GenericArgKind Key → GenericArgKind Key → Type 0
+  abbrev pub AskedArgsAt : Manners → State Key Id Name → Variance → GenericArgKind Key → GenericArgKind Key → Type 0
   AskedArgsAt M r v a b = Asked M r (xform r.ambient v) (arg_tree r.meaning a) (arg_tree r.meaning b)
 
   -- The same of two lists of arguments, as the form over them.
-  abbrev pub AskedLists : Manner → State Key Id Name → (Meaning Key Id Name → Head) → ArgsKey Key → ArgsKey Key → Type 0
+  abbrev pub AskedLists : Manners → State Key Id Name → (Meaning Key Id Name → Head) → ArgsKey Key → ArgsKey Key →
+      Type 0
   AskedLists M r h a b = Asked M r r.ambient (node (h r.meaning) ((r.meaning).args a))
       (node (h r.meaning) ((r.meaning).args b))
 
   -- Two types were related, and what came of it. The same of constants, regions and arguments.
-  abbrev pub RelatedTys : Manner → State Key Id Name → State Key Id Name → TyKey Key → TyKey Key →
+  abbrev pub RelatedTys : Manners → State Key Id Name → State Key Id Name → TyKey Key → TyKey Key →
       Result (TyKey Key) (RelateFault Key Id Name) → Type 0
   RelatedTys M r q a b result =
       Related M r q r.ambient ((r.meaning).ty a) ((r.meaning).ty b) (q.meaning).ty result
 
-  abbrev pub RelatedConsts : Manner → State Key Id Name → State Key Id Name → ConstKey Key → ConstKey Key →
+  abbrev pub RelatedConsts : Manners → State Key Id Name → State Key Id Name → ConstKey Key → ConstKey Key →
       Result (ConstKey Key) (RelateFault Key Id Name) → Type 0
   RelatedConsts M r q a b result =
       Related M r q r.ambient ((r.meaning).const_ a) ((r.meaning).const_ b) (q.meaning).const_ result
 
-  abbrev pub RelatedRegions : Manner → State Key Id Name → State Key Id Name → RegionKey Key → RegionKey Key →
+  abbrev pub RelatedRegions : Manners → State Key Id Name → State Key Id Name → RegionKey Key → RegionKey Key →
       Result (RegionKey Key) (RelateFault Key Id Name) → Type 0
   RelatedRegions M r q a b result =
       Related M r q r.ambient ((r.meaning).region a) ((r.meaning).region b) (q.meaning).region result
 
-  abbrev pub RelatedArgs : Manner → State Key Id Name → State Key Id Name → GenericArgKind Key → GenericArgKind Key →
+  abbrev pub RelatedArgs : Manners → State Key Id Name → State Key Id Name → GenericArgKind Key → GenericArgKind Key →
       Result (GenericArgKind Key) (RelateFault Key Id Name) → Type 0
   RelatedArgs M r q a b result =
       Related M r q r.ambient (arg_tree r.meaning a) (arg_tree r.meaning b) (arg_tree q.meaning) result
 
   -- The same at a variance, seen from the ambient one.
-  abbrev pub RelatedArgsAt : Manner → State Key Id Name → State Key Id Name → Variance → GenericArgKind Key →
+  abbrev pub RelatedArgsAt : Manners → State Key Id Name → State Key Id Name → Variance → GenericArgKind Key →
       GenericArgKind Key → Result (GenericArgKind Key) (RelateFault Key Id Name) → Type 0
   RelatedArgsAt M r q v a b result =
       Related M r q (xform r.ambient v) (arg_tree r.meaning a) (arg_tree r.meaning b) (arg_tree q.meaning) result
 
   -- The same of two lists of arguments, as the form over them.
-  abbrev pub RelatedLists : Manner → State Key Id Name → State Key Id Name → (Meaning Key Id Name → Head) →
+  abbrev pub RelatedLists : Manners → State Key Id Name → State Key Id Name → (Meaning Key Id Name → Head) →
       ArgsKey Key → ArgsKey Key → Result (ArgsKey Key) (RelateFault Key Id Name) → Type 0
   RelatedLists M r q h a b result = Related M r q r.ambient (node (h r.meaning) ((r.meaning).args a))
       (node (h r.meaning) ((r.meaning).args b)) (λ k. node (h q.meaning) ((q.meaning).args k)) result
 
   -- A step was taken of two types, or of two constants.
-  abbrev pub SteppedTys : Manner → State Key Id Name → State Key Id Name → TyKey Key → TyKey Key →
+  abbrev pub SteppedTys : Manners → State Key Id Name → State Key Id Name → TyKey Key → TyKey Key →
       Result (Step (TyKey Key)) (RelateFault Key Id Name) → Type 0
   SteppedTys M r q a b result =
       Stepped M IsFormed r q ((r.meaning).ty a) ((r.meaning).ty b) (q.meaning).ty result
 
-  abbrev pub SteppedConsts : Manner → State Key Id Name → State Key Id Name → ConstKey Key → ConstKey Key →
+  abbrev pub SteppedConsts : Manners → State Key Id Name → State Key Id Name → ConstKey Key → ConstKey Key →
       Result (Step (ConstKey Key)) (RelateFault Key Id Name) → Type 0
   SteppedConsts M r q a b result =
       Stepped M IsFormedConst r q ((r.meaning).const_ a) ((r.meaning).const_ b) (q.meaning).const_ result
@@ -96,7 +114,13 @@ module _ {Key Id Name : Type 0} where
   AreOver r d a b xs ys = AreOverItem ((r.meaning).id d.0) ((r.meaning).ty a) ((r.meaning).ty b) ((r.meaning).args xs)
       ((r.meaning).args ys)
 
+  -- Of a list of arguments a known type of another's form was made, between two states of an interner, or none was.
+  abbrev pub IsMadeOver : {E : Type 0} → State Key Id Name → TyKey Key → Meaning Key Id Name → ArgsKey Key →
+      Meaning Key Id Name → Result (TyKey Key) E → Type 0
+  IsMadeOver r form m args n result = IfOk result (λ k. IsTrue (known (n.ty k)) ×
+      (n.ty k ≡ node (head_of ((r.meaning).ty form)) (m.args args)))
+
   -- Where the relation promises it, of two regions just what their variance asks for was recorded.
-  abbrev pub RecordsAsked : Manner → State Key Id Name → State Key Id Name → RegionKey Key → RegionKey Key → Type 0
-  RecordsAsked M r q a b = M.records_asked →
+  abbrev pub RecordsAsked : Manners → State Key Id Name → State Key Id Name → RegionKey Key → RegionKey Key → Type 0
+  RecordsAsked M r q a b = (M r.settings).records_asked →
       (q.store).constraints ≡ (r.store).constraints ++ asked_constraints r.meaning (constraint_at r.ambient a b)

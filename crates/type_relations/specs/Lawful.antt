@@ -1,22 +1,25 @@
 -- What contracts see of a relation in steps, and what its steps and the calls over it do.
-use Rattle.std.specs.Prelude.{◌≡◌, ◌↔◌, ℕ, suc, ◌+◌, ◌≤◌, List, ◌++◌, All, IsTrue, Result, Ok, Err, get_or, Option, Some, None}
+use Rattle.std.specs.Prelude.{◌≡◌, ◌↔◌, ℕ, suc, ◌+◌, ◌≤◌, Bool, List, ◌++◌, All, IsTrue, Result, Ok, Err, get_or}
+use Rattle.std.specs.Prelude.{Option, Some, None}
 use Rattle.relation_terms.specs.declared.terms.enums.Variance.{Variance}
 use Rattle.relation_terms.specs.declared.terms.enums.Variance.TheVariants.{Invariant}
 use Rattle.relation_terms.specs.Heads.{Head, Leaf}
-use Rattle.relation_terms.specs.Trees.{Tree, Leaves, Assign, apply, known}
+use Rattle.relation_terms.specs.Trees.{Tree, Leaves, Assign, known}
 use Rattle.relation_terms.specs.Meaning.{Meaning, Extends as ExtendsMeaning}
 use Rattle.relation_terms.specs.Variances.{xform}
 use Rattle.relation_tools.specs.declared.error.TypeError.{TypeError}
 use Rattle.relation_tools.specs.declared.error.RelateFault.{RelateFault}
 use Rattle.relation_tools.specs.declared.error.RelateFault.TheVariants.{Memory, Budget, Unrelated}
 use Rattle.relation_tools.specs.Faults.{KnowsError}
+use Rattle.type_relations.specs.declared.relate.StructurallyRelateAliases.{StructurallyRelateAliases}
 use Rattle.type_relations.specs.declared.relate.Step.{Step}
 use Rattle.type_relations.specs.declared.relate.Step.TheVariants.{Done, Parts, Again}
-use Rattle.type_relations.specs.Relation.{Items, Interpretation, part_at, Way, at, parts, second_opened, first_opened}
+use Rattle.type_relations.specs.Relation.{Items, Interpretation, part_at, Way, at, parts, second_opened}
+use Rattle.type_relations.specs.Relation.{first_opened}
 use Rattle.type_relations.specs.Stores.{Store, Satisfies, IsTermIn, weight}
-use Rattle.type_relations.specs.Goals.{Goal, GoalInContext, IsQuiet}
+use Rattle.type_relations.specs.Goals.{Goal, GoalInContext, IsQuiet, Relates}
 use Rattle.type_relations.specs.Steps.{IsLater}
-use Rattle.type_relations.specs.Outcomes.{Outcome, StepsTo, NeverOne, Exact, ExactStep, NoUnifier}
+use Rattle.type_relations.specs.Outcomes.{Outcome, StepsTo, CarriesOver, NeverOne, Exact, ExactStep, NoUnifier}
 use Rattle.type_relations.specs.Headline.{IsFirstOrderPair}
 use Rattle.type_relations.specs.FirstOrder.{IsFirstOrderStore, IsErasedSolution}
 use Rattle.type_relations.specs.Errors.{ErrorOf}
@@ -39,15 +42,22 @@ declared_by table aliases = record { declared = λ d. listed (table d); of_alias
 abbrev pub items_of : {Key Id Name : Type 0} → Meaning Key Id Name → Items
 items_of m = declared_by m.variances m.alias_variances
 
+-- How a relation was set up: whether it relates aliases by their items and arguments, or by goals; and which solver is
+-- to answer its goals.
+pub record Settings : Type 0 where
+  pub structurally_relate_aliases : StructurallyRelateAliases
+  pub next_solver : Bool
+
 -- A relation as it stands: what the keys of its interner mean; what it has recorded; the goals that it has registered,
--- and the environment in which they are to hold; the variance at which it relates; the reference that it holds, by its
--- name, where it holds one; and its own invariant.
+-- and the environment in which they are to hold; the variance at which it relates; how it was set up; the reference
+-- that it holds, by its name, where it holds one; and its own invariant.
 pub record State (Key Id Name : Type 0) : Type 1 where
   pub meaning : Meaning Key Id Name
   pub store : Store
   pub goals : List Goal
   pub environment : Tree
   pub ambient : Variance
+  pub settings : Settings
   pub reference : ℕ
   pub lawful : Type 0
 
@@ -55,28 +65,27 @@ pub record State (Key Id Name : Type 0) : Type 1 where
 abbrev pub items_in : {Key Id Name : Type 0} → State Key Id Name → Items
 items_in r = items_of r.meaning
 
--- What a relation takes and gives: which leaves may stand in terms at a variance; whether it promises that what it
--- answers for a pair has the left side's value, or is the left side; whether it promises to be exact; and whether it
--- promises to record of two regions just what their variance asks for.
+-- What a relation takes and gives, set up as it is: which leaves may stand in terms at a variance; whether it promises
+-- to answer the left side of a pair; whether it promises to be exact; and whether it promises to record of two regions
+-- just what their variance asks for.
 pub record Manner : Type 1 where
   pub takes : Variance → Leaf → Type 0
-  pub keeps_value : Type 0
   pub keeps_left : Type 0
   pub is_exact : Type 0
   pub records_asked : Type 0
+
+-- The same by how a relation is set up.
+abbrev pub Manners : Type 1
+Manners = Settings → Manner
 
 -- A term is taken at a variance: its leaves may stand there.
 abbrev pub Takes : Manner → Variance → Tree → Type 0
 Takes M v t = Leaves (M.takes v) t
 
 -- What may stand in a form may stand in its parts, at their variances.
-abbrev pub TakesParts : Manner → Type 0
-TakesParts M = (c : Items) (h : Head) (i : ℕ) (v : Variance) (l : Leaf) → M.takes v l → M.takes (part_at c h i v) l
-
--- What may be answered for a term: one of its value under each assignment that satisfies what is recorded, or itself.
-pub record MayAnswer (M : Manner) (st : Store) (t u : Tree) : Type 0 where
-  pub value : M.keeps_value → (w : Interpretation) (s : Assign) → Satisfies w st s → apply s t ≡ apply s u
-  pub left : M.keeps_left → u ≡ t
+abbrev pub TakesParts : Manners → Type 0
+TakesParts M = (k : Settings) (c : Items) (h : Head) (i : ℕ) (v : Variance) (l : Leaf) → (M k).takes v l →
+    (M k).takes (part_at c h i v) l
 
 -- The variance at which two things are brought together.
 abbrev pub seen_at : Way → Variance
@@ -93,6 +102,7 @@ module _ {Key Id Name : Type 0} where
     pub goals : q.goals ≡ r.goals
     pub environment : q.environment ≡ r.environment
     pub ambient : q.ambient ≡ v
+    pub settings : q.settings ≡ r.settings
     pub reference : q.reference ≡ r.reference
     pub lawful : r.lawful → q.lawful
 
@@ -103,11 +113,13 @@ module _ {Key Id Name : Type 0} where
     pub goals : q.goals ≡ r.goals
     pub environment : q.environment ≡ r.environment
     pub ambient : q.ambient ≡ r.ambient
+    pub settings : q.settings ≡ r.settings
     pub reference : q.reference ≡ r.reference
     pub lawful : r.lawful → q.lawful
 
   -- From one state to another with a pair of size `n` related, or a part of the work for it done: keys mean what they
-  -- meant, all that was recorded and registered stands, and the variance and the reference are as they were.
+  -- meant, all that was recorded and registered stands, and the variance, the settings and the reference are as they
+  -- were.
   pub record Passes (n : ℕ) (r q : State Key Id Name) : Type 0 where
     pub extends : ExtendsMeaning r.meaning q.meaning
     pub goes : Goes n r.store q.store
@@ -116,17 +128,31 @@ module _ {Key Id Name : Type 0} where
     pub goals_in : All (GoalInContext q.store) added
     pub environment : q.environment ≡ r.environment
     pub ambient : q.ambient ≡ r.ambient
+    pub settings : q.settings ≡ r.settings
     pub reference : q.reference ≡ r.reference
     pub lawful : r.lawful → q.lawful
 
   -- Two known terms of the relation's context that it takes at a variance.
-  pub record Asked (M : Manner) (r : State Key Id Name) (v : Variance) (a b : Tree) : Type 0 where
+  pub record Asked (M : Manners) (r : State Key Id Name) (v : Variance) (a b : Tree) : Type 0 where
     pub left_known : IsTrue (known a)
     pub right_known : IsTrue (known b)
     pub left_in : IsTermIn r.store a
     pub right_in : IsTermIn r.store b
-    pub left_taken : Takes M v a
-    pub right_taken : Takes M v b
+    pub left_taken : Takes (M r.settings) v a
+    pub right_taken : Takes (M r.settings) v b
+
+  -- What may be answered for the left term of a pair at a variance: one that it is related with there, under each
+  -- assignment that satisfies what is recorded and makes all registered goals true; itself, where that is promised.
+  pub record MayAnswer (M : Manners) (q : State Key Id Name) (v : Variance) (t u : Tree) : Type 0 where
+    pub related : Relates (items_in q) q.store q.goals q.environment v t u
+    pub left : (M q.settings).keeps_left → u ≡ t
+
+  -- The same of two things that are brought together. Only of terms the answer is looked at.
+  abbrev pub MayAnswerBy : Manners → State Key Id Name → Way → Tree → Tree → Type 0
+  MayAnswerBy M q (at v) t u = MayAnswer M q v t u
+  MayAnswerBy M q (parts h i v) t u = Unit {0}
+  MayAnswerBy M q (second_opened ks ls v) t u = Unit {0}
+  MayAnswerBy M q (first_opened ks ls v) t u = Unit {0}
 
   -- What a fault says of two terms at a variance: a type error that no assignment makes them one, and which error it is,
   -- over known terms; a spent budget that nothing is left of it; want of memory nothing.
@@ -141,25 +167,25 @@ module _ {Key Id Name : Type 0} where
   Refuses r q v = RefusesBy r q (at v)
 
   -- What an answer says of two things: they are related, no equal pair is lost, and a known term is answered.
-  pub record AnswersBy (M : Manner) (r q : State Key Id Name) (added : List Goal) (way : Way)
+  pub record AnswersBy (M : Manners) (r q : State Key Id Name) (added : List Goal) (way : Way)
       (a b t : Tree) : Type 0 where
     pub outcome : Outcome (items_in r) r.environment way r.store q.store r.goals added a b
-    pub answer : MayAnswer M q.store a t
+    pub answer : MayAnswerBy M q way a t
     pub known : IsTrue (known t)
 
   -- The same of two terms at a variance.
-  abbrev pub Answers : Manner → State Key Id Name → State Key Id Name → List Goal → Variance → Tree → Tree → Tree →
+  abbrev pub Answers : Manners → State Key Id Name → State Key Id Name → List Goal → Variance → Tree → Tree → Tree →
       Type 0
   Answers M r q added v = AnswersBy M r q added (at v)
 
   -- What a result says of two things, and of two terms at a variance.
-  abbrev pub VerdictBy : {X : Type 0} → Manner → State Key Id Name → State Key Id Name → List Goal → Way → Tree →
-      Tree → (X → Tree) → Result X (RelateFault Key Id Name) → Type 0
+  abbrev pub VerdictBy : {X : Type 0} → Manners → State Key Id Name → State Key Id Name → List Goal → Way →
+      Tree → Tree → (X → Tree) → Result X (RelateFault Key Id Name) → Type 0
   VerdictBy M r q added way a b tree (Ok x) = AnswersBy M r q added way a b (tree x)
   VerdictBy M r q added way a b tree (Err f) = RefusesBy r q way a b f
 
-  abbrev pub Verdict : {X : Type 0} → Manner → State Key Id Name → State Key Id Name → List Goal → Variance → Tree →
-      Tree → (X → Tree) → Result X (RelateFault Key Id Name) → Type 0
+  abbrev pub Verdict : {X : Type 0} → Manners → State Key Id Name → State Key Id Name → List Goal → Variance →
+      Tree → Tree → (X → Tree) → Result X (RelateFault Key Id Name) → Type 0
   Verdict M r q added v = VerdictBy M r q added (at v)
 
   -- What a result says besides where the relation promises to be exact, of first-order terms and records at
@@ -184,15 +210,15 @@ module _ {Key Id Name : Type 0} where
   ExactlyBy M before after (first_opened ks ls v) a b result = Unit {0}
 
   -- Two things were related.
-  pub record RelatedBy {X : Type 0} (M : Manner) (r q : State Key Id Name) (way : Way) (a b : Tree) (tree : X → Tree)
-      (result : Result X (RelateFault Key Id Name)) : Type 0 where
+  pub record RelatedBy {X : Type 0} (M : Manners) (r q : State Key Id Name) (way : Way) (a b : Tree)
+      (tree : X → Tree) (result : Result X (RelateFault Key Id Name)) : Type 0 where
     pub passes : Passes (weight r.store a + weight r.store b) r q
     pub verdict : VerdictBy M r q passes.added way a b tree result
-    pub exact : ExactlyBy M r.store q.store way a b result
+    pub exact : ExactlyBy (M r.settings) r.store q.store way a b result
 
   -- Two terms were related at a variance.
-  abbrev pub Related : {X : Type 0} → Manner → State Key Id Name → State Key Id Name → Variance → Tree → Tree →
-      (X → Tree) → Result X (RelateFault Key Id Name) → Type 0
+  abbrev pub Related : {X : Type 0} → Manners → State Key Id Name → State Key Id Name → Variance → Tree →
+      Tree → (X → Tree) → Result X (RelateFault Key Id Name) → Type 0
   Related M r q v = RelatedBy M r q (at v)
 
   -- A step led from one pair to another, at a variance: what relates the second relates the first, no equal pair is
@@ -207,36 +233,42 @@ module _ {Key Id Name : Type 0} where
   abbrev pub Leads : State Key Id Name → State Key Id Name → List Goal → Tree → Tree → Variance → Tree → Tree → Type 0
   Leads r q added a b v x y = LeadsBy r q added (at r.ambient) a b (at v) x y
 
-  -- A step to two forms that are to be related by their parts, which costs nothing of the budget.
-  pub record LeadsToParts (M : Manner) (IsForm : Tree → Type 0) (r q : State Key Id Name) (added : List Goal)
-      (a b x y : Tree) : Type 0 where
+  -- A step to two forms that are to be related by their parts, which costs nothing of the budget. Whatever the left
+  -- form is related with, the left term is.
+  pub record LeadsToParts (M : Manners) (IsForm : Tree → Type 0) (r q : State Key Id Name)
+      (added : List Goal) (a b x y : Tree) : Type 0 where
     pub leads : Leads r q added a b r.ambient x y
     pub asked : Asked M q r.ambient x y
     pub left_form : IsForm x
     pub right_form : IsForm y
-    pub answers : (st : Store) (t : Tree) → IsLater q.store st → MayAnswer M st x t → MayAnswer M st a t
+    pub answers : (t : Tree) → CarriesOver (items_in q) q.environment q.store q.goals (at r.ambient) x t
+        (at r.ambient) a t
+    pub left : (M r.settings).keeps_left → x ≡ a
     pub same_budget : (q.store).budget ≡ (r.store).budget
     pub not_larger : weight q.store x + weight q.store y ≤ weight r.store a + weight r.store b
 
   -- A step to another pair that is to be related at a variance, for one of the budget. What was asked about is read as
-  -- two terms, of which the left one is the answer.
-  pub record LeadsAgain (M : Manner) (r q : State Key Id Name) (added : List Goal) (a b read_left read_right : Tree)
-      (v : Variance) (x y : Tree) : Type 0 where
+  -- two terms. When the pair is related, the left term is related with the answer.
+  pub record LeadsAgain (M : Manners) (r q : State Key Id Name) (added : List Goal)
+      (a b read_left read_right : Tree) (v : Variance) (x y answer : Tree) : Type 0 where
     pub leads : Leads r q added a b (xform r.ambient v) x y
     pub read_leads : Leads r q added read_left read_right (xform r.ambient v) x y
     pub read_asked : Asked M q r.ambient read_left read_right
     pub asked : Asked M q (xform r.ambient v) x y
-    pub answers : (st : Store) → IsLater q.store st → MayAnswer M st a read_left
+    pub answers : CarriesOver (items_in q) q.environment q.store q.goals (at (xform r.ambient v)) x y
+        (at r.ambient) a answer
+    pub left : (M r.settings).keeps_left → answer ≡ a
+    pub answer_known : IsTrue (known answer)
     pub falls : (r.store).budget ≡ suc (q.store).budget
     pub not_larger : weight q.store x + weight q.store y ≤ grown 1 (weight r.store a + weight r.store b)
 
   -- What a step's result says of two terms.
-  abbrev pub StepVerdict : {K : Type 0} → Manner → (Tree → Type 0) → State Key Id Name → State Key Id Name →
-      List Goal → Tree → Tree → (K → Tree) → Result (Step K) (RelateFault Key Id Name) → Type 0
+  abbrev pub StepVerdict : {K : Type 0} → Manners → (Tree → Type 0) → State Key Id Name →
+      State Key Id Name → List Goal → Tree → Tree → (K → Tree) → Result (Step K) (RelateFault Key Id Name) → Type 0
   StepVerdict M F r q added a b tree (Ok (Done t)) = Answers M r q added r.ambient a b (tree t)
   StepVerdict M F r q added a b tree (Ok (Parts x y)) = LeadsToParts M F r q added a b (tree x) (tree y)
-  StepVerdict M F r q added a b tree (Ok (Again k l x y v)) =
-      LeadsAgain M r q added a b (tree k) (tree l) v (tree x) (tree y)
+  StepVerdict M F r q added a b tree (Ok (Again k l x y v u)) =
+      LeadsAgain M r q added a b (tree k) (tree l) v (tree x) (tree y) (tree u)
   StepVerdict M F r q added a b tree (Err f) = Refuses r q r.ambient a b f
 
   -- Of a step's result the same: of the terms, or of the pair that is left.
@@ -245,16 +277,16 @@ module _ {Key Id Name : Type 0} where
   ExactVerdict {K} r q a b tree (Ok (Done t)) = ExactResult {X = K} r.store q.store a b (Ok t)
   ExactVerdict r q a b tree (Ok (Parts x y)) = IsFirstOrderPair q.store (tree x) (tree y) ×
       ExactStep r.store q.store a b (tree x) (tree y)
-  ExactVerdict r q a b tree (Ok (Again k l x y v)) = IsFirstOrderPair q.store (tree x) (tree y) ×
+  ExactVerdict r q a b tree (Ok (Again k l x y v u)) = IsFirstOrderPair q.store (tree x) (tree y) ×
       ExactStep r.store q.store a b (tree x) (tree y)
   ExactVerdict {K} r q a b tree (Err f) = ExactResult {X = K} r.store q.store a b (Err f)
 
   -- A step was taken.
-  pub record Stepped {K : Type 0} (M : Manner) (F : Tree → Type 0) (r q : State Key Id Name)
+  pub record Stepped {K : Type 0} (M : Manners) (F : Tree → Type 0) (r q : State Key Id Name)
       (a b : Tree) (tree : K → Tree) (result : Result (Step K) (RelateFault Key Id Name)) : Type 0 where
     pub passes : Passes (weight r.store a + weight r.store b) r q
     pub verdict : StepVerdict M F r q passes.added a b tree result
-    pub exact : M.is_exact → r.ambient ≡ Invariant → IsFirstOrderPair r.store a b →
+    pub exact : (M r.settings).is_exact → r.ambient ≡ Invariant → IsFirstOrderPair r.store a b →
         ExactVerdict r q a b tree result
 
   -- A fault is want of memory.

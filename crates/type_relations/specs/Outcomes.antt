@@ -29,14 +29,18 @@ pub record Outcome (c : Items) (e : Tree) (way : Way) (before after : Store) (ea
   pub keeps : (w : Interpretation) (s : Assign) → Satisfies w before s → AreOne way s a b →
       Extends before s (λ s'. Satisfies w after s' × All (MakesOneTree s') added)
 
+-- What relates one pair relates another, under each assignment that satisfies the store and makes the goals true.
+abbrev pub CarriesOver : Items → Tree → Store → List Goal → Way → Tree → Tree → Way → Tree → Tree → Type 0
+CarriesOver c e st goals way' x y way a b = (w : Interpretation) (s : Assign) → Satisfies w st s →
+    All (Holds c w s) goals → Rel c w e way' (apply s x) (apply s y) → Rel c w e way (apply s a) (apply s b)
+
 -- A step was taken from one pair to another that is to be related yet, at its own exit: what relates the pair that is
 -- left relates the first, and what made the first one extends to make the pair that is left one.
 pub record StepsTo (c : Items) (e : Tree) (before after : Store) (earlier added : List Goal) (way : Way)
     (a b : Tree) (way' : Way) (x y : Tree) : Type 0 where
   pub later : IsLater before after
   pub goals_in : All (GoalInContext after) added
-  pub relates : (w : Interpretation) (s : Assign) → Satisfies w after s → All (Holds c w s) (earlier ++ added) →
-      Rel c w e way' (apply s x) (apply s y) → Rel c w e way (apply s a) (apply s b)
+  pub relates : CarriesOver c e after (earlier ++ added) way' x y way a b
   pub keeps : (w : Interpretation) (s : Assign) → Satisfies w before s → AreOne way s a b →
       Extends before s (λ s'. Satisfies w after s' × All (MakesOneTree s') added × AreOne way' s' x y)
 

@@ -29,14 +29,15 @@ pub enum Step<T> {
         a: T,
         b: T,
     },
-    /// `x` and `y` are related at the variance, seen from the ambient one, and then `a` is the answer. The terms are read
-    /// as `a` and `b`.
+    /// `x` and `y` are related at the variance, seen from the ambient one, and then `answer` is the answer. The terms are
+    /// read as `a` and `b`.
     Again {
         a: T,
         b: T,
         x: T,
         y: T,
         variance: Variance,
+        answer: T,
     },
 }
 

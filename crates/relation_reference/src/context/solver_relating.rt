@@ -150,6 +150,7 @@ impl<'a, I: Interner> TypeRelation<I> for SolverRelating<'a, I> {
                         a: left,
                         b: right,
                         variance: Variance::Covariant,
+                        answer: left,
                     })
                 }
             },
@@ -162,6 +163,7 @@ impl<'a, I: Interner> TypeRelation<I> for SolverRelating<'a, I> {
                         a: left,
                         b: right,
                         variance: Variance::Covariant,
+                        answer: left,
                     })
                 }
                 None => Ok(Step::Parts { a: left, b: right }),

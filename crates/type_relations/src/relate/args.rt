@@ -1,14 +1,14 @@
 //! Relating the arguments of items.
 ghost use Rattle.std.specs.Prelude.{◌≡◌, ◌≢◌, ◌<◌, IsTrue, IfOk};
 ghost use Rattle.relation_terms.specs.declared.terms.enums.Variance.TheVariants.{Bivariant};
-ghost use Rattle.relation_terms.specs.Heads.{adt, arguments};
+ghost use Rattle.relation_terms.specs.Heads.{arguments};
 ghost use Rattle.relation_terms.specs.Trees.{known, node, count, nth, IsList, list_tree};
 ghost use Rattle.relation_terms.specs.Meaning.{Extends, arg_tree};
 ghost use Rattle.relation_terms.specs.Variances.{xform};
-ghost use Rattle.type_relations.specs.Relation.{part_at};
-ghost use Rattle.type_relations.specs.Lawful.{WithMeaning, OnlyMemory, items_in};
-ghost use Rattle.type_relations.specs.Keyed.{AreOver, AskedLists, AskedTys, RelatedLists, RelatedTys};
-ghost use Rattle.type_relations.specs.Arguments.{args_head, AreOverItem};
+ghost use Rattle.type_relations.specs.Lawful.{WithMeaning, OnlyMemory};
+ghost use Rattle.type_relations.specs.Keyed.{AreAsMany, AreOver, AskedLists, AskedTys, IsMadeOver, RelatedLists};
+ghost use Rattle.type_relations.specs.Keyed.{RelatedTys, over_item, part_in};
+ghost use Rattle.type_relations.specs.Arguments.{args_head, head_by, AreOverItem};
 ghost use Rattle.type_relations.specs.Parts.{head_of};
 
 use crate::relate::TypeRelation;
@@ -73,7 +73,7 @@ fn variance_of<I: Interner, R: TypeRelation<I>>(
     variances: &ArgVariances<I::Id>,
     i: usize,
 ) -> Variance
-    ensures { xform (R.state r.now).ambient result ≡ part_at (items_in (R.state r.now)) (args_head (R.state r.now).meaning variances.now) i (R.state r.now).ambient }
+    ensures { let q = R.state r.now in xform q.ambient result ≡ part_in q (args_head q.meaning variances.now) i }
 {
     match variances {
         ArgVariances::Invariant => Variance::Invariant,
@@ -93,7 +93,8 @@ fn make_args<I: Interner, R: TypeRelation<I>>(
     ensures grown { WithMeaning (R.state r.old) (R.state r.new).meaning (R.state r.new) }
     ensures fault { OnlyMemory result }
     ensures sure { IfOk result (λ k. IsTrue (known ((R.state r.new).meaning.args k))) }
-    ensures means { IfOk result (λ k. (R.state r.new).meaning.args k ≡ list_tree (arg_tree (R.state r.old).meaning) args.now) }
+    ensures means { let m = (R.state r.old).meaning in
+        IfOk result (λ k. (R.state r.new).meaning.args k ≡ list_tree (arg_tree m) args.now) }
 {
     r.interner_grows();
     let made = r.cx_mut().mk_args(args)?;
@@ -109,9 +110,9 @@ fn relate_args<I: Interner, R: TypeRelation<I>>(
 ) -> RelateResult<I, GenericArgs<I>>
     requires lawful { (R.state r.old).lawful }
     requires decides { (R.state r.old).ambient ≢ Bivariant }
-    requires asked { AskedLists R.manner (R.state r.old) (λ m. args_head m variances.now) a.now b.now }
-    requires as_many { count ((R.state r.old).meaning.args a.now) ≡ count ((R.state r.old).meaning.args b.now) }
-    ensures { RelatedLists R.manner (R.state r.old) (R.state r.new) (λ m. args_head m variances.now) a.now b.now result }
+    requires asked { AskedLists R.manner (R.state r.old) (head_by variances.now) a.now b.now }
+    requires as_many { AreAsMany (R.state r.old) a.now b.now }
+    ensures { RelatedLists R.manner (R.state r.old) (R.state r.new) (head_by variances.now) a.now b.now result }
 {
     let n = args_count_of::<I, R>(r, a);
     let mut answers = Vec::new(r.cx().alloc());
@@ -140,7 +141,7 @@ pub fn relate_args_invariantly<I: Interner, R: TypeRelation<I>>(
     requires lawful { (R.state r.old).lawful }
     requires decides { (R.state r.old).ambient ≢ Bivariant }
     requires asked { AskedLists R.manner (R.state r.old) (λ m. arguments) a.now b.now }
-    requires as_many { count ((R.state r.old).meaning.args a.now) ≡ count ((R.state r.old).meaning.args b.now) }
+    requires as_many { AreAsMany (R.state r.old) a.now b.now }
     ensures { RelatedLists R.manner (R.state r.old) (R.state r.new) (λ m. arguments) a.now b.now result }
 {
     relate_args(r, &ArgVariances::Invariant, a, b)
@@ -162,9 +163,9 @@ pub fn relate_args_with_variances<I: Interner, R: TypeRelation<I>>(
 ) -> RelateResult<I, GenericArgs<I>>
     requires lawful { (R.state r.old).lawful }
     requires decides { (R.state r.old).ambient ≢ Bivariant }
-    requires asked { AskedLists R.manner (R.state r.old) (λ m. adt (m.id (def_id.now).0)) a.now b.now }
-    requires as_many { count ((R.state r.old).meaning.args a.now) ≡ count ((R.state r.old).meaning.args b.now) }
-    ensures { RelatedLists R.manner (R.state r.old) (R.state r.new) (λ m. adt (m.id (def_id.now).0)) a.now b.now result }
+    requires asked { AskedLists R.manner (R.state r.old) (over_item def_id.now) a.now b.now }
+    requires as_many { AreAsMany (R.state r.old) a.now b.now }
+    ensures { RelatedLists R.manner (R.state r.old) (R.state r.new) (over_item def_id.now) a.now b.now result }
 {
     relate_args(r, &ArgVariances::Adt(DefId(def_id.0)), a, b)
 }
@@ -177,14 +178,19 @@ fn make_over<
 >(r: &mut R, form: &Ty<I>, args: GenericArgs<I>, mk: F) -> RelateResult<I, Ty<I>>
     requires lawful { (R.state r.old).lawful }
     requires args_known { IsTrue (known ((R.state r.old).meaning.args args)) }
-    requires callable { (cx : _) (list : _) → Extends (R.state r.old).meaning (I.meaning cx.now) → IsTrue (known ((I.meaning cx.now).args list)) → F.pre mk cx list }
-    requires grows { (cx : _) (list : _) (res : _) (left : _) → F.post mk cx list res left → Extends (I.meaning cx.now) (I.meaning left.now) }
-    requires makes { (cx : _) (list : _) (res : _) (left : _) → Extends (R.state r.old).meaning (I.meaning cx.now) → F.post mk cx list res left → IfOk res (λ k. IsTrue (known ((I.meaning left.now).ty k)) × ((I.meaning left.now).ty k ≡ node (head_of ((R.state r.old).meaning.ty form.now)) ((I.meaning cx.now).args list))) }
+    requires callable { (cx : _) (list : _) → Extends (R.state r.old).meaning (I.meaning cx.now) →
+        IsTrue (known ((I.meaning cx.now).args list)) → F.pre mk cx list }
+    requires grows { (cx : _) (list : _) (res : _) (left : _) → F.post mk cx list res left →
+        Extends (I.meaning cx.now) (I.meaning left.now) }
+    requires makes { (cx : _) (list : _) (res : _) (left : _) → Extends (R.state r.old).meaning (I.meaning cx.now) →
+        F.post mk cx list res left →
+        IsMadeOver (R.state r.old) form.now (I.meaning cx.now) list (I.meaning left.now) res }
     ensures extends { Extends (R.state r.old).meaning (R.state r.new).meaning }
     ensures grown { WithMeaning (R.state r.old) (R.state r.new).meaning (R.state r.new) }
     ensures fault { OnlyMemory result }
     ensures sure { IfOk result (λ k. IsTrue (known ((R.state r.new).meaning.ty k))) }
-    ensures means { IfOk result (λ k. (R.state r.new).meaning.ty k ≡ node (head_of ((R.state r.old).meaning.ty form.now)) ((R.state r.old).meaning.args args)) }
+    ensures means { let m = (R.state r.old).meaning in
+        IfOk result (λ k. (R.state r.new).meaning.ty k ≡ node (head_of (m.ty form.now)) (m.args args)) }
 {
     let _ = form;
     r.interner_grows();
@@ -199,7 +205,9 @@ fn item_variances<I: Interner, R: TypeRelation<I>>(
     def_id: &ItemOf<I>,
 ) -> ArgVariances<I::Id>
     requires { IsTrue (known ((R.state r.now).meaning.ty ty.now)) }
-    ensures { (b ts us : _) → AreOverItem ((R.state r.now).meaning.id (def_id.now).0) ((R.state r.now).meaning.ty ty.now) b ts us → ((R.state r.now).meaning.ty ty.now ≡ node (args_head (R.state r.now).meaning result) ts) × (b ≡ node (args_head (R.state r.now).meaning result) us) }
+    ensures { let m = (R.state r.now).meaning in let h = args_head m result in
+        (b ts us : _) → AreOverItem (m.id (def_id.now).0) (m.ty ty.now) b ts us →
+        (m.ty ty.now ≡ node h ts) × (b ≡ node h us) }
 {
     let kind = r.cx().ty_kind(ty);
     let def_id = DefId(def_id.0);
@@ -237,10 +245,14 @@ pub fn relate_ty_args<
     requires asked { AskedTys R.manner (R.state r.old) a_ty.now b_ty.now }
     requires args_known { IsTrue (known ((R.state r.old).meaning.args a_args.now)) }
     requires over { AreOver (R.state r.old) def_id.now a_ty.now b_ty.now a_args.now b_args.now }
-    requires as_many { count ((R.state r.old).meaning.args a_args.now) ≡ count ((R.state r.old).meaning.args b_args.now) }
-    requires callable { (cx : _) (list : _) → Extends (R.state r.old).meaning (I.meaning cx.now) → IsTrue (known ((I.meaning cx.now).args list)) → F.pre mk cx list }
-    requires grows { (cx : _) (list : _) (res : _) (left : _) → F.post mk cx list res left → Extends (I.meaning cx.now) (I.meaning left.now) }
-    requires makes { (cx : _) (list : _) (res : _) (left : _) → Extends (R.state r.old).meaning (I.meaning cx.now) → F.post mk cx list res left → IfOk res (λ k. IsTrue (known ((I.meaning left.now).ty k)) × ((I.meaning left.now).ty k ≡ node (head_of ((R.state r.old).meaning.ty a_ty.now)) ((I.meaning cx.now).args list))) }
+    requires as_many { AreAsMany (R.state r.old) a_args.now b_args.now }
+    requires callable { (cx : _) (list : _) → Extends (R.state r.old).meaning (I.meaning cx.now) →
+        IsTrue (known ((I.meaning cx.now).args list)) → F.pre mk cx list }
+    requires grows { (cx : _) (list : _) (res : _) (left : _) → F.post mk cx list res left →
+        Extends (I.meaning cx.now) (I.meaning left.now) }
+    requires makes { (cx : _) (list : _) (res : _) (left : _) → Extends (R.state r.old).meaning (I.meaning cx.now) →
+        F.post mk cx list res left →
+        IsMadeOver (R.state r.old) a_ty.now (I.meaning cx.now) list (I.meaning left.now) res }
     ensures { RelatedTys R.manner (R.state r.old) (R.state r.new) a_ty.now b_ty.now result }
 {
     let variances = item_variances::<I, R>(r, a_ty, def_id);

@@ -57,7 +57,7 @@ fn const_at<I: Interner>(cx: &I, parts: &[GenericArg<I>], i: usize) -> Const<I>
 // A list of arguments that are types, as such.
 fn tys_of<I: Interner>(cx: &I, parts: &[GenericArg<I>]) -> Result<Vec<Ty<I>>, OutOfMemory>
     requires { (i : ℕ) → i < length parts.now → sort_at i parts.now ≡ type_sort }
-    ensures { IfOk result (λ ts. list_tree (I.meaning cx.now).ty ts.items ≡ list_tree (arg_tree (I.meaning cx.now)) parts.now) }
+    ensures { let m = I.meaning cx.now in IfOk result (λ ts. list_tree m.ty ts.items ≡ list_tree (arg_tree m) parts.now) }
 {
     let mut tys = Vec::new(cx.alloc());
     for i in 0..parts.len() {
@@ -69,7 +69,8 @@ fn tys_of<I: Interner>(cx: &I, parts: &[GenericArg<I>]) -> Result<Vec<Ty<I>>, Ou
 // A list of arguments that are constants, as such.
 fn consts_of<I: Interner>(cx: &I, parts: &[GenericArg<I>]) -> Result<Vec<Const<I>>, OutOfMemory>
     requires { (i : ℕ) → i < length parts.now → sort_at i parts.now ≡ const_sort }
-    ensures { IfOk result (λ cs. list_tree (I.meaning cx.now).const_ cs.items ≡ list_tree (arg_tree (I.meaning cx.now)) parts.now) }
+    ensures { let m = I.meaning cx.now in
+        IfOk result (λ cs. list_tree m.const_ cs.items ≡ list_tree (arg_tree m) parts.now) }
 {
     let mut consts = Vec::new(cx.alloc());
     for i in 0..parts.len() {
@@ -87,7 +88,8 @@ fn ty_with_parts<I: Interner>(
     requires ty_known { IsTrue (known ((I.meaning cx.old).ty ty.now)) }
     requires parts_known { IsTrue (known (list_tree (arg_tree (I.meaning cx.old)) parts.now)) }
     requires fits { Fit parts.now (parts_of ((I.meaning cx.old).ty ty.now)) }
-    ensures { Made (I.meaning cx.old) (I.meaning cx.new) (I.meaning cx.new).ty (over ((I.meaning cx.old).ty ty.now) (list_tree (arg_tree (I.meaning cx.old)) parts.now)) result }
+    ensures { let m = I.meaning cx.old in let n = I.meaning cx.new in
+        Made m n n.ty (over (m.ty ty.now) (list_tree (arg_tree m) parts.now)) result }
 {
     let kind = cx.ty_kind(ty);
     if let Some(item) = item_of(&kind) {
@@ -131,7 +133,8 @@ fn const_with_parts<I: Interner>(
     requires constant_known { IsTrue (known ((I.meaning cx.old).const_ constant.now)) }
     requires parts_known { IsTrue (known (list_tree (arg_tree (I.meaning cx.old)) parts.now)) }
     requires fits { Fit parts.now (const_parts_of ((I.meaning cx.old).const_ constant.now)) }
-    ensures { Made (I.meaning cx.old) (I.meaning cx.new) (I.meaning cx.new).const_ (const_over ((I.meaning cx.old).const_ constant.now) (list_tree (arg_tree (I.meaning cx.old)) parts.now)) result }
+    ensures { let m = I.meaning cx.old in let n = I.meaning cx.new in
+        Made m n n.const_ (const_over (m.const_ constant.now) (list_tree (arg_tree m) parts.now)) result }
 {
     match cx.const_kind(constant) {
         ConstKind::Expr(kind, _) => {
@@ -164,7 +167,8 @@ pub(crate) fn make_ty<I: Interner, R: TypeRelation<I>>(
     requires fits { Fit parts.now (parts_of ((R.state r.old).meaning.ty ty.now)) }
     ensures grown { WithMeaning (R.state r.old) (R.state r.new).meaning (R.state r.new) }
     ensures fault { OnlyMemory result }
-    ensures made { Made (R.state r.old).meaning (R.state r.new).meaning (R.state r.new).meaning.ty (over ((R.state r.old).meaning.ty ty.now) (list_tree (arg_tree (R.state r.old).meaning) parts.now)) result }
+    ensures made { let m = (R.state r.old).meaning in let n = (R.state r.new).meaning in
+        Made m n n.ty (over (m.ty ty.now) (list_tree (arg_tree m) parts.now)) result }
 {
     r.interner_grows();
     let made = ty_with_parts(r.cx_mut(), ty, parts)?;
@@ -183,7 +187,8 @@ pub(crate) fn make_const<I: Interner, R: TypeRelation<I>>(
     requires fits { Fit parts.now (const_parts_of ((R.state r.old).meaning.const_ constant.now)) }
     ensures grown { WithMeaning (R.state r.old) (R.state r.new).meaning (R.state r.new) }
     ensures fault { OnlyMemory result }
-    ensures made { Made (R.state r.old).meaning (R.state r.new).meaning (R.state r.new).meaning.const_ (const_over ((R.state r.old).meaning.const_ constant.now) (list_tree (arg_tree (R.state r.old).meaning) parts.now)) result }
+    ensures made { let m = (R.state r.old).meaning in let n = (R.state r.new).meaning in
+        Made m n n.const_ (const_over (m.const_ constant.now) (list_tree (arg_tree m) parts.now)) result }
 {
     r.interner_grows();
     let made = const_with_parts(r.cx_mut(), constant, parts)?;

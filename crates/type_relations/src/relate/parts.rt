@@ -86,7 +86,7 @@ pub fn const_part<I: Interner>(cx: &I, constant: &Const<I>, i: usize) -> Generic
     requires constant_known { IsTrue (known ((I.meaning cx.now).const_ constant.now)) }
     requires in_bounds { i < count (const_parts_of ((I.meaning cx.now).const_ constant.now)) }
     ensures sure { IsTrue (known (arg_tree (I.meaning cx.now) result)) }
-    ensures means { arg_tree (I.meaning cx.now) result ≡ nth i (const_parts_of ((I.meaning cx.now).const_ constant.now)) }
+    ensures means { let m = I.meaning cx.now in arg_tree m result ≡ nth i (const_parts_of (m.const_ constant.now)) }
 {
     match cx.const_kind(constant) {
         ConstKind::Expr(_, args) => cx.args(&args)[i],

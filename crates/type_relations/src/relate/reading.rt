@@ -8,7 +8,7 @@ ghost use Rattle.type_relations.specs.Relation.{part_at, pointee_variance};
 ghost use Rattle.type_relations.specs.Errors.{FormError, ConstFormError, AreOfOneForm, AreOfOneConst};
 ghost use Rattle.type_relations.specs.Parts.{parts_of, const_parts_of, head_of, const_head_of};
 ghost use Rattle.type_relations.specs.Lawful.{Noted, items_in};
-ghost use Rattle.type_relations.specs.Keyed.{AskedTys, RelatesTys, AreOver};
+ghost use Rattle.type_relations.specs.Keyed.{AskedTys, RelatesTys, AreOver, part_in};
 ghost use Rattle.type_relations.specs.Handing.{IsResultOfTy, IsResultOfConst};
 
 use crate::relate::comparing::{compare_consts, compare_tys};
@@ -41,7 +41,7 @@ pub(crate) fn compare_consts_of<I: Interner, R: TypeRelation<I>>(
     requires a_known { IsTrue (known ((R.state r.now).meaning.const_ a.now)) }
     requires b_known { IsTrue (known ((R.state r.now).meaning.const_ b.now)) }
     requires differ { (R.state r.now).meaning.const_ a.now ≢ (R.state r.now).meaning.const_ b.now }
-    ensures alike { OnOk result (AreOfOneConst ((R.state r.now).meaning.const_ a.now) ((R.state r.now).meaning.const_ b.now)) }
+    ensures alike { let m = (R.state r.now).meaning in OnOk result (AreOfOneConst (m.const_ a.now) (m.const_ b.now)) }
     ensures errors { IfErr result (ConstFormError (R.state r.now).meaning a.now b.now) }
 {
     compare_consts(r.cx(), a, b)
@@ -83,7 +83,8 @@ pub(crate) fn const_part_of<I: Interner, R: TypeRelation<I>>(
     requires constant_known { IsTrue (known ((R.state r.now).meaning.const_ constant.now)) }
     requires in_bounds { i < count (const_parts_of ((R.state r.now).meaning.const_ constant.now)) }
     ensures sure { IsTrue (known (arg_tree (R.state r.now).meaning result)) }
-    ensures means { arg_tree (R.state r.now).meaning result ≡ nth i (const_parts_of ((R.state r.now).meaning.const_ constant.now)) }
+    ensures means { let m = (R.state r.now).meaning in
+        arg_tree m result ≡ nth i (const_parts_of (m.const_ constant.now)) }
 {
     const_part(r.cx(), constant, i)
 }
@@ -104,7 +105,8 @@ pub(crate) fn declared_at<I: Interner, R: TypeRelation<I>>(
     def_id: &ItemOf<I>,
     i: usize,
 ) -> Variance
-    ensures { xform (R.state r.now).ambient result ≡ xform (R.state r.now).ambient ((items_in (R.state r.now)).declared ((R.state r.now).meaning.id (def_id.now).0) i) }
+    ensures { let q = R.state r.now in
+        xform q.ambient result ≡ xform q.ambient ((items_in q).declared (q.meaning.id (def_id.now).0) i) }
 {
     let Some(variances) = r.item_variances(def_id) else {
         return Variance::Invariant;
@@ -118,7 +120,7 @@ pub(crate) fn declared_at<I: Interner, R: TypeRelation<I>>(
 // The variance at which the part of a type at a place is related, seen from the type's own.
 pub(crate) fn variance_at<I: Interner, R: TypeRelation<I>>(r: &R, ty: &Ty<I>, i: usize) -> Variance
     requires { IsTrue (known ((R.state r.now).meaning.ty ty.now)) }
-    ensures { xform (R.state r.now).ambient result ≡ part_at (items_in (R.state r.now)) (head_of ((R.state r.now).meaning.ty ty.now)) i (R.state r.now).ambient }
+    ensures { let q = R.state r.now in xform q.ambient result ≡ part_in q (head_of (q.meaning.ty ty.now)) i }
 {
     let kind = r.cx().ty_kind(ty);
     match &kind {
@@ -140,7 +142,8 @@ pub(crate) fn const_variance_at<I: Interner, R: TypeRelation<I>>(
     constant: &Const<I>,
 ) -> Variance
     requires { IsTrue (known ((R.state r.now).meaning.const_ constant.now)) }
-    ensures { (i : _) → xform (R.state r.now).ambient result ≡ part_at (items_in (R.state r.now)) (const_head_of ((R.state r.now).meaning.const_ constant.now)) i (R.state r.now).ambient }
+    ensures { let q = R.state r.now in
+        (i : _) → xform q.ambient result ≡ part_in q (const_head_of (q.meaning.const_ constant.now)) i }
 {
     match r.cx().const_kind(constant) {
         ConstKind::Expr(..) => Variance::Invariant,

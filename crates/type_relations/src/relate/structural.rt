@@ -20,8 +20,8 @@ use relation_terms::terms::{Const, GenericArg, GenericArgKind, Interner, Ty, Var
 use relation_tools::error::{RelateFault, RelateResult, TypeError};
 
 /// Relates two types at the ambient variance, as the relation's steps lead: what a step answers is the answer; two forms
-/// that it leaves are related structurally; a pair that it leaves is related at its variance, and the answer is the left
-/// type as the step read it. Upstream a relation's own `tys` does all of it.
+/// that it leaves are related structurally; a pair that it leaves is related at its variance, and the answer is the one
+/// that the step names for then. Upstream a relation's own `tys` does all of it.
 ///
 /// Both are the relation's, which takes them at the ambient variance; that is not `Bivariant`.
 ///
@@ -52,10 +52,11 @@ pub fn tys<I: Interner, R: TypeRelation<I>>(
             x,
             y,
             variance,
+            answer,
         } => {
             relate_with_variance(r, variance, &GenericArgKind::Ty(x), &GenericArgKind::Ty(y))?;
             r.tys_done(&a, &b)?;
-            Ok(a)
+            Ok(answer)
         }
     }
 }
@@ -77,16 +78,17 @@ pub fn consts<I: Interner, R: TypeRelation<I>>(
         Step::Done(answer) => Ok(answer),
         Step::Parts { a, b } => structurally_relate_consts(r, &a, &b),
         Step::Again {
-            a,
+            a: _,
             b: _,
             x,
             y,
             variance,
+            answer,
         } => {
             let x = GenericArgKind::Const(x);
             let y = GenericArgKind::Const(y);
             relate_with_variance(r, variance, &x, &y)?;
-            Ok(a)
+            Ok(answer)
         }
     }
 }

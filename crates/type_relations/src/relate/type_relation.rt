@@ -1,13 +1,13 @@
 //! Relations in steps, none of which relates anything by itself.
 ghost use Rattle.std.specs.Prelude.{◌≡◌, ◌≢◌, IfSome, IfNone, IfOk};
 ghost use Rattle.std.specs.Borrow.{sem, Lends};
-ghost use Rattle.relation_terms.specs.Meaning.{Extends};
 ghost use Rattle.relation_terms.specs.declared.terms.enums.Variance.{Variance};
 ghost use Rattle.relation_terms.specs.declared.terms.enums.Variance.TheVariants.{Invariant, Bivariant};
+ghost use Rattle.relation_terms.specs.Meaning.{Extends};
 ghost use Rattle.type_relations.specs.Stores.{IsSound};
-ghost use Rattle.type_relations.specs.Lawful.{State, Manner, TakesParts, Turned, Noted, WithMeaning};
+ghost use Rattle.type_relations.specs.Lawful.{State, Manners, TakesParts, Turned, Noted, WithMeaning};
 ghost use Rattle.type_relations.specs.Keyed.{AskedConsts, AskedRegions, AskedTys, RelatedRegions, RelatesTys};
-ghost use Rattle.type_relations.specs.Keyed.{SteppedConsts, SteppedTys, AreOver, RecordsAsked};
+ghost use Rattle.type_relations.specs.Keyed.{SteppedConsts, SteppedTys, AreOver, RecordsAsked, variances_in};
 
 use crate::relate::Step;
 use relation_terms::terms::{Const, GenericArgs, Interner, ItemOf, Region, Ty, Variance};
@@ -30,8 +30,8 @@ pub trait TypeRelation<I: Interner> {
     // The relation with another interner.
     ghost with_interner: { Self → I → Self };
 
-    // Which terms it takes, and what it promises.
-    ghost manner: { Manner };
+    // Which terms it takes, and what it promises, by how it is set up.
+    ghost manner: { Manners };
 
     /// The interner of the terms.
     fn cx(&self) -> &I
@@ -44,7 +44,8 @@ pub trait TypeRelation<I: Interner> {
 
     /// Does nothing: it shows that making terms changes nothing of the relation but what its interner knows.
     fn interner_grows(&self)
-        ensures { (cx : I) → Extends (state self.now).meaning (I.meaning cx) → (state self.now).lawful → WithMeaning (state self.now) (I.meaning cx) (state (with_interner self.now cx)) };
+        ensures { (cx : I) → Extends (state self.now).meaning (I.meaning cx) → (state self.now).lawful →
+            WithMeaning (state self.now) (I.meaning cx) (state (with_interner self.now cx)) };
 
     /// The variance at which terms are related.
     fn ambient(&self) -> Variance
@@ -57,7 +58,7 @@ pub trait TypeRelation<I: Interner> {
     /// The variances at which the arguments of an item's types are related: those that the item declares; or none, for
     /// all of them invariantly, where the ambient variance is `Invariant`.
     fn item_variances(&self, def_id: &ItemOf<I>) -> Option<&[Variance]>
-        ensures declared { IfSome result (λ vs. vs.now ≡ (state self.now).meaning.variances ((state self.now).meaning.id (def_id.now).0)) }
+        ensures declared { IfSome result (λ vs. vs.now ≡ variances_in (state self.now) def_id.now) }
         ensures none { IfNone result ((state self.now).ambient ≡ Invariant) };
 
     /// What comes of two types.

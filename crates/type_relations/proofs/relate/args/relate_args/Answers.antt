@@ -14,11 +14,11 @@ use Rattle.relation_terms.proofs.Stays.{stays_list, stays_arg}
 use Rattle.relation_tools.specs.declared.error.RelateFault.TheVariants.{Memory}
 use Rattle.type_relations.proofs.Lists.{snoc, list_push}
 use Rattle.type_relations.proofs.PartSizes.{weight_parts_most}
-use Rattle.type_relations.proofs.Passing.{same_items, as_err, passes_within, made_or_not, stopped}
+use Rattle.type_relations.proofs.Passing.{as_err, passes_within, made_or_not, stopped}
 use Rattle.type_relations.proofs.Fronts.{Fronted, fronted_none, fronted_next}
 use Rattle.type_relations.proofs.Looping.{next_asked}
 use Rattle.type_relations.proofs.Arguments.{form_related, form_refused, args_related_head, args_looked_at, args_handed_on, args_heads, are_list}
-use Rattle.type_relations.proofs.Answering.{AreAnswers, answers_none, answers_next, answers_end, may_over, if_ok_both}
+use Rattle.type_relations.proofs.Answering.{same_items, AreAnswers, answers_none, answers_next, answers_end, may_form, if_ok_both}
 use Rattle.type_relations.proofs.relate.args.relate_args.Goals as goal
 
 pub loop-i-init : goal.loop-i-init
@@ -49,8 +49,8 @@ loop-i-init g c =
         left_in = term_context r.store ts (in_parts r.store (node h ts) k.left_in);
         right_in = term_context r.store us (in_parts r.store (node h us) k.right_in);
       };
-      answers = subst (λ z. AreAnswers g.R.TypeRelation.manner r.store 0 ts (list_tree (arg_tree r.meaning) z))
-          (sym c.new-answers.ensures.items) (answers_none g.R.TypeRelation.manner r.store ts);
+      answers = subst (λ z. AreAnswers g.R.TypeRelation.manner r h r.ambient 0 ts (list_tree (arg_tree r.meaning) z))
+          (sym c.new-answers.ensures.items) (answers_none g.R.TypeRelation.manner r h r.ambient ts);
     }
 
 pub relate_with_variance-requires-clause-asked : goal.relate_with_variance-requires-clause-asked
@@ -202,10 +202,11 @@ loop-i-preserved g c =
           gone);
       counts = inv.counts;
       are_parts = inv.are_parts;
-      answers = subst₂ (λ j z. AreAnswers M p.store j ts z) (omega arith) (sym pushed)
-          (answers_next M q.store p.store i ts (list_tree (arg_tree q.meaning) c.loop-i.answers.items) x
-          (arg_tree p.meaning n.answer) (((gone.passes).goes).later.shrinks) lx inv.answers ex (gone.verdict).answer
-          (gone.verdict).known);
+      answers = subst₂ (λ j z. AreAnswers M p h r.ambient j ts z) (omega arith) (sym pushed)
+          (answers_next M h r.ambient i ts (list_tree (arg_tree q.meaning) c.loop-i.answers.items) x
+          (arg_tree p.meaning n.answer) gone.passes lx inv.answers ex
+          (subst (λ z. MayAnswer M p (part_at z h i r.ambient) x (arg_tree p.meaning n.answer))
+          (sym (same_items (inv.fronted).passes)) (gone.verdict).answer) (gone.verdict).known);
     }
 
 pub returns : goal.returns
@@ -229,8 +230,9 @@ returns g c =
     let heads = args_heads made.extends c.args.variances.now ∙ args_heads extends c.args.variances.now in
     let tree : ArgsKey g.row.I-Key.Denot → Tree =
     λ k. node (args_head p.meaning c.args.variances.now) ((p.meaning).args k) in
-    let value : MayAnswer M q.store (node h ts) (node h was) =
-    may_over M q.store (node h ts) was (answers_end M q.store i ts was (inv.are_parts).left_list all inv.answers) in
+    let value : MayAnswer M q r.ambient (node h ts) (node h was) =
+    may_form M q h r.ambient ts was (args_related_head r.meaning c.args.variances.now)
+    (answers_end M q h r.ambient i ts was (inv.are_parts).left_list all inv.answers) in
     let done = form_related M r.ambient h ts us i inv.fronted inv.are_parts c.requires.as_many
     (args_looked_at r.meaning c.args.variances.now) (λ (t : Tree). t) (node h ts)
     (args_related_head r.meaning c.args.variances.now) all refl k.left_known in
@@ -238,9 +240,9 @@ returns g c =
     c.make_args.result made.fault
     (if_ok_both (λ z. IsTrue (known ((p.meaning).args z)))
     (λ z. (p.meaning).args z ≡ list_tree (arg_tree q.meaning) c.as_slice.result.now)
-    (λ z. MayAnswer M q.store (node h ts) (tree z) × IsTrue (known (tree z))) c.make_args.result
+    (λ z. MayAnswer M q r.ambient (node h ts) (tree z) × IsTrue (known (tree z))) c.make_args.result
     (λ z sure means. (
-      subst (MayAnswer M q.store (node h ts)) (sym (ap (λ x. node x ((p.meaning).args z)) heads
+      subst (MayAnswer M q r.ambient (node h ts)) (sym (ap (λ x. node x ((p.meaning).args z)) heads
           ∙ ap (node h) (means ∙ ap (list_tree (arg_tree q.meaning)) c.as_slice.ensures.value))) value,
       sure,
     )) made.sure made.means)

@@ -17,5 +17,6 @@ invariant-loop-i g l =
       fronted : Fronted g.R.TypeRelation.manner r q (args_head r.meaning l.variances) r.ambient l.i ts us;
       counts : l.n ≡ count ts;
       are_parts : AreParts r.store ts us;
-      answers : AreAnswers g.R.TypeRelation.manner q.store l.i ts (list_tree (arg_tree q.meaning) l.answers.items);
+      answers : AreAnswers g.R.TypeRelation.manner q (args_head r.meaning l.variances) r.ambient l.i ts
+          (list_tree (arg_tree q.meaning) l.answers.items);
     }

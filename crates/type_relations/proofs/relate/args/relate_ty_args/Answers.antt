@@ -132,8 +132,8 @@ returns g c =
     made_or_not M r.ambient a b made.extends made.grown (u.meaning).ty answer args noted c.make_over.result made.fault
     (if_ok_both (λ z. IsTrue (known ((u.meaning).ty z)))
     (λ z. (u.meaning).ty z ≡ node (head_of ((p.meaning).ty c.args.a_ty.now)) ((p.meaning).args args))
-    (λ z. MayAnswer M p.store a ((u.meaning).ty z) × IsTrue (known ((u.meaning).ty z))) c.make_over.result
+    (λ z. MayAnswer M p r.ambient a ((u.meaning).ty z) × IsTrue (known ((u.meaning).ty z))) c.make_over.result
     (λ z sure means. (
-      subst (MayAnswer M p.store a) (sym (means ∙ ap (λ h. node h ((p.meaning).args args)) head)) (noted.verdict).answer,
+      subst (MayAnswer M p r.ambient a) (sym (means ∙ ap (λ h. node h ((p.meaning).args args)) head)) (noted.verdict).answer,
       sure,
     )) made.sure made.means)

@@ -15,19 +15,19 @@ use Rattle.type_relations.specs.Errors.{AreOfOneForm}
 use Rattle.type_relations.specs.Parts.{IsFormed, IsFormedConst, parts_of, const_parts_of, head_of, const_head_of}
 use Rattle.type_relations.specs.Handing.{IsResultOfTy, IsResultOfConst}
 use Rattle.type_relations.specs.Making.{arg_sort, Fit, over, const_over}
-use Rattle.type_relations.proofs.Answering.{AreAnswers, answers_none, answers_next, answers_end, may_over, may_const_over, may_later}
+use Rattle.type_relations.proofs.Answering.{same_items, AreAnswers, answers_none, answers_next, answers_end, may_over, may_const_over, may_later}
 use Rattle.type_relations.proofs.Making.{fit_pushed, fit_end, fits_place}
 use Rattle.type_relations.proofs.PartSizes.{weight_parts_most, weight_const_parts_most}
 use Rattle.type_relations.proofs.Lists.{firsts, snoc, list_push}
 use Rattle.relation_terms.proofs.Stays.{stays_list, stays_arg}
-use Rattle.type_relations.specs.Lawful.{Asked, Related, Stepped, Turned, items_in}
+use Rattle.type_relations.specs.Lawful.{Asked, Related, MayAnswer, Stepped, Turned, items_in}
 use Rattle.type_relations.proofs.Standing.{term_context}
 use Rattle.type_relations.proofs.Parts.{in_parts, in_const_parts}
 use Rattle.type_relations.proofs.OneParts.{parts_counted, const_parts_counted}
 use Rattle.type_relations.proofs.Comparing.{parts_of_list, const_parts_list}
 use Rattle.type_relations.proofs.Handing.{AreOfTwoKinds, no_lifetime, no_ty, no_const_arg}
 use Rattle.type_relations.proofs.Passing.{asked_later, parts_related, again_related, again_refused, again_relates, noted_related, noted_refused}
-use Rattle.type_relations.proofs.Passing.{turned, unlooked, step_done, retold, relates_now, same_items, as_err}
+use Rattle.type_relations.proofs.Passing.{turned, unlooked, step_done, retold, relates_now, as_err}
 use Rattle.type_relations.proofs.Passing.{form_made, stopped, passes_within}
 use Rattle.type_relations.proofs.Fronts.{Fronted, fronted_none, fronted_next}
 use Rattle.type_relations.proofs.Structural.{types_related, ty_refused}
@@ -78,10 +78,11 @@ consts-relate_with_variance-requires g t c κs within =
     let k = (q.meaning).const_ c.in-Again.a in
     let l = (q.meaning).const_ c.in-Again.b in
     let v = c.in-Again.variance in
+    let o = (q.meaning).const_ c.in-Again.answer in
     let lawful = (step.passes).lawful c.requires.lawful in
     let asked : Asked M q (xform q.ambient v) x y =
     subst (λ z. Asked M q (xform z v) x y) (sym (step.passes).ambient) (step.verdict).asked in
-    let under = again_under M a b (step.passes).added k l v x y step.verdict in
+    let under = again_under M a b (step.passes).added k l v x y o step.verdict in
     let d = c.decreases in
     search rules
 
@@ -98,6 +99,7 @@ consts-returns-in_err-relate_with_variance-in-Again g t c =
     let k = (q.meaning).const_ c.in-Again.a in
     let l = (q.meaning).const_ c.in-Again.b in
     let v = c.in-Again.variance in
+    let o = (q.meaning).const_ c.in-Again.answer in
     let p = g.R.TypeRelation.state c.relate_with_variance.new.r in
     let inner : Related M q p (xform r.ambient v) x y (arg_tree p.meaning) (Err c.in_err-relate_with_variance-in-Again.field-0.0) =
     subst (λ z. Related M q p (xform z v) x y (arg_tree p.meaning) (Err c.in_err-relate_with_variance-in-Again.field-0.0)) (step.passes).ambient c.in_err-relate_with_variance-in-Again.ensures.related in
@@ -105,7 +107,7 @@ consts-returns-in_err-relate_with_variance-in-Again g t c =
     c.from_residual-in_err-relate_with_variance-in-Again.ensures.0
     c.from_residual-in_err-relate_with_variance-in-Again.ensures.1 in
     subst (λ z. Related M r p r.ambient a b (p.meaning).const_ z) (sym failed)
-    (again_refused M a b k l x y v step.passes step.verdict step.exact (arg_tree p.meaning) (p.meaning).const_ c.in_err-relate_with_variance-in-Again.field-0.0 inner)
+    (again_refused M a b k l x y o v step.passes step.verdict step.exact (arg_tree p.meaning) (p.meaning).const_ c.in_err-relate_with_variance-in-Again.field-0.0 inner)
 
 pub consts-returns-in_ok-relate_with_variance-in-Again : goal.consts-returns-in_ok-relate_with_variance-in-Again
 consts-returns-in_ok-relate_with_variance-in-Again g t c =
@@ -120,14 +122,15 @@ consts-returns-in_ok-relate_with_variance-in-Again g t c =
     let k = (q.meaning).const_ c.in-Again.a in
     let l = (q.meaning).const_ c.in-Again.b in
     let v = c.in-Again.variance in
+    let o = (q.meaning).const_ c.in-Again.answer in
     let p = g.R.TypeRelation.state c.relate_with_variance.new.r in
     let inner : Related M q p (xform r.ambient v) x y (arg_tree p.meaning) (Ok c.in_ok-relate_with_variance-in-Again.field-0) =
     subst (λ z. Related M q p (xform z v) x y (arg_tree p.meaning) (Ok c.in_ok-relate_with_variance-in-Again.field-0)) (step.passes).ambient c.in_ok-relate_with_variance-in-Again.ensures.related in
-    let same_k : (p.meaning).const_ c.in-Again.a ≡ k =
-    ((inner.passes).extends).const_ c.in-Again.a ((step.verdict).read_asked).left_known in
-    let done : Related M r p r.ambient a b (p.meaning).const_ (Ok c.in-Again.a) =
-    again_related M a b k l x y v step.passes step.verdict step.exact (arg_tree p.meaning) c.in_ok-relate_with_variance-in-Again.field-0 (p.meaning).const_
-    c.in-Again.a same_k inner in
+    let same_o : (p.meaning).const_ c.in-Again.answer ≡ o =
+    ((inner.passes).extends).const_ c.in-Again.answer (step.verdict).answer_known in
+    let done : Related M r p r.ambient a b (p.meaning).const_ (Ok c.in-Again.answer) =
+    again_related M a b k l x y o v step.passes step.verdict step.exact (arg_tree p.meaning) c.in_ok-relate_with_variance-in-Again.field-0 (p.meaning).const_
+    c.in-Again.answer same_o inner in
     done
 
 pub consts-returns-in-Parts : goal.consts-returns-in-Parts
@@ -187,10 +190,11 @@ tys-relate_with_variance-requires g t c κs within =
     let k = (q.meaning).ty c.in-Again.a in
     let l = (q.meaning).ty c.in-Again.b in
     let v = c.in-Again.variance in
+    let o = (q.meaning).ty c.in-Again.answer in
     let lawful = (step.passes).lawful c.requires.lawful in
     let asked : Asked M q (xform q.ambient v) x y =
     subst (λ z. Asked M q (xform z v) x y) (sym (step.passes).ambient) (step.verdict).asked in
-    let under = again_under M a b (step.passes).added k l v x y step.verdict in
+    let under = again_under M a b (step.passes).added k l v x y o step.verdict in
     let d = c.decreases in
     search rules
 
@@ -207,6 +211,7 @@ tys-returns-in_err-relate_with_variance-in-Again g t c =
     let k = (q.meaning).ty c.in-Again.a in
     let l = (q.meaning).ty c.in-Again.b in
     let v = c.in-Again.variance in
+    let o = (q.meaning).ty c.in-Again.answer in
     let p = g.R.TypeRelation.state c.relate_with_variance.new.r in
     let inner : Related M q p (xform r.ambient v) x y (arg_tree p.meaning) (Err c.in_err-relate_with_variance-in-Again.field-0.0) =
     subst (λ z. Related M q p (xform z v) x y (arg_tree p.meaning) (Err c.in_err-relate_with_variance-in-Again.field-0.0)) (step.passes).ambient c.in_err-relate_with_variance-in-Again.ensures.related in
@@ -214,7 +219,7 @@ tys-returns-in_err-relate_with_variance-in-Again g t c =
     c.from_residual-in_err-relate_with_variance-in-Again.ensures.0
     c.from_residual-in_err-relate_with_variance-in-Again.ensures.1 in
     subst (λ z. Related M r p r.ambient a b (p.meaning).ty z) (sym failed)
-    (again_refused M a b k l x y v step.passes step.verdict step.exact (arg_tree p.meaning) (p.meaning).ty c.in_err-relate_with_variance-in-Again.field-0.0 inner)
+    (again_refused M a b k l x y o v step.passes step.verdict step.exact (arg_tree p.meaning) (p.meaning).ty c.in_err-relate_with_variance-in-Again.field-0.0 inner)
 
 pub tys-returns-in_err-answer-in-Parts : goal.tys-returns-in_err-answer-in-Parts
 tys-returns-in_err-answer-in-Parts g t c =
@@ -335,14 +340,15 @@ tys-tys_done-requires-in-Again-clause-asked g t c =
     let k = (q.meaning).ty c.in-Again.a in
     let l = (q.meaning).ty c.in-Again.b in
     let v = c.in-Again.variance in
+    let o = (q.meaning).ty c.in-Again.answer in
     let p = g.R.TypeRelation.state c.relate_with_variance.new.r in
     let inner : Related M q p (xform r.ambient v) x y (arg_tree p.meaning) (Ok c.in_ok-relate_with_variance-in-Again.field-0) =
     subst (λ z. Related M q p (xform z v) x y (arg_tree p.meaning) (Ok c.in_ok-relate_with_variance-in-Again.field-0)) (step.passes).ambient c.in_ok-relate_with_variance-in-Again.ensures.related in
-    let same_k : (p.meaning).ty c.in-Again.a ≡ k =
-    ((inner.passes).extends).ty c.in-Again.a ((step.verdict).read_asked).left_known in
-    let done : Related M r p r.ambient a b (p.meaning).ty (Ok c.in-Again.a) =
-    again_related M a b k l x y v step.passes step.verdict step.exact (arg_tree p.meaning) c.in_ok-relate_with_variance-in-Again.field-0 (p.meaning).ty
-    c.in-Again.a same_k inner in
+    let same_o : (p.meaning).ty c.in-Again.answer ≡ o =
+    ((inner.passes).extends).ty c.in-Again.answer (step.verdict).answer_known in
+    let done : Related M r p r.ambient a b (p.meaning).ty (Ok c.in-Again.answer) =
+    again_related M a b k l x y o v step.passes step.verdict step.exact (arg_tree p.meaning) c.in_ok-relate_with_variance-in-Again.field-0 (p.meaning).ty
+    c.in-Again.answer same_o inner in
     let same_x : (p.meaning).ty c.in-Again.a ≡ (q.meaning).ty c.in-Again.a =
     ((inner.passes).extends).ty c.in-Again.a ((step.verdict).read_asked).left_known in
     let same_y : (p.meaning).ty c.in-Again.b ≡ (q.meaning).ty c.in-Again.b =
@@ -364,21 +370,22 @@ tys-tys_done-requires-in-Again-clause-related g t c =
     let k = (q.meaning).ty c.in-Again.a in
     let l = (q.meaning).ty c.in-Again.b in
     let v = c.in-Again.variance in
+    let o = (q.meaning).ty c.in-Again.answer in
     let p = g.R.TypeRelation.state c.relate_with_variance.new.r in
     let inner : Related M q p (xform r.ambient v) x y (arg_tree p.meaning) (Ok c.in_ok-relate_with_variance-in-Again.field-0) =
     subst (λ z. Related M q p (xform z v) x y (arg_tree p.meaning) (Ok c.in_ok-relate_with_variance-in-Again.field-0)) (step.passes).ambient c.in_ok-relate_with_variance-in-Again.ensures.related in
-    let same_k : (p.meaning).ty c.in-Again.a ≡ k =
-    ((inner.passes).extends).ty c.in-Again.a ((step.verdict).read_asked).left_known in
-    let done : Related M r p r.ambient a b (p.meaning).ty (Ok c.in-Again.a) =
-    again_related M a b k l x y v step.passes step.verdict step.exact (arg_tree p.meaning) c.in_ok-relate_with_variance-in-Again.field-0 (p.meaning).ty
-    c.in-Again.a same_k inner in
+    let same_o : (p.meaning).ty c.in-Again.answer ≡ o =
+    ((inner.passes).extends).ty c.in-Again.answer (step.verdict).answer_known in
+    let done : Related M r p r.ambient a b (p.meaning).ty (Ok c.in-Again.answer) =
+    again_related M a b k l x y o v step.passes step.verdict step.exact (arg_tree p.meaning) c.in_ok-relate_with_variance-in-Again.field-0 (p.meaning).ty
+    c.in-Again.answer same_o inner in
     let same_x : (p.meaning).ty c.in-Again.a ≡ (q.meaning).ty c.in-Again.a =
     ((inner.passes).extends).ty c.in-Again.a ((step.verdict).read_asked).left_known in
     let same_y : (p.meaning).ty c.in-Again.b ≡ (q.meaning).ty c.in-Again.b =
     ((inner.passes).extends).ty c.in-Again.b ((step.verdict).read_asked).right_known in
     subst₂ (λ t u. Relates (items_in p) p.store p.goals p.environment p.ambient t u) (sym same_x) (sym same_y)
     (subst (λ v. Relates (items_in p) p.store p.goals p.environment v k l)
-    (sym ((inner.passes).ambient ∙ (step.passes).ambient)) (again_relates M a b k l x y v step.passes step.verdict step.exact (arg_tree p.meaning) c.in_ok-relate_with_variance-in-Again.field-0 inner))
+    (sym ((inner.passes).ambient ∙ (step.passes).ambient)) (again_relates M a b k l x y o v step.passes step.verdict step.exact (arg_tree p.meaning) c.in_ok-relate_with_variance-in-Again.field-0 inner))
 
 pub tys-returns-in_err-tys_done-in-Again : goal.tys-returns-in_err-tys_done-in-Again
 tys-returns-in_err-tys_done-in-Again g t c =
@@ -393,20 +400,21 @@ tys-returns-in_err-tys_done-in-Again g t c =
     let k = (q.meaning).ty c.in-Again.a in
     let l = (q.meaning).ty c.in-Again.b in
     let v = c.in-Again.variance in
+    let o = (q.meaning).ty c.in-Again.answer in
     let p = g.R.TypeRelation.state c.relate_with_variance.new.r in
     let inner : Related M q p (xform r.ambient v) x y (arg_tree p.meaning) (Ok c.in_ok-relate_with_variance-in-Again.field-0) =
     subst (λ z. Related M q p (xform z v) x y (arg_tree p.meaning) (Ok c.in_ok-relate_with_variance-in-Again.field-0)) (step.passes).ambient c.in_ok-relate_with_variance-in-Again.ensures.related in
-    let same_k : (p.meaning).ty c.in-Again.a ≡ k =
-    ((inner.passes).extends).ty c.in-Again.a ((step.verdict).read_asked).left_known in
-    let done : Related M r p r.ambient a b (p.meaning).ty (Ok c.in-Again.a) =
-    again_related M a b k l x y v step.passes step.verdict step.exact (arg_tree p.meaning) c.in_ok-relate_with_variance-in-Again.field-0 (p.meaning).ty
-    c.in-Again.a same_k inner in
+    let same_o : (p.meaning).ty c.in-Again.answer ≡ o =
+    ((inner.passes).extends).ty c.in-Again.answer (step.verdict).answer_known in
+    let done : Related M r p r.ambient a b (p.meaning).ty (Ok c.in-Again.answer) =
+    again_related M a b k l x y o v step.passes step.verdict step.exact (arg_tree p.meaning) c.in_ok-relate_with_variance-in-Again.field-0 (p.meaning).ty
+    c.in-Again.answer same_o inner in
     let u = g.R.TypeRelation.state c.tys_done-in-Again.new.self in
     let e = c.in_err-tys_done-in-Again in
     let failed = as_err c.from_residual-in_err-tys_done-in-Again.result e.field-0.0
     c.from_residual-in_err-tys_done-in-Again.ensures.0 c.from_residual-in_err-tys_done-in-Again.ensures.1 in
     subst (λ z. Related M r u r.ambient a b (u.meaning).ty z) (sym failed)
-    (noted_refused M r.ambient a b (p.meaning).ty c.in-Again.a done (Err e.field-0.0) e.ensures (u.meaning).ty e.field-0.0 refl)
+    (noted_refused M r.ambient a b (p.meaning).ty c.in-Again.answer done (Err e.field-0.0) e.ensures (u.meaning).ty e.field-0.0 refl)
 
 pub tys-returns-in_ok-tys_done-in-Again : goal.tys-returns-in_ok-tys_done-in-Again
 tys-returns-in_ok-tys_done-in-Again g t c =
@@ -421,18 +429,19 @@ tys-returns-in_ok-tys_done-in-Again g t c =
     let k = (q.meaning).ty c.in-Again.a in
     let l = (q.meaning).ty c.in-Again.b in
     let v = c.in-Again.variance in
+    let o = (q.meaning).ty c.in-Again.answer in
     let p = g.R.TypeRelation.state c.relate_with_variance.new.r in
     let inner : Related M q p (xform r.ambient v) x y (arg_tree p.meaning) (Ok c.in_ok-relate_with_variance-in-Again.field-0) =
     subst (λ z. Related M q p (xform z v) x y (arg_tree p.meaning) (Ok c.in_ok-relate_with_variance-in-Again.field-0)) (step.passes).ambient c.in_ok-relate_with_variance-in-Again.ensures.related in
-    let same_k : (p.meaning).ty c.in-Again.a ≡ k =
-    ((inner.passes).extends).ty c.in-Again.a ((step.verdict).read_asked).left_known in
-    let done : Related M r p r.ambient a b (p.meaning).ty (Ok c.in-Again.a) =
-    again_related M a b k l x y v step.passes step.verdict step.exact (arg_tree p.meaning) c.in_ok-relate_with_variance-in-Again.field-0 (p.meaning).ty
-    c.in-Again.a same_k inner in
+    let same_o : (p.meaning).ty c.in-Again.answer ≡ o =
+    ((inner.passes).extends).ty c.in-Again.answer (step.verdict).answer_known in
+    let done : Related M r p r.ambient a b (p.meaning).ty (Ok c.in-Again.answer) =
+    again_related M a b k l x y o v step.passes step.verdict step.exact (arg_tree p.meaning) c.in_ok-relate_with_variance-in-Again.field-0 (p.meaning).ty
+    c.in-Again.answer same_o inner in
     let u = g.R.TypeRelation.state c.tys_done-in-Again.new.self in
     let n = c.in_ok-tys_done-in-Again in
-    noted_related M r.ambient a b (p.meaning).ty c.in-Again.a done (Ok n.field-0) n.ensures (u.meaning).ty
-    ((((n.ensures).passes).extends).ty c.in-Again.a (done.verdict).known)
+    noted_related M r.ambient a b (p.meaning).ty c.in-Again.answer done (Ok n.field-0) n.ensures (u.meaning).ty
+    ((((n.ensures).passes).extends).ty c.in-Again.answer (done.verdict).known)
 
 pub relate-returns-in_default : goal.relate-returns-in_default
 relate-returns-in_default g t c =
@@ -669,8 +678,9 @@ structurally_relate_consts-loop-i-init g t c =
         left_in = term_context r.store (const_parts_of a) (in_const_parts r.store a k.left_in);
         right_in = term_context r.store (const_parts_of b) (in_const_parts r.store b k.right_in);
       };
-      answers = subst (λ z. AreAnswers M r.store 0 (const_parts_of a) (list_tree (arg_tree r.meaning) z))
-          (sym c.new-answers.ensures.items) (answers_none M r.store (const_parts_of a));
+      answers = subst (λ z. AreAnswers M r (const_head_of a) r.ambient 0 (const_parts_of a)
+          (list_tree (arg_tree r.meaning) z)) (sym c.new-answers.ensures.items)
+          (answers_none M r (const_head_of a) r.ambient (const_parts_of a));
       fits = subst (λ z. Fit z nil) (sym c.new-answers.ensures.items) tt;
     }
 
@@ -831,9 +841,11 @@ structurally_relate_consts-loop-i-preserved g t c =
       left_count = inv.left_count;
       right_count = inv.right_count;
       are_parts = inv.are_parts;
-      answers = subst₂ (λ j z. AreAnswers M p.store j (const_parts_of a) z) next (sym pushed)
-          (answers_next M q.store p.store i (const_parts_of a) (list_tree (arg_tree q.meaning) was) x (arg_tree p.meaning n.answer)
-          ((gone.passes).goes).later.shrinks lx inv.answers ex (gone.verdict).answer (gone.verdict).known);
+      answers = subst₂ (λ j z. AreAnswers M p (const_head_of a) r.ambient j (const_parts_of a) z) next (sym pushed)
+          (answers_next M (const_head_of a) r.ambient i (const_parts_of a) (list_tree (arg_tree q.meaning) was) x
+          (arg_tree p.meaning n.answer) gone.passes lx inv.answers ex
+          (subst (λ c. MayAnswer M p (part_at c (const_head_of a) i r.ambient) x (arg_tree p.meaning n.answer))
+          (sym (same_items (inv.fronted).passes)) (gone.verdict).answer) (gone.verdict).known);
       fits = subst₂ (λ j z. Fit z (firsts j (const_parts_of a))) next (sym c.in_ok-push.ensures.items)
           (fit_pushed was n.answer (const_parts_of a) i lx inv.fits (fits_place q.meaning sorted X n.answer (const_parts_of a) i kx ex kind));
     }
@@ -938,8 +950,8 @@ structurally_relate_consts-returns g t c =
     let made = c.make_const.ensures in
     form_made M r.ambient a b (made.made).extends made.grown (p.meaning).const_ (q.meaning).const_ c.args.a.now done
     c.make_const.result made.fault (const_over a was) _
-    (may_const_over M q.store a was
-    (answers_end M q.store i (const_parts_of a) was (inv.are_parts).left_list left inv.answers))
+    (may_const_over M q r.ambient a was
+    (answers_end M q (const_head_of a) r.ambient i (const_parts_of a) was (inv.are_parts).left_list left inv.answers))
     (ap₂ const_over same_a (ap (list_tree (arg_tree q.meaning)) c.as_slice.ensures.value)) (made.made).sure
     (made.made).means
 
@@ -998,8 +1010,8 @@ structurally_relate_tys-loop-i-init g t c =
         left_in = term_context r.store (parts_of a) (in_parts r.store a k.left_in);
         right_in = term_context r.store (parts_of b) (in_parts r.store b k.right_in);
       };
-      answers = subst (λ z. AreAnswers M r.store 0 (parts_of a) (list_tree (arg_tree r.meaning) z))
-          (sym c.new-answers.ensures.items) (answers_none M r.store (parts_of a));
+      answers = subst (λ z. AreAnswers M r (head_of a) r.ambient 0 (parts_of a) (list_tree (arg_tree r.meaning) z))
+          (sym c.new-answers.ensures.items) (answers_none M r (head_of a) r.ambient (parts_of a));
       fits = subst (λ z. Fit z nil) (sym c.new-answers.ensures.items) tt;
     }
 
@@ -1171,9 +1183,11 @@ structurally_relate_tys-loop-i-preserved g t c =
       left_count = inv.left_count;
       right_count = inv.right_count;
       are_parts = inv.are_parts;
-      answers = subst₂ (λ j z. AreAnswers M p.store j (parts_of a) z) next (sym pushed)
-          (answers_next M q.store p.store i (parts_of a) (list_tree (arg_tree q.meaning) was) x (arg_tree p.meaning n.answer)
-          ((gone.passes).goes).later.shrinks lx inv.answers ex (gone.verdict).answer (gone.verdict).known);
+      answers = subst₂ (λ j z. AreAnswers M p (head_of a) r.ambient j (parts_of a) z) next (sym pushed)
+          (answers_next M (head_of a) r.ambient i (parts_of a) (list_tree (arg_tree q.meaning) was) x
+          (arg_tree p.meaning n.answer) gone.passes lx inv.answers ex
+          (subst (λ c. MayAnswer M p (part_at c (head_of a) i r.ambient) x (arg_tree p.meaning n.answer))
+          (sym (same_items (inv.fronted).passes)) (gone.verdict).answer) (gone.verdict).known);
       fits = subst₂ (λ j z. Fit z (firsts j (parts_of a))) next (sym c.in_ok-push.ensures.items)
           (fit_pushed was n.answer (parts_of a) i lx inv.fits (fits_place q.meaning sorted X n.answer (parts_of a) i kx ex kind));
     }
@@ -1453,9 +1467,10 @@ structurally_relate_tys-returns g t c =
     stays_list (arg_tree q.meaning) (arg_tree u.meaning) items (stays_arg e) (inv.answers).sure in
     let p = g.R.TypeRelation.state c.make_ty.new.r in
     let made = c.make_ty.ensures in
-    let may = may_over M q.store a was (answers_end M q.store i (parts_of a) was (inv.are_parts).left_list left inv.answers) in
+    let may = may_over M q r.ambient a was c.requires.a_formed
+    (answers_end M q (head_of a) r.ambient i (parts_of a) was (inv.are_parts).left_list left inv.answers) in
     form_made M r.ambient a b (made.made).extends made.grown (p.meaning).ty (u.meaning).ty c.args.a.now noted
     c.make_ty.result made.fault (over a was) _
-    (may_later M q.store u.store a (over a was) (((n.ensures).passes).goes).later.shrinks may)
+    (may_later M r.ambient a (over a was) (n.ensures).passes may)
     (ap₂ over stays (ap (list_tree (arg_tree u.meaning)) c.as_slice.ensures.value ∙ listed)) (made.made).sure
     (made.made).means

@@ -52,7 +52,8 @@ invariant-structurally_relate_tys-loop-i g l =
       left_count : l.n ≡ count (parts_of t);
       right_count : l.n ≡ count (parts_of u);
       are_parts : AreParts r.store (parts_of t) (parts_of u);
-      answers : AreAnswers g.R.TypeRelation.manner q.store l.i (parts_of t) (list_tree (arg_tree q.meaning) l.answers.items);
+      answers : AreAnswers g.R.TypeRelation.manner q (head_of t) r.ambient l.i (parts_of t)
+          (list_tree (arg_tree q.meaning) l.answers.items);
       fits : Fit l.answers.items (firsts l.i (parts_of t));
     }
 
@@ -68,7 +69,7 @@ invariant-structurally_relate_consts-loop-i g l =
       left_count : l.n ≡ count (const_parts_of t);
       right_count : l.n ≡ count (const_parts_of u);
       are_parts : AreParts r.store (const_parts_of t) (const_parts_of u);
-      answers : AreAnswers g.R.TypeRelation.manner q.store l.i (const_parts_of t)
+      answers : AreAnswers g.R.TypeRelation.manner q (const_head_of t) r.ambient l.i (const_parts_of t)
           (list_tree (arg_tree q.meaning) l.answers.items);
       fits : Fit l.answers.items (firsts l.i (const_parts_of t));
     }
