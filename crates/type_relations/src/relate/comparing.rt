@@ -178,7 +178,8 @@ fn is_one_value<I: Interner>(cx: &I, a: &ValTree<I>, b: &ValTree<I>) -> bool
     requires a_known { IsTrue (known ((I.meaning cx.now).valtree a.now)) }
     requires b_known { IsTrue (known ((I.meaning cx.now).valtree b.now)) }
     ensures one { let m = I.meaning cx.now in IsTrue result → AreOfOneValue (m.valtree a.now) (m.valtree b.now) }
-    ensures unlike { let m = I.meaning cx.now in IsFalse result → AreOfOneValue (m.valtree a.now) (m.valtree b.now) → ⊥ }
+    ensures unlike { let m = I.meaning cx.now in
+        IsFalse result → AreOfOneValue (m.valtree a.now) (m.valtree b.now) → ⊥ }
 {
     if a == b {
         return true;

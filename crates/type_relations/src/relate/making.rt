@@ -57,7 +57,8 @@ fn const_at<I: Interner>(cx: &I, parts: &[GenericArg<I>], i: usize) -> Const<I>
 // A list of arguments that are types, as such.
 fn tys_of<I: Interner>(cx: &I, parts: &[GenericArg<I>]) -> Result<Vec<Ty<I>>, OutOfMemory>
     requires { (i : ℕ) → i < length parts.now → sort_at i parts.now ≡ type_sort }
-    ensures { let m = I.meaning cx.now in IfOk result (λ ts. list_tree m.ty ts.items ≡ list_tree (arg_tree m) parts.now) }
+    ensures { let m = I.meaning cx.now in
+        IfOk result (λ ts. list_tree m.ty ts.items ≡ list_tree (arg_tree m) parts.now) }
 {
     let mut tys = Vec::new(cx.alloc());
     for i in 0..parts.len() {
