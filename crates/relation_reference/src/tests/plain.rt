@@ -153,5 +153,5 @@ impl<I: Interner> TypeRelation<I> for PlainRelation<I> {
 
     ghost sound = { λ r l. l };
 
-    ghost takes_parts = { λ c h i v l t. t };
+    ghost takes_parts = { λ k c h i v l t. t };
 }
