@@ -1,0 +1,217 @@
+//! How statements are read.
+use crate::reading::error::{Expected, ReadError};
+use crate::reading::reader::Reader;
+use crate::reading::signs::Sign;
+use crate::reading::split::words;
+use crate::reading::terms::{LEVELS, read_term};
+use crate::reading::tree::{Form, ItemSort, Tree};
+use relation_terms::terms::Variance;
+use std::alloc::Global;
+
+/// How many bytes a text may have: 1 MiB.
+pub const LONGEST: usize = 1_048_576;
+
+// The sort of item that is declared next.
+fn read_sort(reader: &mut Reader) -> Result<Option<ItemSort>, ReadError> {
+    if reader.accept(Sign::Struct) {
+        return Ok(Some(ItemSort::Struct));
+    }
+    if reader.accept(Sign::Fn) {
+        return Ok(Some(ItemSort::Fn));
+    }
+    if reader.accept(Sign::Closure) {
+        return Ok(Some(ItemSort::Closure));
+    }
+    if reader.accept(Sign::Coroutine) {
+        if reader.accept(Sign::Closure) {
+            return Ok(Some(ItemSort::CoroutineClosure));
+        }
+        return Ok(Some(ItemSort::Coroutine));
+    }
+    if reader.accept(Sign::Extern) {
+        reader.expect(Sign::Type)?;
+        return Ok(Some(ItemSort::Foreign));
+    }
+    Ok(None)
+}
+
+// How a parameter that an item declares varies.
+fn read_variance(reader: &mut Reader) -> Variance {
+    if reader.accept(Sign::Plus) {
+        return Variance::Covariant;
+    }
+    if reader.accept(Sign::Minus) {
+        return Variance::Contravariant;
+    }
+    if reader.accept(Sign::Star) {
+        return Variance::Bivariant;
+    }
+    let _ = reader.accept(Sign::Assign);
+    Variance::Invariant
+}
+
+// Reads a parameter that an item declares.
+fn read_declared(reader: &mut Reader) -> Result<usize, ReadError> {
+    let start = reader.place();
+    let variance = read_variance(reader);
+    if reader.accept(Sign::Const) {
+        let name = reader.take(Expected::Name)?;
+        return reader.make(Form::DeclaredConst(variance), start, &[name]);
+    }
+    let name = reader.take(Expected::Parameter)?;
+    reader.make(Form::Declared(variance), start, &[name])
+}
+
+// Reads an item, behind what says its sort.
+fn read_item(reader: &mut Reader, start: usize, sort: ItemSort) -> Result<usize, ReadError> {
+    let mut parts = Vec::new(reader.alloc);
+    parts.push(reader.take(Expected::Name)?)?;
+    if reader.accept(Sign::Less) {
+        while !reader.accept(Sign::Greater) {
+            parts.push(read_declared(reader)?)?;
+            if reader.accept(Sign::Greater) {
+                break;
+            }
+            if !reader.accept(Sign::Comma) {
+                return Err(reader.unexpected(Expected::CommaOr(Sign::Greater)));
+            }
+        }
+    }
+    reader.make(Form::Item(sort), start, &parts)
+}
+
+// Reads a parameter, with its index if that is given.
+fn read_parameter(reader: &mut Reader) -> Result<usize, ReadError> {
+    let start = reader.place();
+    let constant = reader.accept(Sign::Const);
+    let form = if constant {
+        Form::ConstParameter
+    } else {
+        Form::Parameter
+    };
+    let name = reader.take(if constant {
+        Expected::Name
+    } else {
+        Expected::Parameter
+    })?;
+    if reader.accept(Sign::Assign) {
+        let index = reader.take(Expected::Number)?;
+        return reader.make(form, start, &[name, index]);
+    }
+    reader.make(form, start, &[name])
+}
+
+// Reads the parameters of questions, behind `param`.
+fn read_parameters(reader: &mut Reader, start: usize) -> Result<usize, ReadError> {
+    let mut parts = Vec::new(reader.alloc);
+    parts.push(read_parameter(reader)?)?;
+    while reader.accept(Sign::Comma) {
+        parts.push(read_parameter(reader)?)?;
+    }
+    reader.make(Form::Parameters, start, &parts)
+}
+
+// Reads variables, behind `variables`.
+fn read_variables(reader: &mut Reader, start: usize) -> Result<usize, ReadError> {
+    let mut parts = Vec::new(reader.alloc);
+    parts.push(reader.take(Expected::Variable)?)?;
+    while reader.accept(Sign::Comma) {
+        parts.push(reader.take(Expected::Variable)?)?;
+    }
+    reader.make(Form::Variables, start, &parts)
+}
+
+// Reads a name for a term, behind `let`.
+fn read_let(reader: &mut Reader, start: usize) -> Result<usize, ReadError> {
+    let name = reader.take(Expected::Name)?;
+    reader.expect(Sign::Assign)?;
+    let term = read_term(reader, LEVELS)?;
+    reader.make(Form::Let, start, &[name, term])
+}
+
+// The variance at which two terms are related.
+fn read_relation(reader: &mut Reader) -> Result<Variance, ReadError> {
+    if reader.accept(Sign::Subtype) {
+        return Ok(Variance::Covariant);
+    }
+    if reader.accept(Sign::Supertype) {
+        return Ok(Variance::Contravariant);
+    }
+    if reader.accept(Sign::Equal) {
+        return Ok(Variance::Invariant);
+    }
+    Err(reader.unexpected(Expected::Relation))
+}
+
+// Reads two terms and how they are related.
+fn read_pair(reader: &mut Reader) -> Result<usize, ReadError> {
+    let start = reader.place();
+    let lhs = read_term(reader, LEVELS)?;
+    let variance = read_relation(reader)?;
+    let rhs = read_term(reader, LEVELS)?;
+    reader.make(Form::Question(variance), start, &[lhs, rhs])
+}
+
+// Reads a question.
+fn read_question(reader: &mut Reader, start: usize) -> Result<usize, ReadError> {
+    if reader.accept(Sign::Then) {
+        let pair = read_pair(reader)?;
+        return reader.make(Form::Then, start, &[pair]);
+    }
+    if reader.accept(Sign::Repeat) {
+        let times = reader.take(Expected::Number)?;
+        let pair = read_pair(reader)?;
+        return reader.make(Form::Repeat, start, &[times, pair]);
+    }
+    read_pair(reader)
+}
+
+// Reads a statement, without the `;` behind it.
+fn read_statement(reader: &mut Reader) -> Result<usize, ReadError> {
+    let start = reader.place();
+    if let Some(sort) = read_sort(reader)? {
+        return read_item(reader, start, sort);
+    }
+    if reader.accept(Sign::Param) {
+        return read_parameters(reader, start);
+    }
+    if reader.accept(Sign::Budget) {
+        let number = reader.take(Expected::Number)?;
+        return reader.make(Form::Budget, start, &[number]);
+    }
+    if reader.accept(Sign::Variables) {
+        return read_variables(reader, start);
+    }
+    if reader.accept(Sign::Let) {
+        return read_let(reader, start);
+    }
+    read_question(reader, start)
+}
+
+// Reads all statements that are left, and answers the node over them.
+fn read_statements(reader: &mut Reader) -> Result<usize, ReadError> {
+    let mut parts = Vec::new(reader.alloc);
+    while reader.next().is_some() {
+        parts.push(read_statement(reader)?)?;
+        reader.expect(Sign::Semicolon)?;
+    }
+    reader.make(Form::File, 0, &parts)
+}
+
+/// Reads a text whole. The last node is the `File`.
+///
+/// # Errors
+/// Why the text can't be read, with the first place where it goes wrong.
+pub fn read(alloc: Global, text: &[u8]) -> Result<Tree, ReadError> {
+    if text.len() > LONGEST {
+        return Err(ReadError::TooLong);
+    }
+    let mut reader = Reader {
+        alloc,
+        words: words(alloc, text)?,
+        at: 0,
+        tree: Tree::new(alloc, text.len()),
+    };
+    let _ = read_statements(&mut reader)?;
+    Ok(reader.tree)
+}
