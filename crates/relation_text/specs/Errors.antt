@@ -1,13 +1,17 @@
 -- Errors of reading.
-use Rattle.std.specs.Prelude.{ℕ, ◌≤◌}
+use Rattle.std.specs.Prelude.{ℕ, ◌≤◌, Option, Some, None, IfSome}
 use Rattle.relation_text.specs.declared.reading.error.ReadError.{ReadError}
 use Rattle.relation_text.specs.declared.reading.error.ReadError.TheVariants.{Memory, TooLong, NoWord, TooLarge, TooDeep, Unexpected}
 
+-- the bytes of a text that the error is about, if it is about some
+abbrev pub span_of : ReadError → Option (ℕ × ℕ)
+span_of Memory = None
+span_of TooLong = None
+span_of (NoWord at) = Some (at, at)
+span_of (TooLarge at) = Some (at, at)
+span_of (TooDeep at) = Some (at, at)
+span_of (Unexpected at end expected) = Some (at, end)
+
 -- what the error is about lies in a text of that length
 abbrev pub LiesIn : ℕ → ReadError → Type 0
-LiesIn n Memory = Unit {0}
-LiesIn n TooLong = Unit {0}
-LiesIn n (NoWord at) = at ≤ n
-LiesIn n (TooLarge at) = at ≤ n
-LiesIn n (TooDeep at) = at ≤ n
-LiesIn n (Unexpected at end expected) = (at ≤ end) × (end ≤ n)
+LiesIn n e = IfSome (span_of e) (λ s. (s.0 ≤ s.1) × (s.1 ≤ n))

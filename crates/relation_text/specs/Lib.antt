@@ -1,3 +1,5 @@
 pub mod Places
 pub mod Errors
 pub mod Words
+pub mod Trees
+pub mod Reads

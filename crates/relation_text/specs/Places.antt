@@ -1,10 +1,14 @@
 -- Lines and columns.
 use Rattle.std.specs.Prelude.{◌≡◌, ℕ, ◌+◌, List, [], ◌∷◌, if◌then◌else◌, ◌==◌, nat_lt, ◌||◌}
 
--- the line and the column behind a text that begins at that line and column
+-- the line of what stands behind a byte
+abbrev pub line_behind : ℕ → ℕ → ℕ
+line_behind line b = if b == 10 then line + 1 else line
+
+-- the line behind a text that begins at that line
 abbrev pub line_from : ℕ → List ℕ → ℕ
 line_from line [] = line
-line_from line (b ∷ bs) = line_from (if b == 10 then line + 1 else line) bs
+line_from line (b ∷ bs) = line_from (line_behind line b) bs
 
 -- the column of what stands behind a byte: each byte that begins a character counts
 abbrev pub column_behind : ℕ → ℕ → ℕ

@@ -1,4 +1,8 @@
 //! Why a text can't be read.
+ghost use Rattle.std.specs.Prelude.{◌≡◌};
+ghost use Rattle.relation_text.specs.Errors.{span_of};
+ghost use Rattle.relation_text.specs.declared.reading.error.ReadError.TheVariants.{Memory};
+
 use crate::reading::signs::Sign;
 use std::alloc::{AllocError, AllocFailed};
 use std::fmt::{self, Write};
@@ -29,11 +33,17 @@ pub enum ReadError {
     /// The text has more than `LONGEST` bytes.
     TooLong,
     /// What stands there begins no word.
-    NoWord { at: usize },
+    NoWord {
+        at: usize,
+    },
     /// The number there is too large.
-    TooLarge { at: usize },
+    TooLarge {
+        at: usize,
+    },
     /// The term there stands inside more than `LEVELS` others.
-    TooDeep { at: usize },
+    TooDeep {
+        at: usize,
+    },
     /// The word there, or the end of the text where it is empty, is not what was expected.
     Unexpected {
         at: usize,
@@ -43,26 +53,34 @@ pub enum ReadError {
 }
 
 impl From<AllocError> for ReadError {
+    ghost from_gives = { λ _ e. e ≡ Memory };
+
     fn from(_refused: AllocError) -> ReadError {
         ReadError::Memory
     }
 }
 
 impl<T: Drop> From<AllocFailed<T>> for ReadError {
+    ghost from_gives = { λ _ e. e ≡ Memory };
+
     fn from(_refused: AllocFailed<T>) -> ReadError {
         ReadError::Memory
     }
 }
 
 impl ReadError {
-    /// The byte of the text that the error is about, if it is about one.
-    pub fn at(&self) -> Option<usize> {
+    /// The bytes of the text that the error is about, if it is about some: from the first number on, those before the
+    /// second.
+    pub fn span(&self) -> Option<(usize, usize)>
+        ensures { result ≡ span_of self.now }
+    {
         match self {
-            ReadError::Memory | ReadError::TooLong => None,
-            ReadError::NoWord { at }
-            | ReadError::TooLarge { at }
-            | ReadError::TooDeep { at }
-            | ReadError::Unexpected { at, .. } => Some(*at),
+            ReadError::Memory => None,
+            ReadError::TooLong => None,
+            ReadError::NoWord { at } => Some((*at, *at)),
+            ReadError::TooLarge { at } => Some((*at, *at)),
+            ReadError::TooDeep { at } => Some((*at, *at)),
+            ReadError::Unexpected { at, end, .. } => Some((*at, *end)),
         }
     }
 }

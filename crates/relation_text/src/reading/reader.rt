@@ -1,4 +1,8 @@
 //! The words of a text from one on, and the tree that was made of those before.
+ghost use Rattle.std.specs.Prelude.{◌≡◌, ◌≤◌, length, take};
+ghost use Rattle.relation_text.specs.Words.{EachLies, leaves};
+ghost use Rattle.relation_text.specs.Trees.{node_words};
+
 use crate::reading::error::{Expected, ReadError};
 use crate::reading::signs::Sign;
 use crate::reading::tree::{Form, NodeKind, Tree};
@@ -12,6 +16,10 @@ pub(super) struct Reader {
     pub words: Vec<Word>,
     pub at: usize,
     pub tree: Tree,
+    ghost within: { at ≤ length words.items },
+    ghost lies: { EachLies words.items tree.text_len },
+    // No leaf is left out, and none stands twice.
+    ghost each_once: { ∥ node_words tree.nodes.items ≡ leaves (take at words.items) ∥₁ },
 }
 
 // Whether a leaf may stand where that is expected.
@@ -31,13 +39,25 @@ fn admits(expected: Expected, leaf: Leaf) -> bool {
 }
 
 impl Reader {
+    ghost use Rattle.std.specs.Prelude.{◌<◌, ◌↔◌, [], IfOk, IfErr, OnOk, OnErr, IsSomeAnd, IsTrue, suc};
+    ghost use Rattle.std.specs.List.{slice_get};
+    ghost use Rattle.std.specs.Bool.{OnTrue, OnFalse};
+    ghost use Rattle.relation_text.specs.Errors.{LiesIn};
+    ghost use Rattle.relation_text.specs.Trees.{EachBelow};
+    ghost use Rattle.relation_text.specs.Reads.{GoesOn, Makes, Gathers};
+
+    // The word of that number.
+    fn word(&self, number: usize) -> Option<Word>
+        ensures { result ≡ slice_get self.now.words.items number }
+    {
+        self.words.get(number).copied()
+    }
+
     // The next word.
-    pub fn next(&self) -> Option<Word> {
-        if self.at < self.words.len() {
-            Some(self.words[self.at])
-        } else {
-            None
-        }
+    pub fn next(&self) -> Option<Word>
+        ensures { result ≡ slice_get self.now.words.items self.now.at }
+    {
+        self.word(self.at)
     }
 
     // What the next word is.
@@ -49,33 +69,44 @@ impl Reader {
     }
 
     // Where the next word begins, or else the text ends.
-    pub fn place(&self) -> usize {
+    pub fn place(&self) -> usize
+        ensures { result ≤ self.now.tree.text_len }
+    {
         match self.next() {
             Some(word) => word.start,
-            None => self.tree.length,
+            None => self.tree.text_len,
         }
     }
 
     // Where the last word ends that was read.
-    fn behind(&self) -> usize {
-        if self.at == 0 {
-            0
-        } else {
-            self.words[self.at - 1].end
+    fn behind(&self) -> usize
+        ensures { result ≤ self.now.tree.text_len }
+    {
+        match self.word(self.at.saturating_sub(1)) {
+            Some(word) => word.end,
+            None => 0,
         }
     }
 
     // Something else was expected than the next word.
-    pub fn unexpected(&self, expected: Expected) -> ReadError {
+    pub fn unexpected(&self, expected: Expected) -> ReadError
+        ensures { LiesIn self.now.tree.text_len result }
+    {
         let (at, end) = match self.next() {
             Some(word) => (word.start, word.end),
-            None => (self.tree.length, self.tree.length),
+            None => (self.tree.text_len, self.tree.text_len),
         };
         ReadError::Unexpected { at, end, expected }
     }
 
     // Goes over the next word if it is that sign.
-    pub fn accept(&mut self, sign: Sign) -> bool {
+    pub fn accept(&mut self, sign: Sign) -> bool
+        ensures words { self.new.words ≡ self.old.words }
+        ensures tree { self.new.tree ≡ self.old.tree }
+        ensures there { IsTrue result ↔ IsSomeAnd (slice_get self.old.words.items self.old.at) (λ w. w.kind ≡ WordKind.Sign sign) }
+        ensures over { OnTrue result (self.new.at ≡ suc self.old.at) }
+        ensures stays { OnFalse result (self.new.at ≡ self.old.at) }
+    {
         let Some(word) = self.next() else {
             return false;
         };
@@ -87,7 +118,13 @@ impl Reader {
     }
 
     // Goes over the next word, which is to be that sign.
-    pub fn expect(&mut self, sign: Sign) -> Result<(), ReadError> {
+    pub fn expect(&mut self, sign: Sign) -> Result<(), ReadError>
+        ensures words { self.new.words ≡ self.old.words }
+        ensures tree { self.new.tree ≡ self.old.tree }
+        ensures over { OnOk result (self.new.at ≡ suc self.old.at) }
+        ensures stays { OnErr result (self.new.at ≡ self.old.at) }
+        ensures wrong { IfErr result (LiesIn self.old.tree.text_len) }
+    {
         if self.accept(sign) {
             Ok(())
         } else {
@@ -96,7 +133,11 @@ impl Reader {
     }
 
     // Makes a leaf of the next word, and goes over it.
-    pub fn take(&mut self, expected: Expected) -> Result<usize, ReadError> {
+    pub fn take(&mut self, expected: Expected) -> Result<usize, ReadError>
+        ensures goes { GoesOn self.old self.new }
+        ensures node { IfOk result (Makes self.old self.new) }
+        ensures wrong { IfErr result (LiesIn self.old.tree.text_len) }
+    {
         let Some(word) = self.next() else {
             return Err(self.unexpected(expected));
         };
@@ -114,7 +155,15 @@ impl Reader {
     }
 
     // Makes a node of the words from `start` on.
-    pub fn make(&mut self, form: Form, start: usize, parts: &[usize]) -> Result<usize, ReadError> {
+    pub fn make(&mut self, form: Form, start: usize, parts: &[usize]) -> Result<usize, ReadError>
+        requires inside { start ≤ self.old.tree.text_len }
+        requires there { EachBelow parts.now (length self.old.tree.nodes.items) }
+        ensures goes { GoesOn self.old self.new }
+        ensures at { self.new.at ≡ self.old.at }
+        ensures there { IfOk result (λ n. n < length self.new.tree.nodes.items) }
+        ensures parts { OnOk result (Gathers 1 self.old self.new parts.now []) }
+        ensures wrong { IfErr result (LiesIn self.old.tree.text_len) }
+    {
         let end = self.behind().max(start);
         Ok(self.tree.push(NodeKind::Form(form), start, end, parts)?)
     }

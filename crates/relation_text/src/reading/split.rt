@@ -195,6 +195,7 @@ fn word_at(text: &[u8], at: usize) -> Result<(WordKind, usize), ReadError>
 }
 
 // The words of a text.
+#[tactic(auto, using(crate::proofs::WordLemmas::lie_more, crate::proofs::WordLemmas::lie_further))]
 pub(super) fn words(alloc: Global, text: &[u8]) -> Result<Vec<Word>, ReadError>
     ensures words { IfOk result (λ ws. LieBetween ws.items 0 (length text.now)) }
     ensures wrong { IfErr result (LiesIn (length text.now)) }

@@ -1,4 +1,9 @@
 //! How statements are read.
+ghost use Rattle.std.specs.Prelude.{◌≡◌, ◌<◌, ◌≤◌, ◌↔◌, Err, IfOk, IfErr, OnOk, length, suc};
+ghost use Rattle.relation_text.specs.Errors.{LiesIn};
+ghost use Rattle.relation_text.specs.Reads.{GoesOn, AddsRoots, Makes, IsReadFrom};
+ghost use Rattle.relation_text.specs.declared.reading.error.ReadError.TheVariants.{TooLong};
+
 use crate::reading::error::{Expected, ReadError};
 use crate::reading::reader::Reader;
 use crate::reading::signs::Sign;
@@ -12,7 +17,12 @@ use std::alloc::Global;
 pub const LONGEST: usize = 1_048_576;
 
 // The sort of item that is declared next.
-fn read_sort(reader: &mut Reader) -> Result<Option<ItemSort>, ReadError> {
+fn read_sort(reader: &mut Reader) -> Result<Option<ItemSort>, ReadError>
+    ensures words { reader.new.words ≡ reader.old.words }
+    ensures tree { reader.new.tree ≡ reader.old.tree }
+    ensures later { reader.old.at ≤ reader.new.at }
+    ensures wrong { IfErr result (LiesIn reader.old.tree.text_len) }
+{
     if reader.accept(Sign::Struct) {
         return Ok(Some(ItemSort::Struct));
     }
@@ -36,7 +46,11 @@ fn read_sort(reader: &mut Reader) -> Result<Option<ItemSort>, ReadError> {
 }
 
 // How a parameter that an item declares varies.
-fn read_variance(reader: &mut Reader) -> Variance {
+fn read_variance(reader: &mut Reader) -> Variance
+    ensures words { reader.new.words ≡ reader.old.words }
+    ensures tree { reader.new.tree ≡ reader.old.tree }
+    ensures later { reader.old.at ≤ reader.new.at }
+{
     if reader.accept(Sign::Plus) {
         return Variance::Covariant;
     }
@@ -51,7 +65,11 @@ fn read_variance(reader: &mut Reader) -> Variance {
 }
 
 // Reads a parameter that an item declares.
-fn read_declared(reader: &mut Reader) -> Result<usize, ReadError> {
+fn read_declared(reader: &mut Reader) -> Result<usize, ReadError>
+    ensures goes { GoesOn reader.old reader.new }
+    ensures node { IfOk result (Makes reader.old reader.new) }
+    ensures wrong { IfErr result (LiesIn reader.old.tree.text_len) }
+{
     let start = reader.place();
     let variance = read_variance(reader);
     if reader.accept(Sign::Const) {
@@ -63,12 +81,19 @@ fn read_declared(reader: &mut Reader) -> Result<usize, ReadError> {
 }
 
 // Reads an item, behind what says its sort.
-fn read_item(reader: &mut Reader, start: usize, sort: ItemSort) -> Result<usize, ReadError> {
+fn read_item(reader: &mut Reader, start: usize, sort: ItemSort) -> Result<usize, ReadError>
+    requires { start ≤ reader.old.tree.text_len }
+    ensures goes { GoesOn reader.old reader.new }
+    ensures node { IfOk result (Makes reader.old reader.new) }
+    ensures wrong { IfErr result (LiesIn reader.old.tree.text_len) }
+{
     let mut parts = Vec::new(reader.alloc);
-    parts.push(reader.take(Expected::Name)?)?;
+    let part = reader.take(Expected::Name)?;
+    parts.push(part)?;
     if reader.accept(Sign::Less) {
-        while !reader.accept(Sign::Greater) {
-            parts.push(read_declared(reader)?)?;
+        'list: while !reader.accept(Sign::Greater) {
+            let part = read_declared(reader)?;
+            parts.push(part)?;
             if reader.accept(Sign::Greater) {
                 break;
             }
@@ -81,7 +106,11 @@ fn read_item(reader: &mut Reader, start: usize, sort: ItemSort) -> Result<usize,
 }
 
 // Reads a parameter, with its index if that is given.
-fn read_parameter(reader: &mut Reader) -> Result<usize, ReadError> {
+fn read_parameter(reader: &mut Reader) -> Result<usize, ReadError>
+    ensures goes { GoesOn reader.old reader.new }
+    ensures node { IfOk result (Makes reader.old reader.new) }
+    ensures wrong { IfErr result (LiesIn reader.old.tree.text_len) }
+{
     let start = reader.place();
     let constant = reader.accept(Sign::Const);
     let form = if constant {
@@ -102,27 +131,46 @@ fn read_parameter(reader: &mut Reader) -> Result<usize, ReadError> {
 }
 
 // Reads the parameters of questions, behind `param`.
-fn read_parameters(reader: &mut Reader, start: usize) -> Result<usize, ReadError> {
+fn read_parameters(reader: &mut Reader, start: usize) -> Result<usize, ReadError>
+    requires { start ≤ reader.old.tree.text_len }
+    ensures goes { GoesOn reader.old reader.new }
+    ensures node { IfOk result (Makes reader.old reader.new) }
+    ensures wrong { IfErr result (LiesIn reader.old.tree.text_len) }
+{
     let mut parts = Vec::new(reader.alloc);
-    parts.push(read_parameter(reader)?)?;
-    while reader.accept(Sign::Comma) {
-        parts.push(read_parameter(reader)?)?;
+    let part = read_parameter(reader)?;
+    parts.push(part)?;
+    'list: while reader.accept(Sign::Comma) {
+        let part = read_parameter(reader)?;
+        parts.push(part)?;
     }
     reader.make(Form::Parameters, start, &parts)
 }
 
 // Reads variables, behind `variables`.
-fn read_variables(reader: &mut Reader, start: usize) -> Result<usize, ReadError> {
+fn read_variables(reader: &mut Reader, start: usize) -> Result<usize, ReadError>
+    requires { start ≤ reader.old.tree.text_len }
+    ensures goes { GoesOn reader.old reader.new }
+    ensures node { IfOk result (Makes reader.old reader.new) }
+    ensures wrong { IfErr result (LiesIn reader.old.tree.text_len) }
+{
     let mut parts = Vec::new(reader.alloc);
-    parts.push(reader.take(Expected::Variable)?)?;
-    while reader.accept(Sign::Comma) {
-        parts.push(reader.take(Expected::Variable)?)?;
+    let part = reader.take(Expected::Variable)?;
+    parts.push(part)?;
+    'list: while reader.accept(Sign::Comma) {
+        let part = reader.take(Expected::Variable)?;
+        parts.push(part)?;
     }
     reader.make(Form::Variables, start, &parts)
 }
 
 // Reads a name for a term, behind `let`.
-fn read_let(reader: &mut Reader, start: usize) -> Result<usize, ReadError> {
+fn read_let(reader: &mut Reader, start: usize) -> Result<usize, ReadError>
+    requires { start ≤ reader.old.tree.text_len }
+    ensures goes { GoesOn reader.old reader.new }
+    ensures node { IfOk result (Makes reader.old reader.new) }
+    ensures wrong { IfErr result (LiesIn reader.old.tree.text_len) }
+{
     let name = reader.take(Expected::Name)?;
     reader.expect(Sign::Assign)?;
     let term = read_term(reader, LEVELS)?;
@@ -130,7 +178,12 @@ fn read_let(reader: &mut Reader, start: usize) -> Result<usize, ReadError> {
 }
 
 // The variance at which two terms are related.
-fn read_relation(reader: &mut Reader) -> Result<Variance, ReadError> {
+fn read_relation(reader: &mut Reader) -> Result<Variance, ReadError>
+    ensures words { reader.new.words ≡ reader.old.words }
+    ensures tree { reader.new.tree ≡ reader.old.tree }
+    ensures later { reader.old.at ≤ reader.new.at }
+    ensures wrong { IfErr result (LiesIn reader.old.tree.text_len) }
+{
     if reader.accept(Sign::Subtype) {
         return Ok(Variance::Covariant);
     }
@@ -144,7 +197,11 @@ fn read_relation(reader: &mut Reader) -> Result<Variance, ReadError> {
 }
 
 // Reads two terms and how they are related.
-fn read_pair(reader: &mut Reader) -> Result<usize, ReadError> {
+fn read_pair(reader: &mut Reader) -> Result<usize, ReadError>
+    ensures goes { GoesOn reader.old reader.new }
+    ensures node { IfOk result (Makes reader.old reader.new) }
+    ensures wrong { IfErr result (LiesIn reader.old.tree.text_len) }
+{
     let start = reader.place();
     let lhs = read_term(reader, LEVELS)?;
     let variance = read_relation(reader)?;
@@ -153,7 +210,12 @@ fn read_pair(reader: &mut Reader) -> Result<usize, ReadError> {
 }
 
 // Reads a question.
-fn read_question(reader: &mut Reader, start: usize) -> Result<usize, ReadError> {
+fn read_question(reader: &mut Reader, start: usize) -> Result<usize, ReadError>
+    requires { start ≤ reader.old.tree.text_len }
+    ensures goes { GoesOn reader.old reader.new }
+    ensures node { IfOk result (Makes reader.old reader.new) }
+    ensures wrong { IfErr result (LiesIn reader.old.tree.text_len) }
+{
     if reader.accept(Sign::Then) {
         let pair = read_pair(reader)?;
         return reader.make(Form::Then, start, &[pair]);
@@ -167,7 +229,11 @@ fn read_question(reader: &mut Reader, start: usize) -> Result<usize, ReadError> 
 }
 
 // Reads a statement, without the `;` behind it.
-fn read_statement(reader: &mut Reader) -> Result<usize, ReadError> {
+fn read_statement(reader: &mut Reader) -> Result<usize, ReadError>
+    ensures goes { GoesOn reader.old reader.new }
+    ensures node { IfOk result (Makes reader.old reader.new) }
+    ensures wrong { IfErr result (LiesIn reader.old.tree.text_len) }
+{
     let start = reader.place();
     if let Some(sort) = read_sort(reader)? {
         return read_item(reader, start, sort);
@@ -189,20 +255,34 @@ fn read_statement(reader: &mut Reader) -> Result<usize, ReadError> {
 }
 
 // Reads all statements that are left, and answers the node over them.
-fn read_statements(reader: &mut Reader) -> Result<usize, ReadError> {
+fn read_statements(reader: &mut Reader) -> Result<usize, ReadError>
+    ensures goes { GoesOn reader.old reader.new }
+    ensures node { OnOk result (AddsRoots 1 reader.old.tree reader.new.tree) }
+    ensures whole { OnOk result (reader.new.at ≡ length reader.new.words.items) }
+    ensures wrong { IfErr result (LiesIn reader.old.tree.text_len) }
+{
     let mut parts = Vec::new(reader.alloc);
-    while reader.next().is_some() {
-        parts.push(read_statement(reader)?)?;
+    'statements: while reader.next().is_some() {
+        let part = read_statement(reader)?;
+        parts.push(part)?;
         reader.expect(Sign::Semicolon)?;
     }
     reader.make(Form::File, 0, &parts)
 }
 
-/// Reads a text whole. The last node is the `File`.
+/// Reads a text whole. The last node is the `File`, and each other is a part of one node. The leaves are those words of
+/// the text that are no signs, in their order.
 ///
 /// # Errors
-/// Why the text can't be read, with the first place where it goes wrong.
-pub fn read(alloc: Global, text: &[u8]) -> Result<Tree, ReadError> {
+/// `TooLong` where the text has more than `LONGEST` bytes, `Memory` where a growth was refused, and else what is wrong
+/// at the first place where the text goes wrong.
+pub fn read(alloc: Global, text: &[u8]) -> Result<Tree, ReadError>
+    ensures text { IfOk result (λ t. t.text_len ≡ length text.now) }
+    ensures words { IfOk result (λ t. IsReadFrom t (length text.now)) }
+    ensures whole { IfOk result (λ t. length t.nodes.items ≡ suc (length t.parts.items)) }
+    ensures long { result ≡ Err TooLong ↔ LONGEST < length text.now }
+    ensures wrong { IfErr result (LiesIn (length text.now)) }
+{
     if text.len() > LONGEST {
         return Err(ReadError::TooLong);
     }

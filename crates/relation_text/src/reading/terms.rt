@@ -1,4 +1,9 @@
 //! How terms are read.
+ghost use Rattle.std.specs.Prelude.{◌≡◌, ◌≤◌, IfOk, IfErr, OnOk, length};
+ghost use Rattle.relation_text.specs.Errors.{LiesIn};
+ghost use Rattle.relation_text.specs.Trees.{EachBelow};
+ghost use Rattle.relation_text.specs.Reads.{GoesOn, Makes, Collects, CollectsMore};
+
 use crate::reading::error::{Expected, ReadError};
 use crate::reading::reader::Reader;
 use crate::reading::signs::Sign;
@@ -12,10 +17,8 @@ pub(super) const LEVELS: usize = 1000;
 // What is still to be read of a term whose beginning was read.
 #[derive(Clone, Copy)]
 enum Rest {
-    // Nothing: the term is that leaf.
-    Nothing(usize),
     // Nothing: the term is that form, of what was read.
-    Form(Form),
+    Nothing(Form),
     // The type that a pointer of that form leads to.
     Pointee(Form),
     // A list up to that sign, the further parts of that form.
@@ -26,18 +29,13 @@ enum Rest {
     Parens,
 }
 
-// Reads the beginning of a term that begins with a leaf.
-fn open_leaf(reader: &mut Reader, parts: &mut Vec<usize>, leaf: Leaf) -> Result<Rest, ReadError> {
-    let number = reader.take(Expected::Term)?;
-    if leaf == Leaf::Name && reader.accept(Sign::Less) {
-        parts.push(number)?;
-        return Ok(Rest::List(Form::Applied, Sign::Greater));
-    }
-    Ok(Rest::Nothing(number))
-}
-
 // Reads the beginning of a raw pointer, behind its `*`.
-fn open_pointer(reader: &mut Reader) -> Result<Rest, ReadError> {
+fn open_pointer(reader: &mut Reader) -> Result<Rest, ReadError>
+    ensures words { reader.new.words ≡ reader.old.words }
+    ensures tree { reader.new.tree ≡ reader.old.tree }
+    ensures later { reader.old.at ≤ reader.new.at }
+    ensures wrong { IfErr result (LiesIn reader.old.tree.text_len) }
+{
     if reader.accept(Sign::Const) {
         return Ok(Rest::Pointee(Form::RawPtr(Mutability::Not)));
     }
@@ -48,8 +46,14 @@ fn open_pointer(reader: &mut Reader) -> Result<Rest, ReadError> {
 }
 
 // Reads the beginning of a reference, behind its `&`.
-fn open_reference(reader: &mut Reader, parts: &mut Vec<usize>) -> Result<Rest, ReadError> {
-    parts.push(reader.take(Expected::Region)?)?;
+fn open_reference(reader: &mut Reader, parts: &mut Vec<usize>) -> Result<Rest, ReadError>
+    requires { EachBelow parts.old.items (length reader.old.tree.nodes.items) }
+    ensures goes { GoesOn reader.old reader.new }
+    ensures parts { OnOk result (Collects reader.old reader.new parts.old.items parts.new.items) }
+    ensures wrong { IfErr result (LiesIn reader.old.tree.text_len) }
+{
+    let region = reader.take(Expected::Region)?;
+    parts.push(region)?;
     let mutability = if reader.accept(Sign::Mut) {
         Mutability::Mut
     } else {
@@ -59,19 +63,27 @@ fn open_reference(reader: &mut Reader, parts: &mut Vec<usize>) -> Result<Rest, R
 }
 
 // Reads the beginning of an expression, behind its `expr`.
-fn open_expression(reader: &mut Reader, parts: &mut Vec<usize>) -> Result<Rest, ReadError> {
-    parts.push(reader.take(Expected::Number)?)?;
+fn open_expression(reader: &mut Reader, parts: &mut Vec<usize>) -> Result<Rest, ReadError>
+    requires { EachBelow parts.old.items (length reader.old.tree.nodes.items) }
+    ensures goes { GoesOn reader.old reader.new }
+    ensures parts { OnOk result (Collects reader.old reader.new parts.old.items parts.new.items) }
+    ensures wrong { IfErr result (LiesIn reader.old.tree.text_len) }
+{
+    let number = reader.take(Expected::Number)?;
+    parts.push(number)?;
     reader.expect(Sign::LeftParen)?;
     Ok(Rest::List(Form::Expr, Sign::RightParen))
 }
 
-// Reads the beginning of a term, with the parts that stand there.
-fn open(reader: &mut Reader, parts: &mut Vec<usize>) -> Result<Rest, ReadError> {
-    if let Some(WordKind::Leaf(leaf)) = reader.peek() {
-        return open_leaf(reader, parts, leaf);
-    }
+// Reads the beginning of a term that begins with a sign, with the parts that stand there.
+fn open(reader: &mut Reader, parts: &mut Vec<usize>) -> Result<Rest, ReadError>
+    requires { EachBelow parts.old.items (length reader.old.tree.nodes.items) }
+    ensures goes { GoesOn reader.old reader.new }
+    ensures parts { OnOk result (Collects reader.old reader.new parts.old.items parts.new.items) }
+    ensures wrong { IfErr result (LiesIn reader.old.tree.text_len) }
+{
     if reader.accept(Sign::Bang) {
-        return Ok(Rest::Form(Form::Never));
+        return Ok(Rest::Nothing(Form::Never));
     }
     if reader.accept(Sign::LeftBracket) {
         return Ok(Rest::Brackets);
@@ -101,9 +113,15 @@ fn read_list(
     parts: &mut Vec<usize>,
     close: Sign,
     levels: usize,
-) -> Result<bool, ReadError> {
-    while !reader.accept(close) {
-        parts.push(read_term(reader, levels)?)?;
+) -> Result<bool, ReadError>
+    requires { EachBelow parts.old.items (length reader.old.tree.nodes.items) }
+    ensures goes { GoesOn reader.old reader.new }
+    ensures parts { OnOk result (Collects reader.old reader.new parts.old.items parts.new.items) }
+    ensures wrong { IfErr result (LiesIn reader.old.tree.text_len) }
+{
+    'list: while !reader.accept(close) {
+        let term = read_term(reader, levels)?;
+        parts.push(term)?;
         if reader.accept(close) {
             return Ok(false);
         }
@@ -114,43 +132,99 @@ fn read_list(
     Ok(true)
 }
 
+// Reads a term that begins with a leaf: the leaf, or a name and its arguments.
+#[cycle(terms)]
+fn read_applied(reader: &mut Reader, leaf: Leaf, levels: usize) -> Result<usize, ReadError>
+    ensures goes { GoesOn reader.old reader.new }
+    ensures node { IfOk result (Makes reader.old reader.new) }
+    ensures wrong { IfErr result (LiesIn reader.old.tree.text_len) }
+{
+    let start = reader.place();
+    let number = reader.take(Expected::Term)?;
+    if leaf != Leaf::Name || !reader.accept(Sign::Less) {
+        return Ok(number);
+    }
+    let mut parts = Vec::new(reader.alloc);
+    parts.push(number)?;
+    let _ = read_list(reader, &mut parts, Sign::Greater, levels)?;
+    reader.make(Form::Applied, start, &parts)
+}
+
+// Reads what stands in brackets.
+#[cycle(terms)]
+fn read_brackets(
+    reader: &mut Reader,
+    parts: &mut Vec<usize>,
+    levels: usize,
+) -> Result<Form, ReadError>
+    requires { EachBelow parts.old.items (length reader.old.tree.nodes.items) }
+    ensures goes { GoesOn reader.old reader.new }
+    ensures parts { OnOk result (Collects reader.old reader.new parts.old.items parts.new.items) }
+    ensures wrong { IfErr result (LiesIn reader.old.tree.text_len) }
+{
+    let element = read_term(reader, levels)?;
+    parts.push(element)?;
+    if !reader.accept(Sign::Semicolon) {
+        reader.expect(Sign::RightBracket)?;
+        return Ok(Form::Slice);
+    }
+    let count = read_term(reader, levels)?;
+    parts.push(count)?;
+    reader.expect(Sign::RightBracket)?;
+    Ok(Form::Array)
+}
+
+// Reads the rest of a term whose beginning was read, and answers its form; none where it is its only part.
+#[cycle(terms)]
+fn read_rest(
+    reader: &mut Reader,
+    parts: &mut Vec<usize>,
+    rest: Rest,
+    levels: usize,
+) -> Result<Option<Form>, ReadError>
+    requires { EachBelow parts.old.items (length reader.old.tree.nodes.items) }
+    ensures goes { GoesOn reader.old reader.new }
+    ensures parts { OnOk result (CollectsMore reader.old reader.new parts.old.items parts.new.items) }
+    ensures wrong { IfErr result (LiesIn reader.old.tree.text_len) }
+{
+    match rest {
+        Rest::Nothing(form) => Ok(Some(form)),
+        Rest::Pointee(form) => {
+            let pointee = read_term(reader, levels)?;
+            parts.push(pointee)?;
+            Ok(Some(form))
+        }
+        Rest::List(form, close) => {
+            let _ = read_list(reader, parts, close, levels)?;
+            Ok(Some(form))
+        }
+        Rest::Brackets => Ok(Some(read_brackets(reader, parts, levels)?)),
+        Rest::Parens => {
+            let tuple = read_list(reader, parts, Sign::RightParen, levels)?;
+            Ok(if tuple { Some(Form::Tuple) } else { None })
+        }
+    }
+}
+
 // Reads a term, and answers its node.
 #[cycle(terms)]
-pub(super) fn read_term(reader: &mut Reader, levels: usize) -> Result<usize, ReadError> {
+pub(super) fn read_term(reader: &mut Reader, levels: usize) -> Result<usize, ReadError>
+    ensures goes { GoesOn reader.old reader.new }
+    ensures node { IfOk result (Makes reader.old reader.new) }
+    ensures wrong { IfErr result (LiesIn reader.old.tree.text_len) }
+{
     let start = reader.place();
     if levels == 0 {
         return Err(ReadError::TooDeep { at: start });
     }
+    if let Some(WordKind::Leaf(leaf)) = reader.peek() {
+        return read_applied(reader, leaf, levels - 1);
+    }
     let mut parts = Vec::new(reader.alloc);
-    let form = match open(reader, &mut parts)? {
-        Rest::Nothing(leaf) => return Ok(leaf),
-        Rest::Form(form) => form,
-        Rest::Pointee(form) => {
-            parts.push(read_term(reader, levels - 1)?)?;
-            form
-        }
-        Rest::List(form, close) => {
-            let _ = read_list(reader, &mut parts, close, levels - 1)?;
-            form
-        }
-        Rest::Brackets => {
-            parts.push(read_term(reader, levels - 1)?)?;
-            if reader.accept(Sign::Semicolon) {
-                parts.push(read_term(reader, levels - 1)?)?;
-                reader.expect(Sign::RightBracket)?;
-                Form::Array
-            } else {
-                reader.expect(Sign::RightBracket)?;
-                Form::Slice
-            }
-        }
-        Rest::Parens => {
-            let tuple = read_list(reader, &mut parts, Sign::RightParen, levels - 1)?;
-            if !tuple && parts.len() == 1 {
-                return Ok(parts[0]);
-            }
-            Form::Tuple
-        }
-    };
-    reader.make(form, start, &parts)
+    let rest = open(reader, &mut parts)?;
+    match read_rest(reader, &mut parts, rest, levels - 1)? {
+        Some(form) => reader.make(form, start, &parts),
+        None if parts.len() == 1 => Ok(parts[0]),
+        None => reader.make(Form::Tuple, start, &parts),
+    }
 }

@@ -1,4 +1,7 @@
 //! Trees of names.
+ghost use Rattle.std.specs.Prelude.{◌≡◌, ◌+◌, ◌≤◌, ◌++◌, [], IfOk, OnOk, OnErr, length, suc};
+ghost use Rattle.relation_text.specs.Trees.{IsFounded, EachStands, EachBelow, node_words, kind_words};
+
 use crate::reading::words::Leaf;
 use relation_terms::terms::{Mutability, Variance};
 use std::alloc::{AllocError, Global};
@@ -84,16 +87,23 @@ pub struct Tree {
     /// The numbers of the nodes' parts.
     pub parts: Vec<usize>,
     /// How many bytes the text has.
-    pub length: usize,
+    pub text_len: usize,
+    pub ghost founded: { IsFounded nodes.items parts.items },
+    pub ghost stands: { EachStands nodes.items text_len },
 }
 
 impl Tree {
     // The tree without nodes, of a text of that many bytes.
-    pub(super) fn new(alloc: Global, length: usize) -> Tree {
+    pub(super) fn new(alloc: Global, text_len: usize) -> Tree
+        ensures nodes { length result.nodes.items ≡ 0 }
+        ensures parts { length result.parts.items ≡ 0 }
+        ensures text { result.text_len ≡ text_len }
+        ensures leaves { node_words result.nodes.items ≡ [] }
+    {
         Tree {
             nodes: Vec::new(alloc),
             parts: Vec::new(alloc),
-            length,
+            text_len,
         }
     }
 
@@ -104,7 +114,17 @@ impl Tree {
         start: usize,
         end: usize,
         parts: &[usize],
-    ) -> Result<usize, AllocError> {
+    ) -> Result<usize, AllocError>
+        requires forwards { start ≤ end }
+        requires inside { end ≤ self.old.text_len }
+        requires there { EachBelow parts.now (length self.old.nodes.items) }
+        ensures text { self.new.text_len ≡ self.old.text_len }
+        ensures number { IfOk result (λ n. n ≡ length self.old.nodes.items) }
+        ensures nodes { OnOk result (length self.new.nodes.items ≡ suc (length self.old.nodes.items)) }
+        ensures parts { OnOk result (length self.new.parts.items ≡ length self.old.parts.items + length parts.now) }
+        ensures leaves { OnOk result (node_words self.new.nodes.items ≡ node_words self.old.nodes.items ++ kind_words kind start end) }
+        ensures refused { OnErr result (self.new.nodes.items ≡ self.old.nodes.items) }
+    {
         let number = self.nodes.len();
         let first = self.parts.len();
         self.parts.extend_from_slice(parts)?;
