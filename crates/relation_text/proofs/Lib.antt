@@ -1,3 +1,4 @@
-pub mod WordLemmas
-pub mod TreeLemmas
+pub mod BlankLemmas
 pub mod PlaceLemmas
+pub mod TreeLemmas
+pub mod WordLemmas

@@ -1,5 +1,6 @@
 -- Nodes that are added to a tree.
-use Rattle.std.proofs.Common.{◌≡◌, ℕ, ◌+◌, ◌-◌, ◌<◌, ◌≤◌, List, [], ◌∷◌, ◌++◌, Some, unwrap_or, ◌⊎◌, inl, inr, length, get_or, take, suc, refl, sym, ◌∙◌, ap, subst, arith, length-append}
+use Rattle.std.proofs.Common.{zero, ◌≡◌, ℕ, ◌+◌, ◌-◌, ◌<◌, ◌≤◌, List, [], ◌∷◌, ◌++◌, Some, unwrap_or, ◌⊎◌, inl, inr, length, get_or, take, suc, refl, sym, ◌∙◌, ap, subst, arith, length-append}
+use Rattle.std.specs.Prelude.{Bool, true, false, if◌then◌else◌}
 use Rattle.std.specs.List.{slice_get, flat_map}
 use Rattle.std.proofs.lemmas.List.{append-nil, get_or_append_left, get_or-append_right}
 use Rattle.std.proofs.lemmas.Grind.{flat_map-append}
@@ -70,3 +71,15 @@ pub node_words_more : (ns : List Node) (n : Node) → node_words (ns ++ n ∷ []
 node_words_more ns n =
     flat_map-append (λ (m : Node). kind_words m.kind m.start m.end) ns (n ∷ [])
     ∙ ap (λ l. node_words ns ++ l) (append-nil (kind_words n.kind n.start n.end))
+
+-- a node that was added or not
+pub founded_either : (b : Bool) (ns ms : List Node) (ps qs more : List ℕ) (n : Node) → ms ≡ (if b then ns ++ n ∷ [] else ns) → qs ≡ ps ++ more → IsFounded ns ps → n.first ≡ length ps → n.behind ≡ length qs → EachBelow more (length ns) → IsFounded ms qs
+founded_either true ns ms ps qs more n e g f a b below =
+    subst (λ x. IsFounded x qs) (sym e)
+    (subst (IsFounded (ns ++ n ∷ [])) (sym g) (founded_more ns ps more n f a (b ∙ ap length g) below))
+founded_either false ns ms ps qs more n e g f a b below =
+    subst (λ x. IsFounded x qs) (sym e) (subst (IsFounded ns) (sym g) (founded_further ns ps more f))
+
+pub stands_either : (b : Bool) (ns ms : List Node) (len : ℕ) (n : Node) → ms ≡ (if b then ns ++ n ∷ [] else ns) → EachStands ns len → n.start ≤ n.end → n.end ≤ len → EachStands ms len
+stands_either true ns ms len n e f a b = subst (λ x. EachStands x len) (sym e) (stands_more ns len n f a b)
+stands_either false ns ms len n e f a b = subst (λ x. EachStands x len) (sym e) f

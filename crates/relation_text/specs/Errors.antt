@@ -1,5 +1,5 @@
 -- Errors of reading.
-use Rattle.std.specs.Prelude.{ℕ, ◌≤◌, Option, Some, None, IfSome}
+use Rattle.std.specs.Prelude.{ℕ, ◌≤◌, ◌≢◌, Option, Some, None, IfSome}
 use Rattle.relation_text.specs.declared.reading.error.ReadError.{ReadError}
 use Rattle.relation_text.specs.declared.reading.error.ReadError.TheVariants.{Memory, TooLong, NoWord, TooLarge, TooDeep, Unexpected}
 
@@ -12,6 +12,6 @@ span_of (TooLarge at) = Some (at, at)
 span_of (TooDeep at) = Some (at, at)
 span_of (Unexpected at end expected) = Some (at, end)
 
--- what the error is about lies in a text of that length
+-- the error is not that the text is too long, and what it is about lies in a text of that length
 abbrev pub LiesIn : ℕ → ReadError → Type 0
-LiesIn n e = IfSome (span_of e) (λ s. (s.0 ≤ s.1) × (s.1 ≤ n))
+LiesIn n e = (e ≢ TooLong) × IfSome (span_of e) (λ s. (s.0 ≤ s.1) × (s.1 ≤ n))

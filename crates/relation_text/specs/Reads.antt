@@ -1,7 +1,7 @@
 -- What reading leaves.
 use Rattle.std.specs.Prelude.{◌≡◌, ℕ, ◌+◌, ◌<◌, ◌≤◌, List, length}
 use Rattle.relation_text.specs.declared.reading.words.Word.{Word}
-use Rattle.relation_text.specs.Words.{LieBetween, leaves}
+use Rattle.relation_text.specs.Words.{AreWordsOf, leaves}
 use Rattle.relation_text.specs.Trees.{EachBelow, node_words}
 use Rattle.relation_text.specs.declared.reading.tree.Tree.{Tree}
 use Rattle.relation_text.specs.declared.reading.reader.Reader.{Reader}
@@ -37,7 +37,6 @@ abbrev pub CollectsMore : Reader → Reader → List ℕ → List ℕ → Type 0
 CollectsMore old new before after =
     EachBelow after (length new.tree.nodes.items) × Gathers 0 old new before after
 
--- the leaves are the words of a text of that length that are no signs
-abbrev pub IsReadFrom : Tree → ℕ → Type 0
-IsReadFrom t n =
-    ∥ ((ws : List Word) × LieBetween ws 0 n × (node_words t.nodes.items ≡ leaves ws)) ∥₁
+-- the leaves are the words of the text that are no signs
+abbrev pub IsReadFrom : List ℕ → Tree → Type 0
+IsReadFrom text t = ∥ ((ws : List Word) × AreWordsOf text ws × (node_words t.nodes.items ≡ leaves ws)) ∥₁

@@ -1,5 +1,5 @@
 //! The words of a text from one on, and the tree that was made of those before.
-ghost use Rattle.std.specs.Prelude.{◌≡◌, ◌≤◌, length, take};
+ghost use Rattle.std.specs.Prelude.{◌≡◌, ◌≤◌, ◌↔◌, IsTrue, length, take};
 ghost use Rattle.relation_text.specs.Words.{EachLies, leaves};
 ghost use Rattle.relation_text.specs.Trees.{node_words};
 
@@ -38,11 +38,19 @@ fn admits(expected: Expected, leaf: Leaf) -> bool {
     }
 }
 
+// Whether a word is that sign.
+fn is_sign(word: &Word, sign: Sign) -> bool
+    ensures { IsTrue result ↔ (word.now.kind ≡ WordKind.Sign sign) }
+{
+    word.kind == WordKind::Sign(sign)
+}
+
 impl Reader {
-    ghost use Rattle.std.specs.Prelude.{◌<◌, ◌↔◌, [], IfOk, IfErr, OnOk, OnErr, IsSomeAnd, IsTrue, suc};
+    ghost use Rattle.std.specs.Prelude.{◌<◌, [], IfOk, IfErr, OnOk, OnErr, suc};
     ghost use Rattle.std.specs.List.{slice_get};
     ghost use Rattle.std.specs.Bool.{OnTrue, OnFalse};
     ghost use Rattle.relation_text.specs.Errors.{LiesIn};
+    ghost use Rattle.relation_text.specs.Words.{StandsAt};
     ghost use Rattle.relation_text.specs.Trees.{EachBelow};
     ghost use Rattle.relation_text.specs.Reads.{GoesOn, Makes, Gathers};
 
@@ -110,7 +118,7 @@ impl Reader {
         let Some(word) = self.next() else {
             return false;
         };
-        if word.kind != WordKind::Sign(sign) {
+        if !is_sign(&word, sign) {
             return false;
         }
         self.at += 1;
@@ -155,6 +163,7 @@ impl Reader {
     }
 
     // Makes a node of the words from `start` on.
+    #[tactic(auto, using(crate::proofs::WordLemmas::once_form, crate::proofs::WordLemmas::once_same))]
     pub fn make(&mut self, form: Form, start: usize, parts: &[usize]) -> Result<usize, ReadError>
         requires inside { start ≤ self.old.tree.text_len }
         requires there { EachBelow parts.now (length self.old.tree.nodes.items) }

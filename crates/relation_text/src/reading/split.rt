@@ -1,6 +1,6 @@
 //! How a text is split into words.
-ghost use Rattle.std.specs.Prelude.{◌≡◌, ◌+◌, ◌<◌, ◌≤◌, IfOk, IfErr, length};
-ghost use Rattle.relation_text.specs.Words.{LieBetween};
+ghost use Rattle.std.specs.Prelude.{◌≡◌, ◌<◌, ◌≤◌, true, false, IfOk, IfErr, length, drop};
+ghost use Rattle.relation_text.specs.Words.{skip, AreWordsOf, EachLies};
 ghost use Rattle.relation_text.specs.Errors.{LiesIn};
 
 use crate::reading::error::ReadError;
@@ -13,11 +13,12 @@ fn is_name_byte(byte: u8) -> bool {
     byte.is_ascii_alphanumeric() || byte == b'_'
 }
 
-// Where the line ends that has the byte `at`.
+// Where the line ends that has the byte `at`, which is in a comment.
 fn line_end(text: &[u8], at: usize) -> usize
     requires { at ≤ length text.now }
     ensures behind { at ≤ result }
     ensures within { result ≤ length text.now }
+    ensures comment { skip true (drop at text.now) ≡ skip false (drop result text.now) }
 {
     let mut end = at;
     while end < text.len() && text[end] != b'\n' {
@@ -31,13 +32,14 @@ fn blank_end(text: &[u8], at: usize) -> usize
     requires { at ≤ length text.now }
     ensures behind { at ≤ result }
     ensures within { result ≤ length text.now }
+    ensures blank { drop result text.now ≡ skip false (drop at text.now) }
 {
     let mut end = at;
     while end < text.len() {
         if text[end].is_ascii_whitespace() {
             end += 1;
         } else if text[end] == b'/' && end + 1 < text.len() && text[end + 1] == b'/' {
-            end = line_end(text, end + 2);
+            end = line_end(text, end + 1);
         } else {
             return end;
         }
@@ -58,10 +60,10 @@ fn name_end(text: &[u8], at: usize) -> usize
     end
 }
 
-// The number whose digits begin at `at`, and where they end.
+// The number whose digits begin at `at`, and where they end. There is to be one digit at least.
 fn number_at(text: &[u8], at: usize) -> Result<(u128, usize), ReadError>
     requires { at ≤ length text.now }
-    ensures behind { IfOk result (λ n. at ≤ n.1) }
+    ensures behind { IfOk result (λ n. at < n.1) }
     ensures within { IfOk result (λ n. n.1 ≤ length text.now) }
     ensures wrong { IfErr result (LiesIn (length text.now)) }
 {
@@ -78,6 +80,9 @@ fn number_at(text: &[u8], at: usize) -> Result<(u128, usize), ReadError>
         value = more;
         end += 1;
     }
+    if end == at {
+        return Err(ReadError::NoWord { at });
+    }
     Ok((value, end))
 }
 
@@ -89,9 +94,6 @@ fn index_at(text: &[u8], at: usize) -> Result<(usize, usize), ReadError>
     ensures wrong { IfErr result (LiesIn (length text.now)) }
 {
     let (value, end) = number_at(text, at)?;
-    if end == at {
-        return Err(ReadError::NoWord { at });
-    }
     match usize::try_from(value) {
         Ok(index) => Ok((index, end)),
         Err(_) => Err(ReadError::TooLarge { at }),
@@ -195,17 +197,20 @@ fn word_at(text: &[u8], at: usize) -> Result<(WordKind, usize), ReadError>
 }
 
 // The words of a text.
-#[tactic(auto, using(crate::proofs::WordLemmas::lie_more, crate::proofs::WordLemmas::lie_further))]
 pub(super) fn words(alloc: Global, text: &[u8]) -> Result<Vec<Word>, ReadError>
-    ensures words { IfOk result (λ ws. LieBetween ws.items 0 (length text.now)) }
+    ensures words { IfOk result (λ ws. AreWordsOf text.now ws.items) }
+    ensures inside { IfOk result (λ ws. EachLies ws.items (length text.now)) }
     ensures wrong { IfErr result (LiesIn (length text.now)) }
 {
     let mut words = Vec::new(alloc);
-    let mut start = blank_end(text, 0);
-    while start < text.len() {
+    let mut behind = 0;
+    'words: loop {
+        let start = blank_end(text, behind);
+        if start >= text.len() {
+            return Ok(words);
+        }
         let (kind, end) = word_at(text, start)?;
         words.push(Word { kind, start, end })?;
-        start = blank_end(text, end);
+        behind = end;
     }
-    Ok(words)
 }

@@ -1,6 +1,8 @@
 //! How statements are read.
 ghost use Rattle.std.specs.Prelude.{◌≡◌, ◌<◌, ◌≤◌, ◌↔◌, Err, IfOk, IfErr, OnOk, length, suc};
 ghost use Rattle.relation_text.specs.Errors.{LiesIn};
+ghost use Rattle.relation_text.specs.Words.{StandsAt};
+ghost use Rattle.relation_text.specs.Signs.{relation_sign};
 ghost use Rattle.relation_text.specs.Reads.{GoesOn, AddsRoots, Makes, IsReadFrom};
 ghost use Rattle.relation_text.specs.declared.reading.error.ReadError.TheVariants.{TooLong};
 
@@ -47,6 +49,9 @@ fn read_sort(reader: &mut Reader) -> Result<Option<ItemSort>, ReadError>
 
 // How a parameter that an item declares varies.
 fn read_variance(reader: &mut Reader) -> Variance
+    ensures plus { (result ≡ Variance.Covariant) ↔ StandsAt reader.old.words.items reader.old.at Sign.Plus }
+    ensures minus { (result ≡ Variance.Contravariant) ↔ StandsAt reader.old.words.items reader.old.at Sign.Minus }
+    ensures star { (result ≡ Variance.Bivariant) ↔ StandsAt reader.old.words.items reader.old.at Sign.Star }
     ensures words { reader.new.words ≡ reader.old.words }
     ensures tree { reader.new.tree ≡ reader.old.tree }
     ensures later { reader.old.at ≤ reader.new.at }
@@ -88,12 +93,12 @@ fn read_item(reader: &mut Reader, start: usize, sort: ItemSort) -> Result<usize,
     ensures wrong { IfErr result (LiesIn reader.old.tree.text_len) }
 {
     let mut parts = Vec::new(reader.alloc);
-    let part = reader.take(Expected::Name)?;
-    parts.push(part)?;
+    let name = reader.take(Expected::Name)?;
+    parts.push(name)?;
     if reader.accept(Sign::Less) {
         'list: while !reader.accept(Sign::Greater) {
-            let part = read_declared(reader)?;
-            parts.push(part)?;
+            let declared = read_declared(reader)?;
+            parts.push(declared)?;
             if reader.accept(Sign::Greater) {
                 break;
             }
@@ -138,11 +143,11 @@ fn read_parameters(reader: &mut Reader, start: usize) -> Result<usize, ReadError
     ensures wrong { IfErr result (LiesIn reader.old.tree.text_len) }
 {
     let mut parts = Vec::new(reader.alloc);
-    let part = read_parameter(reader)?;
-    parts.push(part)?;
+    let first = read_parameter(reader)?;
+    parts.push(first)?;
     'list: while reader.accept(Sign::Comma) {
-        let part = read_parameter(reader)?;
-        parts.push(part)?;
+        let parameter = read_parameter(reader)?;
+        parts.push(parameter)?;
     }
     reader.make(Form::Parameters, start, &parts)
 }
@@ -155,11 +160,11 @@ fn read_variables(reader: &mut Reader, start: usize) -> Result<usize, ReadError>
     ensures wrong { IfErr result (LiesIn reader.old.tree.text_len) }
 {
     let mut parts = Vec::new(reader.alloc);
-    let part = reader.take(Expected::Variable)?;
-    parts.push(part)?;
+    let first = reader.take(Expected::Variable)?;
+    parts.push(first)?;
     'list: while reader.accept(Sign::Comma) {
-        let part = reader.take(Expected::Variable)?;
-        parts.push(part)?;
+        let variable = reader.take(Expected::Variable)?;
+        parts.push(variable)?;
     }
     reader.make(Form::Variables, start, &parts)
 }
@@ -179,6 +184,7 @@ fn read_let(reader: &mut Reader, start: usize) -> Result<usize, ReadError>
 
 // The variance at which two terms are related.
 fn read_relation(reader: &mut Reader) -> Result<Variance, ReadError>
+    ensures relation { IfOk result (λ v. StandsAt reader.old.words.items reader.old.at (relation_sign v)) }
     ensures words { reader.new.words ≡ reader.old.words }
     ensures tree { reader.new.tree ≡ reader.old.tree }
     ensures later { reader.old.at ≤ reader.new.at }
@@ -263,8 +269,8 @@ fn read_statements(reader: &mut Reader) -> Result<usize, ReadError>
 {
     let mut parts = Vec::new(reader.alloc);
     'statements: while reader.next().is_some() {
-        let part = read_statement(reader)?;
-        parts.push(part)?;
+        let statement = read_statement(reader)?;
+        parts.push(statement)?;
         reader.expect(Sign::Semicolon)?;
     }
     reader.make(Form::File, 0, &parts)
@@ -278,10 +284,10 @@ fn read_statements(reader: &mut Reader) -> Result<usize, ReadError>
 /// at the first place where the text goes wrong.
 pub fn read(alloc: Global, text: &[u8]) -> Result<Tree, ReadError>
     ensures text { IfOk result (λ t. t.text_len ≡ length text.now) }
-    ensures words { IfOk result (λ t. IsReadFrom t (length text.now)) }
+    ensures words { IfOk result (IsReadFrom text.now) }
     ensures whole { IfOk result (λ t. length t.nodes.items ≡ suc (length t.parts.items)) }
     ensures long { result ≡ Err TooLong ↔ LONGEST < length text.now }
-    ensures wrong { IfErr result (LiesIn (length text.now)) }
+    ensures wrong { length text.now ≤ LONGEST → IfErr result (LiesIn (length text.now)) }
 {
     if text.len() > LONGEST {
         return Err(ReadError::TooLong);

@@ -1,7 +1,9 @@
 //! How terms are read.
-ghost use Rattle.std.specs.Prelude.{◌≡◌, ◌≤◌, IfOk, IfErr, OnOk, length};
+ghost use Rattle.std.specs.Prelude.{◌≡◌, ◌≤◌, ◌↔◌, IfOk, IfErr, OnOk, length};
 ghost use Rattle.relation_text.specs.Errors.{LiesIn};
 ghost use Rattle.relation_text.specs.Trees.{EachBelow};
+ghost use Rattle.relation_text.specs.Words.{StandsAt};
+ghost use Rattle.relation_text.specs.Signs.{pointer_sign};
 ghost use Rattle.relation_text.specs.Reads.{GoesOn, Makes, Collects, CollectsMore};
 
 use crate::reading::error::{Expected, ReadError};
@@ -29,20 +31,35 @@ enum Rest {
     Parens,
 }
 
-// Reads the beginning of a raw pointer, behind its `*`.
-fn open_pointer(reader: &mut Reader) -> Result<Rest, ReadError>
+// Reads whether a raw pointer's target may be changed, behind its `*`.
+fn read_pointer(reader: &mut Reader) -> Result<Mutability, ReadError>
+    ensures mutability { IfOk result (λ m. StandsAt reader.old.words.items reader.old.at (pointer_sign m)) }
     ensures words { reader.new.words ≡ reader.old.words }
     ensures tree { reader.new.tree ≡ reader.old.tree }
     ensures later { reader.old.at ≤ reader.new.at }
     ensures wrong { IfErr result (LiesIn reader.old.tree.text_len) }
 {
     if reader.accept(Sign::Const) {
-        return Ok(Rest::Pointee(Form::RawPtr(Mutability::Not)));
+        return Ok(Mutability::Not);
     }
     if reader.accept(Sign::Mut) {
-        return Ok(Rest::Pointee(Form::RawPtr(Mutability::Mut)));
+        return Ok(Mutability::Mut);
     }
     Err(reader.unexpected(Expected::Either(Sign::Const, Sign::Mut)))
+}
+
+// Reads whether a reference's target may be changed, behind its region.
+fn read_mutability(reader: &mut Reader) -> Mutability
+    ensures mutable { (result ≡ Mutability.Mut) ↔ StandsAt reader.old.words.items reader.old.at Sign.Mut }
+    ensures words { reader.new.words ≡ reader.old.words }
+    ensures tree { reader.new.tree ≡ reader.old.tree }
+    ensures later { reader.old.at ≤ reader.new.at }
+{
+    if reader.accept(Sign::Mut) {
+        Mutability::Mut
+    } else {
+        Mutability::Not
+    }
 }
 
 // Reads the beginning of a reference, behind its `&`.
@@ -54,11 +71,7 @@ fn open_reference(reader: &mut Reader, parts: &mut Vec<usize>) -> Result<Rest, R
 {
     let region = reader.take(Expected::Region)?;
     parts.push(region)?;
-    let mutability = if reader.accept(Sign::Mut) {
-        Mutability::Mut
-    } else {
-        Mutability::Not
-    };
+    let mutability = read_mutability(reader);
     Ok(Rest::Pointee(Form::Ref(mutability)))
 }
 
@@ -95,7 +108,8 @@ fn open(reader: &mut Reader, parts: &mut Vec<usize>) -> Result<Rest, ReadError>
         return Ok(Rest::List(Form::Branch, Sign::RightBrace));
     }
     if reader.accept(Sign::Star) {
-        return open_pointer(reader);
+        let mutability = read_pointer(reader)?;
+        return Ok(Rest::Pointee(Form::RawPtr(mutability)));
     }
     if reader.accept(Sign::Ampersand) {
         return open_reference(reader, parts);

@@ -108,6 +108,7 @@ impl Tree {
     }
 
     // Adds a node over parts that are there, and answers its number.
+    #[tactic(auto, using(crate::proofs::TreeLemmas::node_words_more))]
     pub(super) fn push(
         &mut self,
         kind: NodeKind,

@@ -3,8 +3,8 @@ use Rattle.relation_text.specs.Words.{LieBetween}
 use Rattle.relation_text.proofs.reading.split.words.Given as goal
 
 -- the words so far stand before the next
-abbrev pub invariant-loop-start : goal.invariant-loop-start
-invariant-loop-start l = LieBetween l.words.items 0 l.start × (l.start ≤ length l.text)
+abbrev pub invariant-words : goal.invariant-words
+invariant-words l = LieBetween l.text l.words.items 0 l.behind × (l.behind ≤ length l.text)
 
-abbrev pub decreases-loop-start : goal.decreases-loop-start
-decreases-loop-start l = length l.text - l.start
+abbrev pub decreases-words : goal.decreases-words
+decreases-words l = length l.text - l.behind

@@ -19,11 +19,11 @@ abbrev pub decreases-read_rest : goal.decreases-read_rest
 decreases-read_rest l = 4 * l.levels + 2
 
 -- what was read so far is in the list
-abbrev pub invariant-list : goal.invariant-list
-invariant-list l =
+abbrev pub invariant-read_list-list : goal.invariant-read_list-list
+invariant-read_list-list l =
     GoesOn l.fn.reader l.reader × EachBelow l.parts.items (length l.reader.tree.nodes.items)
     × Gathers 0 l.fn.reader l.reader l.fn.parts.items l.parts.items
 
 -- each turn reads at least one word
-abbrev pub decreases-list : goal.decreases-list
-decreases-list l = length l.reader.words.items - l.reader.at
+abbrev pub decreases-read_list-list : goal.decreases-read_list-list
+decreases-read_list-list l = length l.reader.words.items - l.reader.at
