@@ -111,7 +111,7 @@ impl Reader {
     pub fn accept(&mut self, sign: Sign) -> bool
         ensures words { self.new.words ≡ self.old.words }
         ensures tree { self.new.tree ≡ self.old.tree }
-        ensures there { IsTrue result ↔ IsSomeAnd (slice_get self.old.words.items self.old.at) (λ w. w.kind ≡ WordKind.Sign sign) }
+        ensures there { IsTrue result ↔ StandsAt self.old.words.items self.old.at sign }
         ensures over { OnTrue result (self.new.at ≡ suc self.old.at) }
         ensures stays { OnFalse result (self.new.at ≡ self.old.at) }
     {
