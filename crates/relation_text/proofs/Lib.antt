@@ -1,0 +1,4 @@
+pub mod BlankLemmas
+pub mod PlaceLemmas
+pub mod TreeLemmas
+pub mod WordLemmas

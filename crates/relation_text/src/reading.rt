@@ -1,0 +1,21 @@
+//! A text becomes words, and the words a tree of names with places.
+
+mod error;
+mod place;
+mod reader;
+mod signs;
+mod split;
+mod statements;
+mod terms;
+mod tree;
+mod words;
+
+pub use error::{Expected, ReadError, write_error};
+pub use place::{Place, place_of};
+pub use signs::Sign;
+pub use statements::read;
+pub use tree::{Form, ItemSort, Node, NodeKind, Tree};
+pub use words::{Leaf, Word, WordKind};
+
+#[cfg(test)]
+mod tests;

@@ -1,0 +1,147 @@
+//! Marks and the words of the language, and how they are spelled.
+
+/// A mark, or a word of the language.
+#[derive(Clone, Copy, PartialEq, Eq, Debug)]
+pub enum Sign {
+    Subtype,
+    Supertype,
+    Equal,
+    Less,
+    Greater,
+    LeftParen,
+    RightParen,
+    LeftBracket,
+    RightBracket,
+    LeftBrace,
+    RightBrace,
+    Comma,
+    Semicolon,
+    Assign,
+    Ampersand,
+    Star,
+    Plus,
+    Minus,
+    Bang,
+    Budget,
+    Closure,
+    Const,
+    Coroutine,
+    Expr,
+    Extern,
+    Fn,
+    In,
+    Let,
+    Mut,
+    Param,
+    Repeat,
+    Struct,
+    Then,
+    Type,
+    Variables,
+}
+
+impl Sign {
+    /// How the sign is written.
+    pub fn spelling(self) -> &'static str {
+        match self {
+            Sign::Subtype => "<:",
+            Sign::Supertype => ":>",
+            Sign::Equal => "==",
+            Sign::Less => "<",
+            Sign::Greater => ">",
+            Sign::LeftParen => "(",
+            Sign::RightParen => ")",
+            Sign::LeftBracket => "[",
+            Sign::RightBracket => "]",
+            Sign::LeftBrace => "{",
+            Sign::RightBrace => "}",
+            Sign::Comma => ",",
+            Sign::Semicolon => ";",
+            Sign::Assign => "=",
+            Sign::Ampersand => "&",
+            Sign::Star => "*",
+            Sign::Plus => "+",
+            Sign::Minus => "-",
+            Sign::Bang => "!",
+            Sign::Budget => "budget",
+            Sign::Closure => "closure",
+            Sign::Const => "const",
+            Sign::Coroutine => "coroutine",
+            Sign::Expr => "expr",
+            Sign::Extern => "extern",
+            Sign::Fn => "fn",
+            Sign::In => "in",
+            Sign::Let => "let",
+            Sign::Mut => "mut",
+            Sign::Param => "param",
+            Sign::Repeat => "repeat",
+            Sign::Struct => "struct",
+            Sign::Then => "then",
+            Sign::Type => "type",
+            Sign::Variables => "variables",
+        }
+    }
+}
+
+// The words of the language, each of which is written as a name would be.
+const RESERVED: [Sign; 16] = [
+    Sign::Budget,
+    Sign::Closure,
+    Sign::Const,
+    Sign::Coroutine,
+    Sign::Expr,
+    Sign::Extern,
+    Sign::Fn,
+    Sign::In,
+    Sign::Let,
+    Sign::Mut,
+    Sign::Param,
+    Sign::Repeat,
+    Sign::Struct,
+    Sign::Then,
+    Sign::Type,
+    Sign::Variables,
+];
+
+// The word of the language that is written so.
+pub(super) fn reserved_word(name: &[u8]) -> Option<Sign> {
+    for sign in &RESERVED {
+        if sign.spelling().as_bytes() == name {
+            return Some(*sign);
+        }
+    }
+    None
+}
+
+// The mark of two bytes.
+pub(super) fn mark_of_two(first: u8, second: u8) -> Option<Sign> {
+    match (first, second) {
+        (b'<', b':') => Some(Sign::Subtype),
+        (b':', b'>') => Some(Sign::Supertype),
+        (b'=', b'=') => Some(Sign::Equal),
+        _ => None,
+    }
+}
+
+// The mark of one byte.
+pub(super) fn mark_of_one(byte: u8) -> Option<Sign> {
+    match byte {
+        b'<' => Some(Sign::Less),
+        b'>' => Some(Sign::Greater),
+        b'(' => Some(Sign::LeftParen),
+        b')' => Some(Sign::RightParen),
+        b'[' => Some(Sign::LeftBracket),
+        b']' => Some(Sign::RightBracket),
+        b'{' => Some(Sign::LeftBrace),
+        b'}' => Some(Sign::RightBrace),
+        b',' => Some(Sign::Comma),
+        b';' => Some(Sign::Semicolon),
+        b'=' => Some(Sign::Assign),
+        b'&' => Some(Sign::Ampersand),
+        b'*' => Some(Sign::Star),
+        b'+' => Some(Sign::Plus),
+        b'-' => Some(Sign::Minus),
+        b'!' => Some(Sign::Bang),
+        _ => None,
+    }
+}

@@ -1,0 +1,216 @@
+//! How a text is split into words.
+ghost use Rattle.std.specs.Prelude.{◌≡◌, ◌<◌, ◌≤◌, true, false, IfOk, IfErr, length, drop};
+ghost use Rattle.relation_text.specs.Words.{skip, AreWordsOf, EachLies};
+ghost use Rattle.relation_text.specs.Errors.{LiesIn};
+
+use crate::reading::error::ReadError;
+use crate::reading::signs::{Sign, mark_of_one, mark_of_two, reserved_word};
+use crate::reading::words::{Leaf, Word, WordKind};
+use std::alloc::Global;
+
+// Whether a byte may stand in a name.
+fn is_name_byte(byte: u8) -> bool {
+    byte.is_ascii_alphanumeric() || byte == b'_'
+}
+
+// Where the line ends that has the byte `at`, which is in a comment.
+fn line_end(text: &[u8], at: usize) -> usize
+    requires { at ≤ length text.now }
+    ensures behind { at ≤ result }
+    ensures within { result ≤ length text.now }
+    ensures comment { skip true (drop at text.now) ≡ skip false (drop result text.now) }
+{
+    let mut end = at;
+    while end < text.len() && text[end] != b'\n' {
+        end += 1;
+    }
+    end
+}
+
+// Where blanks and comments end that begin at `at`.
+fn blank_end(text: &[u8], at: usize) -> usize
+    requires { at ≤ length text.now }
+    ensures behind { at ≤ result }
+    ensures within { result ≤ length text.now }
+    ensures blank { drop result text.now ≡ skip false (drop at text.now) }
+{
+    let mut end = at;
+    while end < text.len() {
+        if text[end].is_ascii_whitespace() {
+            end += 1;
+        } else if text[end] == b'/' && end + 1 < text.len() && text[end + 1] == b'/' {
+            end = line_end(text, end + 1);
+        } else {
+            return end;
+        }
+    }
+    end
+}
+
+// Where the bytes of a name end that begin at `at`.
+fn name_end(text: &[u8], at: usize) -> usize
+    requires { at ≤ length text.now }
+    ensures behind { at ≤ result }
+    ensures within { result ≤ length text.now }
+{
+    let mut end = at;
+    while end < text.len() && is_name_byte(text[end]) {
+        end += 1;
+    }
+    end
+}
+
+// The number whose digits begin at `at`, and where they end. There is to be one digit at least.
+fn number_at(text: &[u8], at: usize) -> Result<(u128, usize), ReadError>
+    requires { at ≤ length text.now }
+    ensures behind { IfOk result (λ n. at < n.1) }
+    ensures within { IfOk result (λ n. n.1 ≤ length text.now) }
+    ensures wrong { IfErr result (LiesIn (length text.now)) }
+{
+    let mut value: u128 = 0;
+    let mut end = at;
+    while end < text.len() && text[end].is_ascii_digit() {
+        let digit = u128::from(text[end] - b'0');
+        let Some(tens) = value.checked_mul(10) else {
+            return Err(ReadError::TooLarge { at });
+        };
+        let Some(more) = tens.checked_add(digit) else {
+            return Err(ReadError::TooLarge { at });
+        };
+        value = more;
+        end += 1;
+    }
+    if end == at {
+        return Err(ReadError::NoWord { at });
+    }
+    Ok((value, end))
+}
+
+// The number of a variable or a universe whose digits begin at `at`, and where they end.
+fn index_at(text: &[u8], at: usize) -> Result<(usize, usize), ReadError>
+    requires { at ≤ length text.now }
+    ensures behind { IfOk result (λ n. at < n.1) }
+    ensures within { IfOk result (λ n. n.1 ≤ length text.now) }
+    ensures wrong { IfErr result (LiesIn (length text.now)) }
+{
+    let (value, end) = number_at(text, at)?;
+    match usize::try_from(value) {
+        Ok(index) => Ok((index, end)),
+        Err(_) => Err(ReadError::TooLarge { at }),
+    }
+}
+
+// A name or a word of the language, whose first byte is at `at`.
+fn name_at(text: &[u8], at: usize) -> (WordKind, usize)
+    requires { at < length text.now }
+    ensures behind { at < result.1 }
+    ensures within { result.1 ≤ length text.now }
+{
+    let end = name_end(text, at + 1);
+    match reserved_word(&text[at..end]) {
+        Some(sign) => (WordKind::Sign(sign), end),
+        None => (WordKind::Leaf(Leaf::Name), end),
+    }
+}
+
+// A lifetime or a region variable.
+fn region_at(text: &[u8], at: usize) -> Result<(WordKind, usize), ReadError>
+    requires { at < length text.now }
+    ensures behind { IfOk result (λ w. at < w.1) }
+    ensures within { IfOk result (λ w. w.1 ≤ length text.now) }
+    ensures wrong { IfErr result (LiesIn (length text.now)) }
+{
+    let next = at + 1;
+    if next < text.len() && text[next] == b'?' {
+        let (number, end) = index_at(text, next + 1)?;
+        return Ok((WordKind::Leaf(Leaf::RegionVar(number)), end));
+    }
+    let end = name_end(text, next);
+    if end == next {
+        return Err(ReadError::NoWord { at });
+    }
+    Ok((WordKind::Leaf(Leaf::Lifetime), end))
+}
+
+// A placeholder.
+fn placeholder_at(text: &[u8], at: usize) -> Result<(WordKind, usize), ReadError>
+    requires { at < length text.now }
+    ensures behind { IfOk result (λ w. at < w.1) }
+    ensures within { IfOk result (λ w. w.1 ≤ length text.now) }
+    ensures wrong { IfErr result (LiesIn (length text.now)) }
+{
+    let (universe, behind) = index_at(text, at + 1)?;
+    let dotted = behind < text.len() && text[behind] == b'.';
+    let tail = if dotted { behind + 1 } else { behind };
+    let end = name_end(text, tail);
+    if end == tail {
+        return Err(ReadError::NoWord { at });
+    }
+    Ok((WordKind::Leaf(Leaf::Placeholder { universe, behind }), end))
+}
+
+// A mark.
+fn mark_at(text: &[u8], at: usize) -> Result<(WordKind, usize), ReadError>
+    requires { at < length text.now }
+    ensures behind { IfOk result (λ w. at < w.1) }
+    ensures within { IfOk result (λ w. w.1 ≤ length text.now) }
+    ensures wrong { IfErr result (LiesIn (length text.now)) }
+{
+    if at + 1 < text.len() {
+        if let Some(sign) = mark_of_two(text[at], text[at + 1]) {
+            return Ok((WordKind::Sign(sign), at + 2));
+        }
+    }
+    match mark_of_one(text[at]) {
+        Some(sign) => Ok((WordKind::Sign(sign), at + 1)),
+        None => Err(ReadError::NoWord { at }),
+    }
+}
+
+// The word that begins at `at`, and where it ends.
+fn word_at(text: &[u8], at: usize) -> Result<(WordKind, usize), ReadError>
+    requires { at < length text.now }
+    ensures behind { IfOk result (λ w. at < w.1) }
+    ensures within { IfOk result (λ w. w.1 ≤ length text.now) }
+    ensures wrong { IfErr result (LiesIn (length text.now)) }
+{
+    let byte = text[at];
+    if byte.is_ascii_digit() {
+        let (value, behind) = number_at(text, at)?;
+        let end = name_end(text, behind);
+        return Ok((WordKind::Leaf(Leaf::Number { value, behind }), end));
+    }
+    if is_name_byte(byte) {
+        return Ok(name_at(text, at));
+    }
+    if byte == b'\'' {
+        return region_at(text, at);
+    }
+    if byte == b'?' {
+        let (number, end) = index_at(text, at + 1)?;
+        return Ok((WordKind::Leaf(Leaf::TyVar(number)), end));
+    }
+    if byte == b'!' && at + 1 < text.len() && text[at + 1].is_ascii_digit() {
+        return placeholder_at(text, at);
+    }
+    mark_at(text, at)
+}
+
+// The words of a text.
+pub(super) fn words(alloc: Global, text: &[u8]) -> Result<Vec<Word>, ReadError>
+    ensures words { IfOk result (λ ws. AreWordsOf text.now ws.items) }
+    ensures inside { IfOk result (λ ws. EachLies ws.items (length text.now)) }
+    ensures wrong { IfErr result (LiesIn (length text.now)) }
+{
+    let mut words = Vec::new(alloc);
+    let mut behind = 0;
+    'words: loop {
+        let start = blank_end(text, behind);
+        if start >= text.len() {
+            return Ok(words);
+        }
+        let (kind, end) = word_at(text, start)?;
+        words.push(Word { kind, start, end })?;
+        behind = end;
+    }
+}

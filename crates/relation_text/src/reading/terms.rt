@@ -1,0 +1,244 @@
+//! How terms are read.
+ghost use Rattle.std.specs.Prelude.{◌≡◌, ◌≤◌, ◌↔◌, IfOk, IfErr, OnOk, length};
+ghost use Rattle.relation_text.specs.Errors.{LiesIn};
+ghost use Rattle.relation_text.specs.Trees.{EachBelow};
+ghost use Rattle.relation_text.specs.Words.{StandsAt};
+ghost use Rattle.relation_text.specs.Signs.{pointer_sign};
+ghost use Rattle.relation_text.specs.Reads.{GoesOn, Makes, Collects, CollectsMore};
+
+use crate::reading::error::{Expected, ReadError};
+use crate::reading::reader::Reader;
+use crate::reading::signs::Sign;
+use crate::reading::tree::Form;
+use crate::reading::words::{Leaf, WordKind};
+use relation_terms::terms::Mutability;
+
+/// How many levels a term may have.
+pub(super) const LEVELS: usize = 1000;
+
+// What is still to be read of a term whose beginning was read.
+#[derive(Clone, Copy)]
+enum Rest {
+    // Nothing: the term is that form, of what was read.
+    Nothing(Form),
+    // The type that a pointer of that form leads to.
+    Pointee(Form),
+    // A list up to that sign, the further parts of that form.
+    List(Form, Sign),
+    // What stands in brackets.
+    Brackets,
+    // What stands in parentheses.
+    Parens,
+}
+
+// Reads whether a raw pointer's target may be changed, behind its `*`.
+fn read_pointer(reader: &mut Reader) -> Result<Mutability, ReadError>
+    ensures mutability { IfOk result (λ m. StandsAt reader.old.words.items reader.old.at (pointer_sign m)) }
+    ensures words { reader.new.words ≡ reader.old.words }
+    ensures tree { reader.new.tree ≡ reader.old.tree }
+    ensures later { reader.old.at ≤ reader.new.at }
+    ensures wrong { IfErr result (LiesIn reader.old.tree.text_len) }
+{
+    if reader.accept(Sign::Const) {
+        return Ok(Mutability::Not);
+    }
+    if reader.accept(Sign::Mut) {
+        return Ok(Mutability::Mut);
+    }
+    Err(reader.unexpected(Expected::Either(Sign::Const, Sign::Mut)))
+}
+
+// Reads whether a reference's target may be changed, behind its region.
+fn read_mutability(reader: &mut Reader) -> Mutability
+    ensures mutable { (result ≡ Mutability.Mut) ↔ StandsAt reader.old.words.items reader.old.at Sign.Mut }
+    ensures words { reader.new.words ≡ reader.old.words }
+    ensures tree { reader.new.tree ≡ reader.old.tree }
+    ensures later { reader.old.at ≤ reader.new.at }
+{
+    if reader.accept(Sign::Mut) {
+        Mutability::Mut
+    } else {
+        Mutability::Not
+    }
+}
+
+// Reads the beginning of a reference, behind its `&`.
+fn open_reference(reader: &mut Reader, parts: &mut Vec<usize>) -> Result<Rest, ReadError>
+    requires { EachBelow parts.old.items (length reader.old.tree.nodes.items) }
+    ensures goes { GoesOn reader.old reader.new }
+    ensures parts { OnOk result (Collects reader.old reader.new parts.old.items parts.new.items) }
+    ensures wrong { IfErr result (LiesIn reader.old.tree.text_len) }
+{
+    let region = reader.take(Expected::Region)?;
+    parts.push(region)?;
+    let mutability = read_mutability(reader);
+    Ok(Rest::Pointee(Form::Ref(mutability)))
+}
+
+// Reads the beginning of an expression, behind its `expr`.
+fn open_expression(reader: &mut Reader, parts: &mut Vec<usize>) -> Result<Rest, ReadError>
+    requires { EachBelow parts.old.items (length reader.old.tree.nodes.items) }
+    ensures goes { GoesOn reader.old reader.new }
+    ensures parts { OnOk result (Collects reader.old reader.new parts.old.items parts.new.items) }
+    ensures wrong { IfErr result (LiesIn reader.old.tree.text_len) }
+{
+    let number = reader.take(Expected::Number)?;
+    parts.push(number)?;
+    reader.expect(Sign::LeftParen)?;
+    Ok(Rest::List(Form::Expr, Sign::RightParen))
+}
+
+// Reads the beginning of a term that begins with a sign, with the parts that stand there.
+fn open(reader: &mut Reader, parts: &mut Vec<usize>) -> Result<Rest, ReadError>
+    requires { EachBelow parts.old.items (length reader.old.tree.nodes.items) }
+    ensures goes { GoesOn reader.old reader.new }
+    ensures parts { OnOk result (Collects reader.old reader.new parts.old.items parts.new.items) }
+    ensures wrong { IfErr result (LiesIn reader.old.tree.text_len) }
+{
+    if reader.accept(Sign::Bang) {
+        return Ok(Rest::Nothing(Form::Never));
+    }
+    if reader.accept(Sign::LeftBracket) {
+        return Ok(Rest::Brackets);
+    }
+    if reader.accept(Sign::LeftParen) {
+        return Ok(Rest::Parens);
+    }
+    if reader.accept(Sign::LeftBrace) {
+        return Ok(Rest::List(Form::Branch, Sign::RightBrace));
+    }
+    if reader.accept(Sign::Star) {
+        let mutability = read_pointer(reader)?;
+        return Ok(Rest::Pointee(Form::RawPtr(mutability)));
+    }
+    if reader.accept(Sign::Ampersand) {
+        return open_reference(reader, parts);
+    }
+    if reader.accept(Sign::Expr) {
+        return open_expression(reader, parts);
+    }
+    Err(reader.unexpected(Expected::Term))
+}
+
+// Reads a list of terms, and the sign behind it. Answers whether it ended in a comma or was empty.
+#[cycle(terms)]
+fn read_list(
+    reader: &mut Reader,
+    parts: &mut Vec<usize>,
+    close: Sign,
+    levels: usize,
+) -> Result<bool, ReadError>
+    requires { EachBelow parts.old.items (length reader.old.tree.nodes.items) }
+    ensures goes { GoesOn reader.old reader.new }
+    ensures parts { OnOk result (Collects reader.old reader.new parts.old.items parts.new.items) }
+    ensures wrong { IfErr result (LiesIn reader.old.tree.text_len) }
+{
+    'list: while !reader.accept(close) {
+        let term = read_term(reader, levels)?;
+        parts.push(term)?;
+        if reader.accept(close) {
+            return Ok(false);
+        }
+        if !reader.accept(Sign::Comma) {
+            return Err(reader.unexpected(Expected::CommaOr(close)));
+        }
+    }
+    Ok(true)
+}
+
+// Reads a term that begins with a leaf: the leaf, or a name and its arguments.
+#[cycle(terms)]
+fn read_applied(reader: &mut Reader, leaf: Leaf, levels: usize) -> Result<usize, ReadError>
+    ensures goes { GoesOn reader.old reader.new }
+    ensures node { IfOk result (Makes reader.old reader.new) }
+    ensures wrong { IfErr result (LiesIn reader.old.tree.text_len) }
+{
+    let start = reader.place();
+    let number = reader.take(Expected::Term)?;
+    if leaf != Leaf::Name || !reader.accept(Sign::Less) {
+        return Ok(number);
+    }
+    let mut parts = Vec::new(reader.alloc);
+    parts.push(number)?;
+    let _ = read_list(reader, &mut parts, Sign::Greater, levels)?;
+    reader.make(Form::Applied, start, &parts)
+}
+
+// Reads what stands in brackets.
+#[cycle(terms)]
+fn read_brackets(
+    reader: &mut Reader,
+    parts: &mut Vec<usize>,
+    levels: usize,
+) -> Result<Form, ReadError>
+    requires { EachBelow parts.old.items (length reader.old.tree.nodes.items) }
+    ensures goes { GoesOn reader.old reader.new }
+    ensures parts { OnOk result (Collects reader.old reader.new parts.old.items parts.new.items) }
+    ensures wrong { IfErr result (LiesIn reader.old.tree.text_len) }
+{
+    let element = read_term(reader, levels)?;
+    parts.push(element)?;
+    if !reader.accept(Sign::Semicolon) {
+        reader.expect(Sign::RightBracket)?;
+        return Ok(Form::Slice);
+    }
+    let count = read_term(reader, levels)?;
+    parts.push(count)?;
+    reader.expect(Sign::RightBracket)?;
+    Ok(Form::Array)
+}
+
+// Reads the rest of a term whose beginning was read, and answers its form; none where it is its only part.
+#[cycle(terms)]
+fn read_rest(
+    reader: &mut Reader,
+    parts: &mut Vec<usize>,
+    rest: Rest,
+    levels: usize,
+) -> Result<Option<Form>, ReadError>
+    requires { EachBelow parts.old.items (length reader.old.tree.nodes.items) }
+    ensures goes { GoesOn reader.old reader.new }
+    ensures parts { OnOk result (CollectsMore reader.old reader.new parts.old.items parts.new.items) }
+    ensures wrong { IfErr result (LiesIn reader.old.tree.text_len) }
+{
+    match rest {
+        Rest::Nothing(form) => Ok(Some(form)),
+        Rest::Pointee(form) => {
+            let pointee = read_term(reader, levels)?;
+            parts.push(pointee)?;
+            Ok(Some(form))
+        }
+        Rest::List(form, close) => {
+            let _ = read_list(reader, parts, close, levels)?;
+            Ok(Some(form))
+        }
+        Rest::Brackets => Ok(Some(read_brackets(reader, parts, levels)?)),
+        Rest::Parens => {
+            let tuple = read_list(reader, parts, Sign::RightParen, levels)?;
+            Ok(if tuple { Some(Form::Tuple) } else { None })
+        }
+    }
+}
+
+// Reads a term, and answers its node.
+#[cycle(terms)]
+pub(super) fn read_term(reader: &mut Reader, levels: usize) -> Result<usize, ReadError>
+    ensures goes { GoesOn reader.old reader.new }
+    ensures node { IfOk result (Makes reader.old reader.new) }
+    ensures wrong { IfErr result (LiesIn reader.old.tree.text_len) }
+{
+    let start = reader.place();
+    if levels == 0 {
+        return Err(ReadError::TooDeep { at: start });
+    }
+    if let Some(WordKind::Leaf(leaf)) = reader.peek() {
+        return read_applied(reader, leaf, levels - 1);
+    }
+    let mut parts = Vec::new(reader.alloc);
+    let rest = open(reader, &mut parts)?;
+    match read_rest(reader, &mut parts, rest, levels - 1)? {
+        Some(form) => reader.make(form, start, &parts),
+        None if parts.len() == 1 => Ok(parts[0]),
+        None => reader.make(Form::Tuple, start, &parts),
+    }
+}

@@ -1,0 +1,152 @@
+//! Each production once, and each error.
+use crate::reading::{Form, NodeKind, Tree, place_of, read, write_error};
+use std::alloc::Global;
+use std::fmt::{self, Write};
+use std::test::Fail;
+
+// Writes a node: a leaf as its text, a form with its parts.
+fn write_node(
+    text: &str,
+    tree: &Tree,
+    number: usize,
+    levels: usize,
+    out: &mut String,
+) -> fmt::Result {
+    let Some(node) = tree.nodes.get(number) else {
+        return Err(fmt::Error);
+    };
+    let NodeKind::Form(form) = node.kind else {
+        return out.write_str(text.get(node.start..node.end).unwrap_or("?"));
+    };
+    if levels == 0 {
+        return Err(fmt::Error);
+    }
+    out.write_str(form_name(form))?;
+    out.write_str("(")?;
+    for (place, part) in tree
+        .parts
+        .get(node.first..node.behind)
+        .unwrap_or(&[])
+        .iter()
+        .enumerate()
+    {
+        if place > 0 {
+            out.write_str(" ")?;
+        }
+        write_node(text, tree, *part, levels - 1, out)?;
+    }
+    out.write_str(")")
+}
+
+fn form_name(form: Form) -> &'static str {
+    match form {
+        Form::File => "file",
+        Form::Item(_) => "item",
+        Form::Declared(_) => "declared",
+        Form::DeclaredConst(_) => "declared-const",
+        Form::Parameters => "parameters",
+        Form::Parameter => "parameter",
+        Form::ConstParameter => "const-parameter",
+        Form::Budget => "budget",
+        Form::Variables => "variables",
+        Form::Let => "let",
+        Form::Question(_) => "question",
+        Form::Then => "then",
+        Form::Repeat => "repeat",
+        Form::Applied => "applied",
+        Form::Never => "never",
+        Form::Slice => "slice",
+        Form::Array => "array",
+        Form::Tuple => "tuple",
+        Form::RawPtr(_) => "pointer",
+        Form::Ref(_) => "ref",
+        Form::Branch => "branch",
+        Form::Expr => "expr",
+    }
+}
+
+// The tree of a text, or its error with the place.
+fn shown(alloc: Global, text: &str) -> Result<String, fmt::Error> {
+    let mut out = String::new(alloc);
+    match read(alloc, text.as_bytes()) {
+        Ok(tree) => write_node(text, &tree, tree.nodes.len() - 1, 20, &mut out)?,
+        Err(error) => {
+            if let Some((at, _)) = error.span() {
+                let place = place_of(text.as_bytes(), at);
+                write!(out, "{}:{}: ", place.line, place.column)?;
+            }
+            write_error(text, &error, &mut out)?;
+        }
+    }
+    Ok(out)
+}
+
+#[test]
+fn statements_are_read(rt: HostRuntime) -> Result<(), Fail> {
+    let text =
+        "struct Vec<+T, -'a, *const N, =U>; fn f; extern type F; coroutine closure h; // x\nbudget 1;";
+    let all = shown(rt.alloc(), text)?;
+    assert_eq!(rt;
+        all.as_str(),
+        "file(item(Vec declared(T) declared('a) declared-const(N) declared(U)) item(f) item(F) item(h) budget(1))"
+    );
+    let all = shown(
+        rt.alloc(),
+        "param T, 'a, const N = 2; let t = (u8, (T)); variables ?0, '?1;",
+    )?;
+    assert_eq!(rt;
+        all.as_str(),
+        "file(parameters(parameter(T) parameter('a) const-parameter(N 2)) let(t tuple(u8 T)) variables(?0 '?1))"
+    );
+    Ok(())
+}
+
+#[test]
+fn questions_are_read(rt: HostRuntime) -> Result<(), Fail> {
+    let text = "Vec<?0, 'a, 2u8> <: [&'a mut [*const !; {1, expr 3(N,)}]];";
+    let all = shown(rt.alloc(), text)?;
+    assert_eq!(rt;
+        all.as_str(),
+        "file(question(applied(Vec ?0 'a 2u8) slice(ref('a array(pointer(never()) branch(1 expr(3 N)))))))"
+    );
+    let all = shown(rt.alloc(), "then () == (!1T, !1.0,); repeat 3 '?0 :> K<>;")?;
+    assert_eq!(rt;
+        all.as_str(),
+        "file(then(question(tuple() tuple(!1T !1.0))) repeat(3 question('?0 applied(K))))"
+    );
+    Ok(())
+}
+
+#[test]
+fn wrong_texts_are_refused(rt: HostRuntime) -> Result<(), Fail> {
+    for (text, why) in [
+        ("", "file()"),
+        ("struct", "1:7: expected a name, found the end"),
+        ("T", "1:2: expected `<:`, `:>` or `==`, found the end"),
+        ("T == u8;\n//é\n  é", "3:3: no word begins here"),
+        ("T == [T, T];", "1:8: expected `]`, found `,`"),
+        ("T == (T; T);", "1:8: expected `,` or `)`, found `;`"),
+        (
+            "T == 340282366920938463463374607431768211456;",
+            "1:6: the number is too large",
+        ),
+        ("&T == u8;", "1:2: expected a region, found `T`"),
+        ("*T == T", "1:2: expected `const` or `mut`, found `T`"),
+        ("budget x;", "1:8: expected a number, found `x`"),
+    ] {
+        let all = shown(rt.alloc(), text)?;
+        assert_eq!(rt; all.as_str(), why);
+    }
+    Ok(())
+}
+
+#[test]
+fn deep_terms_are_refused(rt: HostRuntime) -> Result<(), Fail> {
+    let mut text = String::new(rt.alloc());
+    for _ in 0..10_000 {
+        text.push_str("[")?;
+    }
+    let all = shown(rt.alloc(), text.as_str())?;
+    assert_eq!(rt; all.as_str(), "1:1001: the term has more than 1000 levels");
+    Ok(())
+}

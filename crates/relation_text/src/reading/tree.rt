@@ -1,0 +1,142 @@
+//! Trees of names.
+ghost use Rattle.std.specs.Prelude.{◌≡◌, ◌+◌, ◌≤◌, ◌++◌, [], IfOk, OnOk, OnErr, length, suc};
+ghost use Rattle.relation_text.specs.Trees.{IsFounded, EachStands, EachBelow, node_words, kind_words};
+
+use crate::reading::words::Leaf;
+use relation_terms::terms::{Mutability, Variance};
+use std::alloc::{AllocError, Global};
+
+/// What an item is.
+#[derive(Clone, Copy, PartialEq, Eq, Debug)]
+pub enum ItemSort {
+    Struct,
+    Fn,
+    Closure,
+    Coroutine,
+    CoroutineClosure,
+    Foreign,
+}
+
+/// What a node makes of its parts.
+#[derive(Clone, Copy, PartialEq, Eq)]
+pub enum Form {
+    /// The statements of a text.
+    File,
+    /// An item: its name, and the parameters that it declares.
+    Item(ItemSort),
+    /// A type or a lifetime that an item declares: its name.
+    Declared(Variance),
+    /// A constant that an item declares: its name.
+    DeclaredConst(Variance),
+    /// Parameters of questions: a `Parameter` or a `ConstParameter` for each.
+    Parameters,
+    /// A type or a lifetime that is a parameter: its name, and its index if that is given.
+    Parameter,
+    /// A constant that is a parameter: its name, and its index if that is given.
+    ConstParameter,
+    /// How many instantiations a context may make: a number.
+    Budget,
+    /// Variables that are made.
+    Variables,
+    /// A name for a term: the name and the term.
+    Let,
+    /// Whether two terms are related at a variance.
+    Question(Variance),
+    /// The question that is its part, asked in the context that the question before left.
+    Then,
+    /// How many times a question is asked, and the question.
+    Repeat,
+    /// A name over arguments: the name, and the arguments.
+    Applied,
+    Never,
+    Slice,
+    /// An array: its element's type and its length.
+    Array,
+    Tuple,
+    RawPtr(Mutability),
+    /// A reference: its region, and the type that it leads to.
+    Ref(Mutability),
+    /// A value that is made of constants.
+    Branch,
+    /// An expression: the number of its operation, and its arguments.
+    Expr,
+}
+
+/// What a node is: a word of the text, or a form over further nodes.
+#[derive(Clone, Copy, PartialEq, Eq)]
+pub enum NodeKind {
+    Leaf(Leaf),
+    Form(Form),
+}
+
+/// A node, the bytes of the text that it takes, from `start` on those before `end`, and where its parts stand in the
+/// tree's list of parts: from `first` on, those before `behind`.
+#[derive(Clone, Copy, PartialEq, Eq)]
+pub struct Node {
+    pub kind: NodeKind,
+    pub start: usize,
+    pub end: usize,
+    pub first: usize,
+    pub behind: usize,
+}
+
+/// The tree of a text. A part of a node has a smaller number than the node; the last node is the whole text.
+#[derive(Drop)]
+pub struct Tree {
+    pub nodes: Vec<Node>,
+    /// The numbers of the nodes' parts.
+    pub parts: Vec<usize>,
+    /// How many bytes the text has.
+    pub text_len: usize,
+    pub ghost founded: { IsFounded nodes.items parts.items },
+    pub ghost stands: { EachStands nodes.items text_len },
+}
+
+impl Tree {
+    // The tree without nodes, of a text of that many bytes.
+    pub(super) fn new(alloc: Global, text_len: usize) -> Tree
+        ensures nodes { length result.nodes.items ≡ 0 }
+        ensures parts { length result.parts.items ≡ 0 }
+        ensures text { result.text_len ≡ text_len }
+        ensures leaves { node_words result.nodes.items ≡ [] }
+    {
+        Tree {
+            nodes: Vec::new(alloc),
+            parts: Vec::new(alloc),
+            text_len,
+        }
+    }
+
+    // Adds a node over parts that are there, and answers its number.
+    #[tactic(auto, using(crate::proofs::TreeLemmas::node_words_more))]
+    pub(super) fn push(
+        &mut self,
+        kind: NodeKind,
+        start: usize,
+        end: usize,
+        parts: &[usize],
+    ) -> Result<usize, AllocError>
+        requires forwards { start ≤ end }
+        requires inside { end ≤ self.old.text_len }
+        requires there { EachBelow parts.now (length self.old.nodes.items) }
+        ensures text { self.new.text_len ≡ self.old.text_len }
+        ensures number { IfOk result (λ n. n ≡ length self.old.nodes.items) }
+        ensures nodes { OnOk result (length self.new.nodes.items ≡ suc (length self.old.nodes.items)) }
+        ensures parts { OnOk result (length self.new.parts.items ≡ length self.old.parts.items + length parts.now) }
+        ensures leaves { OnOk result (node_words self.new.nodes.items ≡ node_words self.old.nodes.items ++ kind_words kind start end) }
+        ensures refused { OnErr result (self.new.nodes.items ≡ self.old.nodes.items) }
+    {
+        let number = self.nodes.len();
+        let first = self.parts.len();
+        self.parts.extend_from_slice(parts)?;
+        let behind = self.parts.len();
+        self.nodes.push(Node {
+            kind,
+            start,
+            end,
+            first,
+            behind,
+        })?;
+        Ok(number)
+    }
+}

@@ -1,0 +1,34 @@
+//! The words of a text.
+use crate::reading::signs::Sign;
+
+/// A word that stands for something of its own: it becomes a leaf of the tree.
+#[derive(Clone, Copy, PartialEq, Eq, Debug)]
+pub enum Leaf {
+    Name,
+    /// A lifetime, with its `'`.
+    Lifetime,
+    /// A number. The type that it is of is named behind its digits, if at all.
+    Number { value: u128, behind: usize },
+    /// A type variable, by its number.
+    TyVar(usize),
+    /// A region variable, by its number.
+    RegionVar(usize),
+    /// A placeholder of a universe. A name, or a `.` and a place in the binder's list, stands behind the number.
+    Placeholder { universe: usize, behind: usize },
+}
+
+/// What a word is.
+#[derive(Clone, Copy, PartialEq, Eq, Debug)]
+pub enum WordKind {
+    Leaf(Leaf),
+    /// A mark, or a word of the language.
+    Sign(Sign),
+}
+
+/// A word, and the bytes of the text that it takes: from `start` on, those before `end`.
+#[derive(Clone, Copy, PartialEq, Eq, Debug)]
+pub struct Word {
+    pub kind: WordKind,
+    pub start: usize,
+    pub end: usize,
+}
