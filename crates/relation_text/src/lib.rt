@@ -1,0 +1,4 @@
+//! Terms and answers as text.
+#![tactic(auto)]
+
+pub mod printing;
