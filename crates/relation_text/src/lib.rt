@@ -1,4 +1,5 @@
-//! Questions as text: how they are read, what their names mean, and how answers print.
+//! Questions as text: how they are read, and how terms, errors and answers print.
 #![tactic(auto)]
 
+pub mod printing;
 pub mod reading;

@@ -8,8 +8,8 @@ use Rattle.relation_terms.specs.declared.terms.enums.UintTy.{UintTy}
 use Rattle.relation_terms.specs.declared.terms.enums.Mutability.{Mutability}
 use Rattle.relation_terms.specs.Meaning.{Meaning, Extends}
 use Rattle.relations.specs.Types.{written_region, written_tree, item_tree, length_tree, has_region, has_all, have_all}
-use Rattle.relations.specs.declared.written.Parameter.{Parameter}
-use Rattle.relations.specs.declared.written.ItemText.{ItemText}
+use Rattle.relation_text.specs.declared.printing.names.Parameter.{Parameter}
+use Rattle.relation_text.specs.declared.printing.names.ItemText.{ItemText}
 use Rattle.relations.specs.declared.written.WrittenRegion.{WrittenRegion}
 use Rattle.relations.specs.declared.written.Written.{Written, Bool, Char, Uint, Slice, Array, RawPtr, Ref, Tuple, Adt, the_lemmas}
 

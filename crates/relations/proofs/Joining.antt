@@ -1,7 +1,7 @@
 -- Forms over terms of a context are terms of the context, also once its interner has grown.
-use Rattle.std.proofs.Common.{◌≡◌, ℕ, ◌<◌, IsTrue, List, [], ◌∷◌, ◌++◌, refl, sym, ap, ◌∙◌, subst, length, map, get_or}
+use Rattle.std.proofs.Common.{◌≡◌, ℕ, ◌<◌, IsTrue, List, [], ◌∷◌, ◌++◌, refl, sym, ap, ◌∙◌, subst, length, get_or}
 use Rattle.std.proofs.lemmas.Bool.{and_parts}
-use Rattle.std.proofs.lemmas.List.{length-map, get_or-map}
+use Rattle.std.proofs.lemmas.List.{length-map}
 use Rattle.relation_terms.specs.Heads.{VarKind, region_var, type_var, Head, Atom, variable, atom}
 use Rattle.relation_terms.specs.Heads.{value, value_type, value_leaf, uint_type}
 use Rattle.relation_terms.specs.declared.terms.enums.UintTy.TheVariants.{Usize}
@@ -10,15 +10,12 @@ use Rattle.relation_terms.specs.Meaning.{Meaning, Extends}
 use Rattle.relation_terms.specs.declared.terms.keys.TyKey.{TyKey}
 use Rattle.relation_terms.proofs.Stays.{knows_as, stays_list}
 use Rattle.type_relations.specs.Relation.{IsValueAtom}
-use Rattle.type_relations.specs.Stores.{Store, IsMade, IsTermIn, InContext, IsRegionIn, ConstraintIn}
-use Rattle.relation_terms.specs.declared.predicate.RegionConstraint.{RegionConstraint}
+use Rattle.type_relations.specs.Stores.{Store, IsMade, IsTermIn, InContext}
 use Rattle.relation_reference.specs.declared.context.inner.TypeVariable.{TypeVariable}
-use Rattle.relation_reference.specs.declared.context.inner.TypeVariableValue.TheVariants.{Known}
 use Rattle.relation_reference.specs.declared.context.inner.InferCtxtInner.{InferCtxtInner}
-use Rattle.type_relations.specs.Constraints.{constraint_of}
-use Rattle.relation_reference.specs.Tables.{store_of, IsLawful, entry_of_value}
+use Rattle.relation_reference.specs.Tables.{store_of, IsLawful}
 use Rattle.relations.specs.Types.{length_tree}
-use Rattle.relation_reference.proofs.Grows.{term_grows, both, known_of_term, known_bound, entry_at}
+use Rattle.relation_reference.proofs.Grows.{term_grows, both}
 use Rattle.relation_reference.proofs.Reading.{key_of, root_in, root_known}
 
 module _ (st : Store) where
@@ -92,13 +89,6 @@ module _ {Key Id Name : Type 0} (m : Meaning Key Id Name) (x : InferCtxtInner Ke
     pub key_in : (i : ℕ) (v : TypeVariable Key) (k : TyKey Key) → i < length x.types.items → v ≡ get_or x.types.items i v → k ≡ v.key → IsTermIn (store_of m x) (m.ty k)
     key_in i v k h e q = root_in m x l (m.ty k) i (is_variable i v k h e q) h
 
-    -- What a variable is bound to is known.
-    pub bound_known : (i : ℕ) (v : TypeVariable Key) (t u : TyKey Key) → i < length x.types.items → v ≡ get_or x.types.items i v → v.value ≡ Known t → u ≡ t → IsTrue (known (m.ty u))
-    bound_known i v t u h e q r =
-        knows_as (m.ty t) (m.ty u) (ap m.ty r)
-        (known_of_term (store_of m x) (m.ty t)
-        (known_bound m x l i (m.ty t) (entry_at m x i v h ∙ (ap (λ w. entry_of_value m w.value) (sym e) ∙ ap (entry_of_value m) q))))
-
 module _ {Key Id Name : Type 0} {m n : Meaning Key Id Name} (e : Extends m n) (x y : InferCtxtInner Key) (same : y ≡ x) (l : IsLawful m x) where
   grows_in : (t : Tree) → IsTermIn (store_of m x) t → IsTermIn (store_of n y) t
   grows_in t h = subst (λ z. IsTermIn (store_of n z) t) (sym same) (term_grows e x l t h)
@@ -121,17 +111,6 @@ module _ {Key Id Name : Type 0} {m n : Meaning Key Id Name} (e : Extends m n) (x
   next_in ts us t q h i k =
       subst (λ zs. IsTermIn (store_of n y) (list_tree n.ty zs)) (sym q)
       (snoc_in (store_of n y) n.ty ts t (made_in (list_tree m.ty ts) (list_tree n.ty ts) i (stays_list m.ty n.ty ts e.ty h)) k)
-
--- A recorded constraint is on terms of the context.
-pub constraint_at : {Key Id Name : Type 0} (m : Meaning Key Id Name) (x : InferCtxtInner Key) → IsLawful m x → (i : ℕ) (q : RegionConstraint Key) → i < length x.constraints.items → q ≡ get_or x.constraints.items i q → ConstraintIn (store_of m x) (constraint_of m q)
-constraint_at m x l i q h e =
-    let f = constraint_of m in
-    let at : i < length (map f x.constraints.items) = subst (λ z. i < z) (sym (length-map x.constraints.items f)) h in
-    subst (ConstraintIn (store_of m x)) (get_or-map f x.constraints.items i q (f q) h ∙ ap f (sym e))
-    (l.sound.constraints_in i (f q) at)
-
-pub region_known : (st : Store) (t : Tree) → IsRegionIn st t → IsTrue (known t)
-region_known st t h = known_of_term st t h.1
 
 -- The same of an equal list.
 pub list_as_in : {A : Type 0} (st : Store) (f : A → Tree) (xs ys : List A) → ys ≡ xs → IsTermIn st (list_tree f xs) → IsTermIn st (list_tree f ys)

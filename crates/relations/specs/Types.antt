@@ -5,8 +5,8 @@ use Rattle.relation_terms.specs.Heads.{static_region, early_region, value_leaf, 
 use Rattle.relation_terms.specs.Heads.{value, value_type}
 use Rattle.relation_terms.specs.Trees.{Tree, leaf, node, nil, cons, list_tree}
 use Rattle.relation_terms.specs.declared.terms.enums.UintTy.TheVariants.{Usize}
-use Rattle.relations.specs.declared.written.Parameter.{Parameter}
-use Rattle.relations.specs.declared.written.ItemText.{ItemText}
+use Rattle.relation_text.specs.declared.printing.names.Parameter.{Parameter}
+use Rattle.relation_text.specs.declared.printing.names.ItemText.{ItemText}
 use Rattle.relations.specs.declared.written.WrittenRegion.{WrittenRegion}
 use Rattle.relations.specs.declared.written.Written.{Written, fold-Written}
 use Rattle.relations.specs.declared.written.Written.TheOpen.{Written-F}

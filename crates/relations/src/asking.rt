@@ -12,10 +12,10 @@ ghost use Rattle.relation_reference.specs.Tables.{store_of, IsLawful};
 ghost use Rattle.relations.specs.Types.{written_tree, has_all};
 ghost use Rattle.relations.specs.declared.written.BuildFault.TheVariants.{Missing};
 
-use crate::printing::{TextsOf, write_answer};
-use crate::written::{BuildFault, ItemText, Parameter, Written, build};
+use crate::written::{BuildFault, Written, build};
 use relation_reference::context::RefCtxt;
 use relation_terms::terms::{Interner, OutOfMemory, ParamEnv, Span, Ty, Variance};
+use relation_text::printing::{ItemText, Parameter, TextsOf, write_answer};
 use relation_tools::visit::has_non_region_infer;
 use std::fmt::{self, Write};
 use type_relations::relate::solver_relating::{RelateExt, RelateGoals};

@@ -2,7 +2,6 @@
 #![tactic(auto)]
 
 mod asking;
-mod printing;
 mod rows;
 mod written;
 

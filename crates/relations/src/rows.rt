@@ -4,12 +4,12 @@ ghost use Rattle.relation_reference.specs.Adding.{item_count};
 ghost use Rattle.relations.specs.Named.{IsRow};
 
 use crate::asking::{Question, ask};
-use crate::printing::Texts;
-use crate::written::{ItemText, Parameter, Written, WrittenRegion};
+use crate::written::{Written, WrittenRegion};
 use relation_reference::interner::{
     DefKind, GenericParam, GenericParamKind, ItemId, ItemKind, RefInterner, SymbolId,
 };
 use relation_terms::terms::{Interner, Mutability, OutOfMemory, UintTy, Variance};
+use relation_text::printing::{ItemText, Parameter, Texts};
 use std::alloc::Global;
 use std::fmt::{self, Write};
 use std::io;

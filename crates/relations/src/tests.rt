@@ -1,6 +1,4 @@
 //! What a run prints and answers, and what several calls on one context leave.
-mod printing;
-
 use crate::asking::{Question, ask, build_pair, relate};
 use crate::rows::{ITEMS, PARAMETERS, TEXTS, make_interner, run};
 use crate::written::{Written, WrittenRegion};

@@ -14,6 +14,7 @@ use relation_terms::terms::{
     OutOfMemory, Region, RegionForm, RegionKind, RegionVid, Ty, TyForm, TyKind, Tys, UintTy,
     ValTreeKind,
 };
+use relation_text::printing::{ItemText, Parameter};
 use std::alloc::AllocFailed;
 
 /// A region as rows write it.
@@ -42,20 +43,6 @@ pub enum Written {
     Adt(usize, &'static [Written]),
     /// A type variable of the context.
     Variable(usize),
-}
-
-/// A named region parameter: its name in an interner, and its text.
-#[derive(Clone, Copy)]
-pub struct Parameter<N> {
-    pub name: N,
-    pub text: &'static str,
-}
-
-/// An item's id in an interner, and its text.
-#[derive(Clone, Copy)]
-pub struct ItemText<D> {
-    pub id: D,
-    pub text: &'static str,
 }
 
 /// Why a type was not built.

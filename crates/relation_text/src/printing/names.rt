@@ -1,8 +1,22 @@
 //! The texts of names, of items and of the small enums.
-use crate::written::{ItemText, Parameter};
 use relation_terms::terms::{FloatTy, IntTy, Keys, Mutability, UintTy};
 
-/// The texts of names and of items, as the caller hands them in.
+/// A name in an interner, and its text.
+#[derive(Clone, Copy)]
+pub struct Parameter<N> {
+    pub name: N,
+    pub text: &'static str,
+}
+
+/// An item's id in an interner, and its text.
+#[derive(Clone, Copy)]
+pub struct ItemText<D> {
+    pub id: D,
+    pub text: &'static str,
+}
+
+/// The texts of names and of items, as the caller hands them in. Of several texts of one name or one item the first is
+/// taken.
 #[derive(Drop)]
 pub struct Texts<'a, D, N> {
     pub names: &'a [Parameter<N>],

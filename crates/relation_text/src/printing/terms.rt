@@ -4,9 +4,8 @@ ghost use Rattle.relation_terms.specs.Trees.{known};
 ghost use Rattle.relation_terms.specs.Meaning.{arg_tree};
 
 use crate::printing::names::{
-    TextsOf, float_name, int_name, item_text, name_text, pointer_name, uint_name,
+    Parameter, TextsOf, float_name, int_name, item_text, name_text, pointer_name, uint_name,
 };
-use crate::written::Parameter;
 use relation_terms::terms::{
     Const, ConstKind, GenericArg, GenericArgKind, GenericArgs, InferTy, Interner, Mutability,
     Region, RegionKind, Ty, TyKind, Tys, UniverseIndex, ValTree, ValTreeKind,
@@ -14,6 +13,9 @@ use relation_terms::terms::{
 use std::fmt::{self, Write};
 
 /// Writes a region. A parameter that has no text is `'_`.
+///
+/// # Errors
+/// `fmt::Error` where `out` refused to take some of the text. What it took before stands.
 pub fn write_region<I: Interner, W: Write>(
     cx: &I,
     texts: &TextsOf<I>,
@@ -56,7 +58,10 @@ fn write_variable<W: Write>(variable: InferTy, out: &mut W) -> fmt::Result {
     }
 }
 
-/// Writes a type. A parameter or an item that has no text is `_`.
+/// Writes a type. A parameter or an item that has no text is `_`, a region parameter `'_`.
+///
+/// # Errors
+/// `fmt::Error` where `out` refused to take some of the text. What it took before stands.
 #[cycle(write_ty)]
 #[tactic(auto, using(crate::proofs::Parts::size_part, crate::proofs::Parts::known_part))]
 pub fn write_ty<I: Interner, W: Write>(
@@ -207,7 +212,10 @@ fn write_args<I: Interner, W: Write>(
     Ok(())
 }
 
-/// Writes a generic argument.
+/// Writes a generic argument: a region, a type or a constant, as each is written alone.
+///
+/// # Errors
+/// `fmt::Error` where `out` refused to take some of the text. What it took before stands.
 #[cycle(write_ty)]
 #[tactic(auto, using(crate::proofs::Parts::size_part, crate::proofs::Parts::known_part))]
 pub fn write_arg<I: Interner, W: Write>(
@@ -225,7 +233,10 @@ pub fn write_arg<I: Interner, W: Write>(
     }
 }
 
-/// Writes a constant: of a value the value alone, without its type.
+/// Writes a constant: of a value the value alone, without its type. A parameter that has no text is `_`.
+///
+/// # Errors
+/// `fmt::Error` where `out` refused to take some of the text. What it took before stands.
 #[cycle(write_ty)]
 #[tactic(auto, using(crate::proofs::Parts::size_part, crate::proofs::Parts::known_part))]
 pub fn write_const<I: Interner, W: Write>(

@@ -1,4 +1,4 @@
-//! How terms and answers print.
+//! How terms, errors and answers print, over any interner.
 ghost use Rattle.std.specs.Prelude.{◌≡◌, ◌<◌, IsTrue, IfSome, IfNone, IfErr, length};
 ghost use Rattle.relation_terms.specs.Heads.{type_var};
 ghost use Rattle.relation_terms.specs.Trees.{Tree, known};
@@ -9,8 +9,10 @@ ghost use Rattle.relation_reference.specs.Tables.{store_of, IsLawful};
 
 mod names;
 mod terms;
+#[cfg(test)]
+mod tests;
 
-pub use names::{Texts, TextsOf};
+pub use names::{ItemText, Parameter, Texts, TextsOf};
 use relation_reference::context::{RefCtxt, TypeVariableValue};
 use relation_terms::predicate::RegionConstraint;
 use relation_terms::terms::{Const, Interner, Ty};
@@ -125,6 +127,9 @@ fn write_error_terms<I: Interner, W: Write>(
 }
 
 /// Writes why two terms do not relate: the error's name and, of its parts, those that have a text.
+///
+/// # Errors
+/// `fmt::Error` where `out` refused to take some of the text. What it took before stands.
 pub fn write_error<I: Interner, W: Write>(
     cx: &I,
     texts: &TextsOf<I>,
@@ -152,7 +157,8 @@ fn write_constraint<I: Interner, W: Write>(
     constraint: &RegionConstraint<I::Key>,
     out: &mut W,
 ) -> fmt::Result
-    requires { ConstraintIn (store_of (I.meaning ctx.now.interner) ctx.now.inner) (constraint_of (I.meaning ctx.now.interner) constraint.now) }
+    requires { let m = I.meaning ctx.now.interner in
+        ConstraintIn (store_of m ctx.now.inner) (constraint_of m constraint.now) }
 {
     let cx = &ctx.interner;
     match constraint {
@@ -191,8 +197,10 @@ fn bound_type<I: Interner>(ctx: &RefCtxt<I>, number: usize) -> Option<Ty<I>>
     requires lawful { IsLawful (I.meaning ctx.now.interner) ctx.now.inner }
     requires made { number < length ctx.now.inner.types.items }
     ensures sure { IfSome result (λ t. IsTrue (known ((I.meaning ctx.now.interner).ty t))) }
-    ensures bound { IfSome result (λ t. entry_of (store_of (I.meaning ctx.now.interner) ctx.now.inner) type_var number ≡ bound_to ((I.meaning ctx.now.interner).ty t)) }
-    ensures none { IfNone result ((t : Tree) → entry_of (store_of (I.meaning ctx.now.interner) ctx.now.inner) type_var number ≡ bound_to t → ⊥) }
+    ensures bound { let m = I.meaning ctx.now.interner in
+        IfSome result (λ t. entry_of (store_of m ctx.now.inner) type_var number ≡ bound_to (m.ty t)) }
+    ensures none { let m = I.meaning ctx.now.interner in
+        IfNone result ((t : Tree) → entry_of (store_of m ctx.now.inner) type_var number ≡ bound_to t → ⊥) }
 {
     match &ctx.inner.types[number].value {
         TypeVariableValue::Known(ty) => Some(*ty),
@@ -221,7 +229,11 @@ fn write_bound<I: Interner, W: Write>(
     if any { out.write_str("]") } else { Ok(()) }
 }
 
-/// Writes what a relation answered, and then what its context has recorded.
+/// Writes what a relation answered, and then what its context has recorded: the constraints on regions, in the order
+/// in which they were recorded, and the roots that are bound to a type.
+///
+/// # Errors
+/// `fmt::Error` where `out` refused to take some of the text. What it took before stands.
 pub fn write_answer<I: Interner, W: Write>(
     ctx: &RefCtxt<I>,
     texts: &TextsOf<I>,

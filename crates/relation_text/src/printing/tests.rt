@@ -4,8 +4,7 @@ ghost use Rattle.relation_terms.specs.Trees.{known};
 ghost use Rattle.relation_terms.specs.Meaning.{Extends, kind_tree, const_tree};
 ghost use Rattle.relation_tools.specs.Faults.{KnowsError};
 
-use crate::printing::{Texts, TextsOf, write_const, write_error, write_ty};
-use crate::written::{ItemText, Parameter};
+use crate::printing::{ItemText, Parameter, Texts, TextsOf, write_const, write_error, write_ty};
 use relation_reference::interner::{ItemId, NodeKey, RefInterner, SymbolId};
 use relation_terms::terms::{
     AdtId, BoundConst, BoundTy, BoundVar, ClosureId, Const, ConstForm, ConstKind,

@@ -1,6 +1,6 @@
 use Rattle.std.proofs.Common.{ℕ, ◌<◌, ◌≡◌, List, length, get_or, ap, ◌∙◌, subst}
-use Rattle.relations.proofs.Joining.{constraint_at}
-use Rattle.relations.proofs.printing.write_constraints.Goals as goal
+use Rattle.relation_text.proofs.Recorded.{constraint_at}
+use Rattle.relation_text.proofs.printing.write_constraints.Goals as goal
 
 -- A place of a list is one of an equal list.
 inside : {A : Type 0} (xs ys : List A) (i : ℕ) → xs ≡ ys → i < length xs → i < length ys

@@ -1,6 +1,6 @@
 use Rattle.std.proofs.Common.{refl}
-use Rattle.relations.proofs.Joining.{bound_known}
-use Rattle.relations.proofs.printing.bound_type.Goals as goal
+use Rattle.relation_text.proofs.Recorded.{bound_known}
+use Rattle.relation_text.proofs.printing.bound_type.Goals as goal
 
 pub returns-in-Known-clause-sure : goal.returns-in-Known-clause-sure
 returns-in-Known-clause-sure g c =

@@ -1,7 +1,7 @@
 use Rattle.std.proofs.Common.{rules}
 use Rattle.relation_terms.specs.Meaning.{arg_tree}
-use Rattle.relations.proofs.Parts.{part_of}
-use Rattle.relations.proofs.printing.terms.+write_ty.Goals as goal
+use Rattle.relation_text.proofs.Parts.{part_of}
+use Rattle.relation_text.proofs.printing.terms.+write_ty.Goals as goal
 
 pub write_args-write_arg-requires : goal.write_args-write_arg-requires
 write_args-write_arg-requires g t c κs within =

@@ -1,7 +1,7 @@
 use Rattle.std.proofs.Common.{◌+◌, ◌*◌}
 use Rattle.relation_terms.specs.Trees.{size}
 use Rattle.relation_terms.specs.Meaning.{arg_tree}
-use Rattle.relations.proofs.printing.terms.+write_ty.Given as goal
+use Rattle.relation_text.proofs.printing.terms.+write_ty.Given as goal
 
 abbrev pub decreases-write_ty : goal.decreases-write_ty
 decreases-write_ty g l = 2 * size ((g.I.Interner.meaning l.cx.now).ty l.ty.now)
