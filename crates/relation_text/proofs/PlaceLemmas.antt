@@ -1,5 +1,5 @@
 -- Lines and columns, byte by byte.
-use Rattle.std.proofs.Common.{zero, ◌≡◌, ℕ, ◌+◌, ◌<◌, List, [], ◌∷◌, length, get_or, drop, suc, refl, sym, ◌∙◌, ap, subst, arith}
+use Rattle.std.proofs.Common.{zero, ◌≡◌, ℕ, ◌<◌, List, [], ◌∷◌, length, get_or, drop, suc, ap, arith}
 use Rattle.relation_text.specs.Places.{line_from, line_behind, column_from, column_behind}
 
 -- one more byte of the line

@@ -1,10 +1,9 @@
 -- Nodes that are added to a tree.
-use Rattle.std.proofs.Common.{zero, ◌≡◌, ℕ, ◌+◌, ◌-◌, ◌<◌, ◌≤◌, List, [], ◌∷◌, ◌++◌, Some, unwrap_or, ◌⊎◌, inl, inr, length, get_or, take, suc, refl, sym, ◌∙◌, ap, subst, arith, length-append}
+use Rattle.std.proofs.Common.{zero, ◌≡◌, ℕ, ◌-◌, ◌<◌, ◌≤◌, List, [], ◌∷◌, ◌++◌, Some, unwrap_or, ◌⊎◌, inl, inr, length, suc, refl, sym, ◌∙◌, ap, subst, arith, length-append}
 use Rattle.std.specs.Prelude.{Bool, true, false, if◌then◌else◌}
-use Rattle.std.specs.List.{slice_get, flat_map}
+use Rattle.std.specs.List.{slice_get}
 use Rattle.std.proofs.lemmas.List.{append-nil, get_or_append_left, get_or-append_right}
 use Rattle.std.proofs.lemmas.Grind.{flat_map-append}
-use Rattle.relation_text.specs.declared.reading.words.Word.{Word}
 use Rattle.relation_text.specs.declared.reading.tree.Node.{Node}
 use Rattle.relation_text.specs.Trees.{HasPartsBelow, IsFounded, EachStands, EachBelow, kind_words, node_words}
 

@@ -1,4 +1,4 @@
-use Rattle.std.proofs.Common.{◌+◌, ◌-◌, ◌*◌, ◌≤◌, length}
+use Rattle.std.proofs.Common.{◌+◌, ◌-◌, ◌*◌, length}
 use Rattle.relation_text.specs.Trees.{EachBelow}
 use Rattle.relation_text.specs.Reads.{GoesOn, Gathers}
 use Rattle.relation_text.proofs.reading.terms.+terms.Given as goal
