@@ -11,6 +11,7 @@ use Rattle.type_relations.specs.Relation.{Items, part_at}
 use Rattle.type_relations.specs.Taken.{IsFixedLeaf, IsTakenLeaf}
 use Rattle.type_relations.specs.Lawful.{State, Manner, TakesParts}
 use Rattle.relation_reference.specs.declared.context.inner.InferCtxtInner.{InferCtxtInner}
+use Rattle.relation_reference.specs.declared.context.variables.RefCtxt.{RefCtxt}
 use Rattle.relation_reference.specs.Tables.{store_of, IsLawful}
 
 -- Through a reference to a context terms are related at a variance, in an environment. No goal is registered yet.
@@ -26,6 +27,11 @@ solving j m x v e = record {
   reference = j;
   lawful = IsLawful m x × IsTrue (known (m.param_env e));
 }
+
+-- The same in a context by itself, through no reference.
+abbrev pub solving_in : {I Key Id Name Span : Type 0} → (I → Meaning Key Id Name) →
+    RefCtxt I Key Id Name Span → Variance → ParamEnvKey Key → State Key Id Name
+solving_in meaning c v e = solving 0 (meaning c.interner) c.inner v e
 
 -- It takes terms with variables at invariance alone, what it answers has the left side's value, it is exact, and it
 -- records just what is asked of regions.
