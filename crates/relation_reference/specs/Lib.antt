@@ -6,6 +6,7 @@ pub mod Places
 pub mod Laws
 pub mod Adding
 pub mod Tables
+pub mod RefCtxt
 pub mod Solving
 pub mod Answers
 pub mod Putting

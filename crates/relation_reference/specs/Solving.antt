@@ -12,6 +12,7 @@ use Rattle.type_relations.specs.Taken.{IsFixedLeaf, IsTakenLeaf}
 use Rattle.type_relations.specs.declared.relate.StructurallyRelateAliases.TheVariants.{No}
 use Rattle.type_relations.specs.Lawful.{State, Settings, Manners, TakesParts}
 use Rattle.relation_reference.specs.declared.context.inner.InferCtxtInner.{InferCtxtInner}
+use Rattle.relation_reference.specs.declared.context.variables.RefCtxt.{RefCtxt}
 use Rattle.relation_reference.specs.Tables.{store_of, IsLawful}
 
 -- Aliases are left to goals, which the next solver answers.
@@ -32,6 +33,11 @@ solving j m x v e = record {
   reference = j;
   lawful = IsLawful m x × IsTrue (known (m.param_env e));
 }
+
+-- The same in a context by itself, through no reference.
+abbrev pub solving_in : {I Key Id Name Span : Type 0} → (I → Meaning Key Id Name) →
+    RefCtxt I Key Id Name Span → Variance → ParamEnvKey Key → State Key Id Name
+solving_in meaning c v e = solving 0 (meaning c.interner) c.inner v e
 
 -- It takes terms with variables at invariance alone, it is exact, and it records just what is asked of regions.
 abbrev pub solver_manner : Manners

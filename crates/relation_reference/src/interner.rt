@@ -1,7 +1,8 @@
 //! An interner whose keys are the numbers of nodes, and whose ids are the numbers of items.
 ghost use Rattle.std.specs.Prelude.{◌≡◌, ℕ, IsTrue, IfOk, IsOk, OnErr, ◌++◌, ◌∷◌, [], ◌⊎◌, length};
 ghost use Rattle.relation_reference.specs.Empty.{KnowsNone};
-ghost use Rattle.relation_reference.specs.Nodes.{AllKnown, AllDistinct, entries, entry_of, known_entry, table_meaning, StandsAt};
+ghost use Rattle.relation_reference.specs.Nodes.{AllKnown, AllDistinct, entry_of, known_entry, table_meaning};
+ghost use Rattle.relation_reference.specs.Nodes.{StandsAt};
 
 mod items;
 mod keys;
@@ -52,10 +53,12 @@ impl RefInterner {
         requires { IsTrue (known_entry (entry_of (table_meaning self.old.items.items self.old.nodes.items) node)) }
         ensures number { let m = table_meaning self.old.items.items self.old.nodes.items in
             IfOk result (λ k. StandsAt self.new.nodes.items k.0 (entry_of m node)) }
-        ensures added { (self.new.nodes.items ≡ self.old.nodes.items) ⊎ (self.new.nodes.items ≡ self.old.nodes.items ++ node ∷ []) }
+        ensures added { (self.new.nodes.items ≡ self.old.nodes.items) ⊎
+            (self.new.nodes.items ≡ self.old.nodes.items ++ node ∷ []) }
         ensures refused { OnErr result (self.new.nodes.items ≡ self.old.nodes.items) }
         ensures there { let m = table_meaning self.old.items.items self.old.nodes.items in
-            (k : ℕ) → StandsAt self.old.nodes.items k (entry_of m node) → IsOk result × (self.new.nodes.items ≡ self.old.nodes.items) }
+            (k : ℕ) → StandsAt self.old.nodes.items k (entry_of m node) →
+            IsOk result × (self.new.nodes.items ≡ self.old.nodes.items) }
         ensures items { self.new.items ≡ self.old.items }
     {
         if let Some(number) = place(&self.nodes, &node) {
@@ -78,16 +81,11 @@ impl Keys for RefInterner {
 }
 
 impl Interner for RefInterner {
-    ghost use Rattle.relation_terms.specs.Heads.{environment};
-    ghost use Rattle.relation_terms.specs.Trees.{known, nil, node};
+    ghost use Rattle.relation_terms.specs.Trees.{known};
     ghost use Rattle.relation_terms.specs.Meaning.{Extends, kind_tree, region_tree, const_tree, valtree_tree};
-    ghost use Rattle.relation_terms.specs.declared.terms.keys.TyKey.{TyKey};
-    ghost use Rattle.relation_terms.specs.declared.terms.keys.RegionKey.{RegionKey};
-    ghost use Rattle.relation_terms.specs.declared.terms.keys.ConstKey.{ConstKey};
-    ghost use Rattle.relation_terms.specs.declared.terms.keys.ValTreeKey.{ValTreeKey};
-    ghost use Rattle.relation_terms.specs.declared.terms.keys.ParamEnvKey.{ParamEnvKey};
-    ghost use Rattle.relation_reference.specs.declared.interner.keys.NodeKey.{NodeKey};
-    ghost use Rattle.relation_reference.specs.Nodes.{ty_node, region_node, const_node, valtree_node, args_node, tys_node, branches_node, environment_node};
+    ghost use Rattle.relation_terms.specs.Interning.{RemakesTy, RemakesRegion, RemakesConst, RemakesValTree};
+    ghost use Rattle.relation_reference.specs.Nodes.{ty_node, region_node, const_node, valtree_node, args_node};
+    ghost use Rattle.relation_reference.specs.Nodes.{tys_node, branches_node, environment_node};
     ghost use Rattle.relation_reference.specs.Adding.{meaning_in};
     ghost use Rattle.relation_reference.specs.Laws.{sort_law, same_law, same_name_law, same_id_law};
 
@@ -162,27 +160,23 @@ impl Interner for RefInterner {
     }
 
     fn mk_ty(&mut self, kind: TyForm<Self>) -> Result<Ty<Self>, OutOfMemory>
-        requires { let m = ⟦<RefInterner as Interner>⟧.meaning self.old in IsTrue (known (kind_tree m kind)) }
-        ensures grown { Extends (⟦<RefInterner as Interner>⟧.meaning self.old) (⟦<RefInterner as Interner>⟧.meaning self.new) }
-        ensures sure { IfOk result (λ k. IsTrue (known ((⟦<RefInterner as Interner>⟧.meaning self.new).ty k))) }
-        ensures made { let m = ⟦<RefInterner as Interner>⟧.meaning self.old in
-            IfOk result (λ k. (⟦<RefInterner as Interner>⟧.meaning self.new).ty k ≡ kind_tree m kind) }
-        ensures refused { OnErr result (⟦<RefInterner as Interner>⟧.meaning self.new ≡ ⟦<RefInterner as Interner>⟧.meaning self.old) }
-        ensures there { let m = ⟦<RefInterner as Interner>⟧.meaning self.old in
-            (k : TyKey NodeKey) → m.ty k ≡ kind_tree m kind → IsOk result × (⟦<RefInterner as Interner>⟧.meaning self.new ≡ m) }
+        requires { IsTrue (known (kind_tree (meaning_in self.old) kind)) }
+        ensures grown { Extends (meaning_in self.old) (meaning_in self.new) }
+        ensures sure { IfOk result (λ k. IsTrue (known ((meaning_in self.new).ty k))) }
+        ensures made { IfOk result (λ k. (meaning_in self.new).ty k ≡ kind_tree (meaning_in self.old) kind) }
+        ensures refused { OnErr result (meaning_in self.new ≡ meaning_in self.old) }
+        ensures there { RemakesTy (meaning_in self.old) (meaning_in self.new) kind result }
     {
         let number = self.add(Node::Ty(kind))?;
         Ok(TyKey(number))
     }
 
     fn mk_region(&mut self, kind: RegionForm<Self>) -> Result<Region<Self>, OutOfMemory>
-        ensures grown { Extends (⟦<RefInterner as Interner>⟧.meaning self.old) (⟦<RefInterner as Interner>⟧.meaning self.new) }
-        ensures sure { IfOk result (λ k. IsTrue (known ((⟦<RefInterner as Interner>⟧.meaning self.new).region k))) }
-        ensures made { let m = ⟦<RefInterner as Interner>⟧.meaning self.old in
-            IfOk result (λ k. (⟦<RefInterner as Interner>⟧.meaning self.new).region k ≡ region_tree m kind) }
-        ensures refused { OnErr result (⟦<RefInterner as Interner>⟧.meaning self.new ≡ ⟦<RefInterner as Interner>⟧.meaning self.old) }
-        ensures there { let m = ⟦<RefInterner as Interner>⟧.meaning self.old in
-            (k : RegionKey NodeKey) → m.region k ≡ region_tree m kind → IsOk result × (⟦<RefInterner as Interner>⟧.meaning self.new ≡ m) }
+        ensures grown { Extends (meaning_in self.old) (meaning_in self.new) }
+        ensures sure { IfOk result (λ k. IsTrue (known ((meaning_in self.new).region k))) }
+        ensures made { IfOk result (λ k. (meaning_in self.new).region k ≡ region_tree (meaning_in self.old) kind) }
+        ensures refused { OnErr result (meaning_in self.new ≡ meaning_in self.old) }
+        ensures there { RemakesRegion (meaning_in self.old) (meaning_in self.new) kind result }
     {
         let number = self.add(Node::Region(kind))?;
         Ok(RegionKey(number))
@@ -195,28 +189,24 @@ impl Interner for RefInterner {
     }
 
     fn mk_const(&mut self, kind: ConstForm<Self>) -> Result<Const<Self>, OutOfMemory>
-        requires { let m = ⟦<RefInterner as Interner>⟧.meaning self.old in IsTrue (known (const_tree m kind)) }
-        ensures grown { Extends (⟦<RefInterner as Interner>⟧.meaning self.old) (⟦<RefInterner as Interner>⟧.meaning self.new) }
-        ensures sure { IfOk result (λ k. IsTrue (known ((⟦<RefInterner as Interner>⟧.meaning self.new).const_ k))) }
-        ensures made { let m = ⟦<RefInterner as Interner>⟧.meaning self.old in
-            IfOk result (λ k. (⟦<RefInterner as Interner>⟧.meaning self.new).const_ k ≡ const_tree m kind) }
-        ensures refused { OnErr result (⟦<RefInterner as Interner>⟧.meaning self.new ≡ ⟦<RefInterner as Interner>⟧.meaning self.old) }
-        ensures there { let m = ⟦<RefInterner as Interner>⟧.meaning self.old in
-            (k : ConstKey NodeKey) → m.const_ k ≡ const_tree m kind → IsOk result × (⟦<RefInterner as Interner>⟧.meaning self.new ≡ m) }
+        requires { IsTrue (known (const_tree (meaning_in self.old) kind)) }
+        ensures grown { Extends (meaning_in self.old) (meaning_in self.new) }
+        ensures sure { IfOk result (λ k. IsTrue (known ((meaning_in self.new).const_ k))) }
+        ensures made { IfOk result (λ k. (meaning_in self.new).const_ k ≡ const_tree (meaning_in self.old) kind) }
+        ensures refused { OnErr result (meaning_in self.new ≡ meaning_in self.old) }
+        ensures there { RemakesConst (meaning_in self.old) (meaning_in self.new) kind result }
     {
         let number = self.add(Node::Const(kind))?;
         Ok(ConstKey(number))
     }
 
     fn mk_valtree(&mut self, kind: ValTreeForm<Self>) -> Result<ValTree<Self>, OutOfMemory>
-        requires { let m = ⟦<RefInterner as Interner>⟧.meaning self.old in IsTrue (known (valtree_tree m kind)) }
-        ensures grown { Extends (⟦<RefInterner as Interner>⟧.meaning self.old) (⟦<RefInterner as Interner>⟧.meaning self.new) }
-        ensures sure { IfOk result (λ k. IsTrue (known ((⟦<RefInterner as Interner>⟧.meaning self.new).valtree k))) }
-        ensures made { let m = ⟦<RefInterner as Interner>⟧.meaning self.old in
-            IfOk result (λ k. (⟦<RefInterner as Interner>⟧.meaning self.new).valtree k ≡ valtree_tree m kind) }
-        ensures refused { OnErr result (⟦<RefInterner as Interner>⟧.meaning self.new ≡ ⟦<RefInterner as Interner>⟧.meaning self.old) }
-        ensures there { let m = ⟦<RefInterner as Interner>⟧.meaning self.old in
-            (k : ValTreeKey NodeKey) → m.valtree k ≡ valtree_tree m kind → IsOk result × (⟦<RefInterner as Interner>⟧.meaning self.new ≡ m) }
+        requires { IsTrue (known (valtree_tree (meaning_in self.old) kind)) }
+        ensures grown { Extends (meaning_in self.old) (meaning_in self.new) }
+        ensures sure { IfOk result (λ k. IsTrue (known ((meaning_in self.new).valtree k))) }
+        ensures made { IfOk result (λ k. (meaning_in self.new).valtree k ≡ valtree_tree (meaning_in self.old) kind) }
+        ensures refused { OnErr result (meaning_in self.new ≡ meaning_in self.old) }
+        ensures there { RemakesValTree (meaning_in self.old) (meaning_in self.new) kind result }
     {
         let number = self.add(Node::ValTree(kind))?;
         Ok(ValTreeKey(number))
@@ -253,7 +243,8 @@ impl Interner for RefInterner {
 
     ghost same_branches = { λ a k l. same_law a.items.items a.nodes.items a.distinct branches_node (k.0).0 (l.0).0 };
 
-    ghost same_param_env = { λ a k l. same_law a.items.items a.nodes.items a.distinct environment_node (k.0).0 (l.0).0 };
+    ghost same_param_env = { λ a k l.
+        same_law a.items.items a.nodes.items a.distinct environment_node (k.0).0 (l.0).0 };
 
     ghost same_name = { λ a. same_name_law a.items.items a.nodes.items };
 

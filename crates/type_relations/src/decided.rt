@@ -4,7 +4,8 @@ ghost use Rattle.relation_terms.specs.Heads.{leaf_sort, head_sort};
 ghost use Rattle.relation_terms.specs.Trees.{Tree, leaf};
 ghost use Rattle.relation_terms.specs.Variances.{xform};
 ghost use Rattle.type_relations.specs.Relation.{Items, Interpretation, RegionRule, Rel, at, parts, part_at, IsError};
-ghost use Rattle.type_relations.specs.Decided.{leaf_of, head_of, small_tree, small_parts, all_declare, pair_of, outlives_by, sort_meant, plain_leaf, Leads};
+ghost use Rattle.type_relations.specs.Decided.{leaf_of, head_of, small_tree, small_parts, all_declare, pair_of};
+ghost use Rattle.type_relations.specs.Decided.{outlives_by, sort_meant, plain_leaf, Leads};
 
 use relation_terms::terms::{FloatTy, IntTy, Mutability, UintTy, Variance};
 
@@ -182,7 +183,8 @@ fn regions_related(
     a: SmallLeaf,
     b: SmallLeaf,
 ) -> bool
-    ensures { (w : Interpretation) → w.outlives ≡ outlives_by all pairs.now → (result ≡ true ↔ RegionRule w v (leaf (leaf_of a)) (leaf (leaf_of b))) }
+    ensures { (w : Interpretation) → w.outlives ≡ outlives_by all pairs.now →
+        (result ≡ true ↔ RegionRule w v (leaf (leaf_of a)) (leaf (leaf_of b))) }
 {
     let forth = either(all, leads(pairs, a, b));
     let back = either(all, leads(pairs, b, a));
@@ -203,7 +205,8 @@ fn leaves_related(
     b: SmallLeaf,
 ) -> bool
     requires { v ≢ Variance.Bivariant }
-    ensures { (c : Items) (w : Interpretation) (e : Tree) → w.outlives ≡ outlives_by all pairs.now → (result ≡ true ↔ Rel c w e (at v) (leaf (leaf_of a)) (leaf (leaf_of b))) }
+    ensures { (c : Items) (w : Interpretation) (e : Tree) → w.outlives ≡ outlives_by all pairs.now →
+        (result ≡ true ↔ Rel c w e (at v) (leaf (leaf_of a)) (leaf (leaf_of b))) }
 {
     let alike = same_leaf(plain(a), plain(b));
     let one_sort = same_sort(sort_of_leaf(a), sort_of_leaf(b));
@@ -294,7 +297,8 @@ pub fn related(
     a: &SmallTerm,
     b: &SmallTerm,
 ) -> bool
-    ensures { (w : Interpretation) (e : Tree) → w.outlives ≡ outlives_by all pairs.now → (result ≡ true ↔ Rel (all_declare declared.now) w e (at v) (small_tree a.now) (small_tree b.now)) }
+    ensures { (w : Interpretation) (e : Tree) → w.outlives ≡ outlives_by all pairs.now →
+        (result ≡ true ↔ Rel (all_declare declared.now) w e (at v) (small_tree a.now) (small_tree b.now)) }
 {
     if let Variance::Bivariant = v {
         return true;
@@ -322,7 +326,10 @@ fn parts_related(
     xs: &SmallParts,
     ys: &SmallParts,
 ) -> bool
-    ensures { (w : Interpretation) (e : Tree) (j : ℕ) → w.outlives ≡ outlives_by all pairs.now → i ≡ min j (max (length declared.now) 1) → (result ≡ true ↔ Rel (all_declare declared.now) w e (parts (head_of head) j v) (small_parts xs.now) (small_parts ys.now)) }
+    ensures { (w : Interpretation) (e : Tree) (j : ℕ) → w.outlives ≡ outlives_by all pairs.now →
+        i ≡ min j (max (length declared.now) 1) →
+        (result ≡ true ↔ Rel (all_declare declared.now) w e (parts (head_of head) j v)
+        (small_parts xs.now) (small_parts ys.now)) }
 {
     match (xs, ys) {
         (SmallParts::End, SmallParts::End) => true,

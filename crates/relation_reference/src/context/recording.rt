@@ -1,14 +1,17 @@
 //! Recording in a context: new variables, variables that are one, constraints on regions.
-ghost use Rattle.std.specs.Prelude.{◌≡◌, ◌≢◌, IfSome, ℕ, ◌<◌, IsTrue, IfOk, OnErr, OnOk, length, min, max, map, slice_set};
+ghost use Rattle.std.specs.Prelude.{◌≡◌, ◌≢◌, IfSome, ℕ, ◌<◌, IsTrue, IfOk, OnErr, OnOk, length, min, max, map};
+ghost use Rattle.std.specs.Prelude.{slice_set};
 ghost use Rattle.relation_terms.specs.Heads.{type_var, region_var, variable};
 ghost use Rattle.relation_terms.specs.Trees.{leaf, known};
 ghost use Rattle.relation_terms.specs.Meaning.{Extends};
-ghost use Rattle.type_relations.specs.Stores.{unbound, entry_of, universe_of, IsRegionIn, equal_constraint, outlives_constraint};
+ghost use Rattle.type_relations.specs.Stores.{unbound, entry_of, universe_of, IsRegionIn, equal_constraint};
+ghost use Rattle.type_relations.specs.Stores.{outlives_constraint};
 ghost use Rattle.type_relations.specs.Steps.{Equates, MakesVariable, AddsConstraint, IsLater};
 ghost use Rattle.type_relations.specs.Measures.{Goes};
 ghost use Rattle.type_relations.specs.Constraints.{constraint_at, constraint_of};
 ghost use Rattle.relation_terms.specs.declared.terms.enums.Variance.TheVariants.{Bivariant};
 ghost use Rattle.relation_reference.specs.Tables.{store_of, IsLawful};
+ghost use Rattle.relation_reference.specs.RefCtxt.{store_in};
 
 use crate::context::{RefCtxt, TypeVariable, TypeVariableValue};
 use relation_terms::predicate::{OutlivesPredicate, RegionConstraint, RegionEqPredicate};
@@ -31,18 +34,14 @@ impl<I: Interner> RefCtxt<I> {
         requires { IsLawful (I.meaning self.old.interner) self.old.inner }
         ensures lawful { IsLawful (I.meaning self.new.interner) self.new.inner }
         ensures grown { Extends (I.meaning self.old.interner) (I.meaning self.new.interner) }
-        ensures later { let before = store_of (I.meaning self.old.interner) self.old.inner in
-            let after = store_of (I.meaning self.new.interner) self.new.inner in
-            IsLater before after }
+        ensures later { IsLater (store_in I.meaning self.old) (store_in I.meaning self.new) }
         ensures sure { IfOk result (λ t. IsTrue (known ((I.meaning self.new.interner).ty t))) }
         ensures means { let number = length self.old.inner.types.items in
             IfOk result (λ t. (I.meaning self.new.interner).ty t ≡ leaf (variable type_var number)) }
-        ensures makes { let before = store_of (I.meaning self.old.interner) self.old.inner in
-            let after = store_of (I.meaning self.new.interner) self.new.inner in
-            OnOk result (MakesVariable before after type_var (length self.old.inner.types.items) self.old.inner.universe.0) }
-        ensures refused { let before = store_of (I.meaning self.old.interner) self.old.inner in
-            let after = store_of (I.meaning self.new.interner) self.new.inner in
-            OnErr result (after ≡ before) }
+        ensures makes { let number = length self.old.inner.types.items in
+            OnOk result (MakesVariable (store_in I.meaning self.old) (store_in I.meaning self.new)
+            type_var number self.old.inner.universe.0) }
+        ensures refused { OnErr result (store_in I.meaning self.new ≡ store_in I.meaning self.old) }
     {
         let number = self.inner.types.len();
         let universe = self.inner.universe;
@@ -64,18 +63,14 @@ impl<I: Interner> RefCtxt<I> {
         requires { IsLawful (I.meaning self.old.interner) self.old.inner }
         ensures lawful { IsLawful (I.meaning self.new.interner) self.new.inner }
         ensures grown { Extends (I.meaning self.old.interner) (I.meaning self.new.interner) }
-        ensures later { let before = store_of (I.meaning self.old.interner) self.old.inner in
-            let after = store_of (I.meaning self.new.interner) self.new.inner in
-            IsLater before after }
+        ensures later { IsLater (store_in I.meaning self.old) (store_in I.meaning self.new) }
         ensures sure { IfOk result (λ r. IsTrue (known ((I.meaning self.new.interner).region r))) }
         ensures means { let number = length self.old.inner.regions.items in
             IfOk result (λ r. (I.meaning self.new.interner).region r ≡ leaf (variable region_var number)) }
-        ensures makes { let before = store_of (I.meaning self.old.interner) self.old.inner in
-            let after = store_of (I.meaning self.new.interner) self.new.inner in
-            OnOk result (MakesVariable before after region_var (length self.old.inner.regions.items) self.old.inner.universe.0) }
-        ensures refused { let before = store_of (I.meaning self.old.interner) self.old.inner in
-            let after = store_of (I.meaning self.new.interner) self.new.inner in
-            OnErr result (after ≡ before) }
+        ensures makes { let number = length self.old.inner.regions.items in
+            OnOk result (MakesVariable (store_in I.meaning self.old) (store_in I.meaning self.new)
+            region_var number self.old.inner.universe.0) }
+        ensures refused { OnErr result (store_in I.meaning self.new ≡ store_in I.meaning self.old) }
     {
         let number = self.inner.regions.len();
         let universe = self.inner.universe;
@@ -89,13 +84,17 @@ impl<I: Interner> RefCtxt<I> {
     // Records that two regions outlive each other, also where both are one.
     pub(crate) fn equate_regions(&mut self, a: &Region<I>, b: &Region<I>) -> Result<(), OutOfMemory>
         requires lawful { IsLawful (I.meaning self.old.interner) self.old.inner }
-        requires a_in { IsRegionIn (store_of (I.meaning self.old.interner) self.old.inner) ((I.meaning self.old.interner).region a.now) }
-        requires b_in { IsRegionIn (store_of (I.meaning self.old.interner) self.old.inner) ((I.meaning self.old.interner).region b.now) }
+        requires a_in { IsRegionIn (store_in I.meaning self.old) ((I.meaning self.old.interner).region a.now) }
+        requires b_in { IsRegionIn (store_in I.meaning self.old) ((I.meaning self.old.interner).region b.now) }
         ensures interner { self.new.interner ≡ self.old.interner }
         ensures lawful { IsLawful (I.meaning self.old.interner) self.new.inner }
-        ensures adds { OnOk result (AddsConstraint (store_of (I.meaning self.old.interner) self.old.inner) (store_of (I.meaning self.old.interner) self.new.inner) (equal_constraint ((I.meaning self.old.interner).region a.now) ((I.meaning self.old.interner).region b.now))) }
-        ensures refused { OnErr result (store_of (I.meaning self.old.interner) self.new.inner ≡ store_of (I.meaning self.old.interner) self.old.inner) }
-        ensures goes { Goes 0 (store_of (I.meaning self.old.interner) self.old.inner) (store_of (I.meaning self.old.interner) self.new.inner) }
+        ensures adds { let m = I.meaning self.old.interner in
+            OnOk result (AddsConstraint (store_of m self.old.inner) (store_of m self.new.inner)
+            (equal_constraint (m.region a.now) (m.region b.now))) }
+        ensures refused { let m = I.meaning self.old.interner in
+            OnErr result (store_of m self.new.inner ≡ store_of m self.old.inner) }
+        ensures goes { let m = I.meaning self.old.interner in
+            Goes 0 (store_of m self.old.inner) (store_of m self.new.inner) }
     {
         let equal = RegionEqPredicate(*a, *b);
         self.inner.constraints.push(RegionConstraint::Eq(equal))?;
@@ -109,13 +108,17 @@ impl<I: Interner> RefCtxt<I> {
         sup: &Region<I>,
     ) -> Result<(), OutOfMemory>
         requires lawful { IsLawful (I.meaning self.old.interner) self.old.inner }
-        requires sub_in { IsRegionIn (store_of (I.meaning self.old.interner) self.old.inner) ((I.meaning self.old.interner).region sub.now) }
-        requires sup_in { IsRegionIn (store_of (I.meaning self.old.interner) self.old.inner) ((I.meaning self.old.interner).region sup.now) }
+        requires sub_in { IsRegionIn (store_in I.meaning self.old) ((I.meaning self.old.interner).region sub.now) }
+        requires sup_in { IsRegionIn (store_in I.meaning self.old) ((I.meaning self.old.interner).region sup.now) }
         ensures interner { self.new.interner ≡ self.old.interner }
         ensures lawful { IsLawful (I.meaning self.old.interner) self.new.inner }
-        ensures adds { OnOk result (AddsConstraint (store_of (I.meaning self.old.interner) self.old.inner) (store_of (I.meaning self.old.interner) self.new.inner) (outlives_constraint ((I.meaning self.old.interner).region sup.now) ((I.meaning self.old.interner).region sub.now))) }
-        ensures refused { OnErr result (store_of (I.meaning self.old.interner) self.new.inner ≡ store_of (I.meaning self.old.interner) self.old.inner) }
-        ensures goes { Goes 0 (store_of (I.meaning self.old.interner) self.old.inner) (store_of (I.meaning self.old.interner) self.new.inner) }
+        ensures adds { let m = I.meaning self.old.interner in
+            OnOk result (AddsConstraint (store_of m self.old.inner) (store_of m self.new.inner)
+            (outlives_constraint (m.region sup.now) (m.region sub.now))) }
+        ensures refused { let m = I.meaning self.old.interner in
+            OnErr result (store_of m self.new.inner ≡ store_of m self.old.inner) }
+        ensures goes { let m = I.meaning self.old.interner in
+            Goes 0 (store_of m self.old.inner) (store_of m self.new.inner) }
     {
         let outlives = OutlivesPredicate(GenericArgKind::Lifetime(*sup), *sub);
         self.inner
@@ -133,12 +136,15 @@ impl<I: Interner> RefCtxt<I> {
     ) -> Result<(), OutOfMemory>
         requires lawful { IsLawful (I.meaning self.old.interner) self.old.inner }
         requires decides { variance ≢ Bivariant }
-        requires a_in { IsRegionIn (store_of (I.meaning self.old.interner) self.old.inner) ((I.meaning self.old.interner).region a.now) }
-        requires b_in { IsRegionIn (store_of (I.meaning self.old.interner) self.old.inner) ((I.meaning self.old.interner).region b.now) }
+        requires a_in { IsRegionIn (store_in I.meaning self.old) ((I.meaning self.old.interner).region a.now) }
+        requires b_in { IsRegionIn (store_in I.meaning self.old) ((I.meaning self.old.interner).region b.now) }
         ensures interner { self.new.interner ≡ self.old.interner }
         ensures lawful { IsLawful (I.meaning self.old.interner) self.new.inner }
-        ensures adds { OnOk result (IfSome (constraint_at variance a.now b.now) (λ c. AddsConstraint (store_of (I.meaning self.old.interner) self.old.inner) (store_of (I.meaning self.old.interner) self.new.inner) (constraint_of (I.meaning self.old.interner) c))) }
-        ensures goes { Goes 0 (store_of (I.meaning self.old.interner) self.old.inner) (store_of (I.meaning self.old.interner) self.new.inner) }
+        ensures adds { let m = I.meaning self.old.interner in
+            OnOk result (IfSome (constraint_at variance a.now b.now) (λ c.
+            AddsConstraint (store_of m self.old.inner) (store_of m self.new.inner) (constraint_of m c))) }
+        ensures goes { let m = I.meaning self.old.interner in
+            Goes 0 (store_of m self.old.inner) (store_of m self.new.inner) }
     {
         match variance {
             Variance::Covariant => self.sub_regions(b, a),
@@ -151,7 +157,7 @@ impl<I: Interner> RefCtxt<I> {
     // The universe of a type variable.
     pub(crate) fn universe_of_ty(&self, v: usize) -> UniverseIndex
         requires { v < length self.now.inner.types.items }
-        ensures { result.0 ≡ universe_of (store_of (I.meaning self.now.interner) self.now.inner) type_var v }
+        ensures { result.0 ≡ universe_of (store_in I.meaning self.now) type_var v }
     {
         self.inner.types[v].universe
     }
@@ -161,11 +167,12 @@ impl<I: Interner> RefCtxt<I> {
         requires lawful { IsLawful (I.meaning self.old.interner) self.old.inner }
         requires made { child < length self.old.inner.types.items }
         requires smaller { root < child }
-        requires child_unbound { entry_of (store_of (I.meaning self.old.interner) self.old.inner) type_var child ≡ unbound }
-        requires root_unbound { entry_of (store_of (I.meaning self.old.interner) self.old.inner) type_var root ≡ unbound }
+        requires child_unbound { entry_of (store_in I.meaning self.old) type_var child ≡ unbound }
+        requires root_unbound { entry_of (store_in I.meaning self.old) type_var root ≡ unbound }
         ensures interner { self.new.interner ≡ self.old.interner }
         ensures lawful { IsLawful (I.meaning self.old.interner) self.new.inner }
-        ensures equates { Equates (store_of (I.meaning self.old.interner) self.old.inner) (store_of (I.meaning self.old.interner) self.new.inner) type_var child root }
+        ensures equates { let m = I.meaning self.old.interner in
+            Equates (store_of m self.old.inner) (store_of m self.new.inner) type_var child root }
     {
         let below = self.universe_of_ty(child);
         let above = self.universe_of_ty(root);
@@ -180,12 +187,14 @@ impl<I: Interner> RefCtxt<I> {
         requires lawful { IsLawful (I.meaning self.old.interner) self.old.inner }
         requires a_made { a.0 < length self.old.inner.types.items }
         requires b_made { b.0 < length self.old.inner.types.items }
-        requires a_unbound { entry_of (store_of (I.meaning self.old.interner) self.old.inner) type_var a.0 ≡ unbound }
-        requires b_unbound { entry_of (store_of (I.meaning self.old.interner) self.old.inner) type_var b.0 ≡ unbound }
+        requires a_unbound { entry_of (store_in I.meaning self.old) type_var a.0 ≡ unbound }
+        requires b_unbound { entry_of (store_in I.meaning self.old) type_var b.0 ≡ unbound }
         ensures interner { self.new.interner ≡ self.old.interner }
         ensures lawful { IsLawful (I.meaning self.old.interner) self.new.inner }
         ensures same { a.0 ≡ b.0 → self.new.inner ≡ self.old.inner }
-        ensures equates { (a.0 ≡ b.0 → ⊥) → Equates (store_of (I.meaning self.old.interner) self.old.inner) (store_of (I.meaning self.old.interner) self.new.inner) type_var (max a.0 b.0) (min a.0 b.0) }
+        ensures equates { let m = I.meaning self.old.interner in
+            (a.0 ≡ b.0 → ⊥) →
+            Equates (store_of m self.old.inner) (store_of m self.new.inner) type_var (max a.0 b.0) (min a.0 b.0) }
     {
         if a.0 < b.0 {
             self.link_to(b.0, a.0);
@@ -204,8 +213,10 @@ impl<I: Interner> RefCtxt<I> {
         requires { v < length self.old.inner.types.items }
         ensures interner { self.new.interner ≡ self.old.interner }
         ensures keys { map (λ t. t.key) self.new.inner.types.items ≡ map (λ t. t.key) self.old.inner.types.items }
-        ensures values { map (λ t. t.value) self.new.inner.types.items ≡ slice_set (map (λ t. t.value) self.old.inner.types.items) v value }
-        ensures universes { map (λ t. t.universe) self.new.inner.types.items ≡ slice_set (map (λ t. t.universe) self.old.inner.types.items) v universe }
+        ensures values { map (λ t. t.value) self.new.inner.types.items ≡
+            slice_set (map (λ t. t.value) self.old.inner.types.items) v value }
+        ensures universes { map (λ t. t.universe) self.new.inner.types.items ≡
+            slice_set (map (λ t. t.universe) self.old.inner.types.items) v universe }
         ensures regions { self.new.inner.regions.items ≡ self.old.inner.regions.items }
         ensures constraints { self.new.inner.constraints.items ≡ self.old.inner.constraints.items }
         ensures universe { self.new.inner.universe ≡ self.old.inner.universe }

@@ -1,13 +1,14 @@
 //! Resolving types in a context at every depth, and binding variables to what they come to.
 ghost use Rattle.std.specs.Prelude.{◌≡◌, ℕ, ◌+◌, ◌<◌, IsTrue, IsFalse, IfOk, IfErr, IfSome, IfNone, length};
 ghost use Rattle.relation_terms.specs.Heads.{type_var, variable};
-ghost use Rattle.relation_terms.specs.Trees.{leaf, known, apply, count, nth, Occurs, IsList};
+ghost use Rattle.relation_terms.specs.Trees.{leaf, known, count, nth, Occurs, IsList};
 ghost use Rattle.relation_terms.specs.Meaning.{Extends, arg_tree, kind_tree};
-ghost use Rattle.type_relations.specs.Stores.{unbound, entry_of, resolved, weight, IsTermIn};
+ghost use Rattle.type_relations.specs.Stores.{unbound, entry_of, weight, IsTermIn};
 ghost use Rattle.type_relations.specs.Measures.{Goes};
 ghost use Rattle.type_relations.specs.Errors.{StandsOutside};
 ghost use Rattle.relation_tools.specs.Faults.{KnowsFault};
-ghost use Rattle.relation_reference.specs.Tables.{store_of, IsLawful};
+ghost use Rattle.relation_reference.specs.Tables.{IsLawful};
+ghost use Rattle.relation_reference.specs.RefCtxt.{store_in, resolved_in};
 ghost use Rattle.type_relations.specs.Parts.{IsFormed};
 ghost use Rattle.relation_reference.specs.Answers.{IsShallow, Instantiated, StepsByInstantiating};
 
@@ -107,7 +108,8 @@ impl<I: Interner> RefCtxt<I> {
         requires args_known { IsTrue (known ((I.meaning self.now.interner).args args.now)) }
         requires in_bounds { i < count ((I.meaning self.now.interner).args args.now) }
         ensures sure { IsTrue (known (arg_tree (I.meaning self.now.interner) result)) }
-        ensures means { arg_tree (I.meaning self.now.interner) result ≡ nth i ((I.meaning self.now.interner).args args.now) }
+        ensures means { arg_tree (I.meaning self.now.interner) result ≡
+            nth i ((I.meaning self.now.interner).args args.now) }
     {
         self.interner.args(args)[i]
     }
@@ -126,7 +128,8 @@ impl<I: Interner> RefCtxt<I> {
         requires branches_known { IsTrue (known ((I.meaning self.now.interner).branches branches.now)) }
         requires in_bounds { i < count ((I.meaning self.now.interner).branches branches.now) }
         ensures sure { IsTrue (known ((I.meaning self.now.interner).const_ result)) }
-        ensures means { (I.meaning self.now.interner).const_ result ≡ nth i ((I.meaning self.now.interner).branches branches.now) }
+        ensures means { (I.meaning self.now.interner).const_ result ≡
+            nth i ((I.meaning self.now.interner).branches branches.now) }
     {
         self.interner.branches(branches)[i]
     }
@@ -136,11 +139,12 @@ impl<I: Interner> RefCtxt<I> {
     pub(crate) fn resolve_vars_if_possible(&mut self, ty: &Ty<I>) -> Result<Ty<I>, OutOfMemory>
         requires lawful { IsLawful (I.meaning self.old.interner) self.old.inner }
         requires ty_known { IsTrue (known ((I.meaning self.old.interner).ty ty.now)) }
-        requires ty_in { IsTermIn (store_of (I.meaning self.old.interner) self.old.inner) ((I.meaning self.old.interner).ty ty.now) }
+        requires ty_in { IsTermIn (store_in I.meaning self.old) ((I.meaning self.old.interner).ty ty.now) }
         ensures inner { self.new.inner ≡ self.old.inner }
         ensures grown { Extends (I.meaning self.old.interner) (I.meaning self.new.interner) }
         ensures sure { IfOk result (λ t. IsTrue (known ((I.meaning self.new.interner).ty t))) }
-        ensures resolves { IfOk result (λ t. (I.meaning self.new.interner).ty t ≡ apply (resolved (store_of (I.meaning self.old.interner) self.old.inner)) ((I.meaning self.old.interner).ty ty.now)) }
+        ensures resolves { IfOk result (λ t. (I.meaning self.new.interner).ty t ≡
+            resolved_in I.meaning self.old ((I.meaning self.old.interner).ty ty.now)) }
     {
         let ty = self.shallow_resolve(ty);
         let kind = self.interner.ty_kind(&ty);
@@ -152,13 +156,14 @@ impl<I: Interner> RefCtxt<I> {
     fn resolve_parts(&mut self, ty: &Ty<I>, kind: &TyForm<I>) -> Result<Ty<I>, OutOfMemory>
         requires lawful { IsLawful (I.meaning self.old.interner) self.old.inner }
         requires ty_known { IsTrue (known ((I.meaning self.old.interner).ty ty.now)) }
-        requires ty_in { IsTermIn (store_of (I.meaning self.old.interner) self.old.inner) ((I.meaning self.old.interner).ty ty.now) }
-        requires shallow { IsShallow (store_of (I.meaning self.old.interner) self.old.inner) ((I.meaning self.old.interner).ty ty.now) }
+        requires ty_in { IsTermIn (store_in I.meaning self.old) ((I.meaning self.old.interner).ty ty.now) }
+        requires shallow { IsShallow (store_in I.meaning self.old) ((I.meaning self.old.interner).ty ty.now) }
         requires of_form { (I.meaning self.old.interner).ty ty.now ≡ kind_tree (I.meaning self.old.interner) kind.now }
         ensures inner { self.new.inner ≡ self.old.inner }
         ensures grown { Extends (I.meaning self.old.interner) (I.meaning self.new.interner) }
         ensures sure { IfOk result (λ t. IsTrue (known ((I.meaning self.new.interner).ty t))) }
-        ensures resolves { IfOk result (λ t. (I.meaning self.new.interner).ty t ≡ apply (resolved (store_of (I.meaning self.old.interner) self.old.inner)) ((I.meaning self.old.interner).ty ty.now)) }
+        ensures resolves { IfOk result (λ t. (I.meaning self.new.interner).ty t ≡
+            resolved_in I.meaning self.old ((I.meaning self.old.interner).ty ty.now)) }
     {
         if let Some(item) = item_of(kind) {
             let args = self.resolve_args(&item.args)?;
@@ -196,11 +201,12 @@ impl<I: Interner> RefCtxt<I> {
     fn resolve_list(&mut self, tys: &Tys<I>) -> Result<Tys<I>, OutOfMemory>
         requires lawful { IsLawful (I.meaning self.old.interner) self.old.inner }
         requires tys_known { IsTrue (known ((I.meaning self.old.interner).tys tys.now)) }
-        requires tys_in { IsTermIn (store_of (I.meaning self.old.interner) self.old.inner) ((I.meaning self.old.interner).tys tys.now) }
+        requires tys_in { IsTermIn (store_in I.meaning self.old) ((I.meaning self.old.interner).tys tys.now) }
         ensures inner { self.new.inner ≡ self.old.inner }
         ensures grown { Extends (I.meaning self.old.interner) (I.meaning self.new.interner) }
         ensures sure { IfOk result (λ t. IsTrue (known ((I.meaning self.new.interner).tys t))) }
-        ensures resolves { IfOk result (λ t. (I.meaning self.new.interner).tys t ≡ apply (resolved (store_of (I.meaning self.old.interner) self.old.inner)) ((I.meaning self.old.interner).tys tys.now)) }
+        ensures resolves { IfOk result (λ t. (I.meaning self.new.interner).tys t ≡
+            resolved_in I.meaning self.old ((I.meaning self.old.interner).tys tys.now)) }
     {
         let count = self.count_of(tys);
         let mut list = Vec::new(self.interner.alloc());
@@ -216,11 +222,12 @@ impl<I: Interner> RefCtxt<I> {
     fn resolve_arg(&mut self, arg: &GenericArg<I>) -> Result<GenericArg<I>, OutOfMemory>
         requires lawful { IsLawful (I.meaning self.old.interner) self.old.inner }
         requires arg_known { IsTrue (known (arg_tree (I.meaning self.old.interner) arg.now)) }
-        requires arg_in { IsTermIn (store_of (I.meaning self.old.interner) self.old.inner) (arg_tree (I.meaning self.old.interner) arg.now) }
+        requires arg_in { IsTermIn (store_in I.meaning self.old) (arg_tree (I.meaning self.old.interner) arg.now) }
         ensures inner { self.new.inner ≡ self.old.inner }
         ensures grown { Extends (I.meaning self.old.interner) (I.meaning self.new.interner) }
         ensures sure { IfOk result (λ t. IsTrue (known (arg_tree (I.meaning self.new.interner) t))) }
-        ensures resolves { IfOk result (λ t. arg_tree (I.meaning self.new.interner) t ≡ apply (resolved (store_of (I.meaning self.old.interner) self.old.inner)) (arg_tree (I.meaning self.old.interner) arg.now)) }
+        ensures resolves { IfOk result (λ t. arg_tree (I.meaning self.new.interner) t ≡
+            resolved_in I.meaning self.old (arg_tree (I.meaning self.old.interner) arg.now)) }
     {
         match arg {
             GenericArgKind::Lifetime(region) => Ok(GenericArgKind::Lifetime(*region)),
@@ -239,11 +246,12 @@ impl<I: Interner> RefCtxt<I> {
     fn resolve_args(&mut self, args: &GenericArgs<I>) -> Result<GenericArgs<I>, OutOfMemory>
         requires lawful { IsLawful (I.meaning self.old.interner) self.old.inner }
         requires args_known { IsTrue (known ((I.meaning self.old.interner).args args.now)) }
-        requires args_in { IsTermIn (store_of (I.meaning self.old.interner) self.old.inner) ((I.meaning self.old.interner).args args.now) }
+        requires args_in { IsTermIn (store_in I.meaning self.old) ((I.meaning self.old.interner).args args.now) }
         ensures inner { self.new.inner ≡ self.old.inner }
         ensures grown { Extends (I.meaning self.old.interner) (I.meaning self.new.interner) }
         ensures sure { IfOk result (λ t. IsTrue (known ((I.meaning self.new.interner).args t))) }
-        ensures resolves { IfOk result (λ t. (I.meaning self.new.interner).args t ≡ apply (resolved (store_of (I.meaning self.old.interner) self.old.inner)) ((I.meaning self.old.interner).args args.now)) }
+        ensures resolves { IfOk result (λ t. (I.meaning self.new.interner).args t ≡
+            resolved_in I.meaning self.old ((I.meaning self.old.interner).args args.now)) }
     {
         let count = self.args_count(args);
         let mut list = Vec::new(self.interner.alloc());
@@ -259,11 +267,13 @@ impl<I: Interner> RefCtxt<I> {
     fn resolve_const(&mut self, constant: &Const<I>) -> Result<Const<I>, OutOfMemory>
         requires lawful { IsLawful (I.meaning self.old.interner) self.old.inner }
         requires constant_known { IsTrue (known ((I.meaning self.old.interner).const_ constant.now)) }
-        requires constant_in { IsTermIn (store_of (I.meaning self.old.interner) self.old.inner) ((I.meaning self.old.interner).const_ constant.now) }
+        requires constant_in { let m = I.meaning self.old.interner in
+            IsTermIn (store_in I.meaning self.old) (m.const_ constant.now) }
         ensures inner { self.new.inner ≡ self.old.inner }
         ensures grown { Extends (I.meaning self.old.interner) (I.meaning self.new.interner) }
         ensures sure { IfOk result (λ t. IsTrue (known ((I.meaning self.new.interner).const_ t))) }
-        ensures resolves { IfOk result (λ t. (I.meaning self.new.interner).const_ t ≡ apply (resolved (store_of (I.meaning self.old.interner) self.old.inner)) ((I.meaning self.old.interner).const_ constant.now)) }
+        ensures resolves { IfOk result (λ t. (I.meaning self.new.interner).const_ t ≡
+            resolved_in I.meaning self.old ((I.meaning self.old.interner).const_ constant.now)) }
     {
         match self.interner.const_kind(constant) {
             ConstKind::Param(_) => Ok(*constant),
@@ -284,11 +294,12 @@ impl<I: Interner> RefCtxt<I> {
     fn resolve_value(&mut self, value: &ValTree<I>) -> Result<ValTree<I>, OutOfMemory>
         requires lawful { IsLawful (I.meaning self.old.interner) self.old.inner }
         requires value_known { IsTrue (known ((I.meaning self.old.interner).valtree value.now)) }
-        requires value_in { IsTermIn (store_of (I.meaning self.old.interner) self.old.inner) ((I.meaning self.old.interner).valtree value.now) }
+        requires value_in { IsTermIn (store_in I.meaning self.old) ((I.meaning self.old.interner).valtree value.now) }
         ensures inner { self.new.inner ≡ self.old.inner }
         ensures grown { Extends (I.meaning self.old.interner) (I.meaning self.new.interner) }
         ensures sure { IfOk result (λ t. IsTrue (known ((I.meaning self.new.interner).valtree t))) }
-        ensures resolves { IfOk result (λ t. (I.meaning self.new.interner).valtree t ≡ apply (resolved (store_of (I.meaning self.old.interner) self.old.inner)) ((I.meaning self.old.interner).valtree value.now)) }
+        ensures resolves { IfOk result (λ t. (I.meaning self.new.interner).valtree t ≡
+            resolved_in I.meaning self.old ((I.meaning self.old.interner).valtree value.now)) }
     {
         match self.interner.valtree_kind(value) {
             ValTreeKind::Leaf { .. } => Ok(*value),
@@ -303,11 +314,13 @@ impl<I: Interner> RefCtxt<I> {
     fn resolve_branches(&mut self, branches: &Branches<I>) -> Result<Branches<I>, OutOfMemory>
         requires lawful { IsLawful (I.meaning self.old.interner) self.old.inner }
         requires branches_known { IsTrue (known ((I.meaning self.old.interner).branches branches.now)) }
-        requires branches_in { IsTermIn (store_of (I.meaning self.old.interner) self.old.inner) ((I.meaning self.old.interner).branches branches.now) }
+        requires branches_in { let m = I.meaning self.old.interner in
+            IsTermIn (store_in I.meaning self.old) (m.branches branches.now) }
         ensures inner { self.new.inner ≡ self.old.inner }
         ensures grown { Extends (I.meaning self.old.interner) (I.meaning self.new.interner) }
         ensures sure { IfOk result (λ t. IsTrue (known ((I.meaning self.new.interner).branches t))) }
-        ensures resolves { IfOk result (λ t. (I.meaning self.new.interner).branches t ≡ apply (resolved (store_of (I.meaning self.old.interner) self.old.inner)) ((I.meaning self.old.interner).branches branches.now)) }
+        ensures resolves { IfOk result (λ t. (I.meaning self.new.interner).branches t ≡
+            resolved_in I.meaning self.old ((I.meaning self.old.interner).branches branches.now)) }
     {
         let count = self.branches_count(branches);
         let mut list = Vec::new(self.interner.alloc());
@@ -340,15 +353,19 @@ impl<I: Interner> RefCtxt<I> {
     ) -> Result<Ty<I>, RelateFaultOf<I>>
         requires lawful { IsLawful (I.meaning self.old.interner) self.old.inner }
         requires target_made { target.0 < length self.old.inner.types.items }
-        requires target_unbound { entry_of (store_of (I.meaning self.old.interner) self.old.inner) type_var target.0 ≡ unbound }
+        requires target_unbound { entry_of (store_in I.meaning self.old) type_var target.0 ≡ unbound }
         requires source_known { IsTrue (known ((I.meaning self.old.interner).ty source.now)) }
-        requires source_in { IsTermIn (store_of (I.meaning self.old.interner) self.old.inner) ((I.meaning self.old.interner).ty source.now) }
+        requires source_in { IsTermIn (store_in I.meaning self.old) ((I.meaning self.old.interner).ty source.now) }
         requires source_formed { IsFormed ((I.meaning self.old.interner).ty source.now) }
         ensures lawful { IsLawful (I.meaning self.new.interner) self.new.inner }
         ensures grown { Extends (I.meaning self.old.interner) (I.meaning self.new.interner) }
         ensures sure { IfOk result (λ t. IsTrue (known ((I.meaning self.new.interner).ty t))) }
-        ensures answers { Instantiated (I.meaning self.new.interner) (store_of (I.meaning self.old.interner) self.old.inner) (store_of (I.meaning self.new.interner) self.new.inner) target.0 ((I.meaning self.old.interner).ty source.now) result }
-        ensures steps { StepsByInstantiating (I.meaning self.new.interner) (store_of (I.meaning self.old.interner) self.old.inner) (store_of (I.meaning self.new.interner) self.new.inner) target.0 ((I.meaning self.old.interner).ty source.now) result }
+        ensures answers { let t = (I.meaning self.old.interner).ty source.now in
+            Instantiated (I.meaning self.new.interner)
+            (store_in I.meaning self.old) (store_in I.meaning self.new) target.0 t result }
+        ensures steps { let t = (I.meaning self.old.interner).ty source.now in
+            StepsByInstantiating (I.meaning self.new.interner)
+            (store_in I.meaning self.old) (store_in I.meaning self.new) target.0 t result }
         ensures why_known { IfErr result (KnowsFault (I.meaning self.new.interner)) }
     {
         if self.inner.budget == 0 {

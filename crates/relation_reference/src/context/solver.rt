@@ -13,11 +13,11 @@ impl<I: Interner> RelateExt for RefCtxt<I> {
     ghost use Rattle.type_relations.specs.Stores.{IsSound};
     ghost use Rattle.type_relations.specs.Steps.{IsLater, MakesNone, BindsItsOwn};
     ghost use Rattle.type_relations.specs.Contexts.{KnowsEnv, KnowsTy, TakesTy, HasTy, AreOneTy, AnswersTys};
-    ghost use Rattle.type_relations.specs.Contexts.{KeepsEqualTys, TellsApart, AnswersError, DoesNothing, AnswersExactly};
-    ghost use Rattle.type_relations.specs.Contexts.{ProvesApart, SpendsByBinding};
-    ghost use Rattle.relation_reference.specs.Tables.{context_of};
+    ghost use Rattle.type_relations.specs.Contexts.{KeepsEqualTys, TellsApart, AnswersError, DoesNothing};
+    ghost use Rattle.type_relations.specs.Contexts.{AnswersExactly, ProvesApart, SpendsByBinding};
+    ghost use Rattle.relation_reference.specs.RefCtxt.{context_in};
 
-    ghost state = { λ c. context_of (I.meaning c.interner) c.inner };
+    ghost state = { λ c. context_in I.meaning c };
 
     ghost interner = { λ c. c.interner };
 
@@ -29,60 +29,37 @@ impl<I: Interner> RelateExt for RefCtxt<I> {
         rhs: Ty<I>,
         _span: Span<I>,
     ) -> RelateGoals<I>
-        requires lawful { (context_of (I.meaning self.old.interner) self.old.inner).lawful }
+        requires lawful { (context_in I.meaning self.old).lawful }
         requires decides { variance ≢ Variance.Bivariant }
-        requires env_known { KnowsEnv (context_of (I.meaning self.old.interner) self.old.inner) param_env }
-        requires lhs_known { KnowsTy (context_of (I.meaning self.old.interner) self.old.inner) lhs }
-        requires rhs_known { KnowsTy (context_of (I.meaning self.old.interner) self.old.inner) rhs }
-        requires lhs_taken { TakesTy (context_of (I.meaning self.old.interner) self.old.inner) variance lhs }
-        requires rhs_taken { TakesTy (context_of (I.meaning self.old.interner) self.old.inner) variance rhs }
-        requires lhs_in { HasTy (context_of (I.meaning self.old.interner) self.old.inner) lhs }
-        requires rhs_in { HasTy (context_of (I.meaning self.old.interner) self.old.inner) rhs }
-        ensures answers { let c = context_of (I.meaning self.old.interner) self.old.inner in
-            let d = context_of (I.meaning self.new.interner) self.new.inner in
-            AnswersTys c d param_env variance lhs rhs result }
-        ensures keeps { let c = context_of (I.meaning self.old.interner) self.old.inner in
-            let d = context_of (I.meaning self.new.interner) self.new.inner in
-            KeepsEqualTys c d lhs rhs result }
-        ensures apart { let c = context_of (I.meaning self.old.interner) self.old.inner in
-            let d = context_of (I.meaning self.new.interner) self.new.inner in
-            TellsApart c d lhs rhs result }
-        ensures errors { let c = context_of (I.meaning self.old.interner) self.old.inner in
-            let d = context_of (I.meaning self.new.interner) self.new.inner in
-            AnswersError c d variance lhs rhs result }
-        ensures spent { let d = context_of (I.meaning self.new.interner) self.new.inner in
-            IfSpent result (d.store.budget ≡ 0) }
-        ensures same { let c = context_of (I.meaning self.old.interner) self.old.inner in
-            let d = context_of (I.meaning self.new.interner) self.new.inner in
-            AreOneTy c lhs rhs → DoesNothing c d result }
+        requires env_known { KnowsEnv (context_in I.meaning self.old) param_env }
+        requires lhs_known { KnowsTy (context_in I.meaning self.old) lhs }
+        requires rhs_known { KnowsTy (context_in I.meaning self.old) rhs }
+        requires lhs_taken { TakesTy (context_in I.meaning self.old) variance lhs }
+        requires rhs_taken { TakesTy (context_in I.meaning self.old) variance rhs }
+        requires lhs_in { HasTy (context_in I.meaning self.old) lhs }
+        requires rhs_in { HasTy (context_in I.meaning self.old) rhs }
+        ensures answers { AnswersTys (context_in I.meaning self.old) (context_in I.meaning self.new)
+            param_env variance lhs rhs result }
+        ensures keeps { KeepsEqualTys (context_in I.meaning self.old) (context_in I.meaning self.new) lhs rhs result }
+        ensures apart { TellsApart (context_in I.meaning self.old) (context_in I.meaning self.new) lhs rhs result }
+        ensures errors { AnswersError (context_in I.meaning self.old) (context_in I.meaning self.new)
+            variance lhs rhs result }
+        ensures spent { IfSpent result ((context_in I.meaning self.new).store.budget ≡ 0) }
+        ensures same { AreOneTy (context_in I.meaning self.old) lhs rhs →
+            DoesNothing (context_in I.meaning self.old) (context_in I.meaning self.new) result }
         ensures goals { IfOk result (λ goals. goals.items ≡ []) }
-        ensures exact { let c = context_of (I.meaning self.old.interner) self.old.inner in
-            let d = context_of (I.meaning self.new.interner) self.new.inner in
-            AnswersExactly c d variance lhs rhs result }
-        ensures no_unifier { let c = context_of (I.meaning self.old.interner) self.old.inner in
-            let d = context_of (I.meaning self.new.interner) self.new.inner in
-            ProvesApart c d variance lhs rhs result }
-        ensures later { let c = context_of (I.meaning self.old.interner) self.old.inner in
-            let d = context_of (I.meaning self.new.interner) self.new.inner in
-            IsLater c.store d.store }
-        ensures made { let c = context_of (I.meaning self.old.interner) self.old.inner in
-            let d = context_of (I.meaning self.new.interner) self.new.inner in
-            MakesNone c.store d.store }
-        ensures bound { let c = context_of (I.meaning self.old.interner) self.old.inner in
-            let d = context_of (I.meaning self.new.interner) self.new.inner in
-            BindsItsOwn c.store d.store }
-        ensures sound { let d = context_of (I.meaning self.new.interner) self.new.inner in
-            IsSound d.store }
-        ensures budget { let c = context_of (I.meaning self.old.interner) self.old.inner in
-            let d = context_of (I.meaning self.new.interner) self.new.inner in
-            SpendsByBinding c d }
-        ensures lawful { let d = context_of (I.meaning self.new.interner) self.new.inner in
-            d.lawful }
-        ensures grown { let c = context_of (I.meaning self.old.interner) self.old.inner in
-            let d = context_of (I.meaning self.new.interner) self.new.inner in
-            Extends c.meaning d.meaning }
-        ensures why_known { let d = context_of (I.meaning self.new.interner) self.new.inner in
-            IfErr result (λ e. KnowsFault d.meaning e) }
+        ensures exact { AnswersExactly (context_in I.meaning self.old) (context_in I.meaning self.new)
+            variance lhs rhs result }
+        ensures no_unifier { ProvesApart (context_in I.meaning self.old) (context_in I.meaning self.new)
+            variance lhs rhs result }
+        ensures later { IsLater (context_in I.meaning self.old).store (context_in I.meaning self.new).store }
+        ensures made { MakesNone (context_in I.meaning self.old).store (context_in I.meaning self.new).store }
+        ensures bound { BindsItsOwn (context_in I.meaning self.old).store (context_in I.meaning self.new).store }
+        ensures sound { IsSound (context_in I.meaning self.new).store }
+        ensures budget { SpendsByBinding (context_in I.meaning self.old) (context_in I.meaning self.new) }
+        ensures lawful { (context_in I.meaning self.new).lawful }
+        ensures grown { Extends (context_in I.meaning self.old).meaning (context_in I.meaning self.new).meaning }
+        ensures why_known { IfErr result (λ e. KnowsFault (context_in I.meaning self.new).meaning e) }
     {
         if lhs == rhs {
             return Ok(Vec::new(self.interner.alloc()));

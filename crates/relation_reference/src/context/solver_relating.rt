@@ -4,7 +4,7 @@ ghost use Rattle.relation_terms.specs.Trees.{known};
 ghost use Rattle.relation_terms.specs.declared.terms.enums.Variance.TheVariants.{Bivariant};
 ghost use Rattle.type_relations.specs.Lawful.{Asked, Related};
 ghost use Rattle.relation_reference.specs.Tables.{IsLawful};
-ghost use Rattle.relation_reference.specs.Solving.{solving, solver_manner};
+ghost use Rattle.relation_reference.specs.Solving.{solving, solving_in, solver_manner};
 
 use crate::context::RefCtxt;
 use relation_terms::terms::{Const, GenericArgs, Interner, ItemOf, ParamEnv, Region, Ty, Variance};
@@ -48,9 +48,17 @@ impl<'a, I: Interner> SolverRelating<'a, I> {
         requires lawful { IsLawful (I.meaning self.old.infcx.now.interner) self.old.infcx.now.inner }
         requires env_known { IsTrue (known ((I.meaning self.old.infcx.now.interner).param_env self.old.param_env)) }
         requires decides { self.old.ambient_variance ≢ Bivariant }
-        requires asked { Asked solver_manner (solving 0 (I.meaning self.old.infcx.now.interner) self.old.infcx.now.inner self.old.ambient_variance self.old.param_env) self.old.ambient_variance ((I.meaning self.old.infcx.now.interner).ty a.now) ((I.meaning self.old.infcx.now.interner).ty b.now) }
+        requires asked { let m = I.meaning self.old.infcx.now.interner in
+            let v = self.old.ambient_variance in
+            let before = solving_in I.meaning self.old.infcx.now v self.old.param_env in
+            Asked solver_manner before v (m.ty a.now) (m.ty b.now) }
         ensures same_reference { self.new.infcx.ghost_name ≡ self.old.infcx.ghost_name }
-        ensures related { Related solver_manner (solving 0 (I.meaning self.old.infcx.now.interner) self.old.infcx.now.inner self.old.ambient_variance self.old.param_env) (solving 0 (I.meaning self.new.infcx.now.interner) self.new.infcx.now.inner self.old.ambient_variance self.old.param_env) self.old.ambient_variance ((I.meaning self.old.infcx.now.interner).ty a.now) ((I.meaning self.old.infcx.now.interner).ty b.now) (I.meaning self.new.infcx.now.interner).ty result }
+        ensures related { let m = I.meaning self.old.infcx.now.interner in
+            let n = I.meaning self.new.infcx.now.interner in
+            let v = self.old.ambient_variance in
+            let before = solving_in I.meaning self.old.infcx.now v self.old.param_env in
+            let after = solving_in I.meaning self.new.infcx.now v self.old.param_env in
+            Related solver_manner before after v (m.ty a.now) (m.ty b.now) n.ty result }
     {
         tys(self, a, b)
     }
@@ -80,8 +88,13 @@ pub(crate) fn relate_in<I: Interner>(
     requires lawful { IsLawful (I.meaning infcx.old.interner) infcx.old.inner }
     requires env_known { IsTrue (known ((I.meaning infcx.old.interner).param_env param_env)) }
     requires decides { variance ≢ Bivariant }
-    requires asked { Asked solver_manner (solving 0 (I.meaning infcx.old.interner) infcx.old.inner variance param_env) variance ((I.meaning infcx.old.interner).ty a.now) ((I.meaning infcx.old.interner).ty b.now) }
-    ensures { Related solver_manner (solving 0 (I.meaning infcx.old.interner) infcx.old.inner variance param_env) (solving 0 (I.meaning infcx.new.interner) infcx.new.inner variance param_env) variance ((I.meaning infcx.old.interner).ty a.now) ((I.meaning infcx.old.interner).ty b.now) (I.meaning infcx.new.interner).ty result }
+    requires asked { let m = I.meaning infcx.old.interner in
+        let before = solving_in I.meaning infcx.old variance param_env in
+        Asked solver_manner before variance (m.ty a.now) (m.ty b.now) }
+    ensures { let m = I.meaning infcx.old.interner in
+        let before = solving_in I.meaning infcx.old variance param_env in
+        let after = solving_in I.meaning infcx.new variance param_env in
+        Related solver_manner before after variance (m.ty a.now) (m.ty b.now) (I.meaning infcx.new.interner).ty result }
 {
     let mut relation = SolverRelating {
         infcx,
@@ -97,11 +110,13 @@ impl<'a, I: Interner> TypeRelation<I> for SolverRelating<'a, I> {
     ghost use Rattle.std.specs.Prelude.{refl};
     ghost use Rattle.relation_reference.specs.Solving.{solver_takes};
 
-    ghost state = { λ r. solving r.infcx.ghost_name (I.meaning r.infcx.now.interner) r.infcx.now.inner r.ambient_variance r.param_env };
+    ghost state = { λ r. let x = r.infcx.now in
+        solving r.infcx.ghost_name (I.meaning x.interner) x.inner r.ambient_variance r.param_env };
 
     ghost interner = { λ r. r.infcx.now.interner };
 
-    ghost with_interner = { λ r cx. record r { infcx = record r.infcx { now = record r.infcx.now { interner = cx } } } };
+    ghost with_interner = { λ r cx.
+        record r { infcx = record r.infcx { now = record r.infcx.now { interner = cx } } } };
 
     ghost manner = { solver_manner };
 

@@ -6,7 +6,8 @@ ghost use Rattle.relation_terms.specs.Meaning.{infer_tree};
 ghost use Rattle.type_relations.specs.Stores.{unbound, entry_of, bound_to, IsTermIn};
 ghost use Rattle.type_relations.specs.Steps.{LeadsTo, Resolves};
 ghost use Rattle.type_relations.specs.Errors.{IsReadAs};
-ghost use Rattle.relation_reference.specs.Tables.{store_of, IsLawful, entry_of_value};
+ghost use Rattle.relation_reference.specs.Tables.{IsLawful, entry_of_value};
+ghost use Rattle.relation_reference.specs.RefCtxt.{store_in};
 ghost use Rattle.relation_reference.specs.Answers.{IsRoot, IsShallow};
 
 use crate::context::{InferCtxtInner, TypeVariableValue};
@@ -69,7 +70,8 @@ impl<I: Interner> RefCtxt<I> {
     // What is recorded of a variable.
     pub(crate) fn probe(&self, v: usize) -> TypeVariableValue<I::Key>
         requires { v < length self.now.inner.types.items }
-        ensures { entry_of_value (I.meaning self.now.interner) result ≡ entry_of (store_of (I.meaning self.now.interner) self.now.inner) type_var v }
+        ensures { entry_of_value (I.meaning self.now.interner) result ≡
+            entry_of (store_in I.meaning self.now) type_var v }
     {
         match &self.inner.types[v].value {
             TypeVariableValue::Unknown => TypeVariableValue::Unknown,
@@ -83,8 +85,8 @@ impl<I: Interner> RefCtxt<I> {
         requires lawful { IsLawful (I.meaning self.now.interner) self.now.inner }
         requires made { var.0 < length self.now.inner.types.items }
         ensures made { result.0 < length self.now.inner.types.items }
-        ensures leads { LeadsTo (store_of (I.meaning self.now.interner) self.now.inner) type_var var.0 result.0 }
-        ensures root { IsRoot (store_of (I.meaning self.now.interner) self.now.inner) result.0 }
+        ensures leads { LeadsTo (store_in I.meaning self.now) type_var var.0 result.0 }
+        ensures root { IsRoot (store_in I.meaning self.now) result.0 }
     {
         let mut at = var.0;
         loop {
@@ -100,10 +102,10 @@ impl<I: Interner> RefCtxt<I> {
     pub fn binding(&self, var: TyVid) -> Option<Ty<I>>
         requires lawful { IsLawful (I.meaning self.now.interner) self.now.inner }
         requires made { var.0 < length self.now.inner.types.items }
-        ensures bound { let st = store_of (I.meaning self.now.interner) self.now.inner in
+        ensures bound { let st = store_in I.meaning self.now in
             let m = I.meaning self.now.interner in
             IfSome result (λ t. (n : ℕ) × LeadsTo st type_var var.0 n × (entry_of st type_var n ≡ bound_to (m.ty t))) }
-        ensures unbound { let st = store_of (I.meaning self.now.interner) self.now.inner in
+        ensures unbound { let st = store_in I.meaning self.now in
             IfNone result ((n : ℕ) × LeadsTo st type_var var.0 n × (entry_of st type_var n ≡ unbound)) }
     {
         let root = self.root_ty_var(var);
@@ -118,11 +120,13 @@ impl<I: Interner> RefCtxt<I> {
     pub(crate) fn shallow_resolve(&self, ty: &Ty<I>) -> Ty<I>
         requires lawful { IsLawful (I.meaning self.now.interner) self.now.inner }
         requires ty_known { IsTrue (known ((I.meaning self.now.interner).ty ty.now)) }
-        requires ty_in { IsTermIn (store_of (I.meaning self.now.interner) self.now.inner) ((I.meaning self.now.interner).ty ty.now) }
+        requires ty_in { IsTermIn (store_in I.meaning self.now) ((I.meaning self.now.interner).ty ty.now) }
         ensures sure { IsTrue (known ((I.meaning self.now.interner).ty result)) }
-        ensures reads { IsReadAs (store_of (I.meaning self.now.interner) self.now.inner) ((I.meaning self.now.interner).ty ty.now) ((I.meaning self.now.interner).ty result) }
-        ensures resolves { Resolves (store_of (I.meaning self.now.interner) self.now.inner) ((I.meaning self.now.interner).ty ty.now) ((I.meaning self.now.interner).ty result) }
-        ensures shallow { IsShallow (store_of (I.meaning self.now.interner) self.now.inner) ((I.meaning self.now.interner).ty result) }
+        ensures reads { let m = I.meaning self.now.interner in
+            IsReadAs (store_in I.meaning self.now) (m.ty ty.now) (m.ty result) }
+        ensures resolves { let m = I.meaning self.now.interner in
+            Resolves (store_in I.meaning self.now) (m.ty ty.now) (m.ty result) }
+        ensures shallow { IsShallow (store_in I.meaning self.now) ((I.meaning self.now.interner).ty result) }
     {
         let TyKind::Infer(variable) = self.interner.ty_kind(ty) else {
             return *ty;

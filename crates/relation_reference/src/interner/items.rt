@@ -66,7 +66,8 @@ pub struct Item {
 }
 
 impl RefInterner {
-    ghost use Rattle.relation_reference.specs.Adding.{items_of, item_count, meaning_in, SameTerms, OthersStand, HasNoGenerics};
+    ghost use Rattle.relation_reference.specs.Adding.{items_of, item_count, meaning_in, SameTerms, OthersStand};
+    ghost use Rattle.relation_reference.specs.Adding.{HasNoGenerics};
     ghost use Rattle.relation_reference.specs.Items.{alias_variances_of};
 
     /// How many items were added.

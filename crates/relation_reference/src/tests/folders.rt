@@ -23,7 +23,8 @@ impl<I: Interner> TypeFolder<I> for Puts<I::Key> {
     ghost use Rattle.relation_reference.specs.Putting.{put_at};
     ghost use Rattle.relation_reference.specs.Putting.{put_stays};
 
-    ghost ready = { λ m f. IsTrue (known (m.ty f.ty)) × IsTrue (known (m.region f.region)) × IsTrue (known (m.const_ f.constant)) };
+    ghost ready = { λ m f. IsTrue (known (m.ty f.ty)) ×
+        IsTrue (known (m.region f.region)) × IsTrue (known (m.const_ f.constant)) };
 
     ghost replaces = { λ m f d t. put_at (f.variable).0 (m.ty f.ty) (f.region_variable).0 (m.region f.region)
         f.parameter (m.const_ f.constant) t };

@@ -166,7 +166,8 @@ fn arg_folds<I: Interner, F: TypeFolder<I>>(
     of: &Parts<I::Key>,
     wanted: &Parts<I::Key>,
 ) -> Result<bool, OutOfMemory>
-    requires known { KnowsParts (I.meaning cx.old) (of.now).ty (of.now).region (of.now).constant (of.now).args (of.now).members (of.now).leaf (of.now).branches (of.now).branch }
+    requires known { KnowsParts (I.meaning cx.old) (of.now).ty (of.now).region (of.now).constant (of.now).args
+        (of.now).members (of.now).leaf (of.now).branches (of.now).branch }
     requires ready { F.ready (I.meaning cx.old) folder.old }
 {
     match part {
@@ -193,7 +194,8 @@ fn wrapped_folds<I: Interner, F: TypeFolder<I>>(
     of: &Parts<I::Key>,
     wanted: &Parts<I::Key>,
 ) -> Result<bool, OutOfMemory>
-    requires known { KnowsParts (I.meaning cx.old) (of.now).ty (of.now).region (of.now).constant (of.now).args (of.now).members (of.now).leaf (of.now).branches (of.now).branch }
+    requires known { KnowsParts (I.meaning cx.old) (of.now).ty (of.now).region (of.now).constant (of.now).args
+        (of.now).members (of.now).leaf (of.now).branches (of.now).branch }
     requires ready { F.ready (I.meaning cx.old) folder.old }
 {
     match part {
@@ -217,7 +219,8 @@ fn part_folds<I: Interner, F: TypeFolder<I>>(
     of: &Parts<I::Key>,
     wanted: &Parts<I::Key>,
 ) -> Result<bool, OutOfMemory>
-    requires known { KnowsParts (I.meaning cx.old) (of.now).ty (of.now).region (of.now).constant (of.now).args (of.now).members (of.now).leaf (of.now).branches (of.now).branch }
+    requires known { KnowsParts (I.meaning cx.old) (of.now).ty (of.now).region (of.now).constant (of.now).args
+        (of.now).members (of.now).leaf (of.now).branches (of.now).branch }
     requires ready { F.ready (I.meaning cx.old) folder.old }
 {
     match part {

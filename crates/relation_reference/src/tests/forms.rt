@@ -202,7 +202,8 @@ fn make_parts_over<I: Interner>(
     requires region { IsTrue (known ((I.meaning cx.old).region region)) }
     requires constant { IsTrue (known ((I.meaning cx.old).const_ constant)) }
     ensures grown { Extends (I.meaning cx.old) (I.meaning cx.new) }
-    ensures sure { IfOk result (λ p. KnowsParts (I.meaning cx.new) p.ty p.region p.constant p.args p.members p.leaf p.branches p.branch) }
+    ensures sure { IfOk result (λ p. KnowsParts (I.meaning cx.new)
+        p.ty p.region p.constant p.args p.members p.leaf p.branches p.branch) }
 {
     let args = make_args(cx, &ty, &region, &constant)?;
     let members = make_members(cx, &ty)?;
@@ -229,7 +230,8 @@ pub fn make_parts<I: Interner>(
     name: &I::Name,
 ) -> Result<Parts<I::Key>, OutOfMemory>
     ensures grown { Extends (I.meaning cx.old) (I.meaning cx.new) }
-    ensures sure { IfOk result (λ p. KnowsParts (I.meaning cx.new) p.ty p.region p.constant p.args p.members p.leaf p.branches p.branch) }
+    ensures sure { IfOk result (λ p. KnowsParts (I.meaning cx.new)
+        p.ty p.region p.constant p.args p.members p.leaf p.branches p.branch) }
 {
     let ty = make_leaf_ty(cx, leaves)?;
     let region = make_leaf_region(cx, leaves)?;
@@ -274,7 +276,8 @@ fn ty_form<I: Interner>(
     id: &I::Id,
     name: &I::Name,
 ) -> TyForm<I>
-    requires { KnowsParts (I.meaning cx.now) (parts.now).ty (parts.now).region (parts.now).constant (parts.now).args (parts.now).members (parts.now).leaf (parts.now).branches (parts.now).branch }
+    requires { KnowsParts (I.meaning cx.now) (parts.now).ty (parts.now).region (parts.now).constant
+        (parts.now).args (parts.now).members (parts.now).leaf (parts.now).branches (parts.now).branch }
     ensures { IsTrue (known (kind_tree (I.meaning cx.now) result)) }
 {
     match label {
@@ -300,7 +303,8 @@ fn const_form<I: Interner>(
     shape: Shape,
     name: &I::Name,
 ) -> ConstForm<I>
-    requires { KnowsParts (I.meaning _cx.now) (parts.now).ty (parts.now).region (parts.now).constant (parts.now).args (parts.now).members (parts.now).leaf (parts.now).branches (parts.now).branch }
+    requires { KnowsParts (I.meaning _cx.now) (parts.now).ty (parts.now).region (parts.now).constant
+        (parts.now).args (parts.now).members (parts.now).leaf (parts.now).branches (parts.now).branch }
     ensures { IsTrue (known (const_tree (I.meaning _cx.now) result)) }
 {
     match shape {

@@ -48,7 +48,8 @@ fn make_item<I: Interner>(
     requires { IsTrue (known ((I.meaning cx.old).args args)) }
     ensures grown { Extends (I.meaning cx.old) (I.meaning cx.new) }
     ensures sure { IfOk result (λ k. IsTrue (known ((I.meaning cx.new).ty k))) }
-    ensures made { IfOk result (λ k. (I.meaning cx.new).ty k ≡ node (item_head form ((I.meaning cx.old).id item.now)) ((I.meaning cx.old).args args)) }
+    ensures made { IfOk result (λ k. (I.meaning cx.new).ty k ≡
+        node (item_head form ((I.meaning cx.old).id item.now)) ((I.meaning cx.old).args args)) }
 {
     cx.mk_ty(kind_of_item(form, *item, args))
 }
@@ -64,7 +65,8 @@ fn make_over<I: Interner>(
     requires { IsConcrete ((I.meaning cx.old).ty argument.now) }
     ensures grown { Extends (I.meaning cx.old) (I.meaning cx.new) }
     ensures args { IfOk result (λ t. (I.meaning cx.new).args t.args ≡ cons ((I.meaning cx.old).ty argument.now) nil) }
-    ensures is { IfOk result (λ t. (I.meaning cx.new).ty t.ty ≡ node (item_head form ((I.meaning cx.old).id item.now)) (cons ((I.meaning cx.old).ty argument.now) nil)) }
+    ensures is { IfOk result (λ t. (I.meaning cx.new).ty t.ty ≡
+        node (item_head form ((I.meaning cx.old).id item.now)) (cons ((I.meaning cx.old).ty argument.now) nil)) }
 {
     let args = make_args(cx, argument)?;
     let ty = make_item(cx, form, item, args)?;
@@ -83,9 +85,12 @@ fn make_sides<I: Interner>(
     requires b { IsConcrete ((I.meaning cx.old).ty b.now) }
     ensures lhs { IfOk result (λ t. IsConcrete ((I.meaning cx.new).args t.left.args)) }
     ensures rhs { IfOk result (λ t. IsConcrete ((I.meaning cx.new).args t.right.args)) }
-    ensures left_is { IfOk result (λ t. (I.meaning cx.new).ty t.left.ty ≡ node (item_head form ((I.meaning cx.new).id item.now)) ((I.meaning cx.new).args t.left.args)) }
-    ensures right_is { IfOk result (λ t. (I.meaning cx.new).ty t.right.ty ≡ node (item_head form ((I.meaning cx.new).id item.now)) ((I.meaning cx.new).args t.right.args)) }
-    ensures as_many { IfOk result (λ t. count ((I.meaning cx.new).args t.left.args) ≡ count ((I.meaning cx.new).args t.right.args)) }
+    ensures left_is { IfOk result (λ t. (I.meaning cx.new).ty t.left.ty ≡
+        node (item_head form ((I.meaning cx.new).id item.now)) ((I.meaning cx.new).args t.left.args)) }
+    ensures right_is { IfOk result (λ t. (I.meaning cx.new).ty t.right.ty ≡
+        node (item_head form ((I.meaning cx.new).id item.now)) ((I.meaning cx.new).args t.right.args)) }
+    ensures as_many { IfOk result (λ t. count ((I.meaning cx.new).args t.left.args) ≡
+        count ((I.meaning cx.new).args t.right.args)) }
 {
     let left = make_over(cx, form, item, a)?;
     let right = make_over(cx, form, item, b)?;
@@ -101,11 +106,15 @@ fn related_over(
     sides: &Sides<NodeKey>,
 ) -> RelateResult<RefInterner, (Ty<RefInterner>, PlainRelation<RefInterner>)>
     requires decides { variance ≢ Bivariant }
-    requires asked { Asked plain_manner (plain_state (meaning_in cx) variance []) variance ((meaning_in cx).ty (sides.now).left.ty) ((meaning_in cx).ty (sides.now).right.ty) }
+    requires asked { Asked plain_manner (plain_state (meaning_in cx) variance []) variance
+        ((meaning_in cx).ty (sides.now).left.ty) ((meaning_in cx).ty (sides.now).right.ty) }
     requires args_known { IsTrue (known ((meaning_in cx).args (sides.now).left.args)) }
-    requires over { AreOverItem ((meaning_in cx).id item) ((meaning_in cx).ty (sides.now).left.ty) ((meaning_in cx).ty (sides.now).right.ty) ((meaning_in cx).args (sides.now).left.args) ((meaning_in cx).args (sides.now).right.args) }
+    requires over { AreOverItem ((meaning_in cx).id item)
+        ((meaning_in cx).ty (sides.now).left.ty) ((meaning_in cx).ty (sides.now).right.ty)
+        ((meaning_in cx).args (sides.now).left.args) ((meaning_in cx).args (sides.now).right.args) }
     requires formed { head_of ((meaning_in cx).ty (sides.now).left.ty) ≡ item_head form ((meaning_in cx).id item) }
-    requires as_many { count ((meaning_in cx).args (sides.now).left.args) ≡ count ((meaning_in cx).args (sides.now).right.args) }
+    requires as_many { count ((meaning_in cx).args (sides.now).left.args) ≡
+        count ((meaning_in cx).args (sides.now).right.args) }
 {
     let mut relation = PlainRelation::new(cx, variance);
     let answer = relate_ty_args(
@@ -119,7 +128,8 @@ fn related_over(
             requires { IsTrue (known ((meaning_in cx.old).args args)) }
             ensures grown { Extends (meaning_in cx.old) (meaning_in cx.new) }
             ensures sure { IfOk result (λ k. IsTrue (known ((meaning_in cx.new).ty k))) }
-            ensures made { IfOk result (λ k. (meaning_in cx.new).ty k ≡ node (item_head form ((meaning_in cx.old).id item)) ((meaning_in cx.old).args args)) }
+            ensures made { IfOk result (λ k. (meaning_in cx.new).ty k ≡
+                node (item_head form ((meaning_in cx.old).id item)) ((meaning_in cx.old).args args)) }
         { make_item(cx, form, &item, args) },
     )?;
     Ok((answer, relation))
@@ -136,9 +146,12 @@ fn asked_over(
     requires decides { variance ≢ Bivariant }
     requires lhs { IsConcrete ((meaning_in cx).args (sides.now).left.args) }
     requires rhs { IsConcrete ((meaning_in cx).args (sides.now).right.args) }
-    requires over { AreOverItem ((meaning_in cx).id item) ((meaning_in cx).ty (sides.now).left.ty) ((meaning_in cx).ty (sides.now).right.ty) ((meaning_in cx).args (sides.now).left.args) ((meaning_in cx).args (sides.now).right.args) }
+    requires over { AreOverItem ((meaning_in cx).id item)
+        ((meaning_in cx).ty (sides.now).left.ty) ((meaning_in cx).ty (sides.now).right.ty)
+        ((meaning_in cx).args (sides.now).left.args) ((meaning_in cx).args (sides.now).right.args) }
     requires formed { head_of ((meaning_in cx).ty (sides.now).left.ty) ≡ item_head form ((meaning_in cx).id item) }
-    requires as_many { count ((meaning_in cx).args (sides.now).left.args) ≡ count ((meaning_in cx).args (sides.now).right.args) }
+    requires as_many { count ((meaning_in cx).args (sides.now).left.args) ≡
+        count ((meaning_in cx).args (sides.now).right.args) }
 {
     let (answer, relation) = related_over(cx, variance, form, item, sides)?;
     Ok((answer, relation.constraints))

@@ -52,8 +52,12 @@ pub fn constraints_of<I: Interner + Drop>(
     b: &Ty<I>,
 ) -> RelateResult<I, PlainRelation<I>>
     requires decides { ambient ≢ Bivariant }
-    requires asked { Asked plain_manner (plain_state (I.meaning interner) ambient []) ambient ((I.meaning interner).ty a.now) ((I.meaning interner).ty b.now) }
-    ensures { IfOk result (λ r. (w : Interpretation) → All (ConstraintHolds w as_is) (map (constraint_of (I.meaning r.interner)) r.constraints.items) → Rel (items_of (I.meaning interner)) w (node environment nil) (at ambient) ((I.meaning interner).ty a.now) ((I.meaning interner).ty b.now)) }
+    requires asked { Asked plain_manner (plain_state (I.meaning interner) ambient []) ambient
+        ((I.meaning interner).ty a.now) ((I.meaning interner).ty b.now) }
+    ensures { IfOk result (λ r. (w : Interpretation) →
+        All (ConstraintHolds w as_is) (map (constraint_of (I.meaning r.interner)) r.constraints.items) →
+        Rel (items_of (I.meaning interner)) w (node environment nil) (at ambient)
+        ((I.meaning interner).ty a.now) ((I.meaning interner).ty b.now)) }
 {
     let mut r = PlainRelation::new(interner, ambient);
     tys(&mut r, a, b)?;

@@ -88,7 +88,9 @@ fn related_args<I: Interner + Drop>(
     b: &GenericArgs<I>,
 ) -> RelateResult<I, PlainRelation<I>>
     requires decides { variance ≢ Bivariant }
-    requires asked { Asked plain_manner (plain_state (I.meaning cx) variance []) variance (node (adt ((I.meaning cx).id (def_id.now).0)) ((I.meaning cx).args a.now)) (node (adt ((I.meaning cx).id (def_id.now).0)) ((I.meaning cx).args b.now)) }
+    requires asked { Asked plain_manner (plain_state (I.meaning cx) variance []) variance
+        (node (adt ((I.meaning cx).id (def_id.now).0)) ((I.meaning cx).args a.now))
+        (node (adt ((I.meaning cx).id (def_id.now).0)) ((I.meaning cx).args b.now)) }
     requires as_many { count ((I.meaning cx).args a.now) ≡ count ((I.meaning cx).args b.now) }
 {
     let mut relation = PlainRelation::new(cx, variance);
@@ -190,7 +192,8 @@ struct Lists<X> {
 fn make_lists<I: Interner>(cx: &mut I, name: &I::Name) -> Result<Lists<I::Key>, OutOfMemory>
     ensures left { IfOk result (λ t. IsConcrete ((I.meaning cx.new).args t.left)) }
     ensures right { IfOk result (λ t. IsConcrete ((I.meaning cx.new).args t.right)) }
-    ensures as_many { IfOk result (λ t. count ((I.meaning cx.new).args t.left) ≡ count ((I.meaning cx.new).args t.right)) }
+    ensures as_many { IfOk result (λ t. count ((I.meaning cx.new).args t.left) ≡
+        count ((I.meaning cx.new).args t.right)) }
 {
     let two = make_two(cx, name)?;
     let left = make_args(cx, &two.left)?;

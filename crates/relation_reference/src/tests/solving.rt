@@ -4,7 +4,7 @@ ghost use Rattle.relation_terms.specs.Trees.{known};
 ghost use Rattle.relation_terms.specs.declared.terms.enums.Variance.TheVariants.{Bivariant};
 ghost use Rattle.type_relations.specs.Lawful.{Asked};
 ghost use Rattle.relation_reference.specs.Concrete.{IsConcrete};
-ghost use Rattle.relation_reference.specs.Solving.{solving, solver_manner};
+ghost use Rattle.relation_reference.specs.Solving.{solving_in, solver_manner};
 ghost use Rattle.relation_reference.specs.Tables.{IsLawful};
 
 use super::agreement::outlives;
@@ -28,7 +28,8 @@ fn recorded<I: Interner>(
     requires lawful { IsLawful (I.meaning ctx.old.interner) ctx.old.inner }
     requires env_known { IsTrue (known ((I.meaning ctx.old.interner).param_env param_env)) }
     requires decides { variance ≢ Bivariant }
-    requires asked { Asked solver_manner (solving 0 (I.meaning ctx.old.interner) ctx.old.inner variance param_env) variance ((I.meaning ctx.old.interner).ty a.now) ((I.meaning ctx.old.interner).ty b.now) }
+    requires asked { Asked solver_manner (solving_in I.meaning ctx.old variance param_env) variance
+        ((I.meaning ctx.old.interner).ty a.now) ((I.meaning ctx.old.interner).ty b.now) }
 {
     let mut relation = SolverRelating::new(ctx, variance, param_env);
     let answer = relation.relate_tys(a, b)?;

@@ -319,8 +319,7 @@ resolve_parts-mk_ty-requires-in-Ref g t c =
     c.requires.ty_known in
     let n = g.I.Interner.meaning c.resolve_vars_if_possible-in-Ref.new.self.interner in
     known_two (n.region c.in-Ref.region) (n.ty c.in_ok-pointee-in-Ref.pointee)
-    (subst (λ z. IsTrue (known (n.region z))) refl
-    (knows_region c.in_ok-pointee-in-Ref.ensures.grown c.in-Ref.region sure))
+    (knows_region c.in_ok-pointee-in-Ref.ensures.grown c.in-Ref.region sure)
     c.in_ok-pointee-in-Ref.ensures.sure
 
 pub resolve_parts-returns-in_ok-pointee-in-Ref-clause-grown :

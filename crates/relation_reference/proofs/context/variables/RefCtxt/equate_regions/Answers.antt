@@ -1,4 +1,4 @@
-use Rattle.std.proofs.Common.{refl, ap₂, ◌∙◌, ◌++◌, ◌∷◌, []}
+use Rattle.std.proofs.Common.{refl}
 use Rattle.relation_terms.specs.declared.predicate.RegionConstraint.TheVariants.{Eq}
 use Rattle.relation_terms.specs.declared.predicate.RegionConstraint.{RegionConstraint}
 use Rattle.relation_reference.specs.Tables.{store_of}
@@ -31,8 +31,7 @@ returns g c =
     let x = c.args.self.now.inner in
     let y = record x { constraints = c.push.new.self } in
     let r : RegionConstraint g.row.I-Key.Denot = Eq (record { 0 = c.args.a.now; 1 = c.args.b.now }) in
-    let more = c.in_ok-push.ensures.items
-    ∙ ap₂ (λ p q. x.constraints.items ++ Eq (record { 0 = p; 1 = q }) ∷ []) refl refl in
+    let more = c.in_ok-push.ensures.items in
     record {
       interner = refl;
       lawful = constraint_lawful m x y c.requires.lawful r (c.requires.a_in, c.requires.b_in) refl refl more refl refl;

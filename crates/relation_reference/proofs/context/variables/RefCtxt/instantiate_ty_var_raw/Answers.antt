@@ -1,11 +1,10 @@
-use Rattle.std.proofs.Common.{◌≡◌, refl, ◌∙◌, ap, sym, subst, suc, arith, IsTrue, ◌-◌, set, map}
+use Rattle.std.proofs.Common.{◌≡◌, refl, ◌∙◌, ap, sym, subst, suc, arith, IsTrue, ◌-◌}
 use Rattle.relation_terms.specs.Heads.{type_var}
 use Rattle.relation_terms.specs.Trees.{apply, Occurs, known}
 use Rattle.relation_terms.specs.Meaning.{Extends}
 use Rattle.relation_terms.specs.declared.terms.enums.Variance.TheVariants.{Invariant}
 use Rattle.type_relations.specs.Steps.{RefusesToInstantiate}
 use Rattle.type_relations.specs.Stores.{resolved, universe_of}
-use Rattle.relation_reference.specs.declared.context.inner.TypeVariableValue.TheVariants.{Known}
 use Rattle.relation_reference.specs.declared.context.inner.InferCtxtInner.{InferCtxtInner}
 use Rattle.relation_reference.specs.Tables.{store_of, IsLawful}
 use Rattle.relation_reference.proofs.Outside.{outside_occurs}
@@ -73,20 +72,19 @@ returns g c =
     let same_tables = c.resolve_vars_if_possible.ensures.inner in
     let stands = g.met.I.Interner.is_ty c.record.new.self.interner k sure in
     let e' = c.record.ensures in
-    let values = e'.values ∙ ap (λ v. set (map (λ t. t.value) z.types.items) c.args.target.0 (Known v)) refl in
     let u = c.universe_of_ty-universe.result in
     record {
       lawful = target_lawful grown x z y same_tables c.requires.lawful c.args.target.0 k u c.requires.target_made c.requires.target_unbound t c.requires.source_in c.requires.source_formed means stands absent in_universe
-          e'.keys values e'.universes e'.regions e'.constraints e'.universe left;
+          e'.keys e'.values e'.universes e'.regions e'.constraints e'.universe left;
       grown = grown;
       sure = sure;
       answers = (
         means,
         target_bound grown x z y same_tables c.requires.lawful c.args.target.0 k u c.requires.target_made c.requires.target_unbound t c.requires.source_in c.requires.source_formed means stands absent in_universe
-            e'.keys values e'.universes e'.regions e'.constraints e'.universe left,
+            e'.keys e'.values e'.universes e'.regions e'.constraints e'.universe left,
         absent,
       );
       steps = target_steps grown x z y same_tables c.requires.lawful c.args.target.0 k u c.requires.target_made c.requires.target_unbound t c.requires.source_in c.requires.source_formed means stands absent in_universe
-          e'.keys values e'.universes e'.regions e'.constraints e'.universe left;
+          e'.keys e'.values e'.universes e'.regions e'.constraints e'.universe left;
       why_known = tt;
     }

@@ -1,5 +1,4 @@
-use Rattle.std.proofs.Common.{refl, ◌≡◌, sym, ap, ◌∙◌, subst, IsTrue}
-use Rattle.relation_terms.specs.Trees.{known}
+use Rattle.std.proofs.Common.{refl, sym, ap, ◌∙◌, subst}
 use Rattle.type_relations.specs.Errors.{itself}
 use Rattle.type_relations.proofs.ReadAs.{read_resolves}
 use Rattle.relation_reference.specs.Tables.{store_of}
@@ -70,10 +69,9 @@ pub returns-in_default : goal.returns-in_default
 returns-in_default g c =
     let m = g.I.Interner.meaning c.args.self.now.interner in
     let st = store_of m c.args.self.now.inner in
-    let same : m.ty c.args.ty.now ≡ m.ty c.args.ty.now = refl in
     record {
-      sure = subst (λ t. IsTrue (known t)) same c.requires.ty_known;
-      reads = itself same;
-      resolves = read_resolves st c.requires.lawful.sound (m.ty c.args.ty.now) (m.ty c.args.ty.now) (itself same);
-      shallow = formed (subst IsFormed (sym c.ty_kind.ensures ∙ same) (formed_kind m c.ty_kind.result c.in_default.not-Infer));
+      sure = c.requires.ty_known;
+      reads = itself refl;
+      resolves = read_resolves st c.requires.lawful.sound (m.ty c.args.ty.now) (m.ty c.args.ty.now) (itself refl);
+      shallow = formed (subst IsFormed (sym c.ty_kind.ensures) (formed_kind m c.ty_kind.result c.in_default.not-Infer));
     }

@@ -1,4 +1,4 @@
-use Rattle.std.proofs.Common.{refl, ap₂, ◌∙◌, ◌++◌, ◌∷◌, []}
+use Rattle.std.proofs.Common.{refl}
 use Rattle.relation_terms.specs.declared.predicate.RegionConstraint.TheVariants.{Outlives}
 use Rattle.relation_terms.specs.declared.terms.generic_arg.GenericArgKind.TheVariants.{Lifetime}
 use Rattle.relation_terms.specs.declared.predicate.RegionConstraint.{RegionConstraint}
@@ -32,8 +32,7 @@ returns g c =
     let x = c.args.self.now.inner in
     let y = record x { constraints = c.push.new.self } in
     let r : RegionConstraint g.row.I-Key.Denot = Outlives (record { 0 = Lifetime c.args.sup.now; 1 = c.args.sub.now }) in
-    let more = c.in_ok-push.ensures.items
-    ∙ ap₂ (λ p q. x.constraints.items ++ Outlives (record { 0 = Lifetime p; 1 = q }) ∷ []) refl refl in
+    let more = c.in_ok-push.ensures.items in
     record {
       interner = refl;
       lawful = constraint_lawful m x y c.requires.lawful r (c.requires.sup_in, c.requires.sub_in) refl refl more refl refl;

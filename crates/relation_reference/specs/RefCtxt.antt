@@ -1,0 +1,20 @@
+-- What contracts see of a `RefCtxt`, by what the keys of its interner mean.
+use Rattle.relation_terms.specs.Trees.{Tree, apply}
+use Rattle.relation_terms.specs.Meaning.{Meaning}
+use Rattle.type_relations.specs.Stores.{Store, resolved}
+use Rattle.type_relations.specs.Contexts.{Context}
+use Rattle.relation_reference.specs.declared.context.variables.RefCtxt.{RefCtxt}
+use Rattle.relation_reference.specs.Tables.{store_of, context_of}
+
+module _ {I Key Id Name Span : Type 0} (meaning : I → Meaning Key Id Name) where
+  -- The store that its tables record.
+  abbrev pub store_in : RefCtxt I Key Id Name Span → Store
+  store_in c = store_of (meaning c.interner) c.inner
+
+  -- The context as it stands.
+  abbrev pub context_in : RefCtxt I Key Id Name Span → Context Key Id Name
+  context_in c = context_of (meaning c.interner) c.inner
+
+  -- What a term comes to in it, at every depth.
+  abbrev pub resolved_in : RefCtxt I Key Id Name Span → Tree → Tree
+  resolved_in c t = apply (resolved (store_in c)) t
