@@ -5,7 +5,8 @@ ghost use Rattle.relation_terms.specs.Trees.{Tree, known};
 ghost use Rattle.relation_tools.specs.Faults.{KnowsBoth, KnowsError, KnowsFault};
 ghost use Rattle.type_relations.specs.Stores.{ConstraintIn, entry_of, bound_to};
 ghost use Rattle.type_relations.specs.Constraints.{constraint_of};
-ghost use Rattle.relation_reference.specs.Tables.{store_of, IsLawful};
+ghost use Rattle.relation_reference.specs.Tables.{IsLawful};
+ghost use Rattle.relation_reference.specs.RefCtxt.{store_in};
 
 mod names;
 mod terms;
@@ -157,8 +158,7 @@ fn write_constraint<I: Interner, W: Write>(
     constraint: &RegionConstraint<I::Key>,
     out: &mut W,
 ) -> fmt::Result
-    requires { let m = I.meaning ctx.now.interner in
-        ConstraintIn (store_of m ctx.now.inner) (constraint_of m constraint.now) }
+    requires { ConstraintIn (store_in I.meaning ctx.now) (constraint_of (I.meaning ctx.now.interner) constraint.now) }
 {
     let cx = &ctx.interner;
     match constraint {
@@ -197,10 +197,9 @@ fn bound_type<I: Interner>(ctx: &RefCtxt<I>, number: usize) -> Option<Ty<I>>
     requires lawful { IsLawful (I.meaning ctx.now.interner) ctx.now.inner }
     requires made { number < length ctx.now.inner.types.items }
     ensures sure { IfSome result (λ t. IsTrue (known ((I.meaning ctx.now.interner).ty t))) }
-    ensures bound { let m = I.meaning ctx.now.interner in
-        IfSome result (λ t. entry_of (store_of m ctx.now.inner) type_var number ≡ bound_to (m.ty t)) }
-    ensures none { let m = I.meaning ctx.now.interner in
-        IfNone result ((t : Tree) → entry_of (store_of m ctx.now.inner) type_var number ≡ bound_to t → ⊥) }
+    ensures bound { IfSome result (λ t. entry_of (store_in I.meaning ctx.now) type_var number ≡
+        bound_to ((I.meaning ctx.now.interner).ty t)) }
+    ensures none { IfNone result ((t : Tree) → entry_of (store_in I.meaning ctx.now) type_var number ≡ bound_to t → ⊥) }
 {
     match &ctx.inner.types[number].value {
         TypeVariableValue::Known(ty) => Some(*ty),

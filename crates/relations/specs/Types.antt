@@ -1,10 +1,12 @@
 -- What the types that rows write mean: their trees, and whether all that they name is there.
-use Rattle.std.specs.Prelude.{ℕ, ◌^◌, Bool, true, ◌&&◌, nat_lt, List, [], ◌∷◌, Option, Some, None, map, slice_get}
+use Rattle.std.specs.Prelude.{ℕ, ◌^◌, Bool, true, ◌&&◌, nat_lt, List, [], ◌∷◌, Option, Some, None, map, slice_get, length}
 use Rattle.relation_terms.specs.Heads.{type_var, region_var, variable, atom, unknown, bool_type, char_type, uint_type}
 use Rattle.relation_terms.specs.Heads.{static_region, early_region, value_leaf, adt, array, slice, tuple, raw_ptr, ref}
 use Rattle.relation_terms.specs.Heads.{value, value_type}
 use Rattle.relation_terms.specs.Trees.{Tree, leaf, node, nil, cons, list_tree}
 use Rattle.relation_terms.specs.declared.terms.enums.UintTy.TheVariants.{Usize}
+use Rattle.relation_terms.specs.Meaning.{Meaning}
+use Rattle.relation_reference.specs.declared.context.variables.RefCtxt.{RefCtxt}
 use Rattle.relation_text.specs.declared.printing.names.Parameter.{Parameter}
 use Rattle.relation_text.specs.declared.printing.names.ItemText.{ItemText}
 use Rattle.relations.specs.declared.written.WrittenRegion.{WrittenRegion}
@@ -82,3 +84,18 @@ module _ (types regions parameters items : ℕ) where
 
   abbrev pub have_all : List Written → Bool
   have_all ws = all_true (map has_all ws)
+
+-- The tree of a type that is written over a context, as its interner numbers items and names.
+abbrev pub written_tree_in : {I Key Id Name Span : Type 0} → (I → Meaning Key Id Name) →
+    RefCtxt I Key Id Name Span → List (Parameter Name) → List (ItemText Id) → Written → Tree
+written_tree_in meaning c ps is = written_tree (meaning c.interner).id (meaning c.interner).name ps is
+
+-- With the variables of a context and these parameters and items.
+module _ {I Key Id Name Span : Type 0} (c : RefCtxt I Key Id Name Span)
+    (ps : List (Parameter Name)) (is : List (ItemText Id)) where
+  -- All that a type names is there, and all that several name.
+  abbrev pub has_all_in : Written → Bool
+  has_all_in w = has_all (length c.inner.types.items) (length c.inner.regions.items) (length ps) (length is) w
+
+  abbrev pub have_all_in : List Written → Bool
+  have_all_in ws = have_all (length c.inner.types.items) (length c.inner.regions.items) (length ps) (length is) ws

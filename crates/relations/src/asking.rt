@@ -8,8 +8,9 @@ ghost use Rattle.type_relations.specs.Stores.{IsTermIn};
 ghost use Rattle.type_relations.specs.Steps.{IsLater};
 ghost use Rattle.type_relations.specs.Contexts.{KnowsEnv, KnowsTy, TakesTy, HasTy, AnswersTys, TellsApart};
 ghost use Rattle.type_relations.specs.Taken.{IsTaken};
-ghost use Rattle.relation_reference.specs.Tables.{store_of, IsLawful};
-ghost use Rattle.relations.specs.Types.{written_tree, has_all};
+ghost use Rattle.relation_reference.specs.Tables.{IsLawful};
+ghost use Rattle.relation_reference.specs.RefCtxt.{store_in};
+ghost use Rattle.relations.specs.Types.{written_tree_in, has_all_in};
 ghost use Rattle.relations.specs.declared.written.BuildFault.TheVariants.{Missing};
 
 use crate::written::{BuildFault, Written, build};
@@ -37,8 +38,10 @@ pub struct Question {
 fn make_variables<I: Interner>(ctx: &mut RefCtxt<I>, question: &Question) -> Result<(), OutOfMemory>
     requires { IsLawful (I.meaning ctx.old.interner) ctx.old.inner }
     ensures lawful { IsLawful (I.meaning ctx.new.interner) ctx.new.inner }
-    ensures types { OnOk result (length ctx.new.inner.types.items ≡ length ctx.old.inner.types.items + question.now.type_variables) }
-    ensures regions { OnOk result (length ctx.new.inner.regions.items ≡ length ctx.old.inner.regions.items + question.now.region_variables) }
+    ensures types { OnOk result (length ctx.new.inner.types.items ≡
+        length ctx.old.inner.types.items + question.now.type_variables) }
+    ensures regions { OnOk result (length ctx.new.inner.regions.items ≡
+        length ctx.old.inner.regions.items + question.now.region_variables) }
 {
     for _ in 0..question.type_variables {
         let _ = ctx.next_ty_infer()?;
@@ -63,12 +66,15 @@ pub fn build_pair<I: Interner>(
     ensures env_known { IfOk result (λ p. IsTrue (known ((I.meaning ctx.new.interner).param_env p.0))) }
     ensures lhs_known { IfOk result (λ p. IsTrue (known ((I.meaning ctx.new.interner).ty p.1))) }
     ensures rhs_known { IfOk result (λ p. IsTrue (known ((I.meaning ctx.new.interner).ty p.2))) }
-    ensures lhs_in { IfOk result (λ p. IsTermIn (store_of (I.meaning ctx.new.interner) ctx.new.inner) ((I.meaning ctx.new.interner).ty p.1)) }
-    ensures rhs_in { IfOk result (λ p. IsTermIn (store_of (I.meaning ctx.new.interner) ctx.new.inner) ((I.meaning ctx.new.interner).ty p.2)) }
+    ensures lhs_in { IfOk result (λ p. IsTermIn (store_in I.meaning ctx.new) ((I.meaning ctx.new.interner).ty p.1)) }
+    ensures rhs_in { IfOk result (λ p. IsTermIn (store_in I.meaning ctx.new) ((I.meaning ctx.new.interner).ty p.2)) }
     ensures env_made { IfOk result (λ p. (I.meaning ctx.new.interner).param_env p.0 ≡ node environment nil) }
-    ensures lhs_made { IfOk result (λ p. (I.meaning ctx.new.interner).ty p.1 ≡ written_tree (I.meaning ctx.old.interner).id (I.meaning ctx.old.interner).name parameters.now items.now pair.now.0) }
-    ensures rhs_made { IfOk result (λ p. (I.meaning ctx.new.interner).ty p.2 ≡ written_tree (I.meaning ctx.old.interner).id (I.meaning ctx.old.interner).name parameters.now items.now pair.now.1) }
-    ensures missing { result ≡ Err Missing → IsFalse (has_all (length ctx.old.inner.types.items) (length ctx.old.inner.regions.items) (length parameters.now) (length items.now) pair.now.0 && has_all (length ctx.old.inner.types.items) (length ctx.old.inner.regions.items) (length parameters.now) (length items.now) pair.now.1) }
+    ensures lhs_made { IfOk result (λ p. (I.meaning ctx.new.interner).ty p.1 ≡
+        written_tree_in I.meaning ctx.old parameters.now items.now pair.now.0) }
+    ensures rhs_made { IfOk result (λ p. (I.meaning ctx.new.interner).ty p.2 ≡
+        written_tree_in I.meaning ctx.old parameters.now items.now pair.now.1) }
+    ensures missing { result ≡ Err Missing → IsFalse (has_all_in ctx.old parameters.now items.now pair.now.0 &&
+        has_all_in ctx.old parameters.now items.now pair.now.1) }
 {
     let param_env = ctx.interner.empty_param_env()?;
     let lhs = build(ctx, parameters, items, &pair.0)?;
@@ -81,7 +87,8 @@ pub fn build_pair<I: Interner>(
 fn can_relate<I: Interner>(cx: &I, lhs: &Ty<I>, variance: Variance, rhs: &Ty<I>) -> bool
     requires lhs_known { IsTrue (known ((I.meaning cx.now).ty lhs.now)) }
     requires rhs_known { IsTrue (known ((I.meaning cx.now).ty rhs.now)) }
-    ensures { IsTrue result ↔ ((variance ≢ Variance.Bivariant) × (IsTaken variance ((I.meaning cx.now).ty lhs.now) × IsTaken variance ((I.meaning cx.now).ty rhs.now))) }
+    ensures { IsTrue result ↔ ((variance ≢ Variance.Bivariant) ×
+        (IsTaken variance ((I.meaning cx.now).ty lhs.now) × IsTaken variance ((I.meaning cx.now).ty rhs.now))) }
 {
     match variance {
         Variance::Invariant => true,

@@ -1,6 +1,7 @@
 //! The rows, their stored answers, and the program's runs.
-ghost use Rattle.std.specs.Prelude.{◌≡◌, ◌<◌, ◌≤◌, ◌↔◌, ◌∷◌, [], suc, IsTrue, IfSome, IfOk, OnOk, length, slice_get, string_bytes};
-ghost use Rattle.relation_reference.specs.Adding.{item_count};
+ghost use Rattle.std.specs.Prelude.{◌≡◌, ◌<◌, ◌≤◌, ◌↔◌, ◌∷◌, [], suc, IsTrue, IfSome, IfOk, OnOk, length, slice_get};
+ghost use Rattle.std.specs.Prelude.{string_bytes};
+ghost use Rattle.relation_reference.specs.Adding.{item_count, meaning_in};
 ghost use Rattle.relations.specs.Named.{IsRow};
 
 use crate::asking::{Question, ask};
@@ -225,7 +226,7 @@ const ROWS: [Row; 8] = [
 // Adds an item that has type parameters of these variances.
 fn add_item(cx: &mut RefInterner, variances: &[Variance]) -> Result<(), OutOfMemory>
     ensures number { OnOk result (item_count cx.new ≡ suc (item_count cx.old)) }
-    ensures variances { OnOk result ((⟦<RefInterner as Interner>⟧.meaning cx.new).variances (item_count cx.old) ≡ variances.now) }
+    ensures variances { OnOk result ((meaning_in cx.new).variances (item_count cx.old) ≡ variances.now) }
 {
     let mut params = Vec::new(cx.alloc());
     for _ in variances {
@@ -247,7 +248,7 @@ fn add_item(cx: &mut RefInterner, variances: &[Variance]) -> Result<(), OutOfMem
 /// `OutOfMemory` where a growth was refused.
 pub fn make_interner(alloc: Global) -> Result<RefInterner, OutOfMemory>
     ensures one_item { IfOk result (λ cx. item_count cx ≡ 1) }
-    ensures variances { IfOk result (λ cx. (⟦<RefInterner as Interner>⟧.meaning cx).variances 0 ≡ Variance.Contravariant ∷ []) }
+    ensures variances { IfOk result (λ cx. (meaning_in cx).variances 0 ≡ Variance.Contravariant ∷ []) }
 {
     let mut cx = RefInterner::new(alloc);
     add_item(&mut cx, &[Variance::Contravariant])?;

@@ -4,8 +4,10 @@ ghost use Rattle.relation_terms.specs.Heads.{type_var, variable};
 ghost use Rattle.relation_terms.specs.Trees.{leaf, known, list_tree};
 ghost use Rattle.relation_terms.specs.Meaning.{Extends, kind_tree, region_tree, arg_tree};
 ghost use Rattle.type_relations.specs.Stores.{IsTermIn};
-ghost use Rattle.relation_reference.specs.Tables.{store_of, IsLawful};
-ghost use Rattle.relations.specs.Types.{written_region, written_tree, item_tree, length_tree, has_region, has_all, have_all};
+ghost use Rattle.relation_reference.specs.Tables.{IsLawful};
+ghost use Rattle.relation_reference.specs.RefCtxt.{store_in};
+ghost use Rattle.relations.specs.Types.{written_region, item_tree, length_tree, has_region};
+ghost use Rattle.relations.specs.Types.{written_tree_in, has_all_in, have_all_in};
 ghost use Rattle.relations.specs.declared.written.BuildFault.TheVariants.{Memory, Missing};
 
 use relation_reference::context::RefCtxt;
@@ -76,13 +78,14 @@ fn make_region<I: Interner>(
     kind: RegionForm<I>,
 ) -> Result<Region<I>, BuildFault>
     requires lawful { IsLawful (I.meaning ctx.old.interner) ctx.old.inner }
-    requires form_in { IsTermIn (store_of (I.meaning ctx.old.interner) ctx.old.inner) (region_tree (I.meaning ctx.old.interner) kind) }
+    requires form_in { IsTermIn (store_in I.meaning ctx.old) (region_tree (I.meaning ctx.old.interner) kind) }
     ensures lawful { IsLawful (I.meaning ctx.new.interner) ctx.new.inner }
     ensures grown { Extends (I.meaning ctx.old.interner) (I.meaning ctx.new.interner) }
     ensures tables { ctx.new.inner ≡ ctx.old.inner }
     ensures sure { IfOk result (λ r. IsTrue (known ((I.meaning ctx.new.interner).region r))) }
-    ensures is_in { IfOk result (λ r. IsTermIn (store_of (I.meaning ctx.new.interner) ctx.new.inner) ((I.meaning ctx.new.interner).region r)) }
-    ensures made { IfOk result (λ r. (I.meaning ctx.new.interner).region r ≡ region_tree (I.meaning ctx.old.interner) kind) }
+    ensures is_in { IfOk result (λ r. IsTermIn (store_in I.meaning ctx.new) ((I.meaning ctx.new.interner).region r)) }
+    ensures made { IfOk result (λ r. (I.meaning ctx.new.interner).region r ≡
+        region_tree (I.meaning ctx.old.interner) kind) }
     ensures memory { IfErr result (λ e. e ≡ Memory) }
 {
     let region = ctx.interner.mk_region(kind)?;
@@ -93,12 +96,12 @@ fn make_region<I: Interner>(
 fn make_ty<I: Interner>(ctx: &mut RefCtxt<I>, kind: TyForm<I>) -> Result<Ty<I>, BuildFault>
     requires lawful { IsLawful (I.meaning ctx.old.interner) ctx.old.inner }
     requires form_known { IsTrue (known (kind_tree (I.meaning ctx.old.interner) kind)) }
-    requires form_in { IsTermIn (store_of (I.meaning ctx.old.interner) ctx.old.inner) (kind_tree (I.meaning ctx.old.interner) kind) }
+    requires form_in { IsTermIn (store_in I.meaning ctx.old) (kind_tree (I.meaning ctx.old.interner) kind) }
     ensures lawful { IsLawful (I.meaning ctx.new.interner) ctx.new.inner }
     ensures grown { Extends (I.meaning ctx.old.interner) (I.meaning ctx.new.interner) }
     ensures tables { ctx.new.inner ≡ ctx.old.inner }
     ensures sure { IfOk result (λ t. IsTrue (known ((I.meaning ctx.new.interner).ty t))) }
-    ensures is_in { IfOk result (λ t. IsTermIn (store_of (I.meaning ctx.new.interner) ctx.new.inner) ((I.meaning ctx.new.interner).ty t)) }
+    ensures is_in { IfOk result (λ t. IsTermIn (store_in I.meaning ctx.new) ((I.meaning ctx.new.interner).ty t)) }
     ensures made { IfOk result (λ t. (I.meaning ctx.new.interner).ty t ≡ kind_tree (I.meaning ctx.old.interner) kind) }
     ensures memory { IfErr result (λ e. e ≡ Memory) }
 {
@@ -110,13 +113,14 @@ fn make_ty<I: Interner>(ctx: &mut RefCtxt<I>, kind: TyForm<I>) -> Result<Ty<I>, 
 fn make_type_list<I: Interner>(ctx: &mut RefCtxt<I>, types: &[Ty<I>]) -> Result<Tys<I>, BuildFault>
     requires lawful { IsLawful (I.meaning ctx.old.interner) ctx.old.inner }
     requires list_known { IsTrue (known (list_tree (I.meaning ctx.old.interner).ty types.now)) }
-    requires list_in { IsTermIn (store_of (I.meaning ctx.old.interner) ctx.old.inner) (list_tree (I.meaning ctx.old.interner).ty types.now) }
+    requires list_in { IsTermIn (store_in I.meaning ctx.old) (list_tree (I.meaning ctx.old.interner).ty types.now) }
     ensures lawful { IsLawful (I.meaning ctx.new.interner) ctx.new.inner }
     ensures grown { Extends (I.meaning ctx.old.interner) (I.meaning ctx.new.interner) }
     ensures tables { ctx.new.inner ≡ ctx.old.inner }
     ensures sure { IfOk result (λ t. IsTrue (known ((I.meaning ctx.new.interner).tys t))) }
-    ensures is_in { IfOk result (λ t. IsTermIn (store_of (I.meaning ctx.new.interner) ctx.new.inner) ((I.meaning ctx.new.interner).tys t)) }
-    ensures made { IfOk result (λ t. (I.meaning ctx.new.interner).tys t ≡ list_tree (I.meaning ctx.old.interner).ty types.now) }
+    ensures is_in { IfOk result (λ t. IsTermIn (store_in I.meaning ctx.new) ((I.meaning ctx.new.interner).tys t)) }
+    ensures made { IfOk result (λ t. (I.meaning ctx.new.interner).tys t ≡
+        list_tree (I.meaning ctx.old.interner).ty types.now) }
     ensures memory { IfErr result (λ e. e ≡ Memory) }
 {
     let list = ctx.interner.mk_type_list(types)?;
@@ -130,13 +134,14 @@ fn make_args<I: Interner>(
 ) -> Result<GenericArgs<I>, BuildFault>
     requires lawful { IsLawful (I.meaning ctx.old.interner) ctx.old.inner }
     requires list_known { IsTrue (known (list_tree (I.meaning ctx.old.interner).ty types.now)) }
-    requires list_in { IsTermIn (store_of (I.meaning ctx.old.interner) ctx.old.inner) (list_tree (I.meaning ctx.old.interner).ty types.now) }
+    requires list_in { IsTermIn (store_in I.meaning ctx.old) (list_tree (I.meaning ctx.old.interner).ty types.now) }
     ensures lawful { IsLawful (I.meaning ctx.new.interner) ctx.new.inner }
     ensures grown { Extends (I.meaning ctx.old.interner) (I.meaning ctx.new.interner) }
     ensures tables { ctx.new.inner ≡ ctx.old.inner }
     ensures sure { IfOk result (λ a. IsTrue (known ((I.meaning ctx.new.interner).args a))) }
-    ensures is_in { IfOk result (λ a. IsTermIn (store_of (I.meaning ctx.new.interner) ctx.new.inner) ((I.meaning ctx.new.interner).args a)) }
-    ensures made { IfOk result (λ a. (I.meaning ctx.new.interner).args a ≡ list_tree (I.meaning ctx.old.interner).ty types.now) }
+    ensures is_in { IfOk result (λ a. IsTermIn (store_in I.meaning ctx.new) ((I.meaning ctx.new.interner).args a)) }
+    ensures made { IfOk result (λ a. (I.meaning ctx.new.interner).args a ≡
+        list_tree (I.meaning ctx.old.interner).ty types.now) }
     ensures memory { IfErr result (λ e. e ≡ Memory) }
 {
     let mut args = Vec::new(ctx.interner.alloc());
@@ -154,7 +159,7 @@ fn make_length<I: Interner>(ctx: &mut RefCtxt<I>, length: u64) -> Result<Const<I
     ensures grown { Extends (I.meaning ctx.old.interner) (I.meaning ctx.new.interner) }
     ensures tables { ctx.new.inner ≡ ctx.old.inner }
     ensures sure { IfOk result (λ c. IsTrue (known ((I.meaning ctx.new.interner).const_ c))) }
-    ensures is_in { IfOk result (λ c. IsTermIn (store_of (I.meaning ctx.new.interner) ctx.new.inner) ((I.meaning ctx.new.interner).const_ c)) }
+    ensures is_in { IfOk result (λ c. IsTermIn (store_in I.meaning ctx.new) ((I.meaning ctx.new.interner).const_ c)) }
     ensures made { IfOk result (λ c. (I.meaning ctx.new.interner).const_ c ≡ length_tree length) }
     ensures memory { IfErr result (λ e. e ≡ Memory) }
 {
@@ -178,9 +183,11 @@ fn build_region<I: Interner>(
     ensures grown { Extends (I.meaning ctx.old.interner) (I.meaning ctx.new.interner) }
     ensures tables { ctx.new.inner ≡ ctx.old.inner }
     ensures sure { IfOk result (λ r. IsTrue (known ((I.meaning ctx.new.interner).region r))) }
-    ensures is_in { IfOk result (λ r. IsTermIn (store_of (I.meaning ctx.new.interner) ctx.new.inner) ((I.meaning ctx.new.interner).region r)) }
-    ensures made { IfOk result (λ r. (I.meaning ctx.new.interner).region r ≡ written_region (I.meaning ctx.old.interner).name parameters.now written) }
-    ensures missing { result ≡ Err Missing → IsFalse (has_region (length ctx.old.inner.regions.items) (length parameters.now) written) }
+    ensures is_in { IfOk result (λ r. IsTermIn (store_in I.meaning ctx.new) ((I.meaning ctx.new.interner).region r)) }
+    ensures made { IfOk result (λ r. (I.meaning ctx.new.interner).region r ≡
+        written_region (I.meaning ctx.old.interner).name parameters.now written) }
+    ensures missing { result ≡ Err Missing →
+        IsFalse (has_region (length ctx.old.inner.regions.items) (length parameters.now) written) }
 {
     match written {
         WrittenRegion::Static => make_region(ctx, RegionKind::ReStatic),
@@ -211,7 +218,7 @@ fn variable_of<I: Interner>(ctx: &RefCtxt<I>, number: usize) -> Ty<I>
     requires lawful { IsLawful (I.meaning ctx.now.interner) ctx.now.inner }
     requires made { number < length ctx.now.inner.types.items }
     ensures sure { IsTrue (known ((I.meaning ctx.now.interner).ty result)) }
-    ensures is_in { IsTermIn (store_of (I.meaning ctx.now.interner) ctx.now.inner) ((I.meaning ctx.now.interner).ty result) }
+    ensures is_in { IsTermIn (store_in I.meaning ctx.now) ((I.meaning ctx.now.interner).ty result) }
     ensures means { (I.meaning ctx.now.interner).ty result ≡ leaf (variable type_var number) }
 {
     ctx.inner.types[number].key
@@ -230,9 +237,10 @@ pub fn build<I: Interner>(
     ensures grown { Extends (I.meaning ctx.old.interner) (I.meaning ctx.new.interner) }
     ensures tables { ctx.new.inner ≡ ctx.old.inner }
     ensures sure { IfOk result (λ t. IsTrue (known ((I.meaning ctx.new.interner).ty t))) }
-    ensures is_in { IfOk result (λ t. IsTermIn (store_of (I.meaning ctx.new.interner) ctx.new.inner) ((I.meaning ctx.new.interner).ty t)) }
-    ensures made { IfOk result (λ t. (I.meaning ctx.new.interner).ty t ≡ written_tree (I.meaning ctx.old.interner).id (I.meaning ctx.old.interner).name parameters.now items.now written.now) }
-    ensures missing { result ≡ Err Missing → IsFalse (has_all (length ctx.old.inner.types.items) (length ctx.old.inner.regions.items) (length parameters.now) (length items.now) written.now) }
+    ensures is_in { IfOk result (λ t. IsTermIn (store_in I.meaning ctx.new) ((I.meaning ctx.new.interner).ty t)) }
+    ensures made { IfOk result (λ t. (I.meaning ctx.new.interner).ty t ≡
+        written_tree_in I.meaning ctx.old parameters.now items.now written.now) }
+    ensures missing { result ≡ Err Missing → IsFalse (has_all_in ctx.old parameters.now items.now written.now) }
 {
     match written {
         Written::Bool => make_ty(ctx, TyKind::Bool),
@@ -285,9 +293,12 @@ fn build_item<I: Interner>(
     ensures grown { Extends (I.meaning ctx.old.interner) (I.meaning ctx.new.interner) }
     ensures tables { ctx.new.inner ≡ ctx.old.inner }
     ensures sure { IfOk result (λ t. IsTrue (known ((I.meaning ctx.new.interner).ty t))) }
-    ensures is_in { IfOk result (λ t. IsTermIn (store_of (I.meaning ctx.new.interner) ctx.new.inner) ((I.meaning ctx.new.interner).ty t)) }
-    ensures made { IfOk result (λ t. (I.meaning ctx.new.interner).ty t ≡ item_tree (I.meaning ctx.old.interner).id (slice_get items.now place) (list_tree (written_tree (I.meaning ctx.old.interner).id (I.meaning ctx.old.interner).name parameters.now items.now) written.now)) }
-    ensures missing { result ≡ Err Missing → IsFalse (nat_lt place (length items.now) && have_all (length ctx.old.inner.types.items) (length ctx.old.inner.regions.items) (length parameters.now) (length items.now) written.now) }
+    ensures is_in { IfOk result (λ t. IsTermIn (store_in I.meaning ctx.new) ((I.meaning ctx.new.interner).ty t)) }
+    ensures made { IfOk result (λ t. (I.meaning ctx.new.interner).ty t ≡
+        item_tree (I.meaning ctx.old.interner).id (slice_get items.now place)
+        (list_tree (written_tree_in I.meaning ctx.old parameters.now items.now) written.now)) }
+    ensures missing { result ≡ Err Missing →
+        IsFalse (nat_lt place (length items.now) && have_all_in ctx.old parameters.now items.now written.now) }
 {
     let Some(item) = items.get(place) else {
         return Err(BuildFault::Missing);
@@ -310,9 +321,11 @@ fn build_all<I: Interner>(
     ensures grown { Extends (I.meaning ctx.old.interner) (I.meaning ctx.new.interner) }
     ensures tables { ctx.new.inner ≡ ctx.old.inner }
     ensures sure { IfOk result (λ v. IsTrue (known (list_tree (I.meaning ctx.new.interner).ty v.items))) }
-    ensures are_in { IfOk result (λ v. IsTermIn (store_of (I.meaning ctx.new.interner) ctx.new.inner) (list_tree (I.meaning ctx.new.interner).ty v.items)) }
-    ensures made { IfOk result (λ v. list_tree (I.meaning ctx.new.interner).ty v.items ≡ list_tree (written_tree (I.meaning ctx.old.interner).id (I.meaning ctx.old.interner).name parameters.now items.now) written.now) }
-    ensures missing { result ≡ Err Missing → IsFalse (have_all (length ctx.old.inner.types.items) (length ctx.old.inner.regions.items) (length parameters.now) (length items.now) written.now) }
+    ensures are_in { IfOk result (λ v. IsTermIn (store_in I.meaning ctx.new)
+        (list_tree (I.meaning ctx.new.interner).ty v.items)) }
+    ensures made { IfOk result (λ v. list_tree (I.meaning ctx.new.interner).ty v.items ≡
+        list_tree (written_tree_in I.meaning ctx.old parameters.now items.now) written.now) }
+    ensures missing { result ≡ Err Missing → IsFalse (have_all_in ctx.old parameters.now items.now written.now) }
 {
     let mut types = Vec::new(ctx.interner.alloc());
     for member in written {
