@@ -123,7 +123,8 @@ impl Tree {
         ensures number { IfOk result (λ n. n ≡ length self.old.nodes.items) }
         ensures nodes { OnOk result (length self.new.nodes.items ≡ suc (length self.old.nodes.items)) }
         ensures parts { OnOk result (length self.new.parts.items ≡ length self.old.parts.items + length parts.now) }
-        ensures leaves { OnOk result (node_words self.new.nodes.items ≡ node_words self.old.nodes.items ++ kind_words kind start end) }
+        ensures leaves { let before = node_words self.old.nodes.items in
+            OnOk result (node_words self.new.nodes.items ≡ before ++ kind_words kind start end) }
         ensures refused { OnErr result (self.new.nodes.items ≡ self.old.nodes.items) }
     {
         let number = self.nodes.len();
