@@ -1,4 +1,8 @@
 pub mod BlankLemmas
+pub mod AskingLemmas
+pub mod BuildingLemmas
+pub mod Counting
+pub mod NeedLemmas
 pub mod Parts
 pub mod PlaceLemmas
 pub mod Recorded

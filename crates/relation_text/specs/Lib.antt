@@ -4,3 +4,7 @@ pub mod Signs
 pub mod Words
 pub mod Trees
 pub mod Reads
+pub mod Terms
+pub mod Built
+pub mod Needs
+pub mod Asking

@@ -1,5 +1,8 @@
-//! Questions as text: how they are read, and how terms, errors and answers print.
+//! Questions as text: how they are read, what their names mean, what is built of them, and how answers print.
 #![tactic(auto)]
 
+pub mod asking;
+pub mod building;
+pub mod naming;
 pub mod printing;
 pub mod reading;

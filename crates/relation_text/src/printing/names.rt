@@ -3,35 +3,35 @@ use relation_terms::terms::{FloatTy, IntTy, Keys, Mutability, UintTy};
 
 /// A name in an interner, and its text.
 #[derive(Clone, Copy)]
-pub struct Parameter<N> {
+pub struct Parameter<'a, N> {
     pub name: N,
-    pub text: &'static str,
+    pub text: &'a str,
 }
 
 /// An item's id in an interner, and its text.
 #[derive(Clone, Copy)]
-pub struct ItemText<D> {
+pub struct ItemText<'a, D> {
     pub id: D,
-    pub text: &'static str,
+    pub text: &'a str,
 }
 
 /// The texts of names and of items, as the caller hands them in. Of several texts of one name or one item the first is
 /// taken.
 #[derive(Drop)]
 pub struct Texts<'a, D, N> {
-    pub names: &'a [Parameter<N>],
-    pub items: &'a [ItemText<D>],
+    pub names: &'a [Parameter<'a, N>],
+    pub items: &'a [ItemText<'a, D>],
 }
 
 /// The texts of an interner's names and items.
 pub type TextsOf<'a, I> = Texts<'a, <I as Keys>::Id, <I as Keys>::Name>;
 
 // The text of a name, or else the given one.
-pub(super) fn name_text<N: PartialEq>(
-    names: &[Parameter<N>],
+pub(super) fn name_text<'a, N: PartialEq>(
+    names: &[Parameter<'a, N>],
     name: &N,
-    otherwise: &'static str,
-) -> &'static str {
+    otherwise: &'a str,
+) -> &'a str {
     for named in names {
         if named.name == *name {
             return named.text;
@@ -41,7 +41,7 @@ pub(super) fn name_text<N: PartialEq>(
 }
 
 // The text of an item. One that has no text is `_`.
-pub(super) fn item_text<D: PartialEq>(items: &[ItemText<D>], id: &D) -> &'static str {
+pub(super) fn item_text<'a, D: PartialEq>(items: &[ItemText<'a, D>], id: &D) -> &'a str {
     for item in items {
         if item.id == *id {
             return item.text;

@@ -1,0 +1,115 @@
+//! Answers to the questions of a text, or what is wrong with it.
+
+use relation_text::asking::ask_all;
+use relation_text::naming::{NameError, look_up, write_name_error};
+use relation_text::reading::{ReadError, place_of, read, write_error};
+use std::alloc::Global;
+use std::fmt::{self, Write};
+use std::io::{self, Read};
+
+/// The status where all was read and asked.
+pub const ANSWERED: u8 = 0;
+
+/// The status where an answer can't be written.
+pub const UNWRITTEN: u8 = 1;
+
+/// The status where the text is wrong, can't be read, or the words are wrong.
+pub const WRONG: u8 = 2;
+
+/// What standard input is called where a file's name stands.
+pub const STDIN: &str = "stdin";
+
+// One byte more than a text may have: then it is seen that a text has too many.
+const ENOUGH: u64 = 1_048_577;
+
+/// Whether that word stands for standard input.
+pub fn is_stdin(word: &str) -> bool {
+    word == "-"
+}
+
+/// The bytes of a reader, as many as are needed to see that they are too many.
+///
+/// # Errors
+/// What the reader answers, and that a growth was refused.
+pub fn bytes_of<R: Read + Drop>(alloc: Global, reader: R) -> io::Result<Vec<u8>> {
+    let mut bytes = Vec::new(alloc);
+    let _ = reader.take(ENOUGH).read_to_end(&mut bytes)?;
+    Ok(bytes)
+}
+
+// A writer of text over one of bytes.
+#[derive(Drop)]
+struct Lines<'a, O> {
+    out: &'a mut O,
+}
+
+impl<O: io::Write> Write for Lines<'_, O> {
+    fn write_str(&mut self, text: &str) -> fmt::Result {
+        self.out.write_all(text.as_bytes()).map_err(|_| fmt::Error)
+    }
+}
+
+// Writes the name of a file and, if there is one, a place in its text.
+fn write_place<W: Write>(
+    name: &str,
+    bytes: &[u8],
+    span: Option<(usize, usize)>,
+    out: &mut W,
+) -> fmt::Result {
+    out.write_str(name)?;
+    match span {
+        Some((at, _)) if at <= bytes.len() => {
+            let place = place_of(bytes, at);
+            write!(out, ":{}:{}: ", place.line, place.column)
+        }
+        _ => out.write_str(": "),
+    }
+}
+
+// Tells why a text can't be read.
+fn tell_unread<W: Write>(name: &str, bytes: &[u8], error: &ReadError, out: &mut W) -> fmt::Result {
+    write_place(name, bytes, error.span(), out)?;
+    write_error(str::from_utf8(bytes).unwrap_or(""), error, out)?;
+    out.write_str("\n")
+}
+
+// Tells why the names of a text can't be looked up.
+fn tell_unnamed<W: Write>(name: &str, text: &str, error: &NameError, out: &mut W) -> fmt::Result {
+    write_place(name, text.as_bytes(), error.span(), out)?;
+    write_name_error(text, error, out)?;
+    out.write_str("\n")
+}
+
+/// Answers the questions of a text, each on a line of its own, and gives the status. Where the text is wrong, `err` is
+/// told so, and nothing is answered.
+pub fn answer<O: io::Write, E: io::Write>(
+    alloc: Global,
+    name: &str,
+    bytes: &[u8],
+    out: &mut O,
+    err: &mut E,
+) -> u8 {
+    let mut out = Lines { out };
+    let mut err = Lines { out: err };
+    let tree = match read(alloc, bytes) {
+        Ok(tree) => tree,
+        Err(error) => {
+            let _ = tell_unread(name, bytes, &error, &mut err);
+            return WRONG;
+        }
+    };
+    let Ok(text) = str::from_utf8(bytes) else {
+        let _ = writeln!(err, "{name}: the text is not UTF-8");
+        return WRONG;
+    };
+    match look_up(alloc, text, &tree) {
+        Err(error) => {
+            let _ = tell_unnamed(name, text, &error, &mut err);
+            WRONG
+        }
+        Ok(program) => match ask_all(alloc, &program, &mut out) {
+            Ok(()) => ANSWERED,
+            Err(_) => UNWRITTEN,
+        },
+    }
+}

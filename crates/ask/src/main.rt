@@ -1,0 +1,38 @@
+//! Answers questions that are asked as text, each on a line of its own.
+#![tactic(auto)]
+
+mod answering;
+
+use answering::{STDIN, WRONG, answer, bytes_of, is_stdin};
+use std::io::Write;
+use std::process::ExitCode;
+use std::{env, fs, io};
+
+fn main(rt: HostRuntime) -> io::Result<ExitCode> {
+    let words: Vec<String> = env::args(&rt)?.skip(1).collect(rt.alloc())?;
+    let mut out = rt.stdout();
+    let mut err = rt.stderr();
+    if words.len() > 1 {
+        let _ = writeln!(err, "usage: ask [FILE]");
+        return Ok(ExitCode::from(WRONG));
+    }
+    let name = words.first().map_or("-", |word| word.as_str());
+    let (name, bytes) = if is_stdin(name) {
+        (STDIN, bytes_of(rt.alloc(), rt.stdin()))
+    } else {
+        match fs::open(&rt, name) {
+            Ok(file) => (name, bytes_of(rt.alloc(), file)),
+            Err(error) => (name, Err(error)),
+        }
+    };
+    match bytes {
+        Ok(bytes) => {
+            let status = answer(rt.alloc(), name, &bytes, &mut out, &mut err);
+            Ok(ExitCode::from(status))
+        }
+        Err(error) => {
+            let _ = writeln!(err, "{name}: {error}");
+            Ok(ExitCode::from(WRONG))
+        }
+    }
+}

@@ -1,0 +1,16 @@
+use Rattle.std.proofs.Common.{map, sym, ap, ◌∙◌}
+use Rattle.relation_terms.specs.Heads.{atom, early_region}
+use Rattle.relation_text.specs.Terms.{term_tree}
+use Rattle.relation_text.proofs.BuildingLemmas.{leaf_is}
+use Rattle.relation_text.proofs.building.making.region_form.Goals as goal
+
+pub returns-in-Static : goal.returns-in-Static
+returns-in-Static g c m items parts ts = sym (ap (term_tree items (map m.name c.args.names.now) parts ts) c.in-Static.is)
+
+pub returns-in-RegionVar : goal.returns-in-RegionVar
+returns-in-RegionVar g c m items parts ts = sym (ap (term_tree items (map m.name c.args.names.now) parts ts) c.in-RegionVar.is)
+
+pub returns-in_ok-name-in-RegionParam : goal.returns-in_ok-name-in-RegionParam
+returns-in_ok-name-in-RegionParam g c m items parts ts =
+    leaf_is (λ x. atom (early_region c.in-RegionParam.index x)) m.name c.args.names.now c.in-RegionParam.name c.in_ok-name-in-RegionParam.name c.in_ok-name-in-RegionParam.ensures
+    ∙ sym (ap (term_tree items (map m.name c.args.names.now) parts ts) c.in-RegionParam.is)

@@ -1,0 +1,79 @@
+-- The trees of a program's terms: each by its form, over the trees of the terms that stand before it.
+use Rattle.std.specs.Prelude.{ℕ, List, [], ◌∷◌, ◌++◌, Option, Some, None, get_or, slice_get, slice_range}
+use Rattle.relation_terms.specs.Heads.{Leaf, atom, variable, placeholder, unknown, bound_kind, type_kind, const_kind}
+use Rattle.relation_terms.specs.Heads.{type_var, region_var, bool_type, char_type, str_type, never_type, int_type}
+use Rattle.relation_terms.specs.Heads.{uint_type, float_type, foreign, type_param, static_region, early_region}
+use Rattle.relation_terms.specs.Heads.{const_param, value_leaf, adt, fn_def, closure, coroutine_closure, coroutine}
+use Rattle.relation_terms.specs.Heads.{array, slice, tuple, raw_ptr, ref, expression, value, value_type, value_branch}
+use Rattle.relation_terms.specs.Trees.{Tree, leaf, node, nil, cons, list_tree}
+use Rattle.relation_text.specs.declared.reading.tree.ItemSort.{ItemSort}
+use Rattle.relation_text.specs.declared.reading.tree.ItemSort.TheVariants as sort
+use Rattle.relation_text.specs.declared.naming.program.Parts.{Parts}
+use Rattle.relation_text.specs.declared.naming.program.Term.{Term}
+use Rattle.relation_text.specs.declared.naming.program.Term.TheVariants as term
+
+-- The tree of a number; of one that stands for no term, unknown.
+abbrev pub at : List Tree → ℕ → Tree
+at ts n = get_or ts n (leaf unknown)
+
+-- The list of the trees of a term's parts, which a list of numbers has.
+abbrev pub parts_tree : List ℕ → List Tree → Parts → Tree
+parts_tree ns ts p = list_tree (at ts) (slice_range ns p.first p.behind)
+
+-- A leaf that is made of what may be missing.
+abbrev pub leaf_of : (ℕ → Leaf) → Option ℕ → Tree
+leaf_of f None = leaf unknown
+leaf_of f (Some n) = leaf (f n)
+
+-- An item of a sort over the list of its arguments; of an item that is missing, unknown.
+abbrev pub item_tree : ItemSort → Option ℕ → Tree → Tree
+item_tree s None ts = leaf unknown
+item_tree sort.Struct (Some d) ts = node (adt d) ts
+item_tree sort.Fn (Some d) ts = node (fn_def d) ts
+item_tree sort.Closure (Some d) ts = node (closure d) ts
+item_tree sort.Coroutine (Some d) ts = node (coroutine d) ts
+item_tree sort.CoroutineClosure (Some d) ts = node (coroutine_closure d) ts
+item_tree sort.Foreign (Some d) ts = leaf (atom (foreign d))
+
+-- A value of a type.
+abbrev pub value_tree : Tree → Tree → Tree
+value_tree t v = node value (cons (node value_type (cons t nil)) (cons v nil))
+
+-- Over the numbers of the items and of the names, and the numbers of all parts.
+module _ (items names parts : List ℕ) where
+  -- The tree of a term, over the trees of those before it.
+  abbrev pub term_tree : List Tree → Term → Tree
+  term_tree ts term.Bool = leaf (atom bool_type)
+  term_tree ts term.Char = leaf (atom char_type)
+  term_tree ts term.Str = leaf (atom str_type)
+  term_tree ts term.Never = leaf (atom never_type)
+  term_tree ts (term.Int w) = leaf (atom (int_type w))
+  term_tree ts (term.Uint w) = leaf (atom (uint_type w))
+  term_tree ts (term.Float w) = leaf (atom (float_type w))
+  term_tree ts (term.Item s d p) = item_tree s (slice_get items d) (parts_tree parts ts p)
+  term_tree ts (term.Slice t) = node slice (cons (at ts t) nil)
+  term_tree ts (term.Array t c) = node array (cons (at ts t) (cons (at ts c) nil))
+  term_tree ts (term.Tuple p) = node tuple (parts_tree parts ts p)
+  term_tree ts (term.RawPtr t u) = node (raw_ptr u) (cons (at ts t) nil)
+  term_tree ts (term.Ref r t u) = node (ref u) (cons (at ts r) (cons (at ts t) nil))
+  term_tree ts (term.TyParam i n) = leaf_of (λ x. atom (type_param i x)) (slice_get names n)
+  term_tree ts (term.TyPlaceholder u v n) = leaf_of (λ x. placeholder (bound_kind type_kind x) u v) (slice_get names n)
+  term_tree ts (term.TyVar n) = leaf (variable type_var n)
+  term_tree ts term.Static = leaf (atom static_region)
+  term_tree ts (term.RegionParam i n) = leaf_of (λ x. atom (early_region i x)) (slice_get names n)
+  term_tree ts (term.RegionVar n) = leaf (variable region_var n)
+  term_tree ts (term.ConstParam i n) = leaf_of (λ x. atom (const_param i x)) (slice_get names n)
+  term_tree ts (term.ConstPlaceholder u v n) =
+      leaf_of (λ x. placeholder (bound_kind const_kind x) u v) (slice_get names n)
+  term_tree ts (term.Number t b n) = value_tree (at ts t) (leaf (atom (value_leaf b n)))
+  term_tree ts (term.Branch t p) = value_tree (at ts t) (node value_branch (parts_tree parts ts p))
+  term_tree ts (term.Expr k p) = node (expression k) (parts_tree parts ts p)
+
+  -- The trees of terms that stand behind those of these trees.
+  abbrev pub trees_from : List Tree → List Term → List Tree
+  trees_from ts [] = ts
+  trees_from ts (x ∷ xs) = trees_from (ts ++ term_tree ts x ∷ []) xs
+
+  -- The trees of all terms.
+  abbrev pub trees_of : List Term → List Tree
+  trees_of xs = trees_from [] xs

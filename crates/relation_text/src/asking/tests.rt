@@ -1,0 +1,70 @@
+//! Questions, and what is answered.
+use crate::asking::ask_all;
+use crate::naming::{look_up, write_name_error};
+use crate::reading::read;
+use std::alloc::Global;
+use std::fmt;
+use std::test::Fail;
+
+// What is answered to a text's questions.
+fn answers(alloc: Global, text: &str) -> Result<String, fmt::Error> {
+    let mut out = String::new(alloc);
+    let Ok(tree) = read(alloc, text.as_bytes()) else {
+        return Err(fmt::Error);
+    };
+    match look_up(alloc, text, &tree) {
+        Ok(program) => ask_all(alloc, &program, &mut out)?,
+        Err(error) => write_name_error(text, &error, &mut out)?,
+    }
+    Ok(out)
+}
+
+#[test]
+fn rows_are_answered(rt: HostRuntime) -> Result<(), Fail> {
+    let text = "struct K<-T>; param 'a, 'b, 'c, 'd;
+        (u8, u8) == (u8, u8, u8); () == (u8,);
+        ?0 == [?0];
+        (?0, ?0) == (u8, bool);
+        [u8; 2] == [u8; 3];
+        &'a u8 <: &'b u8; &'a u8 :> &'b u8; &'a u8 == &'b u8;
+        &'a mut &'b u8 <: &'c mut &'d u8;
+        *const u8 <: *mut u8;
+        K<&'a u8> <: K<&'b u8>; K<&'a u8> :> K<&'b u8>;
+        budget 1; (?0, ?1) == (u8, bool);";
+    let all = answers(rt.alloc(), text)?;
+    assert_eq!(rt;
+        all.as_str(),
+        "err TupleSize(2, 3)\nerr Sorts((), (u8,))\n\
+         err CyclicTy([?0])\n\
+         err Sorts(u8, bool); bound=[?0=u8]\n\
+         err ArraySize(2, 3)\n\
+         ok; regions=['a: 'b]\nok; regions=['b: 'a]\nok; regions=['a == 'b]\n\
+         ok; regions=['a: 'c, 'b == 'd]\n\
+         err Mutability\n\
+         ok; regions=['b: 'a]\nok; regions=['a: 'b]\n\
+         budget; bound=[?0=u8]; left=0\n"
+    );
+    Ok(())
+}
+
+#[test]
+fn questions_follow_one_another(rt: HostRuntime) -> Result<(), Fail> {
+    let text = "struct Vec<+T>; param T, 'a;
+        let t = (u8, T); let u = (t, t);
+        Vec<?0> <: Vec<&'a u8>; Vec<?0> == Vec<u>; then ?0 == (t, t); then ?0 == T; ?0 == T;
+        repeat 3 ?0 == ?1; then ?1 == u8; !1T == !1T; !0.2 == !0T; &'?0 ?1 == &'a u8;
+        repeat 3 &'static u8 <: &'a u8;";
+    let all = answers(rt.alloc(), text)?;
+    assert_eq!(rt;
+        all.as_str(),
+        "not asked: types with type variables are related by `==` alone\n\
+         ok; bound=[?0=((u8, T), (u8, T))]\nok; bound=[?0=((u8, T), (u8, T))]\n\
+         err Sorts(((u8, T), (u8, T)), T); bound=[?0=((u8, T), (u8, T))]\nok; bound=[?0=T]\n\
+         ok\nok; bound=[?0=u8]\n\
+         not asked: the context's universe, 0, does not name the placeholder\n\
+         err Sorts(!0.2, !0T)\n\
+         ok; regions=['?0 == 'a]; bound=[?1=u8]\n\
+         ok; regions=['static: 'a]\n"
+    );
+    Ok(())
+}

@@ -1,0 +1,42 @@
+//! Terms of a program become keys, through an interner's making calls.
+ghost use Rattle.std.specs.Prelude.{◌≡◌, IfOk, length, map};
+ghost use Rattle.relation_terms.specs.Meaning.{Extends};
+ghost use Rattle.relation_text.specs.Terms.{trees_of};
+ghost use Rattle.relation_text.specs.Built.{AreKnown, AreBuilt};
+
+mod lists;
+mod making;
+mod needs;
+
+use crate::naming::Program;
+pub(crate) use lists::ty_at;
+use making::make_term;
+pub(crate) use needs::{both, need_at};
+pub use needs::{Needs, needs_of};
+use relation_terms::terms::{GenericArg, Interner, OutOfMemory};
+
+/// The keys of a program's terms, over ids of its items and names of an interner. There is none of a term where a growth
+/// was refused, and none of a term over such a one.
+///
+/// # Errors
+/// `OutOfMemory` where there is no room for the list of keys.
+pub fn build<I: Interner>(
+    cx: &mut I,
+    ids: &[I::Id],
+    names: &[I::Name],
+    program: &Program,
+) -> Result<Vec<Option<GenericArg<I>>>, OutOfMemory>
+    ensures grown { Extends (I.meaning cx.old) (I.meaning cx.new) }
+    ensures each { IfOk result (λ keys. length keys.items ≡ length program.now.terms.items) }
+    ensures sure { IfOk result (λ keys. AreKnown (I.meaning cx.new) keys.items) }
+    ensures made { let m = I.meaning cx.old in let items = map m.id ids.now in let names = map m.name names.now in
+        let trees = trees_of items names program.now.parts.items program.now.terms.items in
+        IfOk result (λ keys. AreBuilt (I.meaning cx.new) trees keys.items) }
+{
+    let mut built = Vec::with_capacity(cx.alloc(), program.terms.len())?;
+    for term in &program.terms {
+        let key = make_term(cx, ids, names, &program.parts, &built, *term);
+        built.push(key)?;
+    }
+    Ok(built)
+}

@@ -1,0 +1,15 @@
+//! Names are looked up: a tree of names becomes items, terms and questions.
+
+mod error;
+mod namer;
+mod plain;
+mod program;
+mod statements;
+mod terms;
+
+pub use error::{NameError, Wrong, write_name_error};
+pub use program::{Declared, Item, Parts, Program, Question, Sort, Term};
+pub use statements::{MOST_VARIABLES, look_up};
+
+#[cfg(test)]
+mod tests;

@@ -1,0 +1,153 @@
+//! Why the names of a text can't be looked up.
+ghost use Rattle.std.specs.Prelude.{◌≡◌};
+ghost use Rattle.relation_text.specs.declared.naming.error.NameError.TheVariants.{Memory};
+
+use crate::naming::program::Sort;
+use crate::naming::statements::MOST_VARIABLES;
+use crate::reading::Node;
+use std::alloc::{AllocError, AllocFailed};
+use std::fmt::{self, Write};
+
+/// What is wrong with a part of a text that reads.
+#[derive(Clone, Copy, PartialEq, Eq, Debug)]
+pub enum Wrong {
+    /// Nothing of that name is known.
+    Unknown,
+    /// The name means something already.
+    Again,
+    /// A term of one sort is wanted, and there is one of another.
+    Sort { expected: Sort, found: Sort },
+    /// Arguments stand behind a name that is no item's.
+    NoItem,
+    /// The item has another number of parameters than there are arguments.
+    Count { expected: usize, found: usize },
+    /// A type that is defined outside the language has no parameters.
+    Parameter,
+    /// What stands behind the digits of a number is no type of numbers.
+    NumberType,
+    /// The number is too large.
+    TooLarge,
+    /// The number of a variable is too large.
+    TooManyVariables,
+    /// A type stands behind a number that only counts.
+    Counted,
+    /// What stands behind the universe of a placeholder is no place of a binder's list.
+    Place,
+    /// A question is asked no time at all.
+    NoTime,
+    /// No question stands before it.
+    NothingBefore,
+    /// The term has too many levels.
+    TooDeep,
+    /// Reading makes no such tree.
+    NotRead,
+}
+
+/// Why the names of a text were not looked up.
+#[derive(Clone, Copy, PartialEq, Eq, Debug)]
+pub enum NameError {
+    /// A growth was refused.
+    Memory,
+    /// The bytes of the text from `at` on, those before `end`, are wrong.
+    Wrong { at: usize, end: usize, why: Wrong },
+}
+
+impl From<AllocError> for NameError {
+    ghost from_gives = { λ _ e. e ≡ Memory };
+
+    fn from(_refused: AllocError) -> NameError {
+        NameError::Memory
+    }
+}
+
+impl<T: Drop> From<AllocFailed<T>> for NameError {
+    ghost from_gives = { λ _ e. e ≡ Memory };
+
+    fn from(_refused: AllocFailed<T>) -> NameError {
+        NameError::Memory
+    }
+}
+
+impl NameError {
+    /// The bytes of the text that the error is about, if it is about some: from the first number on, those before the
+    /// second.
+    pub fn span(&self) -> Option<(usize, usize)> {
+        match self {
+            NameError::Memory => None,
+            NameError::Wrong { at, end, .. } => Some((*at, *end)),
+        }
+    }
+}
+
+// What is wrong with a node.
+pub(super) fn error_at(node: &Node, why: Wrong) -> NameError {
+    NameError::Wrong {
+        at: node.start,
+        end: node.end,
+        why,
+    }
+}
+
+// What a term of that sort is called.
+fn sort_name(sort: Sort) -> &'static str {
+    match sort {
+        Sort::Region => "a region",
+        Sort::Type => "a type",
+        Sort::Const => "a constant",
+    }
+}
+
+// Writes a number of arguments.
+fn write_count<W: Write>(expected: usize, found: usize, out: &mut W) -> fmt::Result {
+    let word = if expected == 1 {
+        "argument"
+    } else {
+        "arguments"
+    };
+    write!(out, "expected {expected} {word}, found {found}")
+}
+
+// Writes what was expected, where the text itself tells what was found.
+fn write_expected<W: Write>(expected: &str, found: &str, out: &mut W) -> fmt::Result {
+    write!(out, "expected {expected}, found `{found}`")
+}
+
+// Writes what is wrong with a part of a text.
+fn write_wrong<W: Write>(found: &str, why: Wrong, out: &mut W) -> fmt::Result {
+    match why {
+        Wrong::Unknown => write_expected("a name that is known", found, out),
+        Wrong::Again => write_expected("a new name", found, out),
+        Wrong::NoItem => write_expected("an item", found, out),
+        Wrong::Parameter => write_expected("no parameter", found, out),
+        Wrong::NumberType => write_expected("a number of a type of numbers", found, out),
+        Wrong::Counted => write_expected("a number alone", found, out),
+        Wrong::Place => write_expected("a place by its number", found, out),
+        Wrong::NoTime => write_expected("a number above 0", found, out),
+        Wrong::Sort { expected, found } => {
+            let (expected, found) = (sort_name(expected), sort_name(found));
+            write!(out, "expected {expected}, found {found}")
+        }
+        Wrong::Count { expected, found } => write_count(expected, found, out),
+        Wrong::TooLarge => out.write_str("the number is too large"),
+        Wrong::TooManyVariables => {
+            write!(
+                out,
+                "expected a variable below {MOST_VARIABLES}, found `{found}`"
+            )
+        }
+        Wrong::NothingBefore => out.write_str("expected a question before this, found none"),
+        Wrong::TooDeep => out.write_str("the term has more than 1000 levels"),
+        Wrong::NotRead => out.write_str("expected what reading makes, found another tree"),
+    }
+}
+
+/// Writes why the names of a text were not looked up, without the place.
+pub fn write_name_error<W: Write>(text: &str, error: &NameError, out: &mut W) -> fmt::Result {
+    match error {
+        NameError::Memory => out.write_str("memory"),
+        NameError::Wrong { at, end, why } => {
+            let found = text.get(*at..*end).unwrap_or("");
+            write_wrong(found, *why, out)
+        }
+    }
+}

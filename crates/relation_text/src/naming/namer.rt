@@ -1,0 +1,145 @@
+//! What the names of a text mean so far, and the program that was made so far.
+
+use crate::naming::error::{NameError, Wrong, error_at};
+use crate::naming::plain::PLAIN;
+use crate::naming::program::{Program, Sort, Term};
+use crate::reading::{Node, Tree};
+use std::alloc::{AllocError, Global};
+use std::collections::HashMap;
+
+/// How many levels a term may have, names of `let` followed.
+const LEVELS: usize = 1000;
+
+/// A term that was made: its number, what it stands for, and how many levels it has.
+#[derive(Clone, Copy)]
+pub(super) struct Made {
+    pub number: usize,
+    pub sort: Sort,
+    pub levels: usize,
+}
+
+/// What a name means: an item by its number, or a term.
+#[derive(Clone, Copy)]
+pub(super) enum Meaning {
+    Item(usize),
+    Term(Made),
+}
+
+/// The tree that is gone over, what its names mean so far, and what was made of it so far.
+#[derive(Drop)]
+pub(super) struct Namer<'a> {
+    pub alloc: Global,
+    pub text: &'a str,
+    pub tree: &'a Tree,
+    pub meanings: HashMap<&'a str, Meaning>,
+    // The numbers of the program's names.
+    pub names: HashMap<&'a str, usize>,
+    // The terms that nodes were made to.
+    pub made: Vec<Option<Made>>,
+    // The index of the next parameter, while there is one.
+    pub next_index: Option<u32>,
+    pub budget: Option<usize>,
+    pub type_variables: usize,
+    pub region_variables: usize,
+    pub program: Program<'a>,
+}
+
+impl<'a> Namer<'a> {
+    // Nothing is made, and only the names of plain types and the longest region mean something.
+    pub fn new(alloc: Global, text: &'a str, tree: &'a Tree) -> Result<Namer<'a>, NameError> {
+        let mut namer = Namer {
+            alloc,
+            text,
+            tree,
+            meanings: HashMap::new(alloc),
+            names: HashMap::new(alloc),
+            made: Vec::new(alloc),
+            next_index: Some(0),
+            budget: None,
+            type_variables: 0,
+            region_variables: 0,
+            program: Program {
+                items: Vec::new(alloc),
+                names: Vec::new(alloc),
+                terms: Vec::new(alloc),
+                parts: Vec::new(alloc),
+                questions: Vec::new(alloc),
+            },
+        };
+        for (name, sort, term) in &PLAIN {
+            let made = namer.push(*term, *sort, 1)?;
+            let _ = namer.meanings.insert(*name, Meaning::Term(made))?;
+        }
+        Ok(namer)
+    }
+
+    // The text of a node.
+    pub fn text_of(&self, node: &Node) -> Result<&'a str, NameError> {
+        let text = self.text;
+        text.get(node.start..node.end)
+            .ok_or(error_at(node, Wrong::NotRead))
+    }
+
+    // The node of that number, a part of another.
+    pub fn node(&self, whole: &Node, number: usize) -> Result<Node, NameError> {
+        self.tree
+            .nodes
+            .get(number)
+            .copied()
+            .ok_or(error_at(whole, Wrong::NotRead))
+    }
+
+    // The numbers of a node's parts.
+    pub fn parts(&self, node: &Node) -> Result<&'a [usize], NameError> {
+        let tree = self.tree;
+        tree.parts
+            .get(node.first..node.behind)
+            .ok_or(error_at(node, Wrong::NotRead))
+    }
+
+    // From here on a name means that.
+    pub fn declare(&mut self, node: &Node, meaning: Meaning) -> Result<(), NameError> {
+        let name = self.text_of(node)?;
+        if self.meanings.contains_key(name) {
+            return Err(error_at(node, Wrong::Again));
+        }
+        let _ = self.meanings.insert(name, meaning)?;
+        Ok(())
+    }
+
+    // The number of a name.
+    pub fn name(&mut self, name: &'a str) -> Result<usize, NameError> {
+        if let Some(number) = self.names.get(name) {
+            return Ok(*number);
+        }
+        let number = self.program.names.len();
+        let _ = self.names.insert(name, number)?;
+        self.program.names.push(name)?;
+        Ok(number)
+    }
+
+    // Adds a term.
+    fn push(&mut self, term: Term, sort: Sort, levels: usize) -> Result<Made, AllocError> {
+        let number = self.program.terms.len();
+        self.program.terms.push(term)?;
+        Ok(Made {
+            number,
+            sort,
+            levels,
+        })
+    }
+
+    // Adds the term of a node, over parts that have so many levels.
+    pub fn add(
+        &mut self,
+        node: &Node,
+        term: Term,
+        sort: Sort,
+        below: usize,
+    ) -> Result<Made, NameError> {
+        if below >= LEVELS {
+            return Err(error_at(node, Wrong::TooDeep));
+        }
+        Ok(self.push(term, sort, below + 1)?)
+    }
+}

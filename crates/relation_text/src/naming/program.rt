@@ -1,0 +1,118 @@
+//! What a text says: its items, its terms and its questions.
+ghost use Rattle.std.specs.Prelude.{◌≡◌};
+
+use crate::reading::ItemSort;
+use relation_terms::terms::{FloatTy, IntTy, Mutability, UintTy, Variance};
+use std::alloc::AllocError;
+
+/// What a term stands for.
+#[derive(Clone, Copy, PartialEq, Eq, Debug)]
+pub enum Sort {
+    Region,
+    Type,
+    Const,
+}
+
+/// A parameter that an item declares: what it is given, and how the item varies with it.
+#[derive(Clone, Copy, PartialEq, Eq)]
+pub struct Declared<'a> {
+    pub sort: Sort,
+    pub variance: Variance,
+    pub text: &'a str,
+}
+
+/// An item: what it is, its name, and the parameters that it declares.
+#[derive(Drop)]
+pub struct Item<'a> {
+    pub sort: ItemSort,
+    pub text: &'a str,
+    pub declared: Vec<Declared<'a>>,
+}
+
+/// Where the numbers of a term's parts stand in the list of parts: from `first` on, those before `behind`.
+#[derive(Clone, Copy, PartialEq, Eq)]
+pub struct Parts {
+    pub first: usize,
+    pub behind: usize,
+}
+
+/// A term over the numbers of other terms, which stand before it. Names and items are numbers too.
+pub enum Term {
+    Bool,
+    Char,
+    Str,
+    Never,
+    Int(IntTy),
+    Uint(UintTy),
+    Float(FloatTy),
+    /// An item over its arguments.
+    Item(ItemSort, usize, Parts),
+    Slice(usize),
+    /// An array: its element's type and its length.
+    Array(usize, usize),
+    Tuple(Parts),
+    RawPtr(usize, Mutability),
+    /// A reference: its region, and the type that it leads to.
+    Ref(usize, usize, Mutability),
+    /// A type that is a parameter: its index and its name.
+    TyParam(u32, usize),
+    /// A type that stands for a bound one: its universe, its place in the binder's list, and its name.
+    TyPlaceholder(usize, usize, usize),
+    TyVar(usize),
+    Static,
+    /// A region that is a parameter: its index and its name.
+    RegionParam(u32, usize),
+    RegionVar(usize),
+    /// A constant that is a parameter: its index and its name.
+    ConstParam(u32, usize),
+    /// A constant that stands for a bound one: its universe, its place in the binder's list, and its name.
+    ConstPlaceholder(usize, usize, usize),
+    /// A number: its type, its bits, and how many bytes they take.
+    Number(usize, u128, u8),
+    /// A value that is made of constants, and its type.
+    Branch(usize, Parts),
+    /// An expression: the number of its operation, and its arguments.
+    Expr(u32, Parts),
+}
+
+// A derived copy matches over all forms, and takes its check as many seconds.
+impl Clone for Term {
+    ghost is_clone = { λ source copy. copy ≡ source };
+
+    ghost is_infallible = { λ _. Unit {0} };
+
+    fn clone(&self) -> Result<Self, AllocError> {
+        Ok(*self)
+    }
+}
+
+impl Copy for Term {}
+
+/// A question: whether the first term is related with the second at a variance.
+#[derive(Clone, Copy, PartialEq, Eq)]
+pub struct Question {
+    pub lhs: usize,
+    pub variance: Variance,
+    pub rhs: usize,
+    /// Whether it is asked in the context that the question before left.
+    pub then: bool,
+    /// How many times it is asked.
+    pub repeat: usize,
+    /// How many instantiations its context may make, if that was said.
+    pub budget: Option<usize>,
+    /// How many variables are in its context, beside those that it names.
+    pub type_variables: usize,
+    pub region_variables: usize,
+}
+
+/// What a text says.
+#[derive(Drop)]
+pub struct Program<'a> {
+    pub items: Vec<Item<'a>>,
+    /// The names of parameters and of what stands for bound variables.
+    pub names: Vec<&'a str>,
+    pub terms: Vec<Term>,
+    /// The numbers of the terms' parts.
+    pub parts: Vec<usize>,
+    pub questions: Vec<Question>,
+}

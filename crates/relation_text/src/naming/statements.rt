@@ -1,0 +1,248 @@
+//! Statements of the tree's nodes.
+
+use crate::naming::error::{NameError, Wrong, error_at};
+use crate::naming::namer::{Meaning, Namer};
+use crate::naming::program::{Declared, Item, Program, Question, Sort, Term};
+use crate::reading::{Form, ItemSort, Leaf, Node, NodeKind, Tree};
+use relation_terms::terms::Variance;
+use std::alloc::Global;
+use std::collections::HashSet;
+
+/// How many type variables, and how many region variables, a context may have.
+pub const MOST_VARIABLES: usize = 10_000;
+
+impl<'a> Namer<'a> {
+    // The number of a leaf, which is no larger than what is counted by it may be.
+    fn count(&self, whole: &Node, number: usize) -> Result<usize, NameError> {
+        let node = self.node(whole, number)?;
+        let NodeKind::Leaf(Leaf::Number { value, behind }) = node.kind else {
+            return Err(error_at(&node, Wrong::NotRead));
+        };
+        if behind != node.end {
+            return Err(error_at(&node, Wrong::Counted));
+        }
+        usize::try_from(value).map_err(|_| error_at(&node, Wrong::TooLarge))
+    }
+
+    // A parameter that an item declares.
+    fn declared(&self, whole: &Node, number: usize) -> Result<(Node, Declared<'a>), NameError> {
+        let node = self.node(whole, number)?;
+        let [name] = self.parts(&node)? else {
+            return Err(error_at(&node, Wrong::NotRead));
+        };
+        let name = self.node(&node, *name)?;
+        let text = self.text_of(&name)?;
+        let (sort, variance) = match (node.kind, name.kind) {
+            (NodeKind::Form(Form::Declared(variance)), NodeKind::Leaf(Leaf::Name)) => {
+                (Sort::Type, variance)
+            }
+            (NodeKind::Form(Form::Declared(variance)), NodeKind::Leaf(Leaf::Lifetime)) => {
+                (Sort::Region, variance)
+            }
+            (NodeKind::Form(Form::DeclaredConst(variance)), _) => (Sort::Const, variance),
+            _ => return Err(error_at(&node, Wrong::NotRead)),
+        };
+        Ok((
+            name,
+            Declared {
+                sort,
+                variance,
+                text,
+            },
+        ))
+    }
+
+    // An item.
+    fn declare_item(
+        &mut self,
+        node: &Node,
+        sort: ItemSort,
+        parts: &[usize],
+    ) -> Result<(), NameError> {
+        let Some((first, rest)) = parts.split_first() else {
+            return Err(error_at(node, Wrong::NotRead));
+        };
+        let name = self.node(node, *first)?;
+        let mut declared = Vec::new(self.alloc);
+        let mut texts = HashSet::new(self.alloc);
+        for number in rest {
+            let (leaf, parameter) = self.declared(node, *number)?;
+            if sort == ItemSort::Foreign {
+                return Err(error_at(&leaf, Wrong::Parameter));
+            }
+            if !texts.insert(parameter.text)? {
+                return Err(error_at(&leaf, Wrong::Again));
+            }
+            declared.push(parameter)?;
+        }
+        let number = self.program.items.len();
+        self.declare(&name, Meaning::Item(number))?;
+        let text = self.text_of(&name)?;
+        self.program.items.push(Item {
+            sort,
+            text,
+            declared,
+        })?;
+        Ok(())
+    }
+
+    // The index of a parameter: the one that is given, or else the one behind the last one's.
+    fn index(&self, node: &Node, given: &[usize]) -> Result<u32, NameError> {
+        match given {
+            [] => self.next_index.ok_or(error_at(node, Wrong::TooLarge)),
+            [number] => {
+                let index = self.count(node, *number)?;
+                u32::try_from(index).map_err(|_| error_at(node, Wrong::TooLarge))
+            }
+            _ => Err(error_at(node, Wrong::NotRead)),
+        }
+    }
+
+    // A parameter of questions.
+    fn declare_parameter(
+        &mut self,
+        node: &Node,
+        constant: bool,
+        parts: &[usize],
+    ) -> Result<(), NameError> {
+        let Some((first, given)) = parts.split_first() else {
+            return Err(error_at(node, Wrong::NotRead));
+        };
+        let leaf = self.node(node, *first)?;
+        let index = self.index(node, given)?;
+        self.next_index = index.checked_add(1);
+        let text = self.text_of(&leaf)?;
+        let name = self.name(text)?;
+        let (term, sort) = match leaf.kind {
+            _ if constant => (Term::ConstParam(index, name), Sort::Const),
+            NodeKind::Leaf(Leaf::Lifetime) => (Term::RegionParam(index, name), Sort::Region),
+            _ => (Term::TyParam(index, name), Sort::Type),
+        };
+        let made = self.add(&leaf, term, sort, 0)?;
+        self.declare(&leaf, Meaning::Term(made))
+    }
+
+    // Variables that are in the contexts from here on.
+    fn declare_variables(&mut self, node: &Node, parts: &[usize]) -> Result<(), NameError> {
+        for number in parts {
+            let leaf = self.node(node, *number)?;
+            let (types, regions) = match leaf.kind {
+                NodeKind::Leaf(Leaf::TyVar(number)) => (Some(number), None),
+                NodeKind::Leaf(Leaf::RegionVar(number)) => (None, Some(number)),
+                _ => return Err(error_at(&leaf, Wrong::NotRead)),
+            };
+            let (types, regions) = (count_to(&leaf, types)?, count_to(&leaf, regions)?);
+            self.type_variables = self.type_variables.max(types);
+            self.region_variables = self.region_variables.max(regions);
+        }
+        Ok(())
+    }
+
+    // A question.
+    fn ask(
+        &mut self,
+        node: &Node,
+        variance: Variance,
+        lhs: usize,
+        rhs: usize,
+    ) -> Result<(), NameError> {
+        let lhs = self.term(node, lhs, Some(Sort::Type))?;
+        let rhs = self.term(node, rhs, Some(Sort::Type))?;
+        self.program.questions.push(Question {
+            lhs: lhs.number,
+            variance,
+            rhs: rhs.number,
+            then: false,
+            repeat: 1,
+            budget: self.budget,
+            type_variables: self.type_variables,
+            region_variables: self.region_variables,
+        })?;
+        Ok(())
+    }
+
+    // The last question is asked in the context that the one before left.
+    fn ask_then(&mut self, node: &Node) -> Result<(), NameError> {
+        let any = self.program.questions.len() > 1;
+        match self.program.questions.last_mut() {
+            Some(question) if any => {
+                question.then = true;
+                Ok(())
+            }
+            _ => Err(error_at(node, Wrong::NothingBefore)),
+        }
+    }
+
+    // The last question is asked that many times.
+    fn ask_again(&mut self, node: &Node, times: usize) -> Result<(), NameError> {
+        let repeat = self.count(node, times)?;
+        if repeat == 0 {
+            return Err(error_at(&self.node(node, times)?, Wrong::NoTime));
+        }
+        if let Some(question) = self.program.questions.last_mut() {
+            question.repeat = repeat;
+        }
+        Ok(())
+    }
+
+    // A statement, or a part of one.
+    fn statement(&mut self, node: &Node, form: Form, parts: &[usize]) -> Result<(), NameError> {
+        match (form, parts) {
+            (Form::Item(sort), _) => self.declare_item(node, sort, parts),
+            (Form::Parameter, _) => self.declare_parameter(node, false, parts),
+            (Form::ConstParameter, _) => self.declare_parameter(node, true, parts),
+            (Form::Budget, [number]) => {
+                self.budget = Some(self.count(node, *number)?);
+                Ok(())
+            }
+            (Form::Variables, _) => self.declare_variables(node, parts),
+            (Form::Let, [name, term]) => {
+                let made = self.term(node, *term, None)?;
+                let name = self.node(node, *name)?;
+                self.declare(&name, Meaning::Term(made))
+            }
+            (Form::Question(variance), [lhs, rhs]) => self.ask(node, variance, *lhs, *rhs),
+            (Form::Then, [_]) => self.ask_then(node),
+            (Form::Repeat, [times, _]) => self.ask_again(node, *times),
+            (Form::File | Form::Declared(_) | Form::DeclaredConst(_) | Form::Parameters, _) => {
+                Ok(())
+            }
+            _ => Err(error_at(node, Wrong::NotRead)),
+        }
+    }
+
+    // What a node is made to, if that is a term.
+    fn go_on(&mut self, node: &Node) -> Result<(), NameError> {
+        let mut made = None;
+        if let NodeKind::Form(form) = node.kind {
+            let parts = self.parts(node)?;
+            made = self.form(node, form, parts)?;
+            if made.is_none() {
+                self.statement(node, form, parts)?;
+            }
+        }
+        self.made.push(made)?;
+        Ok(())
+    }
+}
+
+// How many variables there are, where one has that number.
+fn count_to(node: &Node, number: Option<usize>) -> Result<usize, NameError> {
+    match number {
+        None => Ok(0),
+        Some(number) if number < MOST_VARIABLES => Ok(number + 1),
+        Some(_) => Err(error_at(node, Wrong::TooManyVariables)),
+    }
+}
+
+/// What a text says of which this is the tree. Its names are looked up whole, before anything is asked.
+///
+/// # Errors
+/// `Memory` where a growth was refused, and else what is wrong with the text, and where.
+pub fn look_up<'a>(alloc: Global, text: &'a str, tree: &'a Tree) -> Result<Program<'a>, NameError> {
+    let mut namer = Namer::new(alloc, text, tree)?;
+    for node in &tree.nodes {
+        namer.go_on(node)?;
+    }
+    Ok(namer.program)
+}

@@ -1,0 +1,311 @@
+//! Terms of the tree's nodes.
+
+use crate::naming::error::{NameError, Wrong, error_at};
+use crate::naming::namer::{Made, Meaning, Namer};
+use crate::naming::plain::{USIZE, number_size};
+use crate::naming::program::{Parts, Sort, Term};
+use crate::naming::statements::MOST_VARIABLES;
+use crate::reading::{Form, ItemSort, Leaf, Node, NodeKind};
+use relation_terms::terms::Mutability;
+
+// What the members of a list are to be: of any sort, of one, or what an item declares.
+#[derive(Clone, Copy)]
+enum Wanted {
+    Any,
+    Each(Sort),
+    Declared(usize),
+}
+
+// A list of parts, and how many levels the deepest has.
+#[derive(Clone, Copy)]
+struct List {
+    parts: Parts,
+    levels: usize,
+}
+
+impl<'a> Namer<'a> {
+    // The sort that is wanted at a place of a list.
+    fn wanted_at(&self, wanted: Wanted, place: usize) -> Option<Sort> {
+        match wanted {
+            Wanted::Any => None,
+            Wanted::Each(sort) => Some(sort),
+            Wanted::Declared(item) => {
+                let item = self.program.items.get(item)?;
+                let declared = item.declared.get(place)?;
+                Some(declared.sort)
+            }
+        }
+    }
+
+    // The terms of those nodes, as a list of parts.
+    fn list(&mut self, whole: &Node, nodes: &[usize], wanted: Wanted) -> Result<List, NameError> {
+        let first = self.program.parts.len();
+        let mut levels = 0;
+        for (place, number) in nodes.iter().enumerate() {
+            let sort = self.wanted_at(wanted, place);
+            let made = self.term(whole, *number, sort)?;
+            self.program.parts.push(made.number)?;
+            levels = levels.max(made.levels);
+        }
+        let behind = self.program.parts.len();
+        let parts = Parts { first, behind };
+        Ok(List { parts, levels })
+    }
+
+    // The sort of an item that is given so many arguments. The node names the item, and the whole has the arguments.
+    fn item_sort(
+        &self,
+        whole: &Node,
+        node: &Node,
+        number: usize,
+        found: usize,
+    ) -> Result<ItemSort, NameError> {
+        let Some(item) = self.program.items.get(number) else {
+            return Err(error_at(node, Wrong::NotRead));
+        };
+        let expected = item.declared.len();
+        if expected != found {
+            return Err(error_at(whole, Wrong::Count { expected, found }));
+        }
+        Ok(item.sort)
+    }
+
+    // An item that has no parameters.
+    fn item_alone(&mut self, node: &Node, number: usize) -> Result<Made, NameError> {
+        let sort = self.item_sort(node, node, number, 0)?;
+        let first = self.program.parts.len();
+        let parts = Parts {
+            first,
+            behind: first,
+        };
+        self.add(node, Term::Item(sort, number, parts), Sort::Type, 0)
+    }
+
+    // What a name means.
+    fn meaning(&self, node: &Node) -> Result<Meaning, NameError> {
+        let name = self.text_of(node)?;
+        match self.meanings.get(name) {
+            Some(meaning) => Ok(*meaning),
+            None => Err(error_at(node, Wrong::Unknown)),
+        }
+    }
+
+    // What a name means as a term.
+    fn named(&mut self, node: &Node) -> Result<Made, NameError> {
+        match self.meaning(node)? {
+            Meaning::Term(made) => Ok(made),
+            Meaning::Item(number) => self.item_alone(node, number),
+        }
+    }
+
+    // A variable of a sort.
+    fn variable(
+        &mut self,
+        node: &Node,
+        number: usize,
+        term: Term,
+        sort: Sort,
+    ) -> Result<Made, NameError> {
+        if number >= MOST_VARIABLES {
+            return Err(error_at(node, Wrong::TooManyVariables));
+        }
+        self.add(node, term, sort, 0)
+    }
+
+    // A number, whose type is named behind its digits.
+    fn number(&mut self, node: &Node, value: u128, behind: usize) -> Result<Made, NameError> {
+        let text = self.text;
+        let ty = match text.get(behind..node.end) {
+            None => return Err(error_at(node, Wrong::NotRead)),
+            Some("") => USIZE,
+            Some(name) => match self.meanings.get(name) {
+                Some(Meaning::Term(made)) => made.number,
+                _ => return Err(error_at(node, Wrong::NumberType)),
+            },
+        };
+        let Some((size, greatest)) = self.program.terms.get(ty).and_then(|ty| number_size(*ty))
+        else {
+            return Err(error_at(node, Wrong::NumberType));
+        };
+        if value > greatest {
+            return Err(error_at(node, Wrong::TooLarge));
+        }
+        self.add(node, Term::Number(ty, value, size), Sort::Const, 0)
+    }
+
+    // A placeholder, whose name or place is behind its universe. It is a type where no constant is wanted.
+    fn placeholder(
+        &mut self,
+        node: &Node,
+        universe: usize,
+        behind: usize,
+        expected: Option<Sort>,
+    ) -> Result<Made, NameError> {
+        let text = self.text;
+        let Some(name) = text.get(behind..node.end) else {
+            return Err(error_at(node, Wrong::NotRead));
+        };
+        let place = match name.strip_prefix('.') {
+            None => 0,
+            Some(digits) => match digits.parse::<usize>() {
+                Ok(place) => place,
+                Err(_) => return Err(error_at(node, Wrong::Place)),
+            },
+        };
+        let name = self.name(name)?;
+        if expected == Some(Sort::Const) {
+            let term = Term::ConstPlaceholder(universe, place, name);
+            return self.add(node, term, Sort::Const, 0);
+        }
+        let term = Term::TyPlaceholder(universe, place, name);
+        self.add(node, term, Sort::Type, 0)
+    }
+
+    // The term of a leaf.
+    fn leaf(&mut self, node: &Node, leaf: Leaf, expected: Option<Sort>) -> Result<Made, NameError> {
+        match leaf {
+            Leaf::Name | Leaf::Lifetime => self.named(node),
+            Leaf::Number { value, behind } => self.number(node, value, behind),
+            Leaf::TyVar(number) => self.variable(node, number, Term::TyVar(number), Sort::Type),
+            Leaf::RegionVar(number) => {
+                self.variable(node, number, Term::RegionVar(number), Sort::Region)
+            }
+            Leaf::Placeholder { universe, behind } => {
+                self.placeholder(node, universe, behind, expected)
+            }
+        }
+    }
+
+    // The term of a part of a node, which is to be of that sort if one is wanted.
+    pub fn term(
+        &mut self,
+        whole: &Node,
+        number: usize,
+        expected: Option<Sort>,
+    ) -> Result<Made, NameError> {
+        let node = self.node(whole, number)?;
+        let made = match node.kind {
+            NodeKind::Leaf(leaf) => self.leaf(&node, leaf, expected)?,
+            NodeKind::Form(_) => match self.made.get(number) {
+                Some(Some(made)) => *made,
+                _ => return Err(error_at(&node, Wrong::NotRead)),
+            },
+        };
+        let found = made.sort;
+        match expected {
+            Some(expected) if expected != found => {
+                Err(error_at(&node, Wrong::Sort { expected, found }))
+            }
+            _ => Ok(made),
+        }
+    }
+
+    // A name over arguments.
+    fn applied(&mut self, node: &Node, parts: &[usize]) -> Result<Made, NameError> {
+        let Some((first, args)) = parts.split_first() else {
+            return Err(error_at(node, Wrong::NotRead));
+        };
+        let name = self.node(node, *first)?;
+        let Meaning::Item(number) = self.meaning(&name)? else {
+            return Err(error_at(&name, Wrong::NoItem));
+        };
+        let sort = self.item_sort(node, &name, number, args.len())?;
+        let args = self.list(node, args, Wanted::Declared(number))?;
+        let term = Term::Item(sort, number, args.parts);
+        self.add(node, term, Sort::Type, args.levels)
+    }
+
+    // A slice.
+    fn slice(&mut self, node: &Node, element: usize) -> Result<Made, NameError> {
+        let element = self.term(node, element, Some(Sort::Type))?;
+        let term = Term::Slice(element.number);
+        self.add(node, term, Sort::Type, element.levels)
+    }
+
+    // An array.
+    fn array(&mut self, node: &Node, element: usize, length: usize) -> Result<Made, NameError> {
+        let element = self.term(node, element, Some(Sort::Type))?;
+        let length = self.term(node, length, Some(Sort::Const))?;
+        let levels = element.levels.max(length.levels);
+        let term = Term::Array(element.number, length.number);
+        self.add(node, term, Sort::Type, levels)
+    }
+
+    // A raw pointer.
+    fn pointer(
+        &mut self,
+        node: &Node,
+        pointee: usize,
+        mutability: Mutability,
+    ) -> Result<Made, NameError> {
+        let pointee = self.term(node, pointee, Some(Sort::Type))?;
+        let term = Term::RawPtr(pointee.number, mutability);
+        self.add(node, term, Sort::Type, pointee.levels)
+    }
+
+    // A reference.
+    fn reference(
+        &mut self,
+        node: &Node,
+        region: usize,
+        pointee: usize,
+        mutability: Mutability,
+    ) -> Result<Made, NameError> {
+        let region = self.term(node, region, Some(Sort::Region))?;
+        let pointee = self.term(node, pointee, Some(Sort::Type))?;
+        let levels = region.levels.max(pointee.levels);
+        let term = Term::Ref(region.number, pointee.number, mutability);
+        self.add(node, term, Sort::Type, levels)
+    }
+
+    // An expression.
+    fn expression(&mut self, node: &Node, parts: &[usize]) -> Result<Made, NameError> {
+        let Some((first, args)) = parts.split_first() else {
+            return Err(error_at(node, Wrong::NotRead));
+        };
+        let operation = self.node(node, *first)?;
+        let NodeKind::Leaf(Leaf::Number { value, .. }) = operation.kind else {
+            return Err(error_at(&operation, Wrong::NotRead));
+        };
+        let Ok(kind) = u32::try_from(value) else {
+            return Err(error_at(&operation, Wrong::TooLarge));
+        };
+        let args = self.list(node, args, Wanted::Any)?;
+        self.add(node, Term::Expr(kind, args.parts), Sort::Const, args.levels)
+    }
+
+    // The term of a form, if that is one.
+    pub fn form(
+        &mut self,
+        node: &Node,
+        form: Form,
+        parts: &[usize],
+    ) -> Result<Option<Made>, NameError> {
+        let made = match (form, parts) {
+            (Form::Applied, _) => self.applied(node, parts)?,
+            (Form::Never, []) => self.add(node, Term::Never, Sort::Type, 0)?,
+            (Form::Slice, [element]) => self.slice(node, *element)?,
+            (Form::Array, [element, length]) => self.array(node, *element, *length)?,
+            (Form::Tuple, members) => {
+                let list = self.list(node, members, Wanted::Each(Sort::Type))?;
+                self.add(node, Term::Tuple(list.parts), Sort::Type, list.levels)?
+            }
+            (Form::RawPtr(mutability), [pointee]) => self.pointer(node, *pointee, mutability)?,
+            (Form::Ref(mutability), [region, pointee]) => {
+                self.reference(node, *region, *pointee, mutability)?
+            }
+            (Form::Branch, constants) => {
+                let list = self.list(node, constants, Wanted::Each(Sort::Const))?;
+                self.add(
+                    node,
+                    Term::Branch(USIZE, list.parts),
+                    Sort::Const,
+                    list.levels,
+                )?
+            }
+            (Form::Expr, _) => self.expression(node, parts)?,
+            _ => return Ok(None),
+        };
+        Ok(Some(made))
+    }
+}

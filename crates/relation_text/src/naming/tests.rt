@@ -1,0 +1,140 @@
+//! What texts say, and each error.
+use crate::naming::{look_up, write_name_error};
+use crate::reading::{place_of, read};
+use std::alloc::Global;
+use std::fmt::{self, Write};
+use std::test::Fail;
+
+// How many items, names, terms, parts and questions a text has, or its error with the place.
+fn shown(alloc: Global, text: &str) -> Result<String, fmt::Error> {
+    let mut out = String::new(alloc);
+    let Ok(tree) = read(alloc, text.as_bytes()) else {
+        out.push_str("not read")?;
+        return Ok(out);
+    };
+    match look_up(alloc, text, &tree) {
+        Ok(program) => write!(
+            out,
+            "items={} names={} terms={} parts={} questions={}",
+            program.items.len(),
+            program.names.len(),
+            program.terms.len(),
+            program.parts.len(),
+            program.questions.len()
+        )?,
+        Err(error) => {
+            if let Some((at, _)) = error.span()
+                && at <= text.len()
+            {
+                let place = place_of(text.as_bytes(), at);
+                write!(out, "{}:{}: ", place.line, place.column)?;
+            }
+            write_name_error(text, &error, &mut out)?;
+        }
+    }
+    Ok(out)
+}
+
+#[test]
+fn names_are_looked_up(rt: HostRuntime) -> Result<(), Fail> {
+    let text = "struct Vec<+T>; param T, 'a; Vec<?0> <: Vec<&'a u8>; then ?0 == T;";
+    let all = shown(rt.alloc(), text)?;
+    assert_eq!(rt;
+        all.as_str(),
+        "items=1 names=2 terms=27 parts=2 questions=2"
+    );
+    let text = "struct C<const N>; param const N; repeat 3 C<!1N> == C<{1u8, N}>;";
+    let all = shown(rt.alloc(), text)?;
+    assert_eq!(rt;
+        all.as_str(),
+        "items=1 names=1 terms=26 parts=4 questions=1"
+    );
+    Ok(())
+}
+
+#[test]
+fn wrong_names_are_told(rt: HostRuntime) -> Result<(), Fail> {
+    for (text, why) in [
+        ("X == u8;", "1:1: expected a name that is known, found `X`"),
+        (
+            "param T;\n  param T;",
+            "2:9: expected a new name, found `T`",
+        ),
+        ("struct u8;", "1:8: expected a new name, found `u8`"),
+        ("struct K<T, T>;", "1:13: expected a new name, found `T`"),
+        (
+            "struct K<'a>; K<u8> == u8;",
+            "1:17: expected a region, found a type",
+        ),
+        ("[u8; u8] == u8;", "1:6: expected a constant, found a type"),
+        (
+            "param 'a; 'a == 'a;",
+            "1:11: expected a type, found a region",
+        ),
+        ("2 == 2;", "1:1: expected a type, found a constant"),
+        (
+            "struct K<T>; K == u8;",
+            "1:14: expected 1 argument, found 0",
+        ),
+        ("fn f; f<u8> == u8;", "1:7: expected 0 arguments, found 1"),
+        ("param T; T<u8> == u8;", "1:10: expected an item, found `T`"),
+        (
+            "extern type F<T>;",
+            "1:15: expected no parameter, found `T`",
+        ),
+        ("[u8; 256u8] == u8;", "1:6: the number is too large"),
+        (
+            "[u8; 2x] == u8;",
+            "1:6: expected a number of a type of numbers, found `2x`",
+        ),
+        (
+            "?10000 == u8;",
+            "1:1: expected a variable below 10000, found `?10000`",
+        ),
+        (
+            "variables '?10000;",
+            "1:11: expected a variable below 10000, found `'?10000`",
+        ),
+        (
+            "repeat 0 u8 == u8;",
+            "1:8: expected a number above 0, found `0`",
+        ),
+        (
+            "then u8 == u8;",
+            "1:1: expected a question before this, found none",
+        ),
+        ("budget 1u8;", "1:8: expected a number alone, found `1u8`"),
+        (
+            "!1.x == u8;",
+            "1:1: expected a place by its number, found `!1.x`",
+        ),
+        (
+            "let t = t;",
+            "1:9: expected a name that is known, found `t`",
+        ),
+        ("param T = 4294967295, U;", "1:23: the number is too large"),
+    ] {
+        let all = shown(rt.alloc(), text)?;
+        assert_eq!(rt; all.as_str(), why, "{text}");
+    }
+    Ok(())
+}
+
+#[test]
+fn deep_terms_are_told(rt: HostRuntime) -> Result<(), Fail> {
+    let mut text = String::from_str(rt.alloc(), "let t0 = u8;")?;
+    for level in 1..1000 {
+        let below = level - 1;
+        write!(text, "let t{level} = (t{below}, t{below});")?;
+    }
+    text.push_str("t999 == t999;")?;
+    let all = shown(rt.alloc(), text.as_str())?;
+    assert_eq!(rt;
+        all.as_str(),
+        "items=0 names=0 terms=1019 parts=1998 questions=1"
+    );
+    text.push_str("\n[t999] == u8;")?;
+    let all = shown(rt.alloc(), text.as_str())?;
+    assert_eq!(rt; all.as_str(), "2:1: the term has more than 1000 levels");
+    Ok(())
+}
