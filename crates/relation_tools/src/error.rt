@@ -9,9 +9,6 @@ use relation_terms::terms::{
 };
 use std::alloc::{AllocError, AllocFailed};
 
-#[cfg(test)]
-mod tests;
-
 /// What was asked for and what was there instead.
 #[derive(Clone, Copy, PartialEq, Eq, Debug)]
 pub struct ExpectedFound<T> {

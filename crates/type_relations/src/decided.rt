@@ -346,6 +346,3 @@ fn parts_related(
         (SmallParts::Next(_, _), SmallParts::End) => false,
     }
 }
-
-#[cfg(test)]
-mod tests;
