@@ -7,7 +7,8 @@ use std::test::Fail;
 #[tactic(auto, using(relation_terms::proofs::Stays::knows_args))]
 fn witness_reads_back<I: Interner>(cx: &mut I, def: I::Id) -> Result<bool, OutOfMemory> {
     let region = cx.mk_region(RegionKind::ReStatic)?;
-    let list = [GenericArgKind::Lifetime(region)];
+    let mut list = Vec::new(cx.alloc());
+    list.push(GenericArgKind::Lifetime(region))?;
     let args = cx.mk_args(&list)?;
     let form = TyKind::CoroutineWitness(CoroutineId(def), args);
     let witness = cx.mk_ty(form)?;

@@ -3,10 +3,9 @@ ghost use Rattle.std.specs.Prelude.{IsTrue};
 ghost use Rattle.relation_terms.specs.Trees.{known};
 ghost use Rattle.relation_terms.specs.Meaning.{Extends};
 
-use crate::interner::{RefInterner, SymbolId};
+use crate::interner::RefInterner;
 use relation_terms::terms::{
-    Const, ConstKind, GenericArgKind, Interner, OutOfMemory, ParamConst, Region, TermKind, Ty,
-    TyKind, ValTreeKind,
+    Const, Interner, OutOfMemory, Region, TermKind, Ty, TyKind, ValTreeKind,
 };
 use relation_tools::error::ExpectedFound;
 use relation_tools::fold::{Fold, TypeFoldable, TypeFolder};
@@ -67,23 +66,17 @@ fn stays<I: Interner, T: TypeFoldable<I> + Drop>(cx: &mut I, term: &T) -> Result
     Ok(folded == *term)
 }
 
-// Whether lists of a type stay.
-#[tactic(auto, using(relation_terms::proofs::Stays::knows_args, relation_terms::proofs::Stays::knows_tys))]
+// Whether lists without members stay.
 fn lists_stay<I: Interner>(cx: &mut I) -> Result<bool, OutOfMemory> {
-    let ty = cx.mk_ty(TyKind::Bool)?;
-    let members = cx.mk_type_list(&[ty])?;
-    let stay = stays(cx, &members)?;
-    let ty = cx.mk_ty(TyKind::Bool)?;
-    let args = cx.mk_args(&[GenericArgKind::Ty(ty)])?;
-    Ok(stays(cx, &args)? && stay)
+    let args = cx.mk_args(&Vec::new(cx.alloc()))?;
+    let stay = stays(cx, &args)?;
+    let members = cx.mk_type_list(&Vec::new(cx.alloc()))?;
+    Ok(stays(cx, &members)? && stay)
 }
 
 // Whether what a value is made of stays.
-#[tactic(auto, using(relation_terms::proofs::Stays::knows_branches))]
-fn values_stay<I: Interner>(cx: &mut I, name: &I::Name) -> Result<bool, OutOfMemory> {
-    let name = *name;
-    let constant = cx.mk_const(ConstKind::Param(ParamConst { index: 0, name }))?;
-    let branches = cx.mk_branches(&[constant])?;
+fn values_stay<I: Interner>(cx: &mut I) -> Result<bool, OutOfMemory> {
+    let branches = cx.mk_branches(&Vec::new(cx.alloc()))?;
     let stay = stays(cx, &branches)?;
     let leaf = cx.mk_valtree(ValTreeKind::Leaf { bits: 1, size: 1 })?;
     Ok(stays(cx, &leaf)? && stay)
@@ -101,7 +94,7 @@ fn pairs_stay<I: Interner>(cx: &mut I) -> Result<bool, OutOfMemory> {
 fn lists_and_pairs_stay(rt: HostRuntime) -> Result<(), Fail> {
     let mut cx = RefInterner::new(rt.alloc());
     assert!(rt; lists_stay(&mut cx)?);
-    assert!(rt; values_stay(&mut cx, &SymbolId(0))?);
+    assert!(rt; values_stay(&mut cx)?);
     assert!(rt; pairs_stay(&mut cx)?);
     Ok(())
 }
