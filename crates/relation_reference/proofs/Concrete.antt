@@ -1,5 +1,5 @@
 -- Terms that stand in each context.
-use Rattle.std.proofs.Common.{◌≡◌, IsTrue, false, [], sym, ap, ap₂, ◌∙◌, subst}
+use Rattle.std.proofs.Common.{◌≡◌, IsTrue, false, [], sym, ap, subst}
 use Rattle.relation_terms.specs.declared.terms.enums.Variance.{Variance}
 use Rattle.relation_terms.specs.declared.terms.enums.Variance.TheVariants.{Covariant, Contravariant, Invariant}
 use Rattle.relation_terms.specs.declared.terms.enums.Variance.TheVariants.{Bivariant}
@@ -14,8 +14,6 @@ use Rattle.type_relations.specs.Relation.{IsValueAtom, StaysWithin}
 use Rattle.type_relations.specs.Stores.{Store, IsTermIn, InContext, IsMadeLeaf, IsNamable}
 use Rattle.type_relations.specs.Taken.{IsTaken, IsTakenLeaf}
 use Rattle.type_relations.specs.Lawful.{Asked}
-use Rattle.type_relations.specs.Parts.{item_head}
-use Rattle.type_relations.specs.declared.relate.forms.ItemForm.{ItemForm}
 use Rattle.relation_reference.specs.Plain.{plain_store, plain_state, plain_manner}
 use Rattle.relation_reference.specs.declared.context.inner.InferCtxtInner.{InferCtxtInner}
 use Rattle.relation_reference.specs.Concrete.{IsConcrete}
@@ -109,13 +107,6 @@ module _ {Key Id Name : Type 0} {m n : Meaning Key Id Name} (e : Extends m n) wh
 
   pub args_concrete : (k : ArgsKey Key) → IsConcrete (m.args k) → IsConcrete (n.args k)
   args_concrete k h = concrete_as (m.args k) (n.args k) (e.args k (concrete_known (m.args k) h)) h
-
-  -- A type over an item stays one, over the same arguments.
-  pub stays_over : (f : ItemForm) (d : Id) (k : TyKey Key) (l : ArgsKey Key) → IsConcrete (m.args l) →
-      m.ty k ≡ node (item_head f (m.id d)) (m.args l) → n.ty k ≡ node (item_head f (n.id d)) (n.args l)
-  stays_over f d k l h is =
-      e.ty k (concrete_known (m.ty k) (concrete_as (node (item_head f (m.id d)) (m.args l)) (m.ty k) is h))
-      ∙ is ∙ ap₂ (λ i ts. node (item_head f i) ts) (sym (e.id d)) (sym (e.args l (concrete_known (m.args l) h)))
 
 -- A copy of a type's key, in a context over what its interner has grown to.
 pub given_concrete : {I Key Id Name : Type 0} (meaning : I → Meaning Key Id Name) {cx old new : I}

@@ -9,6 +9,5 @@ pub mod Tables
 pub mod RefCtxt
 pub mod Solving
 pub mod Answers
-pub mod Putting
 pub mod Plain
 pub mod Concrete

@@ -1,12 +1,8 @@
-//! Visits, folds and what is asked about terms, at the reference interner.
-mod agreement;
-mod folders;
+//! What no question of the program `ask` reaches, at the reference interner: one call of each.
 mod folding;
-mod forms;
 mod kinds;
 mod over_items;
 mod plain;
-mod questions;
 mod relating;
 mod solving;
 mod visiting;

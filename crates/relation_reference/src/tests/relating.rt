@@ -2,25 +2,82 @@
 ghost use Rattle.std.specs.Prelude.{◌≡◌, ◌≢◌, [], IfOk};
 ghost use Rattle.relation_terms.specs.Heads.{adt};
 ghost use Rattle.relation_terms.specs.Trees.{node, nil, cons, count};
-ghost use Rattle.relation_terms.specs.Meaning.{Extends};
+ghost use Rattle.relation_terms.specs.Meaning.{Extends, kind_tree};
 ghost use Rattle.relation_terms.specs.declared.terms.enums.Variance.TheVariants.{Bivariant};
 ghost use Rattle.type_relations.specs.Arguments.{related_tree};
 ghost use Rattle.type_relations.specs.Lawful.{Asked};
 ghost use Rattle.relation_reference.specs.Concrete.{IsConcrete};
 ghost use Rattle.relation_reference.specs.Plain.{plain_state, plain_manner};
 
-use super::agreement::{add_contravariant, make_ref, make_region, outlives};
-use super::plain::PlainRelation;
-use crate::interner::{RefInterner, SymbolId};
-use relation_terms::predicate::{RegionConstraint, RegionEqPredicate};
+use super::plain::{PlainRelation, constraints_of};
+use crate::interner::{
+    DefKind, GenericParam, GenericParamKind, ItemId, ItemKind, RefInterner, SymbolId,
+};
+use relation_terms::predicate::{OutlivesPredicate, RegionConstraint, RegionEqPredicate};
 use relation_terms::terms::{
-    ArgsKey, DefId, GenericArgKind, GenericArgs, Interner, ItemOf, OutOfMemory, RegionKey,
-    TermKind, TyKey, Variance,
+    ArgsKey, DefId, EarlyParamRegion, GenericArgKind, GenericArgs, Interner, ItemOf, Mutability,
+    OutOfMemory, Region, RegionKey, RegionKind, TermKind, Ty, TyForm, TyKey, TyKind, UintTy,
+    Variance,
 };
 use relation_tools::error::RelateResult;
 use std::alloc::Global;
 use std::test::Fail;
 use type_relations::relate::{Relate, relate_args_with_variances};
+
+// The region parameter of an index.
+fn make_region<I: Interner>(
+    cx: &mut I,
+    index: u32,
+    name: &I::Name,
+) -> Result<Region<I>, OutOfMemory>
+    ensures grown { Extends (I.meaning cx.old) (I.meaning cx.new) }
+    ensures concrete { IfOk result (λ k. IsConcrete ((I.meaning cx.new).region k)) }
+{
+    let name = *name;
+    cx.mk_region(RegionKind::ReEarlyParam(EarlyParamRegion { index, name }))
+}
+
+// The type of a form.
+#[tactic(auto, using(crate::proofs::Concrete::concrete_known, crate::proofs::Concrete::concrete_as))]
+fn make_ty<I: Interner>(cx: &mut I, kind: TyForm<I>) -> Result<Ty<I>, OutOfMemory>
+    requires { IsConcrete (kind_tree (I.meaning cx.old) kind) }
+    ensures grown { Extends (I.meaning cx.old) (I.meaning cx.new) }
+    ensures concrete { IfOk result (λ k. IsConcrete ((I.meaning cx.new).ty k)) }
+{
+    cx.mk_ty(kind)
+}
+
+// The type `&'r u8`.
+#[tactic(auto, using(relation_terms::proofs::Stays::extends_on, crate::proofs::Concrete::region_concrete))]
+fn make_ref<I: Interner>(cx: &mut I, region: &Region<I>) -> Result<Ty<I>, OutOfMemory>
+    requires { IsConcrete ((I.meaning cx.old).region region.now) }
+    ensures grown { Extends (I.meaning cx.old) (I.meaning cx.new) }
+    ensures concrete { IfOk result (λ k. IsConcrete ((I.meaning cx.new).ty k)) }
+{
+    let byte = make_ty(cx, TyKind::Uint(UintTy::U8))?;
+    make_ty(cx, TyKind::Ref(*region, byte, Mutability::Not))
+}
+
+// An item that is contravariant in its one parameter, a type.
+pub(super) fn add_contravariant(
+    cx: &mut RefInterner,
+    alloc: Global,
+) -> Result<ItemId, OutOfMemory> {
+    let mut params = Vec::new(alloc);
+    params.push(GenericParam {
+        kind: GenericParamKind::Type,
+        name: SymbolId(1),
+    })?;
+    let mut variances = Vec::new(alloc);
+    variances.push(Variance::Contravariant)?;
+    let def = DefKind::Adt;
+    cx.add_item(ItemKind { def, params }, SymbolId(0), variances)
+}
+
+// The first region outlives the second.
+pub(super) fn outlives<X>(a: RegionKey<X>, b: RegionKey<X>) -> RegionConstraint<X> {
+    RegionConstraint::Outlives(OutlivesPredicate(GenericArgKind::Lifetime(a), b))
+}
 
 /// Two regions, and the types `&'a u8` and `&'b u8` of these.
 #[derive(Clone, Copy)]
@@ -77,6 +134,22 @@ fn asked<I: Interner + Drop, T: Relate<I> + Drop>(
 {
     let relation = related(cx, variance, a, b)?;
     Ok(relation.constraints)
+}
+
+// What relating two types asks of regions.
+#[tactic(auto, using(crate::proofs::Concrete::concrete_asked))]
+fn asked_of_types<I: Interner + Drop>(
+    cx: I,
+    variance: Variance,
+    a: &Ty<I>,
+    b: &Ty<I>,
+) -> RelateResult<I, Vec<RegionConstraint<I::Key>>>
+    requires decides { variance ≢ Bivariant }
+    requires lhs { IsConcrete ((I.meaning cx).ty a.now) }
+    requires rhs { IsConcrete ((I.meaning cx).ty b.now) }
+{
+    let related = constraints_of(cx, variance, a, b)?;
+    Ok(related.constraints)
 }
 
 // The same of the arguments of an item.
@@ -140,6 +213,15 @@ fn types_are_related(rt: HostRuntime) -> Result<(), Fail> {
     let two = make_two(&mut cx, &SymbolId(0))?;
     let answer = asked(cx, Variance::Contravariant, &two.left, &two.right);
     assert!(rt; answer == Ok(only(rt.alloc(), outlives(two.b, two.a))?));
+    Ok(())
+}
+
+#[test]
+fn types_are_related_without_a_context(rt: HostRuntime) -> Result<(), Fail> {
+    let mut cx = RefInterner::new(rt.alloc());
+    let two = make_two(&mut cx, &SymbolId(0))?;
+    let answer = asked_of_types(cx, Variance::Covariant, &two.left, &two.right);
+    assert!(rt; answer == Ok(only(rt.alloc(), outlives(two.a, two.b))?));
     Ok(())
 }
 

@@ -7,8 +7,7 @@ ghost use Rattle.relation_reference.specs.Concrete.{IsConcrete};
 ghost use Rattle.relation_reference.specs.Solving.{solving_in, solver_manner};
 ghost use Rattle.relation_reference.specs.Tables.{IsLawful};
 
-use super::agreement::outlives;
-use super::relating::{make_two, only};
+use super::relating::{make_two, only, outlives};
 use crate::context::{RefCtxt, SolverRelating};
 use crate::interner::{RefInterner, SymbolId};
 use relation_terms::predicate::RegionConstraint;
