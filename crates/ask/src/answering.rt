@@ -1,8 +1,9 @@
 //! Answers to the questions of a text, or what is wrong with it.
 
 use relation_text::asking::ask_all;
-use relation_text::naming::{NameError, look_up, write_name_error};
-use relation_text::reading::{ReadError, place_of, read, write_error};
+use relation_text::naming::{Program, look_up};
+use relation_text::reading::read;
+use relation_text::telling::{Lines, tell_unnamed, tell_unread};
 use std::alloc::Global;
 use std::fmt::{self, Write};
 use std::io::{self, Read};
@@ -37,46 +38,12 @@ pub fn bytes_of<R: Read + Drop>(alloc: Global, reader: R) -> io::Result<Vec<u8>>
     Ok(bytes)
 }
 
-// A writer of text over one of bytes.
-#[derive(Drop)]
-struct Lines<'a, O> {
-    out: &'a mut O,
-}
-
-impl<O: io::Write> Write for Lines<'_, O> {
-    fn write_str(&mut self, text: &str) -> fmt::Result {
-        self.out.write_all(text.as_bytes()).map_err(|_| fmt::Error)
+// Answers all questions of a program, each on a line of its own.
+fn answer_all<W: Write>(alloc: Global, program: &Program, out: &mut W) -> fmt::Result {
+    ask_all(alloc, program, "\n", out)?;
+    if program.questions.is_empty() {
+        return Ok(());
     }
-}
-
-// Writes the name of a file and, if there is one, a place in its text.
-fn write_place<W: Write>(
-    name: &str,
-    bytes: &[u8],
-    span: Option<(usize, usize)>,
-    out: &mut W,
-) -> fmt::Result {
-    out.write_str(name)?;
-    match span {
-        Some((at, _)) if at <= bytes.len() => {
-            let place = place_of(bytes, at);
-            write!(out, ":{}:{}: ", place.line, place.column)
-        }
-        _ => out.write_str(": "),
-    }
-}
-
-// Tells why a text can't be read.
-fn tell_unread<W: Write>(name: &str, bytes: &[u8], error: &ReadError, out: &mut W) -> fmt::Result {
-    write_place(name, bytes, error.span(), out)?;
-    write_error(str::from_utf8(bytes).unwrap_or(""), error, out)?;
-    out.write_str("\n")
-}
-
-// Tells why the names of a text can't be looked up.
-fn tell_unnamed<W: Write>(name: &str, text: &str, error: &NameError, out: &mut W) -> fmt::Result {
-    write_place(name, text.as_bytes(), error.span(), out)?;
-    write_name_error(text, error, out)?;
     out.write_str("\n")
 }
 
@@ -107,7 +74,7 @@ pub fn answer<O: io::Write, E: io::Write>(
             let _ = tell_unnamed(name, text, &error, &mut err);
             WRONG
         }
-        Ok(program) => match ask_all(alloc, &program, &mut out) {
+        Ok(program) => match answer_all(alloc, &program, &mut out) {
             Ok(()) => ANSWERED,
             Err(_) => UNWRITTEN,
         },

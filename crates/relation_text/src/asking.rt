@@ -1,4 +1,4 @@
-//! Questions are asked in turn, and each answer is written on a line of its own.
+//! Questions are asked in turn, and their answers are written, with a text of the caller's between two.
 ghost use Rattle.relation_text.specs.Asking.{AreReady};
 
 mod context;
@@ -26,33 +26,39 @@ fn ask_ready<I: Interner + Drop, W: Write>(
     texts: &TextsOf<I>,
     program: &Program,
     terms: &Ready<I>,
+    between: &str,
     out: &mut W,
 ) -> fmt::Result
     requires { AreReady (I.meaning interner) terms.now.built.now terms.now.needs.now }
 {
     let mut ctx = RefCtxt::new(interner, BUDGET);
     let mut fresh = true;
+    let mut before = "";
     for question in &program.questions {
+        out.write_str(before)?;
         let asked = context_for(ctx, question, fresh);
         let (left, outcome) = ask_often(asked, terms, question);
         ctx = left;
         write_outcome(&ctx, texts, question, &outcome, out)?;
-        out.write_str("\n")?;
         fresh = is_memory::<I>(&outcome);
+        before = between;
     }
     Ok(())
 }
 
 // Answers that a growth was refused, to each question.
-fn refuse_all<W: Write>(program: &Program, out: &mut W) -> fmt::Result {
+fn refuse_all<W: Write>(program: &Program, between: &str, out: &mut W) -> fmt::Result {
+    let mut before = "";
     for _ in &program.questions {
-        out.write_str("memory\n")?;
+        out.write_str(before)?;
+        out.write_str("memory")?;
+        before = between;
     }
     Ok(())
 }
 
 /// Asks all questions of a program in turn, over an interner and the ids and names that its items and names have there,
-/// and writes each answer on a line of its own.
+/// and writes the answers, with the given text between two.
 ///
 /// # Errors
 /// What the writer answers where an answer can't be written.
@@ -62,33 +68,40 @@ pub fn ask_over<I: Interner + Drop, W: Write>(
     names: &[I::Name],
     texts: &TextsOf<I>,
     program: &Program,
+    between: &str,
     out: &mut W,
 ) -> fmt::Result {
     let mut interner = interner;
     let alloc = interner.alloc();
     let Ok(built) = build(&mut interner, ids, names, program) else {
-        return refuse_all(program, out);
+        return refuse_all(program, between, out);
     };
     let Ok(needs) = needs_of(alloc, program) else {
-        return refuse_all(program, out);
+        return refuse_all(program, between, out);
     };
     let terms = Ready {
         built: &built,
         needs: &needs,
     };
-    ask_ready(interner, texts, program, &terms, out)
+    ask_ready(interner, texts, program, &terms, between, out)
 }
 
-/// Asks all questions of a program in turn over the reference interner, and writes each answer on a line of its own.
+/// Asks all questions of a program in turn over the reference interner, and writes the answers, with the given text
+/// between two.
 ///
 /// # Errors
 /// What the writer answers where an answer can't be written.
-pub fn ask_all<W: Write>(alloc: Global, program: &Program, out: &mut W) -> fmt::Result {
+pub fn ask_all<W: Write>(
+    alloc: Global,
+    program: &Program,
+    between: &str,
+    out: &mut W,
+) -> fmt::Result {
     let Ok((interner, ids)) = make_interner(alloc, program) else {
-        return refuse_all(program, out);
+        return refuse_all(program, between, out);
     };
     let Ok(tables) = make_tables(alloc, program, &ids) else {
-        return refuse_all(program, out);
+        return refuse_all(program, between, out);
     };
     let Tables {
         names,
@@ -99,5 +112,5 @@ pub fn ask_all<W: Write>(alloc: Global, program: &Program, out: &mut W) -> fmt::
         names: &name_texts,
         items: &item_texts,
     };
-    ask_over(interner, &ids, &names, &texts, program, out)
+    ask_over(interner, &ids, &names, &texts, program, between, out)
 }

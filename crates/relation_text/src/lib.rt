@@ -1,4 +1,4 @@
-//! Questions as text: how they are read, what their names mean, what is built of them, and how answers print.
+//! Questions as text: how they are read, what their names mean, what is built of them, and how answers and errors print.
 #![tactic(auto)]
 
 pub mod asking;
@@ -6,3 +6,4 @@ pub mod building;
 pub mod naming;
 pub mod printing;
 pub mod reading;
+pub mod telling;

@@ -1,4 +1,0 @@
-pub mod Building
-pub mod Counting
-pub mod Joining
-pub mod Taking

@@ -1,9 +1,7 @@
 //! Prints the answers of worked rows: what relating two types answers, and what it leaves recorded.
 #![tactic(auto)]
 
-mod asking;
 mod rows;
-mod written;
 
 use std::process::ExitCode;
 use std::{env, io};

@@ -1,33 +1,11 @@
 //! What a run prints and answers, and what several calls on one context leave.
-use crate::asking::{Question, ask, build_pair, relate};
-use crate::rows::{ITEMS, PARAMETERS, TEXTS, make_interner, run};
-use crate::written::{Written, WrittenRegion};
-use relation_reference::context::RefCtxt;
-use relation_reference::interner::{ItemId, NoSpan, NodeKey, RefInterner};
-use relation_terms::predicate::{OutlivesPredicate, RegionConstraint, RegionEqPredicate};
-use relation_terms::terms::{
-    AlternativesKey, ArgsKey, BoundVarsKey, BranchesKey, ClauseKey, ConstKey, DefId,
-    ExistentialPredicatesKey, GenericArgKind, Goal, Interner, Mutability, ParamEnvKey, PatKey,
-    PredicateKey, RegionKey, TyKey, TyVid, UintTy, ValTreeKey, Variance,
-};
-use relation_tools::error::{
-    ExpectedFound, OutOfMemory, RelateFault, RelateFaultOf, TypeError, TypeErrorOf,
-};
+use crate::rows::{ROWS, Row, answers, print, run};
+use relation_reference::interner::{NodeKey, RefInterner};
+use relation_terms::terms::TyKey;
+use relation_tools::error::{OutOfMemory, RelateFault, RelateFaultOf, TypeError, TypeErrorOf};
 use std::alloc::{AllocError, Global};
 use std::io;
 use std::test::Fail;
-
-const U8: Written = Written::Uint(UintTy::U8);
-
-const FIRST: Written = Written::Variable(0);
-
-const SECOND: Written = Written::Variable(1);
-
-const THIRD: Written = Written::Variable(2);
-
-const A: WrittenRegion = WrittenRegion::Parameter(0);
-
-const B: WrittenRegion = WrittenRegion::Parameter(1);
 
 const ALL_ROWS: &str = "r07: err TupleSize(2, 3) | err Sorts((), (u8,))
 r08: err CyclicTy([?0])
@@ -140,181 +118,102 @@ fn a_failed_write_is_status_1(rt: HostRuntime) -> Result<(), Fail> {
     Ok(())
 }
 
-// How many type and region variables a context has, the pairs that are related in it, and the answers.
-type Asked = (usize, usize, &'static [(Written, Written)], &'static str);
-
-const ASKED: [Asked; 6] = [
-    (
-        2,
-        0,
-        &[
-            (
-                Written::Tuple(&[Written::Ref(A, &U8, Mutability::Not), FIRST]),
-                Written::Tuple(&[
-                    Written::Ref(B, &U8, Mutability::Not),
-                    Written::Ref(WrittenRegion::Static, &SECOND, Mutability::Not),
-                ]),
-            ),
-            (SECOND, Written::Char),
-        ],
-        "ok; regions=['a == 'b]; bound=[?0=&'static ?1] | ok; regions=['a == 'b]; bound=[?0=&'static ?1, ?1=char]",
-    ),
-    (
-        3,
-        0,
-        &[
-            (
-                Written::Tuple(&[FIRST, SECOND]),
-                Written::Tuple(&[SECOND, THIRD]),
-            ),
-            (THIRD, Written::Slice(&FIRST)),
-        ],
-        "ok | err CyclicTy([?0])",
-    ),
-    (
-        1,
-        2,
-        &[(
-            Written::Tuple(&[FIRST, FIRST]),
-            Written::Tuple(&[
-                Written::Ref(WrittenRegion::Variable(0), &U8, Mutability::Not),
-                Written::Ref(WrittenRegion::Variable(1), &U8, Mutability::Not),
-            ]),
-        )],
-        "ok; regions=['?0 == '?1]; bound=[?0=&'?0 u8]",
-    ),
-    (
-        1,
-        0,
-        &[(
-            Written::Ref(A, &U8, Mutability::Not),
-            Written::Ref(A, &FIRST, Mutability::Not),
-        )],
-        "ok; regions=['a == 'a]; bound=[?0=u8]",
-    ),
-    (
-        2,
-        0,
-        &[
-            (
-                Written::Tuple(&[FIRST, SECOND]),
-                Written::Tuple(&[
-                    Written::Ref(A, &U8, Mutability::Not),
-                    Written::Ref(A, &U8, Mutability::Not),
-                ]),
-            ),
-            (FIRST, SECOND),
-        ],
-        "ok; bound=[?0=&'a u8, ?1=&'a u8] | ok; regions=['a == 'a]; bound=[?0=&'a u8, ?1=&'a u8]",
-    ),
-    (
-        2,
-        0,
-        &[(
-            Written::Tuple(&[FIRST, SECOND]),
-            Written::Tuple(&[Written::Slice(&U8), Written::Slice(&FIRST)]),
-        )],
-        "ok; bound=[?0=[u8], ?1=[[u8]]]",
-    ),
-];
-
 #[test]
-fn several_calls_on_one_context(rt: HostRuntime) -> Result<(), Fail> {
-    for (type_variables, region_variables, pairs, answers) in &ASKED {
-        let question = Question {
-            type_variables: *type_variables,
-            region_variables: *region_variables,
-            budget: None,
-            variance: Variance::Invariant,
-            pairs,
-        };
-        let mut text = String::new(rt.alloc());
-        let cx = RefInterner::new(rt.alloc());
-        ask(cx, &TEXTS, &question, &mut text)?;
-        assert_eq!(rt; text.as_str(), *answers);
+fn each_row_is_answered_as_stored(rt: HostRuntime) -> Result<(), Fail> {
+    for row in &ROWS {
+        let answered = answers(rt.alloc(), row);
+        assert!(rt; answered.is_ok(), "{}: {:?}", row.name, answered.err());
+        assert_eq!(rt; answered?.as_str(), row.stored, "{}", row.name);
     }
     Ok(())
 }
 
-const UNIQUE: Written = Written::Ref(A, &Written::Slice(&U8), Mutability::Mut);
-
-// What is asked at a variance of a context with a type variable, and the answers.
-const VARIED: [(Variance, &[(Written, Written)], &str); 6] = [
+// Questions, and their answers.
+const ASKED: [(&str, &str); 11] = [
     (
-        Variance::Covariant,
-        &[(FIRST, U8), (U8, FIRST), (U8, U8)],
-        "not asked | not asked | ok",
+        "param 'a, 'b; (&'a u8, ?0) == (&'b u8, &'static ?1); then ?1 == char;",
+        "ok; regions=['a == 'b]; bound=[?0=&'static ?1] | ok; regions=['a == 'b]; bound=[?0=&'static ?1, ?1=char]",
     ),
-    (Variance::Contravariant, &[(FIRST, FIRST)], "not asked"),
-    (Variance::Bivariant, &[(U8, U8)], "not asked"),
     (
-        Variance::Invariant,
-        &[
-            (Written::Array(&FIRST, 4), Written::Array(&UNIQUE, 4)),
-            (
-                Written::RawPtr(&U8, Mutability::Mut),
-                Written::RawPtr(&Written::Char, Mutability::Mut),
-            ),
-        ],
+        "(?0, ?1) == (?1, ?2); then ?2 == [?0];",
+        "ok | err CyclicTy([?0])",
+    ),
+    (
+        "(?0, ?0) == (&'?0 u8, &'?1 u8);",
+        "ok; regions=['?0 == '?1]; bound=[?0=&'?0 u8]",
+    ),
+    (
+        "param 'a; &'a u8 == &'a ?0;",
+        "ok; regions=['a == 'a]; bound=[?0=u8]",
+    ),
+    (
+        "param 'a; (?0, ?1) == (&'a u8, &'a u8); then ?0 == ?1;",
+        "ok; bound=[?0=&'a u8, ?1=&'a u8] | ok; regions=['a == 'a]; bound=[?0=&'a u8, ?1=&'a u8]",
+    ),
+    (
+        "(?0, ?1) == ([u8], [?0]);",
+        "ok; bound=[?0=[u8], ?1=[[u8]]]",
+    ),
+    ("budget 1; ?0 == u8;", "ok; bound=[?0=u8]; left=0"),
+    (
+        "u8 <: u8; u8 :> ?0;",
+        "ok | not asked: types with type variables are related by `==` alone",
+    ),
+    (
+        "param 'a; [?0; 4] == [&'a mut [u8]; 4]; then *mut u8 == *mut char;",
         "ok; bound=[?0=&'a mut [u8]] | err Sorts(u8, char); bound=[?0=&'a mut [u8]]",
     ),
     (
-        Variance::Covariant,
-        &[
-            (Written::Adt(0, &[UNIQUE]), Written::Adt(0, &[U8])),
-            (Written::Adt(1, &[]), U8),
-        ],
-        "err Sorts(&'a mut [u8], u8) | missing",
+        "struct K<-T>; param 'a; K<&'a mut [u8]> <: K<u8>;",
+        "err Sorts(&'a mut [u8], u8)",
     ),
     (
-        Variance::Invariant,
-        &[(
-            Written::Adt(0, &[U8]),
-            Written::Array(&U8, 18446744073709551615),
-        )],
+        "struct K<-T>; K<u8> == [u8; 18446744073709551615];",
         "err Sorts(K<u8>, [u8; 18446744073709551615])",
     ),
 ];
 
 #[test]
-fn questions_at_each_variance(rt: HostRuntime) -> Result<(), Fail> {
-    for (variance, pairs, answers) in &VARIED {
-        let question = Question {
-            type_variables: 1,
-            region_variables: 0,
-            budget: None,
-            variance: *variance,
-            pairs,
+fn questions_are_answered_in_turn(rt: HostRuntime) -> Result<(), Fail> {
+    for (questions, stored) in &ASKED {
+        let row = Row {
+            name: "asked",
+            questions,
+            stored,
         };
-        let mut text = String::new(rt.alloc());
-        let cx = make_interner(rt.alloc())?;
-        ask(cx, &TEXTS, &question, &mut text)?;
-        assert_eq!(rt; text.as_str(), *answers);
+        assert_eq!(rt; answers(rt.alloc(), &row)?.as_str(), *stored);
     }
     Ok(())
 }
 
-#[test]
-fn the_interner_has_its_items(rt: HostRuntime) -> Result<(), Fail> {
-    let cx = make_interner(rt.alloc())?;
-    assert_eq!(rt; cx.item_count(), ITEMS.len());
-    let item = DefId(ITEMS[0].id);
-    assert!(rt; cx.variances_of(&item) == [Variance::Contravariant].as_slice());
-    Ok(())
-}
+// Wrong texts, and what is told of a row that has one.
+const WRONG: [(&str, &str); 4] = [
+    ("u8 == u8", "wrong:1:9: expected `;`, found the end\n"),
+    (
+        "() ==\n  [T];",
+        "wrong:2:4: expected a name that is known, found `T`\n",
+    ),
+    (
+        "u8 == u8; then [u8] == 'a;",
+        "wrong:1:24: expected a name that is known, found `'a`\n",
+    ),
+    ("() == (); #", "wrong:1:11: no word begins here\n"),
+];
 
 #[test]
-fn a_bound_variable_has_its_type(rt: HostRuntime) -> Result<(), Fail> {
-    let mut ctx = RefCtxt::new(RefInterner::new(rt.alloc()), 1);
-    let _ = ctx.next_ty_infer()?;
-    let (param_env, lhs, rhs) = build_pair(&mut ctx, &PARAMETERS, &ITEMS, &(FIRST, U8))?;
-    let bound = rhs;
-    let span = ctx.interner.dummy_span();
-    let goals = relate(&mut ctx, param_env, lhs, Variance::Invariant, rhs, span)?;
-    assert!(rt; goals.is_empty());
-    assert_eq!(rt; ctx.inner.types.len(), 1);
-    assert!(rt; ctx.binding(TyVid(0)) == Some(bound));
-    assert_eq!(rt; ctx.budget_left(), 0);
+fn a_wrong_text_is_told(rt: HostRuntime) -> Result<(), Fail> {
+    for (questions, told) in &WRONG {
+        let row = Row {
+            name: "wrong",
+            questions,
+            stored: "",
+        };
+        let mut out = Vec::new(rt.alloc());
+        let mut err = Vec::new(rt.alloc());
+        assert!(rt; !print(rt.alloc(), &row, &mut out, &mut err)?);
+        assert!(rt; out.is_empty());
+        assert_eq!(rt; err.as_slice(), told.as_bytes());
+    }
     Ok(())
 }
 

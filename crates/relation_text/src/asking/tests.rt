@@ -13,7 +13,7 @@ fn answers(alloc: Global, text: &str) -> Result<String, fmt::Error> {
         return Err(fmt::Error);
     };
     match look_up(alloc, text, &tree) {
-        Ok(program) => ask_all(alloc, &program, &mut out)?,
+        Ok(program) => ask_all(alloc, &program, "\n", &mut out)?,
         Err(error) => write_name_error(text, &error, &mut out)?,
     }
     Ok(out)
@@ -42,7 +42,7 @@ fn rows_are_answered(rt: HostRuntime) -> Result<(), Fail> {
          ok; regions=['a: 'c, 'b == 'd]\n\
          err Mutability\n\
          ok; regions=['b: 'a]\nok; regions=['a: 'b]\n\
-         budget; bound=[?0=u8]; left=0\n"
+         budget; bound=[?0=u8]; left=0"
     );
     Ok(())
 }
@@ -64,7 +64,7 @@ fn questions_follow_one_another(rt: HostRuntime) -> Result<(), Fail> {
          not asked: the context's universe, 0, does not name the placeholder\n\
          err Sorts(!0.2, !0T)\n\
          ok; regions=['?0 == 'a]; bound=[?1=u8]\n\
-         ok; regions=['static: 'a]\n"
+         ok; regions=['static: 'a]"
     );
     Ok(())
 }
