@@ -9,5 +9,3 @@ pub mod Tables
 pub mod RefCtxt
 pub mod Solving
 pub mod Answers
-pub mod Plain
-pub mod Concrete

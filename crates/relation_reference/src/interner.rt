@@ -7,8 +7,6 @@ ghost use Rattle.relation_reference.specs.Nodes.{StandsAt};
 mod items;
 mod keys;
 mod node;
-#[cfg(test)]
-mod tests;
 
 pub use items::{DefKind, GenericParam, GenericParamKind, Item, ItemKind};
 pub use keys::{ItemId, NoSpan, NodeKey, SymbolId};

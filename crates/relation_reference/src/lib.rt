@@ -3,5 +3,3 @@
 
 pub mod context;
 pub mod interner;
-#[cfg(test)]
-mod tests;

@@ -7,4 +7,22 @@ mod decided;
 #[cfg(test)]
 mod errors;
 #[cfg(test)]
+mod folding;
+#[cfg(test)]
+mod interning;
+#[cfg(test)]
+mod items;
+#[cfg(test)]
+mod kinds;
+#[cfg(test)]
+mod over_items;
+#[cfg(test)]
+mod plain;
+#[cfg(test)]
+mod relating;
+#[cfg(test)]
+mod solving;
+#[cfg(test)]
 mod variances;
+#[cfg(test)]
+mod visiting;

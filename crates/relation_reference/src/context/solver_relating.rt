@@ -43,8 +43,13 @@ impl<'a, I: Interner> SolverRelating<'a, I> {
         }
     }
 
-    // Relates two types.
-    pub(crate) fn relate_tys(&mut self, a: &Ty<I>, b: &Ty<I>) -> RelateResult<I, Ty<I>>
+    /// Relates two types at the ambient variance, and answers what they are related as. The interner knows both, and
+    /// they are types of the context. What was recorded is in the context, also after an error.
+    ///
+    /// # Errors
+    /// `Unrelated` where the types do not become one, `Budget` where no instantiation is left, `Memory` where a growth
+    /// was refused.
+    pub fn relate_tys(&mut self, a: &Ty<I>, b: &Ty<I>) -> RelateResult<I, Ty<I>>
         requires lawful { IsLawful (I.meaning self.old.infcx.now.interner) self.old.infcx.now.inner }
         requires env_known { IsTrue (known ((I.meaning self.old.infcx.now.interner).param_env self.old.param_env)) }
         requires decides { self.old.ambient_variance ≢ Bivariant }

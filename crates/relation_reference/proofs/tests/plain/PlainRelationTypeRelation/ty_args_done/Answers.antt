@@ -1,8 +1,0 @@
-use Rattle.relation_reference.specs.Plain.{plain_state}
-use Rattle.type_relations.proofs.Passing.{noted_nothing}
-use Rattle.relation_reference.proofs.tests.plain.PlainRelationTypeRelation.ty_args_done.Goals as goal
-
-pub returns : goal.returns
-returns g c =
-    let r = c.args.self.now in
-    noted_nothing _ (plain_state (g.I.Interner.meaning r.interner) r.ambient r.constraints.items)

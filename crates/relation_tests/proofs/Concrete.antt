@@ -1,0 +1,117 @@
+-- Terms that stand in each context.
+use Rattle.std.proofs.Common.{◌≡◌, IsTrue, false, [], sym, ap, subst}
+use Rattle.relation_terms.specs.declared.terms.enums.Variance.{Variance}
+use Rattle.relation_terms.specs.declared.terms.enums.Variance.TheVariants.{Covariant, Contravariant, Invariant}
+use Rattle.relation_terms.specs.declared.terms.enums.Variance.TheVariants.{Bivariant}
+use Rattle.relation_terms.specs.declared.terms.keys.TyKey.{TyKey}
+use Rattle.relation_terms.specs.declared.terms.keys.RegionKey.{RegionKey}
+use Rattle.relation_terms.specs.declared.terms.keys.ArgsKey.{ArgsKey}
+use Rattle.relation_terms.specs.declared.terms.keys.ParamEnvKey.{ParamEnvKey}
+use Rattle.relation_terms.specs.Heads.{Leaf, Atom, variable, bound, placeholder, atom, unknown}
+use Rattle.relation_terms.specs.Trees.{Tree, leaf, node, bind, nil, cons, known, Leaves}
+use Rattle.relation_terms.specs.Meaning.{Meaning, Extends}
+use Rattle.type_relations.specs.Relation.{IsValueAtom, StaysWithin}
+use Rattle.type_relations.specs.Stores.{Store, IsTermIn, InContext, IsMadeLeaf, IsNamable}
+use Rattle.type_relations.specs.Taken.{IsTaken, IsTakenLeaf}
+use Rattle.type_relations.specs.Lawful.{Asked}
+use Rattle.relation_tests.specs.Plain.{plain_store, plain_state, plain_manner}
+use Rattle.relation_reference.specs.declared.context.inner.InferCtxtInner.{InferCtxtInner}
+use Rattle.relation_tests.specs.Concrete.{IsConcrete}
+use Rattle.relation_reference.specs.Solving.{solving, solver_manner}
+use Rattle.relation_reference.specs.Tables.{store_of}
+use Rattle.relation_reference.proofs.Grows.{known_of_term}
+
+-- What holds of each atom holds of each leaf.
+concrete_leaves : (P : Leaf → Type 0) → ((x : Atom) → IsValueAtom x → P (atom x)) → (t : Tree) → IsConcrete t →
+    Leaves P t
+concrete_leaves P f (leaf (variable k n)) h = absurd h
+concrete_leaves P f (leaf (bound k d i)) h = absurd h
+concrete_leaves P f (leaf (placeholder k u n)) h = absurd h
+concrete_leaves P f (leaf (atom x)) h = f x h
+concrete_leaves P f (leaf unknown) h = absurd h
+concrete_leaves P f (node a ts) h = concrete_leaves P f ts h
+concrete_leaves P f (bind ks t) h = absurd h
+concrete_leaves P f nil h = tt
+concrete_leaves P f (cons t ts) h = (concrete_leaves P f t h.0, concrete_leaves P f ts h.1)
+
+concrete_within : (t : Tree) → IsConcrete t → StaysWithin 0 t
+concrete_within (leaf (variable k n)) h = absurd h
+concrete_within (leaf (bound k d i)) h = absurd h
+concrete_within (leaf (placeholder k u n)) h = absurd h
+concrete_within (leaf (atom x)) h = tt
+concrete_within (leaf unknown) h = absurd h
+concrete_within (node a ts) h = concrete_within ts h
+concrete_within (bind ks t) h = absurd h
+concrete_within nil h = tt
+concrete_within (cons t ts) h = (concrete_within t h.0, concrete_within ts h.1)
+
+pub concrete_in : (st : Store) (t : Tree) → IsConcrete t → IsTermIn st t
+unfolding IsTermIn InContext
+concrete_in st t h = (
+  concrete_leaves (IsMadeLeaf st) (λ x h. h) t h,
+  concrete_within t h,
+  concrete_leaves (IsNamable st.universe) (λ x h. tt) t h,
+)
+
+pub concrete_known : (t : Tree) → IsConcrete t → IsTrue (known t)
+concrete_known t h = known_of_term _ t (concrete_in (record {
+  entries = λ k. [];
+  universes = λ k. [];
+  universe = 0;
+  constraints = [];
+  tainted = false;
+  budget = 0;
+}) t h)
+
+pub concrete_taken : (v : Variance) (t : Tree) → IsConcrete t → IsTaken v t
+concrete_taken Covariant t h = concrete_leaves (IsTakenLeaf Covariant) (λ x h. tt) t h
+concrete_taken Contravariant t h = concrete_leaves (IsTakenLeaf Contravariant) (λ x h. tt) t h
+concrete_taken Invariant t h = concrete_leaves (IsTakenLeaf Invariant) (λ x h. tt) t h
+concrete_taken Bivariant t h = concrete_leaves (IsTakenLeaf Bivariant) (λ x h. tt) t h
+
+-- Such terms may be asked about.
+pub concrete_asked : {Key Id Name : Type 0} (m : Meaning Key Id Name) (v : Variance) (a b : Tree) → IsConcrete a →
+    IsConcrete b → Asked plain_manner (plain_state m v []) v a b
+concrete_asked m v a b h k = record {
+  left_known = concrete_known a h;
+  right_known = concrete_known b k;
+  left_in = concrete_in (plain_store m []) a h;
+  right_in = concrete_in (plain_store m []) b k;
+  left_taken = concrete_leaves (λ l. Unit {0}) (λ x h. tt) a h;
+  right_taken = concrete_leaves (λ l. Unit {0}) (λ x h. tt) b k;
+}
+
+-- Also in a context.
+pub concrete_solved : {Key Id Name : Type 0} (m : Meaning Key Id Name) (x : InferCtxtInner Key) (v : Variance)
+    (e : ParamEnvKey Key) (a b : Tree) → IsConcrete a → IsConcrete b →
+    Asked solver_manner (solving 0 m x v e) v a b
+concrete_solved m x v e a b h k = record {
+  left_known = concrete_known a h;
+  right_known = concrete_known b k;
+  left_in = concrete_in (store_of m x) a h;
+  right_in = concrete_in (store_of m x) b k;
+  left_taken = concrete_taken v a h;
+  right_taken = concrete_taken v b k;
+}
+
+-- What an equal tree was, this one is.
+pub concrete_as : (t u : Tree) → u ≡ t → IsConcrete t → IsConcrete u
+concrete_as t u e h = subst IsConcrete (sym e) h
+
+module _ {Key Id Name : Type 0} {m n : Meaning Key Id Name} (e : Extends m n) where
+  pub stays_concrete : (k : TyKey Key) → IsConcrete (m.ty k) → IsConcrete (n.ty k)
+  stays_concrete k h = concrete_as (m.ty k) (n.ty k) (e.ty k (concrete_known (m.ty k) h)) h
+
+  pub region_concrete : (k : RegionKey Key) → IsConcrete (m.region k) → IsConcrete (n.region k)
+  region_concrete k h = concrete_as (m.region k) (n.region k) (e.region k (concrete_known (m.region k) h)) h
+
+  pub args_concrete : (k : ArgsKey Key) → IsConcrete (m.args k) → IsConcrete (n.args k)
+  args_concrete k h = concrete_as (m.args k) (n.args k) (e.args k (concrete_known (m.args k) h)) h
+
+-- A copy of a type's key, in a context over what its interner has grown to.
+pub given_concrete : {I Key Id Name : Type 0} (meaning : I → Meaning Key Id Name) {cx old new : I}
+    (is : new ≡ old) (e : Extends (meaning cx) (meaning old)) {k l : TyKey Key} (same : l ≡ k) →
+    IsConcrete ((meaning cx).ty k) → IsConcrete ((meaning new).ty l)
+given_concrete meaning {cx} {old} {new} is e {k} {l} same h =
+    subst (λ i. IsConcrete ((meaning i).ty l)) (sym is)
+    (concrete_as ((meaning old).ty k) ((meaning old).ty l) (ap (meaning old).ty same) (stays_concrete e k h))

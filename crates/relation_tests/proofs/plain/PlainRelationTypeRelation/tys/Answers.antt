@@ -1,0 +1,17 @@
+use Rattle.std.proofs.Common.{refl}
+use Rattle.type_relations.specs.Parts.{IsFormed}
+use Rattle.relation_tests.specs.Plain.{plain_state, plain_manner}
+use Rattle.type_relations.proofs.Passing.{parts_left}
+use Rattle.relation_tests.proofs.Plain.{formed}
+use Rattle.relation_tests.proofs.plain.PlainRelationTypeRelation.tys.Goals as goal
+
+pub returns : goal.returns
+returns g c =
+    let m = g.I.Interner.meaning c.args.self.now.interner in
+    let cs = c.args.self.now.constraints.items in
+    let is = g.met.I.Interner.is_ty c.args.self.now.interner in
+    let k = c.requires.asked in
+    parts_left plain_manner IsFormed (plain_state m c.args.self.now.ambient cs) m.ty c.args.a.now c.args.b.now
+    c.args.a.now c.args.b.now refl refl k
+    (formed m cs (m.ty c.args.a.now) (is c.args.a.now k.left_known) k.left_in)
+    (formed m cs (m.ty c.args.b.now) (is c.args.b.now k.right_known) k.right_in)

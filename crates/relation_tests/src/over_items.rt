@@ -1,0 +1,120 @@
+//! A type over an item, related with itself by its arguments, through the relation of terms without variables.
+ghost use Rattle.std.specs.Prelude.{◌≡◌, ◌≢◌, IfOk, IsTrue, []};
+ghost use Rattle.relation_terms.specs.Heads.{adt};
+ghost use Rattle.relation_terms.specs.Trees.{node, known};
+ghost use Rattle.relation_terms.specs.Meaning.{Extends};
+ghost use Rattle.relation_terms.specs.declared.terms.enums.Variance.TheVariants.{Bivariant};
+ghost use Rattle.relation_reference.specs.Adding.{meaning_in};
+ghost use Rattle.type_relations.specs.Lawful.{Asked};
+ghost use Rattle.relation_tests.specs.Concrete.{IsConcrete};
+ghost use Rattle.relation_tests.specs.Plain.{plain_state, plain_manner};
+
+use crate::plain::PlainRelation;
+use crate::relating::{add_contravariant, make_args, make_two, only, outlives};
+use relation_reference::interner::{ItemId, NodeKey, RefInterner, SymbolId};
+use relation_terms::predicate::RegionConstraint;
+use relation_terms::terms::{
+    AdtId, ArgsKey, DefId, GenericArgs, Interner, OutOfMemory, Ty, TyKey, TyKind, Variance,
+};
+use relation_tools::error::RelateResult;
+use std::test::Fail;
+use type_relations::relate::relate_ty_args;
+
+/// A type over an item, and its arguments.
+#[derive(Clone, Copy)]
+struct OverItem<X> {
+    ty: TyKey<X>,
+    args: ArgsKey<X>,
+}
+
+// The type of an item over a list of arguments.
+fn make_item<I: Interner>(
+    cx: &mut I,
+    item: &I::Id,
+    args: GenericArgs<I>,
+) -> Result<Ty<I>, OutOfMemory>
+    requires { IsTrue (known ((I.meaning cx.old).args args)) }
+    ensures grown { Extends (I.meaning cx.old) (I.meaning cx.new) }
+    ensures sure { IfOk result (λ k. IsTrue (known ((I.meaning cx.new).ty k))) }
+    ensures made { IfOk result (λ k. (I.meaning cx.new).ty k ≡
+        node (adt ((I.meaning cx.old).id item.now)) ((I.meaning cx.old).args args)) }
+{
+    cx.mk_ty(TyKind::Adt(AdtId(*item), args))
+}
+
+// The same of one argument.
+fn make_over<I: Interner>(
+    cx: &mut I,
+    item: &I::Id,
+    argument: &TyKey<I::Key>,
+) -> Result<OverItem<I::Key>, OutOfMemory>
+    requires { IsConcrete ((I.meaning cx.old).ty argument.now) }
+    ensures concrete { IfOk result (λ t. IsConcrete ((I.meaning cx.new).args t.args)) }
+    ensures is { IfOk result (λ t. (I.meaning cx.new).ty t.ty ≡
+        node (adt ((I.meaning cx.new).id item.now)) ((I.meaning cx.new).args t.args)) }
+{
+    let args = make_args(cx, argument)?;
+    let ty = make_item(cx, item, args)?;
+    Ok(OverItem { ty, args })
+}
+
+// The relation without variables, after it has related the type with itself, and the answer.
+fn related_over(
+    cx: RefInterner,
+    variance: Variance,
+    item: ItemId,
+    over: &OverItem<NodeKey>,
+) -> RelateResult<RefInterner, (Ty<RefInterner>, PlainRelation<RefInterner>)>
+    requires decides { variance ≢ Bivariant }
+    requires asked { Asked plain_manner (plain_state (meaning_in cx) variance []) variance
+        ((meaning_in cx).ty (over.now).ty) ((meaning_in cx).ty (over.now).ty) }
+    requires args_known { IsTrue (known ((meaning_in cx).args (over.now).args)) }
+    requires is { (meaning_in cx).ty (over.now).ty ≡
+        node (adt ((meaning_in cx).id item)) ((meaning_in cx).args (over.now).args) }
+{
+    let mut relation = PlainRelation::new(cx, variance);
+    let answer = relate_ty_args(
+        &mut relation,
+        &over.ty,
+        &over.ty,
+        &DefId(item),
+        &over.args,
+        &over.args,
+        |cx: &mut RefInterner, args: GenericArgs<RefInterner>|
+            requires { IsTrue (known ((meaning_in cx.old).args args)) }
+            ensures grown { Extends (meaning_in cx.old) (meaning_in cx.new) }
+            ensures sure { IfOk result (λ k. IsTrue (known ((meaning_in cx.new).ty k))) }
+            ensures made { IfOk result (λ k. (meaning_in cx.new).ty k ≡
+                node (adt ((meaning_in cx.old).id item)) ((meaning_in cx.old).args args)) }
+        { make_item(cx, &item, args) },
+    )?;
+    Ok((answer, relation))
+}
+
+// The answer, and what it asks of regions.
+fn asked_over(
+    cx: RefInterner,
+    variance: Variance,
+    item: ItemId,
+    over: &OverItem<NodeKey>,
+) -> RelateResult<RefInterner, (Ty<RefInterner>, Vec<RegionConstraint<NodeKey>>)>
+    requires decides { variance ≢ Bivariant }
+    requires concrete { IsConcrete ((meaning_in cx).args (over.now).args) }
+    requires is { (meaning_in cx).ty (over.now).ty ≡
+        node (adt ((meaning_in cx).id item)) ((meaning_in cx).args (over.now).args) }
+{
+    let (answer, relation) = related_over(cx, variance, item, over)?;
+    Ok((answer, relation.constraints))
+}
+
+#[test]
+fn types_over_an_item_are_related(rt: HostRuntime) -> Result<(), Fail> {
+    let mut cx = RefInterner::new(rt.alloc());
+    let item = add_contravariant(&mut cx, rt.alloc())?;
+    let two = make_two(&mut cx, &SymbolId(0))?;
+    let over = make_over(&mut cx, &item, &two.left)?;
+    let answer = asked_over(cx, Variance::Covariant, item, &over);
+    let asks = only(rt.alloc(), outlives(two.a, two.a))?;
+    assert!(rt; answer == Ok((over.ty, asks)));
+    Ok(())
+}
