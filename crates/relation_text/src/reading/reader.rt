@@ -144,6 +144,7 @@ impl Reader {
     pub fn take(&mut self, expected: Expected) -> Result<usize, ReadError>
         ensures goes { GoesOn self.old self.new }
         ensures node { IfOk result (Makes self.old self.new) }
+        ensures over { OnOk result (self.new.at ≡ suc self.old.at) }
         ensures wrong { IfErr result (LiesIn self.old.tree.text_len) }
     {
         let Some(word) = self.next() else {
