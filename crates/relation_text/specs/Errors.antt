@@ -1,5 +1,6 @@
 -- Errors of reading, and how they are written.
-use Rattle.std.specs.Prelude.{◌≡◌, ℕ, ◌≤◌, ◌≢◌, ◌⊎◌, List, [], ◌∷◌, ◌++◌, codes, slice_range, Option, Some, None, IfSome}
+use Rattle.std.specs.Prelude.{◌≡◌, ℕ, ◌≤◌, ◌≢◌, ◌⊎◌, List, [], ◌∷◌, ◌++◌, codes, slice_range}
+use Rattle.std.specs.Prelude.{Option, Some, None, IfSome}
 use Rattle.std.specs.Fmt.{WritesInCalls}
 use Rattle.relation_text.specs.declared.reading.error.Expected.{Expected}
 use Rattle.relation_text.specs.declared.reading.error.Expected.TheVariants as expected

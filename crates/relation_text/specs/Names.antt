@@ -35,7 +35,8 @@ argument_word n = if n == 1 then codes "argument" else codes "arguments"
 -- a number of arguments
 abbrev pub count_text : ℕ → ℕ → List ℕ
 count_text expected found =
-    codes "expected " ++ (decimal expected ++ (codes " " ++ (argument_word expected ++ (codes ", found " ++ decimal found))))
+    codes "expected " ++ (decimal expected ++ (codes " "
+    ++ (argument_word expected ++ (codes ", found " ++ decimal found))))
 
 -- what is wrong with a part of a text
 abbrev pub wrong_text : List ℕ → Wrong → List ℕ
