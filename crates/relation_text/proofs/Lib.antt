@@ -8,3 +8,4 @@ pub mod PlaceLemmas
 pub mod Recorded
 pub mod TreeLemmas
 pub mod WordLemmas
+pub mod WriteLemmas

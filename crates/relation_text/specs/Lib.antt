@@ -1,6 +1,8 @@
 pub mod Places
 pub mod Errors
 pub mod Signs
+pub mod Texts
+pub mod Names
 pub mod Words
 pub mod Trees
 pub mod Reads

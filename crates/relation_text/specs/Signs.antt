@@ -1,19 +1,109 @@
--- What signs say.
+-- What signs say, and how they are written.
+use Rattle.std.specs.Prelude.{◌≡◌, ◌↔◌, ℕ, List, [], ◌∷◌, codes, suc}
 use Rattle.relation_terms.specs.declared.terms.enums.Variance.{Variance}
 use Rattle.relation_terms.specs.declared.terms.enums.Variance.TheVariants.{Covariant, Invariant, Contravariant, Bivariant}
 use Rattle.relation_terms.specs.declared.terms.enums.Mutability.{Mutability}
 use Rattle.relation_terms.specs.declared.terms.enums.Mutability.TheVariants as mutability
 use Rattle.relation_text.specs.declared.reading.signs.Sign.{Sign}
-use Rattle.relation_text.specs.declared.reading.signs.Sign.TheVariants.{Subtype, Supertype, Equal, Const, Mut}
+use Rattle.relation_text.specs.declared.reading.signs.Sign.TheVariants as sign
+use Rattle.relation_text.specs.declared.reading.tree.ItemSort.{ItemSort}
+use Rattle.relation_text.specs.declared.reading.tree.ItemSort.TheVariants as sort
+use Rattle.relation_text.specs.declared.reading.tree.Form.{Form}
+use Rattle.relation_text.specs.declared.reading.tree.Form.TheVariants as form
+use Rattle.relation_text.specs.declared.reading.terms.Rest.{Rest}
+use Rattle.relation_text.specs.declared.reading.terms.Rest.TheVariants as rest
+use Rattle.relation_text.specs.declared.reading.words.Word.{Word}
+use Rattle.relation_text.specs.Words.{StandsAt}
+
+-- how a sign is written
+abbrev pub spelling : Sign → List ℕ
+spelling sign.Subtype = codes "<:"
+spelling sign.Supertype = codes ":>"
+spelling sign.Equal = codes "=="
+spelling sign.Less = codes "<"
+spelling sign.Greater = codes ">"
+spelling sign.LeftParen = codes "("
+spelling sign.RightParen = codes ")"
+spelling sign.LeftBracket = codes "["
+spelling sign.RightBracket = codes "]"
+spelling sign.LeftBrace = codes "{"
+spelling sign.RightBrace = codes "}"
+spelling sign.Comma = codes ","
+spelling sign.Semicolon = codes ";"
+spelling sign.Assign = codes "="
+spelling sign.Ampersand = codes "&"
+spelling sign.Star = codes "*"
+spelling sign.Plus = codes "+"
+spelling sign.Minus = codes "-"
+spelling sign.Bang = codes "!"
+spelling sign.Budget = codes "budget"
+spelling sign.Closure = codes "closure"
+spelling sign.Const = codes "const"
+spelling sign.Coroutine = codes "coroutine"
+spelling sign.Expr = codes "expr"
+spelling sign.Extern = codes "extern"
+spelling sign.Fn = codes "fn"
+spelling sign.In = codes "in"
+spelling sign.Let = codes "let"
+spelling sign.Mut = codes "mut"
+spelling sign.Param = codes "param"
+spelling sign.Repeat = codes "repeat"
+spelling sign.Struct = codes "struct"
+spelling sign.Then = codes "then"
+spelling sign.Type = codes "type"
+spelling sign.Variables = codes "variables"
 
 -- how a question at a variance is written; none is asked at Bivariant
 abbrev pub relation_sign : Variance → Sign
-relation_sign Covariant = Subtype
-relation_sign Contravariant = Supertype
-relation_sign Invariant = Equal
-relation_sign Bivariant = Equal
+relation_sign Covariant = sign.Subtype
+relation_sign Contravariant = sign.Supertype
+relation_sign Invariant = sign.Equal
+relation_sign Bivariant = sign.Equal
 
 -- what stands behind the `*` of a raw pointer
 abbrev pub pointer_sign : Mutability → Sign
-pointer_sign mutability.Not = Const
-pointer_sign mutability.Mut = Mut
+pointer_sign mutability.Not = sign.Const
+pointer_sign mutability.Mut = sign.Mut
+
+-- what declares an item of a sort
+abbrev pub sort_signs : ItemSort → List Sign
+sort_signs sort.Struct = sign.Struct ∷ []
+sort_signs sort.Fn = sign.Fn ∷ []
+sort_signs sort.Closure = sign.Closure ∷ []
+sort_signs sort.Coroutine = sign.Coroutine ∷ []
+sort_signs sort.CoroutineClosure = sign.Coroutine ∷ sign.Closure ∷ []
+sort_signs sort.Foreign = sign.Extern ∷ sign.Type ∷ []
+
+-- the words from that number on are these signs
+abbrev pub StandFrom : List Word → ℕ → List Sign → Type 0
+StandFrom ws k [] = Unit {0}
+StandFrom ws k (s ∷ ss) = StandsAt ws k s × StandFrom ws (suc k) ss
+
+-- a reference's target may be changed exactly where `mut` stands
+abbrev pub IsMutability : List Word → ℕ → Mutability → Type 0
+IsMutability ws k m = (m ≡ mutability.Mut) ↔ StandsAt ws k sign.Mut
+
+-- what a pointer of that form begins with, whose first word has that number
+abbrev pub BeginsPointer : List Word → ℕ → Form → Type 0
+BeginsPointer ws k (form.RawPtr m) = StandFrom ws k (sign.Star ∷ pointer_sign m ∷ [])
+BeginsPointer ws k (form.Ref m) = StandsAt ws k sign.Ampersand × IsMutability ws (suc (suc k)) m
+BeginsPointer ws k f = ⊥
+
+-- the type that a reference leads to is still to be read, behind the word of its region, which has that number
+abbrev pub IsReference : List Word → ℕ → Rest → Type 0
+IsReference ws k (rest.Pointee (form.Ref m)) = IsMutability ws (suc k) m
+IsReference ws k r = ⊥
+
+-- what a list of that form begins with, whose first word has that number, and ends with
+abbrev pub BeginsList : List Word → ℕ → Form → Sign → Type 0
+BeginsList ws k form.Branch s = StandsAt ws k sign.LeftBrace × (s ≡ sign.RightBrace)
+BeginsList ws k form.Expr s = StandsAt ws k sign.Expr × (s ≡ sign.RightParen)
+BeginsList ws k f s = ⊥
+
+-- what a term begins with of which that is still to be read, whose first word has that number
+abbrev pub Begins : List Word → ℕ → Rest → Type 0
+Begins ws k (rest.Nothing f) = StandsAt ws k sign.Bang × (f ≡ form.Never)
+Begins ws k (rest.Pointee f) = BeginsPointer ws k f
+Begins ws k (rest.List f s) = BeginsList ws k f s
+Begins ws k rest.Brackets = StandsAt ws k sign.LeftBracket
+Begins ws k rest.Parens = StandsAt ws k sign.LeftParen

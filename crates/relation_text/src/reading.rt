@@ -10,6 +10,7 @@ mod terms;
 mod tree;
 mod words;
 
+pub(crate) use error::found_at;
 pub use error::{Expected, ReadError, write_error};
 pub use place::{Place, place_of};
 pub use signs::Sign;

@@ -1,10 +1,13 @@
 //! Why the names of a text can't be looked up.
-ghost use Rattle.std.specs.Prelude.{◌≡◌};
+ghost use Rattle.std.specs.Prelude.{◌≡◌, OnOk};
+ghost use Rattle.std.specs.Fmt.{WritesInCalls};
+ghost use Rattle.relation_text.specs.Names.{name_span_of, sort_name, expected_found, count_text, wrong_text};
+ghost use Rattle.relation_text.specs.Names.{WritesNameError};
 ghost use Rattle.relation_text.specs.declared.naming.error.NameError.TheVariants.{Memory};
 
 use crate::naming::program::Sort;
 use crate::naming::statements::MOST_VARIABLES;
-use crate::reading::Node;
+use crate::reading::{Node, found_at};
 use std::alloc::{AllocError, AllocFailed};
 use std::fmt::{self, Write};
 
@@ -71,7 +74,9 @@ impl<T: Drop> From<AllocFailed<T>> for NameError {
 impl NameError {
     /// The bytes of the text that the error is about, if it is about some: from the first number on, those before the
     /// second.
-    pub fn span(&self) -> Option<(usize, usize)> {
+    pub fn span(&self) -> Option<(usize, usize)>
+        ensures { result ≡ name_span_of self.now }
+    {
         match self {
             NameError::Memory => None,
             NameError::Wrong { at, end, .. } => Some((*at, *end)),
@@ -80,7 +85,9 @@ impl NameError {
 }
 
 // What is wrong with a node.
-pub(super) fn error_at(node: &Node, why: Wrong) -> NameError {
+pub(super) fn error_at(node: &Node, why: Wrong) -> NameError
+    ensures { result ≡ NameError.Wrong node.now.start node.now.end why }
+{
     NameError::Wrong {
         at: node.start,
         end: node.end,
@@ -89,7 +96,9 @@ pub(super) fn error_at(node: &Node, why: Wrong) -> NameError {
 }
 
 // What a term of that sort is called.
-fn sort_name(sort: Sort) -> &'static str {
+fn sort_name(sort: Sort) -> &'static str
+    ensures { result.now ≡ sort_name sort }
+{
     match sort {
         Sort::Region => "a region",
         Sort::Type => "a type",
@@ -98,7 +107,9 @@ fn sort_name(sort: Sort) -> &'static str {
 }
 
 // Writes a number of arguments.
-fn write_count<W: Write>(expected: usize, found: usize, out: &mut W) -> fmt::Result {
+fn write_count<W: Write>(expected: usize, found: usize, out: &mut W) -> fmt::Result
+    ensures { OnOk result (WritesInCalls W.write_str_gives out.old (count_text expected found) out.new) }
+{
     let word = if expected == 1 {
         "argument"
     } else {
@@ -108,12 +119,17 @@ fn write_count<W: Write>(expected: usize, found: usize, out: &mut W) -> fmt::Res
 }
 
 // Writes what was expected, where the text itself tells what was found.
-fn write_expected<W: Write>(expected: &str, found: &str, out: &mut W) -> fmt::Result {
+fn write_expected<W: Write>(expected: &str, found: &str, out: &mut W) -> fmt::Result
+    ensures { OnOk result (WritesInCalls W.write_str_gives out.old (expected_found expected.now found.now) out.new) }
+{
     write!(out, "expected {expected}, found `{found}`")
 }
 
 // Writes what is wrong with a part of a text.
-fn write_wrong<W: Write>(found: &str, why: Wrong, out: &mut W) -> fmt::Result {
+#[tactic(auto, using(crate::proofs::WriteLemmas::one_call))]
+fn write_wrong<W: Write>(found: &str, why: Wrong, out: &mut W) -> fmt::Result
+    ensures { OnOk result (WritesInCalls W.write_str_gives out.old (wrong_text found.now why) out.new) }
+{
     match why {
         Wrong::Unknown => write_expected("a name that is known", found, out),
         Wrong::Again => write_expected("a new name", found, out),
@@ -142,12 +158,15 @@ fn write_wrong<W: Write>(found: &str, why: Wrong, out: &mut W) -> fmt::Result {
 }
 
 /// Writes why the names of a text were not looked up, without the place.
-pub fn write_name_error<W: Write>(text: &str, error: &NameError, out: &mut W) -> fmt::Result {
+///
+/// # Errors
+/// `fmt::Error` where `out` refused to take some of the text. What it took before stands.
+#[tactic(auto, using(crate::proofs::WriteLemmas::one_call))]
+pub fn write_name_error<W: Write>(text: &str, error: &NameError, out: &mut W) -> fmt::Result
+    ensures { OnOk result (WritesNameError W.write_str_gives text.now error.now out.old out.new) }
+{
     match error {
         NameError::Memory => out.write_str("memory"),
-        NameError::Wrong { at, end, why } => {
-            let found = text.get(*at..*end).unwrap_or("");
-            write_wrong(found, *why, out)
-        }
+        NameError::Wrong { at, end, why } => { write_wrong(found_at(text, *at, *end), *why, out) }
     }
 }

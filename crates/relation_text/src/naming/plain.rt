@@ -1,4 +1,6 @@
 //! The terms whose names are taken, and the numbers that are written of a type.
+ghost use Rattle.std.specs.Prelude.{◌≡◌};
+ghost use Rattle.relation_text.specs.Names.{number_size};
 
 use crate::naming::program::{Sort, Term};
 use relation_terms::terms::{FloatTy, IntTy, UintTy};
@@ -31,7 +33,9 @@ pub(super) const PLAIN: [(&str, Sort, Term); 20] = [
 ];
 
 // How many bytes a number of a type takes, and the greatest bits that it has. A signed number is written by its bits.
-pub(super) fn number_size(ty: Term) -> Option<(u8, u128)> {
+pub(super) fn number_size(ty: Term) -> Option<(u8, u128)>
+    ensures { result ≡ number_size ty }
+{
     match ty {
         Term::Bool => Some((1, 1)),
         Term::Char => Some((4, 0x10_ffff)),

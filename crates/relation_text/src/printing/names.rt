@@ -1,4 +1,7 @@
 //! The texts of names, of items and of the small enums.
+ghost use Rattle.std.specs.Prelude.{◌≡◌};
+ghost use Rattle.relation_text.specs.Texts.{int_name, uint_name, float_name, pointer_name, mutability_text};
+
 use relation_terms::terms::{FloatTy, IntTy, Keys, Mutability, UintTy};
 
 /// A name in an interner, and its text.
@@ -51,7 +54,9 @@ pub(super) fn item_text<'a, D: PartialEq>(items: &[ItemText<'a, D>], id: &D) -> 
 }
 
 // The name of a signed integer type.
-pub(super) fn int_name(width: IntTy) -> &'static str {
+pub(super) fn int_name(width: IntTy) -> &'static str
+    ensures { result.now ≡ int_name width }
+{
     match width {
         IntTy::Isize => "isize",
         IntTy::I8 => "i8",
@@ -63,7 +68,9 @@ pub(super) fn int_name(width: IntTy) -> &'static str {
 }
 
 // The name of an unsigned integer type.
-pub(super) fn uint_name(width: UintTy) -> &'static str {
+pub(super) fn uint_name(width: UintTy) -> &'static str
+    ensures { result.now ≡ uint_name width }
+{
     match width {
         UintTy::Usize => "usize",
         UintTy::U8 => "u8",
@@ -75,7 +82,9 @@ pub(super) fn uint_name(width: UintTy) -> &'static str {
 }
 
 // The name of a float type.
-pub(super) fn float_name(width: FloatTy) -> &'static str {
+pub(super) fn float_name(width: FloatTy) -> &'static str
+    ensures { result.now ≡ float_name width }
+{
     match width {
         FloatTy::F16 => "f16",
         FloatTy::F32 => "f32",
@@ -85,9 +94,21 @@ pub(super) fn float_name(width: FloatTy) -> &'static str {
 }
 
 // What stands before the type that a raw pointer leads to.
-pub(super) fn pointer_name(mutability: Mutability) -> &'static str {
+pub(super) fn pointer_name(mutability: Mutability) -> &'static str
+    ensures { result.now ≡ pointer_name mutability }
+{
     match mutability {
         Mutability::Not => "*const ",
         Mutability::Mut => "*mut ",
+    }
+}
+
+// What stands between the region of a reference and the type that it leads to.
+pub(super) fn mutability_text(mutability: Mutability) -> &'static str
+    ensures { result.now ≡ mutability_text mutability }
+{
+    match mutability {
+        Mutability::Not => " ",
+        Mutability::Mut => " mut ",
     }
 }

@@ -4,7 +4,8 @@ ghost use Rattle.relation_terms.specs.Trees.{known};
 ghost use Rattle.relation_terms.specs.Meaning.{arg_tree};
 
 use crate::printing::names::{
-    Parameter, TextsOf, float_name, int_name, item_text, name_text, pointer_name, uint_name,
+    Parameter, TextsOf, float_name, int_name, item_text, mutability_text, name_text, pointer_name,
+    uint_name,
 };
 use relation_terms::terms::{
     Const, ConstKind, GenericArg, GenericArgKind, GenericArgs, InferTy, Interner, Mutability,
@@ -140,10 +141,7 @@ fn write_borrow<I: Interner, W: Write>(
 {
     out.write_str("&")?;
     write_region(cx, texts, region, out)?;
-    match mutability {
-        Mutability::Not => out.write_str(" "),
-        Mutability::Mut => out.write_str(" mut "),
-    }
+    out.write_str(mutability_text(mutability))
 }
 
 // Writes a tuple: a lone member has a comma behind it.

@@ -1,6 +1,7 @@
 //! Why a text can't be read.
-ghost use Rattle.std.specs.Prelude.{◌≡◌};
-ghost use Rattle.relation_text.specs.Errors.{span_of};
+ghost use Rattle.std.specs.Prelude.{◌≡◌, OnOk};
+ghost use Rattle.std.specs.Fmt.{WritesInCalls};
+ghost use Rattle.relation_text.specs.Errors.{span_of, expected_text, found_text, IsFound, WritesError};
 ghost use Rattle.relation_text.specs.declared.reading.error.ReadError.TheVariants.{Memory};
 
 use crate::reading::signs::Sign;
@@ -86,7 +87,10 @@ impl ReadError {
 }
 
 // Writes what was expected.
-fn write_expected<W: Write>(expected: Expected, out: &mut W) -> fmt::Result {
+#[tactic(auto, using(crate::proofs::WriteLemmas::one_call))]
+fn write_expected<W: Write>(expected: Expected, out: &mut W) -> fmt::Result
+    ensures { OnOk result (WritesInCalls W.write_str_gives out.old (expected_text expected) out.new) }
+{
     match expected {
         Expected::Statement => out.write_str("a statement"),
         Expected::Term => out.write_str("a term"),
@@ -104,8 +108,36 @@ fn write_expected<W: Write>(expected: Expected, out: &mut W) -> fmt::Result {
     }
 }
 
-/// Writes why a text was not read, without the place.
-pub fn write_error<W: Write>(text: &str, error: &ReadError, out: &mut W) -> fmt::Result {
+// What stands between two places of a text: nothing, where these are no places of it.
+pub(crate) fn found_at(text: &str, at: usize, end: usize) -> &str
+    ensures { IsFound text.now at end result.now }
+{
+    match text.get(at..end) {
+        Some(found) => found,
+        None => "",
+    }
+}
+
+// Writes what was found in place of what was expected.
+#[tactic(auto, using(crate::proofs::WriteLemmas::one_call))]
+fn write_found<W: Write>(found: &str, out: &mut W) -> fmt::Result
+    ensures { OnOk result (WritesInCalls W.write_str_gives out.old (found_text found.now) out.new) }
+{
+    if found.is_empty() {
+        out.write_str(", found the end")
+    } else {
+        write!(out, ", found `{found}`")
+    }
+}
+
+/// Writes why a text was not read, without the place. Where something else was expected, it says what was found.
+///
+/// # Errors
+/// `fmt::Error` where `out` refused to take some of the text. What it took before stands.
+#[tactic(auto, using(crate::proofs::WriteLemmas::one_call))]
+pub fn write_error<W: Write>(text: &str, error: &ReadError, out: &mut W) -> fmt::Result
+    ensures { OnOk result (WritesError W.write_str_gives text.now error.now out.old out.new) }
+{
     match error {
         ReadError::Memory => out.write_str("memory"),
         ReadError::TooLong => out.write_str("the text is longer than 1 MiB"),
@@ -115,10 +147,7 @@ pub fn write_error<W: Write>(text: &str, error: &ReadError, out: &mut W) -> fmt:
         ReadError::Unexpected { at, end, expected } => {
             out.write_str("expected ")?;
             write_expected(*expected, out)?;
-            match text.get(*at..*end) {
-                Some(found) if !found.is_empty() => write!(out, ", found `{found}`"),
-                _ => out.write_str(", found the end"),
-            }
+            write_found(found_at(text, *at, *end), out)
         }
     }
 }

@@ -129,6 +129,7 @@ impl Reader {
     pub fn expect(&mut self, sign: Sign) -> Result<(), ReadError>
         ensures words { self.new.words ≡ self.old.words }
         ensures tree { self.new.tree ≡ self.old.tree }
+        ensures there { OnOk result (StandsAt self.old.words.items self.old.at sign) }
         ensures over { OnOk result (self.new.at ≡ suc self.old.at) }
         ensures stays { OnErr result (self.new.at ≡ self.old.at) }
         ensures wrong { IfErr result (LiesIn self.old.tree.text_len) }
@@ -144,6 +145,7 @@ impl Reader {
     pub fn take(&mut self, expected: Expected) -> Result<usize, ReadError>
         ensures goes { GoesOn self.old self.new }
         ensures node { IfOk result (Makes self.old self.new) }
+        ensures over { OnOk result (self.new.at ≡ suc self.old.at) }
         ensures wrong { IfErr result (LiesIn self.old.tree.text_len) }
     {
         let Some(word) = self.next() else {

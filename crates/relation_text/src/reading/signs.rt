@@ -1,4 +1,6 @@
 //! Marks and the words of the language, and how they are spelled.
+ghost use Rattle.std.specs.Prelude.{◌≡◌, ◌∷◌, [], IfSome};
+ghost use Rattle.relation_text.specs.Signs.{spelling};
 
 /// A mark, or a word of the language.
 #[derive(Clone, Copy, PartialEq, Eq, Debug)]
@@ -42,7 +44,9 @@ pub enum Sign {
 
 impl Sign {
     /// How the sign is written.
-    pub fn spelling(self) -> &'static str {
+    pub fn spelling(self) -> &'static str
+        ensures { result.now ≡ spelling self }
+    {
         match self {
             Sign::Subtype => "<:",
             Sign::Supertype => ":>",
@@ -104,7 +108,9 @@ const RESERVED: [Sign; 16] = [
 ];
 
 // The word of the language that is written so.
-pub(super) fn reserved_word(name: &[u8]) -> Option<Sign> {
+pub(super) fn reserved_word(name: &[u8]) -> Option<Sign>
+    ensures { IfSome result (λ s. spelling s ≡ name.now) }
+{
     for sign in &RESERVED {
         if sign.spelling().as_bytes() == name {
             return Some(*sign);
@@ -114,7 +120,9 @@ pub(super) fn reserved_word(name: &[u8]) -> Option<Sign> {
 }
 
 // The mark of two bytes.
-pub(super) fn mark_of_two(first: u8, second: u8) -> Option<Sign> {
+pub(super) fn mark_of_two(first: u8, second: u8) -> Option<Sign>
+    ensures { IfSome result (λ s. spelling s ≡ first ∷ second ∷ []) }
+{
     match (first, second) {
         (b'<', b':') => Some(Sign::Subtype),
         (b':', b'>') => Some(Sign::Supertype),
@@ -124,7 +132,9 @@ pub(super) fn mark_of_two(first: u8, second: u8) -> Option<Sign> {
 }
 
 // The mark of one byte.
-pub(super) fn mark_of_one(byte: u8) -> Option<Sign> {
+pub(super) fn mark_of_one(byte: u8) -> Option<Sign>
+    ensures { IfSome result (λ s. spelling s ≡ byte ∷ []) }
+{
     match byte {
         b'<' => Some(Sign::Less),
         b'>' => Some(Sign::Greater),

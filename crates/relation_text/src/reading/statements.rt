@@ -1,8 +1,8 @@
 //! How statements are read.
-ghost use Rattle.std.specs.Prelude.{◌≡◌, ◌<◌, ◌≤◌, ◌↔◌, Err, IfOk, IfErr, OnOk, length, suc};
+ghost use Rattle.std.specs.Prelude.{◌≡◌, ◌+◌, ◌<◌, ◌≤◌, ◌↔◌, Err, Some, IfSome, IfNone, IfOk, IfErr, OnOk, length, suc};
 ghost use Rattle.relation_text.specs.Errors.{LiesIn};
 ghost use Rattle.relation_text.specs.Words.{StandsAt};
-ghost use Rattle.relation_text.specs.Signs.{relation_sign};
+ghost use Rattle.relation_text.specs.Signs.{relation_sign, sort_signs, StandFrom};
 ghost use Rattle.relation_text.specs.Reads.{GoesOn, AddsRoots, Makes, IsReadFrom};
 ghost use Rattle.relation_text.specs.declared.reading.error.ReadError.TheVariants.{TooLong};
 
@@ -20,6 +20,13 @@ pub const LONGEST: usize = 1_048_576;
 
 // The sort of item that is declared next.
 fn read_sort(reader: &mut Reader) -> Result<Option<ItemSort>, ReadError>
+    ensures sort { IfOk result (λ o. IfSome o (λ s. StandFrom reader.old.words.items reader.old.at (sort_signs s))) }
+    ensures over { IfOk result (λ o. IfSome o (λ s. reader.new.at ≡ reader.old.at + length (sort_signs s))) }
+    ensures alone { IfOk result (λ o. o ≡ Some ItemSort.Coroutine →
+        StandsAt reader.old.words.items reader.new.at Sign.Closure → ⊥) }
+    ensures none { IfOk result (λ o. IfNone o ((s : ItemSort) →
+        StandFrom reader.old.words.items reader.old.at (sort_signs s) → ⊥)) }
+    ensures stays { IfOk result (λ o. IfNone o (reader.new.at ≡ reader.old.at)) }
     ensures words { reader.new.words ≡ reader.old.words }
     ensures tree { reader.new.tree ≡ reader.old.tree }
     ensures later { reader.old.at ≤ reader.new.at }

@@ -3,7 +3,7 @@ ghost use Rattle.std.specs.Prelude.{◌≡◌, ◌≤◌, ◌↔◌, IfOk, IfErr
 ghost use Rattle.relation_text.specs.Errors.{LiesIn};
 ghost use Rattle.relation_text.specs.Trees.{EachBelow};
 ghost use Rattle.relation_text.specs.Words.{StandsAt};
-ghost use Rattle.relation_text.specs.Signs.{pointer_sign};
+ghost use Rattle.relation_text.specs.Signs.{pointer_sign, IsMutability, IsReference, Begins};
 ghost use Rattle.relation_text.specs.Reads.{GoesOn, Makes, Collects, CollectsMore};
 
 use crate::reading::error::{Expected, ReadError};
@@ -50,7 +50,7 @@ fn read_pointer(reader: &mut Reader) -> Result<Mutability, ReadError>
 
 // Reads whether a reference's target may be changed, behind its region.
 fn read_mutability(reader: &mut Reader) -> Mutability
-    ensures mutable { (result ≡ Mutability.Mut) ↔ StandsAt reader.old.words.items reader.old.at Sign.Mut }
+    ensures mutable { IsMutability reader.old.words.items reader.old.at result }
     ensures words { reader.new.words ≡ reader.old.words }
     ensures tree { reader.new.tree ≡ reader.old.tree }
     ensures later { reader.old.at ≤ reader.new.at }
@@ -65,6 +65,7 @@ fn read_mutability(reader: &mut Reader) -> Mutability
 // Reads the beginning of a reference, behind its `&`.
 fn open_reference(reader: &mut Reader, parts: &mut Vec<usize>) -> Result<Rest, ReadError>
     requires { EachBelow parts.old.items (length reader.old.tree.nodes.items) }
+    ensures reference { IfOk result (IsReference reader.old.words.items reader.old.at) }
     ensures goes { GoesOn reader.old reader.new }
     ensures parts { OnOk result (Collects reader.old reader.new parts.old.items parts.new.items) }
     ensures wrong { IfErr result (LiesIn reader.old.tree.text_len) }
@@ -78,6 +79,7 @@ fn open_reference(reader: &mut Reader, parts: &mut Vec<usize>) -> Result<Rest, R
 // Reads the beginning of an expression, behind its `expr`.
 fn open_expression(reader: &mut Reader, parts: &mut Vec<usize>) -> Result<Rest, ReadError>
     requires { EachBelow parts.old.items (length reader.old.tree.nodes.items) }
+    ensures list { IfOk result (λ r. r ≡ Rest.List Form.Expr Sign.RightParen) }
     ensures goes { GoesOn reader.old reader.new }
     ensures parts { OnOk result (Collects reader.old reader.new parts.old.items parts.new.items) }
     ensures wrong { IfErr result (LiesIn reader.old.tree.text_len) }
@@ -91,6 +93,7 @@ fn open_expression(reader: &mut Reader, parts: &mut Vec<usize>) -> Result<Rest, 
 // Reads the beginning of a term that begins with a sign, with the parts that stand there.
 fn open(reader: &mut Reader, parts: &mut Vec<usize>) -> Result<Rest, ReadError>
     requires { EachBelow parts.old.items (length reader.old.tree.nodes.items) }
+    ensures begins { IfOk result (Begins reader.old.words.items reader.old.at) }
     ensures goes { GoesOn reader.old reader.new }
     ensures parts { OnOk result (Collects reader.old reader.new parts.old.items parts.new.items) }
     ensures wrong { IfErr result (LiesIn reader.old.tree.text_len) }

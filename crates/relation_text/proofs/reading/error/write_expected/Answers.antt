@@ -1,0 +1,11 @@
+use Rattle.relation_text.proofs.WriteLemmas.{text_written}
+use Rattle.relation_text.proofs.reading.error.write_expected.Goals as goal
+
+pub returns-in-Statement : goal.returns-in-Statement
+returns-in-Statement g c = rw c.in-Statement.is (text_written g.W.Write.write_str_gives _ _ _ _ c.write_str.ensures.ok)
+
+pub returns-in-Parameter : goal.returns-in-Parameter
+returns-in-Parameter g c = rw c.in-Parameter.is (text_written g.W.Write.write_str_gives _ _ _ _ c.write_str-in-Parameter.ensures.ok)
+
+pub returns-in-Relation : goal.returns-in-Relation
+returns-in-Relation g c = rw c.in-Relation.is (text_written g.W.Write.write_str_gives _ _ _ _ c.write_str-in-Relation.ensures.ok)
