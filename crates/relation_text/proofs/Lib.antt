@@ -8,3 +8,6 @@ pub mod PlaceLemmas
 pub mod Recorded
 pub mod TreeLemmas
 pub mod WordLemmas
+pub mod CodeLemmas
+pub mod MeetLemmas
+pub mod PutLemmas
