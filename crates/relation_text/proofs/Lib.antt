@@ -9,3 +9,6 @@ pub mod Recorded
 pub mod TreeLemmas
 pub mod WordLemmas
 pub mod WriteLemmas
+pub mod CodeLemmas
+pub mod MeetLemmas
+pub mod PutLemmas

@@ -7,6 +7,9 @@ use Rattle.relation_terms.specs.Trees.{Tree, known}
 use Rattle.relation_terms.specs.Meaning.{Meaning, arg_tree}
 use Rattle.relation_reference.specs.declared.context.inner.InferCtxtInner.{InferCtxtInner}
 use Rattle.relation_text.specs.declared.building.needs.Needs.{Needs}
+use Rattle.relation_text.specs.declared.asking.question.Answer.{Answer}
+use Rattle.relation_text.specs.declared.asking.question.Answer.TheVariants.{Related, Met, Folded, Is}
+use Rattle.relation_text.specs.Meets.{AllKnown}
 use Rattle.relation_text.specs.Needs.{Allows, Reaches, need_at}
 
 -- A known term, for which what is needed is enough.
@@ -37,3 +40,10 @@ pub record IsAskable (u : ℕ) (v : Variance) (a b : Needs) : Type 0 where
   pub left : a.universe ≤ u
   pub right : b.universe ≤ u
   pub at : MayBeAsked v a b
+
+-- What an answer names is known: of a relation, what is asked of its answer.
+abbrev pub KnowsAnswer : {R Key Id Name : Type 0} → Meaning Key Id Name → (R → Type 0) → Answer R Key → Type 0
+KnowsAnswer m Knows (Related r) = Knows r
+KnowsAnswer m Knows (Met x) = AllKnown m x.terms.items
+KnowsAnswer m Knows (Folded a) = IsTrue (known (arg_tree m a))
+KnowsAnswer m Knows (Is b) = Unit {0}

@@ -10,3 +10,7 @@ pub mod Terms
 pub mod Built
 pub mod Needs
 pub mod Asking
+pub mod Args
+pub mod Codes
+pub mod Meets
+pub mod Puts

@@ -1,11 +1,14 @@
 //! Questions are asked in turn, and their answers are written, with a text of the caller's between two.
 ghost use Rattle.relation_text.specs.Asking.{AreReady};
 
+mod comparing;
 mod context;
+mod folding;
 mod interner;
 mod question;
 #[cfg(test)]
 mod tests;
+mod visiting;
 
 use crate::building::{build, needs_of};
 use crate::naming::Program;
@@ -82,6 +85,8 @@ pub fn ask_over<I: Interner + Drop, W: Write>(
     let terms = Ready {
         built: &built,
         needs: &needs,
+        parts: &program.parts,
+        puts: &program.puts,
     };
     ask_ready(interner, texts, program, &terms, between, out)
 }

@@ -9,7 +9,7 @@ mod making;
 mod needs;
 
 use crate::naming::Program;
-pub(crate) use lists::ty_at;
+pub(crate) use lists::{key_at, keys_at, ty_at};
 use making::make_term;
 pub(crate) use needs::{both, need_at};
 pub use needs::{Needs, needs_of};

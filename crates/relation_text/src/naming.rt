@@ -4,11 +4,12 @@ mod error;
 mod namer;
 mod plain;
 mod program;
+mod questions;
 mod statements;
 mod terms;
 
 pub use error::{NameError, Wrong, write_name_error};
-pub use program::{Declared, Item, Parts, Program, Question, Sort, Term};
+pub use program::{Declared, Item, Parts, Program, Put, Question, QuestionKind, Sort, Term};
 pub use statements::{MOST_VARIABLES, look_up};
 
 #[cfg(test)]

@@ -2,6 +2,7 @@
 
 mod error;
 mod place;
+mod questions;
 mod reader;
 mod signs;
 mod split;

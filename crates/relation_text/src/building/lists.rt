@@ -6,7 +6,10 @@ use relation_terms::terms::{ConstKey, GenericArgKind, RegionKey, TyKey};
 use std::alloc::Global;
 
 // The key of the term of that number.
-fn key_at<X: Copy>(built: &[Option<GenericArgKind<X>>], number: usize) -> Option<GenericArgKind<X>>
+pub(crate) fn key_at<X: Copy>(
+    built: &[Option<GenericArgKind<X>>],
+    number: usize,
+) -> Option<GenericArgKind<X>>
     ensures { IfSome result (λ key. slice_get built.now number ≡ Some (Some key)) }
 {
     match built.get(number) {
@@ -55,7 +58,7 @@ pub(super) fn const_at<X: Copy>(
 }
 
 // The keys of a term's parts. There are none where memory for them is refused.
-pub(super) fn keys_at<X: Copy>(
+pub(crate) fn keys_at<X: Copy>(
     alloc: Global,
     numbers: &[usize],
     built: &[Option<GenericArgKind<X>>],

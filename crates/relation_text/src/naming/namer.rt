@@ -63,6 +63,7 @@ impl<'a> Namer<'a> {
                 names: Vec::new(alloc),
                 terms: Vec::new(alloc),
                 parts: Vec::new(alloc),
+                puts: Vec::new(alloc),
                 questions: Vec::new(alloc),
             },
         };

@@ -88,12 +88,45 @@ impl Clone for Term {
 
 impl Copy for Term {}
 
-/// A question: whether the first term is related with the second at a variance.
+/// One thing that is put for another.
+#[derive(Clone, Copy, PartialEq, Eq)]
+pub struct Put<T> {
+    pub from: T,
+    pub to: T,
+}
+
+/// What is asked about terms, by their numbers.
+#[derive(Clone, Copy, PartialEq, Eq)]
+pub enum QuestionKind {
+    /// Whether a type is related with another at a variance.
+    Relate {
+        lhs: usize,
+        variance: Variance,
+        rhs: usize,
+    },
+    /// Which terms a visitor of a term is asked about that skips some terms, and stops at others.
+    Visit {
+        term: usize,
+        skip: Parts,
+        stop: Parts,
+    },
+    /// What comes of a term where others are put for its parts, those of a range of the program's list.
+    Fold {
+        term: usize,
+        puts: Parts,
+    },
+    /// Whether a variable stands in a term that a binder outside it binds.
+    Escapes(usize),
+    /// Whether a variable that is no region stands in a term.
+    Infers(usize),
+    /// Whether a type's outermost form stays what it is.
+    Rigid(usize),
+}
+
+/// A question, and how it is asked.
 #[derive(Clone, Copy, PartialEq, Eq)]
 pub struct Question {
-    pub lhs: usize,
-    pub variance: Variance,
-    pub rhs: usize,
+    pub kind: QuestionKind,
     /// Whether it is asked in the context that the question before left.
     pub then: bool,
     /// How many times it is asked.
@@ -112,7 +145,9 @@ pub struct Program<'a> {
     /// The names of parameters and of what stands for bound variables.
     pub names: Vec<&'a str>,
     pub terms: Vec<Term>,
-    /// The numbers of the terms' parts.
+    /// The numbers of the terms' parts, and of the terms in a question's lists.
     pub parts: Vec<usize>,
+    /// The numbers of the terms that are put for others.
+    pub puts: Vec<Put<usize>>,
     pub questions: Vec<Question>,
 }

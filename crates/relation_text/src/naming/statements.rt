@@ -2,9 +2,8 @@
 
 use crate::naming::error::{NameError, Wrong, error_at};
 use crate::naming::namer::{Meaning, Namer};
-use crate::naming::program::{Declared, Item, Program, Question, Sort, Term};
+use crate::naming::program::{Declared, Item, Program, Sort, Term};
 use crate::reading::{Form, ItemSort, Leaf, Node, NodeKind, Tree};
-use relation_terms::terms::Variance;
 use std::alloc::Global;
 use std::collections::HashSet;
 
@@ -13,7 +12,7 @@ pub const MOST_VARIABLES: usize = 10_000;
 
 impl<'a> Namer<'a> {
     // The number of a leaf, which is no larger than what is counted by it may be.
-    fn count(&self, whole: &Node, number: usize) -> Result<usize, NameError> {
+    pub fn count(&self, whole: &Node, number: usize) -> Result<usize, NameError> {
         let node = self.node(whole, number)?;
         let NodeKind::Leaf(Leaf::Number { value, behind }) = node.kind else {
             return Err(error_at(&node, Wrong::NotRead));
@@ -138,53 +137,6 @@ impl<'a> Namer<'a> {
         Ok(())
     }
 
-    // A question.
-    fn ask(
-        &mut self,
-        node: &Node,
-        variance: Variance,
-        lhs: usize,
-        rhs: usize,
-    ) -> Result<(), NameError> {
-        let lhs = self.term(node, lhs, Some(Sort::Type))?;
-        let rhs = self.term(node, rhs, Some(Sort::Type))?;
-        self.program.questions.push(Question {
-            lhs: lhs.number,
-            variance,
-            rhs: rhs.number,
-            then: false,
-            repeat: 1,
-            budget: self.budget,
-            type_variables: self.type_variables,
-            region_variables: self.region_variables,
-        })?;
-        Ok(())
-    }
-
-    // The last question is asked in the context that the one before left.
-    fn ask_then(&mut self, node: &Node) -> Result<(), NameError> {
-        let any = self.program.questions.len() > 1;
-        match self.program.questions.last_mut() {
-            Some(question) if any => {
-                question.then = true;
-                Ok(())
-            }
-            _ => Err(error_at(node, Wrong::NothingBefore)),
-        }
-    }
-
-    // The last question is asked that many times.
-    fn ask_again(&mut self, node: &Node, times: usize) -> Result<(), NameError> {
-        let repeat = self.count(node, times)?;
-        if repeat == 0 {
-            return Err(error_at(&self.node(node, times)?, Wrong::NoTime));
-        }
-        if let Some(question) = self.program.questions.last_mut() {
-            question.repeat = repeat;
-        }
-        Ok(())
-    }
-
     // A statement, or a part of one.
     fn statement(&mut self, node: &Node, form: Form, parts: &[usize]) -> Result<(), NameError> {
         match (form, parts) {
@@ -201,13 +153,10 @@ impl<'a> Namer<'a> {
                 let name = self.node(node, *name)?;
                 self.declare(&name, Meaning::Term(made))
             }
-            (Form::Question(variance), [lhs, rhs]) => self.ask(node, variance, *lhs, *rhs),
-            (Form::Then, [_]) => self.ask_then(node),
-            (Form::Repeat, [times, _]) => self.ask_again(node, *times),
             (Form::File | Form::Declared(_) | Form::DeclaredConst(_) | Form::Parameters, _) => {
                 Ok(())
             }
-            _ => Err(error_at(node, Wrong::NotRead)),
+            _ => self.question(node, form, parts),
         }
     }
 

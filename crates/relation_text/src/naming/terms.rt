@@ -52,6 +52,12 @@ impl<'a> Namer<'a> {
         Ok(List { parts, levels })
     }
 
+    // The terms of those nodes, of whatever sorts, as a list of parts.
+    pub fn terms(&mut self, whole: &Node, nodes: &[usize]) -> Result<Parts, NameError> {
+        let list = self.list(whole, nodes, Wanted::Any)?;
+        Ok(list.parts)
+    }
+
     // The sort of an item that is given so many arguments. The node names the item, and the whole has the arguments.
     fn item_sort(
         &self,

@@ -2,11 +2,12 @@
 ghost use Rattle.std.specs.Prelude.{◌≡◌, ◌+◌, ◌<◌, ◌≤◌, ◌↔◌, Err, Some, IfSome, IfNone, IfOk, IfErr, OnOk, length, suc};
 ghost use Rattle.relation_text.specs.Errors.{LiesIn};
 ghost use Rattle.relation_text.specs.Words.{StandsAt};
-ghost use Rattle.relation_text.specs.Signs.{relation_sign, sort_signs, StandFrom};
+ghost use Rattle.relation_text.specs.Signs.{sort_signs, StandFrom};
 ghost use Rattle.relation_text.specs.Reads.{GoesOn, AddsRoots, Makes, IsReadFrom};
 ghost use Rattle.relation_text.specs.declared.reading.error.ReadError.TheVariants.{TooLong};
 
 use crate::reading::error::{Expected, ReadError};
+use crate::reading::questions::read_question;
 use crate::reading::reader::Reader;
 use crate::reading::signs::Sign;
 use crate::reading::split::words;
@@ -187,58 +188,6 @@ fn read_let(reader: &mut Reader, start: usize) -> Result<usize, ReadError>
     reader.expect(Sign::Assign)?;
     let term = read_term(reader, LEVELS)?;
     reader.make(Form::Let, start, &[name, term])
-}
-
-// The variance at which two terms are related.
-fn read_relation(reader: &mut Reader) -> Result<Variance, ReadError>
-    ensures relation { IfOk result (λ v. StandsAt reader.old.words.items reader.old.at (relation_sign v)) }
-    ensures words { reader.new.words ≡ reader.old.words }
-    ensures tree { reader.new.tree ≡ reader.old.tree }
-    ensures later { reader.old.at ≤ reader.new.at }
-    ensures wrong { IfErr result (LiesIn reader.old.tree.text_len) }
-{
-    if reader.accept(Sign::Subtype) {
-        return Ok(Variance::Covariant);
-    }
-    if reader.accept(Sign::Supertype) {
-        return Ok(Variance::Contravariant);
-    }
-    if reader.accept(Sign::Equal) {
-        return Ok(Variance::Invariant);
-    }
-    Err(reader.unexpected(Expected::Relation))
-}
-
-// Reads two terms and how they are related.
-fn read_pair(reader: &mut Reader) -> Result<usize, ReadError>
-    ensures goes { GoesOn reader.old reader.new }
-    ensures node { IfOk result (Makes reader.old reader.new) }
-    ensures wrong { IfErr result (LiesIn reader.old.tree.text_len) }
-{
-    let start = reader.place();
-    let lhs = read_term(reader, LEVELS)?;
-    let variance = read_relation(reader)?;
-    let rhs = read_term(reader, LEVELS)?;
-    reader.make(Form::Question(variance), start, &[lhs, rhs])
-}
-
-// Reads a question.
-fn read_question(reader: &mut Reader, start: usize) -> Result<usize, ReadError>
-    requires { start ≤ reader.old.tree.text_len }
-    ensures goes { GoesOn reader.old reader.new }
-    ensures node { IfOk result (Makes reader.old reader.new) }
-    ensures wrong { IfErr result (LiesIn reader.old.tree.text_len) }
-{
-    if reader.accept(Sign::Then) {
-        let pair = read_pair(reader)?;
-        return reader.make(Form::Then, start, &[pair]);
-    }
-    if reader.accept(Sign::Repeat) {
-        let times = reader.take(Expected::Number)?;
-        let pair = read_pair(reader)?;
-        return reader.make(Form::Repeat, start, &[times, pair]);
-    }
-    read_pair(reader)
 }
 
 // Reads a statement, without the `;` behind it.

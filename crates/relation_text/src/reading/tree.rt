@@ -42,6 +42,20 @@ pub enum Form {
     Let,
     /// Whether two terms are related at a variance.
     Question(Variance),
+    /// Which terms a visitor meets: the visited term, the `Terms` at which it skips, and those at which it stops.
+    Visit,
+    /// What comes of a term where others are put for its parts: the term, and a `Put` for each.
+    Fold,
+    /// Whether a variable stands in a term that a binder outside it binds.
+    Escapes,
+    /// Whether a variable that is no region stands in a term.
+    Infers,
+    /// Whether a type's outermost form stays what it is.
+    Rigid,
+    /// A list of terms.
+    Terms,
+    /// A term, and the one that is put for it.
+    Put,
     /// The question that is its part, asked in the context that the question before left.
     Then,
     /// How many times a question is asked, and the question.

@@ -12,7 +12,7 @@ loop-init g c =
       lawful = h.lawful;
       grown = h.grown;
       ready = ready_stays h.grown c.args.terms.now.built.now c.args.terms.now.needs.now c.requires.ready;
-      why_known = h.why_known;
+      known = h.known;
     }
 
 pub ask-outcome-requires-in-loop-clause-ready : goal.ask-outcome-requires-in-loop-clause-ready
@@ -31,5 +31,5 @@ loop-preserved g c =
       lawful = h.lawful;
       grown = extends_on c.loop.invariant.grown grown;
       ready = ready_stays grown c.args.terms.now.built.now c.args.terms.now.needs.now c.loop.invariant.ready;
-      why_known = h.why_known;
+      known = h.known;
     }

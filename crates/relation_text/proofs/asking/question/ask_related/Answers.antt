@@ -5,7 +5,7 @@ use Rattle.relation_reference.proofs.Grows.{lawful_grows}
 use Rattle.relation_text.specs.Needs.{both_needs}
 use Rattle.relation_text.specs.Asking.{IsReady, Has}
 use Rattle.relation_text.proofs.AskingLemmas.{one_ready, has_left, has_right, ready_in, left_taken, right_taken}
-use Rattle.relation_text.proofs.asking.question.ask.Goals as goal
+use Rattle.relation_text.proofs.asking.question.ask_related.Goals as goal
 
 pub relate-requires-clause-lawful : goal.relate-requires-clause-lawful
 relate-requires-clause-lawful g c =
@@ -20,7 +20,7 @@ relate-requires-clause-lhs_taken g c =
     let a = c.in-Some.lhs_needs in
     let r : IsReady a (m.ty t) = c.in-Some.ensures m c.requires.ready in
     let ready = one_ready (m.ty t) (n.ty t) a (e.ty t r.0) r in
-    left_taken c.args.question.now.variance a c.in-Some-type_of.rhs_needs (n.ty t) (c.in_default-refusal.ensures).at ready.1
+    left_taken c.args.variance a c.in-Some-type_of.rhs_needs (n.ty t) (c.in_default-refusal.ensures).at ready.1
 
 pub relate-requires-clause-rhs_taken : goal.relate-requires-clause-rhs_taken
 relate-requires-clause-rhs_taken g c =
@@ -31,7 +31,7 @@ relate-requires-clause-rhs_taken g c =
     let b = c.in-Some-type_of.rhs_needs in
     let r : IsReady b (m.ty t) = c.in-Some-type_of.ensures m c.requires.ready in
     let ready = one_ready (m.ty t) (n.ty t) b (e.ty t r.0) r in
-    right_taken c.args.question.now.variance c.in-Some.lhs_needs b (n.ty t) (c.in_default-refusal.ensures).at ready.1
+    right_taken c.args.variance c.in-Some.lhs_needs b (n.ty t) (c.in_default-refusal.ensures).at ready.1
 
 pub relate-requires-clause-lhs_in : goal.relate-requires-clause-lhs_in
 relate-requires-clause-lhs_in g c =
