@@ -149,10 +149,7 @@ fn wrong_texts_are_refused(rt: HostRuntime) -> Result<(), Fail> {
         ("*T == T", "1:2: expected `const` or `mut`, found `T`"),
         ("budget x;", "1:8: expected a number, found `x`"),
         ("fold T;", "1:7: expected `with`, found `;`"),
-        (
-            "visit T stop A skip B;",
-            "1:16: expected `;`, found `skip`",
-        ),
+        ("visit T stop A skip B;", "1:16: expected `;`, found `skip`"),
     ] {
         let all = shown(rt.alloc(), text)?;
         assert_eq!(rt; all.as_str(), why);
