@@ -1,10 +1,10 @@
 -- Terms that are ready, and contexts that have what they need.
-use Rattle.std.proofs.Common.{◌≡◌, ◌≢◌, ℕ, ◌<◌, sym, subst, arith, List, Option}
+use Rattle.std.proofs.Common.{◌≡◌, ◌≢◌, ℕ, ◌<◌, sym, subst, arith, List, [], ◌∷◌, Option, Some, map, slice_get, refl}
 use Rattle.std.proofs.lemmas.List.{length-map}
 use Rattle.relation_terms.specs.declared.terms.enums.Variance.{Variance}
 use Rattle.relation_terms.specs.declared.terms.enums.Variance.TheVariants.{Covariant, Contravariant, Invariant, Bivariant}
 use Rattle.relation_terms.specs.declared.terms.generic_arg.GenericArgKind.{GenericArgKind}
-use Rattle.relation_terms.specs.Trees.{Tree}
+use Rattle.relation_terms.specs.Trees.{Tree, known, list_tree}
 use Rattle.relation_terms.specs.Meaning.{Meaning, Extends, arg_tree}
 use Rattle.relation_terms.proofs.Stays.{stays_arg}
 use Rattle.type_relations.specs.Stores.{IsTermIn}
@@ -15,6 +15,10 @@ use Rattle.relation_text.specs.declared.building.needs.Needs.{Needs}
 use Rattle.relation_text.specs.declared.naming.program.Term.{Term}
 use Rattle.relation_text.specs.Terms.{at, trees_of}
 use Rattle.relation_text.specs.Built.{AreKnown, AreBuilt}
+use Rattle.relation_text.specs.declared.naming.program.Put.{Put}
+use Rattle.relation_text.specs.Meets.{AllKnown}
+use Rattle.relation_text.specs.Puts.{AreMade, ArePuts}
+use Rattle.relation_text.proofs.MeetLemmas.{and_both}
 use Rattle.relation_text.specs.Needs.{Allows, both_needs, need_at, needs_of}
 use Rattle.relation_text.specs.Asking.{IsReady, AreReady, Has, MayBeAsked}
 use Rattle.relation_text.proofs.NeedLemmas.{reaches_left, reaches_right, allowed_in, fixed_taken, all_taken, all_enough}
@@ -82,3 +86,21 @@ all_ready m items names parts xs keys needs sure made same = λ k key there. (
       (subst (λ ns. Allows (need_at ns k) (at (trees_of items names parts xs) k)) (sym same)
       (all_enough items names parts xs k)),
 )
+
+-- Keys of a list of terms that are ready are known, and so is what is put for terms.
+module _ {Key Id Name : Type 0} (m : Meaning Key Id Name) (keys : List (Option (GenericArgKind Key))) (needs : List Needs)
+    (r : AreReady m keys needs) where
+  pub keys_known : (ns : List ℕ) (xs : List (GenericArgKind Key)) → map (slice_get keys) ns ≡ map (λ x. Some (Some x)) xs →
+      AllKnown m xs
+  keys_known ns [] e = refl
+  keys_known [] (x ∷ xs) e = absurd (cc)
+  keys_known (n ∷ ns) (x ∷ xs) e =
+      let one : slice_get keys n ≡ Some (Some x) = cc in
+      let more : map (slice_get keys) ns ≡ map (λ y. Some (Some y)) xs = cc in
+      and_both (known (arg_tree m x)) (known (list_tree (arg_tree m) xs)) (r n x one).0 (keys_known ns xs more)
+
+  pub puts_known : (ns : List (Put ℕ)) (ps : List (Put (GenericArgKind Key))) → AreMade keys ns ps → ArePuts m ps
+  puts_known [] [] h = tt
+  puts_known (n ∷ ns) (p ∷ ps) h =
+      (((r n.from p.from h.0.0).0, (r n.to p.to h.0.1).0, h.0.2), puts_known ns ps h.1)
+  puts_known ns ps h = absurd h

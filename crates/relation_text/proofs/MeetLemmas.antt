@@ -41,7 +41,7 @@ module _ {V W : Type 0} (f : V → W) (A : V → ℕ → Tree → V → Visit �
       let more = walks_as d w x ts r n one.0 in
       (more.0, λ k. let q = more.1 k in let s = one.1 q.0 in (s.0, next_part s.1 q.1))
 
-and_both : (a b : Bool) → IsTrue a → IsTrue b → IsTrue (a && b)
+pub and_both : (a b : Bool) → IsTrue a → IsTrue b → IsTrue (a && b)
 and_both true b h k = k
 and_both false b h k = absurd (cc)
 

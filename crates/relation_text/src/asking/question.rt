@@ -50,15 +50,28 @@ pub(super) enum Answer<R, X> {
     Is(bool),
 }
 
+// What is answered to a question over an interner.
+type AnswerOf<I> = Answer<RelateGoals<I>, <I as Keys>::Key>;
+
 // What came of a question.
-pub(super) type Outcome<I> = Result<Answer<RelateGoals<I>, <I as Keys>::Key>, Unasked>;
+pub(super) type Outcome<I> = Result<AnswerOf<I>, Unasked>;
+
+// Whether a growth was refused while a question was answered.
+fn ran_out<I: Interner>(answer: &AnswerOf<I>) -> bool {
+    match answer {
+        Answer::Related(related) => matches!(related, Err(RelateFault::Memory)),
+        Answer::Met(_) => false,
+        Answer::Folded(_) => false,
+        Answer::Is(_) => false,
+    }
+}
 
 // Whether a growth was refused.
 pub(super) fn is_memory<I: Interner>(outcome: &Outcome<I>) -> bool {
-    matches!(
-        outcome,
-        Err(Unasked::Memory) | Ok(Answer::Related(Err(RelateFault::Memory)))
-    )
+    match outcome {
+        Ok(answer) => ran_out::<I>(answer),
+        Err(why) => *why == Unasked::Memory,
+    }
 }
 
 // How many instantiations a new context of a question may make.
@@ -293,7 +306,34 @@ pub(super) fn ask_often<I: Interner>(
     (ctx, outcome)
 }
 
-// Writes what came of a question, and how many instantiations are left where it was said how many may be made.
+// Writes an answer, and how many instantiations are left where it was said how many a relation may make.
+fn write_given<I: Interner, W: Write>(
+    ctx: &RefCtxt<I>,
+    texts: &TextsOf<I>,
+    question: &Question,
+    answer: &AnswerOf<I>,
+    out: &mut W,
+) -> fmt::Result
+    requires lawful { IsLawful (I.meaning ctx.now.interner) ctx.now.inner }
+    requires known { let m = I.meaning ctx.now.interner in
+        KnowsAnswer m (λ r. IfErr r (λ e. KnowsFault m e)) answer.now }
+{
+    match answer {
+        Answer::Related(related) => {
+            write_answer(ctx, texts, related, out)?;
+            if question.budget.is_some() {
+                let left = ctx.budget_left();
+                write!(out, "; left={left}")?;
+            }
+            Ok(())
+        }
+        Answer::Met(met) => write_met(&ctx.interner, texts, met, out),
+        Answer::Folded(term) => write_arg(&ctx.interner, texts, term, out),
+        Answer::Is(holds) => write!(out, "{holds}"),
+    }
+}
+
+// Writes what came of a question.
 pub(super) fn write_outcome<I: Interner, W: Write>(
     ctx: &RefCtxt<I>,
     texts: &TextsOf<I>,
@@ -308,16 +348,6 @@ pub(super) fn write_outcome<I: Interner, W: Write>(
     match outcome {
         Err(Unasked::Memory) => out.write_str("memory"),
         Err(Unasked::NotAsked(why)) => write_not_asked(*why, out),
-        Ok(Answer::Related(answer)) => {
-            write_answer(ctx, texts, answer, out)?;
-            if question.budget.is_some() {
-                let left = ctx.budget_left();
-                write!(out, "; left={left}")?;
-            }
-            Ok(())
-        }
-        Ok(Answer::Met(met)) => write_met(&ctx.interner, texts, met, out),
-        Ok(Answer::Folded(term)) => write_arg(&ctx.interner, texts, term, out),
-        Ok(Answer::Is(holds)) => write!(out, "{holds}"),
+        Ok(answer) => write_given(ctx, texts, question, answer, out),
     }
 }

@@ -113,6 +113,18 @@ fn wrong_names_are_told(rt: HostRuntime) -> Result<(), Fail> {
             "1:9: expected a name that is known, found `t`",
         ),
         ("param T = 4294967295, U;", "1:23: the number is too large"),
+        (
+            "param 'a; fold u8 with u8 = 'a;",
+            "1:29: expected a type, found a region",
+        ),
+        (
+            "param 'a; rigid 'a;",
+            "1:17: expected a type, found a region",
+        ),
+        (
+            "then visit u8;",
+            "1:1: expected a question before this, found none",
+        ),
     ] {
         let all = shown(rt.alloc(), text)?;
         assert_eq!(rt; all.as_str(), why, "{text}");

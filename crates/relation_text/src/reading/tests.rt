@@ -121,6 +121,14 @@ fn questions_are_read(rt: HostRuntime) -> Result<(), Fail> {
         all.as_str(),
         "file(then(question(tuple() tuple(!1T !1.0))) repeat(3 question('?0 applied(K))))"
     );
+    let all = shown(
+        rt.alloc(),
+        "visit T skip A, B stop C; visit 'a; fold T with A = B, C = D; then rigid T;",
+    )?;
+    assert_eq!(rt;
+        all.as_str(),
+        "file(visit(T terms(A B) terms(C)) visit('a terms() terms()) fold(T put(A B) put(C D)) then(rigid(T)))"
+    );
     Ok(())
 }
 
@@ -140,6 +148,8 @@ fn wrong_texts_are_refused(rt: HostRuntime) -> Result<(), Fail> {
         ("&T == u8;", "1:2: expected a region, found `T`"),
         ("*T == T", "1:2: expected `const` or `mut`, found `T`"),
         ("budget x;", "1:8: expected a number, found `x`"),
+        ("fold T;", "1:7: expected `with`, found `;`"),
+        ("visit T stop A skip B;", "1:16: expected `;`, found `skip`"),
     ] {
         let all = shown(rt.alloc(), text)?;
         assert_eq!(rt; all.as_str(), why);
