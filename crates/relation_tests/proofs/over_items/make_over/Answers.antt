@@ -21,3 +21,11 @@ returns-clause-is g c =
     let was = concrete_as (cons (m.ty c.args.argument.now) nil) (n.args k) c.in_ok-args.ensures.is (c.requires, tt) in
     c.in_ok-ty.ensures.made ∙ ap₂ (λ i ts. node (adt i) ts) (sym (e.id c.args.item.now))
     (sym (e.args k (concrete_known (n.args k) was)))
+
+pub make_item-requires : goal.make_item-requires
+make_item-requires g c =
+    let m = g.I.Interner.meaning c.args.cx.now in
+    let n = g.I.Interner.meaning c.make_args.new.cx in
+    let k = c.in_ok-args.args in
+    concrete_known (n.args k)
+    (concrete_as (cons (m.ty c.args.argument.now) nil) (n.args k) c.in_ok-args.ensures.is (c.requires, tt))
