@@ -36,26 +36,30 @@ fn ask_ready<I: Interner + Drop, W: Write>(
 {
     let mut ctx = RefCtxt::new(interner, BUDGET);
     let mut fresh = true;
-    let mut before = "";
+    let mut any = false;
     for question in &program.questions {
-        out.write_str(before)?;
+        if any {
+            out.write_str(between)?;
+        }
         let asked = context_for(ctx, question, fresh);
         let (left, outcome) = ask_often(asked, terms, question);
         ctx = left;
         write_outcome(&ctx, texts, question, &outcome, out)?;
         fresh = is_memory::<I>(&outcome);
-        before = between;
+        any = true;
     }
     Ok(())
 }
 
 // Answers that a growth was refused, to each question.
 fn refuse_all<W: Write>(program: &Program, between: &str, out: &mut W) -> fmt::Result {
-    let mut before = "";
+    let mut any = false;
     for _ in &program.questions {
-        out.write_str(before)?;
+        if any {
+            out.write_str(between)?;
+        }
         out.write_str("memory")?;
-        before = between;
+        any = true;
     }
     Ok(())
 }
