@@ -23,6 +23,14 @@ use std::fmt::{self, Write};
 /// How many instantiations a context may make where nothing is said of it.
 pub const BUDGET: usize = 100;
 
+// Writes what stands between two answers, before each but the first.
+fn separate<W: Write>(any: bool, between: &str, out: &mut W) -> fmt::Result {
+    if any {
+        return out.write_str(between);
+    }
+    Ok(())
+}
+
 // Asks all questions over terms that are ready. After a refused growth the next question is asked in a new context.
 fn ask_ready<I: Interner + Drop, W: Write>(
     interner: I,
@@ -38,9 +46,7 @@ fn ask_ready<I: Interner + Drop, W: Write>(
     let mut fresh = true;
     let mut any = false;
     for question in &program.questions {
-        if any {
-            out.write_str(between)?;
-        }
+        separate(any, between, out)?;
         let asked = context_for(ctx, question, fresh);
         let (left, outcome) = ask_often(asked, terms, question);
         ctx = left;
@@ -55,9 +61,7 @@ fn ask_ready<I: Interner + Drop, W: Write>(
 fn refuse_all<W: Write>(program: &Program, between: &str, out: &mut W) -> fmt::Result {
     let mut any = false;
     for _ in &program.questions {
-        if any {
-            out.write_str(between)?;
-        }
+        separate(any, between, out)?;
         out.write_str("memory")?;
         any = true;
     }

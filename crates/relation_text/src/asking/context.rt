@@ -3,6 +3,7 @@ ghost use Rattle.std.specs.Prelude.{◌≡◌, ◌≢◌, ℕ, ◌<◌, ◌≤�
 ghost use Rattle.relation_terms.specs.Meaning.{Extends};
 ghost use Rattle.relation_tools.specs.Faults.{KnowsFault};
 ghost use Rattle.type_relations.specs.Contexts.{KnowsEnv, KnowsTy, TakesTy, HasTy};
+ghost use Rattle.type_relations.specs.Contexts.{AnswersTys, KeepsEqualTys, TellsApart};
 ghost use Rattle.relation_reference.specs.Tables.{IsLawful};
 ghost use Rattle.relation_text.specs.Needs.{Reaches};
 ghost use Rattle.relation_text.specs.Asking.{Has, IsAskable};
@@ -108,7 +109,8 @@ pub(super) fn refusal<I: Interner>(
     }
 }
 
-/// Relates two types at a variance in any context that can.
+/// Relates two types at a variance in any context that can. What is answered is what the context promises: after `Ok`
+/// what is recorded and the goals relate the types, and no equal pair is lost; `Unrelated` says that nothing made them one.
 pub(super) fn relate<C: RelateExt>(
     ctx: &mut C,
     param_env: ParamEnv<C::Interner>,
@@ -126,6 +128,9 @@ pub(super) fn relate<C: RelateExt>(
     requires rhs_taken { TakesTy (C.state ctx.old) variance rhs }
     requires lhs_in { HasTy (C.state ctx.old) lhs }
     requires rhs_in { HasTy (C.state ctx.old) rhs }
+    ensures answers { AnswersTys (C.state ctx.old) (C.state ctx.new) param_env variance lhs rhs result }
+    ensures keeps { KeepsEqualTys (C.state ctx.old) (C.state ctx.new) lhs rhs result }
+    ensures apart { TellsApart (C.state ctx.old) (C.state ctx.new) lhs rhs result }
     ensures lawful { (C.state ctx.new).lawful }
     ensures grown { Extends (C.state ctx.old).meaning (C.state ctx.new).meaning }
     ensures why_known { IfErr result (λ e. KnowsFault (C.state ctx.new).meaning e) }
