@@ -1,72 +1,60 @@
 //! An interner whose keys are the numbers of nodes, and whose ids are the numbers of items.
-ghost use Rattle.std.specs.Prelude.{◌≡◌, ℕ, IsTrue, IfOk, IsOk, OnErr, ◌++◌, ◌∷◌, [], ◌⊎◌, length};
+ghost use Rattle.std.specs.Prelude.{◌≡◌, IsTrue, IfOk, OnErr};
+ghost use Rattle.std.specs.HashMap.{get};
 ghost use Rattle.relation_reference.specs.Empty.{KnowsNone};
-ghost use Rattle.relation_reference.specs.Nodes.{AllKnown, AllDistinct, entry_of, known_entry, table_meaning};
-ghost use Rattle.relation_reference.specs.Nodes.{StandsAt};
+ghost use Rattle.relation_reference.specs.Nodes.{AllKnown, AllDistinct};
+ghost use Rattle.relation_reference.specs.Finding.{Finds};
 
 mod items;
 mod keys;
 mod node;
+mod table;
 #[cfg(test)]
 mod tests;
 
 pub use items::{DefKind, GenericParam, GenericParamKind, Item, ItemKind};
 pub use keys::{ItemId, NoSpan, NodeKey, SymbolId};
 pub use node::Node;
-use node::{copied, place};
+use node::copied;
 use relation_terms::terms::{
     ArgsKey, Branches, BranchesKey, Const, ConstForm, ConstKey, GenericArg, GenericArgs, Interner,
     ItemOf, Keys, OutOfMemory, ParamEnv, ParamEnvKey, Region, RegionForm, RegionKey, Span, Ty,
     TyForm, TyKey, Tys, TysKey, ValTree, ValTreeForm, ValTreeKey, Variance,
 };
 use std::alloc::Global;
+use std::collections::HashMap;
 
-/// An interner that keeps its nodes and its items in vectors. It finds a node by going over all of them.
+/// An interner that keeps its nodes and its items in vectors. It finds a node by a hashed table, so that making takes
+/// the time of one look-up, however many nodes there are.
 #[derive(Drop)]
 pub struct RefInterner {
     alloc: Global,
     // What the keys stand for, by their numbers.
     nodes: Vec<Node>,
+    // Where the nodes stand.
+    places: HashMap<Node, usize>,
     // What the ids stand for, by their numbers.
     items: Vec<Item>,
     ghost known_all: { AllKnown nodes.items },
     ghost distinct: { AllDistinct nodes.items },
+    ghost finds: { Finds nodes.items (get ⟦<Node as PartialEq>⟧.eq places) },
 }
 
 impl RefInterner {
-    ghost use Rattle.relation_reference.specs.Adding.{item_count};
+    ghost use Rattle.relation_reference.specs.Adding.{item_count, node_count};
 
     /// An interner that knows no key and has no item. This takes no memory.
     pub fn new(alloc: Global) -> RefInterner
         ensures knows_none { KnowsNone (⟦<RefInterner as Interner>⟧.meaning result) }
         ensures no_items { item_count result ≡ 0 }
+        ensures no_nodes { node_count result ≡ 0 }
     {
         RefInterner {
             alloc,
             nodes: Vec::new(alloc),
+            places: HashMap::new(alloc),
             items: Vec::new(alloc),
         }
-    }
-
-    // The key of the node, which is put at the end where it is new.
-    fn add(&mut self, node: Node) -> Result<NodeKey, OutOfMemory>
-        requires { IsTrue (known_entry (entry_of (table_meaning self.old.items.items self.old.nodes.items) node)) }
-        ensures number { let m = table_meaning self.old.items.items self.old.nodes.items in
-            IfOk result (λ k. StandsAt self.new.nodes.items k.0 (entry_of m node)) }
-        ensures added { (self.new.nodes.items ≡ self.old.nodes.items) ⊎
-            (self.new.nodes.items ≡ self.old.nodes.items ++ node ∷ []) }
-        ensures refused { OnErr result (self.new.nodes.items ≡ self.old.nodes.items) }
-        ensures there { let m = table_meaning self.old.items.items self.old.nodes.items in
-            (k : ℕ) → StandsAt self.old.nodes.items k (entry_of m node) →
-            IsOk result × (self.new.nodes.items ≡ self.old.nodes.items) }
-        ensures items { self.new.items ≡ self.old.items }
-    {
-        if let Some(number) = place(&self.nodes, &node) {
-            return Ok(NodeKey(number));
-        }
-        let number = self.nodes.len();
-        self.nodes.push(node)?;
-        Ok(NodeKey(number))
     }
 }
 
