@@ -1,5 +1,5 @@
 //! An interner whose keys are the numbers of nodes, and whose ids are the numbers of items.
-ghost use Rattle.std.specs.Prelude.{◌≡◌, IsTrue, IfOk, OnErr};
+ghost use Rattle.std.specs.Prelude.{◌≡◌, ◌≤◌, suc, IsTrue, IfOk, OnErr};
 ghost use Rattle.std.specs.HashMap.{get};
 ghost use Rattle.relation_reference.specs.Empty.{KnowsNone};
 ghost use Rattle.relation_reference.specs.Nodes.{AllKnown, AllDistinct};
@@ -69,12 +69,15 @@ impl Keys for RefInterner {
 }
 
 impl Interner for RefInterner {
-    ghost use Rattle.relation_terms.specs.Trees.{known};
-    ghost use Rattle.relation_terms.specs.Meaning.{Extends, kind_tree, region_tree, const_tree, valtree_tree};
+    ghost use Rattle.relation_terms.specs.Heads.{environment};
+    ghost use Rattle.relation_terms.specs.Trees.{known, list_tree, node, nil};
+    ghost use Rattle.relation_terms.specs.Meaning.{Extends, kind_tree, region_tree, const_tree, valtree_tree, arg_tree};
     ghost use Rattle.relation_terms.specs.Interning.{RemakesTy, RemakesRegion, RemakesConst, RemakesValTree};
+    ghost use Rattle.relation_terms.specs.Interning.{RemakesEmptyEnv, MakesTys, MakesArgs, MakesBranches};
+    ghost use Rattle.relation_terms.specs.Interning.{KeepsTys, KeepsArgs, KeepsBranches};
     ghost use Rattle.relation_reference.specs.Nodes.{ty_node, region_node, const_node, valtree_node, args_node};
     ghost use Rattle.relation_reference.specs.Nodes.{tys_node, branches_node, environment_node};
-    ghost use Rattle.relation_reference.specs.Adding.{meaning_in};
+    ghost use Rattle.relation_reference.specs.Adding.{meaning_in, node_count};
     ghost use Rattle.relation_reference.specs.Laws.{sort_law, same_law, same_name_law, same_id_law};
 
     ghost meaning = { λ s. meaning_in s };
@@ -154,6 +157,7 @@ impl Interner for RefInterner {
         ensures made { IfOk result (λ k. (meaning_in self.new).ty k ≡ kind_tree (meaning_in self.old) kind) }
         ensures refused { OnErr result (meaning_in self.new ≡ meaning_in self.old) }
         ensures there { RemakesTy (meaning_in self.old) (meaning_in self.new) kind result }
+        ensures one_more { node_count self.new ≤ suc (node_count self.old) }
     {
         let number = self.add(Node::Ty(kind))?;
         Ok(TyKey(number))
@@ -165,12 +169,21 @@ impl Interner for RefInterner {
         ensures made { IfOk result (λ k. (meaning_in self.new).region k ≡ region_tree (meaning_in self.old) kind) }
         ensures refused { OnErr result (meaning_in self.new ≡ meaning_in self.old) }
         ensures there { RemakesRegion (meaning_in self.old) (meaning_in self.new) kind result }
+        ensures one_more { node_count self.new ≤ suc (node_count self.old) }
     {
         let number = self.add(Node::Region(kind))?;
         Ok(RegionKey(number))
     }
 
-    fn mk_type_list(&mut self, tys: &[Ty<Self>]) -> Result<Tys<Self>, OutOfMemory> {
+    fn mk_type_list(&mut self, tys: &[Ty<Self>]) -> Result<Tys<Self>, OutOfMemory>
+        requires { IsTrue (known (list_tree (meaning_in self.old).ty tys.now)) }
+        ensures grown { Extends (meaning_in self.old) (meaning_in self.new) }
+        ensures sure { IfOk result (λ k. IsTrue (known ((meaning_in self.new).tys k))) }
+        ensures made { MakesTys (meaning_in self.old) (meaning_in self.new) tys.now result }
+        ensures refused { OnErr result (meaning_in self.new ≡ meaning_in self.old) }
+        ensures there { KeepsTys (meaning_in self.old) (meaning_in self.new) tys.now }
+        ensures one_more { node_count self.new ≤ suc (node_count self.old) }
+    {
         let list = copied(self.alloc, tys)?;
         let number = self.add(Node::Tys(list))?;
         Ok(TysKey(number))
@@ -183,6 +196,7 @@ impl Interner for RefInterner {
         ensures made { IfOk result (λ k. (meaning_in self.new).const_ k ≡ const_tree (meaning_in self.old) kind) }
         ensures refused { OnErr result (meaning_in self.new ≡ meaning_in self.old) }
         ensures there { RemakesConst (meaning_in self.old) (meaning_in self.new) kind result }
+        ensures one_more { node_count self.new ≤ suc (node_count self.old) }
     {
         let number = self.add(Node::Const(kind))?;
         Ok(ConstKey(number))
@@ -195,24 +209,48 @@ impl Interner for RefInterner {
         ensures made { IfOk result (λ k. (meaning_in self.new).valtree k ≡ valtree_tree (meaning_in self.old) kind) }
         ensures refused { OnErr result (meaning_in self.new ≡ meaning_in self.old) }
         ensures there { RemakesValTree (meaning_in self.old) (meaning_in self.new) kind result }
+        ensures one_more { node_count self.new ≤ suc (node_count self.old) }
     {
         let number = self.add(Node::ValTree(kind))?;
         Ok(ValTreeKey(number))
     }
 
-    fn mk_args(&mut self, args: &[GenericArg<Self>]) -> Result<GenericArgs<Self>, OutOfMemory> {
+    fn mk_args(&mut self, args: &[GenericArg<Self>]) -> Result<GenericArgs<Self>, OutOfMemory>
+        requires { IsTrue (known (list_tree (arg_tree (meaning_in self.old)) args.now)) }
+        ensures grown { Extends (meaning_in self.old) (meaning_in self.new) }
+        ensures sure { IfOk result (λ k. IsTrue (known ((meaning_in self.new).args k))) }
+        ensures made { MakesArgs (meaning_in self.old) (meaning_in self.new) args.now result }
+        ensures refused { OnErr result (meaning_in self.new ≡ meaning_in self.old) }
+        ensures there { KeepsArgs (meaning_in self.old) (meaning_in self.new) args.now }
+        ensures one_more { node_count self.new ≤ suc (node_count self.old) }
+    {
         let list = copied(self.alloc, args)?;
         let number = self.add(Node::Args(list))?;
         Ok(ArgsKey(number))
     }
 
-    fn mk_branches(&mut self, branches: &[Const<Self>]) -> Result<Branches<Self>, OutOfMemory> {
+    fn mk_branches(&mut self, branches: &[Const<Self>]) -> Result<Branches<Self>, OutOfMemory>
+        requires { IsTrue (known (list_tree (meaning_in self.old).const_ branches.now)) }
+        ensures grown { Extends (meaning_in self.old) (meaning_in self.new) }
+        ensures sure { IfOk result (λ k. IsTrue (known ((meaning_in self.new).branches k))) }
+        ensures made { MakesBranches (meaning_in self.old) (meaning_in self.new) branches.now result }
+        ensures refused { OnErr result (meaning_in self.new ≡ meaning_in self.old) }
+        ensures there { KeepsBranches (meaning_in self.old) (meaning_in self.new) branches.now }
+        ensures one_more { node_count self.new ≤ suc (node_count self.old) }
+    {
         let list = copied(self.alloc, branches)?;
         let number = self.add(Node::Branches(list))?;
         Ok(BranchesKey(number))
     }
 
-    fn empty_param_env(&mut self) -> Result<ParamEnv<Self>, OutOfMemory> {
+    fn empty_param_env(&mut self) -> Result<ParamEnv<Self>, OutOfMemory>
+        ensures grown { Extends (meaning_in self.old) (meaning_in self.new) }
+        ensures sure { IfOk result (λ k. IsTrue (known ((meaning_in self.new).param_env k))) }
+        ensures made { IfOk result (λ k. (meaning_in self.new).param_env k ≡ node environment nil) }
+        ensures refused { OnErr result (meaning_in self.new ≡ meaning_in self.old) }
+        ensures there { RemakesEmptyEnv (meaning_in self.old) (meaning_in self.new) result }
+        ensures one_more { node_count self.new ≤ suc (node_count self.old) }
+    {
         let number = self.add(Node::ParamEnv)?;
         Ok(ParamEnvKey(number))
     }

@@ -1,5 +1,6 @@
 //! The table of nodes: how one is found by its form, and how one is added.
-ghost use Rattle.std.specs.Prelude.{◌≡◌, ◌<◌, ◌↔◌, ℕ, IsTrue, IfOk, IsOk, OnOk, OnErr, MatchOption, ◌++◌, ◌∷◌, [], ◌⊎◌};
+ghost use Rattle.std.specs.Prelude.{◌≡◌, ◌<◌, ◌≤◌, ◌↔◌, ◌⊎◌, ℕ, suc, [], ◌∷◌, ◌++◌, MatchOption};
+ghost use Rattle.std.specs.Prelude.{IsTrue, IfOk, IsOk, OnOk, OnErr};
 ghost use Rattle.relation_terms.specs.Trees.{known};
 ghost use Rattle.relation_reference.specs.Nodes.{entry_of, known_entry, table_meaning, StandsAt};
 ghost use Rattle.relation_reference.specs.Finding.{Lacks, HasAt};
@@ -39,6 +40,7 @@ impl RefInterner {
             (k : ℕ) → StandsAt self.old.nodes.items k (entry_of m node) →
             IsOk result × (self.new.nodes.items ≡ self.old.nodes.items) }
         ensures items { self.new.items ≡ self.old.items }
+        ensures one_more { node_count self.new ≤ suc (node_count self.old) }
     {
         match self.place(&node) {
             Some(number) => Ok(NodeKey(number)),
@@ -48,7 +50,8 @@ impl RefInterner {
 
     // The key of a node of a new form, which is put at the end. Both growths come before anything is written.
     fn put(&mut self, node: Node) -> Result<NodeKey, OutOfMemory>
-        requires known { IsTrue (known_entry (entry_of (table_meaning self.old.items.items self.old.nodes.items) node)) }
+        requires known { let m = table_meaning self.old.items.items self.old.nodes.items in
+            IsTrue (known_entry (entry_of m node)) }
         requires new { Lacks self.old.nodes.items node }
         ensures number { let m = table_meaning self.old.items.items self.old.nodes.items in
             IfOk result (λ k. StandsAt self.new.nodes.items k.0 (entry_of m node)) }
