@@ -1,6 +1,6 @@
 -- A table and one more node.
-use Rattle.std.proofs.Common.{ℕ, ◌<◌, ◌≡◌, ◌⊎◌, inl, inr, IsTrue, Bool, true, false, List, [], ◌∷◌, ◌++◌, length}
-use Rattle.std.proofs.Common.{get_or, if◌then◌else◌, refl, ap, ap₂, sym, ◌∙◌, subst, arith, length-append}
+use Rattle.std.proofs.Common.{ℕ, ◌<◌, ◌≡◌, ◌⊎◌, inl, inr, IsTrue, List, [], ◌∷◌, ◌++◌, length}
+use Rattle.std.proofs.Common.{get_or, refl, ap, ap₂, sym, ◌∙◌, subst, arith, length-append}
 use Rattle.std.proofs.lemmas.Bool.{cases_lt}
 use Rattle.std.proofs.lemmas.List.{get_or_append_left}
 use Rattle.std.proofs.Math.Seq.{get_or-append_seam}
@@ -23,6 +23,7 @@ use Rattle.relation_reference.specs.Nodes.{StandsAt}
 use Rattle.relation_reference.specs.Empty.{KnowsNone}
 use Rattle.relation_reference.specs.Places.{length_entries, known_in, of_sort, reads_itself, tree_of_key, key_reads}
 use Rattle.relation_reference.specs.Laws.{injective, all_sorted}
+use Rattle.relation_reference.proofs.Items.{same_entry}
 use Rattle.relation_reference.proofs.Table.{tree_in, entries_snoc, extends_node, at_now}
 
 -- Forms of one entry are one form.
@@ -59,19 +60,24 @@ module _ (ns : List Node) (n : Node) where
   new_at ms k e l = rw (e, l) new_entry
 
   -- The last place or an earlier one.
-  last_or : (i : ℕ) → i < length (ns ++ n ∷ []) → (i < length ns) ⊎ (i ≡ length ns)
+  pub last_or : (i : ℕ) → i < length (ns ++ n ∷ []) → (i < length ns) ⊎ (i ≡ length ns)
   last_or i h = elim (cases_lt i (length ns)) [
     | inl p ↦ inl p
     | inr p ↦ inr (let l = length-append ns (n ∷ []) in omega (arith, l))
   ]
 
-  all_known : AllKnown ns → IsTrue (known_entry (entry_of (table_meaning [] ns) n)) → AllKnown (ns ++ n ∷ [])
+  pub all_known : AllKnown ns → IsTrue (known_entry (entry_of (table_meaning [] ns) n)) → AllKnown (ns ++ n ∷ [])
   all_known a k = λ i h. elim (last_or i h) [
     | inl p ↦ subst (λ x. IsTrue (known_entry x)) (sym (keeps_entry i p)) (a i p)
     | inr p ↦
         subst (λ j. IsTrue (known_entry (get_or (entries (ns ++ n ∷ [])) j no_entry))) (sym p)
         (subst (λ x. IsTrue (known_entry x)) (sym new_entry) k)
   ]
+
+  -- The node's entry is known whatever the items are.
+  pub known_alone : (items : List Item) → IsTrue (known_entry (entry_of (table_meaning items ns) n)) →
+      IsTrue (known_entry (entry_of (table_meaning [] ns) n))
+  known_alone items k = subst (λ x. IsTrue (known_entry x)) (same_entry items [] ns n) k
 
   -- A node of a form that none has is at no place.
   pub fresh : AllDistinct ns → IsTrue (known_entry (entry_of (table_meaning [] ns) n)) →
@@ -85,7 +91,7 @@ module _ (ns : List Node) (n : Node) where
       u i n l (form_once m (injective [] ns d) (all_sorted [] ns) (form_of (get_or ns i n)) (form_of n)
       (subst (λ x. IsTrue (known_entry x)) a h) (sym a ∙ e))
 
-  all_distinct : AllDistinct ns → IsTrue (known_entry (entry_of (table_meaning [] ns) n)) →
+  pub all_distinct : AllDistinct ns → IsTrue (known_entry (entry_of (table_meaning [] ns) n)) →
       ((k : ℕ) (d : Node) → k < length ns → form_of (get_or ns k d) ≡ form_of n → ⊥) → AllDistinct (ns ++ n ∷ [])
   all_distinct d k u = λ i j h l e.
       let at : ℕ → Entry = λ x. get_or (entries (ns ++ n ∷ [])) x no_entry in
@@ -99,18 +105,6 @@ module _ (ns : List Node) (n : Node) where
           | inr q ↦ p ∙ sym q
         ]
       ]
-
-  -- What a push leaves, which may have been refused.
-  pub known_if : (b : Bool) → AllKnown ns → IsTrue (known_entry (entry_of (table_meaning [] ns) n)) →
-      AllKnown (if b then ns ++ n ∷ [] else ns)
-  known_if true a k = all_known a k
-  known_if false a k = a
-
-  pub distinct_if : (b : Bool) → AllDistinct ns → IsTrue (known_entry (entry_of (table_meaning [] ns) n)) →
-      ((k : ℕ) (d : Node) → k < length ns → form_of (get_or ns k d) ≡ form_of n → ⊥) →
-      AllDistinct (if b then ns ++ n ∷ [] else ns)
-  distinct_if true d k u = all_distinct d k u
-  distinct_if false d k u = d
 
   -- The entry at which a node of the form stands.
   pub found : AllKnown ns → (i : ℕ) → i < length ns → ((d : Node) → form_of (get_or ns i d) ≡ form_of n) →

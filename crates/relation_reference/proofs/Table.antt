@@ -1,5 +1,5 @@
 -- A table's entries, and what its keys read.
-use Rattle.std.proofs.Common.{ℕ, zero, suc, ◌+◌, ◌<◌, ◌≡◌, IsTrue, List, [], ◌∷◌, ◌++◌, length, get_or, inl, inr}
+use Rattle.std.proofs.Common.{ℕ, zero, suc, ◌+◌, ◌<◌, ◌≡◌, ◌↔◌, IsTrue, List, [], ◌∷◌, ◌++◌, length, get_or, inl, inr}
 use Rattle.std.proofs.Common.{refl, ap, sym, ◌∙◌, subst, arith, length-append}
 use Rattle.std.proofs.lemmas.Bool.{false≢true, cases_lt}
 use Rattle.std.proofs.lemmas.List.{get_or_append_left, get_or_past}
@@ -29,8 +29,8 @@ use Rattle.relation_reference.specs.Forms.{branches_form, environment_form, form
 use Rattle.relation_reference.specs.Nodes.{NodeSort, ty_node, region_node, const_node, valtree_node, args_node}
 use Rattle.relation_reference.specs.Nodes.{tys_node, branches_node, environment_node}
 use Rattle.relation_reference.specs.Nodes.{Entry, no_entry, entry, tree_as, meaning_of, form_sort, form_tree, entry_at}
-use Rattle.relation_reference.specs.Nodes.{entry_of, entries_from, entries, table_meaning, known_entry}
-use Rattle.relation_reference.specs.Places.{known_in, of_sort, sure_of, tree_of_key, key_reads}
+use Rattle.relation_reference.specs.Nodes.{entry_of, entries_from, entries, table_meaning, known_entry, AllKnown}
+use Rattle.relation_reference.specs.Places.{known_in, of_sort, reads_itself, sure_of, tree_of_key, HasKey, key_reads}
 use Rattle.relation_reference.proofs.Items.{same_entry}
 
 abbrev pub sort_in : Entry → NodeSort
@@ -171,6 +171,22 @@ module _ (items : List Item) (ns : List Node) (s : NodeSort) (i : ℕ)
   key_read n e f p =
       ap tree_in (key_now n) ∙ ap (λ x. form_tree (table_meaning items ns) (form_of x)) (sym e) ∙
       ap (form_tree (table_meaning items ns)) p
+
+-- A key of each node's number is known.
+entry_key : (items : List Item) (ns : List Node) (i : ℕ) (e : Entry) → get_or (entries ns) i no_entry ≡ e →
+    IsTrue (known_entry e) → HasKey (table_meaning items ns) i
+entry_key items ns i no_entry p k = absurd (false≢true k)
+entry_key items ns i (entry s t) p k =
+    let reads = key_reads items (entries ns) s i ∙ ap (tree_as s) p ∙ reads_itself s t in
+    (s, subst (λ x. IsTrue (known x)) (sym reads) k)
+
+-- The numbers of known keys are those of nodes.
+pub numbered : (items : List Item) (ns : List Node) → AllKnown ns → (i : ℕ) →
+    (i < length ns ↔ HasKey (table_meaning items ns) i)
+numbered items ns a i = (
+  λ h. entry_key items ns i (get_or (entries ns) i no_entry) refl (a i h),
+  λ k. key_in items ns k.0 i k.1,
+)
 
 -- A node that is none of a sort's is of another sort.
 pub not_ty : (n : Node) → ((f : TyKind NodeKey ItemId SymbolId) → n ≡ Ty f → ⊥) → ty_node ≡ form_sort (form_of n) → ⊥

@@ -30,6 +30,10 @@ meaning_in s = table_meaning s.items.items s.nodes.items
 abbrev pub items_of : RefInterner → List Item
 items_of s = s.items.items
 
+-- How many nodes there are, of all sorts.
+abbrev pub node_count : RefInterner → ℕ
+node_count s = length s.nodes.items
+
 -- How many items were added.
 abbrev pub item_count : RefInterner → ℕ
 item_count s = length (items_of s)

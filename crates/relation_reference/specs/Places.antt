@@ -73,6 +73,10 @@ tree_of_key tys_node m i = m.tys (record { 0 = record { 0 = i } })
 tree_of_key branches_node m i = m.branches (record { 0 = record { 0 = i } })
 tree_of_key environment_node m i = m.param_env (record { 0 = record { 0 = i } })
 
+-- A key of the number, of some sort, is known.
+abbrev pub HasKey : Meaning NodeKey ItemId SymbolId → ℕ → Type 0
+HasKey m i = (s : NodeSort) × IsTrue (known (tree_of_key s m i))
+
 -- A key's tree is that of the entry at its number.
 pub key_reads : (items : List Item) (es : List Entry) (s : NodeSort) (i : ℕ) →
     tree_of_key s (meaning_of items es) i ≡ tree_as s (get_or es i no_entry)

@@ -1,70 +1,58 @@
 //! An interner whose keys are the numbers of nodes, and whose ids are the numbers of items.
-ghost use Rattle.std.specs.Prelude.{◌≡◌, ℕ, IsTrue, IfOk, IsOk, OnErr, ◌++◌, ◌∷◌, [], ◌⊎◌, length};
+ghost use Rattle.std.specs.Prelude.{◌≡◌, ◌≤◌, suc, IsTrue, IfOk, OnErr};
+ghost use Rattle.std.specs.HashMap.{get};
 ghost use Rattle.relation_reference.specs.Empty.{KnowsNone};
-ghost use Rattle.relation_reference.specs.Nodes.{AllKnown, AllDistinct, entry_of, known_entry, table_meaning};
-ghost use Rattle.relation_reference.specs.Nodes.{StandsAt};
+ghost use Rattle.relation_reference.specs.Nodes.{AllKnown, AllDistinct};
+ghost use Rattle.relation_reference.specs.Finding.{Finds};
 
 mod items;
 mod keys;
 mod node;
+mod table;
 
 pub use items::{DefKind, GenericParam, GenericParamKind, Item, ItemKind};
 pub use keys::{ItemId, NoSpan, NodeKey, SymbolId};
 pub use node::Node;
-use node::{copied, place};
+use node::copied;
 use relation_terms::terms::{
     ArgsKey, Branches, BranchesKey, Const, ConstForm, ConstKey, GenericArg, GenericArgs, Interner,
     ItemOf, Keys, OutOfMemory, ParamEnv, ParamEnvKey, Region, RegionForm, RegionKey, Span, Ty,
     TyForm, TyKey, Tys, TysKey, ValTree, ValTreeForm, ValTreeKey, Variance,
 };
 use std::alloc::Global;
+use std::collections::HashMap;
 
-/// An interner that keeps its nodes and its items in vectors. It finds a node by going over all of them.
+/// An interner that keeps its nodes and its items in vectors. It finds a node by a hashed table, so that making takes
+/// the time of one look-up, however many nodes there are.
 #[derive(Drop)]
 pub struct RefInterner {
     alloc: Global,
     // What the keys stand for, by their numbers.
     nodes: Vec<Node>,
+    // Where the nodes stand.
+    places: HashMap<Node, usize>,
     // What the ids stand for, by their numbers.
     items: Vec<Item>,
     ghost known_all: { AllKnown nodes.items },
     ghost distinct: { AllDistinct nodes.items },
+    ghost finds: { Finds nodes.items (get ⟦<Node as PartialEq>⟧.eq places) },
 }
 
 impl RefInterner {
-    ghost use Rattle.relation_reference.specs.Adding.{item_count};
+    ghost use Rattle.relation_reference.specs.Adding.{item_count, node_count};
 
     /// An interner that knows no key and has no item. This takes no memory.
     pub fn new(alloc: Global) -> RefInterner
         ensures knows_none { KnowsNone (⟦<RefInterner as Interner>⟧.meaning result) }
         ensures no_items { item_count result ≡ 0 }
+        ensures no_nodes { node_count result ≡ 0 }
     {
         RefInterner {
             alloc,
             nodes: Vec::new(alloc),
+            places: HashMap::new(alloc),
             items: Vec::new(alloc),
         }
-    }
-
-    // The key of the node, which is put at the end where it is new.
-    fn add(&mut self, node: Node) -> Result<NodeKey, OutOfMemory>
-        requires { IsTrue (known_entry (entry_of (table_meaning self.old.items.items self.old.nodes.items) node)) }
-        ensures number { let m = table_meaning self.old.items.items self.old.nodes.items in
-            IfOk result (λ k. StandsAt self.new.nodes.items k.0 (entry_of m node)) }
-        ensures added { (self.new.nodes.items ≡ self.old.nodes.items) ⊎
-            (self.new.nodes.items ≡ self.old.nodes.items ++ node ∷ []) }
-        ensures refused { OnErr result (self.new.nodes.items ≡ self.old.nodes.items) }
-        ensures there { let m = table_meaning self.old.items.items self.old.nodes.items in
-            (k : ℕ) → StandsAt self.old.nodes.items k (entry_of m node) →
-            IsOk result × (self.new.nodes.items ≡ self.old.nodes.items) }
-        ensures items { self.new.items ≡ self.old.items }
-    {
-        if let Some(number) = place(&self.nodes, &node) {
-            return Ok(NodeKey(number));
-        }
-        let number = self.nodes.len();
-        self.nodes.push(node)?;
-        Ok(NodeKey(number))
     }
 }
 
@@ -79,12 +67,15 @@ impl Keys for RefInterner {
 }
 
 impl Interner for RefInterner {
-    ghost use Rattle.relation_terms.specs.Trees.{known};
-    ghost use Rattle.relation_terms.specs.Meaning.{Extends, kind_tree, region_tree, const_tree, valtree_tree};
+    ghost use Rattle.relation_terms.specs.Heads.{environment};
+    ghost use Rattle.relation_terms.specs.Trees.{known, list_tree, node, nil};
+    ghost use Rattle.relation_terms.specs.Meaning.{Extends, kind_tree, region_tree, const_tree, valtree_tree, arg_tree};
     ghost use Rattle.relation_terms.specs.Interning.{RemakesTy, RemakesRegion, RemakesConst, RemakesValTree};
+    ghost use Rattle.relation_terms.specs.Interning.{RemakesEmptyEnv, MakesTys, MakesArgs, MakesBranches};
+    ghost use Rattle.relation_terms.specs.Interning.{KeepsTys, KeepsArgs, KeepsBranches};
     ghost use Rattle.relation_reference.specs.Nodes.{ty_node, region_node, const_node, valtree_node, args_node};
     ghost use Rattle.relation_reference.specs.Nodes.{tys_node, branches_node, environment_node};
-    ghost use Rattle.relation_reference.specs.Adding.{meaning_in};
+    ghost use Rattle.relation_reference.specs.Adding.{meaning_in, node_count};
     ghost use Rattle.relation_reference.specs.Laws.{sort_law, same_law, same_name_law, same_id_law};
 
     ghost meaning = { λ s. meaning_in s };
@@ -164,6 +155,7 @@ impl Interner for RefInterner {
         ensures made { IfOk result (λ k. (meaning_in self.new).ty k ≡ kind_tree (meaning_in self.old) kind) }
         ensures refused { OnErr result (meaning_in self.new ≡ meaning_in self.old) }
         ensures there { RemakesTy (meaning_in self.old) (meaning_in self.new) kind result }
+        ensures one_more { node_count self.new ≤ suc (node_count self.old) }
     {
         let number = self.add(Node::Ty(kind))?;
         Ok(TyKey(number))
@@ -175,12 +167,21 @@ impl Interner for RefInterner {
         ensures made { IfOk result (λ k. (meaning_in self.new).region k ≡ region_tree (meaning_in self.old) kind) }
         ensures refused { OnErr result (meaning_in self.new ≡ meaning_in self.old) }
         ensures there { RemakesRegion (meaning_in self.old) (meaning_in self.new) kind result }
+        ensures one_more { node_count self.new ≤ suc (node_count self.old) }
     {
         let number = self.add(Node::Region(kind))?;
         Ok(RegionKey(number))
     }
 
-    fn mk_type_list(&mut self, tys: &[Ty<Self>]) -> Result<Tys<Self>, OutOfMemory> {
+    fn mk_type_list(&mut self, tys: &[Ty<Self>]) -> Result<Tys<Self>, OutOfMemory>
+        requires { IsTrue (known (list_tree (meaning_in self.old).ty tys.now)) }
+        ensures grown { Extends (meaning_in self.old) (meaning_in self.new) }
+        ensures sure { IfOk result (λ k. IsTrue (known ((meaning_in self.new).tys k))) }
+        ensures made { MakesTys (meaning_in self.old) (meaning_in self.new) tys.now result }
+        ensures refused { OnErr result (meaning_in self.new ≡ meaning_in self.old) }
+        ensures there { KeepsTys (meaning_in self.old) (meaning_in self.new) tys.now }
+        ensures one_more { node_count self.new ≤ suc (node_count self.old) }
+    {
         let list = copied(self.alloc, tys)?;
         let number = self.add(Node::Tys(list))?;
         Ok(TysKey(number))
@@ -193,6 +194,7 @@ impl Interner for RefInterner {
         ensures made { IfOk result (λ k. (meaning_in self.new).const_ k ≡ const_tree (meaning_in self.old) kind) }
         ensures refused { OnErr result (meaning_in self.new ≡ meaning_in self.old) }
         ensures there { RemakesConst (meaning_in self.old) (meaning_in self.new) kind result }
+        ensures one_more { node_count self.new ≤ suc (node_count self.old) }
     {
         let number = self.add(Node::Const(kind))?;
         Ok(ConstKey(number))
@@ -205,24 +207,48 @@ impl Interner for RefInterner {
         ensures made { IfOk result (λ k. (meaning_in self.new).valtree k ≡ valtree_tree (meaning_in self.old) kind) }
         ensures refused { OnErr result (meaning_in self.new ≡ meaning_in self.old) }
         ensures there { RemakesValTree (meaning_in self.old) (meaning_in self.new) kind result }
+        ensures one_more { node_count self.new ≤ suc (node_count self.old) }
     {
         let number = self.add(Node::ValTree(kind))?;
         Ok(ValTreeKey(number))
     }
 
-    fn mk_args(&mut self, args: &[GenericArg<Self>]) -> Result<GenericArgs<Self>, OutOfMemory> {
+    fn mk_args(&mut self, args: &[GenericArg<Self>]) -> Result<GenericArgs<Self>, OutOfMemory>
+        requires { IsTrue (known (list_tree (arg_tree (meaning_in self.old)) args.now)) }
+        ensures grown { Extends (meaning_in self.old) (meaning_in self.new) }
+        ensures sure { IfOk result (λ k. IsTrue (known ((meaning_in self.new).args k))) }
+        ensures made { MakesArgs (meaning_in self.old) (meaning_in self.new) args.now result }
+        ensures refused { OnErr result (meaning_in self.new ≡ meaning_in self.old) }
+        ensures there { KeepsArgs (meaning_in self.old) (meaning_in self.new) args.now }
+        ensures one_more { node_count self.new ≤ suc (node_count self.old) }
+    {
         let list = copied(self.alloc, args)?;
         let number = self.add(Node::Args(list))?;
         Ok(ArgsKey(number))
     }
 
-    fn mk_branches(&mut self, branches: &[Const<Self>]) -> Result<Branches<Self>, OutOfMemory> {
+    fn mk_branches(&mut self, branches: &[Const<Self>]) -> Result<Branches<Self>, OutOfMemory>
+        requires { IsTrue (known (list_tree (meaning_in self.old).const_ branches.now)) }
+        ensures grown { Extends (meaning_in self.old) (meaning_in self.new) }
+        ensures sure { IfOk result (λ k. IsTrue (known ((meaning_in self.new).branches k))) }
+        ensures made { MakesBranches (meaning_in self.old) (meaning_in self.new) branches.now result }
+        ensures refused { OnErr result (meaning_in self.new ≡ meaning_in self.old) }
+        ensures there { KeepsBranches (meaning_in self.old) (meaning_in self.new) branches.now }
+        ensures one_more { node_count self.new ≤ suc (node_count self.old) }
+    {
         let list = copied(self.alloc, branches)?;
         let number = self.add(Node::Branches(list))?;
         Ok(BranchesKey(number))
     }
 
-    fn empty_param_env(&mut self) -> Result<ParamEnv<Self>, OutOfMemory> {
+    fn empty_param_env(&mut self) -> Result<ParamEnv<Self>, OutOfMemory>
+        ensures grown { Extends (meaning_in self.old) (meaning_in self.new) }
+        ensures sure { IfOk result (λ k. IsTrue (known ((meaning_in self.new).param_env k))) }
+        ensures made { IfOk result (λ k. (meaning_in self.new).param_env k ≡ node environment nil) }
+        ensures refused { OnErr result (meaning_in self.new ≡ meaning_in self.old) }
+        ensures there { RemakesEmptyEnv (meaning_in self.old) (meaning_in self.new) result }
+        ensures one_more { node_count self.new ≤ suc (node_count self.old) }
+    {
         let number = self.add(Node::ParamEnv)?;
         Ok(ParamEnvKey(number))
     }

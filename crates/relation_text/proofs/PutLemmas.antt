@@ -1,5 +1,6 @@
 -- What is put for terms, by keys and by trees.
-use Rattle.std.proofs.Common.{◌≡◌, Bool, true, false, IsTrue, cond, List, [], ◌∷◌, Option, Some, None, IfSome, refl, sym, ap₂, subst, map}
+use Rattle.std.proofs.Common.{◌≡◌, ◌++◌, Bool, true, false, IsTrue, cond, List, [], ◌∷◌, Option, Some, None, IfSome, refl, sym, ap₂, subst, map}
+use Rattle.std.specs.List.{AllZip}
 use Rattle.std.proofs.lemmas.Bool.{and_parts}
 use Rattle.relation_tools.specs.declared.visit.Visit.TheVariants.{Enter, Skip, Stop}
 use Rattle.relation_terms.specs.Heads.{Sort, type_sort, region_sort, const_sort, Admits, leaf_sort, head_sort}
@@ -14,6 +15,14 @@ use Rattle.relation_text.specs.Codes.{same_tree}
 use Rattle.relation_text.specs.Meets.{is_in, answer_at}
 use Rattle.relation_text.specs.Puts.{first_put, ArePuts, tree_put, tree_of}
 use Rattle.relation_text.proofs.CodeLemmas.{same_is, is_same}
+
+-- Lists that are related place by place stay so with one more of each.
+pub zip_push : {A B : Type 0} (R : A → B → Type 0) (xs : List A) (ys : List B) (x : A) (y : B) → AllZip R xs ys → R x y →
+    AllZip R (xs ++ x ∷ []) (ys ++ y ∷ [])
+zip_push R [] [] x y h r = (r, tt)
+zip_push R (a ∷ as) (b ∷ bs) x y h r = (h.0, zip_push R as bs x y h.1 r)
+zip_push R [] (b ∷ bs) x y h r = absurd h
+zip_push R (a ∷ as) [] x y h r = absurd h
 
 -- No tree is a term of two sorts that admit no common one.
 apart : (s u : Sort) → ((x : Sort) → Admits s x → Admits u x → ⊥) → (t : Tree) → IsTerm s t → IsTerm u t → ⊥

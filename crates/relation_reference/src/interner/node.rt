@@ -1,7 +1,6 @@
-//! Nodes, and how one is found among others.
-ghost use Rattle.std.specs.Prelude.{◌≡◌, ◌≢◌, ◌<◌, ◌↔◌, ℕ, IsTrue, IfOk, MatchOption, length, slice_index_or};
+//! Nodes, and how one is copied.
+ghost use Rattle.std.specs.Prelude.{◌≡◌, IfOk};
 ghost use Rattle.relation_reference.specs.Forms.{form_of};
-ghost use Rattle.relation_reference.specs.declared.interner.node.Node.{Node};
 
 use crate::interner::{ItemId, NodeKey, SymbolId};
 use relation_terms::terms::{
@@ -10,7 +9,7 @@ use relation_terms::terms::{
 use std::alloc::Global;
 
 /// What one key stands for.
-#[derive(PartialEq, Eq, Drop)]
+#[derive(PartialEq, Eq, Hash, Drop)]
 pub enum Node {
     /// A type, by its outermost form.
     Ty(TyKind<NodeKey, ItemId, SymbolId>),
@@ -41,23 +40,18 @@ pub fn copied<T: Copy>(alloc: Global, values: &[T]) -> Result<Vec<T>, OutOfMemor
     Ok(copies)
 }
 
-// Whether the nodes are of one form.
-fn same(left: &Node, right: &Node) -> bool
-    ensures { IsTrue result ↔ (form_of left.now ≡ form_of right.now) }
+// The same node, in memory of its own.
+pub fn copied_node(alloc: Global, node: &Node) -> Result<Node, OutOfMemory>
+    ensures { IfOk result (λ n. form_of n ≡ form_of node.now) }
 {
-    left == right
-}
-
-// Where a node of this one's form stands among the nodes.
-pub fn place(nodes: &[Node], node: &Node) -> Option<usize>
-    ensures { MatchOption result
-        ((k : ℕ) (d : Node) → k < length nodes.now → form_of (slice_index_or nodes.now k d) ≢ form_of node.now)
-        (λ i. (i < length nodes.now) × ((d : Node) → form_of (slice_index_or nodes.now i d) ≡ form_of node.now)) }
-{
-    for (index, other) in nodes.iter().enumerate() {
-        if same(other, node) {
-            return Some(index);
-        }
+    match node {
+        Node::Ty(kind) => Ok(Node::Ty(*kind)),
+        Node::Region(kind) => Ok(Node::Region(*kind)),
+        Node::Const(kind) => Ok(Node::Const(*kind)),
+        Node::ValTree(kind) => Ok(Node::ValTree(*kind)),
+        Node::Args(list) => Ok(Node::Args(copied(alloc, list.as_slice())?)),
+        Node::Tys(list) => Ok(Node::Tys(copied(alloc, list.as_slice())?)),
+        Node::Branches(list) => Ok(Node::Branches(copied(alloc, list.as_slice())?)),
+        Node::ParamEnv => Ok(Node::ParamEnv),
     }
-    None
 }

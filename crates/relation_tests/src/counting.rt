@@ -1,0 +1,38 @@
+//! How many nodes the reference interner has.
+ghost use Rattle.std.specs.Prelude.{IsTrue, IfOk};
+ghost use Rattle.relation_terms.specs.Trees.{known};
+ghost use Rattle.relation_reference.specs.Adding.{meaning_in};
+
+use relation_reference::interner::RefInterner;
+use relation_terms::terms::{Interner, OutOfMemory, RegionKind, Ty, TyKind};
+use std::test::Fail;
+
+// The tuple of a type and itself.
+fn doubled(cx: &mut RefInterner, ty: Ty<RefInterner>) -> Result<Ty<RefInterner>, OutOfMemory>
+    requires { IsTrue (known ((meaning_in cx.old).ty ty)) }
+    ensures { IfOk result (λ t. IsTrue (known ((meaning_in cx.new).ty t))) }
+{
+    let list = cx.mk_type_list(&[ty, ty])?;
+    cx.mk_ty(TyKind::Tuple(list))
+}
+
+// A tower of as many of these.
+fn tower(cx: &mut RefInterner, height: usize) -> Result<Ty<RefInterner>, OutOfMemory> {
+    let mut ty = cx.mk_ty(TyKind::Bool)?;
+    for _ in 0..height {
+        ty = doubled(cx, ty)?;
+    }
+    Ok(ty)
+}
+
+#[test]
+fn counts_each_term_once(rt: HostRuntime) -> Result<(), Fail> {
+    let mut cx = RefInterner::new(rt.alloc());
+    let first = tower(&mut cx, 60)?;
+    assert!(rt; cx.nodes() == 61 + 60);
+    let again = tower(&mut cx, 60)?;
+    assert!(rt; first == again && cx.nodes() == 61 + 60);
+    let _ = cx.mk_region(RegionKind::ReStatic)?;
+    assert!(rt; cx.nodes() == 61 + 60 + 1);
+    Ok(())
+}
