@@ -3,6 +3,8 @@
 #![tactic(auto)]
 
 #[cfg(test)]
+mod asking;
+#[cfg(test)]
 mod counting;
 #[cfg(test)]
 mod decided;
@@ -17,9 +19,15 @@ mod items;
 #[cfg(test)]
 mod kinds;
 #[cfg(test)]
+mod naming;
+#[cfg(test)]
 mod over_items;
 #[cfg(test)]
 mod plain;
+#[cfg(test)]
+mod printing;
+#[cfg(test)]
+mod reading;
 #[cfg(test)]
 mod relating;
 #[cfg(test)]

@@ -20,9 +20,9 @@ use Rattle.relation_text.proofs.CodeLemmas.{same_is, is_same}
 pub zip_push : {A B : Type 0} (R : A → B → Type 0) (xs : List A) (ys : List B) (x : A) (y : B) → AllZip R xs ys → R x y →
     AllZip R (xs ++ x ∷ []) (ys ++ y ∷ [])
 zip_push R [] [] x y h r = (r, tt)
-zip_push R (a ∷ as) (b ∷ bs) x y h r = (h.0, zip_push R as bs x y h.1 r)
-zip_push R [] (b ∷ bs) x y h r = absurd h
-zip_push R (a ∷ as) [] x y h r = absurd h
+zip_push R (u ∷ us) (v ∷ vs) x y h r = (h.0, zip_push R us vs x y h.1 r)
+zip_push R [] (v ∷ vs) x y h r = absurd h
+zip_push R (u ∷ us) [] x y h r = absurd h
 
 -- No tree is a term of two sorts that admit no common one.
 apart : (s u : Sort) → ((x : Sort) → Admits s x → Admits u x → ⊥) → (t : Tree) → IsTerm s t → IsTerm u t → ⊥

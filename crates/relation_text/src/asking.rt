@@ -6,8 +6,6 @@ mod context;
 mod folding;
 mod interner;
 mod question;
-#[cfg(test)]
-mod tests;
 mod visiting;
 
 use crate::building::{build, needs_of};

@@ -11,6 +11,3 @@ mod terms;
 pub use error::{NameError, Wrong, write_name_error};
 pub use program::{Declared, Item, Parts, Program, Put, Question, QuestionKind, Sort, Term};
 pub use statements::{MOST_VARIABLES, look_up};
-
-#[cfg(test)]
-mod tests;

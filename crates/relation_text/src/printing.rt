@@ -10,8 +10,6 @@ ghost use Rattle.relation_reference.specs.RefCtxt.{store_in};
 
 mod names;
 mod terms;
-#[cfg(test)]
-mod tests;
 
 pub use names::{ItemText, Parameter, Texts, TextsOf};
 use relation_reference::context::{RefCtxt, TypeVariableValue};

@@ -18,6 +18,3 @@ pub use signs::Sign;
 pub use statements::read;
 pub use tree::{Form, ItemSort, Node, NodeKind, Tree};
 pub use words::{Leaf, Word, WordKind};
-
-#[cfg(test)]
-mod tests;

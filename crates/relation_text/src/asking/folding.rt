@@ -4,7 +4,7 @@ ghost use Rattle.relation_terms.specs.Trees.{known};
 ghost use Rattle.relation_terms.specs.Meaning.{Extends, arg_tree};
 ghost use Rattle.relation_tools.specs.Folds.{folded};
 ghost use Rattle.relation_text.specs.Args.{alike, same_arg};
-ghost use Rattle.relation_text.specs.Puts.{first_put, AreMade, ArePuts, tree_put, tree_of};
+ghost use Rattle.relation_text.specs.Puts.{first_put, IsMade, AreMade, ArePuts, tree_put, tree_of};
 
 use crate::asking::comparing::{alike, same_arg};
 use crate::building::key_at;
@@ -107,6 +107,21 @@ impl<'a, I: Interner> TypeFolder<I> for Puts<'a, I::Key> {
     ghost replaces_on = { λ m n e f h d t. put_stays e f.puts.now h t };
 }
 
+// The keys of what is put for what, by their numbers. There are none where one was not built, or both are not alike.
+fn put_at<X: Copy>(
+    built: &[Option<GenericArgKind<X>>],
+    put: Put<usize>,
+) -> Option<Put<GenericArgKind<X>>>
+    ensures { IfSome result (IsMade built.now put) }
+{
+    let from = key_at(built, put.from)?;
+    let to = key_at(built, put.to)?;
+    if !alike(from, to) {
+        return None;
+    }
+    Some(Put { from, to })
+}
+
 // The keys of what is put, those of a range of a program's list. There are none where memory for them is refused.
 pub(super) fn puts_at<X: Copy>(
     alloc: Global,
@@ -120,9 +135,8 @@ pub(super) fn puts_at<X: Copy>(
     let places = numbers.get(range.first..range.behind)?;
     let mut puts = Vec::new(alloc);
     for put in places {
-        let from = key_at(built, put.from)?;
-        let to = key_at(built, put.to)?;
-        if !alike(from, to) || puts.push(Put { from, to }).is_err() {
+        let put = put_at(built, *put)?;
+        if puts.push(put).is_err() {
             return None;
         }
     }

@@ -127,7 +127,6 @@ pub(super) fn visit<I: Interner>(
 }
 
 // Writes what a visitor was asked about.
-#[tactic(auto, using(crate::proofs::Parts::known_part))]
 pub(super) fn write_met<I: Interner, W: Write>(
     cx: &I,
     texts: &TextsOf<I>,

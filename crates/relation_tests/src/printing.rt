@@ -4,7 +4,6 @@ ghost use Rattle.relation_terms.specs.Trees.{known};
 ghost use Rattle.relation_terms.specs.Meaning.{Extends, kind_tree, const_tree};
 ghost use Rattle.relation_tools.specs.Faults.{KnowsError};
 
-use crate::printing::{ItemText, Parameter, Texts, TextsOf, write_const, write_error, write_ty};
 use relation_reference::interner::{ItemId, NodeKey, RefInterner, SymbolId};
 use relation_terms::terms::{
     AdtId, BoundConst, BoundTy, BoundVar, ClosureId, Const, ConstForm, ConstKind,
@@ -12,6 +11,9 @@ use relation_terms::terms::{
     GenericArgKind, GenericArgs, InferTy, IntTy, Interner, Mutability, OutOfMemory, ParamConst,
     ParamTy, Placeholder, PredicatePolarity, RegionKind, RegionVid, Safety, TyForm, TyKind, TyVid,
     UintTy, UniverseIndex, ValTreeKind,
+};
+use relation_text::printing::{
+    ItemText, Parameter, Texts, TextsOf, write_const, write_error, write_ty,
 };
 use relation_tools::error::{ExpectedFound, TypeError, TypeErrorOf};
 use std::fmt;

@@ -1,7 +1,7 @@
 use Rattle.std.proofs.Common.{IsTrue}
 use Rattle.relation_terms.specs.Trees.{known}
 use Rattle.relation_reference.specs.Adding.{meaning_in}
-use Rattle.relation_reference.proofs.interner.table.tests.tower.Given as goal
+use Rattle.relation_tests.proofs.counting.tower.Given as goal
 
 abbrev pub invariant-loop : goal.invariant-loop
 invariant-loop l = IsTrue (known ((meaning_in l.cx).ty l.ty))

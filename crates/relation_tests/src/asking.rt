@@ -1,7 +1,7 @@
 //! Questions, and what is answered.
-use crate::asking::ask_all;
-use crate::naming::{look_up, write_name_error};
-use crate::reading::read;
+use relation_text::asking::ask_all;
+use relation_text::naming::{look_up, write_name_error};
+use relation_text::reading::read;
 use std::alloc::Global;
 use std::fmt;
 use std::test::Fail;

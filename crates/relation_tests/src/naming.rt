@@ -1,6 +1,6 @@
 //! What texts say, and each error.
-use crate::naming::{look_up, write_name_error};
-use crate::reading::{place_of, read};
+use relation_text::naming::{look_up, write_name_error};
+use relation_text::reading::{place_of, read};
 use std::alloc::Global;
 use std::fmt::{self, Write};
 use std::test::Fail;

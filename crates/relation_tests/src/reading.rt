@@ -1,5 +1,5 @@
 //! Each production once, and each error.
-use crate::reading::{Form, NodeKind, Tree, place_of, read, write_error};
+use relation_text::reading::{Form, NodeKind, Tree, place_of, read, write_error};
 use std::alloc::Global;
 use std::fmt::{self, Write};
 use std::test::Fail;
