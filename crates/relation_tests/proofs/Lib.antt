@@ -1,3 +1,3 @@
-pub mod Plain
+pub mod PlainLemmas
 pub mod Concrete
 pub mod OverItems

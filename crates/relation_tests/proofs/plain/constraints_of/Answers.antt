@@ -3,7 +3,7 @@ use Rattle.relation_terms.specs.Heads.{environment}
 use Rattle.relation_terms.specs.Trees.{node, nil}
 use Rattle.type_relations.specs.Relation.{Rel, at}
 use Rattle.type_relations.specs.Lawful.{items_of}
-use Rattle.relation_tests.proofs.Plain.{related_under}
+use Rattle.relation_tests.proofs.PlainLemmas.{related_under}
 use Rattle.relation_tests.proofs.plain.constraints_of.Goals as goal
 
 pub returns : goal.returns

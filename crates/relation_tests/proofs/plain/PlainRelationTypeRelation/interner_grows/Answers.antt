@@ -1,4 +1,4 @@
-use Rattle.relation_tests.proofs.Plain.{plain_grows}
+use Rattle.relation_tests.proofs.PlainLemmas.{plain_grows}
 use Rattle.relation_tests.proofs.plain.PlainRelationTypeRelation.interner_grows.Goals as goal
 
 pub returns : goal.returns

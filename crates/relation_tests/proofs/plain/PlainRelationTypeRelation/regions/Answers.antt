@@ -3,7 +3,7 @@ use Rattle.std.proofs.lemmas.List.{map-append}
 use Rattle.type_relations.specs.Constraints.{constraint_of, asked_constraints}
 use Rattle.relation_tools.specs.declared.error.RelateFault.TheVariants.{Memory}
 use Rattle.type_relations.proofs.Passing.{as_err}
-use Rattle.relation_tests.proofs.Plain.{regions_related, not_recorded}
+use Rattle.relation_tests.proofs.PlainLemmas.{regions_related, not_recorded}
 use Rattle.relation_tests.proofs.plain.PlainRelationTypeRelation.regions.Goals as goal
 
 pub returns-in_err-push-clause-related : goal.returns-in_err-push-clause-related
