@@ -135,9 +135,10 @@ fn wrong_names_are_told(rt: HostRuntime) -> Result<(), Fail> {
 #[test]
 fn deep_terms_are_told(rt: HostRuntime) -> Result<(), Fail> {
     let mut text = String::from_str(rt.alloc(), "let t0 = u8;")?;
+    let mut below = 0;
     for level in 1..1000 {
-        let below = level - 1;
         write!(text, "let t{level} = (t{below}, t{below});")?;
+        below = level;
     }
     text.push_str("t999 == t999;")?;
     let all = shown(rt.alloc(), text.as_str())?;

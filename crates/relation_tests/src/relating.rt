@@ -137,7 +137,6 @@ fn asked<I: Interner + Drop, T: Relate<I> + Drop>(
 }
 
 // What relating two types asks of regions.
-#[tactic(auto, using(crate::proofs::Concrete::concrete_asked))]
 fn asked_of_types<I: Interner + Drop>(
     cx: I,
     variance: Variance,
