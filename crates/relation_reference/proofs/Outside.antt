@@ -1,14 +1,11 @@
--- What stands in a term outside the aliases in it.
-use Rattle.std.proofs.Common.{ℕ, zero, suc, ◌<◌, inl, inr, arith, subst, sym, ◌≡◌}
-use Rattle.relation_terms.specs.Heads.{Leaf, VarKind, variable, alias, expression, value, value_branch}
-use Rattle.relation_terms.specs.Trees.{Tree, leaf, node, bind, nil, cons, Occurs, count, nth}
-use Rattle.relation_terms.specs.Meaning.{Meaning, kind_tree}
-use Rattle.relation_terms.specs.declared.terms.ty_kind.TyKind.{TyKind}
-use Rattle.relation_terms.specs.declared.terms.ty_kind.TyKind.TheVariants.{Infer, Bool, Char, Int, Uint, Float}
-use Rattle.relation_terms.specs.declared.terms.ty_kind.TyKind.TheVariants.{Foreign, Str, Never, Param, Placeholder}
-use Rattle.relation_terms.specs.declared.terms.ty_kind.InferTy.TheVariants.{TyVar}
+-- What stands in a term outside the aliases in it, and in its parts.
+use Rattle.std.proofs.Common.{ℕ, zero, suc, ◌<◌, inl, inr, arith, refl, ◌≡◌}
+use Rattle.relation_terms.specs.Heads.{Leaf, VarKind, variable, alias, type_var, no_sort}
+use Rattle.relation_terms.specs.Trees.{Tree, leaf, node, bind, nil, cons, Occurs, count, nth, size, IsList}
+use Rattle.relation_terms.specs.Parts.{parts_of, tree_sort}
+use Rattle.relation_terms.proofs.Members.{member_small, parts_small}
 use Rattle.type_relations.specs.Errors.{StandsOutside}
-use Rattle.type_relations.specs.Parts.{parts_of, const_parts_of, branches_of}
+use Rattle.type_relations.proofs.Parts.{nowhere}
 
 -- It stands there.
 pub outside_occurs : (k : VarKind) (n : ℕ) (t : Tree) → StandsOutside (variable k n) t → Occurs k n t
@@ -28,32 +25,19 @@ outside_nth l (node a ts) i h o = absurd (omega (arith, h))
 outside_nth l (bind ks t) i h o = absurd (omega (arith, h))
 outside_nth l nil i h o = absurd (omega (arith, h))
 
--- No type of an interner is an alias.
-outside_kind : {Key Id Name : Type 0} (m : Meaning Key Id Name) (k : TyKind Key Id Name) (l : Leaf) →
-    StandsOutside l (parts_of (kind_tree m k)) → StandsOutside l (kind_tree m k)
-outside_kind m (Infer (TyVar v)) l o = absurd o
-outside_kind m Bool l o = absurd o
-outside_kind m Char l o = absurd o
-outside_kind m (Int w) l o = absurd o
-outside_kind m (Uint w) l o = absurd o
-outside_kind m (Float w) l o = absurd o
-outside_kind m (Foreign d) l o = absurd o
-outside_kind m Str l o = absurd o
-outside_kind m Never l o = absurd o
-outside_kind m (Param p) l o = absurd o
-outside_kind m (Placeholder p) l o = absurd o
-outside_kind m k l o = o
+-- A variable that stands in no part of a term, and is not the term, does not stand in it.
+pub occurs_nowhere : (n : ℕ) (t : Tree) → (t ≡ leaf (variable type_var n) → ⊥) → (tree_sort t ≡ no_sort → ⊥) →
+    IsList (parts_of t) → ((i : ℕ) → i < count (parts_of t) → Occurs type_var n (nth i (parts_of t)) → ⊥) →
+    Occurs type_var n t → ⊥
+occurs_nowhere n (leaf l) v s p h o = v o
+occurs_nowhere n (node g ts) v s p h o = nowhere type_var n ts p h o
+occurs_nowhere n (bind ks t) v s p h o = s refl
+occurs_nowhere n nil v s p h o = s refl
+occurs_nowhere n (cons t ts) v s p h o = s refl
 
-pub outside_parts : {Key Id Name : Type 0} (m : Meaning Key Id Name) (k : TyKind Key Id Name) (t : Tree) (l : Leaf) →
-    t ≡ kind_tree m k → StandsOutside l (parts_of t) → StandsOutside l t
-outside_parts m k t l e o = subst (StandsOutside l) (sym e)
-    (outside_kind m k l (subst (λ z. StandsOutside l (parts_of z)) e o))
-
-outside_branches : (l : Leaf) (v : Tree) → StandsOutside l (branches_of v) → StandsOutside l v
-outside_branches l (node value_branch ts) o = o
-outside_branches l v o = absurd o
-
-pub outside_const_parts : (l : Leaf) (c : Tree) → StandsOutside l (const_parts_of c) → StandsOutside l c
-outside_const_parts l (node (expression k) ts) o = o
-outside_const_parts l (node value (cons t (cons v nil))) o = inr (inl (outside_branches l v o))
-outside_const_parts l c o = absurd o
+-- A part is smaller than the term.
+pub part_smaller : (t : Tree) (i : ℕ) → i < count (parts_of t) → size (nth i (parts_of t)) < size t
+part_smaller t i h =
+    let e = member_small (parts_of t) i h in
+    let f = parts_small t in
+    omega (arith, e, f)

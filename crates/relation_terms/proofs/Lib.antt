@@ -2,3 +2,5 @@ pub mod Stays
 pub mod Once
 pub mod Sorted
 pub mod Lists
+pub mod Members
+pub mod Parts

@@ -4,3 +4,4 @@ pub mod Variances
 pub mod Meaning
 pub mod Interning
 pub mod Erasure
+pub mod Parts

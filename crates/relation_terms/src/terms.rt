@@ -8,6 +8,8 @@ mod ids;
 mod interner;
 mod keys;
 mod numbers;
+mod part_kind;
+pub mod parts;
 mod placeholder;
 mod region_kind;
 mod ty_kind;
@@ -30,6 +32,7 @@ pub use keys::{
     PredicateKey, Region, RegionKey, Span, Symbol, Ty, TyKey, Tys, TysKey, ValTree, ValTreeKey,
 };
 pub use numbers::{BoundVar, ConstVid, FloatVid, IntVid, RegionVid, TyVid, UniverseIndex};
+pub use part_kind::{Part, Parts};
 pub use placeholder::{BoundConst, BoundTy, Placeholder, PlaceholderConst, PlaceholderType};
 pub use region_kind::{BoundRegion, EarlyParamRegion, RegionForm, RegionKind};
 pub use ty_kind::{InferTy, ParamTy, TyForm, TyKind};

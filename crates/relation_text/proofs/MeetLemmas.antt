@@ -10,7 +10,8 @@ use Rattle.relation_text.specs.Args.{same_arg}
 use Rattle.relation_text.specs.Meets.{answer_at, Meets, AllKnown, Asks}
 use Rattle.relation_text.proofs.PutLemmas.{Compares, answer_means}
 use Rattle.relation_tools.specs.declared.visit.Visit.{Visit}
-use Rattle.relation_tools.specs.Visits.{parts, Flow, Walks, entered, skipped, stopped}
+use Rattle.relation_terms.specs.Parts.{parts_of}
+use Rattle.relation_tools.specs.Visits.{Flow, Walks, entered, skipped, stopped}
 use Rattle.relation_tools.specs.Visits.{passed_leaf, passed, in_binder, no_part, last_part, next_part}
 
 -- One visitor goes as another, seen by a map, where it does so at each term: what holds before a term holds behind it,
@@ -22,7 +23,7 @@ module _ {V W : Type 0} (f : V → W) (A : V → ℕ → Tree → V → Visit �
       P w × (K w → K v × Walks B d (f v) t (f w) r)
   walks_as d v x t r (entered {w = w} i e o) p =
       let one = step v w d t _ e p in
-      let more = walks_as d w x (parts t) r o one.0 in
+      let more = walks_as d w x (parts_of t) r o one.0 in
       (more.0, λ k. let q = more.1 k in let s = one.1 q.0 in (s.0, entered i s.1 q.1))
   walks_as d v w t r (skipped i e) p =
       let one = step v w d t _ e p in (one.0, λ k. let s = one.1 k in (s.0, skipped i s.1))

@@ -3,3 +3,4 @@ pub mod Errors
 pub mod Searching
 pub mod Walking
 pub mod Folding
+pub mod Members

@@ -7,8 +7,9 @@ use Rattle.relation_terms.specs.Heads.{type_kind, region_kind, const_kind, bound
 use Rattle.relation_terms.specs.Heads.{type_var, int_var, float_var, const_var, region_var}
 use Rattle.relation_terms.specs.Heads.{Leaf, variable, bound, placeholder, atom, unknown}
 use Rattle.relation_terms.specs.Trees.{Tree, leaf, node, bind, nil, cons}
+use Rattle.relation_terms.specs.Parts.{parts_of}
 use Rattle.relation_tools.specs.declared.visit.Visit.TheVariants.{Enter, Skip, Stop}
-use Rattle.relation_tools.specs.Visits.{is_visited, parts, Flow, Walks, entered, skipped, stopped}
+use Rattle.relation_tools.specs.Visits.{is_visited, Flow, Walks, entered, skipped, stopped}
 use Rattle.relation_tools.specs.Visits.{passed_leaf, passed, in_binder, no_part, last_part, next_part}
 use Rattle.relation_tools.specs.Visits.{has_leaf, found_here, Searches, is_non_region_infer, is_escaping}
 
@@ -40,7 +41,7 @@ went false e = refl
 module _ (p : ℕ → Leaf → Bool) where
   -- What stands in a term that is not found itself stands in its parts.
   in_parts : (d : ℕ) (t : Tree) → is_visited t ≡ true → found_here p d t ≡ false →
-      has_leaf p d t ≡ has_leaf p d (parts t)
+      has_leaf p d t ≡ has_leaf p d (parts_of t)
   in_parts d (leaf l) i e = e
   in_parts d (node h ts) i e = refl
   in_parts d (bind ks t) i e = absurd (cc)
@@ -62,7 +63,7 @@ module _ (p : ℕ → Leaf → Bool) where
       (v w : V) (t : Tree) (r : Flow) → Walks (Searches p) d v t w r → r ≡ flow (has_leaf p d t)
   searched f d v x t r (entered {w = w} i e o) =
       let none = entered_not (found_here p d t) e in
-      searched f d w x (parts t) r o ∙ ap flow (sym (in_parts d t i none))
+      searched f d w x (parts_of t) r o ∙ ap flow (sym (in_parts d t i none))
   searched f d v w t r (skipped i e) = absurd (skipped_not (found_here p d t) e)
   searched f d v w t r (stopped i e) = ap flow (sym (stands_here d t (stopped_at (found_here p d t) e)))
   searched f d v w (leaf l) r (passed_leaf i) = ap flow (sym (f d l i))

@@ -2,9 +2,10 @@
 use Rattle.std.proofs.Common.{◌≡◌, ℕ, suc, refl, subst}
 use Rattle.std.specs.declared.ops.ControlFlow.TheVariants.{Continue, Break}
 use Rattle.relation_terms.specs.Trees.{Tree, leaf, node, bind, nil, cons}
+use Rattle.relation_terms.specs.Parts.{parts_of}
 use Rattle.relation_tools.specs.declared.visit.Visit.{Visit}
 use Rattle.relation_tools.specs.declared.visit.Visit.TheVariants.{Enter, Skip, Stop}
-use Rattle.relation_tools.specs.Visits.{parts, Flow, Walks, entered, skipped, stopped}
+use Rattle.relation_tools.specs.Visits.{Flow, Walks, entered, skipped, stopped}
 use Rattle.relation_tools.specs.Visits.{passed_leaf, passed, in_binder, no_part, last_part, next_part}
 
 module _ {V : Type 0} (visits : V → ℕ → Tree → V → Visit → Type 0)
@@ -14,7 +15,7 @@ module _ {V : Type 0} (visits : V → ℕ → Tree → V → Visit → Type 0)
       (w ≡ x) × (q ≡ r)
   walks_once d v w x t q r (entered {w = u} i e o) (entered {w = y} j f n) =
       let same = one_visitor d v u y t Enter Enter e f in
-      walks_once d y w x (parts t) q r (subst (λ z. Walks visits d z (parts t) w q) same o) n
+      walks_once d y w x (parts_of t) q r (subst (λ z. Walks visits d z (parts_of t) w q) same o) n
   walks_once d v w x t q r (entered {w = u} i e o) (skipped j f) =
       let same = one_answer d v u x t Enter Skip e f in absurd (cc)
   walks_once d v w x t q r (entered {w = u} i e o) (stopped j f) =

@@ -1,8 +1,10 @@
 -- Folds of trees: what a folder puts for the types, regions and constants of a tree, and what comes of the whole.
-use Rattle.std.specs.Prelude.{◌≡◌, ℕ, suc, IsTrue, Bool, true, false, Option, Some, None}
+use Rattle.std.specs.Prelude.{◌≡◌, ℕ, suc, IsTrue, Bool, true, false, Option, Some, None, List}
 use Rattle.relation_terms.specs.Heads.{Sort, region_sort, type_sort, const_sort, leaf_sort, head_sort}
-use Rattle.relation_terms.specs.Trees.{Tree, leaf, node, bind, nil, cons, known}
+use Rattle.relation_terms.specs.Trees.{Tree, leaf, node, bind, nil, cons, known, list_tree}
 use Rattle.relation_terms.specs.Meaning.{Meaning, Extends}
+use Rattle.relation_terms.specs.Parts.{part_sort, Fit}
+use Rattle.relation_terms.specs.declared.terms.part_kind.Part.{Part}
 use Rattle.relation_tools.specs.declared.fold.Fold.{Fold}
 use Rattle.relation_tools.specs.declared.fold.Fold.TheVariants.{Descend, Replace}
 
@@ -50,3 +52,19 @@ pub record Steps {Key Id Name F : Type 0} (Ready : Meaning Key Id Name → F →
   pub grown : Extends m n
   pub ready : Ready n g
   pub kept : (d : ℕ) (t : Tree) → puts n g d t ≡ puts m f d t
+
+-- What an answer at a tree of a sort says of the fold: the form over folded parts, or the tree of what is put.
+abbrev pub Folds : {Key : Type 0} → (ℕ → Tree → Option Tree) → ℕ → Tree → (Part Key → Tree) → Sort → Fold (Part Key) →
+    Type 0
+Folds f depth t tree s Descend = folded f depth t ≡ folded_parts f depth t
+Folds f depth t tree s (Replace by) = (tree by ≡ folded f depth t) × (part_sort by ≡ s)
+
+-- The list of the trees of members, or the given list where there are none.
+abbrev pub members_tree : {Key : Type 0} → (Part Key → Tree) → Tree → Option (List (Part Key)) → Tree
+members_tree tree t None = t
+members_tree tree t (Some list) = list_tree tree list
+
+-- The members, where there are some, fit a list of trees.
+abbrev pub FitMembers : {Key : Type 0} → Tree → Option (List (Part Key)) → Type 0
+FitMembers t None = Unit {0}
+FitMembers t (Some list) = Fit list t

@@ -7,6 +7,7 @@ use Rattle.relation_terms.specs.Heads.{BoundKind}
 use Rattle.relation_terms.specs.Heads.{Atom, type_param, type_error, fresh_type, fresh_int, fresh_float, Head, alias}
 use Rattle.relation_terms.specs.Heads.{Leaf, variable, bound, atom}
 use Rattle.relation_terms.specs.Trees.{Tree, leaf, node, bind, nil, cons}
+use Rattle.relation_terms.specs.Parts.{parts_of}
 use Rattle.relation_tools.specs.declared.visit.Visit.{Visit}
 use Rattle.relation_tools.specs.declared.visit.Visit.TheVariants.{Enter, Skip, Stop}
 
@@ -23,14 +24,14 @@ is_visited (leaf l) = visited_sort (leaf_sort l)
 is_visited (node h ts) = visited_sort (head_sort h)
 is_visited t = false
 
--- The list of the parts of a tree.
-abbrev pub parts : Tree → Tree
-parts (node h ts) = ts
-parts t = nil
-
 -- Whether a visit goes on or was stopped.
 abbrev pub Flow : Type 0
 Flow = ControlFlow (Unit {0}) (Unit {0})
+
+-- What a visitor does at a tree, if it is asked about it; if not, it stays, and the tree is entered.
+abbrev pub Asks : {V : Type 0} → (V → ℕ → Tree → V → Visit → Type 0) → Bool → ℕ → V → Tree → V → Visit → Type 0
+Asks visits true d v t w a = visits v d t w a
+Asks visits false d v t w a = (w ≡ v) × (a ≡ Enter)
 
 -- From one visitor, over a tree with `d` binders around it, to another: the visitor is asked about each type, region
 -- and constant before its parts, and what it enters it goes over part by part, in order, until it stops. It is told how
@@ -38,7 +39,7 @@ Flow = ControlFlow (Unit {0}) (Unit {0})
 pub data Walks {V : Type 0} (visits : V → ℕ → Tree → V → Visit → Type 0) : ℕ → V → Tree → V → Flow → Type 0 where
   -- a term whose parts are gone over, one whose parts are not, and one that is the last
   entered : {d : ℕ} {v w x : V} {t : Tree} {r : Flow} → is_visited t ≡ true → visits v d t w Enter →
-      Walks visits d w (parts t) x r → Walks visits d v t x r
+      Walks visits d w (parts_of t) x r → Walks visits d v t x r
   skipped : {d : ℕ} {v w : V} {t : Tree} → is_visited t ≡ true → visits v d t w Skip →
       Walks visits d v t w (Continue tt)
   stopped : {d : ℕ} {v w : V} {t : Tree} → is_visited t ≡ true → visits v d t w Stop → Walks visits d v t w (Break tt)

@@ -8,10 +8,10 @@ use crate::tree::HasTree;
 use relation_terms::terms::{Const, Interner, OutOfMemory, Region, Ty};
 
 mod foldable;
-mod lists;
+mod keyed;
 mod walk;
 
-pub use walk::{
+pub use keyed::{
     fold_arg_with, fold_args_with, fold_branches_with, fold_const_with, fold_region_with,
     fold_ty_with, fold_tys_with, fold_valtree_with, super_fold_const, super_fold_ty,
 };

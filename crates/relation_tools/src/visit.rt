@@ -4,21 +4,23 @@
 //! walk is one for all visitors, and what it does follows from what the visitor does at each tree.
 ghost use Rattle.std.specs.Prelude.{ℕ, IsTrue};
 ghost use Rattle.relation_terms.specs.Trees.{Tree, known};
-ghost use Rattle.relation_tools.specs.Visits.{Walks, parts};
+ghost use Rattle.relation_terms.specs.Parts.{parts_of};
+ghost use Rattle.relation_tools.specs.Visits.{Walks};
 ghost use Rattle.relation_tools.specs.declared.visit.Visit.{Visit};
 
 mod flags;
+mod keyed;
 mod visitable;
 mod walk;
 
 use crate::tree::HasTree;
 pub use flags::{has_escaping_bound_vars, has_non_region_infer, is_known_rigid};
-use relation_terms::terms::{Const, Interner, Region, Ty};
-use std::ops::ControlFlow;
-pub use walk::{
+pub use keyed::{
     super_visit_const, super_visit_ty, visit_arg_with, visit_args_with, visit_branches_with,
     visit_const_with, visit_region_with, visit_ty_with, visit_tys_with, visit_valtree_with,
 };
+use relation_terms::terms::{Const, Interner, Region, Ty};
+use std::ops::ControlFlow;
 
 /// What a visitor answers at a term.
 #[derive(Clone, Copy)]
@@ -69,5 +71,5 @@ pub trait TypeSuperVisitable<I: Interner>: TypeVisitable<I> {
     fn super_visit_with<V: TypeVisitor<I>>(&self, cx: &I, visitor: &mut V) -> ControlFlow<()>
         requires { IsTrue (known (Self.tree (I.meaning cx.now) self.now)) }
         ensures { Walks (V.visits cx.now) 0 visitor.old
-            (parts (Self.tree (I.meaning cx.now) self.now)) visitor.new result };
+            (parts_of (Self.tree (I.meaning cx.now) self.now)) visitor.new result };
 }

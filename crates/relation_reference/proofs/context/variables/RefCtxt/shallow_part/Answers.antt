@@ -1,0 +1,35 @@
+use Rattle.std.proofs.Common.{subst}
+use Rattle.type_relations.specs.Stores.{IsTermIn}
+use Rattle.relation_terms.specs.Parts.{part_tree}
+use Rattle.relation_terms.proofs.Sorted.{Sorted}
+use Rattle.relation_terms.proofs.Parts.{sort_known}
+use Rattle.relation_reference.specs.Tables.{store_of}
+use Rattle.relation_reference.proofs.Resolving.{other_by_parts, shallow_by_parts}
+use Rattle.relation_reference.proofs.context.variables.RefCtxt.shallow_part.Goals as goal
+
+pub returns-in_default-clause-by_parts : goal.returns-in_default-clause-by_parts
+returns-in_default-clause-by_parts g c =
+    let m = g.I.Interner.meaning c.args.self.now.interner in
+    let sorted : Sorted m = record {
+      ty = g.met.I.Interner.is_ty c.args.self.now.interner;
+      region = g.met.I.Interner.is_region c.args.self.now.interner;
+      tys = g.met.I.Interner.are_tys c.args.self.now.interner;
+      const_ = g.met.I.Interner.is_const c.args.self.now.interner;
+      valtree = g.met.I.Interner.is_valtree c.args.self.now.interner;
+      args = g.met.I.Interner.are_args c.args.self.now.interner;
+      branches = g.met.I.Interner.are_branches c.args.self.now.interner;
+    } in
+    other_by_parts m c.args.self.now.inner c.requires.lawful.sound c.args.term.now c.in_default.not-Ty
+    (sort_known m sorted c.args.term.now c.requires.term_known)
+
+pub returns-clause-is_in : goal.returns-clause-is_in
+returns-clause-is_in g c =
+    let m = g.I.Interner.meaning c.args.self.now.interner in
+    c.shallow_resolve.ensures.resolves.is_in
+    (subst (λ p. IsTermIn (store_of m c.args.self.now.inner) (part_tree m p)) c.in-Ty.is c.requires.term_in)
+
+pub returns-clause-by_parts : goal.returns-clause-by_parts
+returns-clause-by_parts g c =
+    let m = g.I.Interner.meaning c.args.self.now.interner in
+    shallow_by_parts (store_of m c.args.self.now.inner) (m.ty c.shallow_resolve.result)
+    c.shallow_resolve.ensures.shallow

@@ -1,0 +1,192 @@
+use Rattle.std.proofs.Common.{◌∙◌, ◌≡◌, IsTrue, sym, ap, subst, refl, true}
+use Rattle.std.proofs.lemmas.Bool.{and_parts}
+use Rattle.relation_terms.specs.Trees.{known, nil, cons, list_tree}
+use Rattle.relation_terms.specs.Meaning.{arg_tree}
+use Rattle.relation_terms.specs.Parts.{Fit, Alike, part_tree, parts_tree, part_of_arg}
+use Rattle.relation_terms.specs.declared.terms.part_kind.Part.TheVariants.{Ty, Const}
+use Rattle.relation_terms.specs.declared.terms.part_kind.Parts.TheVariants.{Empty, One, Two, Args, Tys, Branches}
+use Rattle.relation_terms.proofs.Stays.{stays_same, knows_as}
+use Rattle.relation_terms.proofs.Sorted.{Sorted}
+use Rattle.relation_terms.proofs.Members.{fit_args, fit_tys, fit_consts, fit_none, mapped}
+use Rattle.relation_terms.proofs.Parts.{fit_one, fit_two, arg_part, sort_known}
+use Rattle.relation_terms.proofs.terms.parts.members.make_parts.Goals as goal
+
+pub returns-in-Empty : goal.returns-in-Empty
+returns-in-Empty g c =
+    let m = g.I.Interner.meaning c.args.cx.now in
+    let xs = c.args.members.now in
+    let f = subst (λ p. Fit xs (parts_tree m p)) c.in-Empty.is c.requires.fits in
+    record {
+      grown = stays_same m;
+      sure = refl;
+      made = sym (fit_none (part_tree m) xs f);
+      alike = subst (λ p. Alike p Empty) (sym c.in-Empty.is) tt;
+      refused = tt;
+    }
+
+pub returns-in-One : goal.returns-in-One
+returns-in-One g c =
+    let m = g.I.Interner.meaning c.args.cx.now in
+    let xs = c.args.members.now in
+    let f = subst (λ p. Fit xs (parts_tree m p)) c.in-One.is c.requires.fits in
+    let s : Sorted m = record {
+      ty = g.met.I.Interner.is_ty c.args.cx.now;
+      region = g.met.I.Interner.is_region c.args.cx.now;
+      tys = g.met.I.Interner.are_tys c.args.cx.now;
+      const_ = g.met.I.Interner.is_const c.args.cx.now;
+      valtree = g.met.I.Interner.is_valtree c.args.cx.now;
+      args = g.met.I.Interner.are_args c.args.cx.now;
+      branches = g.met.I.Interner.are_branches c.args.cx.now;
+    } in
+    let p = c.in-One.field-0 in
+    let k : IsTrue (known (cons (part_tree m p) nil)) = subst (λ p. IsTrue (known (parts_tree m p))) c.in-One.is c.requires.like_known in
+    let x = c.index-members-0.result in
+    let o = fit_one m (part_tree m) xs (part_tree m p) x x f c.index-members-0.is in
+    record {
+      grown = stays_same m;
+      sure = knows_as (list_tree (part_tree m) xs) (cons (part_tree m x) nil) o.0 c.requires.members_known;
+      made = o.0;
+      alike = subst (λ p. Alike p (One x)) (sym c.in-One.is)
+          (o.1 ∙ sort_known m s p (and_parts (known (part_tree m p)) true k).0);
+      refused = tt;
+    }
+
+pub returns-in-Two : goal.returns-in-Two
+returns-in-Two g c =
+    let m = g.I.Interner.meaning c.args.cx.now in
+    let xs = c.args.members.now in
+    let f = subst (λ p. Fit xs (parts_tree m p)) c.in-Two.is c.requires.fits in
+    let s : Sorted m = record {
+      ty = g.met.I.Interner.is_ty c.args.cx.now;
+      region = g.met.I.Interner.is_region c.args.cx.now;
+      tys = g.met.I.Interner.are_tys c.args.cx.now;
+      const_ = g.met.I.Interner.is_const c.args.cx.now;
+      valtree = g.met.I.Interner.is_valtree c.args.cx.now;
+      args = g.met.I.Interner.are_args c.args.cx.now;
+      branches = g.met.I.Interner.are_branches c.args.cx.now;
+    } in
+    let p = c.in-Two.field-0 in
+    let q = c.in-Two.field-1 in
+    let k : IsTrue (known (cons (part_tree m p) (cons (part_tree m q) nil))) = subst (λ p. IsTrue (known (parts_tree m p))) c.in-Two.is c.requires.like_known in
+    let x = c.index-members-0-in-Two.result in
+    let y = c.index-members-1.result in
+    let o = fit_two m (part_tree m) xs (part_tree m p) (part_tree m q) x x y y f c.index-members-0-in-Two.is
+    c.index-members-1.is in
+    let h = and_parts (known (part_tree m p)) (known (cons (part_tree m q) nil)) k in
+    record {
+      grown = stays_same m;
+      sure = knows_as (list_tree (part_tree m) xs) (cons (part_tree m x) (cons (part_tree m y) nil)) o.0
+          c.requires.members_known;
+      made = o.0;
+      alike = subst (λ p. Alike p (Two x y)) (sym c.in-Two.is)
+          (o.1.0 ∙ sort_known m s p h.0, o.1.1 ∙ sort_known m s q (and_parts (known (part_tree m q)) true h.1).0);
+      refused = tt;
+    }
+
+pub args_of-requires : goal.args_of-requires
+args_of-requires g c =
+    let m = g.I.Interner.meaning c.args.cx.now in
+    let xs = c.args.members.now in
+    let f = subst (λ p. Fit xs (parts_tree m p)) c.in-Args.is c.requires.fits in
+    let a = c.in-Args.field-0 in
+    let k : IsTrue (known (m.args a)) = subst (λ p. IsTrue (known (parts_tree m p))) c.in-Args.is c.requires.like_known in
+    fit_args xs (m.args a) f (g.met.I.Interner.are_args c.args.cx.now a k)
+
+pub mk_args-requires : goal.mk_args-requires
+mk_args-requires g c =
+    let m = g.I.Interner.meaning c.args.cx.now in
+    let xs = c.args.members.now in
+    let l = c.in_ok-list-in-Args.list.items in
+    let q : list_tree (arg_tree m) c.deref.result.now ≡ list_tree (part_tree m) xs =
+    ap (list_tree (arg_tree m)) c.deref.ensures.value
+    ∙ mapped (arg_tree m) (part_tree m) part_of_arg (arg_part m) l xs c.in_ok-list-in-Args.ensures in
+    knows_as (list_tree (part_tree m) xs) (list_tree (arg_tree m) c.deref.result.now) q c.requires.members_known
+
+pub returns-in_ok-made-in-Args : goal.returns-in_ok-made-in-Args
+returns-in_ok-made-in-Args g c =
+    let m = g.I.Interner.meaning c.args.cx.now in
+    let xs = c.args.members.now in
+    let l = c.in_ok-list-in-Args.list.items in
+    let q : list_tree (arg_tree m) c.deref.result.now ≡ list_tree (part_tree m) xs =
+    ap (list_tree (arg_tree m)) c.deref.ensures.value
+    ∙ mapped (arg_tree m) (part_tree m) part_of_arg (arg_part m) l xs c.in_ok-list-in-Args.ensures in
+    let r = c.in_ok-made-in-Args.ensures in
+    record {
+      grown = r.grown;
+      sure = r.sure;
+      made = r.made ∙ q;
+      alike = subst (λ p. Alike p (Args c.in_ok-made-in-Args.made)) (sym c.in-Args.is) tt;
+      refused = tt;
+    }
+
+pub tys_of-requires : goal.tys_of-requires
+tys_of-requires g c =
+    let m = g.I.Interner.meaning c.args.cx.now in
+    let xs = c.args.members.now in
+    let f = subst (λ p. Fit xs (parts_tree m p)) c.in-Tys.is c.requires.fits in
+    let a = c.in-Tys.field-0 in
+    let k : IsTrue (known (m.tys a)) = subst (λ p. IsTrue (known (parts_tree m p))) c.in-Tys.is c.requires.like_known in
+    fit_tys xs (m.tys a) f (g.met.I.Interner.are_tys c.args.cx.now a k)
+
+pub mk_type_list-requires : goal.mk_type_list-requires
+mk_type_list-requires g c =
+    let m = g.I.Interner.meaning c.args.cx.now in
+    let xs = c.args.members.now in
+    let l = c.in_ok-list-in-Tys.list.items in
+    let q : list_tree m.ty c.deref-in-Tys.result.now ≡ list_tree (part_tree m) xs =
+    ap (list_tree m.ty) c.deref-in-Tys.ensures.value
+    ∙ mapped m.ty (part_tree m) (λ t. Ty t) (λ t. refl) l xs c.in_ok-list-in-Tys.ensures in
+    knows_as (list_tree (part_tree m) xs) (list_tree m.ty c.deref-in-Tys.result.now) q c.requires.members_known
+
+pub returns-in_ok-made-in-Tys : goal.returns-in_ok-made-in-Tys
+returns-in_ok-made-in-Tys g c =
+    let m = g.I.Interner.meaning c.args.cx.now in
+    let xs = c.args.members.now in
+    let l = c.in_ok-list-in-Tys.list.items in
+    let q : list_tree m.ty c.deref-in-Tys.result.now ≡ list_tree (part_tree m) xs =
+    ap (list_tree m.ty) c.deref-in-Tys.ensures.value
+    ∙ mapped m.ty (part_tree m) (λ t. Ty t) (λ t. refl) l xs c.in_ok-list-in-Tys.ensures in
+    let r = c.in_ok-made-in-Tys.ensures in
+    record {
+      grown = r.grown;
+      sure = r.sure;
+      made = r.made ∙ q;
+      alike = subst (λ p. Alike p (Tys c.in_ok-made-in-Tys.made)) (sym c.in-Tys.is) tt;
+      refused = tt;
+    }
+
+pub consts_of-requires : goal.consts_of-requires
+consts_of-requires g c =
+    let m = g.I.Interner.meaning c.args.cx.now in
+    let xs = c.args.members.now in
+    let f = subst (λ p. Fit xs (parts_tree m p)) c.in-Branches.is c.requires.fits in
+    let a = c.in-Branches.field-0 in
+    let k : IsTrue (known (m.branches a)) = subst (λ p. IsTrue (known (parts_tree m p))) c.in-Branches.is c.requires.like_known in
+    fit_consts xs (m.branches a) f (g.met.I.Interner.are_branches c.args.cx.now a k)
+
+pub mk_branches-requires : goal.mk_branches-requires
+mk_branches-requires g c =
+    let m = g.I.Interner.meaning c.args.cx.now in
+    let xs = c.args.members.now in
+    let l = c.in_ok-list-in-Branches.list.items in
+    let q : list_tree m.const_ c.deref-in-Branches.result.now ≡ list_tree (part_tree m) xs =
+    ap (list_tree m.const_) c.deref-in-Branches.ensures.value
+    ∙ mapped m.const_ (part_tree m) (λ t. Const t) (λ t. refl) l xs c.in_ok-list-in-Branches.ensures in
+    knows_as (list_tree (part_tree m) xs) (list_tree m.const_ c.deref-in-Branches.result.now) q c.requires.members_known
+
+pub returns-in_ok-made-in-Branches : goal.returns-in_ok-made-in-Branches
+returns-in_ok-made-in-Branches g c =
+    let m = g.I.Interner.meaning c.args.cx.now in
+    let xs = c.args.members.now in
+    let l = c.in_ok-list-in-Branches.list.items in
+    let q : list_tree m.const_ c.deref-in-Branches.result.now ≡ list_tree (part_tree m) xs =
+    ap (list_tree m.const_) c.deref-in-Branches.ensures.value
+    ∙ mapped m.const_ (part_tree m) (λ t. Const t) (λ t. refl) l xs c.in_ok-list-in-Branches.ensures in
+    let r = c.in_ok-made-in-Branches.ensures in
+    record {
+      grown = r.grown;
+      sure = r.sure;
+      made = r.made ∙ q;
+      alike = subst (λ p. Alike p (Branches c.in_ok-made-in-Branches.made)) (sym c.in-Branches.is) tt;
+      refused = tt;
+    }

@@ -1,0 +1,15 @@
+//! The parts of terms by their places: the one place that knows where the parts of each form stand.
+//!
+//! What goes through terms, as a fold or a visit, goes over parts, whatever the forms are. `parts_count`, `part` and
+//! `with_parts` speak of a term; `member_count`, `member` and `make_parts` of a list of parts: that of a term,
+//! `parts_of`, or one that stands by itself.
+mod forms;
+mod keys;
+mod members;
+mod whole;
+
+pub use keys::{
+    is_same, the_args, the_branches, the_const, the_region, the_ty, the_tys, the_valtree,
+};
+pub use members::{make_parts, member, member_count};
+pub use whole::{part, parts_count, parts_of, with_parts};
