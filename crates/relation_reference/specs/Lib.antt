@@ -1,11 +1,3 @@
-pub mod Forms
-pub mod Items
-pub mod Nodes
-pub mod Finding
-pub mod Empty
-pub mod Places
-pub mod Laws
-pub mod Adding
 pub mod Tables
 pub mod RefCtxt
 pub mod Solving

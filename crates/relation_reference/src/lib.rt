@@ -1,5 +1,4 @@
-//! A reference pair: an interner and an inference context, as plain as they can be.
+//! A reference context: an inference context as plain as it can be, over any interner.
 #![tactic(auto)]
 
 pub mod context;
-pub mod interner;

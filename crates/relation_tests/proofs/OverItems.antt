@@ -6,10 +6,10 @@ use Rattle.relation_terms.specs.Heads.{adt}
 use Rattle.relation_terms.specs.Trees.{Tree, node, known}
 use Rattle.relation_terms.specs.Meaning.{Extends}
 use Rattle.type_relations.specs.Parts.{head_of}
-use Rattle.relation_reference.specs.declared.interner.RefInterner.{RefInterner}
-use Rattle.relation_reference.specs.declared.interner.keys.NodeKey.{NodeKey}
-use Rattle.relation_reference.specs.declared.interner.keys.ItemId.{ItemId}
-use Rattle.relation_reference.specs.Adding.{meaning_in}
+use Rattle.reference_interner.specs.declared.RefInterner.{RefInterner}
+use Rattle.reference_interner.specs.declared.keys.NodeKey.{NodeKey}
+use Rattle.reference_interner.specs.declared.keys.ItemId.{ItemId}
+use Rattle.reference_interner.specs.Adding.{meaning_in}
 
 -- What is made of arguments when an interner has grown is of the form that a type had before.
 pub over_made : (s p q : RefInterner) (d : ItemId) (t ts us : Tree) →

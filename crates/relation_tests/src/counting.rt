@@ -1,9 +1,9 @@
 //! How many nodes the reference interner has.
 ghost use Rattle.std.specs.Prelude.{IsTrue, IfOk};
 ghost use Rattle.relation_terms.specs.Trees.{known};
-ghost use Rattle.relation_reference.specs.Adding.{meaning_in};
+ghost use Rattle.reference_interner.specs.Adding.{meaning_in};
 
-use relation_reference::interner::RefInterner;
+use reference_interner::RefInterner;
 use relation_terms::terms::{Interner, OutOfMemory, RegionKind, Ty, TyKind};
 use std::test::Fail;
 

@@ -3,7 +3,7 @@ ghost use Rattle.std.specs.Prelude.{IsTrue};
 ghost use Rattle.relation_terms.specs.Trees.{known};
 ghost use Rattle.relation_terms.specs.Meaning.{Extends};
 
-use relation_reference::interner::RefInterner;
+use reference_interner::RefInterner;
 use relation_terms::terms::{
     Const, Interner, OutOfMemory, Region, TermKind, Ty, TyKind, ValTreeKind,
 };

@@ -1,5 +1,5 @@
 //! Keys are read back as what they were made of, and what is made twice has one key.
-use relation_reference::interner::{ItemId, RefInterner};
+use reference_interner::{ItemId, RefInterner};
 use relation_terms::terms::{
     CoroutineId, GenericArgKind, Interner, OutOfMemory, RegionKind, TyKind,
 };

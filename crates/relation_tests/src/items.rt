@@ -1,5 +1,5 @@
 //! Items of the reference interner.
-use relation_reference::interner::{
+use reference_interner::{
     DefKind, GenericParam, GenericParamKind, ItemId, ItemKind, RefInterner, SymbolId,
 };
 use relation_terms::terms::{DefId, Interner, OutOfMemory, Variance};

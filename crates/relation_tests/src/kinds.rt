@@ -1,5 +1,5 @@
 //! What an argument and a term are, and of which item an id is.
-use relation_reference::interner::{ItemId, NodeKey};
+use reference_interner::{ItemId, NodeKey};
 use relation_terms::terms::{
     AdtId, ClosureId, CoroutineClosureId, CoroutineId, DefId, ForeignId, FunctionId,
     GenericArgKind, TermKind, TraitId, TyKey,

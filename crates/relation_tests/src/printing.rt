@@ -4,7 +4,7 @@ ghost use Rattle.relation_terms.specs.Trees.{known};
 ghost use Rattle.relation_terms.specs.Meaning.{Extends, kind_tree, const_tree};
 ghost use Rattle.relation_tools.specs.Faults.{KnowsError};
 
-use relation_reference::interner::{ItemId, NodeKey, RefInterner, SymbolId};
+use reference_interner::{ItemId, NodeKey, RefInterner, SymbolId};
 use relation_terms::terms::{
     AdtId, BoundConst, BoundTy, BoundVar, ClosureId, Const, ConstForm, ConstKind,
     CoroutineClosureId, CoroutineId, ExprKind, ExternAbi, FloatTy, ForeignId, FunctionId,

@@ -10,7 +10,7 @@ ghost use Rattle.relation_tests.specs.Concrete.{IsConcrete};
 ghost use Rattle.relation_tests.specs.Plain.{plain_state, plain_manner};
 
 use crate::plain::{PlainRelation, constraints_of};
-use relation_reference::interner::{
+use reference_interner::{
     DefKind, GenericParam, GenericParamKind, ItemId, ItemKind, RefInterner, SymbolId,
 };
 use relation_terms::predicate::{OutlivesPredicate, RegionConstraint, RegionEqPredicate};

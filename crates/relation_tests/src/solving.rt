@@ -8,8 +8,8 @@ ghost use Rattle.relation_reference.specs.Solving.{solving_in, solver_manner};
 ghost use Rattle.relation_reference.specs.Tables.{IsLawful};
 
 use crate::relating::{make_two, only, outlives};
+use reference_interner::{RefInterner, SymbolId};
 use relation_reference::context::{RefCtxt, SolverRelating};
-use relation_reference::interner::{RefInterner, SymbolId};
 use relation_terms::predicate::RegionConstraint;
 use relation_terms::terms::{Interner, ParamEnv, Ty, Variance};
 use relation_tools::error::RelateResult;

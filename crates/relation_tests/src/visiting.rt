@@ -2,7 +2,7 @@
 ghost use Rattle.std.specs.Prelude.{IsTrue};
 ghost use Rattle.relation_terms.specs.Trees.{known};
 
-use relation_reference::interner::{RefInterner, SymbolId};
+use reference_interner::{RefInterner, SymbolId};
 use relation_terms::terms::{
     Const, ConstKind, GenericArgKind, Interner, OutOfMemory, ParamConst, Region, TermKind, Ty,
     TyKind, ValTreeKind,

@@ -1,6 +1,6 @@
 //! What a run prints and answers, and what several calls on one context leave.
 use crate::rows::{ROWS, Row, answers, print, run};
-use relation_reference::interner::{NodeKey, RefInterner};
+use reference_interner::{NodeKey, RefInterner};
 use relation_terms::terms::TyKey;
 use relation_tools::error::{OutOfMemory, RelateFault, RelateFaultOf, TypeError, TypeErrorOf};
 use std::alloc::{AllocError, Global};

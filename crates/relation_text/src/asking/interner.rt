@@ -3,7 +3,7 @@
 use crate::naming::{Declared, Item, Program, Sort};
 use crate::printing::{ItemText, Parameter};
 use crate::reading::ItemSort;
-use relation_reference::interner::{
+use reference_interner::{
     DefKind, GenericParam, GenericParamKind, ItemId, ItemKind, RefInterner, SymbolId,
 };
 use relation_terms::terms::OutOfMemory;

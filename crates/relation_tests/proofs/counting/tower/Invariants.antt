@@ -1,6 +1,6 @@
 use Rattle.std.proofs.Common.{IsTrue}
 use Rattle.relation_terms.specs.Trees.{known}
-use Rattle.relation_reference.specs.Adding.{meaning_in}
+use Rattle.reference_interner.specs.Adding.{meaning_in}
 use Rattle.relation_tests.proofs.counting.tower.Given as goal
 
 abbrev pub invariant-loop : goal.invariant-loop

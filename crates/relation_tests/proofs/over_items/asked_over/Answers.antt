@@ -1,6 +1,6 @@
 use Rattle.relation_terms.specs.Heads.{adt}
 use Rattle.relation_terms.specs.Trees.{node}
-use Rattle.relation_reference.specs.Adding.{meaning_in}
+use Rattle.reference_interner.specs.Adding.{meaning_in}
 use Rattle.relation_tests.proofs.Concrete.{concrete_as, concrete_asked, concrete_known}
 use Rattle.relation_tests.proofs.over_items.asked_over.Goals as goal
 

@@ -1,7 +1,7 @@
 use Rattle.std.proofs.Common.{◌≡◌, sym, subst}
 use Rattle.relation_terms.specs.Heads.{adt}
 use Rattle.relation_terms.specs.Trees.{node}
-use Rattle.relation_reference.specs.Adding.{meaning_in}
+use Rattle.reference_interner.specs.Adding.{meaning_in}
 use Rattle.relation_tests.proofs.OverItems.{over_made}
 use Rattle.relation_tests.proofs.over_items.related_over.Goals as goal
 

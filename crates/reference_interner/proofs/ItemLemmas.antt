@@ -1,0 +1,227 @@
+-- The variances of a table's items, and that the trees of its nodes do not depend on them.
+use Rattle.std.proofs.Common.{ℕ, ◌≡◌, ◌≢◌, ◌<◌, ◌≤◌, List, [], ◌∷◌, ◌++◌, refl, ap, ap₂, sym, ◌∙◌, subst, length, map}
+use Rattle.std.proofs.Common.{get_or, inl, inr, Option, None}
+use Rattle.std.proofs.lemmas.Bool.{cases_lt}
+use Rattle.std.proofs.lemmas.List.{get_or-map, length-map, map-append, get_or_append_left, get_or_past}
+use Rattle.std.proofs.Math.Seq.{get_or-append_seam}
+use Rattle.relation_terms.proofs.Lists.{last_place}
+use Rattle.relation_terms.specs.Trees.{Tree, list_tree, cons}
+use Rattle.relation_terms.specs.Meaning.{kind_tree, region_tree, const_tree, valtree_tree, arg_tree}
+use Rattle.relation_terms.specs.declared.terms.enums.Variance.{Variance}
+use Rattle.relation_terms.specs.declared.terms.ty_kind.TyKind.{TyKind}
+use Rattle.relation_terms.specs.declared.terms.ty_kind.TyKind.TheVariants.{Bool, Char, Int, Uint, Float, Adt, Foreign}
+use Rattle.relation_terms.specs.declared.terms.ty_kind.TyKind.TheVariants.{Str, Array, Slice, RawPtr, Ref, FnDef}
+use Rattle.relation_terms.specs.declared.terms.ty_kind.TyKind.TheVariants.{Closure, CoroutineClosure, Coroutine}
+use Rattle.relation_terms.specs.declared.terms.ty_kind.TyKind.TheVariants.{CoroutineWitness, Never, Tuple, Infer}
+use Rattle.relation_terms.specs.declared.terms.ty_kind.TyKind.TheVariants.{Param as TyParam}
+use Rattle.relation_terms.specs.declared.terms.ty_kind.TyKind.TheVariants.{Placeholder as TyPlaceholder}
+use Rattle.relation_terms.specs.declared.terms.const_kind.ConstKind.{ConstKind}
+use Rattle.relation_terms.specs.declared.terms.const_kind.ConstKind.TheVariants.{Param as ConstParam}
+use Rattle.relation_terms.specs.declared.terms.const_kind.ConstKind.TheVariants.{Placeholder as ConstPlaceholder}
+use Rattle.relation_terms.specs.declared.terms.const_kind.ConstKind.TheVariants.{Value, Expr}
+use Rattle.relation_terms.specs.declared.terms.const_kind.ValTreeKind.{ValTreeKind}
+use Rattle.relation_terms.specs.declared.terms.const_kind.ValTreeKind.TheVariants.{Leaf, Branch}
+use Rattle.relation_terms.specs.declared.terms.region_kind.RegionKind.{RegionKind}
+use Rattle.relation_terms.specs.declared.terms.region_kind.RegionKind.TheVariants.{ReStatic, ReEarlyParam, ReVar}
+use Rattle.relation_terms.specs.declared.terms.generic_arg.GenericArgKind.{GenericArgKind}
+use Rattle.relation_terms.specs.declared.terms.generic_arg.GenericArgKind.TheVariants.{Lifetime, Ty, Const}
+use Rattle.reference_interner.specs.declared.keys.NodeKey.{NodeKey}
+use Rattle.reference_interner.specs.declared.keys.ItemId.{ItemId}
+use Rattle.reference_interner.specs.declared.keys.SymbolId.{SymbolId}
+use Rattle.reference_interner.specs.declared.items.Item.{Item}
+use Rattle.reference_interner.specs.declared.node.Node.{Node}
+use Rattle.reference_interner.specs.Forms.{Form, ty_form, region_form, const_form, valtree_form, args_form, tys_form}
+use Rattle.reference_interner.specs.Forms.{branches_form, environment_form, form_of}
+use Rattle.reference_interner.specs.Adding.{SameTerms, OthersStand, HasNoGenerics}
+use Rattle.reference_interner.specs.Items.{variances_at, alias_variances_of, alias_variances_at}
+use Rattle.reference_interner.specs.Nodes.{Entry, entry, meaning_of, form_sort, form_tree, entry_of, entries}
+use Rattle.reference_interner.specs.Nodes.{table_meaning}
+
+same_list : {A : Type 0} (f g : A → Tree) → ((x : A) → f x ≡ g x) → (xs : List A) → list_tree f xs ≡ list_tree g xs
+same_list f g h [] = refl
+same_list f g h (x ∷ xs) = ap₂ (λ y z. cons y z) (h x) (same_list f g h xs)
+
+module _ (as_before more : List Item) (es : List Entry) where
+  same_kind : (f : TyKind NodeKey ItemId SymbolId) →
+      kind_tree (meaning_of as_before es) f ≡ kind_tree (meaning_of more es) f
+  unfolding meaning_of
+  same_kind Bool = refl
+  same_kind Char = refl
+  same_kind (Int w) = refl
+  same_kind (Uint w) = refl
+  same_kind (Float w) = refl
+  same_kind (Adt d a) = refl
+  same_kind (Foreign d) = refl
+  same_kind Str = refl
+  same_kind (Array t c) = refl
+  same_kind (Slice t) = refl
+  same_kind (RawPtr t u) = refl
+  same_kind (Ref r t u) = refl
+  same_kind (FnDef d a) = refl
+  same_kind (Closure d a) = refl
+  same_kind (CoroutineClosure d a) = refl
+  same_kind (Coroutine d a) = refl
+  same_kind (CoroutineWitness d a) = refl
+  same_kind Never = refl
+  same_kind (Tuple ts) = refl
+  same_kind (TyParam p) = refl
+  same_kind (TyPlaceholder p) = refl
+  same_kind (Infer i) = refl
+
+  same_const : (f : ConstKind NodeKey SymbolId) →
+      const_tree (meaning_of as_before es) f ≡ const_tree (meaning_of more es) f
+  unfolding meaning_of
+  same_const (ConstParam p) = refl
+  same_const (ConstPlaceholder p) = refl
+  same_const (Value t v) = refl
+  same_const (Expr x a) = refl
+
+  same_valtree : (f : ValTreeKind NodeKey) →
+      valtree_tree (meaning_of as_before es) f ≡ valtree_tree (meaning_of more es) f
+  unfolding meaning_of
+  same_valtree (Leaf b n) = refl
+  same_valtree (Branch b) = refl
+
+  same_region : (f : RegionKind SymbolId) →
+      region_tree (meaning_of as_before es) f ≡ region_tree (meaning_of more es) f
+  unfolding meaning_of
+  same_region ReStatic = refl
+  same_region (ReEarlyParam p) = refl
+  same_region (ReVar v) = refl
+
+  same_arg : (a : GenericArgKind NodeKey) → arg_tree (meaning_of as_before es) a ≡ arg_tree (meaning_of more es) a
+  unfolding meaning_of
+  same_arg (Lifetime r) = refl
+  same_arg (Ty t) = refl
+  same_arg (Const c) = refl
+
+  same_form : (f : Form) → form_tree (meaning_of as_before es) f ≡ form_tree (meaning_of more es) f
+  unfolding meaning_of
+  same_form (ty_form f) = same_kind f
+  same_form (region_form f) = same_region f
+  same_form (const_form f) = same_const f
+  same_form (valtree_form f) = same_valtree f
+  same_form (args_form xs) =
+      same_list (arg_tree (meaning_of as_before es)) (arg_tree (meaning_of more es)) same_arg xs
+  same_form (tys_form ts) = refl
+  same_form (branches_form cs) = refl
+  same_form environment_form = refl
+
+-- A node's entry is one whatever the items are.
+pub same_entry : (items more : List Item) (ns : List Node) (n : Node) →
+    entry_of (table_meaning items ns) n ≡ entry_of (table_meaning more ns) n
+same_entry items more ns n = ap (entry (form_sort (form_of n))) (same_form items more (entries ns) (form_of n))
+
+-- The variances of an item that is there, and of none.
+pub variances_there : (items : List Item) (i : ℕ) (d : Item) → i < length items →
+    variances_at items i ≡ ((get_or items i d).variances).items
+variances_there items i d h = get_or-map (λ x. (x.variances).items) items i d [] h
+
+-- What an item declares of its parameters, and of an alias type of it.
+abbrev declared : Item → List Variance
+declared y = (y.variances).items
+
+abbrev alias_declared : Item → Option (List Variance)
+alias_declared y = alias_variances_of (y.kind).def (y.variances).items
+
+pub variances_past : (items : List Item) (i : ℕ) → length items ≤ i → variances_at items i ≡ []
+variances_past items i h =
+    get_or_past (map (λ x. (x.variances).items) items) i []
+    (subst (λ n. n ≤ i) (sym (length-map items (λ x. (x.variances).items))) h)
+
+alias_variances_past : (items : List Item) (i : ℕ) → length items ≤ i → alias_variances_at items i ≡ None
+alias_variances_past items i h =
+    get_or_past (map alias_declared items) i None
+    (subst (λ n. n ≤ i) (sym (length-map items alias_declared)) h)
+
+-- An id that no item has.
+pub no_generics : (items : List Item) (ns : List Node) (d : ℕ) → length items ≤ d →
+    HasNoGenerics (table_meaning items ns) d
+unfolding meaning_of
+no_generics items ns d h = record {
+  generics = ap length (variances_past items d h);
+  variances = variances_past items d h;
+  alias_variances = alias_variances_past items d h;
+}
+
+-- A list and one more element, read elsewhere than at its end.
+elsewhere : {A : Type 0} (xs : List A) (x d : A) (i : ℕ) → i ≢ length xs → get_or (xs ++ x ∷ []) i d ≡ get_or xs i d
+elsewhere xs x d i n = elim (cases_lt i (length xs)) [
+  | inl h ↦ get_or_append_left xs (x ∷ []) d i h
+  | inr h ↦ elim (cases_lt i (length (xs ++ x ∷ []))) [
+    | inl k ↦ absurd (n (last_place xs x i k h))
+    | inr k ↦ get_or_past (xs ++ x ∷ []) i d k ∙ sym (get_or_past xs i d h)
+  ]
+]
+
+-- What is read off a table and one more item.
+module _ {A : Type 0} (reads : Item → A) (items : List Item) (x : Item) (none : A) where
+  grown : map reads (items ++ x ∷ []) ≡ map reads items ++ reads x ∷ []
+  grown = map-append reads items (x ∷ [])
+
+  read_new : get_or (map reads (items ++ x ∷ [])) (length items) none ≡ reads x
+  read_new =
+      ap (λ vs. get_or vs (length items) none) grown ∙
+      ap (λ n. get_or (map reads items ++ reads x ∷ []) n none) (sym (length-map items reads)) ∙
+      get_or-append_seam (map reads items) (reads x) [] none
+
+  read_other : (e : ℕ) → e ≢ length items →
+      get_or (map reads (items ++ x ∷ [])) e none ≡ get_or (map reads items) e none
+  read_other e n =
+      ap (λ vs. get_or vs e none) grown ∙
+      elsewhere (map reads items) (reads x) none e (λ p. n (p ∙ length-map items reads))
+
+-- The terms are the same with any items.
+pub same_terms : (items more : List Item) (ns : List Node) → SameTerms (table_meaning items ns) (table_meaning more ns)
+unfolding meaning_of
+same_terms items more ns = record {
+  ty = λ k. refl;
+  region = λ k. refl;
+  const_ = λ k. refl;
+  args = λ k. refl;
+  tys = λ k. refl;
+  pat = λ k. refl;
+  valtree = λ k. refl;
+  branches = λ k. refl;
+  alternatives = λ k. refl;
+  existential_predicates = λ k. refl;
+  bound_vars = λ k. refl;
+  predicate = λ k. refl;
+  clause = λ k. refl;
+  param_env = λ k. refl;
+  id = λ d. refl;
+  name = λ s. refl;
+}
+
+-- What an item that was added leaves.
+module _ (items more : List Item) (x : Item) (ns : List Node) (d : ℕ) (added : more ≡ items ++ x ∷ [])
+    (number : d ≡ length items) where
+  pub new_variances : (table_meaning more ns).variances d ≡ (x.variances).items
+  unfolding meaning_of
+  new_variances = ap₂ (λ ys e. variances_at ys e) added number ∙ read_new declared items x []
+
+  pub new_alias_variances : (table_meaning more ns).alias_variances d ≡ alias_declared x
+  unfolding meaning_of
+  new_alias_variances = ap₂ (λ ys e. alias_variances_at ys e) added number ∙ read_new alias_declared items x None
+
+  pub new_generics : (table_meaning more ns).generics d ≡ length (x.variances).items
+  unfolding meaning_of
+  new_generics = ap length new_variances
+
+  other_variances : (e : ℕ) → e ≢ d → variances_at more e ≡ variances_at items e
+  other_variances e n =
+      ap (λ ys. variances_at ys e) added ∙
+      read_other declared items x [] e (λ p. n (p ∙ sym number))
+
+  other_alias_variances : (e : ℕ) → e ≢ d → alias_variances_at more e ≡ alias_variances_at items e
+  other_alias_variances e n =
+      ap (λ ys. alias_variances_at ys e) added ∙
+      read_other alias_declared items x None e (λ p. n (p ∙ sym number))
+
+  pub others_stand : OthersStand (table_meaning items ns) (table_meaning more ns) d
+  unfolding meaning_of
+  others_stand = record {
+    generics = λ e n. ap length (other_variances e n);
+    variances = λ e n. other_variances e n;
+    alias_variances = λ e n. other_alias_variances e n;
+  }

@@ -1,0 +1,5 @@
+pub mod ItemLemmas
+pub mod TableLemmas
+pub mod AlikeLemmas
+pub mod OnceLemmas
+pub mod FindingLemmas

@@ -1,0 +1,38 @@
+use Rattle.std.proofs.Common.{ℕ, ◌≡◌, Option, Some, cond, length, subst, sym, ◌∙◌, ap, ◌++◌, ◌∷◌, []}
+use Rattle.std.specs.HashMap.{get}
+use Rattle.reference_interner.specs.declared.node.Node.{Node}
+use Rattle.reference_interner.specs.Nodes.{AllKnown, AllDistinct}
+use Rattle.reference_interner.specs.Finding.{Finds}
+use Rattle.reference_interner.proofs.AlikeLemmas.{node_eq}
+use Rattle.reference_interner.proofs.ItemLemmas.{same_entry}
+use Rattle.reference_interner.proofs.OnceLemmas.{known_alone, all_known, all_distinct, new_at}
+use Rattle.reference_interner.proofs.FindingLemmas.{finds_more}
+use Rattle.reference_interner.proofs.RefInterner.put.Goals as goal
+
+pub invariant_of-self-2 : goal.invariant_of-self-2
+invariant_of-self-2 c =
+    let ns = c.args.self.now.nodes.items in
+    let n = c.args.node in
+    let find : Node → Option ℕ = get node_eq c.args.self.now.places in
+    let more : Node → Option ℕ = get node_eq c.insert.new.self in
+    let k = known_alone ns n c.args.self.now.items.items c.requires.known in
+    let e : c.push_reserved.new.self.items ≡ ns ++ n ∷ [] =
+    c.push_reserved.ensures.items ∙ ap (λ xs. xs ++ n ∷ []) c.reserve.ensures.items in
+    let l : c.len-number.result ≡ length ns = c.len-number.ensures ∙ c.args.self.now.nodes.ok.0 in
+    let put : (q : Node) → more q ≡ cond (node_eq c.in_ok-known.known q) (Some (length ns)) (find q) =
+    λ q. c.in_ok-insert.ensures.updates.0 q ∙ ap (λ i. cond (node_eq c.in_ok-known.known q) (Some i) (find q)) l in
+    record {
+      known_all = subst AllKnown (sym e) (all_known ns n c.args.self.now.known_all k);
+      distinct = subst AllDistinct (sym e) (all_distinct ns n c.args.self.now.distinct k c.requires.new);
+      finds =
+          subst (λ xs. Finds xs more) (sym e)
+          (finds_more ns n c.in_ok-known.known c.in_ok-known.ensures find more put c.args.self.now.finds);
+    }
+
+pub returns-clause-number : goal.returns-clause-number
+returns-clause-number c =
+    let ns = c.args.self.now.nodes.items in
+    let n = c.args.node in
+    new_at ns n c.push_reserved.new.self.items c.len-number.result
+    (c.push_reserved.ensures.items ∙ ap (λ xs. xs ++ n ∷ []) c.reserve.ensures.items)
+    (c.len-number.ensures ∙ c.args.self.now.nodes.ok.0) ∙ same_entry [] c.args.self.now.items.items ns n

@@ -1,0 +1,72 @@
+-- What adding an item changes.
+use Rattle.std.specs.Prelude.{◌≡◌, ◌≢◌, ℕ, List, [], None, length}
+use Rattle.relation_terms.specs.Meaning.{Meaning}
+use Rattle.relation_terms.specs.declared.terms.keys.TyKey.{TyKey}
+use Rattle.relation_terms.specs.declared.terms.keys.RegionKey.{RegionKey}
+use Rattle.relation_terms.specs.declared.terms.keys.ConstKey.{ConstKey}
+use Rattle.relation_terms.specs.declared.terms.keys.ArgsKey.{ArgsKey}
+use Rattle.relation_terms.specs.declared.terms.keys.TysKey.{TysKey}
+use Rattle.relation_terms.specs.declared.terms.keys.PatKey.{PatKey}
+use Rattle.relation_terms.specs.declared.terms.keys.ValTreeKey.{ValTreeKey}
+use Rattle.relation_terms.specs.declared.terms.keys.BranchesKey.{BranchesKey}
+use Rattle.relation_terms.specs.declared.terms.keys.AlternativesKey.{AlternativesKey}
+use Rattle.relation_terms.specs.declared.terms.keys.ExistentialPredicatesKey.{ExistentialPredicatesKey}
+use Rattle.relation_terms.specs.declared.terms.keys.BoundVarsKey.{BoundVarsKey}
+use Rattle.relation_terms.specs.declared.terms.keys.PredicateKey.{PredicateKey}
+use Rattle.relation_terms.specs.declared.terms.keys.ClauseKey.{ClauseKey}
+use Rattle.relation_terms.specs.declared.terms.keys.ParamEnvKey.{ParamEnvKey}
+use Rattle.reference_interner.specs.declared.keys.NodeKey.{NodeKey}
+use Rattle.reference_interner.specs.declared.keys.ItemId.{ItemId}
+use Rattle.reference_interner.specs.declared.keys.SymbolId.{SymbolId}
+use Rattle.reference_interner.specs.declared.items.Item.{Item}
+use Rattle.reference_interner.specs.declared.RefInterner.{RefInterner}
+use Rattle.reference_interner.specs.Nodes.{table_meaning}
+
+-- What the keys and ids of an interner mean.
+abbrev pub meaning_in : RefInterner → Meaning NodeKey ItemId SymbolId
+meaning_in s = table_meaning s.items.items s.nodes.items
+
+-- The items that were added, in order.
+abbrev pub items_of : RefInterner → List Item
+items_of s = s.items.items
+
+-- How many nodes there are, of all sorts.
+abbrev pub node_count : RefInterner → ℕ
+node_count s = length s.nodes.items
+
+-- How many items were added.
+abbrev pub item_count : RefInterner → ℕ
+item_count s = length (items_of s)
+
+module _ {Key Id Name : Type 0} (m n : Meaning Key Id Name) where
+  -- Each key has one tree by both, and each id and each name one number.
+  pub record SameTerms : Type 0 where
+    pub ty : (k : TyKey Key) → n.ty k ≡ m.ty k
+    pub region : (k : RegionKey Key) → n.region k ≡ m.region k
+    pub const_ : (k : ConstKey Key) → n.const_ k ≡ m.const_ k
+    pub args : (k : ArgsKey Key) → n.args k ≡ m.args k
+    pub tys : (k : TysKey Key) → n.tys k ≡ m.tys k
+    pub pat : (k : PatKey Key) → n.pat k ≡ m.pat k
+    pub valtree : (k : ValTreeKey Key) → n.valtree k ≡ m.valtree k
+    pub branches : (k : BranchesKey Key) → n.branches k ≡ m.branches k
+    pub alternatives : (k : AlternativesKey Key) → n.alternatives k ≡ m.alternatives k
+    pub existential_predicates : (k : ExistentialPredicatesKey Key) →
+        n.existential_predicates k ≡ m.existential_predicates k
+    pub bound_vars : (k : BoundVarsKey Key) → n.bound_vars k ≡ m.bound_vars k
+    pub predicate : (k : PredicateKey Key) → n.predicate k ≡ m.predicate k
+    pub clause : (k : ClauseKey Key) → n.clause k ≡ m.clause k
+    pub param_env : (k : ParamEnvKey Key) → n.param_env k ≡ m.param_env k
+    pub id : (d : Id) → n.id d ≡ m.id d
+    pub name : (s : Name) → n.name s ≡ m.name s
+
+  -- The items of all numbers but one have the generic parameters that they had.
+  pub record OthersStand (d : ℕ) : Type 0 where
+    pub generics : (e : ℕ) → e ≢ d → n.generics e ≡ m.generics e
+    pub variances : (e : ℕ) → e ≢ d → n.variances e ≡ m.variances e
+    pub alias_variances : (e : ℕ) → e ≢ d → n.alias_variances e ≡ m.alias_variances e
+
+-- The item of a number has no generic parameters.
+pub record HasNoGenerics {Key Id Name : Type 0} (m : Meaning Key Id Name) (d : ℕ) : Type 0 where
+  pub generics : m.generics d ≡ 0
+  pub variances : m.variances d ≡ []
+  pub alias_variances : m.alias_variances d ≡ None

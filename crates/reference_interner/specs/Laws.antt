@@ -1,0 +1,159 @@
+-- What holds of the keys of a table: each reads a term of its sort, and in a table in which nothing stands twice keys
+-- of one tree are one key.
+use Rattle.std.proofs.Common.{ℕ, ◌≡◌, ◌↔◌, IsTrue, List, [], ◌∷◌, ◌++◌, length, get_or, eqb, ap, sym, ◌∙◌}
+use Rattle.std.proofs.Common.{subst, inl, inr}
+use Rattle.std.proofs.lemmas.Bool.{eqb-true, eq-eqb, cases_lt}
+use Rattle.std.proofs.lemmas.List.{get_or_append_left, get_or_past}
+use Rattle.std.proofs.Math.Seq.{get_or-append_seam}
+use Rattle.relation_terms.specs.Heads.{type_sort, region_sort, const_sort, value_sort, argument_sort, environment_sort}
+use Rattle.relation_terms.specs.Trees.{Tree, known, IsTerm, AreTerms}
+use Rattle.relation_terms.specs.Meaning.{Meaning, arg_tree}
+use Rattle.relation_terms.proofs.Sorted.{Sorted, kind_sorted, region_sorted, const_sorted, valtree_sorted, arg_sorted}
+use Rattle.relation_terms.proofs.Sorted.{list_sorted, environment_sorted}
+use Rattle.relation_terms.proofs.Once.{Injective}
+use Rattle.relation_terms.proofs.Lists.{last_place}
+use Rattle.reference_interner.specs.declared.keys.NodeKey.{NodeKey}
+use Rattle.reference_interner.specs.declared.keys.ItemId.{ItemId}
+use Rattle.reference_interner.specs.declared.keys.SymbolId.{SymbolId}
+use Rattle.reference_interner.specs.declared.items.Item.{Item}
+use Rattle.reference_interner.specs.declared.node.Node.{Node}
+use Rattle.reference_interner.specs.Forms.{Form, ty_form, region_form, const_form, valtree_form, args_form, tys_form}
+use Rattle.reference_interner.specs.Forms.{branches_form, environment_form, form_of}
+use Rattle.reference_interner.specs.Nodes.{NodeSort, ty_node, region_node, const_node, valtree_node, args_node}
+use Rattle.reference_interner.specs.Nodes.{tys_node, branches_node, environment_node}
+use Rattle.reference_interner.specs.Nodes.{Entry, no_entry, entry, tree_as, meaning_of, form_sort, form_tree, entry_of}
+use Rattle.reference_interner.specs.Nodes.{entries_from, entries, table_meaning, known_entry, AllDistinct}
+use Rattle.reference_interner.specs.Places.{known_in, of_sort, tree_of_key, key_reads}
+
+-- The tree is a term, or a list of terms, as a node of the sort has.
+abbrev pub IsOfSort : NodeSort → Tree → Type 0
+IsOfSort ty_node t = IsTerm type_sort t
+IsOfSort region_node t = IsTerm region_sort t
+IsOfSort const_node t = IsTerm const_sort t
+IsOfSort valtree_node t = IsTerm value_sort t
+IsOfSort args_node t = AreTerms argument_sort t
+IsOfSort tys_node t = AreTerms type_sort t
+IsOfSort branches_node t = AreTerms const_sort t
+IsOfSort environment_node t = IsTerm environment_sort t
+
+-- A known tree of an entry is of the entry's sort.
+abbrev IsSorted : Entry → Type 0
+IsSorted no_entry = Unit {0}
+IsSorted (entry s t) = IsTrue (known t) → IsOfSort s t
+
+-- All entries are sorted.
+abbrev AllSorted : List Entry → Type 0
+AllSorted es = (i : ℕ) → IsSorted (get_or es i no_entry)
+
+sorted_as : (s : NodeSort) (e : Entry) → IsSorted e → IsTrue (known (tree_as s e)) → IsOfSort s (tree_as s e)
+sorted_as s e h k = subst IsSorted (of_sort s e k) h k
+
+-- What a key reads is of its sort.
+key_sorted : (items : List Item) (es : List Entry) → AllSorted es → (s : NodeSort) (i : ℕ) →
+    IsTrue (known (tree_of_key s (meaning_of items es) i)) → IsOfSort s (tree_of_key s (meaning_of items es) i)
+key_sorted items es h s i k =
+    let e = key_reads items es s i in
+    subst (IsOfSort s) (sym e) (sorted_as s (get_or es i no_entry) (h i) (subst (λ t. IsTrue (known t)) e k))
+
+sorted : (items : List Item) (es : List Entry) → AllSorted es → Sorted (meaning_of items es)
+sorted items es h = record {
+  ty = λ k. key_sorted items es h ty_node (k.0).0;
+  region = λ k. key_sorted items es h region_node (k.0).0;
+  tys = λ k. key_sorted items es h tys_node (k.0).0;
+  const_ = λ k. key_sorted items es h const_node (k.0).0;
+  valtree = λ k. key_sorted items es h valtree_node (k.0).0;
+  args = λ k. key_sorted items es h args_node (k.0).0;
+  branches = λ k. key_sorted items es h branches_node (k.0).0;
+}
+
+form_sorted : (m : Meaning NodeKey ItemId SymbolId) → Sorted m → (f : Form) → IsTrue (known (form_tree m f)) →
+    IsOfSort (form_sort f) (form_tree m f)
+form_sorted m s (ty_form f) k = kind_sorted m s f k
+form_sorted m s (region_form f) k = region_sorted m f
+form_sorted m s (const_form f) k = const_sorted m s f k
+form_sorted m s (valtree_form f) k = valtree_sorted m s f k
+form_sorted m s (args_form xs) k = list_sorted argument_sort (arg_tree m) (arg_sorted m s) xs k
+form_sorted m s (tys_form ts) k = list_sorted type_sort m.ty s.ty ts k
+form_sorted m s (branches_form cs) k = list_sorted const_sort m.const_ s.const_ cs k
+form_sorted m s environment_form k = environment_sorted
+
+one_more : (es : List Entry) (e : Entry) → AllSorted es → IsSorted e → AllSorted (es ++ e ∷ [])
+one_more es e s h = λ i. elim (cases_lt i (length (es ++ e ∷ []))) [
+  | inl p ↦ elim (cases_lt i (length es)) [
+    | inl q ↦ subst IsSorted (sym (get_or_append_left es (e ∷ []) no_entry i q)) (s i)
+    | inr q ↦
+        let z = last_place es e i p q in
+        subst IsSorted (sym (ap (λ j. get_or (es ++ e ∷ []) j no_entry) z ∙ get_or-append_seam es e [] no_entry)) h
+  ]
+  | inr p ↦ subst IsSorted (sym (get_or_past (es ++ e ∷ []) i no_entry p)) tt
+]
+
+sorted_from : (es : List Entry) (ns : List Node) → AllSorted es → AllSorted (entries_from es ns)
+sorted_from es [] s = s
+sorted_from es (n ∷ ns) s =
+    let m = meaning_of [] es in
+    sorted_from (es ++ entry_of m n ∷ []) ns
+    (one_more es (entry_of m n) s (form_sorted m (sorted [] es s) (form_of n)))
+
+pub all_sorted : (items : List Item) (ns : List Node) → Sorted (table_meaning items ns)
+all_sorted items ns = sorted items (entries ns) (sorted_from [] ns (λ i. tt))
+
+module _ (items : List Item) (ns : List Node) where
+  -- The tree of a known key is a term of its sort.
+  pub sort_law : (s : NodeSort) (i : ℕ) → IsTrue (known (tree_of_key s (table_meaning items ns) i)) →
+      IsOfSort s (tree_of_key s (table_meaning items ns) i)
+  sort_law s i k = key_sorted items (entries ns) (sorted_from [] ns (λ j. tt)) s i k
+
+  pub same_name_law : (x y : SymbolId) →
+      (IsTrue (eqb x.0 y.0) ↔ ((table_meaning items ns).name x ≡ (table_meaning items ns).name y))
+  unfolding meaning_of
+  same_name_law x y = (λ h. eqb-true x.0 y.0 h, λ e. eq-eqb x.0 y.0 e)
+
+  pub same_id_law : (d e : ItemId) →
+      (IsTrue (eqb d.0 e.0) ↔ ((table_meaning items ns).id d ≡ (table_meaning items ns).id e))
+  unfolding meaning_of
+  same_id_law d e = (λ h. eqb-true d.0 e.0 h, λ p. eq-eqb d.0 e.0 p)
+
+-- Known entries that are one stand at one place.
+same_place : (ns : List Node) → AllDistinct ns → (i j : ℕ) (e : Entry) → IsTrue (known_entry e) →
+    get_or (entries ns) i no_entry ≡ e → get_or (entries ns) j no_entry ≡ e → i ≡ j
+same_place ns d i j e k p q =
+    d i j (known_in ns i (subst (λ x. IsTrue (known_entry x)) (sym p) k))
+    (known_in ns j (subst (λ x. IsTrue (known_entry x)) (sym q) k)) (p ∙ sym q)
+
+module _ (items : List Item) (ns : List Node) (d : AllDistinct ns) where
+  -- Known keys of one tree are one, at any sort.
+  once : (s : NodeSort) (i j : ℕ) → IsTrue (known (tree_of_key s (table_meaning items ns) i)) →
+      tree_of_key s (table_meaning items ns) i ≡ tree_of_key s (table_meaning items ns) j → i ≡ j
+  once s i j k e =
+      let a = key_reads items (entries ns) s i in
+      let b = key_reads items (entries ns) s j in
+      let u = tree_as s (get_or (entries ns) j no_entry) in
+      let h : IsTrue (known (tree_as s (get_or (entries ns) i no_entry))) = subst (λ x. IsTrue (known x)) a k in
+      let same : tree_as s (get_or (entries ns) i no_entry) ≡ u = sym a ∙ e ∙ b in
+      let l : IsTrue (known u) = subst (λ x. IsTrue (known x)) same h in
+      same_place ns d i j (entry s u) l
+      (of_sort s (get_or (entries ns) i no_entry) h ∙ ap (entry s) same) (of_sort s (get_or (entries ns) j no_entry) l)
+
+  pub injective : Injective (table_meaning items ns)
+  unfolding meaning_of
+  injective = record {
+    ty = λ k l h e. ap (λ n. record { 0 = record { 0 = n } }) (once ty_node (k.0).0 (l.0).0 h e);
+    region = λ k l h e. ap (λ n. record { 0 = record { 0 = n } }) (once region_node (k.0).0 (l.0).0 h e);
+    const_ = λ k l h e. ap (λ n. record { 0 = record { 0 = n } }) (once const_node (k.0).0 (l.0).0 h e);
+    args = λ k l h e. ap (λ n. record { 0 = record { 0 = n } }) (once args_node (k.0).0 (l.0).0 h e);
+    tys = λ k l h e. ap (λ n. record { 0 = record { 0 = n } }) (once tys_node (k.0).0 (l.0).0 h e);
+    valtree = λ k l h e. ap (λ n. record { 0 = record { 0 = n } }) (once valtree_node (k.0).0 (l.0).0 h e);
+    branches = λ k l h e. ap (λ n. record { 0 = record { 0 = n } }) (once branches_node (k.0).0 (l.0).0 h e);
+    id = λ x y e. ap (λ n. record { 0 = n }) e;
+    name = λ x y e. ap (λ n. record { 0 = n }) e;
+  }
+
+  -- Known keys of a sort are equal exactly where their trees are.
+  pub same_law : (s : NodeSort) (i j : ℕ) → IsTrue (known (tree_of_key s (table_meaning items ns) i)) →
+      IsTrue (known (tree_of_key s (table_meaning items ns) j)) →
+      (IsTrue (eqb i j) ↔ (tree_of_key s (table_meaning items ns) i ≡ tree_of_key s (table_meaning items ns) j))
+  same_law s i j h _ = (
+    λ e. ap (λ n. tree_of_key s (table_meaning items ns) n) (eqb-true i j e),
+    λ e. eq-eqb i j (once s i j h e),
+  )

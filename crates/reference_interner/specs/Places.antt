@@ -1,0 +1,91 @@
+-- Where the entries of a table stand.
+use Rattle.std.proofs.Common.{ℕ, ◌+◌, ◌<◌, ◌≡◌, IsTrue, List, [], ◌∷◌, ◌++◌, length, get_or, inl, inr, refl, sym, ◌∙◌}
+use Rattle.std.proofs.Common.{subst, add-zero, zero-add, true}
+use Rattle.std.proofs.lemmas.Bool.{false≢true, cases_lt}
+use Rattle.std.proofs.lemmas.List.{get_or_past}
+use Rattle.relation_terms.specs.Trees.{Tree, known}
+use Rattle.relation_terms.specs.Meaning.{Meaning}
+use Rattle.relation_terms.proofs.Lists.{length_after}
+use Rattle.reference_interner.specs.declared.keys.NodeKey.{NodeKey}
+use Rattle.reference_interner.specs.declared.keys.ItemId.{ItemId}
+use Rattle.reference_interner.specs.declared.keys.SymbolId.{SymbolId}
+use Rattle.reference_interner.specs.declared.items.Item.{Item}
+use Rattle.reference_interner.specs.declared.node.Node.{Node}
+use Rattle.reference_interner.specs.Nodes.{NodeSort, ty_node, region_node, const_node, valtree_node, args_node}
+use Rattle.reference_interner.specs.Nodes.{tys_node, branches_node, environment_node, same_sort}
+use Rattle.reference_interner.specs.Nodes.{Entry, no_entry, entry, tree_as, meaning_of, entry_of}
+use Rattle.reference_interner.specs.Nodes.{entries_from, entries, known_entry}
+
+pub length_entries : (es : List Entry) (ns : List Node) → length (entries_from es ns) ≡ length es + length ns
+length_entries es [] = sym (add-zero (length es))
+length_entries es (n ∷ ns) =
+    let e = entry_of (meaning_of [] es) n in
+    length_after es e (length ns) (length (entries_from (es ++ e ∷ []) ns)) (length_entries (es ++ e ∷ []) ns)
+
+pub entries_there : (ns : List Node) → length (entries ns) ≡ length ns
+entries_there ns = length_entries [] ns ∙ zero-add (length ns)
+
+-- What is known stands in the table.
+pub known_in : (ns : List Node) (i : ℕ) → IsTrue (known_entry (get_or (entries ns) i no_entry)) → i < length ns
+known_in ns i k = elim (cases_lt i (length (entries ns))) [
+  | inl h ↦ subst (λ n. i < n) (entries_there ns) h
+  | inr h ↦ absurd (false≢true (subst (λ e. IsTrue (known_entry e)) (get_or_past (entries ns) i no_entry h) k))
+]
+
+pub sort_itself : (s : NodeSort) → same_sort s s ≡ true
+sort_itself ty_node = refl
+sort_itself region_node = refl
+sort_itself const_node = refl
+sort_itself valtree_node = refl
+sort_itself args_node = refl
+sort_itself tys_node = refl
+sort_itself branches_node = refl
+sort_itself environment_node = refl
+
+-- An entry that reads as known, at a sort, is one of that sort.
+pub of_sort : (s : NodeSort) (e : Entry) → IsTrue (known (tree_as s e)) → e ≡ entry s (tree_as s e)
+of_sort ty_node (entry ty_node t) k = refl
+of_sort region_node (entry region_node t) k = refl
+of_sort const_node (entry const_node t) k = refl
+of_sort valtree_node (entry valtree_node t) k = refl
+of_sort args_node (entry args_node t) k = refl
+of_sort tys_node (entry tys_node t) k = refl
+of_sort branches_node (entry branches_node t) k = refl
+of_sort environment_node (entry environment_node t) k = refl
+of_sort s e k = absurd (false≢true k)
+
+-- A tree reads as itself at its entry's sort.
+pub reads_itself : (s : NodeSort) (t : Tree) → tree_as s (entry s t) ≡ t
+reads_itself s t = rw (sort_itself s) refl
+
+-- What is known at a sort is known.
+pub sure_of : (s : NodeSort) (e : Entry) → IsTrue (known (tree_as s e)) → IsTrue (known_entry e)
+sure_of s e k = subst (λ x. IsTrue (known_entry x)) (sym (of_sort s e k)) k
+
+-- The tree of the key that has a number, at a sort.
+abbrev pub tree_of_key : NodeSort → Meaning NodeKey ItemId SymbolId → ℕ → Tree
+tree_of_key ty_node m i = m.ty (record { 0 = record { 0 = i } })
+tree_of_key region_node m i = m.region (record { 0 = record { 0 = i } })
+tree_of_key const_node m i = m.const_ (record { 0 = record { 0 = i } })
+tree_of_key valtree_node m i = m.valtree (record { 0 = record { 0 = i } })
+tree_of_key args_node m i = m.args (record { 0 = record { 0 = i } })
+tree_of_key tys_node m i = m.tys (record { 0 = record { 0 = i } })
+tree_of_key branches_node m i = m.branches (record { 0 = record { 0 = i } })
+tree_of_key environment_node m i = m.param_env (record { 0 = record { 0 = i } })
+
+-- A key of the number, of some sort, is known.
+abbrev pub HasKey : Meaning NodeKey ItemId SymbolId → ℕ → Type 0
+HasKey m i = (s : NodeSort) × IsTrue (known (tree_of_key s m i))
+
+-- A key's tree is that of the entry at its number.
+pub key_reads : (items : List Item) (es : List Entry) (s : NodeSort) (i : ℕ) →
+    tree_of_key s (meaning_of items es) i ≡ tree_as s (get_or es i no_entry)
+unfolding meaning_of
+key_reads items es ty_node i = refl
+key_reads items es region_node i = refl
+key_reads items es const_node i = refl
+key_reads items es valtree_node i = refl
+key_reads items es args_node i = refl
+key_reads items es tys_node i = refl
+key_reads items es branches_node i = refl
+key_reads items es environment_node i = refl

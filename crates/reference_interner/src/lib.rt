@@ -1,0 +1,294 @@
+//! A reference interner, as plain as it can be: its keys are the numbers of nodes, and its ids the numbers of items.
+#![tactic(auto)]
+
+ghost use Rattle.std.specs.Prelude.{◌≡◌, ◌≤◌, suc, IsTrue, IfOk, OnErr};
+ghost use Rattle.std.specs.HashMap.{get};
+ghost use Rattle.reference_interner.specs.Empty.{KnowsNone};
+ghost use Rattle.reference_interner.specs.Nodes.{AllKnown, AllDistinct};
+ghost use Rattle.reference_interner.specs.Finding.{Finds};
+
+mod items;
+mod keys;
+mod node;
+mod table;
+
+pub use items::{DefKind, GenericParam, GenericParamKind, Item, ItemKind};
+pub use keys::{ItemId, NoSpan, NodeKey, SymbolId};
+pub use node::Node;
+use node::copied;
+use relation_terms::terms::{
+    ArgsKey, Branches, BranchesKey, Const, ConstForm, ConstKey, GenericArg, GenericArgs, Interner,
+    ItemOf, Keys, OutOfMemory, ParamEnv, ParamEnvKey, Region, RegionForm, RegionKey, Span, Ty,
+    TyForm, TyKey, Tys, TysKey, ValTree, ValTreeForm, ValTreeKey, Variance,
+};
+use std::alloc::Global;
+use std::collections::HashMap;
+
+/// An interner that keeps its nodes and its items in vectors. It finds a node by a hashed table, so that making takes
+/// the time of one look-up, however many nodes there are.
+#[derive(Drop)]
+pub struct RefInterner {
+    alloc: Global,
+    // What the keys stand for, by their numbers.
+    nodes: Vec<Node>,
+    // Where the nodes stand.
+    places: HashMap<Node, usize>,
+    // What the ids stand for, by their numbers.
+    items: Vec<Item>,
+    ghost known_all: { AllKnown nodes.items },
+    ghost distinct: { AllDistinct nodes.items },
+    ghost finds: { Finds nodes.items (get ⟦<Node as PartialEq>⟧.eq places) },
+}
+
+impl RefInterner {
+    ghost use Rattle.reference_interner.specs.Adding.{item_count, node_count};
+
+    /// An interner that knows no key and has no item. This takes no memory.
+    pub fn new(alloc: Global) -> RefInterner
+        ensures knows_none { KnowsNone (⟦<RefInterner as Interner>⟧.meaning result) }
+        ensures no_items { item_count result ≡ 0 }
+        ensures no_nodes { node_count result ≡ 0 }
+    {
+        RefInterner {
+            alloc,
+            nodes: Vec::new(alloc),
+            places: HashMap::new(alloc),
+            items: Vec::new(alloc),
+        }
+    }
+}
+
+impl Keys for RefInterner {
+    type Key = NodeKey;
+
+    type Id = ItemId;
+
+    type Name = SymbolId;
+
+    type Span = NoSpan;
+}
+
+impl Interner for RefInterner {
+    ghost use Rattle.relation_terms.specs.Heads.{environment};
+    ghost use Rattle.relation_terms.specs.Trees.{known, list_tree, node, nil};
+    ghost use Rattle.relation_terms.specs.Meaning.{Extends, kind_tree, region_tree, const_tree, valtree_tree, arg_tree};
+    ghost use Rattle.relation_terms.specs.Interning.{RemakesTy, RemakesRegion, RemakesConst, RemakesValTree};
+    ghost use Rattle.relation_terms.specs.Interning.{RemakesEmptyEnv, MakesTys, MakesArgs, MakesBranches};
+    ghost use Rattle.relation_terms.specs.Interning.{KeepsTys, KeepsArgs, KeepsBranches};
+    ghost use Rattle.reference_interner.specs.Nodes.{ty_node, region_node, const_node, valtree_node, args_node};
+    ghost use Rattle.reference_interner.specs.Nodes.{tys_node, branches_node, environment_node};
+    ghost use Rattle.reference_interner.specs.Adding.{meaning_in, node_count};
+    ghost use Rattle.reference_interner.specs.Laws.{sort_law, same_law, same_name_law, same_id_law};
+
+    ghost meaning = { λ s. meaning_in s };
+
+    fn alloc(&self) -> Global {
+        self.alloc
+    }
+
+    fn dummy_span(&self) -> Span<Self> {
+        NoSpan
+    }
+
+    fn ty_kind(&self, ty: &Ty<Self>) -> TyForm<Self> {
+        match &self.nodes[ty.0.0] {
+            Node::Ty(kind) => *kind,
+            _ => unreachable!(),
+        }
+    }
+
+    fn region_kind(&self, region: &Region<Self>) -> RegionForm<Self> {
+        match &self.nodes[region.0.0] {
+            Node::Region(kind) => *kind,
+            _ => unreachable!(),
+        }
+    }
+
+    fn tys(&self, tys: &Tys<Self>) -> &[Ty<Self>] {
+        match &self.nodes[tys.0.0] {
+            Node::Tys(list) => list.as_slice(),
+            _ => unreachable!(),
+        }
+    }
+
+    fn const_kind(&self, constant: &Const<Self>) -> ConstForm<Self> {
+        match &self.nodes[constant.0.0] {
+            Node::Const(kind) => *kind,
+            _ => unreachable!(),
+        }
+    }
+
+    fn valtree_kind(&self, valtree: &ValTree<Self>) -> ValTreeForm<Self> {
+        match &self.nodes[valtree.0.0] {
+            Node::ValTree(kind) => *kind,
+            _ => unreachable!(),
+        }
+    }
+
+    fn args(&self, args: &GenericArgs<Self>) -> &[GenericArg<Self>] {
+        match &self.nodes[args.0.0] {
+            Node::Args(list) => list.as_slice(),
+            _ => unreachable!(),
+        }
+    }
+
+    fn branches(&self, branches: &Branches<Self>) -> &[Const<Self>] {
+        match &self.nodes[branches.0.0] {
+            Node::Branches(list) => list.as_slice(),
+            _ => unreachable!(),
+        }
+    }
+
+    fn generics_count(&self, def_id: &ItemOf<Self>) -> usize {
+        self.variances_of(def_id).len()
+    }
+
+    fn variances_of(&self, def_id: &ItemOf<Self>) -> &[Variance] {
+        match self.items.get(def_id.0.0) {
+            Some(item) => &item.variances,
+            None => &[],
+        }
+    }
+
+    fn mk_ty(&mut self, kind: TyForm<Self>) -> Result<Ty<Self>, OutOfMemory>
+        requires { IsTrue (known (kind_tree (meaning_in self.old) kind)) }
+        ensures grown { Extends (meaning_in self.old) (meaning_in self.new) }
+        ensures sure { IfOk result (λ k. IsTrue (known ((meaning_in self.new).ty k))) }
+        ensures made { IfOk result (λ k. (meaning_in self.new).ty k ≡ kind_tree (meaning_in self.old) kind) }
+        ensures refused { OnErr result (meaning_in self.new ≡ meaning_in self.old) }
+        ensures there { RemakesTy (meaning_in self.old) (meaning_in self.new) kind result }
+        ensures one_more { node_count self.new ≤ suc (node_count self.old) }
+    {
+        let number = self.add(Node::Ty(kind))?;
+        Ok(TyKey(number))
+    }
+
+    fn mk_region(&mut self, kind: RegionForm<Self>) -> Result<Region<Self>, OutOfMemory>
+        ensures grown { Extends (meaning_in self.old) (meaning_in self.new) }
+        ensures sure { IfOk result (λ k. IsTrue (known ((meaning_in self.new).region k))) }
+        ensures made { IfOk result (λ k. (meaning_in self.new).region k ≡ region_tree (meaning_in self.old) kind) }
+        ensures refused { OnErr result (meaning_in self.new ≡ meaning_in self.old) }
+        ensures there { RemakesRegion (meaning_in self.old) (meaning_in self.new) kind result }
+        ensures one_more { node_count self.new ≤ suc (node_count self.old) }
+    {
+        let number = self.add(Node::Region(kind))?;
+        Ok(RegionKey(number))
+    }
+
+    fn mk_type_list(&mut self, tys: &[Ty<Self>]) -> Result<Tys<Self>, OutOfMemory>
+        requires { IsTrue (known (list_tree (meaning_in self.old).ty tys.now)) }
+        ensures grown { Extends (meaning_in self.old) (meaning_in self.new) }
+        ensures sure { IfOk result (λ k. IsTrue (known ((meaning_in self.new).tys k))) }
+        ensures made { MakesTys (meaning_in self.old) (meaning_in self.new) tys.now result }
+        ensures refused { OnErr result (meaning_in self.new ≡ meaning_in self.old) }
+        ensures there { KeepsTys (meaning_in self.old) (meaning_in self.new) tys.now }
+        ensures one_more { node_count self.new ≤ suc (node_count self.old) }
+    {
+        let list = copied(self.alloc, tys)?;
+        let number = self.add(Node::Tys(list))?;
+        Ok(TysKey(number))
+    }
+
+    fn mk_const(&mut self, kind: ConstForm<Self>) -> Result<Const<Self>, OutOfMemory>
+        requires { IsTrue (known (const_tree (meaning_in self.old) kind)) }
+        ensures grown { Extends (meaning_in self.old) (meaning_in self.new) }
+        ensures sure { IfOk result (λ k. IsTrue (known ((meaning_in self.new).const_ k))) }
+        ensures made { IfOk result (λ k. (meaning_in self.new).const_ k ≡ const_tree (meaning_in self.old) kind) }
+        ensures refused { OnErr result (meaning_in self.new ≡ meaning_in self.old) }
+        ensures there { RemakesConst (meaning_in self.old) (meaning_in self.new) kind result }
+        ensures one_more { node_count self.new ≤ suc (node_count self.old) }
+    {
+        let number = self.add(Node::Const(kind))?;
+        Ok(ConstKey(number))
+    }
+
+    fn mk_valtree(&mut self, kind: ValTreeForm<Self>) -> Result<ValTree<Self>, OutOfMemory>
+        requires { IsTrue (known (valtree_tree (meaning_in self.old) kind)) }
+        ensures grown { Extends (meaning_in self.old) (meaning_in self.new) }
+        ensures sure { IfOk result (λ k. IsTrue (known ((meaning_in self.new).valtree k))) }
+        ensures made { IfOk result (λ k. (meaning_in self.new).valtree k ≡ valtree_tree (meaning_in self.old) kind) }
+        ensures refused { OnErr result (meaning_in self.new ≡ meaning_in self.old) }
+        ensures there { RemakesValTree (meaning_in self.old) (meaning_in self.new) kind result }
+        ensures one_more { node_count self.new ≤ suc (node_count self.old) }
+    {
+        let number = self.add(Node::ValTree(kind))?;
+        Ok(ValTreeKey(number))
+    }
+
+    fn mk_args(&mut self, args: &[GenericArg<Self>]) -> Result<GenericArgs<Self>, OutOfMemory>
+        requires { IsTrue (known (list_tree (arg_tree (meaning_in self.old)) args.now)) }
+        ensures grown { Extends (meaning_in self.old) (meaning_in self.new) }
+        ensures sure { IfOk result (λ k. IsTrue (known ((meaning_in self.new).args k))) }
+        ensures made { MakesArgs (meaning_in self.old) (meaning_in self.new) args.now result }
+        ensures refused { OnErr result (meaning_in self.new ≡ meaning_in self.old) }
+        ensures there { KeepsArgs (meaning_in self.old) (meaning_in self.new) args.now }
+        ensures one_more { node_count self.new ≤ suc (node_count self.old) }
+    {
+        let list = copied(self.alloc, args)?;
+        let number = self.add(Node::Args(list))?;
+        Ok(ArgsKey(number))
+    }
+
+    fn mk_branches(&mut self, branches: &[Const<Self>]) -> Result<Branches<Self>, OutOfMemory>
+        requires { IsTrue (known (list_tree (meaning_in self.old).const_ branches.now)) }
+        ensures grown { Extends (meaning_in self.old) (meaning_in self.new) }
+        ensures sure { IfOk result (λ k. IsTrue (known ((meaning_in self.new).branches k))) }
+        ensures made { MakesBranches (meaning_in self.old) (meaning_in self.new) branches.now result }
+        ensures refused { OnErr result (meaning_in self.new ≡ meaning_in self.old) }
+        ensures there { KeepsBranches (meaning_in self.old) (meaning_in self.new) branches.now }
+        ensures one_more { node_count self.new ≤ suc (node_count self.old) }
+    {
+        let list = copied(self.alloc, branches)?;
+        let number = self.add(Node::Branches(list))?;
+        Ok(BranchesKey(number))
+    }
+
+    fn empty_param_env(&mut self) -> Result<ParamEnv<Self>, OutOfMemory>
+        ensures grown { Extends (meaning_in self.old) (meaning_in self.new) }
+        ensures sure { IfOk result (λ k. IsTrue (known ((meaning_in self.new).param_env k))) }
+        ensures made { IfOk result (λ k. (meaning_in self.new).param_env k ≡ node environment nil) }
+        ensures refused { OnErr result (meaning_in self.new ≡ meaning_in self.old) }
+        ensures there { RemakesEmptyEnv (meaning_in self.old) (meaning_in self.new) result }
+        ensures one_more { node_count self.new ≤ suc (node_count self.old) }
+    {
+        let number = self.add(Node::ParamEnv)?;
+        Ok(ParamEnvKey(number))
+    }
+
+    ghost same_ty = { λ a k l. same_law a.items.items a.nodes.items a.distinct ty_node (k.0).0 (l.0).0 };
+
+    ghost same_region = { λ a k l. same_law a.items.items a.nodes.items a.distinct region_node (k.0).0 (l.0).0 };
+
+    ghost same_tys = { λ a k l. same_law a.items.items a.nodes.items a.distinct tys_node (k.0).0 (l.0).0 };
+
+    ghost same_const = { λ a k l. same_law a.items.items a.nodes.items a.distinct const_node (k.0).0 (l.0).0 };
+
+    ghost same_args = { λ a k l. same_law a.items.items a.nodes.items a.distinct args_node (k.0).0 (l.0).0 };
+
+    ghost same_valtree = { λ a k l. same_law a.items.items a.nodes.items a.distinct valtree_node (k.0).0 (l.0).0 };
+
+    ghost same_branches = { λ a k l. same_law a.items.items a.nodes.items a.distinct branches_node (k.0).0 (l.0).0 };
+
+    ghost same_param_env = { λ a k l.
+        same_law a.items.items a.nodes.items a.distinct environment_node (k.0).0 (l.0).0 };
+
+    ghost same_name = { λ a. same_name_law a.items.items a.nodes.items };
+
+    ghost same_id = { λ a. same_id_law a.items.items a.nodes.items };
+
+    ghost is_ty = { λ a k. sort_law a.items.items a.nodes.items ty_node (k.0).0 };
+
+    ghost is_region = { λ a k. sort_law a.items.items a.nodes.items region_node (k.0).0 };
+
+    ghost are_tys = { λ a k. sort_law a.items.items a.nodes.items tys_node (k.0).0 };
+
+    ghost is_const = { λ a k. sort_law a.items.items a.nodes.items const_node (k.0).0 };
+
+    ghost is_valtree = { λ a k. sort_law a.items.items a.nodes.items valtree_node (k.0).0 };
+
+    ghost are_args = { λ a k. sort_law a.items.items a.nodes.items args_node (k.0).0 };
+
+    ghost are_branches = { λ a k. sort_law a.items.items a.nodes.items branches_node (k.0).0 };
+
+    ghost is_param_env = { λ a k. sort_law a.items.items a.nodes.items environment_node (k.0).0 };
+}

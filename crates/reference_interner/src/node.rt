@@ -1,0 +1,57 @@
+//! Nodes, and how one is copied.
+ghost use Rattle.std.specs.Prelude.{◌≡◌, IfOk};
+ghost use Rattle.reference_interner.specs.Forms.{form_of};
+
+use crate::{ItemId, NodeKey, SymbolId};
+use relation_terms::terms::{
+    ConstKey, ConstKind, GenericArgKind, OutOfMemory, RegionKind, TyKey, TyKind, ValTreeKind,
+};
+use std::alloc::Global;
+
+/// What one key stands for.
+#[derive(PartialEq, Eq, Hash, Drop)]
+pub enum Node {
+    /// A type, by its outermost form.
+    Ty(TyKind<NodeKey, ItemId, SymbolId>),
+    /// A region.
+    Region(RegionKind<SymbolId>),
+    /// A constant, by its outermost form.
+    Const(ConstKind<NodeKey, SymbolId>),
+    /// A value tree, by its outermost form.
+    ValTree(ValTreeKind<NodeKey>),
+    /// A list of generic arguments.
+    Args(Vec<GenericArgKind<NodeKey>>),
+    /// A list of types.
+    Tys(Vec<TyKey<NodeKey>>),
+    /// A list of constants, which a value is made of.
+    Branches(Vec<ConstKey<NodeKey>>),
+    /// The environment without clauses.
+    ParamEnv,
+}
+
+// The same values, in memory of their own.
+pub fn copied<T: Copy>(alloc: Global, values: &[T]) -> Result<Vec<T>, OutOfMemory>
+    ensures { IfOk result (λ v. v.items ≡ values.now) }
+{
+    let mut copies = Vec::new(alloc);
+    for value in values {
+        copies.push(*value)?;
+    }
+    Ok(copies)
+}
+
+// The same node, in memory of its own.
+pub fn copied_node(alloc: Global, node: &Node) -> Result<Node, OutOfMemory>
+    ensures { IfOk result (λ n. form_of n ≡ form_of node.now) }
+{
+    match node {
+        Node::Ty(kind) => Ok(Node::Ty(*kind)),
+        Node::Region(kind) => Ok(Node::Region(*kind)),
+        Node::Const(kind) => Ok(Node::Const(*kind)),
+        Node::ValTree(kind) => Ok(Node::ValTree(*kind)),
+        Node::Args(list) => Ok(Node::Args(copied(alloc, list.as_slice())?)),
+        Node::Tys(list) => Ok(Node::Tys(copied(alloc, list.as_slice())?)),
+        Node::Branches(list) => Ok(Node::Branches(copied(alloc, list.as_slice())?)),
+        Node::ParamEnv => Ok(Node::ParamEnv),
+    }
+}

@@ -1,0 +1,69 @@
+//! The table of nodes: how one is found by its form, and how one is added.
+ghost use Rattle.std.specs.Prelude.{◌≡◌, ◌<◌, ◌≤◌, ◌↔◌, ◌⊎◌, ℕ, suc, [], ◌∷◌, ◌++◌, MatchOption};
+ghost use Rattle.std.specs.Prelude.{IsTrue, IfOk, IsOk, OnOk, OnErr};
+ghost use Rattle.relation_terms.specs.Trees.{known};
+ghost use Rattle.reference_interner.specs.Nodes.{entry_of, known_entry, table_meaning, StandsAt};
+ghost use Rattle.reference_interner.specs.Finding.{Lacks, HasAt};
+ghost use Rattle.reference_interner.specs.Places.{HasKey};
+ghost use Rattle.reference_interner.specs.Adding.{meaning_in, node_count};
+
+use crate::node::copied_node;
+use crate::{Node, NodeKey, RefInterner};
+use relation_terms::terms::OutOfMemory;
+
+impl RefInterner {
+    /// How many nodes there are, of all sorts: types, regions, constants, value trees, lists and environments. They are
+    /// numbered from zero, and each is one key's. This takes no memory.
+    pub fn nodes(&self) -> usize
+        ensures nodes { result ≡ node_count self.now }
+        ensures numbers { (i : ℕ) → (i < result ↔ HasKey (meaning_in self.now) i) }
+    {
+        self.nodes.len()
+    }
+
+    // Where a node of this one's form stands among the nodes.
+    fn place(&self, node: &Node) -> Option<usize>
+        ensures { MatchOption result (Lacks self.now.nodes.items node.now) (HasAt self.now.nodes.items node.now) }
+    {
+        self.places.get(node).copied()
+    }
+
+    // The key of the node, which is put at the end where it is new.
+    pub(super) fn add(&mut self, node: Node) -> Result<NodeKey, OutOfMemory>
+        requires { IsTrue (known_entry (entry_of (table_meaning self.old.items.items self.old.nodes.items) node)) }
+        ensures number { let m = table_meaning self.old.items.items self.old.nodes.items in
+            IfOk result (λ k. StandsAt self.new.nodes.items k.0 (entry_of m node)) }
+        ensures added { (self.new.nodes.items ≡ self.old.nodes.items) ⊎
+            (self.new.nodes.items ≡ self.old.nodes.items ++ node ∷ []) }
+        ensures refused { OnErr result (self.new.nodes.items ≡ self.old.nodes.items) }
+        ensures there { let m = table_meaning self.old.items.items self.old.nodes.items in
+            (k : ℕ) → StandsAt self.old.nodes.items k (entry_of m node) →
+            IsOk result × (self.new.nodes.items ≡ self.old.nodes.items) }
+        ensures items { self.new.items ≡ self.old.items }
+        ensures one_more { node_count self.new ≤ suc (node_count self.old) }
+    {
+        match self.place(&node) {
+            Some(number) => Ok(NodeKey(number)),
+            None => self.put(node),
+        }
+    }
+
+    // The key of a node of a new form, which is put at the end. Both growths come before anything is written.
+    fn put(&mut self, node: Node) -> Result<NodeKey, OutOfMemory>
+        requires known { let m = table_meaning self.old.items.items self.old.nodes.items in
+            IsTrue (known_entry (entry_of m node)) }
+        requires new { Lacks self.old.nodes.items node }
+        ensures number { let m = table_meaning self.old.items.items self.old.nodes.items in
+            IfOk result (λ k. StandsAt self.new.nodes.items k.0 (entry_of m node)) }
+        ensures added { OnOk result (self.new.nodes.items ≡ self.old.nodes.items ++ node ∷ []) }
+        ensures refused { OnErr result (self.new.nodes.items ≡ self.old.nodes.items) }
+        ensures items { self.new.items ≡ self.old.items }
+    {
+        let number = self.nodes.len();
+        let known = copied_node(self.alloc, &node)?;
+        self.nodes.reserve(1)?;
+        self.places.insert(known, number)?;
+        self.nodes.push_reserved(node);
+        Ok(NodeKey(number))
+    }
+}
