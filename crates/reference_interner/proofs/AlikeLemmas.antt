@@ -3,6 +3,10 @@ use Rattle.std.proofs.Common.{ℕ, ◌≡◌, ◌↔◌, IsTrue, Bool, ◌&&◌,
 use Rattle.std.proofs.lemmas.Bool.{false≢true, eqb-true, eq-eqb, and_parts, and_from}
 use Rattle.relation_terms.specs.declared.terms.keys.TyKey.{TyKey}
 use Rattle.relation_terms.specs.declared.terms.keys.ConstKey.{ConstKey}
+use Rattle.relation_terms.specs.declared.terms.keys.ArgsKey.{ArgsKey}
+use Rattle.relation_terms.specs.declared.terms.keys.PatKey.{PatKey}
+use Rattle.relation_terms.specs.declared.terms.alias.AliasTyKind.{AliasTyKind}
+use Rattle.relation_terms.specs.declared.terms.alias.AliasTyKind.TheVariants.{Projection, Inherent, Opaque, Free}
 use Rattle.relation_terms.specs.declared.terms.enums.IntTy.{IntTy}
 use Rattle.relation_terms.specs.declared.terms.enums.IntTy.TheVariants.{Isize, I8, I16, I32, I64, I128}
 use Rattle.relation_terms.specs.declared.terms.enums.UintTy.{UintTy}
@@ -11,23 +15,31 @@ use Rattle.relation_terms.specs.declared.terms.enums.FloatTy.{FloatTy}
 use Rattle.relation_terms.specs.declared.terms.enums.FloatTy.TheVariants.{F16, F32, F64, F128}
 use Rattle.relation_terms.specs.declared.terms.enums.Mutability.{Mutability}
 use Rattle.relation_terms.specs.declared.terms.enums.Mutability.TheVariants.{Not, Mut}
-use Rattle.relation_terms.specs.declared.terms.ty_kind.InferTy.TheVariants.{TyVar}
+use Rattle.relation_terms.specs.declared.terms.ty_kind.InferTy.{InferTy}
+use Rattle.relation_terms.specs.declared.terms.ty_kind.InferTy.TheVariants.{TyVar, IntVar, FloatVar}
+use Rattle.relation_terms.specs.declared.terms.ty_kind.InferTy.TheVariants.{FreshTy, FreshIntTy, FreshFloatTy}
 use Rattle.relation_terms.specs.declared.terms.ty_kind.TyKind.{TyKind}
 use Rattle.relation_terms.specs.declared.terms.ty_kind.TyKind.TheVariants.{Bool as BoolForm, Char, Int, Uint, Float}
 use Rattle.relation_terms.specs.declared.terms.ty_kind.TyKind.TheVariants.{Adt, Foreign, Str, Array, Slice, RawPtr}
 use Rattle.relation_terms.specs.declared.terms.ty_kind.TyKind.TheVariants.{Ref, FnDef, Closure, CoroutineClosure}
 use Rattle.relation_terms.specs.declared.terms.ty_kind.TyKind.TheVariants.{Coroutine, CoroutineWitness, Never, Tuple}
-use Rattle.relation_terms.specs.declared.terms.ty_kind.TyKind.TheVariants.{Param as TyParam}
+use Rattle.relation_terms.specs.declared.terms.ty_kind.TyKind.TheVariants.{Param as TyParam, Bound as TyBound}
+use Rattle.relation_terms.specs.declared.terms.ty_kind.TyKind.TheVariants.{Error as TyError, Alias, Pat as TyPat}
 use Rattle.relation_terms.specs.declared.terms.ty_kind.TyKind.TheVariants.{Placeholder as TyPlaceholder}
 use Rattle.relation_terms.specs.declared.terms.ty_kind.TyKind.TheVariants.{Infer}
 use Rattle.relation_terms.specs.declared.terms.const_kind.ConstKind.{ConstKind}
 use Rattle.relation_terms.specs.declared.terms.const_kind.ConstKind.TheVariants.{Param as ConstParam}
 use Rattle.relation_terms.specs.declared.terms.const_kind.ConstKind.TheVariants.{Placeholder as ConstPlaceholder}
-use Rattle.relation_terms.specs.declared.terms.const_kind.ConstKind.TheVariants.{Value, Expr}
+use Rattle.relation_terms.specs.declared.terms.const_kind.ConstKind.TheVariants.{Infer as ConstInfer, Bound as ConstBound}
+use Rattle.relation_terms.specs.declared.terms.const_kind.ConstKind.TheVariants.{Unevaluated, Value, Error as ConstError, Expr}
+use Rattle.relation_terms.specs.declared.terms.const_kind.InferConst.TheVariants.{Var, Fresh}
 use Rattle.relation_terms.specs.declared.terms.const_kind.ValTreeKind.{ValTreeKind}
 use Rattle.relation_terms.specs.declared.terms.const_kind.ValTreeKind.TheVariants.{Leaf, Branch}
+use Rattle.relation_terms.specs.declared.terms.pattern_kind.PatternKind.{PatternKind}
+use Rattle.relation_terms.specs.declared.terms.pattern_kind.PatternKind.TheVariants.{Range, Or, NotNull}
 use Rattle.relation_terms.specs.declared.terms.region_kind.RegionKind.{RegionKind}
-use Rattle.relation_terms.specs.declared.terms.region_kind.RegionKind.TheVariants.{ReStatic, ReEarlyParam, ReVar}
+use Rattle.relation_terms.specs.declared.terms.region_kind.RegionKind.TheVariants.{ReStatic, ReEarlyParam, ReBound}
+use Rattle.relation_terms.specs.declared.terms.region_kind.RegionKind.TheVariants.{ReVar, RePlaceholder}
 use Rattle.relation_terms.specs.declared.terms.generic_arg.GenericArgKind.{GenericArgKind}
 use Rattle.relation_terms.specs.declared.terms.generic_arg.GenericArgKind.TheVariants.{Lifetime, Ty as TyArg}
 use Rattle.relation_terms.specs.declared.terms.generic_arg.GenericArgKind.TheVariants.{Const as ConstArg}
@@ -36,9 +48,9 @@ use Rattle.reference_interner.specs.declared.keys.ItemId.{ItemId}
 use Rattle.reference_interner.specs.declared.keys.SymbolId.{SymbolId}
 use Rattle.reference_interner.specs.declared.node.Node.{Node}
 use Rattle.reference_interner.specs.declared.node.Node.TheVariants.{Ty, Region, Const, ValTree, Args, Tys}
-use Rattle.reference_interner.specs.declared.node.Node.TheVariants.{Branches, ParamEnv}
+use Rattle.reference_interner.specs.declared.node.Node.TheVariants.{Branches, ParamEnv, Pat, Alternatives}
 use Rattle.reference_interner.specs.Forms.{Form, ty_form, region_form, const_form, valtree_form, args_form, tys_form}
-use Rattle.reference_interner.specs.Forms.{branches_form, form_of}
+use Rattle.reference_interner.specs.Forms.{branches_form, pattern_form, alternatives_form, form_of}
 use Rattle.reference_interner.specs.contracts.node.NodePartialEq.TheImpl as node_impl
 use Rattle.reference_interner.specs.contracts.keys.NodeKeyPartialEq.TheImpl as key_impl
 use Rattle.reference_interner.specs.contracts.keys.NodeKey as key
@@ -72,6 +84,12 @@ ty_eq t u = eqb (t.0).0 (u.0).0
 
 abbrev const_eq : ConstKey NodeKey → ConstKey NodeKey → Bool
 const_eq t u = eqb (t.0).0 (u.0).0
+
+abbrev pub pat_eq : PatKey NodeKey → PatKey NodeKey → Bool
+pat_eq t u = eqb (t.0).0 (u.0).0
+
+abbrev alias : AliasTyKind ItemId → ArgsKey NodeKey → TyKind NodeKey ItemId SymbolId
+alias k a = Alias (record { kind = k; args = a })
 
 int_same : (i j : IntTy) → IsTrue (int_eq i j) → i ≡ j
 int_same Isize Isize h = refl
@@ -153,6 +171,28 @@ two_selves i j = and_from (eqb i i) (eqb j j) (eqb_self i) (eqb_self j)
 three_selves : (i j k : ℕ) → IsTrue (eqb i i && (eqb j j && eqb k k))
 three_selves i j k = and_from (eqb i i) (eqb j j && eqb k k) (eqb_self i) (two_selves j k)
 
+alias_same : (a b : AliasTyKind ItemId) (x y : ArgsKey NodeKey) → IsTrue (node_eq (Ty (alias a x)) (Ty (alias b y))) →
+    alias a x ≡ alias b y
+alias_same (Projection d) (Projection e) x y h =
+    two_numbers (λ i n. alias (Projection (record { 0 = record { 0 = i } })) (record { 0 = record { 0 = n } }))
+    (d.0).0 (e.0).0 (x.0).0 (y.0).0 h
+alias_same (Inherent d) (Inherent e) x y h =
+    two_numbers (λ i n. alias (Inherent (record { 0 = record { 0 = i } })) (record { 0 = record { 0 = n } }))
+    (d.0).0 (e.0).0 (x.0).0 (y.0).0 h
+alias_same (Opaque d) (Opaque e) x y h =
+    two_numbers (λ i n. alias (Opaque (record { 0 = record { 0 = i } })) (record { 0 = record { 0 = n } }))
+    (d.0).0 (e.0).0 (x.0).0 (y.0).0 h
+alias_same (Free d) (Free e) x y h =
+    two_numbers (λ i n. alias (Free (record { 0 = record { 0 = i } })) (record { 0 = record { 0 = n } }))
+    (d.0).0 (e.0).0 (x.0).0 (y.0).0 h
+alias_same _ _ x y h = absurd (false≢true h)
+
+alias_self : (a : AliasTyKind ItemId) (x : ArgsKey NodeKey) → IsTrue (node_eq (Ty (alias a x)) (Ty (alias a x)))
+alias_self (Projection d) x = two_selves (d.0).0 (x.0).0
+alias_self (Inherent d) x = two_selves (d.0).0 (x.0).0
+alias_self (Opaque d) x = two_selves (d.0).0 (x.0).0
+alias_self (Free d) x = two_selves (d.0).0 (x.0).0
+
 kind_same : (f g : TyKind NodeKey ItemId SymbolId) → IsTrue (node_eq (Ty f) (Ty g)) → f ≡ g
 kind_same BoolForm BoolForm h = refl
 kind_same Char Char h = refl
@@ -167,6 +207,9 @@ kind_same Str Str h = refl
 kind_same (Array t c) (Array u d) h =
     two_numbers (λ x y. Array (record { 0 = record { 0 = x } }) (record { 0 = record { 0 = y } }))
     (t.0).0 (u.0).0 (c.0).0 (d.0).0 h
+kind_same (TyPat t p) (TyPat u q) h =
+    two_numbers (λ x y. TyPat (record { 0 = record { 0 = x } }) (record { 0 = record { 0 = y } }))
+    (t.0).0 (u.0).0 (p.0).0 (q.0).0 h
 kind_same (Slice t) (Slice u) h = one_number (λ x. Slice (record { 0 = record { 0 = x } })) (t.0).0 (u.0).0 h
 kind_same (RawPtr t a) (RawPtr u b) h =
     let p = and_parts (ty_eq t u) (mut_eq a b) h in
@@ -193,15 +236,25 @@ kind_same (CoroutineWitness d a) (CoroutineWitness e b) h =
     (d.0).0 (e.0).0 (a.0).0 (b.0).0 h
 kind_same Never Never h = refl
 kind_same (Tuple t) (Tuple u) h = one_number (λ x. Tuple (record { 0 = record { 0 = x } })) (t.0).0 (u.0).0 h
+kind_same (Alias a) (Alias b) h = alias_same a.kind b.kind a.args b.args h
 kind_same (TyParam p) (TyParam q) h =
     two_numbers (λ i n. TyParam (record { index = i; name = record { 0 = n } }))
     p.index q.index (p.name).0 (q.name).0 h
+kind_same (TyBound d b) (TyBound e c) h =
+    three_numbers (λ i v n. TyBound (record { 0 = i }) (record { var = record { 0 = v }; name = record { 0 = n } }))
+    d.0 e.0 (b.var).0 (c.var).0 (b.name).0 (c.name).0 h
 kind_same (TyPlaceholder p) (TyPlaceholder q) h =
     three_numbers (λ u v n. TyPlaceholder (record {
       universe = record { 0 = u };
       bound = record { var = record { 0 = v }; name = record { 0 = n } };
     })) (p.universe).0 (q.universe).0 ((p.bound).var).0 ((q.bound).var).0 ((p.bound).name).0 ((q.bound).name).0 h
 kind_same (Infer (TyVar v)) (Infer (TyVar w)) h = one_number (λ n. Infer (TyVar (record { 0 = n }))) v.0 w.0 h
+kind_same (Infer (IntVar v)) (Infer (IntVar w)) h = one_number (λ n. Infer (IntVar (record { 0 = n }))) v.0 w.0 h
+kind_same (Infer (FloatVar v)) (Infer (FloatVar w)) h = one_number (λ n. Infer (FloatVar (record { 0 = n }))) v.0 w.0 h
+kind_same (Infer (FreshTy v)) (Infer (FreshTy w)) h = one_number (λ n. Infer (FreshTy n)) v w h
+kind_same (Infer (FreshIntTy v)) (Infer (FreshIntTy w)) h = one_number (λ n. Infer (FreshIntTy n)) v w h
+kind_same (Infer (FreshFloatTy v)) (Infer (FreshFloatTy w)) h = one_number (λ n. Infer (FreshFloatTy n)) v w h
+kind_same (TyError x) (TyError y) h = refl
 kind_same _ _ h = absurd (false≢true h)
 
 kind_self : (f : TyKind NodeKey ItemId SymbolId) → IsTrue (node_eq (Ty f) (Ty f))
@@ -214,6 +267,7 @@ kind_self (Adt d a) = two_selves (d.0).0 (a.0).0
 kind_self (Foreign t) = eqb_self (t.0).0
 kind_self Str = refl
 kind_self (Array t c) = two_selves (t.0).0 (c.0).0
+kind_self (TyPat t p) = two_selves (t.0).0 (p.0).0
 kind_self (Slice t) = eqb_self (t.0).0
 kind_self (RawPtr t a) = and_from (ty_eq t t) (mut_eq a a) (eqb_self (t.0).0) (mut_self a)
 kind_self (Ref r t a) =
@@ -226,30 +280,53 @@ kind_self (Coroutine d a) = two_selves (d.0).0 (a.0).0
 kind_self (CoroutineWitness d a) = two_selves (d.0).0 (a.0).0
 kind_self Never = refl
 kind_self (Tuple t) = eqb_self (t.0).0
+kind_self (Alias a) = alias_self a.kind a.args
 kind_self (TyParam p) = two_selves p.index (p.name).0
+kind_self (TyBound d b) = three_selves d.0 (b.var).0 (b.name).0
 kind_self (TyPlaceholder p) = three_selves (p.universe).0 ((p.bound).var).0 ((p.bound).name).0
 kind_self (Infer (TyVar v)) = eqb_self v.0
+kind_self (Infer (IntVar v)) = eqb_self v.0
+kind_self (Infer (FloatVar v)) = eqb_self v.0
+kind_self (Infer (FreshTy n)) = eqb_self n
+kind_self (Infer (FreshIntTy n)) = eqb_self n
+kind_self (Infer (FreshFloatTy n)) = eqb_self n
+kind_self (TyError x) = refl
 
-const_same : (f g : ConstKind NodeKey SymbolId) → IsTrue (node_eq (Const f) (Const g)) → f ≡ g
+const_same : (f g : ConstKind NodeKey ItemId SymbolId) → IsTrue (node_eq (Const f) (Const g)) → f ≡ g
 const_same (ConstParam p) (ConstParam q) h =
     two_numbers (λ i n. ConstParam (record { index = i; name = record { 0 = n } }))
     p.index q.index (p.name).0 (q.name).0 h
+const_same (ConstInfer (Var v)) (ConstInfer (Var w)) h =
+    one_number (λ n. ConstInfer (Var (record { 0 = n }))) v.0 w.0 h
+const_same (ConstInfer (Fresh v)) (ConstInfer (Fresh w)) h = one_number (λ n. ConstInfer (Fresh n)) v w h
+const_same (ConstBound d b) (ConstBound e c) h =
+    three_numbers (λ i v n. ConstBound (record { 0 = i }) (record { var = record { 0 = v }; name = record { 0 = n } }))
+    d.0 e.0 (b.var).0 (c.var).0 (b.name).0 (c.name).0 h
 const_same (ConstPlaceholder p) (ConstPlaceholder q) h =
     three_numbers (λ u v n. ConstPlaceholder (record {
       universe = record { 0 = u };
       bound = record { var = record { 0 = v }; name = record { 0 = n } };
     })) (p.universe).0 (q.universe).0 ((p.bound).var).0 ((q.bound).var).0 ((p.bound).name).0 ((q.bound).name).0 h
+const_same (Unevaluated u) (Unevaluated w) h =
+    two_numbers (λ d a. Unevaluated (record { def = record { 0 = record { 0 = d } }; args = record { 0 = record { 0 = a } } }))
+    ((u.def).0).0 ((w.def).0).0 ((u.args).0).0 ((w.args).0).0 h
 const_same (Value t v) (Value u w) h =
     two_numbers (λ x y. Value (record { 0 = record { 0 = x } }) (record { 0 = record { 0 = y } }))
     (t.0).0 (u.0).0 (v.0).0 (w.0).0 h
+const_same (ConstError x) (ConstError y) h = refl
 const_same (Expr o a) (Expr p b) h =
     two_numbers (λ x y. Expr (record { 0 = x }) (record { 0 = record { 0 = y } })) o.0 p.0 (a.0).0 (b.0).0 h
 const_same _ _ h = absurd (false≢true h)
 
-const_self : (f : ConstKind NodeKey SymbolId) → IsTrue (node_eq (Const f) (Const f))
+const_self : (f : ConstKind NodeKey ItemId SymbolId) → IsTrue (node_eq (Const f) (Const f))
 const_self (ConstParam p) = two_selves p.index (p.name).0
+const_self (ConstInfer (Var v)) = eqb_self v.0
+const_self (ConstInfer (Fresh n)) = eqb_self n
+const_self (ConstBound d b) = three_selves d.0 (b.var).0 (b.name).0
 const_self (ConstPlaceholder p) = three_selves (p.universe).0 ((p.bound).var).0 ((p.bound).name).0
+const_self (Unevaluated u) = two_selves ((u.def).0).0 ((u.args).0).0
 const_self (Value t v) = two_selves (t.0).0 (v.0).0
+const_self (ConstError x) = refl
 const_self (Expr o a) = two_selves o.0 (a.0).0
 
 valtree_same : (f g : ValTreeKind NodeKey) → IsTrue (node_eq (ValTree f) (ValTree g)) → f ≡ g
@@ -261,18 +338,41 @@ valtree_self : (f : ValTreeKind NodeKey) → IsTrue (node_eq (ValTree f) (ValTre
 valtree_self (Leaf a m) = two_selves a m
 valtree_self (Branch a) = eqb_self (a.0).0
 
+pattern_same : (f g : PatternKind NodeKey) → IsTrue (node_eq (Pat f) (Pat g)) → f ≡ g
+pattern_same (Range s e) (Range t f) h =
+    two_numbers (λ x y. Range (record { 0 = record { 0 = x } }) (record { 0 = record { 0 = y } }))
+    (s.0).0 (t.0).0 (e.0).0 (f.0).0 h
+pattern_same (Or a) (Or b) h = one_number (λ x. Or (record { 0 = record { 0 = x } })) (a.0).0 (b.0).0 h
+pattern_same NotNull NotNull h = refl
+pattern_same _ _ h = absurd (false≢true h)
+
+pattern_self : (f : PatternKind NodeKey) → IsTrue (node_eq (Pat f) (Pat f))
+pattern_self (Range s e) = two_selves (s.0).0 (e.0).0
+pattern_self (Or a) = eqb_self (a.0).0
+pattern_self NotNull = refl
+
 region_same : (f g : RegionKind SymbolId) → IsTrue (node_eq (Region f) (Region g)) → f ≡ g
 region_same ReStatic ReStatic h = refl
 region_same (ReEarlyParam p) (ReEarlyParam q) h =
     two_numbers (λ i n. ReEarlyParam (record { index = i; name = record { 0 = n } }))
     p.index q.index (p.name).0 (q.name).0 h
+region_same (ReBound d b) (ReBound e c) h =
+    three_numbers (λ i v n. ReBound (record { 0 = i }) (record { var = record { 0 = v }; name = record { 0 = n } }))
+    d.0 e.0 (b.var).0 (c.var).0 (b.name).0 (c.name).0 h
 region_same (ReVar v) (ReVar w) h = one_number (λ n. ReVar (record { 0 = n })) v.0 w.0 h
+region_same (RePlaceholder p) (RePlaceholder q) h =
+    three_numbers (λ u v n. RePlaceholder (record {
+      universe = record { 0 = u };
+      bound = record { var = record { 0 = v }; name = record { 0 = n } };
+    })) (p.universe).0 (q.universe).0 ((p.bound).var).0 ((q.bound).var).0 ((p.bound).name).0 ((q.bound).name).0 h
 region_same _ _ h = absurd (false≢true h)
 
 region_self : (f : RegionKind SymbolId) → IsTrue (node_eq (Region f) (Region f))
 region_self ReStatic = refl
 region_self (ReEarlyParam p) = two_selves p.index (p.name).0
+region_self (ReBound d b) = three_selves d.0 (b.var).0 (b.name).0
 region_self (ReVar v) = eqb_self v.0
+region_self (RePlaceholder p) = three_selves (p.universe).0 ((p.bound).var).0 ((p.bound).name).0
 
 arg_same : (f g : GenericArgKind NodeKey) → IsTrue (arg_eq f g) → f ≡ g
 arg_same (Lifetime r) (Lifetime s) h = one_number (λ x. Lifetime (record { 0 = record { 0 = x } })) (r.0).0 (s.0).0 h
@@ -290,6 +390,9 @@ ty_same t u h = one_number (λ n. record { 0 = record { 0 = n } }) (t.0).0 (u.0)
 
 const_key_same : (t u : ConstKey NodeKey) → IsTrue (const_eq t u) → t ≡ u
 const_key_same t u h = one_number (λ n. record { 0 = record { 0 = n } }) (t.0).0 (u.0).0 h
+
+pat_same : (t u : PatKey NodeKey) → IsTrue (pat_eq t u) → t ≡ u
+pat_same t u h = one_number (λ n. record { 0 = record { 0 = n } }) (t.0).0 (u.0).0 h
 
 -- Lists, by what their members are.
 list_same : {A : Type 0} (eq : A → A → Bool) → ((x y : A) → IsTrue (eq x y) → x ≡ y) → (xs ys : List A) →
@@ -310,9 +413,12 @@ node_same (Ty f) (Ty g) h = ap (λ x. ty_form x) (kind_same f g h)
 node_same (Region f) (Region g) h = ap (λ x. region_form x) (region_same f g h)
 node_same (Const f) (Const g) h = ap (λ x. const_form x) (const_same f g h)
 node_same (ValTree f) (ValTree g) h = ap (λ x. valtree_form x) (valtree_same f g h)
+node_same (Pat f) (Pat g) h = ap (λ x. pattern_form x) (pattern_same f g h)
 node_same (Args v) (Args w) h = ap (λ x. args_form x) (list_same arg_eq arg_same v.items w.items h)
 node_same (Tys v) (Tys w) h = ap (λ x. tys_form x) (list_same ty_eq ty_same v.items w.items h)
 node_same (Branches v) (Branches w) h = ap (λ x. branches_form x) (list_same const_eq const_key_same v.items w.items h)
+node_same (Alternatives v) (Alternatives w) h =
+    ap (λ x. alternatives_form x) (list_same pat_eq pat_same v.items w.items h)
 node_same ParamEnv ParamEnv h = refl
 node_same _ _ h = absurd (false≢true h)
 
@@ -324,13 +430,17 @@ abbrev region_in : RegionKind SymbolId → Form → RegionKind SymbolId
 region_in d (region_form f) = f
 region_in d _ = d
 
-abbrev const_in : ConstKind NodeKey SymbolId → Form → ConstKind NodeKey SymbolId
+abbrev const_in : ConstKind NodeKey ItemId SymbolId → Form → ConstKind NodeKey ItemId SymbolId
 const_in d (const_form f) = f
 const_in d _ = d
 
 abbrev valtree_in : ValTreeKind NodeKey → Form → ValTreeKind NodeKey
 valtree_in d (valtree_form f) = f
 valtree_in d _ = d
+
+abbrev pattern_in : PatternKind NodeKey → Form → PatternKind NodeKey
+pattern_in d (pattern_form f) = f
+pattern_in d _ = d
 
 abbrev args_in : List (GenericArgKind NodeKey) → Form → List (GenericArgKind NodeKey)
 args_in d (args_form f) = f
@@ -344,6 +454,10 @@ abbrev branches_in : List (ConstKey NodeKey) → Form → List (ConstKey NodeKey
 branches_in d (branches_form f) = f
 branches_in d _ = d
 
+abbrev alternatives_in : List (PatKey NodeKey) → Form → List (PatKey NodeKey)
+alternatives_in d (alternatives_form f) = f
+alternatives_in d _ = d
+
 node_self : (a b : Node) → form_of a ≡ form_of b → IsTrue (node_eq a b)
 node_self (Ty f) (Ty g) e = subst (λ x. IsTrue (node_eq (Ty f) (Ty x))) (ap (kind_in f) e) (kind_self f)
 node_self (Region f) (Region g) e =
@@ -351,6 +465,7 @@ node_self (Region f) (Region g) e =
 node_self (Const f) (Const g) e = subst (λ x. IsTrue (node_eq (Const f) (Const x))) (ap (const_in f) e) (const_self f)
 node_self (ValTree f) (ValTree g) e =
     subst (λ x. IsTrue (node_eq (ValTree f) (ValTree x))) (ap (valtree_in f) e) (valtree_self f)
+node_self (Pat f) (Pat g) e = subst (λ x. IsTrue (node_eq (Pat f) (Pat x))) (ap (pattern_in f) e) (pattern_self f)
 node_self (Args v) (Args w) e =
     subst (λ x. IsTrue (pointwise arg_eq v.items x)) (ap (args_in v.items) e) (list_self arg_eq arg_self v.items)
 node_self (Tys v) (Tys w) e =
@@ -359,6 +474,9 @@ node_self (Tys v) (Tys w) e =
 node_self (Branches v) (Branches w) e =
     subst (λ x. IsTrue (pointwise const_eq v.items x)) (ap (branches_in v.items) e)
     (list_self const_eq (λ x. eqb_self (x.0).0) v.items)
+node_self (Alternatives v) (Alternatives w) e =
+    subst (λ x. IsTrue (pointwise pat_eq v.items x)) (ap (alternatives_in v.items) e)
+    (list_self pat_eq (λ x. eqb_self (x.0).0) v.items)
 node_self ParamEnv ParamEnv e = refl
 node_self _ _ e = absurd (cc)
 
