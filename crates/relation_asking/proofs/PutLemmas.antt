@@ -1,5 +1,5 @@
 -- What is put for terms, by keys and by trees.
-use Rattle.std.proofs.Common.{◌≡◌, ◌++◌, Bool, true, false, IsTrue, cond, List, [], ◌∷◌, Option, Some, None, IfSome, refl, sym, ap₂, subst, map}
+use Rattle.std.proofs.Common.{◌≡◌, ◌++◌, Bool, true, false, IsTrue, cond, List, [], ◌∷◌, Option, Some, IfSome, refl, sym, ap₂, subst, map}
 use Rattle.std.specs.List.{AllZip}
 use Rattle.std.proofs.lemmas.Bool.{and_parts}
 use Rattle.relation_tools.specs.declared.visit.Visit.TheVariants.{Enter, Skip, Stop}

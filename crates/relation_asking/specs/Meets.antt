@@ -1,5 +1,5 @@
 -- What a visitor is asked about that skips some terms and stops at others.
-use Rattle.std.specs.Prelude.{◌≡◌, ℕ, Bool, true, false, cond, ◌||◌, List, [], ◌∷◌, ◌++◌, IsTrue, map}
+use Rattle.std.specs.Prelude.{◌≡◌, ℕ, Bool, true, false, cond, List, [], ◌∷◌, ◌++◌, IsTrue, map}
 use Rattle.std.specs.declared.ops.ControlFlow.TheVariants.{Continue, Break}
 use Rattle.relation_terms.specs.Trees.{Tree, known, list_tree}
 use Rattle.relation_terms.specs.Meaning.{Meaning, arg_tree}

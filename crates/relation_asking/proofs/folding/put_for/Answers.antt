@@ -1,7 +1,7 @@
-use Rattle.std.proofs.Common.{◌≡◌, ◌∙◌, sym, ap, subst, IfSome, IsTrue}
+use Rattle.std.proofs.Common.{◌∙◌, sym, ap, subst, IfSome, IsTrue}
 use Rattle.relation_terms.specs.Meaning.{arg_tree}
 use Rattle.relation_terms.specs.Trees.{known}
-use Rattle.relation_asking.specs.Args.{same_arg, alike}
+use Rattle.relation_asking.specs.Args.{alike}
 use Rattle.relation_asking.specs.Puts.{tree_of}
 use Rattle.relation_asking.proofs.PutLemmas.{Compares, put_means, put_known}
 use Rattle.relation_asking.proofs.folding.put_for.Goals as goal
