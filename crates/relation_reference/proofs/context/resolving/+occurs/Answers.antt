@@ -52,6 +52,8 @@ returns g t c =
       valtree = g.met.I.Interner.is_valtree c.args.cx.now;
       args = g.met.I.Interner.are_args c.args.cx.now;
       branches = g.met.I.Interner.are_branches c.args.cx.now;
+      pat = g.met.I.Interner.is_pat c.args.cx.now;
+      alternatives = g.met.I.Interner.are_alternatives c.args.cx.now;
     } in
     let counted = c.parts_count-i-end.ensures.counts in
     let test = c.loop-i-test.false in

@@ -457,6 +457,8 @@ relate-returns-in_default g t c =
       valtree = g.met.I.Interner.is_valtree cx;
       args = g.met.I.Interner.are_args cx;
       branches = g.met.I.Interner.are_branches cx;
+      pat = g.met.I.Interner.is_pat cx;
+      alternatives = g.met.I.Interner.are_alternatives cx;
     }) in
     let k = c.requires.asked in
     record {
@@ -480,6 +482,8 @@ relate-returns-in_default-b g t c =
       valtree = g.met.I.Interner.is_valtree cx;
       args = g.met.I.Interner.are_args cx;
       branches = g.met.I.Interner.are_branches cx;
+      pat = g.met.I.Interner.is_pat cx;
+      alternatives = g.met.I.Interner.are_alternatives cx;
     }) in
     let k = c.requires.asked in
     record {
@@ -503,6 +507,8 @@ relate-returns-in_default-b-2 g t c =
       valtree = g.met.I.Interner.is_valtree cx;
       args = g.met.I.Interner.are_args cx;
       branches = g.met.I.Interner.are_branches cx;
+      pat = g.met.I.Interner.is_pat cx;
+      alternatives = g.met.I.Interner.are_alternatives cx;
     }) in
     let k = c.requires.asked in
     record {
@@ -639,6 +645,8 @@ structurally_relate_consts-returns-in_err-compare_consts_of g t c =
       valtree = g.met.I.Interner.is_valtree cx;
       args = g.met.I.Interner.are_args cx;
       branches = g.met.I.Interner.are_branches cx;
+      pat = g.met.I.Interner.is_pat cx;
+      alternatives = g.met.I.Interner.are_alternatives cx;
     }) in
     let n = c.in_err-compare_consts_of in
     let k = c.requires.asked in
@@ -664,6 +672,8 @@ structurally_relate_consts-loop-i-init g t c =
       valtree = g.met.I.Interner.is_valtree cx;
       args = g.met.I.Interner.are_args cx;
       branches = g.met.I.Interner.are_branches cx;
+      pat = g.met.I.Interner.is_pat cx;
+      alternatives = g.met.I.Interner.are_alternatives cx;
     }) in
     let k = c.requires.asked in
     let alike = (c.in_ok-compare_consts_of.ensures).alike in
@@ -823,6 +833,8 @@ structurally_relate_consts-loop-i-preserved g t c =
       valtree = g.met.I.Interner.is_valtree cx;
       args = g.met.I.Interner.are_args cx;
       branches = g.met.I.Interner.are_branches cx;
+      pat = g.met.I.Interner.is_pat cx;
+      alternatives = g.met.I.Interner.are_alternatives cx;
     }) in
     let kind = subst (λ u. IfOk u (λ k. arg_sort k ≡ arg_sort X)) z (related.ensures).kind in
     let was = c.loop-i.answers.items in
@@ -971,6 +983,8 @@ structurally_relate_tys-returns-in_err-compare_tys_of g t c =
       valtree = g.met.I.Interner.is_valtree cx;
       args = g.met.I.Interner.are_args cx;
       branches = g.met.I.Interner.are_branches cx;
+      pat = g.met.I.Interner.is_pat cx;
+      alternatives = g.met.I.Interner.are_alternatives cx;
     }) in
     let n = c.in_err-compare_tys_of in
     let k = c.requires.asked in
@@ -996,6 +1010,8 @@ structurally_relate_tys-loop-i-init g t c =
       valtree = g.met.I.Interner.is_valtree cx;
       args = g.met.I.Interner.are_args cx;
       branches = g.met.I.Interner.are_branches cx;
+      pat = g.met.I.Interner.is_pat cx;
+      alternatives = g.met.I.Interner.are_alternatives cx;
     }) in
     let k = c.requires.asked in
     let alike = (c.in_ok-compare_tys_of.ensures).alike in
@@ -1101,6 +1117,8 @@ structurally_relate_tys-returns-in_err-answer g t c =
       valtree = g.met.I.Interner.is_valtree cx;
       args = g.met.I.Interner.are_args cx;
       branches = g.met.I.Interner.are_branches cx;
+      pat = g.met.I.Interner.is_pat cx;
+      alternatives = g.met.I.Interner.are_alternatives cx;
     }) in
     let n = c.in_err-answer in
     let z = failed_ty a X Y related.result n.field-0.0
@@ -1165,6 +1183,8 @@ structurally_relate_tys-loop-i-preserved g t c =
       valtree = g.met.I.Interner.is_valtree cx;
       args = g.met.I.Interner.are_args cx;
       branches = g.met.I.Interner.are_branches cx;
+      pat = g.met.I.Interner.is_pat cx;
+      alternatives = g.met.I.Interner.are_alternatives cx;
     }) in
     let kind = subst (λ u. IfOk u (λ k. arg_sort k ≡ arg_sort X)) z (related.ensures).kind in
     let was = c.loop-i.answers.items in
