@@ -2,12 +2,13 @@
 
 use crate::error::ExpectedFound;
 use crate::fold::{
-    TypeFoldable, TypeFolder, fold_arg_with, fold_args_with, fold_branches_with, fold_const_with,
-    fold_region_with, fold_ty_with, fold_tys_with, fold_valtree_with,
+    TypeFoldable, TypeFolder, fold_alternatives_with, fold_arg_with, fold_args_with,
+    fold_branches_with, fold_const_with, fold_pat_with, fold_region_with, fold_ty_with,
+    fold_tys_with, fold_valtree_with,
 };
 use relation_terms::terms::{
-    ArgsKey, BranchesKey, ConstKey, GenericArgKind, Interner, OutOfMemory, RegionKey, TermKind,
-    TyKey, TysKey, ValTreeKey,
+    AlternativesKey, ArgsKey, BranchesKey, ConstKey, GenericArgKind, Interner, OutOfMemory, PatKey,
+    RegionKey, TermKind, TyKey, TysKey, ValTreeKey,
 };
 
 impl<I: Interner> TypeFoldable<I> for TyKey<I::Key> {
@@ -49,6 +50,18 @@ impl<I: Interner> TypeFoldable<I> for ValTreeKey<I::Key> {
 impl<I: Interner> TypeFoldable<I> for BranchesKey<I::Key> {
     fn fold_with<F: TypeFolder<I>>(&self, cx: &mut I, folder: &mut F) -> Result<Self, OutOfMemory> {
         fold_branches_with(cx, self, folder)
+    }
+}
+
+impl<I: Interner> TypeFoldable<I> for PatKey<I::Key> {
+    fn fold_with<F: TypeFolder<I>>(&self, cx: &mut I, folder: &mut F) -> Result<Self, OutOfMemory> {
+        fold_pat_with(cx, self, folder)
+    }
+}
+
+impl<I: Interner> TypeFoldable<I> for AlternativesKey<I::Key> {
+    fn fold_with<F: TypeFolder<I>>(&self, cx: &mut I, folder: &mut F) -> Result<Self, OutOfMemory> {
+        fold_alternatives_with(cx, self, folder)
     }
 }
 

@@ -16,7 +16,7 @@ use relation_terms::terms::{Interner, OutOfMemory, Part, Parts};
 fn put_for<I: Interner, F: TypeFolder<I>>(
     cx: &mut I,
     part: &Part<I::Key>,
-    depth: usize,
+    depth: u64,
     folder: &mut F,
 ) -> Result<Fold<Part<I::Key>>, OutOfMemory>
     requires known { IsTrue (known (part_tree (I.meaning cx.old) part.now)) }
@@ -40,6 +40,7 @@ fn put_for<I: Interner, F: TypeFolder<I>>(
             Fold::Descend => Ok(Fold::Descend),
         },
         Part::ValTree(_) => Ok(Fold::Descend),
+        Part::Pat(_) => Ok(Fold::Descend),
         Part::ValueType(_) => Ok(Fold::Descend),
     }
 }
@@ -50,7 +51,7 @@ fn put_for<I: Interner, F: TypeFolder<I>>(
 pub fn fold_part<I: Interner, F: TypeFolder<I>>(
     cx: &mut I,
     part: &Part<I::Key>,
-    depth: usize,
+    depth: u64,
     folder: &mut F,
 ) -> Result<Part<I::Key>, OutOfMemory>
     requires known { IsTrue (known (part_tree (I.meaning cx.old) part.now)) }
@@ -72,7 +73,7 @@ pub fn fold_part<I: Interner, F: TypeFolder<I>>(
 pub fn fold_parts<I: Interner, F: TypeFolder<I>>(
     cx: &mut I,
     part: &Part<I::Key>,
-    depth: usize,
+    depth: u64,
     folder: &mut F,
 ) -> Result<Part<I::Key>, OutOfMemory>
     requires known { IsTrue (known (part_tree (I.meaning cx.old) part.now)) }
@@ -94,7 +95,7 @@ pub fn fold_parts<I: Interner, F: TypeFolder<I>>(
 fn fold_members<I: Interner, F: TypeFolder<I>>(
     cx: &mut I,
     parts: &Parts<I::Key>,
-    depth: usize,
+    depth: u64,
     folder: &mut F,
 ) -> Result<Option<Vec<Part<I::Key>>>, OutOfMemory>
     requires known { IsTrue (known (parts_tree (I.meaning cx.old) parts.now)) }
@@ -123,7 +124,7 @@ fn fold_members<I: Interner, F: TypeFolder<I>>(
 pub fn fold_list<I: Interner, F: TypeFolder<I>>(
     cx: &mut I,
     parts: &Parts<I::Key>,
-    depth: usize,
+    depth: u64,
     folder: &mut F,
 ) -> Result<Parts<I::Key>, OutOfMemory>
     requires known { IsTrue (known (parts_tree (I.meaning cx.old) parts.now)) }

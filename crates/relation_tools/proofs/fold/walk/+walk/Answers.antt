@@ -231,6 +231,8 @@ fold_members-loop-i-preserved g t' c =
       valtree = g.met.I.Interner.is_valtree c.loop-i.cx;
       args = g.met.I.Interner.are_args c.loop-i.cx;
       branches = g.met.I.Interner.are_branches c.loop-i.cx;
+      pat = g.met.I.Interner.is_pat c.loop-i.cx;
+      alternatives = g.met.I.Interner.are_alternatives c.loop-i.cx;
     } in
     record {
       steps = steps_on s r.steps;
