@@ -3,6 +3,7 @@ use Rattle.std.proofs.Common.{◌≡◌, ◌≢◌, ◌⊎◌, ℕ, zero, suc, �
 use Rattle.std.specs.Result.{IsErr, IsErrAnd}
 use Rattle.std.proofs.lemmas.Bool.{false≢true}
 use Rattle.relation_terms.specs.Heads.{Head, Sort, Part, Shape, one, row, head_parts, Admits, type_sort, const_sort, value_sort, VarKind, var_sort, type_var, int_var, float_var, const_var, region_var}
+use Rattle.relation_terms.specs.Heads.{adt, fn_def, closure, coroutine_closure, coroutine, coroutine_witness}
 use Rattle.relation_terms.specs.Heads.{array, slice, tuple, raw_ptr, ref, unevaluated, expression, value, value_branch, Atom, type_param, const_param}
 use Rattle.relation_terms.specs.Heads.{Leaf, atom, variable, bound, placeholder, unknown}
 use Rattle.relation_terms.specs.Trees.{Tree, leaf, node, bind, nil, cons, Assign, apply, IsTerm, Fits, IsList, count, known}
@@ -274,7 +275,12 @@ module _ {Key Id Name : Type 0} (m : Meaning Key Id Name) where
   alike_param i n l a o = first_of (cc, search a)
 
   alike_item : (f : ItemForm) (n : ℕ) (ts : Tree) (l : TyKind Key Id Name) → IsNoItem l → AreAlike (node (item_head f n) ts) (kind_tree m l) → ⊥
-  alike_item f n ts (Infer i) o a = alike_infer (item_head f n) ts i a
+  alike_item AdtForm n ts (Infer i) o a = alike_infer (adt n) ts i a
+  alike_item FnDefForm n ts (Infer i) o a = alike_infer (fn_def n) ts i a
+  alike_item ClosureForm n ts (Infer i) o a = alike_infer (closure n) ts i a
+  alike_item AsyncForm n ts (Infer i) o a = alike_infer (coroutine_closure n) ts i a
+  alike_item CoroutineForm n ts (Infer i) o a = alike_infer (coroutine n) ts i a
+  alike_item WitnessForm n ts (Infer i) o a = alike_infer (coroutine_witness n) ts i a
   alike_item f n ts l o a = first_of (cc, search o)
 
   pub alike_items : (f g : ItemForm) (n k : ℕ) (ts us : Tree) → AreAlike (node (item_head f n) ts) (node (item_head g k) us) → (f ≡ g) × (n ≡ k)

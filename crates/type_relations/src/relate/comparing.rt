@@ -155,8 +155,8 @@ pub fn compare_consts<I: Interner>(cx: &I, a: &Const<I>, b: &Const<I>) -> Result
             }
             Ok(())
         }
-        ConstKind::Placeholder(_)
-        | ConstKind::Infer(_)
+        ConstKind::Placeholder(_) => Err(unlike_consts::<I>(a, b)),
+        ConstKind::Infer(_)
         | ConstKind::Bound(..)
         | ConstKind::Unevaluated(_)
         | ConstKind::Error(_) => Err(unlike_consts::<I>(a, b)),
