@@ -82,12 +82,13 @@ module _ (st : Store) (all : (k : VarKind) (n : ℕ) (t : Tree) → entry_of st 
   covered_resolve : (f : ℕ) (k : VarKind) (n : ℕ) → IsCovered (leaf (variable k n)) → IsCovered (resolve f st k n)
   unfolding resolve
   covered_resolve zero k n c = c
-  covered_resolve (suc f) k n c = go (has_term st k n)
+  covered_resolve (suc f) k n c = go (covered_resolve f) (has_term st k n)
     where
-      go : HasTerm st k n → IsCovered (resolve (suc f) st k n)
-      go (is_free e) = subst IsCovered (sym (resolve_free (suc f) st k n e)) c
-      go (is_bound t e) = subst IsCovered (sym (resolve_bound f st k n t e))
-          (covered_apply (resolve f st) (covered_resolve f) t (entry_covered k n t e c))
+      go : ((j : VarKind) (i : ℕ) → IsCovered (leaf (variable j i)) → IsCovered (resolve f st j i)) → HasTerm st k n →
+          IsCovered (resolve (suc f) st k n)
+      go ih (is_free e) = subst IsCovered (sym (resolve_free (suc f) st k n e)) c
+      go ih (is_bound t e) = subst IsCovered (sym (resolve_bound f st k n t e))
+          (covered_apply (resolve f st) ih t (entry_covered k n t e c))
 
   covered_resolved : (t : Tree) → IsCovered t → IsCovered (apply (resolved st) t)
   unfolding resolved
