@@ -5,8 +5,8 @@ use Rattle.std.proofs.lemmas.Bool.{and_parts, false≢true}
 use Rattle.relation_terms.specs.Heads.{Leaf, atom}
 use Rattle.relation_terms.specs.Trees.{Tree, leaf, known, list_tree}
 use Rattle.type_relations.specs.Covered.{IsCovered, IsCoveredLeaf}
-use Rattle.relation_text.specs.declared.naming.program.ItemSort.{ItemSort}
-use Rattle.relation_text.specs.declared.naming.program.ItemSort.TheVariants as sort
+use Rattle.relation_text.specs.declared.reading.tree.ItemSort.{ItemSort}
+use Rattle.relation_text.specs.declared.reading.tree.ItemSort.TheVariants as sort
 use Rattle.relation_text.specs.declared.naming.program.Term.{Term}
 use Rattle.relation_text.specs.declared.naming.program.Term.TheVariants as term
 use Rattle.relation_text.specs.Terms.{at, parts_tree, leaf_of, item_tree, term_tree, trees_from, trees_of}
