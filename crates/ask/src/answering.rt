@@ -1,6 +1,6 @@
 //! Answers to the questions of a text, or what is wrong with it.
 
-use relation_text::asking::ask_all;
+use relation_asking::ask_all;
 use relation_text::naming::{Program, look_up};
 use relation_text::reading::read;
 use relation_text::telling::{Lines, tell_unnamed, tell_unread};

@@ -1,5 +1,5 @@
 //! Questions, and what is answered.
-use relation_text::asking::ask_all;
+use relation_asking::ask_all;
 use relation_text::naming::{look_up, write_name_error};
 use relation_text::reading::read;
 use std::alloc::Global;

@@ -5,6 +5,7 @@ ghost use Rattle.relation_terms.specs.Meaning.{Extends, kind_tree, const_tree};
 ghost use Rattle.relation_tools.specs.Faults.{KnowsError};
 
 use reference_interner::{ItemId, NodeKey, RefInterner, SymbolId};
+use relation_asking::printing::write_error;
 use relation_terms::terms::{
     AdtId, BoundConst, BoundTy, BoundVar, ClosureId, Const, ConstForm, ConstKind,
     CoroutineClosureId, CoroutineId, ExprKind, ExternAbi, FloatTy, ForeignId, FunctionId,
@@ -12,9 +13,7 @@ use relation_terms::terms::{
     ParamTy, Placeholder, PredicatePolarity, RegionKind, RegionVid, Safety, TyForm, TyKind, TyVid,
     UintTy, UniverseIndex, ValTreeKind,
 };
-use relation_text::printing::{
-    ItemText, Parameter, Texts, TextsOf, write_const, write_error, write_ty,
-};
+use relation_text::printing::{ItemText, Parameter, Texts, TextsOf, write_const, write_ty};
 use relation_tools::error::{ExpectedFound, TypeError, TypeErrorOf};
 use std::fmt;
 use std::test::Fail;

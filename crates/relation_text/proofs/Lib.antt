@@ -1,14 +1,7 @@
 pub mod BlankLemmas
-pub mod AskingLemmas
 pub mod BuildingLemmas
-pub mod Counting
-pub mod NeedLemmas
 pub mod Parts
 pub mod PlaceLemmas
-pub mod Recorded
 pub mod TreeLemmas
 pub mod WordLemmas
 pub mod WriteLemmas
-pub mod CodeLemmas
-pub mod MeetLemmas
-pub mod PutLemmas

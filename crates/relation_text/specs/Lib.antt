@@ -8,9 +8,3 @@ pub mod Trees
 pub mod Reads
 pub mod Terms
 pub mod Built
-pub mod Needs
-pub mod Asking
-pub mod Args
-pub mod Codes
-pub mod Meets
-pub mod Puts

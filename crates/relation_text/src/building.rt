@@ -6,13 +6,10 @@ ghost use Rattle.relation_text.specs.Built.{AreKnown, AreBuilt};
 
 mod lists;
 mod making;
-mod needs;
 
 use crate::naming::Program;
-pub(crate) use lists::{key_at, keys_at, ty_at};
+pub use lists::{key_at, keys_at, ty_at};
 use making::make_term;
-pub(crate) use needs::{both, need_at};
-pub use needs::{Needs, needs_of};
 use relation_terms::terms::{GenericArg, Interner, OutOfMemory};
 
 /// The keys of a program's terms, over ids of its items and names of an interner. There is none of a term where a growth

@@ -1,7 +1,6 @@
-//! Questions as text: how they are read, what their names mean, what is built of them, and how answers and errors print.
+//! Questions as text: how they are read, what their names mean, what is built of them, and how terms print.
 #![tactic(auto)]
 
-pub mod asking;
 pub mod building;
 pub mod naming;
 pub mod printing;

@@ -9,6 +9,7 @@ use relation_terms::terms::{Const, Interner, OutOfMemory, Region, Ty};
 
 mod foldable;
 mod keyed;
+mod memory;
 mod walk;
 
 pub use keyed::{

@@ -2,7 +2,7 @@
 ghost use Rattle.std.specs.Prelude.{◌≡◌, ◌<◌, ◌≤◌, ◌↔◌, IsTrue, IfSome, length, slice_get, string_bytes};
 ghost use Rattle.relations.specs.Named.{IsRow};
 
-use relation_text::asking::ask_all;
+use relation_asking::ask_all;
 use relation_text::naming::{NameError, look_up};
 use relation_text::reading::{ReadError, read};
 use relation_text::telling::{Lines, tell_unnamed, tell_unread};

@@ -5,8 +5,8 @@ use crate::naming::Parts;
 use relation_terms::terms::{ConstKey, GenericArgKind, RegionKey, TyKey};
 use std::alloc::Global;
 
-// The key of the term of that number.
-pub(crate) fn key_at<X: Copy>(
+/// The key of the term of that number, if there is one.
+pub fn key_at<X: Copy>(
     built: &[Option<GenericArgKind<X>>],
     number: usize,
 ) -> Option<GenericArgKind<X>>
@@ -18,8 +18,8 @@ pub(crate) fn key_at<X: Copy>(
     }
 }
 
-// The type of that number.
-pub(crate) fn ty_at<X: Copy>(built: &[Option<GenericArgKind<X>>], number: usize) -> Option<TyKey<X>>
+/// The type of that number, if that is a type.
+pub fn ty_at<X: Copy>(built: &[Option<GenericArgKind<X>>], number: usize) -> Option<TyKey<X>>
     ensures { IfSome result (λ x. slice_get built.now number ≡ Some (Some (GenericArgKind.Ty x))) }
 {
     match key_at(built, number)? {
@@ -57,8 +57,8 @@ pub(super) fn const_at<X: Copy>(
     }
 }
 
-// The keys of a term's parts. There are none where memory for them is refused.
-pub(crate) fn keys_at<X: Copy>(
+/// The keys of a term's parts, if there is one of each. There are none where memory for them is refused.
+pub fn keys_at<X: Copy>(
     alloc: Global,
     numbers: &[usize],
     built: &[Option<GenericArgKind<X>>],

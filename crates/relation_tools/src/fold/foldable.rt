@@ -82,7 +82,7 @@ impl<I: Interner> TypeFoldable<I> for TermKind<I::Key> {
     }
 }
 
-impl<I: Interner, T: TypeFoldable<I> + Drop> TypeFoldable<I> for ExpectedFound<T> {
+impl<I: Interner, T: TypeFoldable<I> + Copy> TypeFoldable<I> for ExpectedFound<T> {
     fn fold_with<F: TypeFolder<I>>(&self, cx: &mut I, folder: &mut F) -> Result<Self, OutOfMemory> {
         let expected = self.expected.fold_with(cx, folder)?;
         let found = self.found.fold_with(cx, folder)?;

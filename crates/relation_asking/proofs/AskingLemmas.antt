@@ -1,0 +1,106 @@
+-- Terms that are ready, and contexts that have what they need.
+use Rattle.std.proofs.Common.{◌≡◌, ◌≢◌, ℕ, ◌<◌, sym, subst, arith, List, [], ◌∷◌, Option, Some, map, slice_get, refl}
+use Rattle.std.proofs.lemmas.List.{length-map}
+use Rattle.relation_terms.specs.declared.terms.enums.Variance.{Variance}
+use Rattle.relation_terms.specs.declared.terms.enums.Variance.TheVariants.{Covariant, Contravariant, Invariant, Bivariant}
+use Rattle.relation_terms.specs.declared.terms.generic_arg.GenericArgKind.{GenericArgKind}
+use Rattle.relation_terms.specs.Trees.{Tree, known, list_tree}
+use Rattle.relation_terms.specs.Meaning.{Meaning, Extends, arg_tree}
+use Rattle.relation_terms.proofs.Stays.{stays_arg}
+use Rattle.type_relations.specs.Stores.{IsTermIn}
+use Rattle.type_relations.specs.Taken.{IsTaken}
+use Rattle.relation_reference.specs.declared.context.inner.InferCtxtInner.{InferCtxtInner}
+use Rattle.relation_reference.specs.Tables.{store_of}
+use Rattle.relation_asking.specs.declared.needs.Needs.{Needs}
+use Rattle.relation_text.specs.declared.naming.program.Term.{Term}
+use Rattle.relation_text.specs.Terms.{at, trees_of}
+use Rattle.relation_text.specs.Built.{AreKnown, AreBuilt}
+use Rattle.relation_text.specs.declared.naming.program.Put.{Put}
+use Rattle.relation_asking.specs.Meets.{AllKnown}
+use Rattle.relation_asking.specs.Puts.{AreMade, ArePuts}
+use Rattle.relation_asking.proofs.MeetLemmas.{and_both}
+use Rattle.relation_asking.specs.Needs.{Allows, both_needs, need_at, needs_of}
+use Rattle.relation_asking.specs.Asking.{IsReady, AreReady, Has, MayBeAsked}
+use Rattle.relation_asking.proofs.NeedLemmas.{reaches_left, reaches_right, allowed_in, fixed_taken, all_taken, all_enough}
+
+-- What is ready stays so.
+pub ready_stays : {Key Id Name : Type 0} {m n : Meaning Key Id Name} → Extends m n →
+    (keys : List (Option (GenericArgKind Key))) (needs : List Needs) → AreReady m keys needs → AreReady n keys needs
+ready_stays {m = m} {n = n} e keys needs r = λ k key there.
+    let h = r k key there in
+    let same : arg_tree n key ≡ arg_tree m key = stays_arg e key h.0 in
+    subst (IsReady (need_at needs k)) (sym same) h
+
+pub one_ready : (t u : Tree) (needs : Needs) → u ≡ t → IsReady needs t → IsReady needs u
+one_ready t u needs e h = subst (IsReady needs) (sym e) h
+
+-- What has what is needed for both has it for each.
+module _ {Key : Type 0} (x : InferCtxtInner Key) (a b : Needs) (h : Has x (both_needs a b)) where
+  pub has_left : Has x a
+  has_left = record {
+    types = λ i r. h.types i (reaches_left a.types b.types i r);
+    regions = λ i r. h.regions i (reaches_left a.regions b.regions i r);
+    universe = (let u = h.universe in omega (arith, u));
+  }
+
+  pub has_right : Has x b
+  has_right = record {
+    types = λ i r. h.types i (reaches_right a.types b.types i r);
+    regions = λ i r. h.regions i (reaches_right a.regions b.regions i r);
+    universe = (let u = h.universe in omega (arith, u));
+  }
+
+-- Such a context's terms.
+pub ready_in : {Key Id Name : Type 0} (m : Meaning Key Id Name) (x : InferCtxtInner Key) (n : Needs) → Has x n →
+    (t : Tree) → IsReady n t → IsTermIn (store_of m x) t
+ready_in m x n h t r = allowed_in (store_of m x) n
+    (λ i k. subst (λ l. i < l) (sym (length-map x.types.items _)) (h.types i k))
+    (λ i k. subst (λ l. i < l) (sym (length-map x.regions.items _)) (h.regions i k)) h.universe t r.0 r.1
+
+-- What may be asked.
+pub left_taken : (v : Variance) (a b : Needs) (t : Tree) → MayBeAsked v a b → Allows a t → IsTaken v t
+left_taken Covariant a b t h k = fixed_taken a h.0 Covariant t k
+left_taken Contravariant a b t h k = fixed_taken a h.0 Contravariant t k
+left_taken Invariant a b t h k = all_taken a t k
+left_taken Bivariant a b t h k = absurd h
+
+pub right_taken : (v : Variance) (a b : Needs) (t : Tree) → MayBeAsked v a b → Allows b t → IsTaken v t
+right_taken Covariant a b t h k = fixed_taken b h.1 Covariant t k
+right_taken Contravariant a b t h k = fixed_taken b h.1 Contravariant t k
+right_taken Invariant a b t h k = all_taken b t k
+right_taken Bivariant a b t h k = absurd h
+
+pub asked_decides : (v : Variance) (a b : Needs) → MayBeAsked v a b → v ≢ Bivariant
+asked_decides Covariant a b h = λ e. absurd cc
+asked_decides Contravariant a b h = λ e. absurd cc
+asked_decides Invariant a b h = λ e. absurd cc
+asked_decides Bivariant a b h = absurd h
+
+-- Keys that were built, and what their terms need.
+pub all_ready : {Key Id Name : Type 0} (m : Meaning Key Id Name) (items names parts : List ℕ) (xs : List Term)
+    (keys : List (Option (GenericArgKind Key))) (needs : List Needs) → AreKnown m keys →
+    AreBuilt m (trees_of items names parts xs) keys → needs ≡ needs_of parts xs → AreReady m keys needs
+all_ready m items names parts xs keys needs sure made same = λ k key there. (
+  sure k key there,
+  subst (Allows (need_at needs k)) (sym (made k key there))
+      (subst (λ ns. Allows (need_at ns k) (at (trees_of items names parts xs) k)) (sym same)
+      (all_enough items names parts xs k)),
+)
+
+-- Keys of a list of terms that are ready are known, and so is what is put for terms.
+module _ {Key Id Name : Type 0} (m : Meaning Key Id Name) (keys : List (Option (GenericArgKind Key))) (needs : List Needs)
+    (r : AreReady m keys needs) where
+  pub keys_known : (ns : List ℕ) (xs : List (GenericArgKind Key)) → map (slice_get keys) ns ≡ map (λ x. Some (Some x)) xs →
+      AllKnown m xs
+  keys_known ns [] e = refl
+  keys_known [] (x ∷ xs) e = absurd (cc)
+  keys_known (n ∷ ns) (x ∷ xs) e =
+      let one : slice_get keys n ≡ Some (Some x) = cc in
+      let more : map (slice_get keys) ns ≡ map (λ y. Some (Some y)) xs = cc in
+      and_both (known (arg_tree m x)) (known (list_tree (arg_tree m) xs)) (r n x one).0 (keys_known ns xs more)
+
+  pub puts_known : (ns : List (Put ℕ)) (ps : List (Put (GenericArgKind Key))) → AreMade keys ns ps → ArePuts m ps
+  puts_known [] [] h = tt
+  puts_known (n ∷ ns) (p ∷ ps) h =
+      (((r n.from p.from h.0.0).0, (r n.to p.to h.0.1).0, h.0.2), puts_known ns ps h.1)
+  puts_known ns ps h = absurd h

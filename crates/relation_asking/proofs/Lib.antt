@@ -1,0 +1,7 @@
+pub mod AskingLemmas
+pub mod Counting
+pub mod NeedLemmas
+pub mod Recorded
+pub mod CodeLemmas
+pub mod MeetLemmas
+pub mod PutLemmas

@@ -1,0 +1,317 @@
+-- What terms need, and contexts that have it.
+use Rattle.std.proofs.Common.{◌≡◌, ℕ, zero, suc, ◌<◌, ◌≤◌, max, IsTrue, refl, sym, ap, ◌∙◌, subst, arith, List, [], ◌∷◌, ◌++◌}
+use Rattle.std.proofs.Common.{Option, Some, None, length, get_or, slice_get, slice_range, take, drop, ◌+◌, ◌-◌, ◌⊎◌, inl, inr}
+use native.Mathlib.Decide.{dec_lt}
+use Rattle.std.proofs.lemmas.List.{take_more, length-drop, get_or-drop, take_all}
+use Rattle.std.proofs.lemmas.Option.{slice_get_within, get_or_from_slice_get, slice_get_cases}
+use Rattle.std.proofs.lemmas.Bool.{and_parts, false≢true}
+use Rattle.relation_terms.specs.declared.terms.enums.Variance.{Variance}
+use Rattle.relation_terms.specs.declared.terms.enums.Variance.TheVariants.{Covariant, Contravariant, Invariant, Bivariant}
+use Rattle.relation_terms.specs.Heads.{Leaf, type_var, region_var, int_var, float_var, const_var}
+use Rattle.relation_terms.specs.Heads.{variable, bound, placeholder, atom, unknown}
+use Rattle.relation_terms.specs.Trees.{Tree, leaf, node, bind, nil, cons, Leaves, known, list_tree}
+use Rattle.type_relations.specs.Relation.{StaysWithin}
+use Rattle.type_relations.specs.Stores.{Store, IsTermIn, InContext, IsMadeLeaf, IsMade, IsNamable}
+use Rattle.type_relations.specs.Taken.{IsTaken, IsTakenLeaf, IsFixedLeaf}
+use Rattle.relation_asking.specs.declared.needs.Needs.{Needs}
+use Rattle.relation_text.specs.declared.reading.tree.ItemSort.{ItemSort}
+use Rattle.relation_text.specs.declared.reading.tree.ItemSort.TheVariants as sort
+use Rattle.relation_text.specs.declared.naming.program.Term.{Term}
+use Rattle.relation_text.specs.declared.naming.program.Term.TheVariants as term
+use Rattle.relation_text.specs.Terms.{at, parts_tree, leaf_of, item_tree, term_tree, trees_from, trees_of}
+use Rattle.relation_asking.specs.Needs.{larger, both_needs, no_needs, need_at, needs_with, parts_need, term_need, needs_from}
+use Rattle.relation_asking.specs.Needs.{needs_of, Reaches, IsEnough, Allows, AreEnough}
+
+some_is_there : {x : ℕ} → Some x ≡ None → ⊥
+some_is_there e = cc
+
+max_left : (a b i : ℕ) → i ≤ a → i ≤ max a b
+max_left a b i h = omega (arith, h)
+
+max_right : (a b i : ℕ) → i ≤ b → i ≤ max a b
+max_right a b i h = omega (arith, h)
+
+pub reaches_left : (a b : Option ℕ) (i : ℕ) → Reaches a i → Reaches (larger a b) i
+reaches_left None b i h = absurd h
+reaches_left (Some a) None i h = h
+reaches_left (Some a) (Some b) i h = max_left a b i h
+
+pub reaches_right : (a b : Option ℕ) (i : ℕ) → Reaches b i → Reaches (larger a b) i
+reaches_right None b i h = h
+reaches_right (Some a) None i h = absurd h
+reaches_right (Some a) (Some b) i h = max_right a b i h
+
+-- What is enough for either is enough for both.
+enough_left : (a b : Needs) (l : Leaf) → IsEnough a l → IsEnough (both_needs a b) l
+enough_left a b (variable type_var i) h = reaches_left a.types b.types i h
+enough_left a b (variable region_var i) h = reaches_left a.regions b.regions i h
+enough_left a b (variable int_var i) h = h
+enough_left a b (variable float_var i) h = h
+enough_left a b (variable const_var i) h = h
+enough_left a b (bound k d i) h = h
+enough_left a b (placeholder k u i) h = max_left a.universe b.universe u h
+enough_left a b (atom x) h = h
+enough_left a b unknown h = tt
+
+enough_right : (a b : Needs) (l : Leaf) → IsEnough b l → IsEnough (both_needs a b) l
+enough_right a b (variable type_var i) h = reaches_right a.types b.types i h
+enough_right a b (variable region_var i) h = reaches_right a.regions b.regions i h
+enough_right a b (variable int_var i) h = h
+enough_right a b (variable float_var i) h = h
+enough_right a b (variable const_var i) h = h
+enough_right a b (bound k d i) h = h
+enough_right a b (placeholder k u i) h = max_right a.universe b.universe u h
+enough_right a b (atom x) h = h
+enough_right a b unknown h = tt
+
+each_leaf : (P Q : Leaf → Type 0) → ((l : Leaf) → P l → Q l) → (t : Tree) → Leaves P t → Leaves Q t
+each_leaf P Q f (leaf l) h = f l h
+each_leaf P Q f (node g ts) h = each_leaf P Q f ts h
+each_leaf P Q f (bind ks t) h = each_leaf P Q f t h
+each_leaf P Q f nil h = tt
+each_leaf P Q f (cons t ts) h = (each_leaf P Q f t h.0, each_leaf P Q f ts h.1)
+
+allows_left : (a b : Needs) (t : Tree) → Allows a t → Allows (both_needs a b) t
+allows_left a b t h = each_leaf (IsEnough a) (IsEnough (both_needs a b)) (enough_left a b) t h
+
+allows_right : (a b : Needs) (t : Tree) → Allows b t → Allows (both_needs a b) t
+allows_right a b t h = each_leaf (IsEnough b) (IsEnough (both_needs a b)) (enough_right a b) t h
+
+-- Of lists.
+allows_still : (ns : List Needs) (n : Needs) (ks : List ℕ) (t : Tree) → Allows n t → Allows (needs_with ns n ks) t
+allows_still ns n [] t h = h
+allows_still ns n (k ∷ ks) t h =
+    allows_still ns (both_needs n (need_at ns k)) ks t (allows_left n (need_at ns k) t h)
+
+list_enough : (ts : List Tree) (ns : List Needs) → AreEnough ts ns → (n : Needs) (ks : List ℕ) →
+    Allows (needs_with ns n ks) (list_tree (at ts) ks)
+list_enough ts ns e n [] = tt
+list_enough ts ns e n (k ∷ ks) = (
+  allows_still ns (both_needs n (need_at ns k)) ks (at ts k) (allows_right n (need_at ns k) (at ts k) (e k)),
+  list_enough ts ns e (both_needs n (need_at ns k)) ks,
+)
+
+leaf_enough : (n : Needs) (f : ℕ → Leaf) → ((x : ℕ) → IsEnough n (f x)) → (o : Option ℕ) → Allows n (leaf_of f o)
+leaf_enough n f h None = tt
+leaf_enough n f h (Some x) = h x
+
+item_enough : (n : Needs) (s : ItemSort) (o : Option ℕ) (ts : Tree) → Allows n ts → Allows n (item_tree s o ts)
+item_enough n s None ts h = tt
+item_enough n sort.Struct (Some d) ts h = h
+item_enough n sort.Fn (Some d) ts h = h
+item_enough n sort.Closure (Some d) ts h = h
+item_enough n sort.Coroutine (Some d) ts h = h
+item_enough n sort.CoroutineClosure (Some d) ts h = h
+item_enough n sort.Foreign (Some d) ts h = tt
+
+same_number : (n : ℕ) → n ≤ n
+same_number n = omega arith
+
+module _ (items names parts : List ℕ) where
+  -- What a term needs is enough for it.
+  term_enough : (ts : List Tree) (ns : List Needs) → AreEnough ts ns → (x : Term) →
+      Allows (term_need parts ns x) (term_tree items names parts ts x)
+  term_enough ts ns e term.Bool = tt
+  term_enough ts ns e term.Char = tt
+  term_enough ts ns e term.Str = tt
+  term_enough ts ns e term.Never = tt
+  term_enough ts ns e (term.Int w) = tt
+  term_enough ts ns e (term.Uint w) = tt
+  term_enough ts ns e (term.Float w) = tt
+  term_enough ts ns e (term.Item s d p) = item_enough _ s (slice_get items d) _ (list_enough ts ns e no_needs _)
+  term_enough ts ns e (term.Slice t) = (e t, tt)
+  term_enough ts ns e (term.Array t c) = (
+    allows_left (need_at ns t) (need_at ns c) (at ts t) (e t),
+    (allows_right (need_at ns t) (need_at ns c) (at ts c) (e c), tt),
+  )
+  term_enough ts ns e (term.Tuple p) = list_enough ts ns e no_needs _
+  term_enough ts ns e (term.RawPtr t u) = (e t, tt)
+  term_enough ts ns e (term.Ref r t u) = (
+    allows_left (need_at ns r) (need_at ns t) (at ts r) (e r),
+    (allows_right (need_at ns r) (need_at ns t) (at ts t) (e t), tt),
+  )
+  term_enough ts ns e (term.TyParam i n) = leaf_enough no_needs _ (λ x. tt) (slice_get names n)
+  term_enough ts ns e (term.TyPlaceholder u v n) =
+      leaf_enough (record { types = None; regions = None; universe = u }) _ (λ x. same_number u) (slice_get names n)
+  term_enough ts ns e (term.TyVar n) = same_number n
+  term_enough ts ns e term.Static = tt
+  term_enough ts ns e (term.RegionParam i n) = leaf_enough no_needs _ (λ x. tt) (slice_get names n)
+  term_enough ts ns e (term.RegionVar n) = same_number n
+  term_enough ts ns e (term.ConstParam i n) = leaf_enough no_needs _ (λ x. tt) (slice_get names n)
+  term_enough ts ns e (term.ConstPlaceholder u v n) =
+      leaf_enough (record { types = None; regions = None; universe = u }) _ (λ x. same_number u) (slice_get names n)
+  term_enough ts ns e (term.Number t b n) = ((e t, tt), (tt, tt))
+  term_enough ts ns e (term.Branch t p) = (
+    (allows_left (need_at ns t) (parts_need parts ns p) (at ts t) (e t), tt),
+    (
+      allows_right (need_at ns t) (parts_need parts ns p) (parts_tree parts ts p)
+          (list_enough ts ns e no_needs (slice_range parts p.first p.behind)),
+      tt,
+    ),
+  )
+  term_enough ts ns e (term.Expr k p) = list_enough ts ns e no_needs _
+
+  -- One more term, and what it needs.
+  enough_more : (ts : List Tree) (ns : List Needs) → length ts ≡ length ns → AreEnough ts ns → (t : Tree) (n : Needs) →
+      Allows n t → AreEnough (ts ++ t ∷ []) (ns ++ n ∷ [])
+  enough_more [] [] l e t n h zero = h
+  enough_more [] [] l e t n h (suc k) = tt
+  enough_more (x ∷ ts) (y ∷ ns) l e t n h zero = e zero
+  enough_more (x ∷ ts) (y ∷ ns) l e t n h (suc k) =
+      enough_more ts ns (omega (arith, l)) (λ j. e (suc j)) t n h k
+  enough_more [] (y ∷ ns) l e t n h k = absurd (omega (arith, l))
+  enough_more (x ∷ ts) [] l e t n h k = absurd (omega (arith, l))
+
+  one_longer : (ts : List Tree) (ns : List Needs) (t : Tree) (n : Needs) → length ts ≡ length ns →
+      length (ts ++ t ∷ []) ≡ length (ns ++ n ∷ [])
+  one_longer [] [] t n l = refl
+  one_longer (x ∷ ts) (y ∷ ns) t n l = ap suc (one_longer ts ns t n (omega (arith, l)))
+  one_longer [] (y ∷ ns) t n l = absurd (omega (arith, l))
+  one_longer (x ∷ ts) [] t n l = absurd (omega (arith, l))
+
+  enough_from : (ts : List Tree) (ns : List Needs) → length ts ≡ length ns → AreEnough ts ns → (xs : List Term) →
+      AreEnough (trees_from items names parts ts xs) (needs_from parts ns xs)
+  enough_from ts ns l e [] = e
+  enough_from ts ns l e (x ∷ xs) =
+      enough_from (ts ++ term_tree items names parts ts x ∷ []) (ns ++ term_need parts ns x ∷ [])
+      (one_longer ts ns (term_tree items names parts ts x) (term_need parts ns x) l)
+      (enough_more ts ns l e (term_tree items names parts ts x) (term_need parts ns x) (term_enough ts ns e x)) xs
+
+  none_enough : AreEnough [] []
+  none_enough zero = tt
+  none_enough (suc k) = tt
+
+  -- What all terms of a program need is enough for them.
+  pub all_enough : (xs : List Term) → AreEnough (trees_of items names parts xs) (needs_of parts xs)
+  all_enough xs = enough_from [] [] refl none_enough xs
+
+-- One more term behind others.
+pub needs_more : (parts : List ℕ) (ns : List Needs) (xs : List Term) (x : Term) →
+    needs_from parts ns (xs ++ x ∷ []) ≡ needs_from parts ns xs ++ term_need parts (needs_from parts ns xs) x ∷ []
+needs_more parts ns [] x = refl
+needs_more parts ns (y ∷ xs) x = needs_more parts (ns ++ term_need parts ns y ∷ []) xs x
+
+-- One more part of a list.
+pub needs_with_more : (ns : List Needs) (n : Needs) (ks : List ℕ) (k : ℕ) →
+    needs_with ns n (ks ++ k ∷ []) ≡ both_needs (needs_with ns n ks) (need_at ns k)
+needs_with_more ns n [] k = refl
+needs_with_more ns n (j ∷ ks) k = needs_with_more ns (both_needs n (need_at ns j)) ks k
+
+-- A context that has what a known term needs.
+module _ (st : Store) (n : Needs) (types : (i : ℕ) → Reaches n.types i → IsMade st type_var i)
+    (regions : (i : ℕ) → Reaches n.regions i → IsMade st region_var i) (universe : n.universe ≤ st.universe) where
+  is_made : (l : Leaf) → IsTrue (known (leaf l)) → IsEnough n l → IsMadeLeaf st l
+  is_made (variable type_var i) k h = types i h
+  is_made (variable region_var i) k h = regions i h
+  is_made (variable int_var i) k h = absurd h
+  is_made (variable float_var i) k h = absurd h
+  is_made (variable const_var i) k h = absurd h
+  is_made (bound c d i) k h = tt
+  is_made (placeholder c u i) k h = tt
+  is_made (atom x) k h = h
+  is_made unknown k h = absurd (false≢true k)
+
+  is_namable : (l : Leaf) → IsTrue (known (leaf l)) → IsEnough n l → IsNamable st.universe l
+  is_namable (variable c i) k h = tt
+  is_namable (bound c d i) k h = tt
+  is_namable (placeholder c u i) k h = omega (arith, h, universe)
+  is_namable (atom x) k h = tt
+  is_namable unknown k h = absurd (false≢true k)
+
+  known_leaves : (P : Leaf → Type 0) → ((l : Leaf) → IsTrue (known (leaf l)) → IsEnough n l → P l) → (t : Tree) →
+      IsTrue (known t) → Allows n t → Leaves P t
+  known_leaves P f (leaf l) k h = f l k h
+  known_leaves P f (node g ts) k h = known_leaves P f ts k h
+  known_leaves P f (bind ks t) k h = known_leaves P f t k h
+  known_leaves P f nil k h = tt
+  known_leaves P f (cons t ts) k h = let p = and_parts (known t) (known ts) k in
+      (known_leaves P f t p.0 h.0, known_leaves P f ts p.1 h.1)
+
+  leaf_stays : (depth : ℕ) (l : Leaf) → IsEnough n l → StaysWithin depth (leaf l)
+  leaf_stays depth (variable c i) h = tt
+  leaf_stays depth (bound c d i) h = absurd h
+  leaf_stays depth (placeholder c u i) h = tt
+  leaf_stays depth (atom x) h = tt
+  leaf_stays depth unknown h = tt
+
+  stays : (depth : ℕ) (t : Tree) → Allows n t → StaysWithin depth t
+  stays depth (leaf l) h = leaf_stays depth l h
+  stays depth (node g ts) h = stays depth ts h
+  stays depth (bind ks t) h = stays (suc depth) t h
+  stays depth nil h = tt
+  stays depth (cons t ts) h = (stays depth t h.0, stays depth ts h.1)
+
+  pub allowed_in : (t : Tree) → IsTrue (known t) → Allows n t → IsTermIn st t
+  unfolding IsTermIn InContext
+  allowed_in t k h =
+      (known_leaves (IsMadeLeaf st) is_made t k h, stays 0 t h, known_leaves (IsNamable st.universe) is_namable t k h)
+
+-- A term that needs no type variable is taken at each variance.
+fixed : (n : Needs) → n.types ≡ None → (l : Leaf) → IsEnough n l → IsFixedLeaf l
+fixed n e (variable region_var i) h = tt
+fixed n e (variable type_var i) h = absurd (subst (λ o. Reaches o i) e h)
+fixed n e (variable int_var i) h = absurd h
+fixed n e (variable float_var i) h = absurd h
+fixed n e (variable const_var i) h = absurd h
+fixed n e (bound k d i) h = tt
+fixed n e (placeholder k u i) h = tt
+fixed n e (atom x) h = tt
+fixed n e unknown h = tt
+
+pub fixed_taken : (n : Needs) → n.types ≡ None → (v : Variance) (t : Tree) → Allows n t → IsTaken v t
+fixed_taken n e Covariant t h = each_leaf (IsEnough n) (IsTakenLeaf Covariant) (fixed n e) t h
+fixed_taken n e Contravariant t h = each_leaf (IsEnough n) (IsTakenLeaf Contravariant) (fixed n e) t h
+fixed_taken n e Invariant t h = each_leaf (IsEnough n) (IsTakenLeaf Invariant) (λ l o. tt) t h
+fixed_taken n e Bivariant t h = each_leaf (IsEnough n) (IsTakenLeaf Bivariant) (λ l o. tt) t h
+
+pub all_taken : (n : Needs) (t : Tree) → Allows n t → IsTaken Invariant t
+all_taken n t h = each_leaf (IsEnough n) (IsTakenLeaf Invariant) (λ l o. tt) t h
+
+-- One more place of a range: what stands there, or nothing.
+pub range_more : (xs : List ℕ) (a i x : ℕ) → a ≤ i → slice_get xs i ≡ Some x →
+    slice_range xs a (i + 1) ≡ slice_range xs a i ++ x ∷ []
+range_more xs a i x l h =
+    let within = slice_get_within xs i x h in
+    let rest = length-drop a xs in
+    ap (λ n. take n (drop a xs)) longer ∙ take_more (drop a xs) (i - a) x (omega (arith, l, within, rest))
+    ∙ ap (λ z. take (i - a) (drop a xs) ++ z ∷ [])
+    (get_or-drop a xs (i - a) x ∙ ap (λ n. get_or xs n x) back ∙ get_or_from_slice_get xs i x x h)
+  where
+    longer : i + 1 - a ≡ i - a + 1
+    longer = omega (arith, l)
+
+    back : a + (i - a) ≡ i
+    back = omega (arith, l)
+
+pub range_ends : (xs : List ℕ) (a i : ℕ) → a ≤ i → slice_get xs i ≡ None → slice_range xs a (i + 1) ≡ slice_range xs a i
+range_ends xs a i l h = go (slice_get_cases xs i).1
+  where
+    past : length xs ≤ i → slice_range xs a (i + 1) ≡ slice_range xs a i
+    past e = let rest = length-drop a xs in
+        take_all (i + 1 - a) (drop a xs) (omega (arith, l, e, rest))
+        ∙ sym (take_all (i - a) (drop a xs) (omega (arith, l, e, rest)))
+
+    go : ((x : ℕ) × (i < length xs) × (slice_get xs i ≡ Some x) × (get_or xs i x ≡ x))
+        ⊎ ((length xs ≤ i) × (slice_get xs i ≡ None)) → slice_range xs a (i + 1) ≡ slice_range xs a i
+    go (inl (x, k, e, o)) = absurd (some_is_there (sym e ∙ h))
+    go (inr p) = past p.0
+
+-- A range that ends where it begins, or before.
+pub range_none : (xs : List ℕ) (a b : ℕ) → b ≤ a → slice_range xs a b ≡ []
+range_none xs a b h = subst (λ n. take n (drop a xs) ≡ []) (sym none) refl
+  where
+    none : b - a ≡ 0
+    none = omega (arith, h)
+
+-- A loop through a range has met all of it at its end.
+pub range_met : (xs : List ℕ) (a b i : ℕ) → a ≤ i → b ≤ i → (a ≤ b → i ≤ b) → (b ≤ a → i ≡ a) →
+    slice_range xs a i ≡ slice_range xs a b
+range_met xs a b i l m up down = go (dec_lt a b)
+  where
+    go : Dec (a < b) → slice_range xs a i ≡ slice_range xs a b
+    go (yes p) = let h = up (omega (arith, p)) in ap (slice_range xs a) (same h)
+      where
+        same : i ≤ b → i ≡ b
+        same h = omega (arith, h, m)
+    go (no n) = let e = down (omega (arith, n)) in
+        ap (slice_range xs a) e ∙ range_none xs a a (omega arith) ∙ sym (range_none xs a b (omega (arith, n)))

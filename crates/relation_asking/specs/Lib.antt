@@ -1,0 +1,6 @@
+pub mod Needs
+pub mod Asking
+pub mod Args
+pub mod Codes
+pub mod Meets
+pub mod Puts

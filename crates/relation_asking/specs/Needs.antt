@@ -1,0 +1,95 @@
+-- What a context has to have for a term to be its own.
+use Rattle.std.specs.Prelude.{ℕ, ◌≤◌, max, List, [], ◌∷◌, ◌++◌, Option, Some, None, slice_get, slice_range}
+use Rattle.relation_terms.specs.Heads.{Leaf, variable, bound, placeholder, atom, unknown, type_var, region_var}
+use Rattle.relation_terms.specs.Trees.{Tree, Leaves}
+use Rattle.type_relations.specs.Relation.{IsValueAtom}
+use Rattle.relation_asking.specs.declared.needs.Needs.{Needs}
+use Rattle.relation_text.specs.declared.naming.program.Parts.{Parts}
+use Rattle.relation_text.specs.declared.naming.program.Term.{Term}
+use Rattle.relation_text.specs.declared.naming.program.Term.TheVariants as term
+use Rattle.relation_text.specs.Terms.{at}
+
+-- The larger of two numbers that may be missing.
+abbrev pub larger : Option ℕ → Option ℕ → Option ℕ
+larger None b = b
+larger (Some a) None = Some a
+larger (Some a) (Some b) = Some (max a b)
+
+-- Nothing is needed.
+abbrev pub no_needs : Needs
+no_needs = record { types = None; regions = None; universe = 0 }
+
+-- What is needed for both.
+abbrev pub both_needs : Needs → Needs → Needs
+both_needs a b = record {
+  types = larger a.types b.types;
+  regions = larger a.regions b.regions;
+  universe = max a.universe b.universe;
+}
+
+-- What a term of that number needs.
+abbrev pub need_in : Option Needs → Needs
+need_in None = no_needs
+need_in (Some n) = n
+
+abbrev pub need_at : List Needs → ℕ → Needs
+need_at ns k = need_in (slice_get ns k)
+
+-- What is needed, and what terms of these numbers need.
+abbrev pub needs_with : List Needs → Needs → List ℕ → Needs
+needs_with ns n [] = n
+needs_with ns n (k ∷ ks) = needs_with ns (both_needs n (need_at ns k)) ks
+
+-- What the parts of a term need.
+abbrev pub parts_need : List ℕ → List Needs → Parts → Needs
+parts_need ps ns p = needs_with ns no_needs (slice_range ps p.first p.behind)
+
+module _ (parts : List ℕ) where
+  -- What a term needs, by what the terms before it need.
+  abbrev pub term_need : List Needs → Term → Needs
+  term_need ns (term.TyVar n) = record { types = Some n; regions = None; universe = 0 }
+  term_need ns (term.RegionVar n) = record { types = None; regions = Some n; universe = 0 }
+  term_need ns (term.TyPlaceholder u v n) = record { types = None; regions = None; universe = u }
+  term_need ns (term.ConstPlaceholder u v n) = record { types = None; regions = None; universe = u }
+  term_need ns (term.Slice t) = need_at ns t
+  term_need ns (term.RawPtr t m) = need_at ns t
+  term_need ns (term.Number t b n) = need_at ns t
+  term_need ns (term.Array t c) = both_needs (need_at ns t) (need_at ns c)
+  term_need ns (term.Ref r t m) = both_needs (need_at ns r) (need_at ns t)
+  term_need ns (term.Branch t p) = both_needs (need_at ns t) (parts_need parts ns p)
+  term_need ns (term.Item s d p) = parts_need parts ns p
+  term_need ns (term.Tuple p) = parts_need parts ns p
+  term_need ns (term.Expr k p) = parts_need parts ns p
+  term_need ns t = no_needs
+
+  -- What terms need that stand behind those of these needs; what all need.
+  abbrev pub needs_from : List Needs → List Term → List Needs
+  needs_from ns [] = ns
+  needs_from ns (x ∷ xs) = needs_from (ns ++ term_need ns x ∷ []) xs
+
+  abbrev pub needs_of : List Term → List Needs
+  needs_of xs = needs_from [] xs
+
+-- A number reaches another, if it is there.
+abbrev pub Reaches : Option ℕ → ℕ → Type 0
+Reaches None i = ⊥
+Reaches (Some n) i = i ≤ n
+
+-- What is needed is enough for a leaf: a type or a region variable up to the largest, a placeholder that the universe
+-- names. No other variable stands in a term, and nothing that a binder binds.
+abbrev pub IsEnough : Needs → Leaf → Type 0
+IsEnough n (variable type_var i) = Reaches n.types i
+IsEnough n (variable region_var i) = Reaches n.regions i
+IsEnough n (variable k i) = ⊥
+IsEnough n (bound k d i) = ⊥
+IsEnough n (placeholder k u i) = u ≤ n.universe
+IsEnough n (atom x) = IsValueAtom x
+IsEnough n unknown = Unit {0}
+
+-- It is enough for a term.
+abbrev pub Allows : Needs → Tree → Type 0
+Allows n t = Leaves (IsEnough n) t
+
+-- Each term's needs are enough for it.
+abbrev pub AreEnough : List Tree → List Needs → Type 0
+AreEnough trees needs = (k : ℕ) → Allows (need_at needs k) (at trees k)

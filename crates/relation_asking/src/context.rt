@@ -1,0 +1,151 @@
+//! A question's context, and relating in it.
+ghost use Rattle.std.specs.Prelude.{◌≡◌, ◌≢◌, ℕ, ◌<◌, ◌≤◌, IfNone, IfOk, IfErr, OnOk, length};
+ghost use Rattle.relation_terms.specs.Meaning.{Extends};
+ghost use Rattle.relation_tools.specs.Faults.{KnowsFault};
+ghost use Rattle.type_relations.specs.Contexts.{KnowsEnv, KnowsTy, TakesTy, HasTy};
+ghost use Rattle.type_relations.specs.Contexts.{AnswersTys, KeepsEqualTys, TellsApart};
+ghost use Rattle.relation_reference.specs.Tables.{IsLawful};
+ghost use Rattle.relation_asking.specs.Needs.{Reaches};
+ghost use Rattle.relation_asking.specs.Asking.{Has, IsAskable};
+
+use crate::needs::Needs;
+use relation_reference::context::RefCtxt;
+use relation_terms::terms::{Interner, OutOfMemory, ParamEnv, Span, Ty, Variance};
+use relation_text::naming::Question;
+use std::fmt::{self, Write};
+use type_relations::relate::solver_relating::{RelateExt, RelateGoals};
+
+/// Why a question is not asked.
+#[derive(Clone, Copy, PartialEq, Eq, Debug)]
+pub enum NotAsked {
+    /// Types with type variables are related at `==` alone.
+    Variables,
+    /// The context's universe does not name a placeholder.
+    Universe,
+    /// Nothing is asked at this variance.
+    Variance,
+}
+
+// A new context over the interner of another one.
+pub(super) fn renewed<I: Interner>(ctx: RefCtxt<I>, budget: usize) -> RefCtxt<I>
+    ensures interner { result.interner ≡ ctx.interner }
+    ensures lawful { IsLawful (I.meaning ctx.interner) result.inner }
+{
+    let RefCtxt { interner, inner: _ } = ctx;
+    RefCtxt::new(interner, budget)
+}
+
+// Makes variables until the context has so many.
+fn make_variables<I: Interner>(
+    ctx: &mut RefCtxt<I>,
+    types: usize,
+    regions: usize,
+) -> Result<(), OutOfMemory>
+    requires { IsLawful (I.meaning ctx.old.interner) ctx.old.inner }
+    ensures lawful { IsLawful (I.meaning ctx.new.interner) ctx.new.inner }
+    ensures grown { Extends (I.meaning ctx.old.interner) (I.meaning ctx.new.interner) }
+    ensures types { OnOk result (types ≤ length ctx.new.inner.types.items) }
+    ensures regions { OnOk result (regions ≤ length ctx.new.inner.regions.items) }
+{
+    for _ in ctx.inner.types.len()..types {
+        let _ = ctx.next_ty_infer()?;
+    }
+    for _ in ctx.inner.regions.len()..regions {
+        let _ = ctx.next_region_infer()?;
+    }
+    Ok(())
+}
+
+// How many variables there are up to that number.
+fn count_to(largest: Option<usize>) -> Result<usize, OutOfMemory>
+    ensures { IfOk result (λ n. (i : ℕ) → Reaches largest i → i < n) }
+{
+    match largest {
+        None => Ok(0),
+        Some(number) => number.checked_add(1).ok_or(OutOfMemory),
+    }
+}
+
+// Makes variables until the context has what is needed, and as many as a question says.
+pub(super) fn have_variables<I: Interner>(
+    ctx: &mut RefCtxt<I>,
+    needs: Needs,
+    question: &Question,
+) -> Result<(), OutOfMemory>
+    requires lawful { IsLawful (I.meaning ctx.old.interner) ctx.old.inner }
+    requires universe { needs.universe ≤ ctx.old.inner.universe.0 }
+    ensures lawful { IsLawful (I.meaning ctx.new.interner) ctx.new.inner }
+    ensures grown { Extends (I.meaning ctx.old.interner) (I.meaning ctx.new.interner) }
+    ensures has { OnOk result (Has ctx.new.inner needs) }
+{
+    let types = count_to(needs.types)?;
+    let regions = count_to(needs.regions)?;
+    make_variables(ctx, question.type_variables, question.region_variables)?;
+    make_variables(ctx, types, regions)
+}
+
+// Why two types are not related at a variance in a context, if they are not.
+pub(super) fn refusal<I: Interner>(
+    ctx: &RefCtxt<I>,
+    variance: Variance,
+    lhs: Needs,
+    rhs: Needs,
+) -> Option<NotAsked>
+    ensures { IfNone result (IsAskable ctx.now.inner.universe.0 variance lhs rhs) }
+{
+    let universe = ctx.inner.universe.0;
+    if universe < lhs.universe || universe < rhs.universe {
+        return Some(NotAsked::Universe);
+    }
+    match variance {
+        Variance::Invariant => None,
+        Variance::Bivariant => Some(NotAsked::Variance),
+        Variance::Covariant | Variance::Contravariant => {
+            if lhs.types.is_some() || rhs.types.is_some() {
+                return Some(NotAsked::Variables);
+            }
+            None
+        }
+    }
+}
+
+/// Relates two types at a variance in any context that can. What is answered is what the context promises: after `Ok`
+/// what is recorded and the goals relate the types, and no equal pair is lost; `Unrelated` says that nothing made them one.
+pub(super) fn relate<C: RelateExt>(
+    ctx: &mut C,
+    param_env: ParamEnv<C::Interner>,
+    lhs: Ty<C::Interner>,
+    variance: Variance,
+    rhs: Ty<C::Interner>,
+    span: Span<C::Interner>,
+) -> RelateGoals<C::Interner>
+    requires lawful { (C.state ctx.old).lawful }
+    requires decides { variance ≢ Variance.Bivariant }
+    requires env_known { KnowsEnv (C.state ctx.old) param_env }
+    requires lhs_known { KnowsTy (C.state ctx.old) lhs }
+    requires rhs_known { KnowsTy (C.state ctx.old) rhs }
+    requires lhs_taken { TakesTy (C.state ctx.old) variance lhs }
+    requires rhs_taken { TakesTy (C.state ctx.old) variance rhs }
+    requires lhs_in { HasTy (C.state ctx.old) lhs }
+    requires rhs_in { HasTy (C.state ctx.old) rhs }
+    ensures answers { AnswersTys (C.state ctx.old) (C.state ctx.new) param_env variance lhs rhs result }
+    ensures keeps { KeepsEqualTys (C.state ctx.old) (C.state ctx.new) lhs rhs result }
+    ensures apart { TellsApart (C.state ctx.old) (C.state ctx.new) lhs rhs result }
+    ensures lawful { (C.state ctx.new).lawful }
+    ensures grown { Extends (C.state ctx.old).meaning (C.state ctx.new).meaning }
+    ensures why_known { IfErr result (λ e. KnowsFault (C.state ctx.new).meaning e) }
+{
+    ctx.relate(param_env, lhs, variance, rhs, span)
+}
+
+/// Writes why a question is not asked.
+pub(super) fn write_not_asked<W: Write>(why: NotAsked, out: &mut W) -> fmt::Result {
+    out.write_str("not asked: ")?;
+    match why {
+        NotAsked::Variables => out.write_str("types with type variables are related by `==` alone"),
+        NotAsked::Universe => {
+            out.write_str("the context's universe, 0, does not name the placeholder")
+        }
+        NotAsked::Variance => out.write_str("nothing is related at this variance"),
+    }
+}

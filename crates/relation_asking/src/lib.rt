@@ -1,0 +1,132 @@
+//! Questions are asked in turn, and their answers are written, with a text of the caller's between two.
+#![tactic(auto)]
+
+ghost use Rattle.relation_asking.specs.Asking.{AreReady};
+
+mod comparing;
+mod context;
+mod folding;
+mod interner;
+pub mod needs;
+pub mod printing;
+mod question;
+mod visiting;
+
+use interner::{Tables, make_interner, make_tables};
+use needs::needs_of;
+use question::{Ready, ask_often, context_for, is_memory, write_outcome};
+use relation_reference::context::RefCtxt;
+use relation_terms::terms::Interner;
+use relation_text::building::build;
+use relation_text::naming::Program;
+use relation_text::printing::{Texts, TextsOf};
+use std::alloc::Global;
+use std::fmt::{self, Write};
+
+/// How many instantiations a context may make where nothing is said of it.
+pub const BUDGET: usize = 100;
+
+// Writes what stands between two answers, before each but the first.
+fn separate<W: Write>(any: bool, between: &str, out: &mut W) -> fmt::Result {
+    if any {
+        return out.write_str(between);
+    }
+    Ok(())
+}
+
+// Asks all questions over terms that are ready. After a refused growth the next question is asked in a new context.
+fn ask_ready<I: Interner + Drop, W: Write>(
+    interner: I,
+    texts: &TextsOf<I>,
+    program: &Program,
+    terms: &Ready<I>,
+    between: &str,
+    out: &mut W,
+) -> fmt::Result
+    requires { AreReady (I.meaning interner) terms.now.built.now terms.now.needs.now }
+{
+    let mut ctx = RefCtxt::new(interner, BUDGET);
+    let mut fresh = true;
+    let mut any = false;
+    for question in &program.questions {
+        separate(any, between, out)?;
+        let asked = context_for(ctx, question, fresh);
+        let (left, outcome) = ask_often(asked, terms, question);
+        ctx = left;
+        write_outcome(&ctx, texts, question, &outcome, out)?;
+        fresh = is_memory::<I>(&outcome);
+        any = true;
+    }
+    Ok(())
+}
+
+// Answers that a growth was refused, to each question.
+fn refuse_all<W: Write>(program: &Program, between: &str, out: &mut W) -> fmt::Result {
+    let mut any = false;
+    for _ in &program.questions {
+        separate(any, between, out)?;
+        out.write_str("memory")?;
+        any = true;
+    }
+    Ok(())
+}
+
+/// Asks all questions of a program in turn, over an interner and the ids and names that its items and names have there,
+/// and writes the answers, with the given text between two.
+///
+/// # Errors
+/// What the writer answers where an answer can't be written.
+pub fn ask_over<I: Interner + Drop, W: Write>(
+    interner: I,
+    ids: &[I::Id],
+    names: &[I::Name],
+    texts: &TextsOf<I>,
+    program: &Program,
+    between: &str,
+    out: &mut W,
+) -> fmt::Result {
+    let mut interner = interner;
+    let alloc = interner.alloc();
+    let Ok(built) = build(&mut interner, ids, names, program) else {
+        return refuse_all(program, between, out);
+    };
+    let Ok(needs) = needs_of(alloc, program) else {
+        return refuse_all(program, between, out);
+    };
+    let terms = Ready {
+        built: &built,
+        needs: &needs,
+        parts: &program.parts,
+        puts: &program.puts,
+    };
+    ask_ready(interner, texts, program, &terms, between, out)
+}
+
+/// Asks all questions of a program in turn over the reference interner, and writes the answers, with the given text
+/// between two.
+///
+/// # Errors
+/// What the writer answers where an answer can't be written.
+pub fn ask_all<W: Write>(
+    alloc: Global,
+    program: &Program,
+    between: &str,
+    out: &mut W,
+) -> fmt::Result {
+    let Ok((interner, ids)) = make_interner(alloc, program) else {
+        return refuse_all(program, between, out);
+    };
+    let Ok(tables) = make_tables(alloc, program, &ids) else {
+        return refuse_all(program, between, out);
+    };
+    let Tables {
+        names,
+        name_texts,
+        item_texts,
+    } = tables;
+    let texts = Texts {
+        names: &name_texts,
+        items: &item_texts,
+    };
+    ask_over(interner, &ids, &names, &texts, program, between, out)
+}

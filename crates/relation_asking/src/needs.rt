@@ -1,0 +1,140 @@
+//! What a context has to have for a term to be asked about in it.
+ghost use Rattle.std.specs.Prelude.{◌≡◌, None, IfOk, max, slice_get};
+ghost use Rattle.relation_asking.specs.Needs.{larger, both_needs, need_at, parts_need, term_need, needs_of};
+
+use relation_text::naming::{Parts, Program, Term};
+use std::alloc::{AllocError, Global};
+
+/// What a term needs of a context: variables up to these numbers, the largest that it names, if it names any; and a
+/// universe that names its placeholders.
+#[derive(Clone, Copy, PartialEq, Eq, Debug)]
+pub struct Needs {
+    pub types: Option<usize>,
+    pub regions: Option<usize>,
+    pub universe: usize,
+}
+
+// Nothing is needed.
+const NONE: Needs = Needs {
+    types: None,
+    regions: None,
+    universe: 0,
+};
+
+// The larger of two numbers.
+fn greater(a: usize, b: usize) -> usize
+    ensures { result ≡ max a b }
+{
+    if a < b { b } else { a }
+}
+
+// The larger of two numbers that may be missing.
+fn larger(a: Option<usize>, b: Option<usize>) -> Option<usize>
+    ensures { result ≡ larger a b }
+{
+    match a {
+        None => b,
+        Some(a) => match b {
+            None => Some(a),
+            Some(b) => Some(greater(a, b)),
+        },
+    }
+}
+
+// What is needed for both.
+pub(crate) fn both(a: Needs, b: Needs) -> Needs
+    ensures { result ≡ both_needs a b }
+{
+    Needs {
+        types: larger(a.types, b.types),
+        regions: larger(a.regions, b.regions),
+        universe: greater(a.universe, b.universe),
+    }
+}
+
+// What a term of that number needs.
+pub(crate) fn need_at(before: &[Needs], number: usize) -> Needs
+    ensures { result ≡ need_at before.now number }
+{
+    match before.get(number) {
+        None => NONE,
+        Some(needs) => *needs,
+    }
+}
+
+// The number at a place of a list.
+fn number_at(numbers: &[usize], place: usize) -> Option<usize>
+    ensures { result ≡ slice_get numbers.now place }
+{
+    numbers.get(place).copied()
+}
+
+// What all parts of a list need.
+fn parts_need(numbers: &[usize], before: &[Needs], parts: Parts) -> Needs
+    ensures { result ≡ parts_need numbers.now before.now parts }
+{
+    let mut needs = NONE;
+    for place in parts.first..parts.behind {
+        match number_at(numbers, place) {
+            None => {}
+            Some(number) => needs = both(needs, need_at(before, number)),
+        }
+    }
+    needs
+}
+
+// What a placeholder of a universe needs.
+fn universe_need(universe: usize) -> Needs
+    ensures { result ≡ record { types = None; regions = None; universe = universe } }
+{
+    Needs {
+        types: None,
+        regions: None,
+        universe,
+    }
+}
+
+// What a term needs, by what the terms before it need.
+fn term_need(numbers: &[usize], before: &[Needs], term: Term) -> Needs
+    ensures { result ≡ term_need numbers.now before.now term }
+{
+    match term {
+        Term::TyVar(number) => Needs {
+            types: Some(number),
+            regions: None,
+            universe: 0,
+        },
+        Term::RegionVar(number) => Needs {
+            types: None,
+            regions: Some(number),
+            universe: 0,
+        },
+        Term::TyPlaceholder(universe, ..) => universe_need(universe),
+        Term::ConstPlaceholder(universe, ..) => universe_need(universe),
+        Term::Slice(element) => need_at(before, element),
+        Term::RawPtr(pointee, _) => need_at(before, pointee),
+        Term::Number(ty, ..) => need_at(before, ty),
+        Term::Array(element, length) => both(need_at(before, element), need_at(before, length)),
+        Term::Ref(region, pointee, _) => both(need_at(before, region), need_at(before, pointee)),
+        Term::Branch(ty, parts) => both(need_at(before, ty), parts_need(numbers, before, parts)),
+        Term::Item(_, _, parts) => parts_need(numbers, before, parts),
+        Term::Tuple(parts) => parts_need(numbers, before, parts),
+        Term::Expr(_, parts) => parts_need(numbers, before, parts),
+        _ => NONE,
+    }
+}
+
+/// What each term of a program needs.
+///
+/// # Errors
+/// `AllocError` where a growth was refused.
+pub fn needs_of(alloc: Global, program: &Program) -> Result<Vec<Needs>, AllocError>
+    ensures { IfOk result (λ needs. needs.items ≡ needs_of program.now.parts.items program.now.terms.items) }
+{
+    let mut needs = Vec::new(alloc);
+    for term in &program.terms {
+        let need = term_need(&program.parts, &needs, *term);
+        needs.push(need)?;
+    }
+    Ok(needs)
+}

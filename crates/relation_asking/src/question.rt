@@ -1,0 +1,355 @@
+//! A question that is asked, and its answer.
+ghost use Rattle.std.specs.Prelude.{◌≡◌, IsTrue, IfSome, IfOk, IfErr};
+ghost use Rattle.relation_terms.specs.Trees.{known};
+ghost use Rattle.relation_terms.specs.Meaning.{Meaning, Extends, arg_tree};
+ghost use Rattle.relation_tools.specs.Faults.{KnowsFault};
+ghost use Rattle.relation_reference.specs.Tables.{IsLawful};
+ghost use Rattle.relation_asking.specs.Puts.{ArePuts};
+ghost use Rattle.relation_asking.specs.Meets.{AllKnown};
+ghost use Rattle.relation_asking.specs.Asking.{AreReady, IsReady, KnowsAnswer};
+
+use crate::BUDGET;
+use crate::context::{NotAsked, have_variables, refusal, relate, renewed, write_not_asked};
+use crate::folding::{fold, puts_at};
+use crate::needs::{Needs, both, need_at};
+use crate::printing::write_answer;
+use crate::visiting::{Met, visit, write_met};
+use relation_reference::context::RefCtxt;
+use relation_terms::terms::{GenericArg, GenericArgKind, Interner, Keys, Ty, Variance};
+use relation_text::building::{key_at, keys_at, ty_at};
+use relation_text::naming::{Parts, Put, Question, QuestionKind};
+use relation_text::printing::{TextsOf, write_arg};
+use relation_tools::error::RelateFault;
+use relation_tools::visit::{has_escaping_bound_vars, has_non_region_infer, is_known_rigid};
+use std::alloc::Global;
+use std::fmt::{self, Write};
+use type_relations::relate::solver_relating::RelateGoals;
+
+// The keys of a program's terms, and what each term needs.
+#[derive(Drop)]
+pub(super) struct Ready<'a, I: Interner> {
+    pub built: &'a [Option<GenericArg<I>>],
+    pub needs: &'a [Needs],
+    // The numbers of the terms in lists, and of those that are put for others.
+    pub parts: &'a [usize],
+    pub puts: &'a [Put<usize>],
+}
+
+// Why a question was not put.
+#[derive(Clone, Copy, PartialEq, Eq, Debug)]
+pub(super) enum Unasked {
+    // A growth was refused before the terms could be related.
+    Memory,
+    NotAsked(NotAsked),
+}
+
+// What is answered to a question.
+#[derive(Drop)]
+pub(super) enum Answer<R, X> {
+    Related(R),
+    Met(Met<X>),
+    Folded(GenericArgKind<X>),
+    Is(bool),
+}
+
+// What is answered to a question over an interner.
+type AnswerOf<I> = Answer<RelateGoals<I>, <I as Keys>::Key>;
+
+// What came of a question.
+pub(super) type Outcome<I> = Result<AnswerOf<I>, Unasked>;
+
+// Whether a growth was refused while a question was answered.
+fn ran_out<I: Interner>(answer: &AnswerOf<I>) -> bool {
+    match answer {
+        Answer::Related(related) => matches!(related, Err(RelateFault::Memory)),
+        Answer::Met(_) => false,
+        Answer::Folded(_) => false,
+        Answer::Is(_) => false,
+    }
+}
+
+// Whether a growth was refused.
+pub(super) fn is_memory<I: Interner>(outcome: &Outcome<I>) -> bool {
+    match outcome {
+        Ok(answer) => ran_out::<I>(answer),
+        Err(why) => *why == Unasked::Memory,
+    }
+}
+
+// How many instantiations a new context of a question may make.
+pub(super) fn budget_of(question: &Question) -> usize {
+    question.budget.unwrap_or(BUDGET)
+}
+
+// The context in which a question is asked: the one that the question before left, or a new one.
+pub(super) fn context_for<I: Interner>(
+    ctx: RefCtxt<I>,
+    question: &Question,
+    fresh: bool,
+) -> RefCtxt<I>
+    requires { IsLawful (I.meaning ctx.interner) ctx.inner }
+    ensures interner { result.interner ≡ ctx.interner }
+    ensures lawful { IsLawful (I.meaning result.interner) result.inner }
+{
+    if fresh || !question.then {
+        return renewed(ctx, budget_of(question));
+    }
+    ctx
+}
+
+// The type of that number, and what it needs.
+fn type_of<I: Interner>(terms: &Ready<I>, number: usize) -> Option<(Ty<I>, Needs)>
+    ensures { (m : Meaning I.Key I.Id I.Name) → AreReady m terms.now.built.now terms.now.needs.now →
+        IfSome result (λ p. IsReady p.1 (m.ty p.0)) }
+{
+    let ty = ty_at(terms.built, number)?;
+    Some((ty, need_at(terms.needs, number)))
+}
+
+// Relates two types in a context.
+fn ask_related<I: Interner>(
+    ctx: &mut RefCtxt<I>,
+    terms: &Ready<I>,
+    question: &Question,
+    lhs: usize,
+    variance: Variance,
+    rhs: usize,
+) -> Result<RelateGoals<I>, Unasked>
+    requires lawful { IsLawful (I.meaning ctx.old.interner) ctx.old.inner }
+    requires ready { AreReady (I.meaning ctx.old.interner) terms.now.built.now terms.now.needs.now }
+    ensures lawful { IsLawful (I.meaning ctx.new.interner) ctx.new.inner }
+    ensures grown { Extends (I.meaning ctx.old.interner) (I.meaning ctx.new.interner) }
+    ensures why_known { IfOk result (λ a. IfErr a (λ e. KnowsFault (I.meaning ctx.new.interner) e)) }
+{
+    let Some((lhs, lhs_needs)) = type_of(terms, lhs) else {
+        return Err(Unasked::Memory);
+    };
+    let Some((rhs, rhs_needs)) = type_of(terms, rhs) else {
+        return Err(Unasked::Memory);
+    };
+    if let Some(why) = refusal(ctx, variance, lhs_needs, rhs_needs) {
+        return Err(Unasked::NotAsked(why));
+    }
+    let Ok(()) = have_variables(ctx, both(lhs_needs, rhs_needs), question) else {
+        return Err(Unasked::Memory);
+    };
+    let Ok(param_env) = ctx.interner.empty_param_env() else {
+        return Err(Unasked::Memory);
+    };
+    let span = ctx.interner.dummy_span();
+    Ok(relate(ctx, param_env, lhs, variance, rhs, span))
+}
+
+// The term of that number.
+fn term_of<I: Interner>(terms: &Ready<I>, number: usize) -> Result<GenericArg<I>, Unasked>
+    ensures { (m : Meaning I.Key I.Id I.Name) → AreReady m terms.now.built.now terms.now.needs.now →
+        IfOk result (λ key. IsTrue (known (arg_tree m key))) }
+{
+    match key_at(terms.built, number) {
+        Some(key) => Ok(key),
+        None => Err(Unasked::Memory),
+    }
+}
+
+// The terms of a list.
+fn terms_of<I: Interner>(
+    alloc: Global,
+    terms: &Ready<I>,
+    list: Parts,
+) -> Result<Vec<GenericArg<I>>, Unasked>
+    ensures { (m : Meaning I.Key I.Id I.Name) → AreReady m terms.now.built.now terms.now.needs.now →
+        IfOk result (λ keys. AllKnown m keys.items) }
+{
+    match keys_at(alloc, terms.parts, terms.built, list) {
+        Some(keys) => Ok(keys),
+        None => Err(Unasked::Memory),
+    }
+}
+
+// What is put for terms.
+fn puts_of<I: Interner>(
+    alloc: Global,
+    terms: &Ready<I>,
+    range: Parts,
+) -> Result<Vec<Put<GenericArg<I>>>, Unasked>
+    ensures { (m : Meaning I.Key I.Id I.Name) → AreReady m terms.now.built.now terms.now.needs.now →
+        IfOk result (λ puts. ArePuts m puts.items) }
+{
+    match puts_at(alloc, terms.puts, terms.built, range) {
+        Some(puts) => Ok(puts),
+        None => Err(Unasked::Memory),
+    }
+}
+
+// Visits a term.
+fn ask_visited<I: Interner>(
+    cx: &I,
+    terms: &Ready<I>,
+    term: usize,
+    skip: Parts,
+    stop: Parts,
+) -> Result<Met<I::Key>, Unasked>
+    requires { AreReady (I.meaning cx.now) terms.now.built.now terms.now.needs.now }
+    ensures { IfOk result (λ met. AllKnown (I.meaning cx.now) met.terms.items) }
+{
+    let term = term_of(terms, term)?;
+    let skip = terms_of(cx.alloc(), terms, skip)?;
+    let stop = terms_of(cx.alloc(), terms, stop)?;
+    match visit(cx, &term, &skip, &stop) {
+        Some(met) => Ok(met),
+        None => Err(Unasked::Memory),
+    }
+}
+
+// Folds a term.
+fn ask_folded<I: Interner>(
+    ctx: &mut RefCtxt<I>,
+    terms: &Ready<I>,
+    term: usize,
+    puts: Parts,
+) -> Result<GenericArg<I>, Unasked>
+    requires lawful { IsLawful (I.meaning ctx.old.interner) ctx.old.inner }
+    requires ready { AreReady (I.meaning ctx.old.interner) terms.now.built.now terms.now.needs.now }
+    ensures lawful { IsLawful (I.meaning ctx.new.interner) ctx.new.inner }
+    ensures grown { Extends (I.meaning ctx.old.interner) (I.meaning ctx.new.interner) }
+    ensures sure { IfOk result (λ key. IsTrue (known (arg_tree (I.meaning ctx.new.interner) key))) }
+{
+    let term = term_of(terms, term)?;
+    let puts = puts_of(ctx.interner.alloc(), terms, puts)?;
+    match fold(&mut ctx.interner, &term, &puts) {
+        Ok(folded) => Ok(folded),
+        Err(_) => Err(Unasked::Memory),
+    }
+}
+
+// Whether a variable stands in a term that a binder outside it binds.
+fn ask_escapes<I: Interner>(cx: &I, terms: &Ready<I>, number: usize) -> Result<bool, Unasked>
+    requires { AreReady (I.meaning cx.now) terms.now.built.now terms.now.needs.now }
+{
+    let term = term_of(terms, number)?;
+    Ok(has_escaping_bound_vars(cx, &term))
+}
+
+// Whether a variable that is no region stands in a term.
+fn ask_infers<I: Interner>(cx: &I, terms: &Ready<I>, number: usize) -> Result<bool, Unasked>
+    requires { AreReady (I.meaning cx.now) terms.now.built.now terms.now.needs.now }
+{
+    let term = term_of(terms, number)?;
+    Ok(has_non_region_infer(cx, &term))
+}
+
+// Whether a type's outermost form stays what it is.
+fn ask_rigid<I: Interner>(cx: &I, terms: &Ready<I>, number: usize) -> Result<bool, Unasked>
+    requires { AreReady (I.meaning cx.now) terms.now.built.now terms.now.needs.now }
+{
+    let Some((ty, _)) = type_of(terms, number) else {
+        return Err(Unasked::Memory);
+    };
+    Ok(is_known_rigid(cx, &ty))
+}
+
+// Asks a question of a context.
+#[tactic(auto, using(relation_terms::proofs::Stays::stays_same))]
+fn ask<I: Interner>(ctx: &mut RefCtxt<I>, terms: &Ready<I>, question: &Question) -> Outcome<I>
+    requires lawful { IsLawful (I.meaning ctx.old.interner) ctx.old.inner }
+    requires ready { AreReady (I.meaning ctx.old.interner) terms.now.built.now terms.now.needs.now }
+    ensures lawful { IsLawful (I.meaning ctx.new.interner) ctx.new.inner }
+    ensures grown { Extends (I.meaning ctx.old.interner) (I.meaning ctx.new.interner) }
+    ensures known { let m = I.meaning ctx.new.interner in
+        IfOk result (KnowsAnswer m (λ r. IfErr r (λ e. KnowsFault m e))) }
+{
+    match question.kind {
+        QuestionKind::Relate { lhs, variance, rhs } => {
+            let related = ask_related(ctx, terms, question, lhs, variance, rhs)?;
+            Ok(Answer::Related(related))
+        }
+        QuestionKind::Visit { term, skip, stop } => {
+            let met = ask_visited(&ctx.interner, terms, term, skip, stop)?;
+            Ok(Answer::Met(met))
+        }
+        QuestionKind::Fold { term, puts } => {
+            let folded = ask_folded(ctx, terms, term, puts)?;
+            Ok(Answer::Folded(folded))
+        }
+        QuestionKind::Escapes(number) => {
+            let escapes = ask_escapes(&ctx.interner, terms, number)?;
+            Ok(Answer::Is(escapes))
+        }
+        QuestionKind::Infers(number) => {
+            let infers = ask_infers(&ctx.interner, terms, number)?;
+            Ok(Answer::Is(infers))
+        }
+        QuestionKind::Rigid(number) => {
+            let rigid = ask_rigid(&ctx.interner, terms, number)?;
+            Ok(Answer::Is(rigid))
+        }
+    }
+}
+
+// Asks a question as often as it says, each time but the first in a new context, and answers the last one.
+pub(super) fn ask_often<I: Interner>(
+    ctx: RefCtxt<I>,
+    terms: &Ready<I>,
+    question: &Question,
+) -> (RefCtxt<I>, Outcome<I>)
+    requires lawful { IsLawful (I.meaning ctx.interner) ctx.inner }
+    requires ready { AreReady (I.meaning ctx.interner) terms.now.built.now terms.now.needs.now }
+    ensures lawful { IsLawful (I.meaning result.0.interner) result.0.inner }
+    ensures grown { Extends (I.meaning ctx.interner) (I.meaning result.0.interner) }
+    ensures known { let m = I.meaning result.0.interner in
+        IfOk result.1 (KnowsAnswer m (λ r. IfErr r (λ e. KnowsFault m e))) }
+{
+    let mut ctx = ctx;
+    let mut outcome = ask(&mut ctx, terms, question);
+    for _ in 1..question.repeat {
+        ctx = renewed(ctx, budget_of(question));
+        outcome = ask(&mut ctx, terms, question);
+    }
+    (ctx, outcome)
+}
+
+// Writes an answer, and how many instantiations are left where it was said how many a relation may make.
+fn write_given<I: Interner, W: Write>(
+    ctx: &RefCtxt<I>,
+    texts: &TextsOf<I>,
+    question: &Question,
+    answer: &AnswerOf<I>,
+    out: &mut W,
+) -> fmt::Result
+    requires lawful { IsLawful (I.meaning ctx.now.interner) ctx.now.inner }
+    requires known { let m = I.meaning ctx.now.interner in
+        KnowsAnswer m (λ r. IfErr r (λ e. KnowsFault m e)) answer.now }
+{
+    match answer {
+        Answer::Related(related) => {
+            write_answer(ctx, texts, related, out)?;
+            if question.budget.is_some() {
+                let left = ctx.budget_left();
+                write!(out, "; left={left}")?;
+            }
+            Ok(())
+        }
+        Answer::Met(met) => write_met(&ctx.interner, texts, met, out),
+        Answer::Folded(term) => write_arg(&ctx.interner, texts, term, out),
+        Answer::Is(holds) => write!(out, "{holds}"),
+    }
+}
+
+// Writes what came of a question.
+pub(super) fn write_outcome<I: Interner, W: Write>(
+    ctx: &RefCtxt<I>,
+    texts: &TextsOf<I>,
+    question: &Question,
+    outcome: &Outcome<I>,
+    out: &mut W,
+) -> fmt::Result
+    requires lawful { IsLawful (I.meaning ctx.now.interner) ctx.now.inner }
+    requires known { let m = I.meaning ctx.now.interner in
+        IfOk outcome.now (KnowsAnswer m (λ r. IfErr r (λ e. KnowsFault m e))) }
+{
+    match outcome {
+        Err(Unasked::Memory) => out.write_str("memory"),
+        Err(Unasked::NotAsked(why)) => write_not_asked(*why, out),
+        Ok(answer) => write_given(ctx, texts, question, answer, out),
+    }
+}
