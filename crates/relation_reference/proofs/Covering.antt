@@ -1,6 +1,6 @@
 -- Terms that relating has rules for, in a context: their parts, and what they come to.
-use Rattle.std.proofs.Common.{◌≡◌, ℕ, zero, suc, ◌<◌, refl, sym, ap, ◌∙◌, arith, subst, Some}
-use Rattle.relation_terms.specs.Heads.{Sort, type_sort, Admits, bound_sort, atom_sort, head_sort, Leaf, Head}
+use Rattle.std.proofs.Common.{◌≡◌, ℕ, zero, suc, ◌<◌, refl, sym, ap, ◌∙◌, subst, Some}
+use Rattle.relation_terms.specs.Heads.{Sort, type_sort, Admits, bound_sort, atom_sort, head_sort, Leaf}
 use Rattle.relation_terms.specs.Heads.{VarKind, type_var, int_var, float_var, const_var, region_var, alias}
 use Rattle.relation_terms.specs.Heads.{variable, bound, placeholder, atom, unknown}
 use Rattle.relation_terms.specs.Trees.{Tree, leaf, node, bind, nil, cons, IsTerm, Assign, apply, count, nth}

@@ -1,9 +1,8 @@
 -- Terms that relating has rules for: their parts, and what they are not.
-use Rattle.std.proofs.Common.{◌≡◌, ℕ, zero, suc, ◌<◌, refl, arith}
-use Rattle.relation_terms.specs.Heads.{type_sort, const_sort, VarKind, type_var, int_var, float_var, const_var}
-use Rattle.relation_terms.specs.Heads.{region_var, Head, expression, value, value_branch, type_error, const_error}
-use Rattle.relation_terms.specs.Heads.{variable, bound, placeholder, atom, unknown}
-use Rattle.relation_terms.specs.Trees.{Tree, leaf, node, bind, nil, cons, IsTerm, count, nth}
+use Rattle.std.proofs.Common.{ℕ, zero, suc, ◌<◌, arith}
+use Rattle.relation_terms.specs.Heads.{expression, value, value_branch, type_error, const_error}
+use Rattle.relation_terms.specs.Heads.{atom}
+use Rattle.relation_terms.specs.Trees.{Tree, leaf, node, bind, nil, cons, count, nth}
 use Rattle.type_relations.specs.Covered.{IsCovered}
 use Rattle.type_relations.specs.Relation.{IsError}
 use Rattle.type_relations.specs.Parts.{parts_of, branches_of, const_parts_of}

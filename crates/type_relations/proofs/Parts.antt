@@ -4,7 +4,7 @@ use Rattle.std.proofs.Common.{◌&&◌, IsTrue, true, Option, Some, List, [], �
 use Rattle.std.proofs.lemmas.Bool.{and_parts}
 use Rattle.relation_terms.specs.Heads.{VarKind, Head, Leaf, Sort, Part, row, head_parts}
 use Rattle.relation_terms.specs.Heads.{expression}
-use Rattle.relation_terms.specs.Heads.{Admits, head_sort, type_var, value_sort, const_sort}
+use Rattle.relation_terms.specs.Heads.{type_var}
 use Rattle.relation_terms.specs.Heads.{array, value, value_branch, Shape, one, variable, bound, placeholder, atom}
 use Rattle.relation_terms.specs.Heads.{unknown}
 use Rattle.relation_terms.specs.Trees.{Tree, leaf, node, bind, nil, cons, Assign, apply, Leaves, Occurs, size, count}
@@ -16,19 +16,9 @@ use Rattle.relation_terms.specs.declared.terms.keys.ArgsKey.{ArgsKey}
 use Rattle.relation_terms.specs.declared.terms.keys.ValTreeKey.{ValTreeKey}
 use Rattle.relation_terms.specs.declared.terms.keys.BranchesKey.{BranchesKey}
 use Rattle.relation_terms.specs.declared.terms.const_kind.ExprKind.{ExprKind}
-use Rattle.relation_terms.specs.declared.terms.const_kind.ConstKind.{ConstKind}
-use Rattle.relation_terms.specs.declared.terms.const_kind.ConstKind.TheVariants.{Value, Expr, Param as ConstParam}
-use Rattle.relation_terms.specs.declared.terms.const_kind.ConstKind.TheVariants.{Placeholder as ConstPlaceholder}
+use Rattle.relation_terms.specs.declared.terms.const_kind.ConstKind.TheVariants.{Value, Expr}
 use Rattle.relation_terms.specs.declared.terms.const_kind.ValTreeKind.TheVariants.{Branch}
 use Rattle.relation_terms.specs.declared.terms.ty_kind.TyKind.{TyKind}
-use Rattle.relation_terms.specs.declared.terms.ty_kind.TyKind.TheVariants.{Bool as BoolTy, Char, Int, Uint, Float}
-use Rattle.relation_terms.specs.declared.terms.ty_kind.TyKind.TheVariants.{Adt}
-use Rattle.relation_terms.specs.declared.terms.ty_kind.TyKind.TheVariants.{Foreign, Str, Array, Slice, RawPtr, Ref}
-use Rattle.relation_terms.specs.declared.terms.ty_kind.TyKind.TheVariants.{FnDef, Closure, CoroutineClosure}
-use Rattle.relation_terms.specs.declared.terms.ty_kind.TyKind.TheVariants.{Coroutine, CoroutineWitness, Never, Tuple}
-use Rattle.relation_terms.specs.declared.terms.ty_kind.TyKind.TheVariants.{Infer, Param as TyParam}
-use Rattle.relation_terms.specs.declared.terms.ty_kind.TyKind.TheVariants.{Placeholder as TyPlaceholder}
-use Rattle.relation_terms.specs.declared.terms.ty_kind.InferTy.{InferTy}
 use Rattle.type_relations.specs.Relation.{StaysWithin}
 use Rattle.type_relations.specs.Stores.{Store, IsNamable, IsMadeLeaf, IsTermIn, InContext, resolved, weight}
 use Rattle.type_relations.specs.declared.relate.forms.ItemForm.{ItemForm}

@@ -1,4 +1,4 @@
-use Rattle.std.proofs.Common.{◌≡◌, sym, ap, ◌∙◌}
+use Rattle.std.proofs.Common.{◌≡◌, ap, ◌∙◌}
 use Rattle.relation_terms.specs.Parts.{part_tree}
 use Rattle.relation_reference.proofs.Reading.{some_variable, no_variable}
 use Rattle.relation_reference.proofs.context.resolving.variable_of.Goals as goal
