@@ -1,7 +1,11 @@
 -- Forms of one tree are one form, where keys of one tree are one key.
-use Rattle.std.proofs.Common.{◌≡◌, IsTrue, true, ◌&&◌, List, [], ◌∷◌, refl, ap, ap₂, sym, subst}
-use Rattle.std.proofs.lemmas.Bool.{and_parts}
+use Rattle.std.proofs.Common.{ℕ, ◌≡◌, IsTrue, true, ◌&&◌, List, [], ◌∷◌, eqb, refl, ap, ap₂, sym, ◌∙◌, subst}
+use Rattle.std.proofs.lemmas.Bool.{and_parts, eq-eqb, false≢true}
 use Rattle.relation_terms.specs.Heads.{Sort, type_sort, region_sort, const_sort, Admits, leaf_sort, head_sort}
+use Rattle.relation_terms.specs.Heads.{bool_type, char_type, str_type, never_type, type_error, int_type, uint_type}
+use Rattle.relation_terms.specs.Heads.{float_type, foreign, type_param, adt, fn_def, closure, coroutine_closure}
+use Rattle.relation_terms.specs.Heads.{coroutine, coroutine_witness, array, slice, pattern_type, tuple, raw_ptr, ref}
+use Rattle.relation_terms.specs.Heads.{alias, bound, placeholder, atom}
 use Rattle.relation_terms.specs.Trees.{Tree, leaf, node, known, list_tree, IsTerm}
 use Rattle.relation_terms.specs.Meaning.{Meaning, kind_tree, region_tree, const_tree, valtree_tree, arg_tree}
 use Rattle.relation_terms.specs.Meaning.{ty_placeholder_tree, const_placeholder_tree, region_placeholder_tree}
@@ -97,6 +101,63 @@ type_no_const : (x : Sort) → Admits type_sort x → Admits const_sort x → �
 type_no_const type_sort p q = q
 type_no_const x p q = p
 
+-- A number for each form of a type, and the same of its tree.
+abbrev kind_tag : {Key Id Name : Type 0} → TyKind Key Id Name → ℕ
+kind_tag Bool = 0
+kind_tag Char = 1
+kind_tag (Int w) = 2
+kind_tag (Uint w) = 3
+kind_tag (Float w) = 4
+kind_tag (Adt d a) = 5
+kind_tag (Foreign d) = 6
+kind_tag Str = 7
+kind_tag (Array t c) = 8
+kind_tag (Pat t p) = 9
+kind_tag (Slice t) = 10
+kind_tag (RawPtr t u) = 11
+kind_tag (Ref r t u) = 12
+kind_tag (FnDef d a) = 13
+kind_tag (Closure d a) = 14
+kind_tag (CoroutineClosure d a) = 15
+kind_tag (Coroutine d a) = 16
+kind_tag (CoroutineWitness d a) = 17
+kind_tag Never = 18
+kind_tag (Tuple ts) = 19
+kind_tag (Alias a) = 20
+kind_tag (TyParam p) = 21
+kind_tag (TyBound d b) = 22
+kind_tag (TyPlaceholder p) = 23
+kind_tag (Infer i) = 24
+kind_tag (TyError e) = 25
+
+abbrev tree_tag : Tree → ℕ
+tree_tag (leaf (atom bool_type)) = 0
+tree_tag (leaf (atom char_type)) = 1
+tree_tag (leaf (atom (int_type w))) = 2
+tree_tag (leaf (atom (uint_type w))) = 3
+tree_tag (leaf (atom (float_type w))) = 4
+tree_tag (node (adt d) ts) = 5
+tree_tag (leaf (atom (foreign d))) = 6
+tree_tag (leaf (atom str_type)) = 7
+tree_tag (node array ts) = 8
+tree_tag (node pattern_type ts) = 9
+tree_tag (node slice ts) = 10
+tree_tag (node (raw_ptr u) ts) = 11
+tree_tag (node (ref u) ts) = 12
+tree_tag (node (fn_def d) ts) = 13
+tree_tag (node (closure d) ts) = 14
+tree_tag (node (coroutine_closure d) ts) = 15
+tree_tag (node (coroutine d) ts) = 16
+tree_tag (node (coroutine_witness d) ts) = 17
+tree_tag (leaf (atom never_type)) = 18
+tree_tag (node tuple ts) = 19
+tree_tag (node (alias k d) ts) = 20
+tree_tag (leaf (atom (type_param i n))) = 21
+tree_tag (leaf (bound k d i)) = 22
+tree_tag (leaf (placeholder k u n)) = 23
+tree_tag (leaf (atom type_error)) = 25
+tree_tag t = 24
+
 module _ {Key Id Name : Type 0} (m : Meaning Key Id Name) (j : Injective m) where
   ty_placeholder_once : (p q : Placeholder (BoundTy Name)) → ty_placeholder_tree m p ≡ ty_placeholder_tree m q → p ≡ q
   ty_placeholder_once p q e =
@@ -186,40 +247,75 @@ module _ {Key Id Name : Type 0} (m : Meaning Key Id Name) (j : Injective m) wher
   infer_const_once (Fresh n) (Fresh o) e = cc
   infer_const_once i k e = absurd (cc)
 
-  pub kind_once : (f g : TyKind Key Id Name) → IsTrue (known (kind_tree m f)) → kind_tree m f ≡ kind_tree m g → f ≡ g
-  kind_once Bool Bool k e = refl
-  kind_once Char Char k e = refl
-  kind_once (Int a) (Int b) k e = cc
-  kind_once (Uint a) (Uint b) k e = cc
-  kind_once (Float a) (Float b) k e = cc
-  kind_once (Adt d a) (Adt e b) k p =
+  tagged : (f : TyKind Key Id Name) → tree_tag (kind_tree m f) ≡ kind_tag f
+  tagged Bool = refl
+  tagged Char = refl
+  tagged (Int w) = refl
+  tagged (Uint w) = refl
+  tagged (Float w) = refl
+  tagged (Adt d a) = refl
+  tagged (Foreign d) = refl
+  tagged Str = refl
+  tagged (Array t c) = refl
+  tagged (Pat t p) = refl
+  tagged (Slice t) = refl
+  tagged (RawPtr t u) = refl
+  tagged (Ref r t u) = refl
+  tagged (FnDef d a) = refl
+  tagged (Closure d a) = refl
+  tagged (CoroutineClosure d a) = refl
+  tagged (Coroutine d a) = refl
+  tagged (CoroutineWitness d a) = refl
+  tagged Never = refl
+  tagged (Tuple ts) = refl
+  tagged (Alias a) = refl
+  tagged (TyParam p) = refl
+  tagged (TyBound d b) = refl
+  tagged (TyPlaceholder p) = refl
+  tagged (Infer (TyVar v)) = refl
+  tagged (Infer (IntVar v)) = refl
+  tagged (Infer (FloatVar v)) = refl
+  tagged (Infer (FreshTy n)) = refl
+  tagged (Infer (FreshIntTy n)) = refl
+  tagged (Infer (FreshFloatTy n)) = refl
+  tagged (TyError e) = refl
+
+  -- Two forms of one tag, and of one tree, are one.
+  alike_once : (f g : TyKind Key Id Name) → IsTrue (known (kind_tree m f)) → kind_tree m f ≡ kind_tree m g →
+      eqb (kind_tag f) (kind_tag g) ≡ true → f ≡ g
+  alike_once Bool Bool k e tag = refl
+  alike_once Char Char k e tag = refl
+  alike_once (Int a) (Int b) k e tag = cc
+  alike_once (Uint a) (Uint b) k e tag = cc
+  alike_once (Float a) (Float b) k e tag = cc
+  alike_once (Adt d a) (Adt e b) k p tag =
       let ids : m.id d.0 ≡ m.id e.0 = cc in
       let args : m.args a ≡ m.args b = cc in
       ap₂ (λ x y. Adt (record { 0 = x }) y) (j.id d.0 e.0 ids) (j.args a b k args)
-  kind_once (Foreign d) (Foreign e) k p =
+  alike_once (Foreign d) (Foreign e) k p tag =
       let ids : m.id d.0 ≡ m.id e.0 = cc in
       ap (λ x. Foreign (record { 0 = x })) (j.id d.0 e.0 ids)
-  kind_once Str Str k e = refl
-  kind_once (Array t c) (Array u d) k e =
+  alike_once Str Str k e tag = refl
+  alike_once (Array t c) (Array u d) k e tag =
       let p = and_parts (known (m.ty t)) (known (m.const_ c) && true) k in
       let q = and_parts (known (m.const_ c)) true p.1 in
       let types : m.ty t ≡ m.ty u = cc in
       let lengths : m.const_ c ≡ m.const_ d = cc in
       ap₂ (λ x y. Array x y) (j.ty t u p.0 types) (j.const_ c d q.0 lengths)
-  kind_once (Pat t p) (Pat u q) k e =
+  alike_once (Pat t p) (Pat u q) k e tag =
       let h = and_parts (known (m.ty t)) (known (m.pat p) && true) k in
       let i = and_parts (known (m.pat p)) true h.1 in
       let types : m.ty t ≡ m.ty u = cc in
       let patterns : m.pat p ≡ m.pat q = cc in
       ap₂ (λ x y. Pat x y) (j.ty t u h.0 types) (j.pat p q i.0 patterns)
-  kind_once (Slice t) (Slice u) k e =
+  alike_once (Slice t) (Slice u) k e tag =
       let same : m.ty t ≡ m.ty u = cc in
       ap (λ x. Slice x) (j.ty t u (and_parts (known (m.ty t)) true k).0 same)
-  kind_once (RawPtr t a) (RawPtr u b) k e =
+  alike_once (RawPtr t a) (RawPtr u b) k e tag =
       let same : m.ty t ≡ m.ty u = cc in
       let one : t ≡ u = j.ty t u (and_parts (known (m.ty t)) true k).0 same in
       cc
-  kind_once (Ref r t a) (Ref s u b) k e =
+  alike_once (Ref r t a) (Ref s u b) k e tag =
       let p = and_parts (known (m.region r)) (known (m.ty t) && true) k in
       let q = and_parts (known (m.ty t)) true p.1 in
       let regions : m.region r ≡ m.region s = cc in
@@ -227,59 +323,51 @@ module _ {Key Id Name : Type 0} (m : Meaning Key Id Name) (j : Injective m) wher
       let one : r ≡ s = j.region r s p.0 regions in
       let other : t ≡ u = j.ty t u q.0 types in
       cc
-  kind_once (FnDef d a) (FnDef e b) k p =
+  alike_once (FnDef d a) (FnDef e b) k p tag =
       let ids : m.id d.0 ≡ m.id e.0 = cc in
       let args : m.args a ≡ m.args b = cc in
       ap₂ (λ x y. FnDef (record { 0 = x }) y) (j.id d.0 e.0 ids) (j.args a b k args)
-  kind_once (Closure d a) (Closure e b) k p =
+  alike_once (Closure d a) (Closure e b) k p tag =
       let ids : m.id d.0 ≡ m.id e.0 = cc in
       let args : m.args a ≡ m.args b = cc in
       ap₂ (λ x y. Closure (record { 0 = x }) y) (j.id d.0 e.0 ids) (j.args a b k args)
-  kind_once (CoroutineClosure d a) (CoroutineClosure e b) k p =
+  alike_once (CoroutineClosure d a) (CoroutineClosure e b) k p tag =
       let ids : m.id d.0 ≡ m.id e.0 = cc in
       let args : m.args a ≡ m.args b = cc in
       ap₂ (λ x y. CoroutineClosure (record { 0 = x }) y) (j.id d.0 e.0 ids) (j.args a b k args)
-  kind_once (Coroutine d a) (Coroutine e b) k p =
+  alike_once (Coroutine d a) (Coroutine e b) k p tag =
       let ids : m.id d.0 ≡ m.id e.0 = cc in
       let args : m.args a ≡ m.args b = cc in
       ap₂ (λ x y. Coroutine (record { 0 = x }) y) (j.id d.0 e.0 ids) (j.args a b k args)
-  kind_once (CoroutineWitness d a) (CoroutineWitness e b) k p =
+  alike_once (CoroutineWitness d a) (CoroutineWitness e b) k p tag =
       let ids : m.id d.0 ≡ m.id e.0 = cc in
       let args : m.args a ≡ m.args b = cc in
       ap₂ (λ x y. CoroutineWitness (record { 0 = x }) y) (j.id d.0 e.0 ids) (j.args a b k args)
-  kind_once Never Never k e = refl
-  kind_once (Tuple ts) (Tuple us) k e =
+  alike_once Never Never k e tag = refl
+  alike_once (Tuple ts) (Tuple us) k e tag =
       let same : m.tys ts ≡ m.tys us = cc in
       ap (λ x. Tuple x) (j.tys ts us k same)
-  kind_once (Alias a) (Alias b) k e =
+  alike_once (Alias a) (Alias b) k e tag =
       let kinds : alias_kind a.kind ≡ alias_kind b.kind = cc in
       let ids : m.id (alias_id a.kind) ≡ m.id (alias_id b.kind) = cc in
       let args : m.args a.args ≡ m.args b.args = cc in
       ap₂ (λ x y. Alias (record { kind = x; args = y })) (alias_once a.kind b.kind kinds ids)
       (j.args a.args b.args k args)
-  kind_once (TyParam p) (TyParam q) k e =
+  alike_once (TyParam p) (TyParam q) k e tag =
       let index : p.index ≡ q.index = cc in
       let number : m.name p.name ≡ m.name q.name = cc in
       ap₂ (λ i n. TyParam (record { index = i; name = n })) index (j.name p.name q.name number)
-  kind_once (TyBound d b) (TyBound f c) k e =
+  alike_once (TyBound d b) (TyBound f c) k e tag =
       let o = bound_ty_once d f b c e in
       ap₂ (λ x y. TyBound x y) o.0 o.1
-  kind_once (TyPlaceholder p) (TyPlaceholder q) k e = ap (λ x. TyPlaceholder x) (ty_placeholder_once p q e)
-  kind_once (Infer i) (Infer l) k e = ap (λ x. Infer x) (infer_once i l e)
-  kind_once (TyError x) (TyError y) k e = refl
-  kind_once (Infer (TyVar v)) g k e = absurd (cc)
-  kind_once (Infer (IntVar v)) g k e = absurd (cc)
-  kind_once (Infer (FloatVar v)) g k e = absurd (cc)
-  kind_once (Infer (FreshTy n)) g k e = absurd (cc)
-  kind_once (Infer (FreshIntTy n)) g k e = absurd (cc)
-  kind_once (Infer (FreshFloatTy n)) g k e = absurd (cc)
-  kind_once f (Infer (TyVar v)) k e = absurd (cc)
-  kind_once f (Infer (IntVar v)) k e = absurd (cc)
-  kind_once f (Infer (FloatVar v)) k e = absurd (cc)
-  kind_once f (Infer (FreshTy n)) k e = absurd (cc)
-  kind_once f (Infer (FreshIntTy n)) k e = absurd (cc)
-  kind_once f (Infer (FreshFloatTy n)) k e = absurd (cc)
-  kind_once f g k e = absurd (cc)
+  alike_once (TyPlaceholder p) (TyPlaceholder q) k e tag = ap (λ x. TyPlaceholder x) (ty_placeholder_once p q e)
+  alike_once (Infer i) (Infer l) k e tag = ap (λ x. Infer x) (infer_once i l e)
+  alike_once (TyError x) (TyError y) k e tag = refl
+  alike_once f g k e tag = absurd (false≢true tag)
+
+  pub kind_once : (f g : TyKind Key Id Name) → IsTrue (known (kind_tree m f)) → kind_tree m f ≡ kind_tree m g → f ≡ g
+  kind_once f g k e = alike_once f g k e
+      (eq-eqb (kind_tag f) (kind_tag g) (sym (tagged f) ∙ ap tree_tag e ∙ tagged g))
 
   pub const_once : (f g : ConstKind Key Id Name) → IsTrue (known (const_tree m f)) → const_tree m f ≡ const_tree m g →
       f ≡ g
