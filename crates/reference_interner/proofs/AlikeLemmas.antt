@@ -1,295 +1,29 @@
 -- `==` takes nodes for one exactly where they are of one form.
-use Rattle.std.proofs.Common.{ℕ, ◌≡◌, ◌↔◌, IsTrue, Bool, ◌&&◌, List, [], ◌∷◌, eqb, refl, ap, ap₂, ◌∙◌, subst}
-use Rattle.std.proofs.lemmas.Bool.{false≢true, eqb-true, eq-eqb, and_parts, and_from}
+use Rattle.std.proofs.Common.{◌≡◌, ◌↔◌, IsTrue, Bool, List, [], ◌∷◌, refl, ap, ap₂, subst}
+use Rattle.std.proofs.lemmas.Bool.{false≢true, and_parts, and_from}
 use Rattle.relation_terms.specs.declared.terms.keys.TyKey.{TyKey}
 use Rattle.relation_terms.specs.declared.terms.keys.ConstKey.{ConstKey}
-use Rattle.relation_terms.specs.declared.terms.enums.IntTy.{IntTy}
-use Rattle.relation_terms.specs.declared.terms.enums.IntTy.TheVariants.{Isize, I8, I16, I32, I64, I128}
-use Rattle.relation_terms.specs.declared.terms.enums.UintTy.{UintTy}
-use Rattle.relation_terms.specs.declared.terms.enums.UintTy.TheVariants.{Usize, U8, U16, U32, U64, U128}
-use Rattle.relation_terms.specs.declared.terms.enums.FloatTy.{FloatTy}
-use Rattle.relation_terms.specs.declared.terms.enums.FloatTy.TheVariants.{F16, F32, F64, F128}
-use Rattle.relation_terms.specs.declared.terms.enums.Mutability.{Mutability}
-use Rattle.relation_terms.specs.declared.terms.enums.Mutability.TheVariants.{Not, Mut}
-use Rattle.relation_terms.specs.declared.terms.ty_kind.InferTy.TheVariants.{TyVar}
+use Rattle.relation_terms.specs.declared.terms.keys.PatKey.{PatKey}
 use Rattle.relation_terms.specs.declared.terms.ty_kind.TyKind.{TyKind}
-use Rattle.relation_terms.specs.declared.terms.ty_kind.TyKind.TheVariants.{Bool as BoolForm, Char, Int, Uint, Float}
-use Rattle.relation_terms.specs.declared.terms.ty_kind.TyKind.TheVariants.{Adt, Foreign, Str, Array, Slice, RawPtr}
-use Rattle.relation_terms.specs.declared.terms.ty_kind.TyKind.TheVariants.{Ref, FnDef, Closure, CoroutineClosure}
-use Rattle.relation_terms.specs.declared.terms.ty_kind.TyKind.TheVariants.{Coroutine, CoroutineWitness, Never, Tuple}
-use Rattle.relation_terms.specs.declared.terms.ty_kind.TyKind.TheVariants.{Param as TyParam}
-use Rattle.relation_terms.specs.declared.terms.ty_kind.TyKind.TheVariants.{Placeholder as TyPlaceholder}
-use Rattle.relation_terms.specs.declared.terms.ty_kind.TyKind.TheVariants.{Infer}
 use Rattle.relation_terms.specs.declared.terms.const_kind.ConstKind.{ConstKind}
-use Rattle.relation_terms.specs.declared.terms.const_kind.ConstKind.TheVariants.{Param as ConstParam}
-use Rattle.relation_terms.specs.declared.terms.const_kind.ConstKind.TheVariants.{Placeholder as ConstPlaceholder}
-use Rattle.relation_terms.specs.declared.terms.const_kind.ConstKind.TheVariants.{Value, Expr}
 use Rattle.relation_terms.specs.declared.terms.const_kind.ValTreeKind.{ValTreeKind}
-use Rattle.relation_terms.specs.declared.terms.const_kind.ValTreeKind.TheVariants.{Leaf, Branch}
+use Rattle.relation_terms.specs.declared.terms.pattern_kind.PatternKind.{PatternKind}
 use Rattle.relation_terms.specs.declared.terms.region_kind.RegionKind.{RegionKind}
-use Rattle.relation_terms.specs.declared.terms.region_kind.RegionKind.TheVariants.{ReStatic, ReEarlyParam, ReVar}
 use Rattle.relation_terms.specs.declared.terms.generic_arg.GenericArgKind.{GenericArgKind}
-use Rattle.relation_terms.specs.declared.terms.generic_arg.GenericArgKind.TheVariants.{Lifetime, Ty as TyArg}
-use Rattle.relation_terms.specs.declared.terms.generic_arg.GenericArgKind.TheVariants.{Const as ConstArg}
 use Rattle.reference_interner.specs.declared.keys.NodeKey.{NodeKey}
 use Rattle.reference_interner.specs.declared.keys.ItemId.{ItemId}
 use Rattle.reference_interner.specs.declared.keys.SymbolId.{SymbolId}
 use Rattle.reference_interner.specs.declared.node.Node.{Node}
 use Rattle.reference_interner.specs.declared.node.Node.TheVariants.{Ty, Region, Const, ValTree, Args, Tys}
-use Rattle.reference_interner.specs.declared.node.Node.TheVariants.{Branches, ParamEnv}
+use Rattle.reference_interner.specs.declared.node.Node.TheVariants.{Branches, ParamEnv, Pat, Alternatives}
 use Rattle.reference_interner.specs.Forms.{Form, ty_form, region_form, const_form, valtree_form, args_form, tys_form}
-use Rattle.reference_interner.specs.Forms.{branches_form, form_of}
-use Rattle.reference_interner.specs.contracts.node.NodePartialEq.TheImpl as node_impl
-use Rattle.reference_interner.specs.contracts.keys.NodeKeyPartialEq.TheImpl as key_impl
-use Rattle.reference_interner.specs.contracts.keys.NodeKey as key
-use Rattle.relation_terms.specs.contracts.terms.generic_arg.GenericArgKindPartialEq.TheImpl as arg_impl
-use Rattle.relation_terms.specs.contracts.terms.enums.IntTyPartialEq.TheImpl as int_impl
-use Rattle.relation_terms.specs.contracts.terms.enums.UintTyPartialEq.TheImpl as uint_impl
-use Rattle.relation_terms.specs.contracts.terms.enums.FloatTyPartialEq.TheImpl as float_impl
-use Rattle.relation_terms.specs.contracts.terms.enums.MutabilityPartialEq.TheImpl as mut_impl
+use Rattle.reference_interner.specs.Forms.{branches_form, pattern_form, alternatives_form, form_of}
 use lib.Pointwise.{pointwise}
-
-abbrev pub node_eq : Node → Node → Bool
-node_eq = node_impl.ghosts.eq
-
-abbrev int_eq : IntTy → IntTy → Bool
-int_eq = int_impl.ghosts.eq
-
-abbrev uint_eq : UintTy → UintTy → Bool
-uint_eq = uint_impl.ghosts.eq
-
-abbrev float_eq : FloatTy → FloatTy → Bool
-float_eq = float_impl.ghosts.eq
-
-abbrev mut_eq : Mutability → Mutability → Bool
-mut_eq = mut_impl.ghosts.eq
-
-abbrev arg_eq : GenericArgKind NodeKey → GenericArgKind NodeKey → Bool
-arg_eq = (arg_impl.ghosts key.the_row key_impl.ghosts key_impl.dict).eq
-
-abbrev ty_eq : TyKey NodeKey → TyKey NodeKey → Bool
-ty_eq t u = eqb (t.0).0 (u.0).0
-
-abbrev const_eq : ConstKey NodeKey → ConstKey NodeKey → Bool
-const_eq t u = eqb (t.0).0 (u.0).0
-
-int_same : (i j : IntTy) → IsTrue (int_eq i j) → i ≡ j
-int_same Isize Isize h = refl
-int_same I8 I8 h = refl
-int_same I16 I16 h = refl
-int_same I32 I32 h = refl
-int_same I64 I64 h = refl
-int_same I128 I128 h = refl
-int_same _ _ h = absurd (false≢true h)
-
-int_self : (i : IntTy) → IsTrue (int_eq i i)
-int_self Isize = refl
-int_self I8 = refl
-int_self I16 = refl
-int_self I32 = refl
-int_self I64 = refl
-int_self I128 = refl
-
-uint_same : (i j : UintTy) → IsTrue (uint_eq i j) → i ≡ j
-uint_same Usize Usize h = refl
-uint_same U8 U8 h = refl
-uint_same U16 U16 h = refl
-uint_same U32 U32 h = refl
-uint_same U64 U64 h = refl
-uint_same U128 U128 h = refl
-uint_same _ _ h = absurd (false≢true h)
-
-uint_self : (i : UintTy) → IsTrue (uint_eq i i)
-uint_self Usize = refl
-uint_self U8 = refl
-uint_self U16 = refl
-uint_self U32 = refl
-uint_self U64 = refl
-uint_self U128 = refl
-
-float_same : (i j : FloatTy) → IsTrue (float_eq i j) → i ≡ j
-float_same F16 F16 h = refl
-float_same F32 F32 h = refl
-float_same F64 F64 h = refl
-float_same F128 F128 h = refl
-float_same _ _ h = absurd (false≢true h)
-
-float_self : (i : FloatTy) → IsTrue (float_eq i i)
-float_self F16 = refl
-float_self F32 = refl
-float_self F64 = refl
-float_self F128 = refl
-
-mut_same : (i j : Mutability) → IsTrue (mut_eq i j) → i ≡ j
-mut_same Not Not h = refl
-mut_same Mut Mut h = refl
-mut_same _ _ h = absurd (false≢true h)
-
-mut_self : (i : Mutability) → IsTrue (mut_eq i i)
-mut_self Not = refl
-mut_self Mut = refl
-
-eqb_self : (n : ℕ) → IsTrue (eqb n n)
-eqb_self n = eq-eqb n n refl
-
--- What is made of one number, of two or of three.
-one_number : {A : Type 0} (f : ℕ → A) (i j : ℕ) → IsTrue (eqb i j) → f i ≡ f j
-one_number f i j h = ap f (eqb-true i j h)
-
-two_numbers : {A : Type 0} (f : ℕ → ℕ → A) (i j k l : ℕ) → IsTrue (eqb i j && eqb k l) → f i k ≡ f j l
-two_numbers f i j k l h =
-    let p = and_parts (eqb i j) (eqb k l) h in
-    ap₂ f (eqb-true i j p.0) (eqb-true k l p.1)
-
-three_numbers : {A : Type 0} (f : ℕ → ℕ → ℕ → A) (i j k l m n : ℕ) → IsTrue (eqb i j && (eqb k l && eqb m n)) →
-    f i k m ≡ f j l n
-three_numbers f i j k l m n h =
-    let p = and_parts (eqb i j) (eqb k l && eqb m n) h in
-    two_numbers (λ x y. f i x y) k l m n p.1 ∙ ap (λ x. f x l n) (eqb-true i j p.0)
-
-two_selves : (i j : ℕ) → IsTrue (eqb i i && eqb j j)
-two_selves i j = and_from (eqb i i) (eqb j j) (eqb_self i) (eqb_self j)
-
-three_selves : (i j k : ℕ) → IsTrue (eqb i i && (eqb j j && eqb k k))
-three_selves i j k = and_from (eqb i i) (eqb j j && eqb k k) (eqb_self i) (two_selves j k)
-
-kind_same : (f g : TyKind NodeKey ItemId SymbolId) → IsTrue (node_eq (Ty f) (Ty g)) → f ≡ g
-kind_same BoolForm BoolForm h = refl
-kind_same Char Char h = refl
-kind_same (Int i) (Int j) h = ap (λ x. Int x) (int_same i j h)
-kind_same (Uint i) (Uint j) h = ap (λ x. Uint x) (uint_same i j h)
-kind_same (Float i) (Float j) h = ap (λ x. Float x) (float_same i j h)
-kind_same (Adt d a) (Adt e b) h =
-    two_numbers (λ x y. Adt (record { 0 = record { 0 = x } }) (record { 0 = record { 0 = y } }))
-    (d.0).0 (e.0).0 (a.0).0 (b.0).0 h
-kind_same (Foreign t) (Foreign u) h = one_number (λ x. Foreign (record { 0 = record { 0 = x } })) (t.0).0 (u.0).0 h
-kind_same Str Str h = refl
-kind_same (Array t c) (Array u d) h =
-    two_numbers (λ x y. Array (record { 0 = record { 0 = x } }) (record { 0 = record { 0 = y } }))
-    (t.0).0 (u.0).0 (c.0).0 (d.0).0 h
-kind_same (Slice t) (Slice u) h = one_number (λ x. Slice (record { 0 = record { 0 = x } })) (t.0).0 (u.0).0 h
-kind_same (RawPtr t a) (RawPtr u b) h =
-    let p = and_parts (ty_eq t u) (mut_eq a b) h in
-    ap₂ (λ x y. RawPtr (record { 0 = record { 0 = x } }) y) (eqb-true (t.0).0 (u.0).0 p.0) (mut_same a b p.1)
-kind_same (Ref r t a) (Ref s u b) h =
-    let p = and_parts (eqb (r.0).0 (s.0).0) (ty_eq t u && mut_eq a b) h in
-    let q = and_parts (ty_eq t u) (mut_eq a b) p.1 in
-    ap₂ (λ x y. Ref (record { 0 = record { 0 = x } }) (record { 0 = record { 0 = y } }) a)
-    (eqb-true (r.0).0 (s.0).0 p.0) (eqb-true (t.0).0 (u.0).0 q.0) ∙ ap (λ x. Ref s u x) (mut_same a b q.1)
-kind_same (FnDef d a) (FnDef e b) h =
-    two_numbers (λ x y. FnDef (record { 0 = record { 0 = x } }) (record { 0 = record { 0 = y } }))
-    (d.0).0 (e.0).0 (a.0).0 (b.0).0 h
-kind_same (Closure d a) (Closure e b) h =
-    two_numbers (λ x y. Closure (record { 0 = record { 0 = x } }) (record { 0 = record { 0 = y } }))
-    (d.0).0 (e.0).0 (a.0).0 (b.0).0 h
-kind_same (CoroutineClosure d a) (CoroutineClosure e b) h =
-    two_numbers (λ x y. CoroutineClosure (record { 0 = record { 0 = x } }) (record { 0 = record { 0 = y } }))
-    (d.0).0 (e.0).0 (a.0).0 (b.0).0 h
-kind_same (Coroutine d a) (Coroutine e b) h =
-    two_numbers (λ x y. Coroutine (record { 0 = record { 0 = x } }) (record { 0 = record { 0 = y } }))
-    (d.0).0 (e.0).0 (a.0).0 (b.0).0 h
-kind_same (CoroutineWitness d a) (CoroutineWitness e b) h =
-    two_numbers (λ x y. CoroutineWitness (record { 0 = record { 0 = x } }) (record { 0 = record { 0 = y } }))
-    (d.0).0 (e.0).0 (a.0).0 (b.0).0 h
-kind_same Never Never h = refl
-kind_same (Tuple t) (Tuple u) h = one_number (λ x. Tuple (record { 0 = record { 0 = x } })) (t.0).0 (u.0).0 h
-kind_same (TyParam p) (TyParam q) h =
-    two_numbers (λ i n. TyParam (record { index = i; name = record { 0 = n } }))
-    p.index q.index (p.name).0 (q.name).0 h
-kind_same (TyPlaceholder p) (TyPlaceholder q) h =
-    three_numbers (λ u v n. TyPlaceholder (record {
-      universe = record { 0 = u };
-      bound = record { var = record { 0 = v }; name = record { 0 = n } };
-    })) (p.universe).0 (q.universe).0 ((p.bound).var).0 ((q.bound).var).0 ((p.bound).name).0 ((q.bound).name).0 h
-kind_same (Infer (TyVar v)) (Infer (TyVar w)) h = one_number (λ n. Infer (TyVar (record { 0 = n }))) v.0 w.0 h
-kind_same _ _ h = absurd (false≢true h)
-
-kind_self : (f : TyKind NodeKey ItemId SymbolId) → IsTrue (node_eq (Ty f) (Ty f))
-kind_self BoolForm = refl
-kind_self Char = refl
-kind_self (Int i) = int_self i
-kind_self (Uint i) = uint_self i
-kind_self (Float i) = float_self i
-kind_self (Adt d a) = two_selves (d.0).0 (a.0).0
-kind_self (Foreign t) = eqb_self (t.0).0
-kind_self Str = refl
-kind_self (Array t c) = two_selves (t.0).0 (c.0).0
-kind_self (Slice t) = eqb_self (t.0).0
-kind_self (RawPtr t a) = and_from (ty_eq t t) (mut_eq a a) (eqb_self (t.0).0) (mut_self a)
-kind_self (Ref r t a) =
-    and_from (eqb (r.0).0 (r.0).0) (ty_eq t t && mut_eq a a) (eqb_self (r.0).0)
-    (and_from (ty_eq t t) (mut_eq a a) (eqb_self (t.0).0) (mut_self a))
-kind_self (FnDef d a) = two_selves (d.0).0 (a.0).0
-kind_self (Closure d a) = two_selves (d.0).0 (a.0).0
-kind_self (CoroutineClosure d a) = two_selves (d.0).0 (a.0).0
-kind_self (Coroutine d a) = two_selves (d.0).0 (a.0).0
-kind_self (CoroutineWitness d a) = two_selves (d.0).0 (a.0).0
-kind_self Never = refl
-kind_self (Tuple t) = eqb_self (t.0).0
-kind_self (TyParam p) = two_selves p.index (p.name).0
-kind_self (TyPlaceholder p) = three_selves (p.universe).0 ((p.bound).var).0 ((p.bound).name).0
-kind_self (Infer (TyVar v)) = eqb_self v.0
-
-const_same : (f g : ConstKind NodeKey SymbolId) → IsTrue (node_eq (Const f) (Const g)) → f ≡ g
-const_same (ConstParam p) (ConstParam q) h =
-    two_numbers (λ i n. ConstParam (record { index = i; name = record { 0 = n } }))
-    p.index q.index (p.name).0 (q.name).0 h
-const_same (ConstPlaceholder p) (ConstPlaceholder q) h =
-    three_numbers (λ u v n. ConstPlaceholder (record {
-      universe = record { 0 = u };
-      bound = record { var = record { 0 = v }; name = record { 0 = n } };
-    })) (p.universe).0 (q.universe).0 ((p.bound).var).0 ((q.bound).var).0 ((p.bound).name).0 ((q.bound).name).0 h
-const_same (Value t v) (Value u w) h =
-    two_numbers (λ x y. Value (record { 0 = record { 0 = x } }) (record { 0 = record { 0 = y } }))
-    (t.0).0 (u.0).0 (v.0).0 (w.0).0 h
-const_same (Expr o a) (Expr p b) h =
-    two_numbers (λ x y. Expr (record { 0 = x }) (record { 0 = record { 0 = y } })) o.0 p.0 (a.0).0 (b.0).0 h
-const_same _ _ h = absurd (false≢true h)
-
-const_self : (f : ConstKind NodeKey SymbolId) → IsTrue (node_eq (Const f) (Const f))
-const_self (ConstParam p) = two_selves p.index (p.name).0
-const_self (ConstPlaceholder p) = three_selves (p.universe).0 ((p.bound).var).0 ((p.bound).name).0
-const_self (Value t v) = two_selves (t.0).0 (v.0).0
-const_self (Expr o a) = two_selves o.0 (a.0).0
-
-valtree_same : (f g : ValTreeKind NodeKey) → IsTrue (node_eq (ValTree f) (ValTree g)) → f ≡ g
-valtree_same (Leaf a m) (Leaf b n) h = two_numbers (λ x y. Leaf x y) a b m n h
-valtree_same (Branch a) (Branch b) h = one_number (λ x. Branch (record { 0 = record { 0 = x } })) (a.0).0 (b.0).0 h
-valtree_same _ _ h = absurd (false≢true h)
-
-valtree_self : (f : ValTreeKind NodeKey) → IsTrue (node_eq (ValTree f) (ValTree f))
-valtree_self (Leaf a m) = two_selves a m
-valtree_self (Branch a) = eqb_self (a.0).0
-
-region_same : (f g : RegionKind SymbolId) → IsTrue (node_eq (Region f) (Region g)) → f ≡ g
-region_same ReStatic ReStatic h = refl
-region_same (ReEarlyParam p) (ReEarlyParam q) h =
-    two_numbers (λ i n. ReEarlyParam (record { index = i; name = record { 0 = n } }))
-    p.index q.index (p.name).0 (q.name).0 h
-region_same (ReVar v) (ReVar w) h = one_number (λ n. ReVar (record { 0 = n })) v.0 w.0 h
-region_same _ _ h = absurd (false≢true h)
-
-region_self : (f : RegionKind SymbolId) → IsTrue (node_eq (Region f) (Region f))
-region_self ReStatic = refl
-region_self (ReEarlyParam p) = two_selves p.index (p.name).0
-region_self (ReVar v) = eqb_self v.0
-
-arg_same : (f g : GenericArgKind NodeKey) → IsTrue (arg_eq f g) → f ≡ g
-arg_same (Lifetime r) (Lifetime s) h = one_number (λ x. Lifetime (record { 0 = record { 0 = x } })) (r.0).0 (s.0).0 h
-arg_same (TyArg t) (TyArg u) h = one_number (λ x. TyArg (record { 0 = record { 0 = x } })) (t.0).0 (u.0).0 h
-arg_same (ConstArg c) (ConstArg d) h = one_number (λ x. ConstArg (record { 0 = record { 0 = x } })) (c.0).0 (d.0).0 h
-arg_same _ _ h = absurd (false≢true h)
-
-arg_self : (f : GenericArgKind NodeKey) → IsTrue (arg_eq f f)
-arg_self (Lifetime r) = eqb_self (r.0).0
-arg_self (TyArg t) = eqb_self (t.0).0
-arg_self (ConstArg c) = eqb_self (c.0).0
-
-ty_same : (t u : TyKey NodeKey) → IsTrue (ty_eq t u) → t ≡ u
-ty_same t u h = one_number (λ n. record { 0 = record { 0 = n } }) (t.0).0 (u.0).0 h
-
-const_key_same : (t u : ConstKey NodeKey) → IsTrue (const_eq t u) → t ≡ u
-const_key_same t u h = one_number (λ n. record { 0 = record { 0 = n } }) (t.0).0 (u.0).0 h
+use Rattle.reference_interner.proofs.AlikeFormLemmas.{node_eq, arg_eq, ty_eq, const_eq, pat_eq, eqb_self}
+use Rattle.reference_interner.proofs.AlikeFormLemmas.{kind_same, kind_self, const_same, const_self, valtree_same}
+use Rattle.reference_interner.proofs.AlikeFormLemmas.{valtree_self, pattern_same, pattern_self, region_same}
+use Rattle.reference_interner.proofs.AlikeFormLemmas.{region_self, arg_same, arg_self, ty_same, const_key_same}
+use Rattle.reference_interner.proofs.AlikeFormLemmas.{pat_same}
 
 -- Lists, by what their members are.
 list_same : {A : Type 0} (eq : A → A → Bool) → ((x y : A) → IsTrue (eq x y) → x ≡ y) → (xs ys : List A) →
@@ -310,9 +44,12 @@ node_same (Ty f) (Ty g) h = ap (λ x. ty_form x) (kind_same f g h)
 node_same (Region f) (Region g) h = ap (λ x. region_form x) (region_same f g h)
 node_same (Const f) (Const g) h = ap (λ x. const_form x) (const_same f g h)
 node_same (ValTree f) (ValTree g) h = ap (λ x. valtree_form x) (valtree_same f g h)
+node_same (Pat f) (Pat g) h = ap (λ x. pattern_form x) (pattern_same f g h)
 node_same (Args v) (Args w) h = ap (λ x. args_form x) (list_same arg_eq arg_same v.items w.items h)
 node_same (Tys v) (Tys w) h = ap (λ x. tys_form x) (list_same ty_eq ty_same v.items w.items h)
 node_same (Branches v) (Branches w) h = ap (λ x. branches_form x) (list_same const_eq const_key_same v.items w.items h)
+node_same (Alternatives v) (Alternatives w) h =
+    ap (λ x. alternatives_form x) (list_same pat_eq pat_same v.items w.items h)
 node_same ParamEnv ParamEnv h = refl
 node_same _ _ h = absurd (false≢true h)
 
@@ -324,13 +61,17 @@ abbrev region_in : RegionKind SymbolId → Form → RegionKind SymbolId
 region_in d (region_form f) = f
 region_in d _ = d
 
-abbrev const_in : ConstKind NodeKey SymbolId → Form → ConstKind NodeKey SymbolId
+abbrev const_in : ConstKind NodeKey ItemId SymbolId → Form → ConstKind NodeKey ItemId SymbolId
 const_in d (const_form f) = f
 const_in d _ = d
 
 abbrev valtree_in : ValTreeKind NodeKey → Form → ValTreeKind NodeKey
 valtree_in d (valtree_form f) = f
 valtree_in d _ = d
+
+abbrev pattern_in : PatternKind NodeKey → Form → PatternKind NodeKey
+pattern_in d (pattern_form f) = f
+pattern_in d _ = d
 
 abbrev args_in : List (GenericArgKind NodeKey) → Form → List (GenericArgKind NodeKey)
 args_in d (args_form f) = f
@@ -344,6 +85,10 @@ abbrev branches_in : List (ConstKey NodeKey) → Form → List (ConstKey NodeKey
 branches_in d (branches_form f) = f
 branches_in d _ = d
 
+abbrev alternatives_in : List (PatKey NodeKey) → Form → List (PatKey NodeKey)
+alternatives_in d (alternatives_form f) = f
+alternatives_in d _ = d
+
 node_self : (a b : Node) → form_of a ≡ form_of b → IsTrue (node_eq a b)
 node_self (Ty f) (Ty g) e = subst (λ x. IsTrue (node_eq (Ty f) (Ty x))) (ap (kind_in f) e) (kind_self f)
 node_self (Region f) (Region g) e =
@@ -351,6 +96,7 @@ node_self (Region f) (Region g) e =
 node_self (Const f) (Const g) e = subst (λ x. IsTrue (node_eq (Const f) (Const x))) (ap (const_in f) e) (const_self f)
 node_self (ValTree f) (ValTree g) e =
     subst (λ x. IsTrue (node_eq (ValTree f) (ValTree x))) (ap (valtree_in f) e) (valtree_self f)
+node_self (Pat f) (Pat g) e = subst (λ x. IsTrue (node_eq (Pat f) (Pat x))) (ap (pattern_in f) e) (pattern_self f)
 node_self (Args v) (Args w) e =
     subst (λ x. IsTrue (pointwise arg_eq v.items x)) (ap (args_in v.items) e) (list_self arg_eq arg_self v.items)
 node_self (Tys v) (Tys w) e =
@@ -359,6 +105,9 @@ node_self (Tys v) (Tys w) e =
 node_self (Branches v) (Branches w) e =
     subst (λ x. IsTrue (pointwise const_eq v.items x)) (ap (branches_in v.items) e)
     (list_self const_eq (λ x. eqb_self (x.0).0) v.items)
+node_self (Alternatives v) (Alternatives w) e =
+    subst (λ x. IsTrue (pointwise pat_eq v.items x)) (ap (alternatives_in v.items) e)
+    (list_self pat_eq (λ x. eqb_self (x.0).0) v.items)
 node_self ParamEnv ParamEnv e = refl
 node_self _ _ e = absurd (cc)
 

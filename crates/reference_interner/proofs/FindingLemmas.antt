@@ -8,7 +8,8 @@ use Rattle.std.proofs.Math.Seq.{get_or-append_seam}
 use Rattle.reference_interner.specs.declared.node.Node.{Node}
 use Rattle.reference_interner.specs.Forms.{form_of}
 use Rattle.reference_interner.specs.Finding.{Lacks, HasAt, Finds}
-use Rattle.reference_interner.proofs.AlikeLemmas.{node_eq, node_alike}
+use Rattle.reference_interner.proofs.AlikeFormLemmas.{node_eq}
+use Rattle.reference_interner.proofs.AlikeLemmas.{node_alike}
 use Rattle.reference_interner.proofs.OnceLemmas.{last_or}
 
 -- What is found of a node, by cases.

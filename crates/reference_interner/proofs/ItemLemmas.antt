@@ -6,23 +6,30 @@ use Rattle.std.proofs.lemmas.List.{get_or-map, length-map, map-append, get_or_ap
 use Rattle.std.proofs.Math.Seq.{get_or-append_seam}
 use Rattle.relation_terms.proofs.Lists.{last_place}
 use Rattle.relation_terms.specs.Trees.{Tree, list_tree, cons}
-use Rattle.relation_terms.specs.Meaning.{kind_tree, region_tree, const_tree, valtree_tree, arg_tree}
+use Rattle.relation_terms.specs.Meaning.{kind_tree, region_tree, const_tree, valtree_tree, pattern_tree, arg_tree}
 use Rattle.relation_terms.specs.declared.terms.enums.Variance.{Variance}
 use Rattle.relation_terms.specs.declared.terms.ty_kind.TyKind.{TyKind}
 use Rattle.relation_terms.specs.declared.terms.ty_kind.TyKind.TheVariants.{Bool, Char, Int, Uint, Float, Adt, Foreign}
 use Rattle.relation_terms.specs.declared.terms.ty_kind.TyKind.TheVariants.{Str, Array, Slice, RawPtr, Ref, FnDef}
 use Rattle.relation_terms.specs.declared.terms.ty_kind.TyKind.TheVariants.{Closure, CoroutineClosure, Coroutine}
 use Rattle.relation_terms.specs.declared.terms.ty_kind.TyKind.TheVariants.{CoroutineWitness, Never, Tuple, Infer}
-use Rattle.relation_terms.specs.declared.terms.ty_kind.TyKind.TheVariants.{Param as TyParam}
+use Rattle.relation_terms.specs.declared.terms.ty_kind.TyKind.TheVariants.{Param as TyParam, Bound as TyBound}
+use Rattle.relation_terms.specs.declared.terms.ty_kind.TyKind.TheVariants.{Error as TyError, Alias, Pat}
 use Rattle.relation_terms.specs.declared.terms.ty_kind.TyKind.TheVariants.{Placeholder as TyPlaceholder}
 use Rattle.relation_terms.specs.declared.terms.const_kind.ConstKind.{ConstKind}
 use Rattle.relation_terms.specs.declared.terms.const_kind.ConstKind.TheVariants.{Param as ConstParam}
 use Rattle.relation_terms.specs.declared.terms.const_kind.ConstKind.TheVariants.{Placeholder as ConstPlaceholder}
-use Rattle.relation_terms.specs.declared.terms.const_kind.ConstKind.TheVariants.{Value, Expr}
+use Rattle.relation_terms.specs.declared.terms.const_kind.ConstKind.TheVariants.{Infer as ConstInfer}
+use Rattle.relation_terms.specs.declared.terms.const_kind.ConstKind.TheVariants.{Bound as ConstBound}
+use Rattle.relation_terms.specs.declared.terms.const_kind.ConstKind.TheVariants.{Unevaluated, Value}
+use Rattle.relation_terms.specs.declared.terms.const_kind.ConstKind.TheVariants.{Error as ConstError, Expr}
 use Rattle.relation_terms.specs.declared.terms.const_kind.ValTreeKind.{ValTreeKind}
 use Rattle.relation_terms.specs.declared.terms.const_kind.ValTreeKind.TheVariants.{Leaf, Branch}
+use Rattle.relation_terms.specs.declared.terms.pattern_kind.PatternKind.{PatternKind}
+use Rattle.relation_terms.specs.declared.terms.pattern_kind.PatternKind.TheVariants.{Range, Or, NotNull}
 use Rattle.relation_terms.specs.declared.terms.region_kind.RegionKind.{RegionKind}
-use Rattle.relation_terms.specs.declared.terms.region_kind.RegionKind.TheVariants.{ReStatic, ReEarlyParam, ReVar}
+use Rattle.relation_terms.specs.declared.terms.region_kind.RegionKind.TheVariants.{ReStatic, ReEarlyParam, ReBound}
+use Rattle.relation_terms.specs.declared.terms.region_kind.RegionKind.TheVariants.{ReVar, RePlaceholder}
 use Rattle.relation_terms.specs.declared.terms.generic_arg.GenericArgKind.{GenericArgKind}
 use Rattle.relation_terms.specs.declared.terms.generic_arg.GenericArgKind.TheVariants.{Lifetime, Ty, Const}
 use Rattle.reference_interner.specs.declared.keys.NodeKey.{NodeKey}
@@ -31,7 +38,7 @@ use Rattle.reference_interner.specs.declared.keys.SymbolId.{SymbolId}
 use Rattle.reference_interner.specs.declared.items.Item.{Item}
 use Rattle.reference_interner.specs.declared.node.Node.{Node}
 use Rattle.reference_interner.specs.Forms.{Form, ty_form, region_form, const_form, valtree_form, args_form, tys_form}
-use Rattle.reference_interner.specs.Forms.{branches_form, environment_form, form_of}
+use Rattle.reference_interner.specs.Forms.{branches_form, environment_form, pattern_form, alternatives_form, form_of}
 use Rattle.reference_interner.specs.Adding.{SameTerms, OthersStand, HasNoGenerics}
 use Rattle.reference_interner.specs.Items.{variances_at, alias_variances_of, alias_variances_at}
 use Rattle.reference_interner.specs.Nodes.{Entry, entry, meaning_of, form_sort, form_tree, entry_of, entries}
@@ -54,6 +61,7 @@ module _ (as_before more : List Item) (es : List Entry) where
   same_kind (Foreign d) = refl
   same_kind Str = refl
   same_kind (Array t c) = refl
+  same_kind (Pat t p) = refl
   same_kind (Slice t) = refl
   same_kind (RawPtr t u) = refl
   same_kind (Ref r t u) = refl
@@ -64,16 +72,23 @@ module _ (as_before more : List Item) (es : List Entry) where
   same_kind (CoroutineWitness d a) = refl
   same_kind Never = refl
   same_kind (Tuple ts) = refl
+  same_kind (Alias a) = refl
   same_kind (TyParam p) = refl
+  same_kind (TyBound d b) = refl
   same_kind (TyPlaceholder p) = refl
   same_kind (Infer i) = refl
+  same_kind (TyError e) = refl
 
-  same_const : (f : ConstKind NodeKey SymbolId) →
+  same_const : (f : ConstKind NodeKey ItemId SymbolId) →
       const_tree (meaning_of as_before es) f ≡ const_tree (meaning_of more es) f
   unfolding meaning_of
   same_const (ConstParam p) = refl
+  same_const (ConstInfer i) = refl
+  same_const (ConstBound d b) = refl
   same_const (ConstPlaceholder p) = refl
+  same_const (Unevaluated u) = refl
   same_const (Value t v) = refl
+  same_const (ConstError e) = refl
   same_const (Expr x a) = refl
 
   same_valtree : (f : ValTreeKind NodeKey) →
@@ -82,12 +97,21 @@ module _ (as_before more : List Item) (es : List Entry) where
   same_valtree (Leaf b n) = refl
   same_valtree (Branch b) = refl
 
+  same_pattern : (f : PatternKind NodeKey) →
+      pattern_tree (meaning_of as_before es) f ≡ pattern_tree (meaning_of more es) f
+  unfolding meaning_of
+  same_pattern (Range s e) = refl
+  same_pattern (Or a) = refl
+  same_pattern NotNull = refl
+
   same_region : (f : RegionKind SymbolId) →
       region_tree (meaning_of as_before es) f ≡ region_tree (meaning_of more es) f
   unfolding meaning_of
   same_region ReStatic = refl
   same_region (ReEarlyParam p) = refl
+  same_region (ReBound d b) = refl
   same_region (ReVar v) = refl
+  same_region (RePlaceholder p) = refl
 
   same_arg : (a : GenericArgKind NodeKey) → arg_tree (meaning_of as_before es) a ≡ arg_tree (meaning_of more es) a
   unfolding meaning_of
@@ -101,10 +125,12 @@ module _ (as_before more : List Item) (es : List Entry) where
   same_form (region_form f) = same_region f
   same_form (const_form f) = same_const f
   same_form (valtree_form f) = same_valtree f
+  same_form (pattern_form f) = same_pattern f
   same_form (args_form xs) =
       same_list (arg_tree (meaning_of as_before es)) (arg_tree (meaning_of more es)) same_arg xs
   same_form (tys_form ts) = refl
   same_form (branches_form cs) = refl
+  same_form (alternatives_form ps) = refl
   same_form environment_form = refl
 
 -- A node's entry is one whatever the items are.

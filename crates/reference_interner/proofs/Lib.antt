@@ -1,5 +1,6 @@
 pub mod ItemLemmas
 pub mod TableLemmas
+pub mod AlikeFormLemmas
 pub mod AlikeLemmas
 pub mod OnceLemmas
 pub mod FindingLemmas

@@ -9,14 +9,14 @@ use Rattle.relation_terms.specs.Meaning.{Meaning, Extends, arg_tree}
 use Rattle.relation_terms.proofs.Stays.{stays_same}
 use Rattle.relation_terms.proofs.Sorted.{Sorted}
 use Rattle.relation_terms.proofs.Once.{Injective, kind_once, region_once, const_once, valtree_once, arg_once}
-use Rattle.relation_terms.proofs.Once.{list_once}
+use Rattle.relation_terms.proofs.Once.{pattern_once, list_once}
 use Rattle.reference_interner.specs.declared.keys.NodeKey.{NodeKey}
 use Rattle.reference_interner.specs.declared.keys.ItemId.{ItemId}
 use Rattle.reference_interner.specs.declared.keys.SymbolId.{SymbolId}
 use Rattle.reference_interner.specs.declared.items.Item.{Item}
 use Rattle.reference_interner.specs.declared.node.Node.{Node}
 use Rattle.reference_interner.specs.Forms.{Form, ty_form, region_form, const_form, valtree_form, args_form, tys_form}
-use Rattle.reference_interner.specs.Forms.{branches_form, environment_form, form_of}
+use Rattle.reference_interner.specs.Forms.{branches_form, environment_form, pattern_form, alternatives_form, form_of}
 use Rattle.reference_interner.specs.Nodes.{NodeSort, Entry, no_entry, entry, tree_as, meaning_of, form_tree, entry_at}
 use Rattle.reference_interner.specs.Nodes.{entry_of, entries, table_meaning, known_entry, AllKnown, AllDistinct}
 use Rattle.reference_interner.specs.Nodes.{StandsAt}
@@ -34,11 +34,15 @@ form_once m j s (region_form f) (region_form g) k e = ap (λ x. region_form x) (
 form_once m j s (const_form f) (const_form g) k e = ap (λ x. const_form x) (const_once m j f g k (ap tree_in e))
 form_once m j s (valtree_form f) (valtree_form g) k e =
     ap (λ x. valtree_form x) (valtree_once m j f g k (ap tree_in e))
+form_once m j s (pattern_form f) (pattern_form g) k e =
+    ap (λ x. pattern_form x) (pattern_once m j f g k (ap tree_in e))
 form_once m j s (args_form xs) (args_form ys) k e =
     ap (λ x. args_form x) (list_once (arg_tree m) (arg_once m j s) xs ys k (ap tree_in e))
 form_once m j s (tys_form xs) (tys_form ys) k e = ap (λ x. tys_form x) (list_once m.ty j.ty xs ys k (ap tree_in e))
 form_once m j s (branches_form xs) (branches_form ys) k e =
     ap (λ x. branches_form x) (list_once m.const_ j.const_ xs ys k (ap tree_in e))
+form_once m j s (alternatives_form xs) (alternatives_form ys) k e =
+    ap (λ x. alternatives_form x) (list_once m.pat j.pat xs ys k (ap tree_in e))
 form_once m j s environment_form environment_form k e = refl
 form_once m j s f g k e = absurd (cc)
 

@@ -7,27 +7,29 @@ use Rattle.std.proofs.Math.Seq.{get_or-append_seam}
 use Rattle.relation_terms.specs.Trees.{Tree, nil, known}
 use Rattle.relation_terms.specs.Meaning.{Meaning, Extends, arg_tree}
 use Rattle.relation_terms.proofs.Stays.{stays_same, extends_on, stays_kind, stays_region, stays_const, stays_valtree}
-use Rattle.relation_terms.proofs.Stays.{stays_list, stays_arg}
+use Rattle.relation_terms.proofs.Stays.{stays_pattern, stays_list, stays_arg}
 use Rattle.reference_interner.specs.declared.keys.NodeKey.{NodeKey}
 use Rattle.reference_interner.specs.declared.keys.ItemId.{ItemId}
 use Rattle.reference_interner.specs.declared.keys.SymbolId.{SymbolId}
 use Rattle.reference_interner.specs.declared.items.Item.{Item}
 use Rattle.reference_interner.specs.declared.node.Node.TheVariants.{Ty, Region, Const, ValTree, Args, Tys}
-use Rattle.reference_interner.specs.declared.node.Node.TheVariants.{Branches}
+use Rattle.reference_interner.specs.declared.node.Node.TheVariants.{Branches, Pat, Alternatives}
 use Rattle.relation_terms.specs.declared.terms.keys.TyKey.{TyKey}
 use Rattle.relation_terms.specs.declared.terms.keys.ConstKey.{ConstKey}
+use Rattle.relation_terms.specs.declared.terms.keys.PatKey.{PatKey}
 use Rattle.relation_terms.specs.declared.terms.ty_kind.TyKind.{TyKind}
 use Rattle.relation_terms.specs.declared.terms.region_kind.RegionKind.{RegionKind}
 use Rattle.relation_terms.specs.declared.terms.const_kind.ConstKind.{ConstKind}
 use Rattle.relation_terms.specs.declared.terms.const_kind.ValTreeKind.{ValTreeKind}
+use Rattle.relation_terms.specs.declared.terms.pattern_kind.PatternKind.{PatternKind}
 use Rattle.relation_terms.specs.declared.terms.generic_arg.GenericArgKind.{GenericArgKind}
 use Rattle.std.specs.declared.vec.Vec.{Vec}
 use Rattle.std.specs.declared.alloc.Global.{Global}
 use Rattle.reference_interner.specs.declared.node.Node.{Node}
 use Rattle.reference_interner.specs.Forms.{Form, ty_form, region_form, const_form, valtree_form, args_form, tys_form}
-use Rattle.reference_interner.specs.Forms.{branches_form, environment_form, form_of}
+use Rattle.reference_interner.specs.Forms.{branches_form, environment_form, pattern_form, alternatives_form, form_of}
 use Rattle.reference_interner.specs.Nodes.{NodeSort, ty_node, region_node, const_node, valtree_node, args_node}
-use Rattle.reference_interner.specs.Nodes.{tys_node, branches_node, environment_node}
+use Rattle.reference_interner.specs.Nodes.{tys_node, branches_node, environment_node, pat_node, alternatives_node}
 use Rattle.reference_interner.specs.Nodes.{Entry, no_entry, entry, tree_as, meaning_of, form_sort, form_tree, entry_at}
 use Rattle.reference_interner.specs.Nodes.{entry_of, entries_from, entries, table_meaning, known_entry, AllKnown}
 use Rattle.reference_interner.specs.Places.{known_in, of_sort, reads_itself, sure_of, tree_of_key, HasKey, key_reads}
@@ -58,10 +60,10 @@ extends_append items es fs = record {
   const_ = λ k h. keeps const_node es fs (k.0).0 h;
   args = λ k h. keeps args_node es fs (k.0).0 h;
   tys = λ k h. keeps tys_node es fs (k.0).0 h;
-  pat = λ k h. refl;
+  pat = λ k h. keeps pat_node es fs (k.0).0 h;
   valtree = λ k h. keeps valtree_node es fs (k.0).0 h;
   branches = λ k h. keeps branches_node es fs (k.0).0 h;
-  alternatives = λ k h. refl;
+  alternatives = λ k h. keeps alternatives_node es fs (k.0).0 h;
   existential_predicates = λ k h. refl;
   bound_vars = λ k h. refl;
   predicate = λ k h. refl;
@@ -128,9 +130,11 @@ stays_form e (ty_form f) k = stays_kind e f k
 stays_form e (region_form f) k = stays_region e f k
 stays_form e (const_form f) k = stays_const e f k
 stays_form e (valtree_form f) k = stays_valtree e f k
+stays_form e (pattern_form f) k = stays_pattern e f k
 stays_form {m} {n} e (args_form xs) k = stays_list (arg_tree m) (arg_tree n) xs (stays_arg e) k
 stays_form {m} {n} e (tys_form ts) k = stays_list m.ty n.ty ts e.ty k
 stays_form {m} {n} e (branches_form cs) k = stays_list m.const_ n.const_ cs e.const_ k
+stays_form {m} {n} e (alternatives_form ps) k = stays_list m.pat n.pat ps e.pat k
 stays_form e environment_form k = refl
 
 -- An entry is that of the node as its keys are read now.
@@ -197,7 +201,7 @@ pub not_region : (n : Node) → ((f : RegionKind SymbolId) → n ≡ Region f �
 not_region (Region f) u e = u f refl
 not_region n u e = absurd (cc)
 
-pub not_const : (n : Node) → ((f : ConstKind NodeKey SymbolId) → n ≡ Const f → ⊥) →
+pub not_const : (n : Node) → ((f : ConstKind NodeKey ItemId SymbolId) → n ≡ Const f → ⊥) →
     const_node ≡ form_sort (form_of n) → ⊥
 not_const (Const f) u e = u f refl
 not_const n u e = absurd (cc)
@@ -206,6 +210,10 @@ pub not_valtree : (n : Node) → ((f : ValTreeKind NodeKey) → n ≡ ValTree f 
     valtree_node ≡ form_sort (form_of n) → ⊥
 not_valtree (ValTree f) u e = u f refl
 not_valtree n u e = absurd (cc)
+
+pub not_pat : (n : Node) → ((f : PatternKind NodeKey) → n ≡ Pat f → ⊥) → pat_node ≡ form_sort (form_of n) → ⊥
+not_pat (Pat f) u e = u f refl
+not_pat n u e = absurd (cc)
 
 pub not_args : (n : Node) → ((v : Vec (GenericArgKind NodeKey) Global) → n ≡ Args v → ⊥) →
     args_node ≡ form_sort (form_of n) → ⊥
@@ -220,3 +228,8 @@ pub not_branches : (n : Node) → ((v : Vec (ConstKey NodeKey) Global) → n ≡
     branches_node ≡ form_sort (form_of n) → ⊥
 not_branches (Branches v) u e = u v refl
 not_branches n u e = absurd (cc)
+
+pub not_alternatives : (n : Node) → ((v : Vec (PatKey NodeKey) Global) → n ≡ Alternatives v → ⊥) →
+    alternatives_node ≡ form_sort (form_of n) → ⊥
+not_alternatives (Alternatives v) u e = u v refl
+not_alternatives n u e = absurd (cc)

@@ -5,11 +5,12 @@ use Rattle.std.proofs.Common.{subst, inl, inr}
 use Rattle.std.proofs.lemmas.Bool.{eqb-true, eq-eqb, cases_lt}
 use Rattle.std.proofs.lemmas.List.{get_or_append_left, get_or_past}
 use Rattle.std.proofs.Math.Seq.{get_or-append_seam}
-use Rattle.relation_terms.specs.Heads.{type_sort, region_sort, const_sort, value_sort, argument_sort, environment_sort}
+use Rattle.relation_terms.specs.Heads.{type_sort, region_sort, const_sort, value_sort, pattern_sort, argument_sort}
+use Rattle.relation_terms.specs.Heads.{environment_sort}
 use Rattle.relation_terms.specs.Trees.{Tree, known, IsTerm, AreTerms}
 use Rattle.relation_terms.specs.Meaning.{Meaning, arg_tree}
 use Rattle.relation_terms.proofs.Sorted.{Sorted, kind_sorted, region_sorted, const_sorted, valtree_sorted, arg_sorted}
-use Rattle.relation_terms.proofs.Sorted.{list_sorted, environment_sorted}
+use Rattle.relation_terms.proofs.Sorted.{pattern_sorted, list_sorted, environment_sorted}
 use Rattle.relation_terms.proofs.Once.{Injective}
 use Rattle.relation_terms.proofs.Lists.{last_place}
 use Rattle.reference_interner.specs.declared.keys.NodeKey.{NodeKey}
@@ -18,9 +19,9 @@ use Rattle.reference_interner.specs.declared.keys.SymbolId.{SymbolId}
 use Rattle.reference_interner.specs.declared.items.Item.{Item}
 use Rattle.reference_interner.specs.declared.node.Node.{Node}
 use Rattle.reference_interner.specs.Forms.{Form, ty_form, region_form, const_form, valtree_form, args_form, tys_form}
-use Rattle.reference_interner.specs.Forms.{branches_form, environment_form, form_of}
+use Rattle.reference_interner.specs.Forms.{branches_form, environment_form, pattern_form, alternatives_form, form_of}
 use Rattle.reference_interner.specs.Nodes.{NodeSort, ty_node, region_node, const_node, valtree_node, args_node}
-use Rattle.reference_interner.specs.Nodes.{tys_node, branches_node, environment_node}
+use Rattle.reference_interner.specs.Nodes.{tys_node, branches_node, environment_node, pat_node, alternatives_node}
 use Rattle.reference_interner.specs.Nodes.{Entry, no_entry, entry, tree_as, meaning_of, form_sort, form_tree, entry_of}
 use Rattle.reference_interner.specs.Nodes.{entries_from, entries, table_meaning, known_entry, AllDistinct}
 use Rattle.reference_interner.specs.Places.{known_in, of_sort, tree_of_key, key_reads}
@@ -31,9 +32,11 @@ IsOfSort ty_node t = IsTerm type_sort t
 IsOfSort region_node t = IsTerm region_sort t
 IsOfSort const_node t = IsTerm const_sort t
 IsOfSort valtree_node t = IsTerm value_sort t
+IsOfSort pat_node t = IsTerm pattern_sort t
 IsOfSort args_node t = AreTerms argument_sort t
 IsOfSort tys_node t = AreTerms type_sort t
 IsOfSort branches_node t = AreTerms const_sort t
+IsOfSort alternatives_node t = AreTerms pattern_sort t
 IsOfSort environment_node t = IsTerm environment_sort t
 
 -- A known tree of an entry is of the entry's sort.
@@ -64,6 +67,8 @@ sorted items es h = record {
   valtree = λ k. key_sorted items es h valtree_node (k.0).0;
   args = λ k. key_sorted items es h args_node (k.0).0;
   branches = λ k. key_sorted items es h branches_node (k.0).0;
+  pat = λ k. key_sorted items es h pat_node (k.0).0;
+  alternatives = λ k. key_sorted items es h alternatives_node (k.0).0;
 }
 
 form_sorted : (m : Meaning NodeKey ItemId SymbolId) → Sorted m → (f : Form) → IsTrue (known (form_tree m f)) →
@@ -72,9 +77,11 @@ form_sorted m s (ty_form f) k = kind_sorted m s f k
 form_sorted m s (region_form f) k = region_sorted m f
 form_sorted m s (const_form f) k = const_sorted m s f k
 form_sorted m s (valtree_form f) k = valtree_sorted m s f k
+form_sorted m s (pattern_form f) k = pattern_sorted m s f k
 form_sorted m s (args_form xs) k = list_sorted argument_sort (arg_tree m) (arg_sorted m s) xs k
 form_sorted m s (tys_form ts) k = list_sorted type_sort m.ty s.ty ts k
 form_sorted m s (branches_form cs) k = list_sorted const_sort m.const_ s.const_ cs k
+form_sorted m s (alternatives_form ps) k = list_sorted pattern_sort m.pat s.pat ps k
 form_sorted m s environment_form k = environment_sorted
 
 one_more : (es : List Entry) (e : Entry) → AllSorted es → IsSorted e → AllSorted (es ++ e ∷ [])
@@ -145,6 +152,8 @@ module _ (items : List Item) (ns : List Node) (d : AllDistinct ns) where
     tys = λ k l h e. ap (λ n. record { 0 = record { 0 = n } }) (once tys_node (k.0).0 (l.0).0 h e);
     valtree = λ k l h e. ap (λ n. record { 0 = record { 0 = n } }) (once valtree_node (k.0).0 (l.0).0 h e);
     branches = λ k l h e. ap (λ n. record { 0 = record { 0 = n } }) (once branches_node (k.0).0 (l.0).0 h e);
+    pat = λ k l h e. ap (λ n. record { 0 = record { 0 = n } }) (once pat_node (k.0).0 (l.0).0 h e);
+    alternatives = λ k l h e. ap (λ n. record { 0 = record { 0 = n } }) (once alternatives_node (k.0).0 (l.0).0 h e);
     id = λ x y e. ap (λ n. record { 0 = n }) e;
     name = λ x y e. ap (λ n. record { 0 = n }) e;
   }

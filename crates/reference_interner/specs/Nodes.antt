@@ -4,18 +4,20 @@ use Rattle.std.specs.Prelude.{slice_index_or, None}
 use Rattle.relation_terms.specs.Heads.{environment, unknown}
 use Rattle.relation_terms.specs.Trees.{Tree, leaf, node, nil, known, list_tree}
 use Rattle.relation_terms.specs.Meaning.{Meaning, kind_tree, region_tree, const_tree, valtree_tree, arg_tree}
+use Rattle.relation_terms.specs.Meaning.{pattern_tree}
 use Rattle.reference_interner.specs.declared.keys.NodeKey.{NodeKey}
 use Rattle.reference_interner.specs.declared.keys.ItemId.{ItemId}
 use Rattle.reference_interner.specs.declared.keys.SymbolId.{SymbolId}
 use Rattle.reference_interner.specs.declared.node.Node.{Node}
 use Rattle.reference_interner.specs.declared.items.Item.{Item}
 use Rattle.reference_interner.specs.Forms.{Form, ty_form, region_form, const_form, valtree_form, args_form, tys_form}
-use Rattle.reference_interner.specs.Forms.{branches_form, environment_form, form_of}
+use Rattle.reference_interner.specs.Forms.{branches_form, environment_form, pattern_form, alternatives_form, form_of}
 use Rattle.reference_interner.specs.Items.{variances_at, alias_variances_at}
 
 -- What a key may stand for.
 pub data NodeSort : Type 0 where
-  ty_node region_node const_node valtree_node args_node tys_node branches_node environment_node : NodeSort
+  ty_node region_node const_node valtree_node pat_node args_node tys_node branches_node alternatives_node : NodeSort
+  environment_node : NodeSort
 
 -- Whether the sorts are one.
 abbrev pub same_sort : NodeSort → NodeSort → Bool
@@ -23,9 +25,11 @@ same_sort ty_node ty_node = true
 same_sort region_node region_node = true
 same_sort const_node const_node = true
 same_sort valtree_node valtree_node = true
+same_sort pat_node pat_node = true
 same_sort args_node args_node = true
 same_sort tys_node tys_node = true
 same_sort branches_node branches_node = true
+same_sort alternatives_node alternatives_node = true
 same_sort environment_node environment_node = true
 same_sort s r = false
 
@@ -47,10 +51,10 @@ meaning_of items es = record {
   const_ = λ k. tree_as const_node (slice_index_or es (k.0).0 no_entry);
   args = λ k. tree_as args_node (slice_index_or es (k.0).0 no_entry);
   tys = λ k. tree_as tys_node (slice_index_or es (k.0).0 no_entry);
-  pat = λ k. leaf unknown;
+  pat = λ k. tree_as pat_node (slice_index_or es (k.0).0 no_entry);
   valtree = λ k. tree_as valtree_node (slice_index_or es (k.0).0 no_entry);
   branches = λ k. tree_as branches_node (slice_index_or es (k.0).0 no_entry);
-  alternatives = λ k. leaf unknown;
+  alternatives = λ k. tree_as alternatives_node (slice_index_or es (k.0).0 no_entry);
   existential_predicates = λ k. leaf unknown;
   bound_vars = λ k. None;
   predicate = λ k. leaf unknown;
@@ -69,9 +73,11 @@ form_sort (ty_form f) = ty_node
 form_sort (region_form f) = region_node
 form_sort (const_form f) = const_node
 form_sort (valtree_form f) = valtree_node
+form_sort (pattern_form f) = pat_node
 form_sort (args_form xs) = args_node
 form_sort (tys_form ts) = tys_node
 form_sort (branches_form cs) = branches_node
+form_sort (alternatives_form ps) = alternatives_node
 form_sort environment_form = environment_node
 
 -- The tree of a form.
@@ -80,9 +86,11 @@ form_tree m (ty_form f) = kind_tree m f
 form_tree m (region_form f) = region_tree m f
 form_tree m (const_form f) = const_tree m f
 form_tree m (valtree_form f) = valtree_tree m f
+form_tree m (pattern_form f) = pattern_tree m f
 form_tree m (args_form xs) = list_tree (arg_tree m) xs
 form_tree m (tys_form ts) = list_tree m.ty ts
 form_tree m (branches_form cs) = list_tree m.const_ cs
+form_tree m (alternatives_form ps) = list_tree m.pat ps
 form_tree m environment_form = node environment nil
 
 -- The entry of a form.

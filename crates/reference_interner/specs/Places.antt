@@ -12,7 +12,8 @@ use Rattle.reference_interner.specs.declared.keys.SymbolId.{SymbolId}
 use Rattle.reference_interner.specs.declared.items.Item.{Item}
 use Rattle.reference_interner.specs.declared.node.Node.{Node}
 use Rattle.reference_interner.specs.Nodes.{NodeSort, ty_node, region_node, const_node, valtree_node, args_node}
-use Rattle.reference_interner.specs.Nodes.{tys_node, branches_node, environment_node, same_sort}
+use Rattle.reference_interner.specs.Nodes.{tys_node, branches_node, environment_node, pat_node, alternatives_node}
+use Rattle.reference_interner.specs.Nodes.{same_sort}
 use Rattle.reference_interner.specs.Nodes.{Entry, no_entry, entry, tree_as, meaning_of, entry_of}
 use Rattle.reference_interner.specs.Nodes.{entries_from, entries, known_entry}
 
@@ -37,9 +38,11 @@ sort_itself ty_node = refl
 sort_itself region_node = refl
 sort_itself const_node = refl
 sort_itself valtree_node = refl
+sort_itself pat_node = refl
 sort_itself args_node = refl
 sort_itself tys_node = refl
 sort_itself branches_node = refl
+sort_itself alternatives_node = refl
 sort_itself environment_node = refl
 
 -- An entry that reads as known, at a sort, is one of that sort.
@@ -48,9 +51,11 @@ of_sort ty_node (entry ty_node t) k = refl
 of_sort region_node (entry region_node t) k = refl
 of_sort const_node (entry const_node t) k = refl
 of_sort valtree_node (entry valtree_node t) k = refl
+of_sort pat_node (entry pat_node t) k = refl
 of_sort args_node (entry args_node t) k = refl
 of_sort tys_node (entry tys_node t) k = refl
 of_sort branches_node (entry branches_node t) k = refl
+of_sort alternatives_node (entry alternatives_node t) k = refl
 of_sort environment_node (entry environment_node t) k = refl
 of_sort s e k = absurd (false≢true k)
 
@@ -68,9 +73,11 @@ tree_of_key ty_node m i = m.ty (record { 0 = record { 0 = i } })
 tree_of_key region_node m i = m.region (record { 0 = record { 0 = i } })
 tree_of_key const_node m i = m.const_ (record { 0 = record { 0 = i } })
 tree_of_key valtree_node m i = m.valtree (record { 0 = record { 0 = i } })
+tree_of_key pat_node m i = m.pat (record { 0 = record { 0 = i } })
 tree_of_key args_node m i = m.args (record { 0 = record { 0 = i } })
 tree_of_key tys_node m i = m.tys (record { 0 = record { 0 = i } })
 tree_of_key branches_node m i = m.branches (record { 0 = record { 0 = i } })
+tree_of_key alternatives_node m i = m.alternatives (record { 0 = record { 0 = i } })
 tree_of_key environment_node m i = m.param_env (record { 0 = record { 0 = i } })
 
 -- A key of the number, of some sort, is known.
@@ -85,7 +92,9 @@ key_reads items es ty_node i = refl
 key_reads items es region_node i = refl
 key_reads items es const_node i = refl
 key_reads items es valtree_node i = refl
+key_reads items es pat_node i = refl
 key_reads items es args_node i = refl
 key_reads items es tys_node i = refl
 key_reads items es branches_node i = refl
+key_reads items es alternatives_node i = refl
 key_reads items es environment_node i = refl

@@ -17,9 +17,10 @@ pub use keys::{ItemId, NoSpan, NodeKey, SymbolId};
 pub use node::Node;
 use node::copied;
 use relation_terms::terms::{
-    ArgsKey, Branches, BranchesKey, Const, ConstForm, ConstKey, GenericArg, GenericArgs, Interner,
-    ItemOf, Keys, OutOfMemory, ParamEnv, ParamEnvKey, Region, RegionForm, RegionKey, Span, Ty,
-    TyForm, TyKey, Tys, TysKey, ValTree, ValTreeForm, ValTreeKey, Variance,
+    Alternatives, AlternativesKey, ArgsKey, Branches, BranchesKey, Const, ConstForm, ConstKey,
+    GenericArg, GenericArgs, Interner, ItemOf, Keys, OutOfMemory, ParamEnv, ParamEnvKey, Pat,
+    PatKey, PatternForm, Region, RegionForm, RegionKey, Span, Ty, TyForm, TyKey, Tys, TysKey,
+    ValTree, ValTreeForm, ValTreeKey, Variance,
 };
 use std::alloc::Global;
 use std::collections::HashMap;
@@ -72,11 +73,14 @@ impl Interner for RefInterner {
     ghost use Rattle.relation_terms.specs.Heads.{environment};
     ghost use Rattle.relation_terms.specs.Trees.{known, list_tree, node, nil};
     ghost use Rattle.relation_terms.specs.Meaning.{Extends, kind_tree, region_tree, const_tree, valtree_tree, arg_tree};
+    ghost use Rattle.relation_terms.specs.Meaning.{pattern_tree};
     ghost use Rattle.relation_terms.specs.Interning.{RemakesTy, RemakesRegion, RemakesConst, RemakesValTree};
     ghost use Rattle.relation_terms.specs.Interning.{RemakesEmptyEnv, MakesTys, MakesArgs, MakesBranches};
     ghost use Rattle.relation_terms.specs.Interning.{KeepsTys, KeepsArgs, KeepsBranches};
+    ghost use Rattle.relation_terms.specs.Interning.{RemakesPat, MakesAlternatives, KeepsAlternatives};
     ghost use Rattle.reference_interner.specs.Nodes.{ty_node, region_node, const_node, valtree_node, args_node};
     ghost use Rattle.reference_interner.specs.Nodes.{tys_node, branches_node, environment_node};
+    ghost use Rattle.reference_interner.specs.Nodes.{pat_node, alternatives_node};
     ghost use Rattle.reference_interner.specs.Adding.{meaning_in, node_count};
     ghost use Rattle.reference_interner.specs.Laws.{sort_law, same_law, same_name_law, same_id_law};
 
@@ -125,6 +129,13 @@ impl Interner for RefInterner {
         }
     }
 
+    fn pat_kind(&self, pat: &Pat<Self>) -> PatternForm<Self> {
+        match &self.nodes[pat.0.0] {
+            Node::Pat(kind) => *kind,
+            _ => unreachable!(),
+        }
+    }
+
     fn args(&self, args: &GenericArgs<Self>) -> &[GenericArg<Self>] {
         match &self.nodes[args.0.0] {
             Node::Args(list) => list.as_slice(),
@@ -135,6 +146,13 @@ impl Interner for RefInterner {
     fn branches(&self, branches: &Branches<Self>) -> &[Const<Self>] {
         match &self.nodes[branches.0.0] {
             Node::Branches(list) => list.as_slice(),
+            _ => unreachable!(),
+        }
+    }
+
+    fn alternatives(&self, alternatives: &Alternatives<Self>) -> &[Pat<Self>] {
+        match &self.nodes[alternatives.0.0] {
+            Node::Alternatives(list) => list.as_slice(),
             _ => unreachable!(),
         }
     }
@@ -215,6 +233,19 @@ impl Interner for RefInterner {
         Ok(ValTreeKey(number))
     }
 
+    fn mk_pat(&mut self, kind: PatternForm<Self>) -> Result<Pat<Self>, OutOfMemory>
+        requires { IsTrue (known (pattern_tree (meaning_in self.old) kind)) }
+        ensures grown { Extends (meaning_in self.old) (meaning_in self.new) }
+        ensures sure { IfOk result (λ k. IsTrue (known ((meaning_in self.new).pat k))) }
+        ensures made { IfOk result (λ k. (meaning_in self.new).pat k ≡ pattern_tree (meaning_in self.old) kind) }
+        ensures refused { OnErr result (meaning_in self.new ≡ meaning_in self.old) }
+        ensures there { RemakesPat (meaning_in self.old) (meaning_in self.new) kind result }
+        ensures one_more { node_count self.new ≤ suc (node_count self.old) }
+    {
+        let number = self.add(Node::Pat(kind))?;
+        Ok(PatKey(number))
+    }
+
     fn mk_args(&mut self, args: &[GenericArg<Self>]) -> Result<GenericArgs<Self>, OutOfMemory>
         requires { IsTrue (known (list_tree (arg_tree (meaning_in self.old)) args.now)) }
         ensures grown { Extends (meaning_in self.old) (meaning_in self.new) }
@@ -243,6 +274,23 @@ impl Interner for RefInterner {
         Ok(BranchesKey(number))
     }
 
+    fn mk_alternatives(
+        &mut self,
+        alternatives: &[Pat<Self>],
+    ) -> Result<Alternatives<Self>, OutOfMemory>
+        requires { IsTrue (known (list_tree (meaning_in self.old).pat alternatives.now)) }
+        ensures grown { Extends (meaning_in self.old) (meaning_in self.new) }
+        ensures sure { IfOk result (λ k. IsTrue (known ((meaning_in self.new).alternatives k))) }
+        ensures made { MakesAlternatives (meaning_in self.old) (meaning_in self.new) alternatives.now result }
+        ensures refused { OnErr result (meaning_in self.new ≡ meaning_in self.old) }
+        ensures there { KeepsAlternatives (meaning_in self.old) (meaning_in self.new) alternatives.now }
+        ensures one_more { node_count self.new ≤ suc (node_count self.old) }
+    {
+        let list = copied(self.alloc, alternatives)?;
+        let number = self.add(Node::Alternatives(list))?;
+        Ok(AlternativesKey(number))
+    }
+
     fn empty_param_env(&mut self) -> Result<ParamEnv<Self>, OutOfMemory>
         ensures grown { Extends (meaning_in self.old) (meaning_in self.new) }
         ensures sure { IfOk result (λ k. IsTrue (known ((meaning_in self.new).param_env k))) }
@@ -269,6 +317,11 @@ impl Interner for RefInterner {
 
     ghost same_branches = { λ a k l. same_law a.items.items a.nodes.items a.distinct branches_node (k.0).0 (l.0).0 };
 
+    ghost same_pat = { λ a k l. same_law a.items.items a.nodes.items a.distinct pat_node (k.0).0 (l.0).0 };
+
+    ghost same_alternatives = { λ a k l.
+        same_law a.items.items a.nodes.items a.distinct alternatives_node (k.0).0 (l.0).0 };
+
     ghost same_param_env = { λ a k l.
         same_law a.items.items a.nodes.items a.distinct environment_node (k.0).0 (l.0).0 };
 
@@ -289,6 +342,10 @@ impl Interner for RefInterner {
     ghost are_args = { λ a k. sort_law a.items.items a.nodes.items args_node (k.0).0 };
 
     ghost are_branches = { λ a k. sort_law a.items.items a.nodes.items branches_node (k.0).0 };
+
+    ghost is_pat = { λ a k. sort_law a.items.items a.nodes.items pat_node (k.0).0 };
+
+    ghost are_alternatives = { λ a k. sort_law a.items.items a.nodes.items alternatives_node (k.0).0 };
 
     ghost is_param_env = { λ a k. sort_law a.items.items a.nodes.items environment_node (k.0).0 };
 }

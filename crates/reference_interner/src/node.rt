@@ -4,7 +4,8 @@ ghost use Rattle.reference_interner.specs.Forms.{form_of};
 
 use crate::{ItemId, NodeKey, SymbolId};
 use relation_terms::terms::{
-    ConstKey, ConstKind, GenericArgKind, OutOfMemory, RegionKind, TyKey, TyKind, ValTreeKind,
+    ConstKey, ConstKind, GenericArgKind, OutOfMemory, PatKey, PatternKind, RegionKind, TyKey,
+    TyKind, ValTreeKind,
 };
 use std::alloc::Global;
 
@@ -16,15 +17,19 @@ pub enum Node {
     /// A region.
     Region(RegionKind<SymbolId>),
     /// A constant, by its outermost form.
-    Const(ConstKind<NodeKey, SymbolId>),
+    Const(ConstKind<NodeKey, ItemId, SymbolId>),
     /// A value tree, by its outermost form.
     ValTree(ValTreeKind<NodeKey>),
+    /// A pattern, by its outermost form.
+    Pat(PatternKind<NodeKey>),
     /// A list of generic arguments.
     Args(Vec<GenericArgKind<NodeKey>>),
     /// A list of types.
     Tys(Vec<TyKey<NodeKey>>),
     /// A list of constants, which a value is made of.
     Branches(Vec<ConstKey<NodeKey>>),
+    /// A list of patterns, the alternatives of one.
+    Alternatives(Vec<PatKey<NodeKey>>),
     /// The environment without clauses.
     ParamEnv,
 }
@@ -49,9 +54,11 @@ pub fn copied_node(alloc: Global, node: &Node) -> Result<Node, OutOfMemory>
         Node::Region(kind) => Ok(Node::Region(*kind)),
         Node::Const(kind) => Ok(Node::Const(*kind)),
         Node::ValTree(kind) => Ok(Node::ValTree(*kind)),
+        Node::Pat(kind) => Ok(Node::Pat(*kind)),
         Node::Args(list) => Ok(Node::Args(copied(alloc, list.as_slice())?)),
         Node::Tys(list) => Ok(Node::Tys(copied(alloc, list.as_slice())?)),
         Node::Branches(list) => Ok(Node::Branches(copied(alloc, list.as_slice())?)),
+        Node::Alternatives(list) => Ok(Node::Alternatives(copied(alloc, list.as_slice())?)),
         Node::ParamEnv => Ok(Node::ParamEnv),
     }
 }

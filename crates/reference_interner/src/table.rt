@@ -12,8 +12,8 @@ use crate::{Node, NodeKey, RefInterner};
 use relation_terms::terms::OutOfMemory;
 
 impl RefInterner {
-    /// How many nodes there are, of all sorts: types, regions, constants, value trees, lists and environments. They are
-    /// numbered from zero, and each is one key's. This takes no memory.
+    /// How many nodes there are, of all sorts: types, regions, constants, value trees, patterns, lists and
+    /// environments. They are numbered from zero, and each is one key's. This takes no memory.
     pub fn nodes(&self) -> usize
         ensures nodes { result ≡ node_count self.now }
         ensures numbers { (i : ℕ) → (i < result ↔ HasKey (meaning_in self.now) i) }

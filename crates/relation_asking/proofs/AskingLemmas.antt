@@ -1,5 +1,6 @@
 -- Terms that are ready, and contexts that have what they need.
 use Rattle.std.proofs.Common.{◌≡◌, ◌≢◌, ℕ, ◌<◌, sym, subst, arith, List, [], ◌∷◌, Option, Some, map, slice_get, refl}
+use Rattle.std.proofs.Common.{IsTrue}
 use Rattle.std.proofs.lemmas.List.{length-map}
 use Rattle.relation_terms.specs.declared.terms.enums.Variance.{Variance}
 use Rattle.relation_terms.specs.declared.terms.enums.Variance.TheVariants.{Covariant, Contravariant, Invariant, Bivariant}
@@ -21,6 +22,8 @@ use Rattle.relation_asking.specs.Puts.{AreMade, ArePuts}
 use Rattle.relation_asking.proofs.MeetLemmas.{and_both}
 use Rattle.relation_asking.specs.Needs.{Allows, both_needs, need_at, needs_of}
 use Rattle.relation_asking.specs.Asking.{IsReady, AreReady, Has, MayBeAsked}
+use Rattle.type_relations.specs.Covered.{IsCovered}
+use Rattle.relation_asking.proofs.CoverLemmas.{all_covered}
 use Rattle.relation_asking.proofs.NeedLemmas.{reaches_left, reaches_right, allowed_in, fixed_taken, all_taken, all_enough}
 
 -- What is ready stays so.
@@ -55,19 +58,19 @@ pub ready_in : {Key Id Name : Type 0} (m : Meaning Key Id Name) (x : InferCtxtIn
     (t : Tree) → IsReady n t → IsTermIn (store_of m x) t
 ready_in m x n h t r = allowed_in (store_of m x) n
     (λ i k. subst (λ l. i < l) (sym (length-map x.types.items _)) (h.types i k))
-    (λ i k. subst (λ l. i < l) (sym (length-map x.regions.items _)) (h.regions i k)) h.universe t r.0 r.1
+    (λ i k. subst (λ l. i < l) (sym (length-map x.regions.items _)) (h.regions i k)) h.universe t r.0 r.1.0
 
 -- What may be asked.
-pub left_taken : (v : Variance) (a b : Needs) (t : Tree) → MayBeAsked v a b → Allows a t → IsTaken v t
-left_taken Covariant a b t h k = fixed_taken a h.0 Covariant t k
-left_taken Contravariant a b t h k = fixed_taken a h.0 Contravariant t k
-left_taken Invariant a b t h k = all_taken a t k
+pub left_taken : (v : Variance) (a b : Needs) (t : Tree) → MayBeAsked v a b → Allows a t × IsCovered t → IsTaken v t
+left_taken Covariant a b t h k = fixed_taken a h.0 Covariant t k.0 k.1
+left_taken Contravariant a b t h k = fixed_taken a h.0 Contravariant t k.0 k.1
+left_taken Invariant a b t h k = all_taken a t k.0 k.1
 left_taken Bivariant a b t h k = absurd h
 
-pub right_taken : (v : Variance) (a b : Needs) (t : Tree) → MayBeAsked v a b → Allows b t → IsTaken v t
-right_taken Covariant a b t h k = fixed_taken b h.1 Covariant t k
-right_taken Contravariant a b t h k = fixed_taken b h.1 Contravariant t k
-right_taken Invariant a b t h k = all_taken b t k
+pub right_taken : (v : Variance) (a b : Needs) (t : Tree) → MayBeAsked v a b → Allows b t × IsCovered t → IsTaken v t
+right_taken Covariant a b t h k = fixed_taken b h.1 Covariant t k.0 k.1
+right_taken Contravariant a b t h k = fixed_taken b h.1 Contravariant t k.0 k.1
+right_taken Invariant a b t h k = all_taken b t k.0 k.1
 right_taken Bivariant a b t h k = absurd h
 
 pub asked_decides : (v : Variance) (a b : Needs) → MayBeAsked v a b → v ≢ Bivariant
@@ -82,9 +85,13 @@ pub all_ready : {Key Id Name : Type 0} (m : Meaning Key Id Name) (items names pa
     AreBuilt m (trees_of items names parts xs) keys → needs ≡ needs_of parts xs → AreReady m keys needs
 all_ready m items names parts xs keys needs sure made same = λ k key there. (
   sure k key there,
-  subst (Allows (need_at needs k)) (sym (made k key there))
-      (subst (λ ns. Allows (need_at ns k) (at (trees_of items names parts xs) k)) (sym same)
-      (all_enough items names parts xs k)),
+  (
+    subst (Allows (need_at needs k)) (sym (made k key there))
+        (subst (λ ns. Allows (need_at ns k) (at (trees_of items names parts xs) k)) (sym same)
+        (all_enough items names parts xs k)),
+    subst IsCovered (sym (made k key there)) (all_covered items names parts xs k
+        (subst (λ t. IsTrue (known t)) (made k key there) (sure k key there))),
+  ),
 )
 
 -- Keys of a list of terms that are ready are known, and so is what is put for terms.

@@ -1,5 +1,6 @@
 pub mod AskingLemmas
 pub mod Counting
+pub mod CoverLemmas
 pub mod NeedLemmas
 pub mod Recorded
 pub mod CodeLemmas

@@ -13,6 +13,7 @@ use Rattle.relation_terms.specs.Trees.{Tree, leaf, node, bind, nil, cons, Leaves
 use Rattle.type_relations.specs.Relation.{StaysWithin}
 use Rattle.type_relations.specs.Stores.{Store, IsTermIn, InContext, IsMadeLeaf, IsMade, IsNamable}
 use Rattle.type_relations.specs.Taken.{IsTaken, IsTakenLeaf, IsFixedLeaf}
+use Rattle.type_relations.specs.Covered.{IsCovered}
 use Rattle.relation_asking.specs.declared.needs.Needs.{Needs}
 use Rattle.relation_text.specs.declared.reading.tree.ItemSort.{ItemSort}
 use Rattle.relation_text.specs.declared.reading.tree.ItemSort.TheVariants as sort
@@ -258,14 +259,14 @@ fixed n e (placeholder k u i) h = tt
 fixed n e (atom x) h = tt
 fixed n e unknown h = tt
 
-pub fixed_taken : (n : Needs) → n.types ≡ None → (v : Variance) (t : Tree) → Allows n t → IsTaken v t
-fixed_taken n e Covariant t h = each_leaf (IsEnough n) (IsTakenLeaf Covariant) (fixed n e) t h
-fixed_taken n e Contravariant t h = each_leaf (IsEnough n) (IsTakenLeaf Contravariant) (fixed n e) t h
-fixed_taken n e Invariant t h = each_leaf (IsEnough n) (IsTakenLeaf Invariant) (λ l o. tt) t h
-fixed_taken n e Bivariant t h = each_leaf (IsEnough n) (IsTakenLeaf Bivariant) (λ l o. tt) t h
+pub fixed_taken : (n : Needs) → n.types ≡ None → (v : Variance) (t : Tree) → Allows n t → IsCovered t → IsTaken v t
+fixed_taken n e Covariant t h k = (each_leaf (IsEnough n) (IsTakenLeaf Covariant) (fixed n e) t h, k)
+fixed_taken n e Contravariant t h k = (each_leaf (IsEnough n) (IsTakenLeaf Contravariant) (fixed n e) t h, k)
+fixed_taken n e Invariant t h k = (each_leaf (IsEnough n) (IsTakenLeaf Invariant) (λ l o. tt) t h, k)
+fixed_taken n e Bivariant t h k = (each_leaf (IsEnough n) (IsTakenLeaf Bivariant) (λ l o. tt) t h, k)
 
-pub all_taken : (n : Needs) (t : Tree) → Allows n t → IsTaken Invariant t
-all_taken n t h = each_leaf (IsEnough n) (IsTakenLeaf Invariant) (λ l o. tt) t h
+pub all_taken : (n : Needs) (t : Tree) → Allows n t → IsCovered t → IsTaken Invariant t
+all_taken n t h k = (each_leaf (IsEnough n) (IsTakenLeaf Invariant) (λ l o. tt) t h, k)
 
 -- One more place of a range: what stands there, or nothing.
 pub range_more : (xs : List ℕ) (a i x : ℕ) → a ≤ i → slice_get xs i ≡ Some x →

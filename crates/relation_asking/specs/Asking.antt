@@ -6,15 +6,16 @@ use Rattle.relation_terms.specs.declared.terms.generic_arg.GenericArgKind.{Gener
 use Rattle.relation_terms.specs.Trees.{Tree, known}
 use Rattle.relation_terms.specs.Meaning.{Meaning, arg_tree}
 use Rattle.relation_reference.specs.declared.context.inner.InferCtxtInner.{InferCtxtInner}
+use Rattle.type_relations.specs.Covered.{IsCovered}
 use Rattle.relation_asking.specs.declared.needs.Needs.{Needs}
 use Rattle.relation_asking.specs.declared.question.Answer.{Answer}
 use Rattle.relation_asking.specs.declared.question.Answer.TheVariants.{Related, Met, Folded, Is}
 use Rattle.relation_asking.specs.Meets.{AllKnown}
 use Rattle.relation_asking.specs.Needs.{Allows, Reaches, need_at}
 
--- A known term, for which what is needed is enough.
+-- A known term, for which what is needed is enough, of forms that have rules.
 abbrev pub IsReady : Needs → Tree → Type 0
-IsReady n t = IsTrue (known t) × Allows n t
+IsReady n t = IsTrue (known t) × (Allows n t × IsCovered t)
 
 -- Each key that is there means such a term.
 abbrev pub AreReady : {Key Id Name : Type 0} → Meaning Key Id Name → List (Option (GenericArgKind Key)) → List Needs →

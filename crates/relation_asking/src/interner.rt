@@ -87,7 +87,7 @@ pub(super) fn make_tables<'a>(
     }
     for (item, id) in program.items.iter().zip(ids) {
         let text = item.text;
-        item_texts.push(ItemText { id: *id, text })?;
+        item_texts.push(ItemText::new(*id, text))?;
     }
     Ok(Tables {
         names,

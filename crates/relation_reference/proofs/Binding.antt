@@ -24,11 +24,12 @@ use Rattle.type_relations.proofs.Going.{goes_nowhere}
 use Rattle.type_relations.proofs.Equating.{bound_sound, bound_goes, bound_value, bound_keeps}
 use Rattle.relation_reference.specs.declared.context.inner.TypeVariableValue.TheVariants.{Known}
 use Rattle.relation_reference.specs.declared.context.inner.InferCtxtInner.{InferCtxtInner}
-use Rattle.relation_reference.specs.Tables.{store_of, IsLawful}
+use Rattle.relation_reference.specs.Tables.{store_of, MayBeBoundTo, IsLawful}
 use Rattle.type_relations.specs.Parts.{IsFormed}
 use Rattle.relation_reference.specs.Answers.{Unites, Answered, Instantiated, StepsByInstantiating}
 use Rattle.relation_reference.proofs.Outside.{outside_occurs}
 use Rattle.relation_reference.proofs.Grows.{store_grows, lawful_grows}
+use Rattle.relation_reference.proofs.Covering.{comes_covered}
 use Rattle.relation_reference.proofs.Writing.{binds_to, bind_lawful}
 
 pub formed_differs : (n : ℕ) (t : Tree) → IsFormed t → t ≢ leaf (variable type_var n)
@@ -108,7 +109,7 @@ nothing_changed before after e = subst (ChangesNothing before) (sym e) (record {
 -- The tables after a root was bound.
 module _ {Key Id Name : Type 0} {m n : Meaning Key Id Name} (grown : Extends m n) (x z y : InferCtxtInner Key) (resolving : z ≡ x) (l : IsLawful m x) (target : ℕ) (k : TyKey Key) (u : UniverseIndex)
     (made : target < length x.types.items) (free : entry_of (store_of m x) type_var target ≡ unbound)
-    (t : Tree) (t_in : IsTermIn (store_of m x) t) (t_formed : IsFormed t)
+    (t : Tree) (t_in : IsTermIn (store_of m x) t) (t_formed : MayBeBoundTo t)
     (means : n.ty k ≡ apply (resolved (store_of m x)) t) (stands : IsTerm type_sort (n.ty k)) (absent : Occurs type_var target (apply (resolved (store_of m x)) t) → ⊥)
     (universe_is : u.0 ≡ universe_of (store_of n z) type_var target)
     (keys : map (λ t. t.key) y.types.items ≡ map (λ t. t.key) z.types.items)
@@ -135,7 +136,7 @@ module _ {Key Id Name : Type 0} {m n : Meaning Key Id Name} (grown : Extends m n
 
   pub target_lawful : IsLawful n y
   target_lawful = bind_lawful n z y target k u keys values universes regions constraints universe budget z_lawful z_made z_free universe_is
-      (subst IsFormed (sym means) (formed_applied (resolved (store_of m x)) t t_formed))
+      (subst MayBeBoundTo (sym means) (formed_applied (resolved (store_of m x)) t t_formed.0, comes_covered m x l t t_formed.1))
       (binding_sound (store_of m x) (store_of n y) target t (n.ty k) target_bound l.sound l.first_universe t_in means absent stands)
 
   pub target_steps : Instantiates (store_of m x) (store_of n y) Invariant type_var target t (n.ty k)

@@ -1,8 +1,8 @@
 -- Relating a root with a type by binding it first.
-use Rattle.std.proofs.Common.{◌≡◌, ℕ, ◌+◌, ◌*◌, ◌≤◌, max, min, refl, sym, ap, ap₂, ◌∙◌, arith, subst, None}
+use Rattle.std.proofs.Common.{◌≡◌, ℕ, ◌+◌, ◌*◌, ◌≤◌, max, min, refl, sym, ap, ap₂, ◌∙◌, arith, subst, subst₂, None}
 use Rattle.std.proofs.Math.Nat.{mul-le-mul}
 use native.Mathlib.Decide.{ℕ_discrete, dec_le}
-use Rattle.relation_terms.specs.Heads.{type_var, region_var, type_sort, variable}
+use Rattle.relation_terms.specs.Heads.{type_var, region_var, type_sort, variable, bound}
 use Rattle.relation_terms.specs.Trees.{Tree, leaf, Assign, apply, Occurs, IsTerm, size}
 use Rattle.type_relations.specs.Relation.{same}
 use Rattle.type_relations.specs.Stores.{Store, unbound, bound_to, entry_of, entry_term, bound_term, IsTermIn, IsSound, resolved, weight}
@@ -17,7 +17,7 @@ use Rattle.type_relations.proofs.Standing.{later_term}
 use Rattle.type_relations.proofs.StoreCalls.{resolved_resolves}
 use Rattle.type_relations.proofs.Going.{goes_nowhere, goes_within}
 use Rattle.type_relations.proofs.Equating.{equated_goes, equated_value, equated_keeps}
-use Rattle.relation_reference.specs.Answers.{IsShallow, root, formed, Unites}
+use Rattle.relation_reference.specs.Answers.{IsShallow, root, stays_bound, formed, Unites}
 use Rattle.type_relations.specs.Parts.{IsFormed}
 use Rattle.relation_reference.proofs.Binding.{binding_goes_at}
 use Rattle.relation_reference.proofs.Relating.{same_unites}
@@ -27,13 +27,17 @@ square_above W N M e h = let d : (W + 1) * (W + 1) ≤ N * N = mul-le-mul h h in
 
 pub root_free : (st : Store) (n : ℕ) (t : Tree) → t ≡ leaf (variable type_var n) → IsShallow st t → entry_of st type_var n ≡ unbound
 root_free st n t e (formed f) = absurd (subst IsFormed e f)
-root_free st n t e (root m d f) = go (entry_of st type_var n) refl
+root_free st n t e (stays_bound k d i q) = absurd (let h : leaf (bound k d i) ≡ leaf (variable type_var n) = sym q ∙ e in cc)
+root_free st n t e (root k m d f) = go (entry_of st type_var n) refl
   where
     same_number : m ≡ n
-    same_number = let h : leaf (variable type_var m) ≡ leaf (variable type_var n) = sym d ∙ e in cc
+    same_number = let h : leaf (variable k m) ≡ leaf (variable type_var n) = sym d ∙ e in cc
+
+    same_kind : k ≡ type_var
+    same_kind = let h : leaf (variable k m) ≡ leaf (variable type_var n) = sym d ∙ e in cc
 
     no_term : bound_term st type_var n ≡ None
-    no_term = subst (λ z. bound_term st type_var z ≡ None) same_number f
+    no_term = subst₂ (λ j z. bound_term st j z ≡ None) same_kind same_number f
 
     go : (x : _) → entry_of st type_var n ≡ x → entry_of st type_var n ≡ unbound
     go unbound q = q

@@ -1,22 +1,26 @@
 -- Reading the tables.
-use Rattle.std.proofs.Common.{◌≡◌, ℕ, ◌<◌, IsTrue, refl, sym, ap, ◌∙◌, subst, length, get_or}
+use Rattle.std.proofs.Common.{◌≡◌, ℕ, ◌<◌, IsTrue, Option, Some, None, IfSome, IfNone, refl, sym, ap, ◌∙◌, subst, length, get_or}
 use Rattle.std.proofs.lemmas.List.{get_or-map, length-map}
-use Rattle.relation_terms.specs.Heads.{type_var, variable}
-use Rattle.relation_terms.specs.Trees.{Tree, leaf, nil, known}
-use Rattle.relation_terms.specs.Meaning.{Meaning, kind_tree}
+use Rattle.relation_terms.specs.Heads.{VarKind, type_var, int_var, float_var, const_var, region_var, variable, type_sort}
+use Rattle.relation_terms.specs.Trees.{Tree, leaf, nil, known, IsTerm}
+use Rattle.relation_terms.specs.Meaning.{Meaning, kind_tree, infer_tree}
 use Rattle.relation_terms.specs.declared.terms.ty_kind.TyKind.{TyKind}
-use Rattle.relation_terms.specs.declared.terms.ty_kind.TyKind.TheVariants.{Infer}
+use Rattle.relation_terms.specs.declared.terms.ty_kind.TyKind.TheVariants.{Infer, Bound as TyBound}
 use Rattle.relation_terms.specs.declared.terms.ty_kind.InferTy.{InferTy}
-use Rattle.type_relations.specs.Stores.{Store, unbound, same_as, bound_to, entry_of, entry_term, IsMade, IsSound, IsTermIn}
+use Rattle.relation_terms.specs.declared.terms.ty_kind.InferTy.TheVariants.{TyVar, IntVar, FloatVar, FreshTy, FreshIntTy, FreshFloatTy}
+use Rattle.relation_terms.specs.declared.terms.numbers.TyVid.{TyVid}
+use Rattle.type_relations.specs.Stores.{Store, unbound, same_as, bound_to, entry_of, entry_term, bound_term, IsMade, IsSound, IsTermIn}
 use Rattle.type_relations.specs.Errors.{IsReadAs, itself, by_class}
 use Rattle.type_relations.proofs.Standing.{made_of_term, term_of_made}
 use Rattle.type_relations.proofs.ReadAs.{read_bound}
 use Rattle.relation_reference.specs.declared.context.inner.TypeVariable.{TypeVariable}
 use Rattle.relation_reference.specs.declared.context.inner.InferCtxtInner.{InferCtxtInner}
 use Rattle.relation_reference.specs.Tables.{store_of, IsLawful}
-use Rattle.type_relations.specs.Parts.{IsFormed}
 use Rattle.type_relations.specs.Steps.{LeadsTo, here, next}
-use Rattle.relation_reference.specs.Answers.{IsShallow, root, formed}
+use Rattle.type_relations.specs.Covered.{IsCovered}
+use Rattle.type_relations.specs.Parts.{IsFormed}
+use Rattle.relation_reference.proofs.Covering.{covered_formed}
+use Rattle.relation_reference.specs.Answers.{IsShallow, root, stays_bound, formed}
 
 -- What a variable leads to is what it is read as.
 leads_read : (st : Store) (n m : ℕ) (t : Tree) → LeadsTo st type_var n m → IsReadAs st (leaf (variable type_var m)) t → IsReadAs st (leaf (variable type_var n)) t
@@ -30,11 +34,62 @@ leads_on st n m p (next {p = r} e l) q = next e (leads_on st r m p l q)
 pub leads_made : (st : Store) → IsSound st → (n p : ℕ) → entry_of st type_var n ≡ same_as p → IsMade st type_var p
 leads_made st g n p e = made_of_term st type_var p (g.bindings type_var n (leaf (variable type_var p)) (ap (entry_term type_var) e)).is_in
 
--- A form that is no variable.
-pub formed_kind : {Key Id Name : Type 0} (m : Meaning Key Id Name) (k : TyKind Key Id Name) → ((i : InferTy) → k ≡ Infer i → ⊥) →
-    IsFormed (kind_tree m k)
-formed_kind m (Infer i) h = absurd (h i refl)
-formed_kind m k h = refl
+-- A context binds type variables alone.
+pub other_free : {Key Id Name : Type 0} (m : Meaning Key Id Name) (x : InferCtxtInner Key) → IsSound (store_of m x) →
+    (k : VarKind) (n : ℕ) → (k ≡ type_var → ⊥) → bound_term (store_of m x) k n ≡ None
+other_free m x g type_var n h = absurd (h refl)
+other_free m x g int_var n h = refl
+other_free m x g float_var n h = refl
+other_free m x g const_var n h = refl
+other_free m x g region_var n h = ap (entry_term region_var) (g.regions_unbound n)
+
+-- A form that is no type variable stays as it is.
+infer_shallow : (st : Store) → ((k : VarKind) (n : ℕ) → (k ≡ type_var → ⊥) → bound_term st k n ≡ None) → (i : InferTy) →
+    ((v : TyVid) → i ≡ TyVar v → ⊥) → IsShallow st (infer_tree i)
+infer_shallow st free (TyVar v) h = absurd (h v refl)
+infer_shallow st free (IntVar v) h = root int_var v.0 refl (free int_var v.0 (λ e. cc))
+infer_shallow st free (FloatVar v) h = root float_var v.0 refl (free float_var v.0 (λ e. cc))
+infer_shallow st free (FreshTy n) h = formed refl
+infer_shallow st free (FreshIntTy n) h = formed refl
+infer_shallow st free (FreshFloatTy n) h = formed refl
+
+pub kind_shallow : {Key Id Name : Type 0} (m : Meaning Key Id Name) (st : Store) →
+    ((k : VarKind) (n : ℕ) → (k ≡ type_var → ⊥) → bound_term st k n ≡ None) → (k : TyKind Key Id Name) →
+    ((v : TyVid) → k ≡ Infer (TyVar v) → ⊥) → IsShallow st (kind_tree m k)
+kind_shallow m st free (Infer i) h = infer_shallow st free i (λ v e. h v (ap Infer e))
+kind_shallow m st free (TyBound d b) h = stays_bound _ _ _ refl
+kind_shallow m st free k h = formed refl
+
+-- A type variable is the form of none but a type variable.
+infer_variable : (i : InferTy) (n : ℕ) → ((v : TyVid) → i ≡ TyVar v → ⊥) → infer_tree i ≡ leaf (variable type_var n) → ⊥
+infer_variable (TyVar v) n h e = h v refl
+infer_variable (IntVar v) n h e = cc
+infer_variable (FloatVar v) n h e = cc
+infer_variable (FreshTy k) n h e = cc
+infer_variable (FreshIntTy k) n h e = cc
+infer_variable (FreshFloatTy k) n h e = cc
+
+pub kind_variable : {Key Id Name : Type 0} (m : Meaning Key Id Name) (k : TyKind Key Id Name) (n : ℕ) →
+    ((v : TyVid) → k ≡ Infer (TyVar v) → ⊥) → kind_tree m k ≡ leaf (variable type_var n) → ⊥
+kind_variable m (Infer i) n h e = infer_variable i n (λ v q. h v (ap Infer q)) e
+kind_variable m k n h e = cc
+
+-- What a term is by whether its form is a type variable.
+module _ {Key Id Name : Type 0} (m : Meaning Key Id Name) (k : TyKind Key Id Name) (t : Tree) (e : t ≡ kind_tree m k) where
+  pub some_variable : (o : Option TyVid) → IfSome o (λ v. k ≡ Infer (TyVar v)) →
+      IfSome o (λ v. t ≡ leaf (variable type_var v.0))
+  some_variable (Some v) h = e ∙ ap (kind_tree m) h
+  some_variable None h = h
+
+  pub no_variable : (o : Option TyVid) → IfNone o ((v : TyVid) → k ≡ Infer (TyVar v) → ⊥) →
+      IfNone o ((n : ℕ) → t ≡ leaf (variable type_var n) → ⊥)
+  no_variable (Some v) h = h
+  no_variable None h = λ n q. kind_variable m k n h (sym e ∙ q)
+
+  pub no_variable_formed : IsTerm type_sort t → IsCovered t → (o : Option TyVid) →
+      IfNone o ((v : TyVid) → k ≡ Infer (TyVar v) → ⊥) → IfNone o (IsFormed t)
+  no_variable_formed s c (Some v) h = h
+  no_variable_formed s c None h = covered_formed t s c (λ n q. kind_variable m k n h (sym e ∙ q))
 
 -- The number of type variables.
 pub made_of_table : {Key Id Name : Type 0} (m : Meaning Key Id Name) (x : InferCtxtInner Key) (n : ℕ) → n < length x.types.items → IsMade (store_of m x) type_var n
@@ -62,10 +117,13 @@ module _ {Key Id Name : Type 0} (m : Meaning Key Id Name) (x : InferCtxtInner Ke
   bound_read t u n r e d q = subst (λ z. IsReadAs st z u) (sym e) (leads_read st n r u d (read_bound st r u (sym q)))
 
   pub root_shallow : (u : Tree) (r : ℕ) → u ≡ leaf (variable type_var r) → unbound ≡ entry_of st type_var r → IsShallow st u
-  root_shallow u r e q = root r e (ap (entry_term type_var) (sym q))
+  root_shallow u r e q = root type_var r e (ap (entry_term type_var) (sym q))
 
   pub bound_shallow : (u : Tree) (r : ℕ) → bound_to u ≡ entry_of st type_var r → IsShallow st u
-  bound_shallow u r q = formed (l.formed r u (sym q))
+  bound_shallow u r q = formed (l.formed r u (sym q)).0
+
+  pub bound_covered : (u : Tree) (r : ℕ) → bound_to u ≡ entry_of st type_var r → IsCovered u
+  bound_covered u r q = (l.formed r u (sym q)).1
 
   pub root_in : (u : Tree) (r : ℕ) → u ≡ leaf (variable type_var r) → r < length x.types.items → IsTermIn st u
   root_in u r e h = subst (IsTermIn st) (sym e) (term_of_made st type_var r (made_of_table m x r h))

@@ -1,7 +1,7 @@
 -- Resolving a term by its parts.
 use Rattle.std.proofs.Common.{◌≡◌, ℕ, zero, suc, ◌<◌, refl, sym, ap, ap₂, ◌∙◌, arith, subst, subst₂, IsTrue}
 use Rattle.std.proofs.Common.{None, List, [], ◌∷◌, ◌++◌}
-use Rattle.relation_terms.specs.Heads.{VarKind, type_var, int_var, float_var, const_var, region_var, var_sort}
+use Rattle.relation_terms.specs.Heads.{VarKind, var_sort}
 use Rattle.relation_terms.specs.Heads.{type_sort, no_sort, atom, variable, bound, placeholder, unknown}
 use Rattle.relation_terms.specs.Trees.{Tree, leaf, node, bind, nil, cons, Assign, apply, size, count, nth}
 use Rattle.relation_terms.specs.Trees.{known, list_tree, IsList}
@@ -9,17 +9,18 @@ use Rattle.relation_terms.specs.Meaning.{Meaning, Extends}
 use Rattle.relation_terms.specs.Parts.{part_tree, part_sort, tree_sort, parts_of, over, Fit}
 use Rattle.relation_terms.specs.declared.terms.keys.TyKey.{TyKey}
 use Rattle.relation_terms.specs.declared.terms.part_kind.Part.{Part}
-use Rattle.relation_terms.specs.declared.terms.part_kind.Part.TheVariants.{Region, Ty, Const, ValTree, ValueType}
+use Rattle.relation_terms.specs.declared.terms.part_kind.Part.TheVariants.{Region, Ty, Const, ValTree, Pat, ValueType}
 use Rattle.relation_terms.proofs.Stays.{stays_list, knows_as}
-use Rattle.type_relations.specs.Stores.{Store, entry_term, bound_term, IsSound, IsTermIn}
+use Rattle.type_relations.specs.Stores.{Store, bound_term, IsSound, IsTermIn}
 use Rattle.type_relations.specs.Stores.{InContext, resolved, weight}
 use Rattle.type_relations.proofs.Resolved.{resolved_free}
 use Rattle.type_relations.proofs.Parts.{in_nth, nth_size}
 use Rattle.type_relations.proofs.Lists.{firsts, firsts_all, snoc, list_push, firsts_more, apply_snoc, push_known}
 use Rattle.relation_reference.specs.declared.context.inner.InferCtxtInner.{InferCtxtInner}
 use Rattle.relation_reference.specs.Tables.{store_of, IsLawful}
-use Rattle.relation_reference.specs.Answers.{IsShallow, root, formed}
+use Rattle.relation_reference.specs.Answers.{IsShallow, root, stays_bound, formed}
 use Rattle.relation_reference.proofs.Grows.{store_grows, lawful_grows}
+use Rattle.relation_reference.proofs.Reading.{other_free}
 
 -- A part that is no type is of another sort, and each part is of some.
 module _ {Key : Type 0} where
@@ -28,6 +29,7 @@ module _ {Key : Type 0} where
   not_type (Region r) n e = cc
   not_type (Const c) n e = cc
   not_type (ValTree v) n e = cc
+  not_type (Pat v) n e = cc
   not_type (ValueType t) n e = cc
 
   pub some_sort : (p : Part Key) → part_sort p ≡ no_sort → ⊥
@@ -35,6 +37,7 @@ module _ {Key : Type 0} where
   some_sort (Region r) e = cc
   some_sort (Const c) e = cc
   some_sort (ValTree v) e = cc
+  some_sort (Pat v) e = cc
   some_sort (ValueType t) e = cc
 
 -- A term comes to its form over what its parts come to, where it is no variable that has a term.
@@ -53,9 +56,11 @@ comes_by_parts st (cons t ts) s f = absurd (s refl)
 
 pub shallow_by_parts : (st : Store) (t : Tree) → IsShallow st t → apply (resolved st) t ≡
     over t (apply (resolved st) (parts_of t))
-shallow_by_parts st t (root n q f) =
+shallow_by_parts st t (root k n q f) =
     subst (λ z. apply (resolved st) z ≡ over z (apply (resolved st) (parts_of z))) (sym q)
-    (resolved_free st type_var n f)
+    (resolved_free st k n f)
+shallow_by_parts st t (stays_bound k d i q) =
+    subst (λ z. apply (resolved st) z ≡ over z (apply (resolved st) (parts_of z))) (sym q) refl
 shallow_by_parts st (leaf (variable k n)) (formed f) = absurd f
 shallow_by_parts st (leaf (bound k d i)) (formed f) = refl
 shallow_by_parts st (leaf (placeholder k u n)) (formed f) = refl
@@ -66,21 +71,12 @@ shallow_by_parts st (bind ks t) (formed f) = absurd f
 shallow_by_parts st nil (formed f) = absurd f
 shallow_by_parts st (cons t ts) (formed f) = absurd f
 
--- A context binds type variables alone.
-free_unless_type : {Key Id Name : Type 0} (m : Meaning Key Id Name) (x : InferCtxtInner Key) →
-    IsSound (store_of m x) → (k : VarKind) (n : ℕ) → (var_sort k ≡ type_sort → ⊥) → bound_term (store_of m x) k n ≡ None
-free_unless_type m x g type_var n h = absurd (h refl)
-free_unless_type m x g int_var n h = absurd (h refl)
-free_unless_type m x g float_var n h = absurd (h refl)
-free_unless_type m x g const_var n h = refl
-free_unless_type m x g region_var n h = ap (entry_term region_var) (g.regions_unbound n)
-
 pub other_by_parts : {Key Id Name : Type 0} (m : Meaning Key Id Name) (x : InferCtxtInner Key) →
     IsSound (store_of m x) → (p : Part Key) → ((t : TyKey Key) → p ≡ Ty t → ⊥) →
     tree_sort (part_tree m p) ≡ part_sort p → apply (resolved (store_of m x)) (part_tree m p) ≡
     over (part_tree m p) (apply (resolved (store_of m x)) (parts_of (part_tree m p)))
 other_by_parts m x g p n e = comes_by_parts (store_of m x) (part_tree m p) (λ s. some_sort p (sym e ∙ s))
-    (λ k i q. free_unless_type m x g k i (λ s. not_type p n (sym e ∙ ap tree_sort q ∙ s)))
+    (λ k i q. other_free m x g k i (λ s. not_type p n (sym e ∙ ap tree_sort q ∙ ap var_sort s)))
 
 -- A part of a term is of the context, and comes to less.
 term_list : (st : Store) (t : Tree) → IsTermIn st t → IsTermIn st (parts_of t)

@@ -31,7 +31,8 @@ use Rattle.type_relations.specs.Measures.{Goes}
 use Rattle.type_relations.specs.Errors.{ErrorOf, IsReadAs, itself, by_class, by_binding, of_entries}
 use Rattle.type_relations.specs.Parts.{IsFormed}
 use Rattle.type_relations.specs.Constraints.{constraint_at, constraint_of, asked_constraints}
-use Rattle.type_relations.specs.Taken.{IsFixedLeaf}
+use Rattle.type_relations.specs.Taken.{IsFixedLeaf, IsTakenLeaf}
+use Rattle.type_relations.specs.Covered.{IsCovered}
 use Rattle.type_relations.specs.Lawful.{Passes, Asked, Takes, Refuses, Related, Stepped, Leads, LeadsAgain}
 use Rattle.type_relations.specs.Lawful.{items_of, State, Verdict}
 use Rattle.type_relations.proofs.Trees.{all_leaves}
@@ -64,8 +65,8 @@ use Rattle.type_relations.specs.Lawful.{ExactResult}
 -- A variable is taken at invariance alone.
 pub taken_invariantly : (v : Variance) (n : ℕ) (t : Tree) → t ≡ leaf (variable type_var n) → v ≢ Bivariant →
     Takes (solver_manner solver_settings) v t → v ≡ Invariant
-taken_invariantly Covariant n t e d h = absurd (subst (Leaves IsFixedLeaf) e h)
-taken_invariantly Contravariant n t e d h = absurd (subst (Leaves IsFixedLeaf) e h)
+taken_invariantly Covariant n t e d h = absurd (subst (Leaves IsFixedLeaf) e h.0)
+taken_invariantly Contravariant n t e d h = absurd (subst (Leaves IsFixedLeaf) e h.0)
 taken_invariantly Invariant n t e d h = refl
 taken_invariantly Bivariant n t e d h = absurd (d refl)
 
@@ -77,25 +78,29 @@ no_entry const_var n s h = h
 no_entry int_var n s h = h
 no_entry float_var n s h = h
 
-pub read_taken : (st : Store) (v : Variance) (a u : Tree) → IsTerm type_sort a → IsReadAs st a u →
-    Takes (solver_manner solver_settings) v a → Takes (solver_manner solver_settings) v u
-read_taken st v a u s (itself e) h = subst (Takes (solver_manner solver_settings) v) e h
-read_taken st Covariant a u s (by_class k n m e c r) h =
+read_leaves : (st : Store) (v : Variance) (a u : Tree) → IsTerm type_sort a → IsReadAs st a u →
+    Leaves (IsTakenLeaf v) a → Leaves (IsTakenLeaf v) u
+read_leaves st v a u s (itself e) h = subst (Leaves (IsTakenLeaf v)) e h
+read_leaves st Covariant a u s (by_class k n m e c r) h =
     absurd (no_entry k n (subst (IsTerm type_sort) e s) (subst (Leaves IsFixedLeaf) e h))
-read_taken st Covariant a u s (by_binding k n e b r) h =
+read_leaves st Covariant a u s (by_binding k n e b r) h =
     absurd (no_entry k n (subst (IsTerm type_sort) e s) (subst (Leaves IsFixedLeaf) e h))
-read_taken st Contravariant a u s (by_class k n m e c r) h =
+read_leaves st Contravariant a u s (by_class k n m e c r) h =
     absurd (no_entry k n (subst (IsTerm type_sort) e s) (subst (Leaves IsFixedLeaf) e h))
-read_taken st Contravariant a u s (by_binding k n e b r) h =
+read_leaves st Contravariant a u s (by_binding k n e b r) h =
     absurd (no_entry k n (subst (IsTerm type_sort) e s) (subst (Leaves IsFixedLeaf) e h))
-read_taken st Invariant a u s (by_class k n m e c r) h = all_leaves _ (λ l. tt) u
-read_taken st Invariant a u s (by_binding k n e b r) h = all_leaves _ (λ l. tt) u
-read_taken st Bivariant a u s (by_class k n m e c r) h = all_leaves _ (λ l. tt) u
-read_taken st Bivariant a u s (by_binding k n e b r) h = all_leaves _ (λ l. tt) u
+read_leaves st Invariant a u s (by_class k n m e c r) h = all_leaves _ (λ l. tt) u
+read_leaves st Invariant a u s (by_binding k n e b r) h = all_leaves _ (λ l. tt) u
+read_leaves st Bivariant a u s (by_class k n m e c r) h = all_leaves _ (λ l. tt) u
+read_leaves st Bivariant a u s (by_binding k n e b r) h = all_leaves _ (λ l. tt) u
 
--- At invariance all is taken.
-all_taken : (t : Tree) → Takes (solver_manner solver_settings) Invariant t
-all_taken t = all_leaves _ (λ l. tt) t
+pub read_taken : (st : Store) (v : Variance) (a u : Tree) → IsTerm type_sort a → IsReadAs st a u →
+    (IsCovered a → IsCovered u) → Takes (solver_manner solver_settings) v a → Takes (solver_manner solver_settings) v u
+read_taken st v a u s r c h = (read_leaves st v a u s r h.0, c h.1)
+
+-- At invariance all leaves may stand.
+all_taken : (t : Tree) → IsCovered t → Takes (solver_manner solver_settings) Invariant t
+all_taken t c = (all_leaves _ (λ l. tt) t, c)
 
 module _ {Key Id Name : Type 0} (j : ℕ) where
   -- Work that recorded something, and registered no goal.
@@ -312,7 +317,7 @@ module _ {Key Id Name : Type 0} (j : ℕ) where
   -- A variable was bound to what a type comes to.
   module _ (m n : Meaning Key Id Name) (grown : Extends m n) (x y : InferCtxtInner Key) (e : ParamEnvKey Key)
       (env : IsTrue (known (m.param_env e))) (before : IsLawful m x) (after : IsLawful n y) (target : ℕ) (t u : Tree)
-      (formed : IsFormed t) (t_in : IsTermIn (store_of m x) t) (t_known : IsTrue (known t))
+      (covered : IsCovered t) (t_in : IsTermIn (store_of m x) t) (t_known : IsTrue (known t))
       (u_known : IsTrue (known u)) (stands : IsTerm type_sort u)
       (bound : BindsTo (store_of m x) (store_of n y) type_var target u)
       (means : u ≡ apply (resolved (store_of m x)) t)
@@ -344,15 +349,19 @@ module _ {Key Id Name : Type 0} (j : ℕ) where
     reads : (a : Tree) → IsReadAs was a t → IsReadAs now a t
     reads a p = read_later was now steps.later a t p
 
-    asked_now : (a b : Tree) → IsTrue (known a) → IsTrue (known b) → IsTermIn now a → IsTermIn now b →
-        Asked solver_manner (solving j n y Invariant e) Invariant a b
-    asked_now a b k l h i = record {
+    -- What it was bound to may be related.
+    u_covered : IsCovered u
+    u_covered = (after.formed target u steps.now_bound).1
+
+    asked_now : (a b : Tree) → IsTrue (known a) → IsTrue (known b) → IsTermIn now a → IsTermIn now b → IsCovered a →
+        IsCovered b → Asked solver_manner (solving j n y Invariant e) Invariant a b
+    asked_now a b k l h i c d = record {
       left_known = k;
       right_known = l;
       left_in = h;
       right_in = i;
-      left_taken = all_taken a;
-      right_taken = all_taken b;
+      left_taken = all_taken a c;
+      right_taken = all_taken b d;
     }
 
     module _ {K : Type 0} (F : Tree → Type 0) (a b : Tree) (v : Variance) (is : v ≡ Invariant) (k l z w : K)
@@ -385,8 +394,8 @@ module _ {Key Id Name : Type 0} (j : ℕ) where
             leads = read_leads m n x y e a b root t u t p q (root_reads a p) (reads b q) after.sound step;
             read_leads = read_leads m n x y e root t root t u t (itself refl) (itself refl)
                 (root_reads root (itself refl)) (reads t (itself refl)) after.sound step;
-            read_asked = asked_now root t refl t_known (later root i) (later t t_in);
-            asked = asked_now u t u_known t_known u_in (later t t_in);
+            read_asked = asked_now root t refl t_known (later root i) (later t t_in) tt covered;
+            asked = asked_now u t u_known t_known u_in (later t t_in) u_covered covered;
             answers = λ j s sat all f. same_rel (read_value was s ((steps.later).shrinks j s sat).bindings a root p);
             left = λ k. absurd k;
             answer_known = refl;
@@ -442,8 +451,8 @@ module _ {Key Id Name : Type 0} (j : ℕ) where
             leads = read_leads m n x y e a b t root t u p q (reads a p) (root_reads b q) after.sound step;
             read_leads = read_leads m n x y e t root t root t u (itself refl) (itself refl)
                 (reads t (itself refl)) (root_reads root (itself refl)) after.sound step;
-            read_asked = asked_now t root t_known refl (later t t_in) (later root i);
-            asked = asked_now t u t_known u_known (later t t_in) u_in;
+            read_asked = asked_now t root t_known refl (later t t_in) (later root i) covered tt;
+            asked = asked_now t u t_known u_known (later t t_in) u_in covered u_covered;
             answers = λ j s sat all f. same_rel (read_value was s ((steps.later).shrinks j s sat).bindings a t p);
             left = λ k. absurd k;
             answer_known = t_known;

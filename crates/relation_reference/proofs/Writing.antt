@@ -13,9 +13,8 @@ use Rattle.type_relations.proofs.Equating.{equated_sound}
 use Rattle.relation_reference.specs.declared.context.inner.TypeVariableValue.{TypeVariableValue}
 use Rattle.relation_reference.specs.declared.context.inner.TypeVariableValue.TheVariants.{Unknown, SameAs, Known}
 use Rattle.relation_reference.specs.declared.context.inner.InferCtxtInner.{InferCtxtInner}
-use Rattle.relation_reference.specs.Tables.{entry_of_value, store_of, IsLawful}
+use Rattle.relation_reference.specs.Tables.{entry_of_value, store_of, MayBeBoundTo, IsLawful}
 use Rattle.type_relations.specs.Constraints.{constraint_of}
-use Rattle.type_relations.specs.Parts.{IsFormed}
 use Rattle.relation_reference.proofs.Grows.{map-map}
 
 -- The lists of a table after what is recorded of a variable was written.
@@ -46,7 +45,7 @@ module _ {Key Id Name : Type 0} (m : Meaning Key Id Name) (x y : InferCtxtInner 
   long : length y.types.items ≡ length x.types.items
   long = sym (length-map y.types.items (λ t. m.ty t.key)) ∙ ap length keys ∙ length-map x.types.items (λ t. m.ty t.key)
 
-  pub written_lawful : ((t : Tree) → e ≡ bound_to t → IsFormed t) → IsSound (store_of m y) → IsLawful m y
+  pub written_lawful : ((t : Tree) → e ≡ bound_to t → MayBeBoundTo t) → IsSound (store_of m y) → IsLawful m y
   written_lawful f g = record {
     sound = g;
     keyed = λ i h. ap (λ ts. get_or ts i nil) keys ∙ l.keyed i (omega (arith, long));
@@ -54,11 +53,11 @@ module _ {Key Id Name : Type 0} (m : Meaning Key Id Name) (x y : InferCtxtInner 
     first_universe = ap (λ u. u.0) universe ∙ l.first_universe;
   }
     where
-      go : (i : ℕ) (t : Tree) → entry_of (store_of m y) type_var i ≡ bound_to t → Dec (i ≡ n) → IsFormed t
+      go : (i : ℕ) (t : Tree) → entry_of (store_of m y) type_var i ≡ bound_to t → Dec (i ≡ n) → MayBeBoundTo t
       go i t h (yes q) = f t (sym w.written ∙ sym (ap (entry_of (store_of m y) type_var) q) ∙ h)
       go i t h (no o) = other (w.others_stand type_var i (λ _ q. o q))
         where
-          other : StandsBeside (store_of m x) (store_of m y) type_var n e type_var i → IsFormed t
+          other : StandsBeside (store_of m x) (store_of m y) type_var n e type_var i → MayBeBoundTo t
           other (as_it_was r) = l.formed i t (sym r ∙ h)
           other (led_on r a b c d) = absurd (cc (d, h))
 
@@ -279,8 +278,8 @@ module _ {Key Id Name : Type 0} (m : Meaning Key Id Name) (x y : InferCtxtInner 
   pub binds_to : BindsTo (store_of m x) (store_of m y) type_var n (m.ty t)
   binds_to = record { writes = bind_writes; same_universes = bind_same_universes; one_spent = budget }
 
-  pub bind_lawful : IsFormed (m.ty t) → IsSound (store_of m y) → IsLawful m y
-  bind_lawful f g = written_lawful m x y n (bound_to (m.ty t)) bind_writes l (keys_stand m x y n (Known t) u keys values universes) universe (λ v e. subst IsFormed (as_bound e) f) g
+  pub bind_lawful : MayBeBoundTo (m.ty t) → IsSound (store_of m y) → IsLawful m y
+  bind_lawful f g = written_lawful m x y n (bound_to (m.ty t)) bind_writes l (keys_stand m x y n (Known t) u keys values universes) universe (λ v e. subst MayBeBoundTo (as_bound e) f) g
     where
       as_bound : {v : Tree} → bound_to (m.ty t) ≡ bound_to v → m.ty t ≡ v
       as_bound e = cc

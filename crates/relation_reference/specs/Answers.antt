@@ -1,6 +1,6 @@
 -- What calls over a context show.
 use Rattle.std.specs.Prelude.{◌≡◌, ℕ, ◌<◌, Result, Ok, Err, None}
-use Rattle.relation_terms.specs.Heads.{type_var, variable}
+use Rattle.relation_terms.specs.Heads.{VarKind, type_var, BoundKind, variable, bound}
 use Rattle.relation_terms.specs.Trees.{Tree, leaf, Assign, apply, Occurs}
 use Rattle.relation_terms.specs.declared.terms.enums.Variance.TheVariants.{Invariant}
 use Rattle.relation_tools.specs.declared.error.TypeError.TheVariants.{CyclicTy}
@@ -20,9 +20,10 @@ use Rattle.type_relations.specs.Parts.{IsFormed}
 abbrev pub IsRoot : Store → ℕ → Type 0
 IsRoot st n = (p : ℕ) → entry_of st type_var n ≡ same_as p → ⊥
 
--- What resolving a type shallowly comes to: a variable that has no term, or a type that is no variable.
+-- What resolving a type shallowly comes to: a variable that has no term, a bound variable, or a type that is neither.
 pub data IsShallow (st : Store) (t : Tree) : Type 0 where
-  root : (n : ℕ) → t ≡ leaf (variable type_var n) → bound_term st type_var n ≡ None → IsShallow st t
+  root : (k : VarKind) (n : ℕ) → t ≡ leaf (variable k n) → bound_term st k n ≡ None → IsShallow st t
+  stays_bound : (k : BoundKind) (d i : ℕ) → t ≡ leaf (bound k d i) → IsShallow st t
   formed : IsFormed t → IsShallow st t
 
 -- Two terms were made one: what satisfies the store after relates them, and what made them one tree satisfies it.

@@ -6,6 +6,7 @@ use Rattle.relation_terms.specs.Meaning.{Meaning}
 use Rattle.type_relations.specs.Stores.{Store, Entry, entry_of, unbound, same_as, bound_to, IsSound}
 use Rattle.type_relations.specs.Constraints.{constraint_of}
 use Rattle.type_relations.specs.Parts.{IsFormed}
+use Rattle.type_relations.specs.Covered.{IsCovered}
 use Rattle.type_relations.specs.Contexts.{Context}
 use Rattle.relation_reference.specs.declared.context.inner.TypeVariableValue.{TypeVariableValue}
 use Rattle.relation_reference.specs.declared.context.inner.TypeVariableValue.TheVariants.{Unknown, SameAs, Known}
@@ -18,6 +19,10 @@ by_kind t r d region_var = r
 by_kind t r d int_var = d
 by_kind t r d float_var = d
 by_kind t r d const_var = d
+
+-- What a variable may be bound to: a type that is no variable, of forms that relating has rules for.
+abbrev pub MayBeBoundTo : Tree → Type 0
+MayBeBoundTo t = IsFormed t × IsCovered t
 
 module _ {Key Id Name : Type 0} (m : Meaning Key Id Name) where
   -- What is recorded of a variable.
@@ -38,12 +43,12 @@ module _ {Key Id Name : Type 0} (m : Meaning Key Id Name) where
   }
 
   -- The invariant of a context: its store is sound; the key beside each variable is the variable's; what variables are
-  -- bound to is no variable; and there is no universe yet but the first.
+  -- bound to is no variable, and may be related; and there is no universe yet but the first.
   pub record IsLawful (x : InferCtxtInner Key) : Type 0 where
     pub sound : IsSound (store_of x)
     pub keyed : (n : ℕ) → n < length x.types.items →
         get_or (map (λ v. m.ty v.key) x.types.items) n nil ≡ leaf (variable type_var n)
-    pub formed : (n : ℕ) (t : Tree) → entry_of (store_of x) type_var n ≡ bound_to t → IsFormed t
+    pub formed : (n : ℕ) (t : Tree) → entry_of (store_of x) type_var n ≡ bound_to t → MayBeBoundTo t
     pub first_universe : (x.universe).0 ≡ 0
 
   -- A context of these tables, as contracts see it.

@@ -4,14 +4,14 @@ use Rattle.std.proofs.Common.{map}
 use Rattle.std.proofs.Common.{IsTrue, List, [], ◌∷◌, length, get_or, Result, Ok, Err, IfOk}
 use Rattle.std.proofs.lemmas.Bool.{and_parts}
 use Rattle.relation_terms.specs.Heads.{Sort, region_sort, type_sort, const_sort, value_sort}
-use Rattle.relation_terms.specs.Heads.{argument_sort}
+use Rattle.relation_terms.specs.Heads.{argument_sort, pattern_sort}
 use Rattle.relation_terms.specs.Heads.{Admits, leaf_sort, head_sort}
 use Rattle.relation_terms.specs.Trees.{Tree, leaf, node, bind, nil, cons, known, list_tree, count, nth, size, IsList}
 use Rattle.relation_terms.specs.Trees.{IsTerm, AreTerms}
 use Rattle.relation_terms.specs.Parts.{parts_of, tree_sort, part_sort, Fit, AreArgs, AreTys}
-use Rattle.relation_terms.specs.Parts.{AreConsts}
+use Rattle.relation_terms.specs.Parts.{AreConsts, ArePats}
 use Rattle.relation_terms.specs.declared.terms.part_kind.Part.{Part}
-use Rattle.relation_terms.specs.declared.terms.part_kind.Part.TheVariants.{Region, Ty, Const, ValTree, ValueType}
+use Rattle.relation_terms.specs.declared.terms.part_kind.Part.TheVariants.{Region, Ty, Const, ValTree, Pat, ValueType}
 
 -- What is said of a success follows from what is said of it otherwise.
 pub if_ok : {A E : Type 0} {P Q : A → Type 0} (r : Result A E) → ((x : A) → P x → Q x) → IfOk r P → IfOk r Q
@@ -67,6 +67,7 @@ module _ {Key : Type 0} where
   arg_got (Ty t ∷ xs) zero d h a = tt
   arg_got (Const c ∷ xs) zero d h a = tt
   arg_got (ValTree v ∷ xs) i d h a = absurd a
+  arg_got (Pat p ∷ xs) i d h a = absurd a
   arg_got (ValueType t ∷ xs) i d h a = absurd a
   arg_got (Region r ∷ xs) (suc i) d h a = arg_got xs i d (omega arith) a
   arg_got (Ty t ∷ xs) (suc i) d h a = arg_got xs i d (omega arith) a
@@ -85,6 +86,13 @@ module _ {Key : Type 0} where
   const_got (Const t ∷ xs) zero d h a = refl
   const_got (Const t ∷ xs) (suc i) d h a = const_got xs i d (omega arith) a
   const_got (x ∷ xs) i d h a = absurd a
+
+  pub pat_got : (xs : List (Part Key)) (i : ℕ) (d : Part Key) → i < length xs → ArePats xs →
+      part_sort (get_or xs i d) ≡ pattern_sort
+  pat_got [] i d h a = absurd (omega arith)
+  pat_got (Pat t ∷ xs) zero d h a = refl
+  pat_got (Pat t ∷ xs) (suc i) d h a = pat_got xs i d (omega arith) a
+  pat_got (x ∷ xs) i d h a = absurd a
 
 -- The tree of what a list of keys is as parts.
 module _ {K P : Type 0} (f : K → Tree) (g : P → Tree) (h : K → P) (e : (k : K) → g (h k) ≡ f k) where
@@ -112,6 +120,10 @@ value_only : (x : Sort) → Admits value_sort x → x ≡ value_sort
 value_only value_sort h = refl
 value_only x h = absurd h
 
+pattern_only : (x : Sort) → Admits pattern_sort x → x ≡ pattern_sort
+pattern_only pattern_sort h = refl
+pattern_only x h = absurd h
+
 pub region_term : (t : Tree) → IsTerm region_sort t → tree_sort t ≡ region_sort
 region_term (leaf l) h = region_only (leaf_sort l) h
 region_term (node g ts) h = region_only (head_sort g) h.0
@@ -132,6 +144,11 @@ value_term (leaf l) h = value_only (leaf_sort l) h
 value_term (node g ts) h = value_only (head_sort g) h.0
 value_term t h = absurd h
 
+pub pattern_term : (t : Tree) → IsTerm pattern_sort t → tree_sort t ≡ pattern_sort
+pattern_term (leaf l) h = pattern_only (leaf_sort l) h
+pattern_term (node g ts) h = pattern_only (head_sort g) h.0
+pattern_term t h = absurd h
+
 arg_admits : (t : Tree) → IsTerm argument_sort t → Admits argument_sort (tree_sort t)
 arg_admits (leaf l) h = h
 arg_admits (node g ts) h = h.0
@@ -143,6 +160,7 @@ module _ {Key : Type 0} where
   one_arg (Ty t) s e a = tt
   one_arg (Const c) s e a = tt
   one_arg (ValTree v) s e a = subst (Admits argument_sort) (sym e) a
+  one_arg (Pat p) s e a = subst (Admits argument_sort) (sym e) a
   one_arg (ValueType t) s e a = subst (Admits argument_sort) (sym e) a
 
   more_args : (x : Part Key) (xs : List (Part Key)) → AreArgs (x ∷ []) → AreArgs xs → AreArgs (x ∷ xs)
@@ -150,6 +168,7 @@ module _ {Key : Type 0} where
   more_args (Ty t) xs a b = b
   more_args (Const c) xs a b = b
   more_args (ValTree v) xs a b = a
+  more_args (Pat p) xs a b = a
   more_args (ValueType t) xs a b = a
 
   pub fit_args : (xs : List (Part Key)) (ts : Tree) → Fit xs ts → AreTerms argument_sort ts → AreArgs xs
@@ -164,6 +183,7 @@ module _ {Key : Type 0} where
   fit_tys (Region x ∷ xs) (cons t ts) f a = absurd (let q = f.0 ∙ type_term t a.0 in cc)
   fit_tys (Const x ∷ xs) (cons t ts) f a = absurd (let q = f.0 ∙ type_term t a.0 in cc)
   fit_tys (ValTree x ∷ xs) (cons t ts) f a = absurd (let q = f.0 ∙ type_term t a.0 in cc)
+  fit_tys (Pat x ∷ xs) (cons t ts) f a = absurd (let q = f.0 ∙ type_term t a.0 in cc)
   fit_tys (ValueType x ∷ xs) (cons t ts) f a = absurd (let q = f.0 ∙ type_term t a.0 in cc)
   fit_tys (x ∷ xs) ts f a = absurd f
 
@@ -173,8 +193,19 @@ module _ {Key : Type 0} where
   fit_consts (Region x ∷ xs) (cons t ts) f a = absurd (let q = f.0 ∙ const_term t a.0 in cc)
   fit_consts (Ty x ∷ xs) (cons t ts) f a = absurd (let q = f.0 ∙ const_term t a.0 in cc)
   fit_consts (ValTree x ∷ xs) (cons t ts) f a = absurd (let q = f.0 ∙ const_term t a.0 in cc)
+  fit_consts (Pat x ∷ xs) (cons t ts) f a = absurd (let q = f.0 ∙ const_term t a.0 in cc)
   fit_consts (ValueType x ∷ xs) (cons t ts) f a = absurd (let q = f.0 ∙ const_term t a.0 in cc)
   fit_consts (x ∷ xs) ts f a = absurd f
+
+  pub fit_pats : (xs : List (Part Key)) (ts : Tree) → Fit xs ts → AreTerms pattern_sort ts → ArePats xs
+  fit_pats [] ts f a = tt
+  fit_pats (Pat x ∷ xs) (cons t ts) f a = fit_pats xs ts f.1 a.1
+  fit_pats (Region x ∷ xs) (cons t ts) f a = absurd (let q = f.0 ∙ pattern_term t a.0 in cc)
+  fit_pats (Ty x ∷ xs) (cons t ts) f a = absurd (let q = f.0 ∙ pattern_term t a.0 in cc)
+  fit_pats (Const x ∷ xs) (cons t ts) f a = absurd (let q = f.0 ∙ pattern_term t a.0 in cc)
+  fit_pats (ValTree x ∷ xs) (cons t ts) f a = absurd (let q = f.0 ∙ pattern_term t a.0 in cc)
+  fit_pats (ValueType x ∷ xs) (cons t ts) f a = absurd (let q = f.0 ∙ pattern_term t a.0 in cc)
+  fit_pats (x ∷ xs) ts f a = absurd f
 
   pub fit_none : (f : Part Key → Tree) (xs : List (Part Key)) → Fit xs nil → list_tree f xs ≡ nil
   fit_none f [] h = refl

@@ -2,9 +2,10 @@
 use Rattle.std.proofs.Common.{IsTrue, true, ◌&&◌, List, [], ◌∷◌, refl}
 use Rattle.std.proofs.lemmas.Bool.{and_parts}
 use Rattle.relation_terms.specs.Heads.{Sort, type_sort, region_sort, const_sort, value_sort, argument_sort}
-use Rattle.relation_terms.specs.Heads.{environment_sort, environment, Admits, leaf_sort, head_sort}
+use Rattle.relation_terms.specs.Heads.{environment_sort, pattern_sort, environment, Admits, leaf_sort, head_sort}
 use Rattle.relation_terms.specs.Trees.{Tree, leaf, node, nil, known, list_tree, IsTerm, AreTerms}
 use Rattle.relation_terms.specs.Meaning.{Meaning, kind_tree, region_tree, const_tree, valtree_tree, arg_tree}
+use Rattle.relation_terms.specs.Meaning.{pattern_tree}
 use Rattle.relation_terms.specs.declared.terms.keys.TyKey.{TyKey}
 use Rattle.relation_terms.specs.declared.terms.keys.RegionKey.{RegionKey}
 use Rattle.relation_terms.specs.declared.terms.keys.ConstKey.{ConstKey}
@@ -12,6 +13,8 @@ use Rattle.relation_terms.specs.declared.terms.keys.ArgsKey.{ArgsKey}
 use Rattle.relation_terms.specs.declared.terms.keys.TysKey.{TysKey}
 use Rattle.relation_terms.specs.declared.terms.keys.ValTreeKey.{ValTreeKey}
 use Rattle.relation_terms.specs.declared.terms.keys.BranchesKey.{BranchesKey}
+use Rattle.relation_terms.specs.declared.terms.keys.PatKey.{PatKey}
+use Rattle.relation_terms.specs.declared.terms.keys.AlternativesKey.{AlternativesKey}
 use Rattle.relation_terms.specs.declared.terms.generic_arg.GenericArgKind.{GenericArgKind}
 use Rattle.relation_terms.specs.declared.terms.generic_arg.GenericArgKind.TheVariants.{Lifetime, Ty, Const}
 use Rattle.relation_terms.specs.declared.terms.ty_kind.TyKind.{TyKind}
@@ -19,17 +22,24 @@ use Rattle.relation_terms.specs.declared.terms.ty_kind.TyKind.TheVariants.{Bool,
 use Rattle.relation_terms.specs.declared.terms.ty_kind.TyKind.TheVariants.{Str, Array, Slice, RawPtr, Ref, FnDef}
 use Rattle.relation_terms.specs.declared.terms.ty_kind.TyKind.TheVariants.{Closure, CoroutineClosure, Coroutine}
 use Rattle.relation_terms.specs.declared.terms.ty_kind.TyKind.TheVariants.{CoroutineWitness, Never, Tuple, Infer}
-use Rattle.relation_terms.specs.declared.terms.ty_kind.TyKind.TheVariants.{Param as TyParam}
+use Rattle.relation_terms.specs.declared.terms.ty_kind.TyKind.TheVariants.{Param as TyParam, Bound as TyBound}
+use Rattle.relation_terms.specs.declared.terms.ty_kind.TyKind.TheVariants.{Error as TyError, Alias, Pat}
 use Rattle.relation_terms.specs.declared.terms.ty_kind.TyKind.TheVariants.{Placeholder as TyPlaceholder}
 use Rattle.relation_terms.specs.declared.terms.const_kind.ConstKind.{ConstKind}
 use Rattle.relation_terms.specs.declared.terms.const_kind.ConstKind.TheVariants.{Param as ConstParam}
 use Rattle.relation_terms.specs.declared.terms.const_kind.ConstKind.TheVariants.{Placeholder as ConstPlaceholder}
-use Rattle.relation_terms.specs.declared.terms.const_kind.ConstKind.TheVariants.{Value, Expr}
+use Rattle.relation_terms.specs.declared.terms.const_kind.ConstKind.TheVariants.{Infer as ConstInfer, Bound as ConstBound}
+use Rattle.relation_terms.specs.declared.terms.const_kind.ConstKind.TheVariants.{Unevaluated, Value, Error as ConstError, Expr}
+use Rattle.relation_terms.specs.declared.terms.const_kind.InferConst.TheVariants.{Var, Fresh}
+use Rattle.relation_terms.specs.declared.terms.pattern_kind.PatternKind.{PatternKind}
+use Rattle.relation_terms.specs.declared.terms.pattern_kind.PatternKind.TheVariants.{Range, Or, NotNull}
 use Rattle.relation_terms.specs.declared.terms.const_kind.ValTreeKind.{ValTreeKind}
 use Rattle.relation_terms.specs.declared.terms.const_kind.ValTreeKind.TheVariants.{Leaf, Branch}
-use Rattle.relation_terms.specs.declared.terms.ty_kind.InferTy.TheVariants.{TyVar}
+use Rattle.relation_terms.specs.declared.terms.ty_kind.InferTy.TheVariants.{TyVar, IntVar, FloatVar}
+use Rattle.relation_terms.specs.declared.terms.ty_kind.InferTy.TheVariants.{FreshTy, FreshIntTy, FreshFloatTy}
 use Rattle.relation_terms.specs.declared.terms.region_kind.RegionKind.{RegionKind}
-use Rattle.relation_terms.specs.declared.terms.region_kind.RegionKind.TheVariants.{ReStatic, ReEarlyParam, ReVar}
+use Rattle.relation_terms.specs.declared.terms.region_kind.RegionKind.TheVariants.{ReStatic, ReEarlyParam, ReBound}
+use Rattle.relation_terms.specs.declared.terms.region_kind.RegionKind.TheVariants.{ReVar, RePlaceholder}
 
 -- The trees of known keys are terms of their sorts.
 pub record Sorted {Key Id Name : Type 0} (m : Meaning Key Id Name) : Type 0 where
@@ -40,6 +50,9 @@ pub record Sorted {Key Id Name : Type 0} (m : Meaning Key Id Name) : Type 0 wher
   pub valtree : (k : ValTreeKey Key) → IsTrue (known (m.valtree k)) → IsTerm value_sort (m.valtree k)
   pub args : (k : ArgsKey Key) → IsTrue (known (m.args k)) → AreTerms argument_sort (m.args k)
   pub branches : (k : BranchesKey Key) → IsTrue (known (m.branches k)) → AreTerms const_sort (m.branches k)
+  pub pat : (k : PatKey Key) → IsTrue (known (m.pat k)) → IsTerm pattern_sort (m.pat k)
+  pub alternatives : (k : AlternativesKey Key) → IsTrue (known (m.alternatives k)) →
+      AreTerms pattern_sort (m.alternatives k)
 
 pub list_sorted : {A : Type 0} (s : Sort) (f : A → Tree) → ((x : A) → IsTrue (known (f x)) → IsTerm s (f x)) →
     (xs : List A) → IsTrue (known (list_tree f xs)) → AreTerms s (list_tree f xs)
@@ -74,13 +87,17 @@ module _ {Key Id Name : Type 0} (m : Meaning Key Id Name) where
   pub region_sorted : (f : RegionKind Name) → IsTerm region_sort (region_tree m f)
   region_sorted ReStatic = tt
   region_sorted (ReEarlyParam p) = tt
+  region_sorted (ReBound d b) = tt
   region_sorted (ReVar v) = tt
+  region_sorted (RePlaceholder p) = tt
 
   -- A region's form has a tree without unknown parts.
   pub region_known : (f : RegionKind Name) → IsTrue (known (region_tree m f))
   region_known ReStatic = refl
   region_known (ReEarlyParam p) = refl
+  region_known (ReBound d b) = refl
   region_known (ReVar v) = refl
+  region_known (RePlaceholder p) = refl
 
   pub arg_sorted : Sorted m → (a : GenericArgKind Key) → IsTrue (known (arg_tree m a)) →
       IsTerm argument_sort (arg_tree m a)
@@ -102,6 +119,10 @@ module _ {Key Id Name : Type 0} (m : Meaning Key Id Name) where
       let p = and_parts (known (m.ty t)) (known (m.const_ c) && true) k in
       let q = and_parts (known (m.const_ c)) true p.1 in
       (tt, (s.ty t p.0, (s.const_ c q.0, tt)))
+  kind_sorted s (Pat t p) k =
+      let h = and_parts (known (m.ty t)) (known (m.pat p) && true) k in
+      let q = and_parts (known (m.pat p)) true h.1 in
+      (tt, (s.ty t h.0, (s.pat p q.0, tt)))
   kind_sorted s (Slice t) k = (tt, (s.ty t (and_parts (known (m.ty t)) true k).0, tt))
   kind_sorted s (RawPtr t u) k = (tt, (s.ty t (and_parts (known (m.ty t)) true k).0, tt))
   kind_sorted s (Ref r t u) k =
@@ -115,22 +136,44 @@ module _ {Key Id Name : Type 0} (m : Meaning Key Id Name) where
   kind_sorted s (CoroutineWitness d a) k = (tt, s.args a k)
   kind_sorted s Never k = tt
   kind_sorted s (Tuple ts) k = (tt, s.tys ts k)
+  kind_sorted s (Alias a) k = (tt, s.args a.args k)
   kind_sorted s (TyParam p) k = tt
+  kind_sorted s (TyBound d b) k = tt
   kind_sorted s (TyPlaceholder p) k = tt
   kind_sorted s (Infer (TyVar v)) k = tt
+  kind_sorted s (Infer (IntVar v)) k = tt
+  kind_sorted s (Infer (FloatVar v)) k = tt
+  kind_sorted s (Infer (FreshTy n)) k = tt
+  kind_sorted s (Infer (FreshIntTy n)) k = tt
+  kind_sorted s (Infer (FreshFloatTy n)) k = tt
+  kind_sorted s (TyError e) k = tt
 
-  pub const_sorted : Sorted m → (f : ConstKind Key Name) → IsTrue (known (const_tree m f)) →
+  pub const_sorted : Sorted m → (f : ConstKind Key Id Name) → IsTrue (known (const_tree m f)) →
       IsTerm const_sort (const_tree m f)
   const_sorted s (ConstParam p) k = tt
+  const_sorted s (ConstInfer (Var v)) k = tt
+  const_sorted s (ConstInfer (Fresh n)) k = tt
+  const_sorted s (ConstBound d b) k = tt
   const_sorted s (ConstPlaceholder p) k = tt
+  const_sorted s (Unevaluated u) k = (tt, s.args u.args k)
   const_sorted s (Value t v) k =
       let p = and_parts (known (m.ty t) && true) (known (m.valtree v) && true) k in
       let q = and_parts (known (m.ty t)) true p.0 in
       let r = and_parts (known (m.valtree v)) true p.1 in
       (tt, ((tt, (s.ty t q.0, tt)), (s.valtree v r.0, tt)))
+  const_sorted s (ConstError e) k = tt
   const_sorted s (Expr x a) k = (tt, s.args a k)
 
   pub valtree_sorted : Sorted m → (f : ValTreeKind Key) → IsTrue (known (valtree_tree m f)) →
       IsTerm value_sort (valtree_tree m f)
   valtree_sorted s (Leaf b n) k = tt
   valtree_sorted s (Branch b) k = (tt, s.branches b k)
+
+  pub pattern_sorted : Sorted m → (f : PatternKind Key) → IsTrue (known (pattern_tree m f)) →
+      IsTerm pattern_sort (pattern_tree m f)
+  pattern_sorted s (Range a b) k =
+      let p = and_parts (known (m.const_ a)) (known (m.const_ b) && true) k in
+      let q = and_parts (known (m.const_ b)) true p.1 in
+      (tt, (s.const_ a p.0, (s.const_ b q.0, tt)))
+  pattern_sorted s (Or a) k = (tt, s.alternatives a k)
+  pattern_sorted s NotNull k = tt

@@ -1,13 +1,15 @@
 -- What an interner knows stays as it is while it grows.
 use Rattle.std.proofs.Common.{◌≡◌, IsTrue, true, ◌&&◌, List, [], ◌∷◌, IsSome, refl, ap, ap₂, sym, ◌∙◌, subst}
 use Rattle.std.proofs.lemmas.Bool.{and_parts}
-use Rattle.relation_terms.specs.Heads.{bound_kind, type_kind, const_kind, early_region, type_param, const_param}
+use Rattle.relation_terms.specs.Heads.{bound_kind, type_kind, const_kind, region_kind, early_region, type_param, const_param}
+use Rattle.relation_terms.specs.Heads.{alias, unevaluated}
+use Rattle.relation_terms.specs.Heads.{bound, pattern_type, range_pattern, or_pattern}
 use Rattle.relation_terms.specs.Heads.{foreign, adt, fn_def, closure, coroutine_closure, coroutine, coroutine_witness}
 use Rattle.relation_terms.specs.Heads.{array, slice, tuple, raw_ptr, ref, expression, value, value_type, value_branch}
 use Rattle.relation_terms.specs.Heads.{placeholder, atom}
 use Rattle.relation_terms.specs.Trees.{Tree, leaf, node, nil, cons, known, list_tree}
 use Rattle.relation_terms.specs.Meaning.{Meaning, Extends, kind_tree, region_tree, const_tree, valtree_tree, arg_tree}
-use Rattle.relation_terms.specs.Meaning.{term_tree}
+use Rattle.relation_terms.specs.Meaning.{term_tree, pattern_tree, alias_kind, alias_id}
 use Rattle.relation_terms.specs.declared.terms.keys.TyKey.{TyKey}
 use Rattle.relation_terms.specs.declared.terms.keys.RegionKey.{RegionKey}
 use Rattle.relation_terms.specs.declared.terms.keys.TysKey.{TysKey}
@@ -16,21 +18,29 @@ use Rattle.relation_terms.specs.declared.terms.keys.ArgsKey.{ArgsKey}
 use Rattle.relation_terms.specs.declared.terms.keys.ValTreeKey.{ValTreeKey}
 use Rattle.relation_terms.specs.declared.terms.keys.BranchesKey.{BranchesKey}
 use Rattle.relation_terms.specs.declared.terms.keys.ParamEnvKey.{ParamEnvKey}
+use Rattle.relation_terms.specs.declared.terms.keys.PatKey.{PatKey}
+use Rattle.relation_terms.specs.declared.terms.keys.AlternativesKey.{AlternativesKey}
+use Rattle.relation_terms.specs.declared.terms.placeholder.BoundTy.{BoundTy}
 use Rattle.relation_terms.specs.declared.terms.ty_kind.TyKind.{TyKind}
 use Rattle.relation_terms.specs.declared.terms.ty_kind.TyKind.TheVariants.{Bool, Char, Int, Uint, Float, Adt, Foreign}
 use Rattle.relation_terms.specs.declared.terms.ty_kind.TyKind.TheVariants.{Str, Array, Slice, RawPtr, Ref, FnDef}
 use Rattle.relation_terms.specs.declared.terms.ty_kind.TyKind.TheVariants.{Closure, CoroutineClosure, Coroutine}
 use Rattle.relation_terms.specs.declared.terms.ty_kind.TyKind.TheVariants.{CoroutineWitness, Never, Tuple, Infer}
-use Rattle.relation_terms.specs.declared.terms.ty_kind.TyKind.TheVariants.{Param as TyParam}
+use Rattle.relation_terms.specs.declared.terms.ty_kind.TyKind.TheVariants.{Param as TyParam, Bound as TyBound}
+use Rattle.relation_terms.specs.declared.terms.ty_kind.TyKind.TheVariants.{Error as TyError, Alias, Pat}
 use Rattle.relation_terms.specs.declared.terms.ty_kind.TyKind.TheVariants.{Placeholder as TyPlaceholder}
 use Rattle.relation_terms.specs.declared.terms.const_kind.ConstKind.{ConstKind}
 use Rattle.relation_terms.specs.declared.terms.const_kind.ConstKind.TheVariants.{Param as ConstParam}
 use Rattle.relation_terms.specs.declared.terms.const_kind.ConstKind.TheVariants.{Placeholder as ConstPlaceholder}
-use Rattle.relation_terms.specs.declared.terms.const_kind.ConstKind.TheVariants.{Value, Expr}
+use Rattle.relation_terms.specs.declared.terms.const_kind.ConstKind.TheVariants.{Infer as ConstInfer, Bound as ConstBound}
+use Rattle.relation_terms.specs.declared.terms.const_kind.ConstKind.TheVariants.{Unevaluated, Value, Error as ConstError, Expr}
 use Rattle.relation_terms.specs.declared.terms.const_kind.ValTreeKind.{ValTreeKind}
 use Rattle.relation_terms.specs.declared.terms.const_kind.ValTreeKind.TheVariants.{Leaf, Branch}
 use Rattle.relation_terms.specs.declared.terms.region_kind.RegionKind.{RegionKind}
-use Rattle.relation_terms.specs.declared.terms.region_kind.RegionKind.TheVariants.{ReStatic, ReEarlyParam, ReVar}
+use Rattle.relation_terms.specs.declared.terms.region_kind.RegionKind.TheVariants.{ReStatic, ReEarlyParam, ReBound}
+use Rattle.relation_terms.specs.declared.terms.region_kind.RegionKind.TheVariants.{ReVar, RePlaceholder}
+use Rattle.relation_terms.specs.declared.terms.pattern_kind.PatternKind.{PatternKind}
+use Rattle.relation_terms.specs.declared.terms.pattern_kind.PatternKind.TheVariants.{Range, Or, NotNull}
 use Rattle.relation_terms.specs.declared.terms.generic_arg.GenericArgKind.{GenericArgKind}
 use Rattle.relation_terms.specs.declared.terms.generic_arg.GenericArgKind.TheVariants.{Lifetime, Ty, Const}
 use Rattle.relation_terms.specs.declared.terms.generic_arg.TermKind.{TermKind}
@@ -117,6 +127,13 @@ module _ {Key Id Name : Type 0} {m n : Meaning Key Id Name} (e : Extends m n) wh
   pub knows_branches : (k : BranchesKey Key) → IsTrue (known (m.branches k)) → IsTrue (known (n.branches k))
   knows_branches k h = knows_as (m.branches k) (n.branches k) (e.branches k h) h
 
+  pub knows_pat : (k : PatKey Key) → IsTrue (known (m.pat k)) → IsTrue (known (n.pat k))
+  knows_pat k h = knows_as (m.pat k) (n.pat k) (e.pat k h) h
+
+  pub knows_alternatives : (k : AlternativesKey Key) → IsTrue (known (m.alternatives k)) →
+      IsTrue (known (n.alternatives k))
+  knows_alternatives k h = knows_as (m.alternatives k) (n.alternatives k) (e.alternatives k h) h
+
   pub knows_param_env : (k : ParamEnvKey Key) → IsTrue (known (m.param_env k)) → IsTrue (known (n.param_env k))
   knows_param_env k h = knows_as (m.param_env k) (n.param_env k) (e.param_env k h) h
 
@@ -155,6 +172,10 @@ module _ {Key Id Name : Type 0} {m n : Meaning Key Id Name} (e : Extends m n) wh
       let p = and_parts (known (m.ty t)) (known (m.const_ c) && true) k in
       let q = and_parts (known (m.const_ c)) true p.1 in
       ap₂ (λ x y. node array (cons x (cons y nil))) (e.ty t p.0) (e.const_ c q.0)
+  stays_kind (Pat t p) k =
+      let h = and_parts (known (m.ty t)) (known (m.pat p) && true) k in
+      let q = and_parts (known (m.pat p)) true h.1 in
+      ap₂ (λ x y. node pattern_type (cons x (cons y nil))) (e.ty t h.0) (e.pat p q.0)
   stays_kind (Slice t) k =
       ap (λ x. node slice (cons x nil)) (e.ty t (and_parts (known (m.ty t)) true k).0)
   stays_kind (RawPtr t u) k =
@@ -170,27 +191,45 @@ module _ {Key Id Name : Type 0} {m n : Meaning Key Id Name} (e : Extends m n) wh
   stays_kind (CoroutineWitness d a) k = ap₂ (λ x y. node (coroutine_witness x) y) (e.id d.0) (e.args a k)
   stays_kind Never k = refl
   stays_kind (Tuple ts) k = ap (λ x. node tuple x) (e.tys ts k)
+  stays_kind (Alias a) k = ap₂ (λ x y. node (alias (alias_kind a.kind) x) y) (e.id (alias_id a.kind)) (e.args a.args k)
   stays_kind (TyParam p) k = ap (λ x. leaf (atom (type_param p.index x))) (e.name p.name)
+  stays_kind (TyBound d b) k = ap (λ x. leaf (bound (bound_kind type_kind x) d.0 (b.var).0)) (e.name b.name)
   stays_kind (TyPlaceholder p) k =
       ap (λ x. leaf (placeholder (bound_kind type_kind x) (p.universe).0 ((p.bound).var).0)) (e.name (p.bound).name)
   stays_kind (Infer i) k = refl
+  stays_kind (TyError x) k = refl
 
-  pub stays_const : (a : ConstKind Key Name) → IsTrue (known (const_tree m a)) → const_tree n a ≡ const_tree m a
+  pub stays_const : (a : ConstKind Key Id Name) → IsTrue (known (const_tree m a)) → const_tree n a ≡ const_tree m a
   stays_const (ConstParam p) k = ap (λ x. leaf (atom (const_param p.index x))) (e.name p.name)
+  stays_const (ConstInfer i) k = refl
+  stays_const (ConstBound d b) k = ap (λ x. leaf (bound (bound_kind const_kind x) d.0 (b.var).0)) (e.name b.name)
   stays_const (ConstPlaceholder p) k =
       ap (λ x. leaf (placeholder (bound_kind const_kind x) (p.universe).0 ((p.bound).var).0)) (e.name (p.bound).name)
+  stays_const (Unevaluated u) k = ap₂ (λ x y. node (unevaluated x) y) (e.id (u.def).0) (e.args u.args k)
   stays_const (Value t v) k =
       let p = and_parts (known (m.ty t) && true) (known (m.valtree v) && true) k in
       let q = and_parts (known (m.ty t)) true p.0 in
       let r = and_parts (known (m.valtree v)) true p.1 in
       ap₂ (λ x y. node value (cons (node value_type (cons x nil)) (cons y nil))) (e.ty t q.0) (e.valtree v r.0)
+  stays_const (ConstError x) k = refl
   stays_const (Expr x a) k = ap (λ y. node (expression x.0) y) (e.args a k)
 
   pub stays_valtree : (a : ValTreeKind Key) → IsTrue (known (valtree_tree m a)) → valtree_tree n a ≡ valtree_tree m a
   stays_valtree (Leaf b n) k = refl
   stays_valtree (Branch b) k = ap (λ x. node value_branch x) (e.branches b k)
 
+  pub stays_pattern : (a : PatternKind Key) → IsTrue (known (pattern_tree m a)) → pattern_tree n a ≡ pattern_tree m a
+  stays_pattern (Range s f) k =
+      let p = and_parts (known (m.const_ s)) (known (m.const_ f) && true) k in
+      let q = and_parts (known (m.const_ f)) true p.1 in
+      ap₂ (λ x y. node range_pattern (cons x (cons y nil))) (e.const_ s p.0) (e.const_ f q.0)
+  stays_pattern (Or a) k = ap (λ x. node or_pattern x) (e.alternatives a k)
+  stays_pattern NotNull k = refl
+
   pub stays_region : (a : RegionKind Name) → IsTrue (known (region_tree m a)) → region_tree n a ≡ region_tree m a
   stays_region ReStatic k = refl
   stays_region (ReEarlyParam p) k = ap (λ x. leaf (atom (early_region p.index x))) (e.name p.name)
+  stays_region (ReBound d b) k = ap (λ x. leaf (bound (bound_kind region_kind x) d.0 (b.var).0)) (e.name b.name)
   stays_region (ReVar v) k = refl
+  stays_region (RePlaceholder p) k =
+      ap (λ x. leaf (placeholder (bound_kind region_kind x) (p.universe).0 ((p.bound).var).0)) (e.name (p.bound).name)

@@ -3,6 +3,7 @@ use Rattle.std.specs.Prelude.{◌≡◌, ◌↔◌, Bool, IsTrue, IsOk, IfOk, Re
 use Rattle.relation_terms.specs.Trees.{Tree, node, nil, known, list_tree, IsTerm, AreTerms}
 use Rattle.relation_terms.specs.Heads.{Sort, environment}
 use Rattle.relation_terms.specs.Meaning.{Meaning, kind_tree, region_tree, const_tree, valtree_tree, arg_tree}
+use Rattle.relation_terms.specs.Meaning.{pattern_tree}
 use Rattle.relation_terms.specs.declared.terms.keys.TyKey.{TyKey}
 use Rattle.relation_terms.specs.declared.terms.keys.RegionKey.{RegionKey}
 use Rattle.relation_terms.specs.declared.terms.keys.ConstKey.{ConstKey}
@@ -10,7 +11,10 @@ use Rattle.relation_terms.specs.declared.terms.keys.ArgsKey.{ArgsKey}
 use Rattle.relation_terms.specs.declared.terms.keys.TysKey.{TysKey}
 use Rattle.relation_terms.specs.declared.terms.keys.ValTreeKey.{ValTreeKey}
 use Rattle.relation_terms.specs.declared.terms.keys.BranchesKey.{BranchesKey}
+use Rattle.relation_terms.specs.declared.terms.keys.PatKey.{PatKey}
+use Rattle.relation_terms.specs.declared.terms.keys.AlternativesKey.{AlternativesKey}
 use Rattle.relation_terms.specs.declared.terms.keys.ParamEnvKey.{ParamEnvKey}
+use Rattle.relation_terms.specs.declared.terms.pattern_kind.PatternKind.{PatternKind}
 use Rattle.relation_terms.specs.declared.terms.ty_kind.TyKind.{TyKind}
 use Rattle.relation_terms.specs.declared.terms.region_kind.RegionKind.{RegionKind}
 use Rattle.relation_terms.specs.declared.terms.const_kind.ConstKind.{ConstKind}
@@ -45,24 +49,27 @@ abbrev pub IsNotMadeAgain : {Key Id Name K : Type 0} → Meaning Key Id Name →
 IsNotMadeAgain {K = K} before after tree t = (k : K) → tree k ≡ t → after ≡ before
 
 module _ {Key Id Name E : Type 0} (before after : Meaning Key Id Name) where
-  -- The same of types, regions, constants and value trees, by their forms.
+  -- The same of types, regions, constants, value trees and patterns, by their forms.
   abbrev pub RemakesTy : TyKind Key Id Name → Result (TyKey Key) E → Type 0
   RemakesTy form result = IsMadeAgain before after before.ty (kind_tree before form) result
 
   abbrev pub RemakesRegion : RegionKind Name → Result (RegionKey Key) E → Type 0
   RemakesRegion form result = IsMadeAgain before after before.region (region_tree before form) result
 
-  abbrev pub RemakesConst : ConstKind Key Name → Result (ConstKey Key) E → Type 0
+  abbrev pub RemakesConst : ConstKind Key Id Name → Result (ConstKey Key) E → Type 0
   RemakesConst form result = IsMadeAgain before after before.const_ (const_tree before form) result
 
   abbrev pub RemakesValTree : ValTreeKind Key → Result (ValTreeKey Key) E → Type 0
   RemakesValTree form result = IsMadeAgain before after before.valtree (valtree_tree before form) result
 
+  abbrev pub RemakesPat : PatternKind Key → Result (PatKey Key) E → Type 0
+  RemakesPat form result = IsMadeAgain before after before.pat (pattern_tree before form) result
+
   -- The same of the environment without clauses.
   abbrev pub RemakesEmptyEnv : Result (ParamEnvKey Key) E → Type 0
   RemakesEmptyEnv result = IsMadeAgain before after before.param_env (node environment nil) result
 
-  -- What is made of elements is their list: of types, arguments and branches.
+  -- What is made of elements is their list: of types, arguments, branches and alternatives.
   abbrev pub MakesTys : List (TyKey Key) → Result (TysKey Key) E → Type 0
   MakesTys list result = IfOk result (λ k. after.tys k ≡ list_tree before.ty list)
 
@@ -72,8 +79,11 @@ module _ {Key Id Name E : Type 0} (before after : Meaning Key Id Name) where
   abbrev pub MakesBranches : List (ConstKey Key) → Result (BranchesKey Key) E → Type 0
   MakesBranches list result = IfOk result (λ k. after.branches k ≡ list_tree before.const_ list)
 
+  abbrev pub MakesAlternatives : List (PatKey Key) → Result (AlternativesKey Key) E → Type 0
+  MakesAlternatives list result = IfOk result (λ k. after.alternatives k ≡ list_tree before.pat list)
+
 module _ {Key Id Name : Type 0} (before after : Meaning Key Id Name) where
-  -- Where it is there already nothing grows: lists of types, arguments and branches, by their elements.
+  -- Where it is there already nothing grows: lists of types, arguments, branches, alternatives, by their elements.
   abbrev pub KeepsTys : List (TyKey Key) → Type 0
   KeepsTys list = IsNotMadeAgain before after before.tys (list_tree before.ty list)
 
@@ -82,3 +92,6 @@ module _ {Key Id Name : Type 0} (before after : Meaning Key Id Name) where
 
   abbrev pub KeepsBranches : List (ConstKey Key) → Type 0
   KeepsBranches list = IsNotMadeAgain before after before.branches (list_tree before.const_ list)
+
+  abbrev pub KeepsAlternatives : List (PatKey Key) → Type 0
+  KeepsAlternatives list = IsNotMadeAgain before after before.alternatives (list_tree before.pat list)

@@ -1,11 +1,15 @@
 -- What the keys of an interner and the forms over them mean.
 use Rattle.std.specs.Prelude.{ℕ, ◌≡◌, IsTrue, List, Option, IsSome}
-use Rattle.relation_terms.specs.Heads.{BoundKind, bound_kind, type_kind, const_kind, type_var, region_var}
+use Rattle.relation_terms.specs.Heads.{BoundKind, bound_kind, type_kind, const_kind, region_kind, type_var, int_var}
+use Rattle.relation_terms.specs.Heads.{float_var, const_var, region_var, AliasKind}
+use Rattle.relation_terms.specs.Heads.{fresh_type, fresh_int, fresh_float, type_error, const_error, fresh_const}
+use Rattle.relation_terms.specs.Heads.{projection_alias, inherent_alias, opaque_alias, free_alias, alias, unevaluated}
+use Rattle.relation_terms.specs.Heads.{pattern_type, range_pattern, or_pattern, not_null_pattern}
 use Rattle.relation_terms.specs.Heads.{bool_type, char_type, str_type, never_type, int_type, uint_type, float_type}
 use Rattle.relation_terms.specs.Heads.{foreign, type_param, static_region, early_region, const_param, value_leaf}
 use Rattle.relation_terms.specs.Heads.{adt, fn_def, closure, coroutine_closure, coroutine, coroutine_witness}
 use Rattle.relation_terms.specs.Heads.{array, slice, tuple, raw_ptr, ref, expression, value, value_type, value_branch}
-use Rattle.relation_terms.specs.Heads.{variable, placeholder, atom}
+use Rattle.relation_terms.specs.Heads.{variable, bound, placeholder, atom}
 use Rattle.relation_terms.specs.Trees.{Tree, leaf, node, nil, cons, known}
 use Rattle.relation_terms.specs.declared.terms.enums.Variance.{Variance}
 use Rattle.relation_terms.specs.declared.terms.keys.TyKey.{TyKey}
@@ -23,6 +27,9 @@ use Rattle.relation_terms.specs.declared.terms.keys.PredicateKey.{PredicateKey}
 use Rattle.relation_terms.specs.declared.terms.keys.ClauseKey.{ClauseKey}
 use Rattle.relation_terms.specs.declared.terms.keys.ParamEnvKey.{ParamEnvKey}
 use Rattle.relation_terms.specs.declared.terms.placeholder.Placeholder.{Placeholder}
+use Rattle.relation_terms.specs.declared.terms.numbers.DebruijnIndex.{DebruijnIndex}
+use Rattle.relation_terms.specs.declared.terms.alias.AliasTyKind.{AliasTyKind}
+use Rattle.relation_terms.specs.declared.terms.alias.AliasTyKind.TheVariants.{Projection, Inherent, Opaque, Free}
 use Rattle.relation_terms.specs.declared.terms.placeholder.BoundTy.{BoundTy}
 use Rattle.relation_terms.specs.declared.terms.placeholder.BoundConst.{BoundConst}
 use Rattle.relation_terms.specs.declared.terms.ty_kind.TyKind.{TyKind}
@@ -30,18 +37,27 @@ use Rattle.relation_terms.specs.declared.terms.ty_kind.TyKind.TheVariants.{Bool,
 use Rattle.relation_terms.specs.declared.terms.ty_kind.TyKind.TheVariants.{Str, Array, Slice, RawPtr, Ref, FnDef}
 use Rattle.relation_terms.specs.declared.terms.ty_kind.TyKind.TheVariants.{Closure, CoroutineClosure, Coroutine}
 use Rattle.relation_terms.specs.declared.terms.ty_kind.TyKind.TheVariants.{CoroutineWitness, Never, Tuple, Infer}
-use Rattle.relation_terms.specs.declared.terms.ty_kind.TyKind.TheVariants.{Param as TyParam}
+use Rattle.relation_terms.specs.declared.terms.ty_kind.TyKind.TheVariants.{Param as TyParam, Bound as TyBound}
+use Rattle.relation_terms.specs.declared.terms.ty_kind.TyKind.TheVariants.{Error as TyError, Alias, Pat}
 use Rattle.relation_terms.specs.declared.terms.ty_kind.TyKind.TheVariants.{Placeholder as TyPlaceholder}
 use Rattle.relation_terms.specs.declared.terms.ty_kind.InferTy.{InferTy}
-use Rattle.relation_terms.specs.declared.terms.ty_kind.InferTy.TheVariants.{TyVar}
+use Rattle.relation_terms.specs.declared.terms.ty_kind.InferTy.TheVariants.{TyVar, IntVar, FloatVar}
+use Rattle.relation_terms.specs.declared.terms.ty_kind.InferTy.TheVariants.{FreshTy, FreshIntTy, FreshFloatTy}
 use Rattle.relation_terms.specs.declared.terms.const_kind.ConstKind.{ConstKind}
 use Rattle.relation_terms.specs.declared.terms.const_kind.ConstKind.TheVariants.{Param as ConstParam}
 use Rattle.relation_terms.specs.declared.terms.const_kind.ConstKind.TheVariants.{Placeholder as ConstPlaceholder}
-use Rattle.relation_terms.specs.declared.terms.const_kind.ConstKind.TheVariants.{Value, Expr}
+use Rattle.relation_terms.specs.declared.terms.const_kind.ConstKind.TheVariants.{Infer as ConstInfer, Bound as ConstBound}
+use Rattle.relation_terms.specs.declared.terms.const_kind.ConstKind.TheVariants.{Unevaluated, Value, Error as ConstError, Expr}
+use Rattle.relation_terms.specs.declared.terms.const_kind.InferConst.{InferConst}
+use Rattle.relation_terms.specs.declared.terms.const_kind.InferConst.TheVariants.{Var, Fresh}
 use Rattle.relation_terms.specs.declared.terms.const_kind.ValTreeKind.{ValTreeKind}
 use Rattle.relation_terms.specs.declared.terms.const_kind.ValTreeKind.TheVariants.{Leaf, Branch}
 use Rattle.relation_terms.specs.declared.terms.region_kind.RegionKind.{RegionKind}
-use Rattle.relation_terms.specs.declared.terms.region_kind.RegionKind.TheVariants.{ReStatic, ReEarlyParam, ReVar}
+use Rattle.relation_terms.specs.declared.terms.region_kind.RegionKind.TheVariants.{ReStatic, ReEarlyParam, ReBound}
+use Rattle.relation_terms.specs.declared.terms.region_kind.RegionKind.TheVariants.{ReVar, RePlaceholder}
+use Rattle.relation_terms.specs.declared.terms.region_kind.BoundRegion.{BoundRegion}
+use Rattle.relation_terms.specs.declared.terms.pattern_kind.PatternKind.{PatternKind}
+use Rattle.relation_terms.specs.declared.terms.pattern_kind.PatternKind.TheVariants.{Range, Or, NotNull}
 use Rattle.relation_terms.specs.declared.terms.generic_arg.GenericArgKind.{GenericArgKind}
 use Rattle.relation_terms.specs.declared.terms.generic_arg.GenericArgKind.TheVariants.{Lifetime, Ty, Const}
 use Rattle.relation_terms.specs.declared.terms.generic_arg.TermKind.{TermKind}
@@ -95,9 +111,32 @@ pub record Extends {Key Id Name : Type 0} (m n : Meaning Key Id Name) : Type 0 w
   pub variances : n.variances ≡ m.variances
   pub alias_variances : n.alias_variances ≡ m.alias_variances
 
+-- Which kind of alias a type is, and its id.
+abbrev pub alias_kind : {Id : Type 0} → AliasTyKind Id → AliasKind
+alias_kind (Projection d) = projection_alias
+alias_kind (Inherent d) = inherent_alias
+alias_kind (Opaque d) = opaque_alias
+alias_kind (Free d) = free_alias
+
+abbrev pub alias_id : {Id : Type 0} → AliasTyKind Id → Id
+alias_id (Projection d) = d.0
+alias_id (Inherent d) = d.0
+alias_id (Opaque d) = d.0
+alias_id (Free d) = d.0
+
 -- The tree of a variable.
 abbrev pub infer_tree : InferTy → Tree
 infer_tree (TyVar v) = leaf (variable type_var v.0)
+infer_tree (IntVar v) = leaf (variable int_var v.0)
+infer_tree (FloatVar v) = leaf (variable float_var v.0)
+infer_tree (FreshTy n) = leaf (atom (fresh_type n))
+infer_tree (FreshIntTy n) = leaf (atom (fresh_int n))
+infer_tree (FreshFloatTy n) = leaf (atom (fresh_float n))
+
+-- The tree of a constant's variable.
+abbrev pub infer_const_tree : InferConst → Tree
+infer_const_tree (Var v) = leaf (variable const_var v.0)
+infer_const_tree (Fresh n) = leaf (atom (fresh_const n))
 
 module _ {Key Id Name : Type 0} (m : Meaning Key Id Name) where
   -- The tree of a type placeholder.
@@ -110,6 +149,21 @@ module _ {Key Id Name : Type 0} (m : Meaning Key Id Name) where
   const_placeholder_tree p =
       leaf (placeholder (bound_kind const_kind (m.name (p.bound).name)) (p.universe).0 ((p.bound).var).0)
 
+  -- The tree of a region placeholder.
+  abbrev pub region_placeholder_tree : Placeholder (BoundRegion Name) → Tree
+  region_placeholder_tree p =
+      leaf (placeholder (bound_kind region_kind (m.name (p.bound).name)) (p.universe).0 ((p.bound).var).0)
+
+  -- The trees of bound variables: a type, a constant, a region.
+  abbrev pub bound_ty_tree : DebruijnIndex → BoundTy Name → Tree
+  bound_ty_tree d b = leaf (bound (bound_kind type_kind (m.name b.name)) d.0 (b.var).0)
+
+  abbrev pub bound_const_tree : DebruijnIndex → BoundConst Name → Tree
+  bound_const_tree d b = leaf (bound (bound_kind const_kind (m.name b.name)) d.0 (b.var).0)
+
+  abbrev pub bound_region_tree : DebruijnIndex → BoundRegion Name → Tree
+  bound_region_tree d b = leaf (bound (bound_kind region_kind (m.name b.name)) d.0 (b.var).0)
+
   -- The tree of a type's outermost form.
   abbrev pub kind_tree : TyKind Key Id Name → Tree
   kind_tree Bool = leaf (atom bool_type)
@@ -121,6 +175,7 @@ module _ {Key Id Name : Type 0} (m : Meaning Key Id Name) where
   kind_tree (Foreign d) = leaf (atom (foreign (m.id d.0)))
   kind_tree Str = leaf (atom str_type)
   kind_tree (Array t c) = node array (cons (m.ty t) (cons (m.const_ c) nil))
+  kind_tree (Pat t p) = node pattern_type (cons (m.ty t) (cons (m.pat p) nil))
   kind_tree (Slice t) = node slice (cons (m.ty t) nil)
   kind_tree (RawPtr t u) = node (raw_ptr u) (cons (m.ty t) nil)
   kind_tree (Ref r t u) = node (ref u) (cons (m.region r) (cons (m.ty t) nil))
@@ -131,15 +186,22 @@ module _ {Key Id Name : Type 0} (m : Meaning Key Id Name) where
   kind_tree (CoroutineWitness d a) = node (coroutine_witness (m.id d.0)) (m.args a)
   kind_tree Never = leaf (atom never_type)
   kind_tree (Tuple ts) = node tuple (m.tys ts)
+  kind_tree (Alias a) = node (alias (alias_kind a.kind) (m.id (alias_id a.kind))) (m.args a.args)
   kind_tree (TyParam p) = leaf (atom (type_param p.index (m.name p.name)))
+  kind_tree (TyBound d b) = bound_ty_tree d b
   kind_tree (TyPlaceholder p) = ty_placeholder_tree p
   kind_tree (Infer i) = infer_tree i
+  kind_tree (TyError e) = leaf (atom type_error)
 
   -- The tree of a constant's outermost form.
-  abbrev pub const_tree : ConstKind Key Name → Tree
+  abbrev pub const_tree : ConstKind Key Id Name → Tree
   const_tree (ConstParam p) = leaf (atom (const_param p.index (m.name p.name)))
+  const_tree (ConstInfer i) = infer_const_tree i
+  const_tree (ConstBound d b) = bound_const_tree d b
   const_tree (ConstPlaceholder p) = const_placeholder_tree p
+  const_tree (Unevaluated u) = node (unevaluated (m.id (u.def).0)) (m.args u.args)
   const_tree (Value t v) = node value (cons (node value_type (cons (m.ty t) nil)) (cons (m.valtree v) nil))
+  const_tree (ConstError e) = leaf (atom const_error)
   const_tree (Expr k a) = node (expression k.0) (m.args a)
 
   -- The tree of a value tree's outermost form.
@@ -147,11 +209,19 @@ module _ {Key Id Name : Type 0} (m : Meaning Key Id Name) where
   valtree_tree (Leaf bits size) = leaf (atom (value_leaf bits size))
   valtree_tree (Branch b) = node value_branch (m.branches b)
 
+  -- The tree of a pattern's outermost form.
+  abbrev pub pattern_tree : PatternKind Key → Tree
+  pattern_tree (Range s e) = node range_pattern (cons (m.const_ s) (cons (m.const_ e) nil))
+  pattern_tree (Or a) = node or_pattern (m.alternatives a)
+  pattern_tree NotNull = leaf (atom not_null_pattern)
+
   -- The tree of a region's form.
   abbrev pub region_tree : RegionKind Name → Tree
   region_tree ReStatic = leaf (atom static_region)
   region_tree (ReEarlyParam p) = leaf (atom (early_region p.index (m.name p.name)))
+  region_tree (ReBound d b) = bound_region_tree d b
   region_tree (ReVar v) = leaf (variable region_var v.0)
+  region_tree (RePlaceholder p) = region_placeholder_tree p
 
   -- The tree of a generic argument.
   abbrev pub arg_tree : GenericArgKind Key → Tree

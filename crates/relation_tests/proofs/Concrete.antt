@@ -13,6 +13,8 @@ use Rattle.relation_terms.specs.Meaning.{Meaning, Extends}
 use Rattle.type_relations.specs.Relation.{IsValueAtom, StaysWithin}
 use Rattle.type_relations.specs.Stores.{Store, IsTermIn, InContext, IsMadeLeaf, IsNamable}
 use Rattle.type_relations.specs.Taken.{IsTaken, IsTakenLeaf}
+use Rattle.type_relations.specs.Covered.{IsCovered, IsCoveredAtom}
+use Rattle.relation_terms.specs.Heads.{fresh_type, fresh_int, fresh_float, fresh_const}
 use Rattle.type_relations.specs.Lawful.{Asked}
 use Rattle.relation_tests.specs.Plain.{plain_store, plain_state, plain_manner}
 use Rattle.relation_reference.specs.declared.context.inner.InferCtxtInner.{InferCtxtInner}
@@ -21,15 +23,34 @@ use Rattle.relation_reference.specs.Solving.{solving, solver_manner}
 use Rattle.relation_reference.specs.Tables.{store_of}
 use Rattle.relation_reference.proofs.Grows.{known_of_term}
 
+-- A covered atom is no stand-in.
+value_atom : (x : Atom) → IsCoveredAtom x → IsValueAtom x
+value_atom (fresh_type n) h = absurd h
+value_atom (fresh_int n) h = absurd h
+value_atom (fresh_float n) h = absurd h
+value_atom (fresh_const n) h = absurd h
+value_atom x h = tt
+
+concrete_covered : (t : Tree) → IsConcrete t → IsCovered t
+concrete_covered (leaf (variable k n)) h = absurd h
+concrete_covered (leaf (bound k d i)) h = absurd h
+concrete_covered (leaf (placeholder k u n)) h = absurd h
+concrete_covered (leaf (atom x)) h = h
+concrete_covered (leaf unknown) h = absurd h
+concrete_covered (node a ts) h = (h.0, concrete_covered ts h.1)
+concrete_covered (bind ks t) h = absurd h
+concrete_covered nil h = tt
+concrete_covered (cons t ts) h = (concrete_covered t h.0, concrete_covered ts h.1)
+
 -- What holds of each atom holds of each leaf.
 concrete_leaves : (P : Leaf → Type 0) → ((x : Atom) → IsValueAtom x → P (atom x)) → (t : Tree) → IsConcrete t →
     Leaves P t
 concrete_leaves P f (leaf (variable k n)) h = absurd h
 concrete_leaves P f (leaf (bound k d i)) h = absurd h
 concrete_leaves P f (leaf (placeholder k u n)) h = absurd h
-concrete_leaves P f (leaf (atom x)) h = f x h
+concrete_leaves P f (leaf (atom x)) h = f x (value_atom x h)
 concrete_leaves P f (leaf unknown) h = absurd h
-concrete_leaves P f (node a ts) h = concrete_leaves P f ts h
+concrete_leaves P f (node a ts) h = concrete_leaves P f ts h.1
 concrete_leaves P f (bind ks t) h = absurd h
 concrete_leaves P f nil h = tt
 concrete_leaves P f (cons t ts) h = (concrete_leaves P f t h.0, concrete_leaves P f ts h.1)
@@ -40,7 +61,7 @@ concrete_within (leaf (bound k d i)) h = absurd h
 concrete_within (leaf (placeholder k u n)) h = absurd h
 concrete_within (leaf (atom x)) h = tt
 concrete_within (leaf unknown) h = absurd h
-concrete_within (node a ts) h = concrete_within ts h
+concrete_within (node a ts) h = concrete_within ts h.1
 concrete_within (bind ks t) h = absurd h
 concrete_within nil h = tt
 concrete_within (cons t ts) h = (concrete_within t h.0, concrete_within ts h.1)
@@ -64,10 +85,10 @@ concrete_known t h = known_of_term _ t (concrete_in (record {
 }) t h)
 
 pub concrete_taken : (v : Variance) (t : Tree) → IsConcrete t → IsTaken v t
-concrete_taken Covariant t h = concrete_leaves (IsTakenLeaf Covariant) (λ x h. tt) t h
-concrete_taken Contravariant t h = concrete_leaves (IsTakenLeaf Contravariant) (λ x h. tt) t h
-concrete_taken Invariant t h = concrete_leaves (IsTakenLeaf Invariant) (λ x h. tt) t h
-concrete_taken Bivariant t h = concrete_leaves (IsTakenLeaf Bivariant) (λ x h. tt) t h
+concrete_taken Covariant t h = (concrete_leaves (IsTakenLeaf Covariant) (λ x h. tt) t h, concrete_covered t h)
+concrete_taken Contravariant t h = (concrete_leaves (IsTakenLeaf Contravariant) (λ x h. tt) t h, concrete_covered t h)
+concrete_taken Invariant t h = (concrete_leaves (IsTakenLeaf Invariant) (λ x h. tt) t h, concrete_covered t h)
+concrete_taken Bivariant t h = (concrete_leaves (IsTakenLeaf Bivariant) (λ x h. tt) t h, concrete_covered t h)
 
 -- Such terms may be asked about.
 pub concrete_asked : {Key Id Name : Type 0} (m : Meaning Key Id Name) (v : Variance) (a b : Tree) → IsConcrete a →
@@ -77,8 +98,8 @@ concrete_asked m v a b h k = record {
   right_known = concrete_known b k;
   left_in = concrete_in (plain_store m []) a h;
   right_in = concrete_in (plain_store m []) b k;
-  left_taken = concrete_leaves (λ l. Unit {0}) (λ x h. tt) a h;
-  right_taken = concrete_leaves (λ l. Unit {0}) (λ x h. tt) b k;
+  left_taken = (concrete_leaves (λ l. Unit {0}) (λ x h. tt) a h, concrete_covered a h);
+  right_taken = (concrete_leaves (λ l. Unit {0}) (λ x h. tt) b k, concrete_covered b k);
 }
 
 -- Also in a context.

@@ -29,6 +29,7 @@ const TEXTS: Texts<'static, ItemId, SymbolId> = Texts {
     items: &[ItemText {
         id: ItemId(0),
         text: "Item",
+        of: None,
     }],
 };
 

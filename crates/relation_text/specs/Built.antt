@@ -38,6 +38,6 @@ module _ (Key Id : Type 0) {Name : Type 0} (names : List Name) (x : Term) where
   IsRegionOf form = (m : Meaning Key Id Name) (items parts : List ℕ) (ts : List Tree) →
       region_tree m form ≡ term_tree items (map m.name names) parts ts x
 
-  abbrev pub IsConstOf : ConstKind Key Name → Type 0
+  abbrev pub IsConstOf : ConstKind Key Id Name → Type 0
   IsConstOf form = (m : Meaning Key Id Name) → IsTrue (known (const_tree m form)) ×
       ((items parts : List ℕ) (ts : List Tree) → const_tree m form ≡ term_tree items (map m.name names) parts ts x)

@@ -5,7 +5,7 @@ use Rattle.relation_terms.specs.Heads.{Sort, no_sort}
 use Rattle.relation_terms.specs.Trees.{Tree, leaf, node, bind, nil, cons, count, nth, IsList}
 use Rattle.relation_terms.specs.Parts.{parts_of, tree_sort, part_sort}
 use Rattle.relation_terms.specs.declared.terms.part_kind.Part.{Part}
-use Rattle.relation_terms.specs.declared.terms.part_kind.Part.TheVariants.{Region, Ty, Const, ValTree, ValueType}
+use Rattle.relation_terms.specs.declared.terms.part_kind.Part.TheVariants.{Region, Ty, Const, ValTree, Pat, ValueType}
 use Rattle.relation_tools.specs.declared.visit.Visit.{Visit}
 use Rattle.relation_tools.specs.declared.visit.Visit.TheVariants.{Enter, Skip, Stop}
 use Rattle.relation_tools.specs.Visits.{visited_sort, is_visited, Asks, Flow, Walks, entered, skipped, stopped}
@@ -25,6 +25,7 @@ has_sort (Region r) e = cc
 has_sort (Ty t) e = cc
 has_sort (Const c) e = cc
 has_sort (ValTree v) e = cc
+has_sort (Pat q) e = cc
 has_sort (ValueType t) e = cc
 
 -- What is left of a list from a place on.

@@ -3,9 +3,12 @@ use Rattle.std.specs.Prelude.{◌≡◌, ℕ, suc, IsTrue, Bool, true, false, Op
 use Rattle.relation_terms.specs.Heads.{Sort, region_sort, type_sort, const_sort, leaf_sort, head_sort}
 use Rattle.relation_terms.specs.Trees.{Tree, leaf, node, bind, nil, cons, known, list_tree}
 use Rattle.relation_terms.specs.Meaning.{Meaning, Extends}
-use Rattle.relation_terms.specs.Parts.{part_sort, Fit}
+use Rattle.relation_terms.specs.Parts.{part_sort, part_key, part_tree, Fit}
 use Rattle.relation_terms.specs.declared.terms.part_kind.Part.{Part}
+use Rattle.relation_terms.specs.declared.terms.part_kind.Part.TheVariants.{Region, Ty, Const, ValTree, Pat, ValueType}
+use Rattle.std.specs.HashMap.{HashMap, get}
 use Rattle.relation_tools.specs.declared.fold.Fold.{Fold}
+use Rattle.relation_tools.specs.declared.fold.memory.Place.{Place}
 use Rattle.relation_tools.specs.declared.fold.Fold.TheVariants.{Descend, Replace}
 
 -- A folder is asked at types, regions and constants.
@@ -68,3 +71,35 @@ members_tree tree t (Some list) = list_tree tree list
 abbrev pub FitMembers : {Key : Type 0} → Tree → Option (List (Part Key)) → Type 0
 FitMembers t None = Unit {0}
 FitMembers t (Some list) = Fit list t
+
+-- The sort of a part, as a number.
+abbrev pub part_rank : {Key : Type 0} → Part Key → ℕ
+part_rank (Region r) = 0
+part_rank (Ty t) = 1
+part_rank (Const c) = 2
+part_rank (ValTree v) = 3
+part_rank (Pat p) = 4
+part_rank (ValueType t) = 5
+
+-- A part at a depth, as what is made of it is kept.
+abbrev pub place_of : {Key : Type 0} → Part Key → ℕ → Place Key
+place_of p depth = record { sort = part_rank p; key = part_key p; depth = depth }
+
+module _ {Key Id Name : Type 0} (m : Meaning Key Id Name) (puts : ℕ → Tree → Option Tree) where
+  -- What a fold makes of a known part at a depth.
+  pub record IsMade (p : Part Key) (depth : ℕ) (by : Part Key) : Type 0 where
+    pub there : IsTrue (known (part_tree m p))
+    pub sure : IsTrue (known (part_tree m by))
+    pub made : part_tree m by ≡ folded puts depth (part_tree m p)
+    pub sort : part_sort by ≡ part_sort p
+
+  -- What is kept at a place was made of a part at an equal one.
+  pub record IsKept (eq : Place Key → Place Key → Bool) (q : Place Key) (by : Part Key) : Type 0 where
+    pub part : Part Key
+    pub depth : ℕ
+    pub same : IsTrue (eq (place_of part depth) q)
+    pub is : IsMade part depth by
+
+  -- What is found was made so.
+  abbrev pub Remembers : {S : Type 0} → (Place Key → Place Key → Bool) → HashMap (Place Key) (Part Key) S → Type 0
+  Remembers eq memory = (q : Place Key) (by : Part Key) → get eq memory q ≡ Some by → IsKept eq q by

@@ -7,8 +7,8 @@ ghost use Rattle.relation_tools.specs.Faults.{pair_tree, error_tree, stays_pair,
 
 use crate::error::{ExpectedFound, TypeError};
 use relation_terms::terms::{
-    ArgsKey, BranchesKey, ConstKey, GenericArgKind, Interner, RegionKey, TermKind, TyKey, TysKey,
-    ValTreeKey,
+    AlternativesKey, ArgsKey, BranchesKey, ConstKey, GenericArgKind, Interner, PatKey, RegionKey,
+    TermKind, TyKey, TysKey, ValTreeKey,
 };
 
 /// What stands for a tree in an interner: what can be visited, folded and related.
@@ -63,6 +63,18 @@ impl<I: Interner> HasTree<I> for BranchesKey<I::Key> {
     ghost tree = { λ m k. m.branches k };
 
     ghost stays = { λ m n e k h. e.branches k h };
+}
+
+impl<I: Interner> HasTree<I> for PatKey<I::Key> {
+    ghost tree = { λ m k. m.pat k };
+
+    ghost stays = { λ m n e k h. e.pat k h };
+}
+
+impl<I: Interner> HasTree<I> for AlternativesKey<I::Key> {
+    ghost tree = { λ m k. m.alternatives k };
+
+    ghost stays = { λ m n e k h. e.alternatives k h };
 }
 
 impl<I: Interner> HasTree<I> for GenericArgKind<I::Key> {

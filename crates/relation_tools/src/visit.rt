@@ -16,8 +16,9 @@ mod walk;
 use crate::tree::HasTree;
 pub use flags::{has_escaping_bound_vars, has_non_region_infer, is_known_rigid};
 pub use keyed::{
-    super_visit_const, super_visit_ty, visit_arg_with, visit_args_with, visit_branches_with,
-    visit_const_with, visit_region_with, visit_ty_with, visit_tys_with, visit_valtree_with,
+    super_visit_const, super_visit_ty, visit_alternatives_with, visit_arg_with, visit_args_with,
+    visit_branches_with, visit_const_with, visit_pat_with, visit_region_with, visit_ty_with,
+    visit_tys_with, visit_valtree_with,
 };
 use relation_terms::terms::{Const, Interner, Region, Ty};
 use std::ops::ControlFlow;
@@ -42,17 +43,17 @@ pub trait TypeVisitor<I: Interner> {
     ghost visits: { I → Self → ℕ → Tree → Self → Visit → Type 0 };
 
     /// The visitor is asked about a type under `depth` binders, which the interner knows.
-    fn visit_ty(&mut self, cx: &I, ty: &Ty<I>, depth: usize) -> Visit
+    fn visit_ty(&mut self, cx: &I, ty: &Ty<I>, depth: u64) -> Visit
         requires { IsTrue (known ((I.meaning cx.now).ty ty.now)) }
         ensures { visits cx.now self.old depth ((I.meaning cx.now).ty ty.now) self.new result };
 
     /// The visitor is asked about a region under `depth` binders, which the interner knows.
-    fn visit_region(&mut self, cx: &I, region: &Region<I>, depth: usize) -> Visit
+    fn visit_region(&mut self, cx: &I, region: &Region<I>, depth: u64) -> Visit
         requires { IsTrue (known ((I.meaning cx.now).region region.now)) }
         ensures { visits cx.now self.old depth ((I.meaning cx.now).region region.now) self.new result };
 
     /// The visitor is asked about a constant under `depth` binders, which the interner knows.
-    fn visit_const(&mut self, cx: &I, constant: &Const<I>, depth: usize) -> Visit
+    fn visit_const(&mut self, cx: &I, constant: &Const<I>, depth: u64) -> Visit
         requires { IsTrue (known ((I.meaning cx.now).const_ constant.now)) }
         ensures { visits cx.now self.old depth ((I.meaning cx.now).const_ constant.now) self.new result };
 }

@@ -3,10 +3,11 @@ use Rattle.std.proofs.Common.{◌≡◌, ◌≢◌, ◌⊎◌, ℕ, zero, suc, �
 use Rattle.std.specs.Result.{IsErr, IsErrAnd}
 use Rattle.std.proofs.lemmas.Bool.{false≢true}
 use Rattle.relation_terms.specs.Heads.{Head, Sort, Part, Shape, one, row, head_parts, Admits, type_sort, const_sort, value_sort, VarKind, var_sort, type_var, int_var, float_var, const_var, region_var}
+use Rattle.relation_terms.specs.Heads.{adt, fn_def, closure, coroutine_closure, coroutine, coroutine_witness}
 use Rattle.relation_terms.specs.Heads.{array, slice, tuple, raw_ptr, ref, unevaluated, expression, value, value_branch, Atom, type_param, const_param}
 use Rattle.relation_terms.specs.Heads.{Leaf, atom, variable, bound, placeholder, unknown}
 use Rattle.relation_terms.specs.Trees.{Tree, leaf, node, bind, nil, cons, Assign, apply, IsTerm, Fits, IsList, count, known}
-use Rattle.relation_terms.specs.Meaning.{Meaning, kind_tree, const_tree}
+use Rattle.relation_terms.specs.Meaning.{Meaning, kind_tree, const_tree, infer_tree}
 use Rattle.relation_terms.specs.declared.terms.enums.Mutability.{Mutability}
 use Rattle.relation_terms.specs.declared.terms.keys.TyKey.{TyKey}
 use Rattle.relation_terms.specs.declared.terms.keys.TysKey.{TysKey}
@@ -15,22 +16,26 @@ use Rattle.relation_terms.specs.declared.terms.keys.RegionKey.{RegionKey}
 use Rattle.relation_terms.specs.declared.terms.ty_kind.TyKind.{TyKind}
 use Rattle.relation_terms.specs.declared.terms.ty_kind.TyKind.TheVariants.{Slice, Array, Tuple, RawPtr, Ref, Infer}
 use Rattle.relation_terms.specs.declared.terms.ty_kind.TyKind.TheVariants.{Adt, FnDef, Closure, CoroutineClosure, Coroutine, CoroutineWitness}
-use Rattle.relation_terms.specs.declared.terms.ty_kind.TyKind.TheVariants.{Param as TyParam}
+use Rattle.relation_terms.specs.declared.terms.ty_kind.TyKind.TheVariants.{Param as TyParam, Alias, Pat}
 use Rattle.relation_terms.specs.declared.terms.ty_kind.ParamTy.{ParamTy}
-use Rattle.relation_terms.specs.declared.terms.ty_kind.InferTy.TheVariants.{TyVar}
+use Rattle.relation_terms.specs.declared.terms.ty_kind.InferTy.TheVariants.{TyVar, IntVar, FloatVar, FreshTy, FreshIntTy, FreshFloatTy}
+use Rattle.relation_terms.specs.declared.terms.ty_kind.InferTy.{InferTy}
 use Rattle.relation_terms.specs.declared.terms.const_kind.ConstKind.{ConstKind}
+use Rattle.relation_terms.specs.declared.terms.const_kind.InferConst.TheVariants.{Var, Fresh}
 use Rattle.relation_terms.specs.declared.terms.const_kind.ParamConst.{ParamConst}
 use Rattle.relation_terms.specs.declared.terms.const_kind.ExprKind.{ExprKind}
 use Rattle.relation_terms.specs.declared.terms.keys.ValTreeKey.{ValTreeKey}
 use Rattle.relation_terms.specs.declared.terms.keys.ArgsKey.{ArgsKey}
 use Rattle.relation_terms.specs.declared.terms.const_kind.ConstKind.TheVariants.{Param as ConstParam}
 use Rattle.relation_terms.specs.declared.terms.const_kind.ConstKind.TheVariants.{Placeholder as ConstPlaceholder, Value, Expr}
+use Rattle.relation_terms.specs.declared.terms.const_kind.ConstKind.TheVariants.{Infer as ConstInfer, Bound as ConstBound, Unevaluated, Error as ConstError}
 use Rattle.relation_tools.specs.declared.error.TypeError.{TypeError}
 use Rattle.relation_tools.specs.declared.error.TypeError.TheVariants.{TupleSize, Sorts, ConstMismatch}
 use Rattle.relation_tools.specs.declared.error.RelateFault.{RelateFault}
 use Rattle.relation_tools.specs.declared.error.RelateFault.TheVariants.{Unrelated}
 use Rattle.relation_tools.specs.Faults.{KnowsError, KnowsFault}
 use Rattle.type_relations.specs.Relation.{plain_atom, IsError}
+use Rattle.type_relations.specs.Covered.{IsCovered}
 use Rattle.type_relations.specs.Stores.{Store}
 use Rattle.type_relations.specs.Errors.{AreOfOneForm, over_parts, one_leaf, AreAlike, AreAlikeLeaves, AreAlikeConsts, AreOfOneValue, one_value, as_many_branches, IsVariableFor, AreBindable, HaveNoError, outer_head}
 use Rattle.type_relations.specs.Errors.{alike_leaves, of_one_item, both_expressions, both_values, unlike_aliases}
@@ -46,6 +51,7 @@ use Rattle.type_relations.specs.declared.relate.forms.ItemForm.TheVariants.{Coro
 use Rattle.type_relations.specs.declared.relate.forms.ItemForm.TheVariants.{Coroutine as CoroutineForm}
 use Rattle.type_relations.specs.declared.relate.forms.ItemForm.TheVariants.{CoroutineWitness as WitnessForm}
 use Rattle.type_relations.specs.declared.relate.forms.ItemTy.{ItemTy}
+use Rattle.type_relations.proofs.Covered.{covered_no_error}
 use Rattle.type_relations.proofs.OneParts.{lists_apart, count_applied}
 
 formed_no_variable : (t u : Tree) → IsFormed t → IsVariableFor t u → ⊥
@@ -220,44 +226,61 @@ of_forms_alike (node value (cons t (cons v nil))) (node value (cons u (cons w ni
 of_forms_alike t u a = absurd a
 
 module _ {Key Id Name : Type 0} (m : Meaning Key Id Name) where
+  -- A variable is no form over parts, and no parameter.
+  alike_infer : (h : Head) (ts : Tree) (i : InferTy) → AreAlike (node h ts) (infer_tree i) → ⊥
+  alike_infer h ts (TyVar v) a = cc
+  alike_infer h ts (IntVar v) a = cc
+  alike_infer h ts (FloatVar v) a = cc
+  alike_infer h ts (FreshTy n) a = cc
+  alike_infer h ts (FreshIntTy n) a = cc
+  alike_infer h ts (FreshFloatTy n) a = cc
+
+  param_infer : (i n : ℕ) (j : InferTy) → AreAlike (leaf (atom (type_param i n))) (infer_tree j) → ⊥
+  param_infer i n (TyVar v) a = cc
+  param_infer i n (IntVar v) a = cc
+  param_infer i n (FloatVar v) a = cc
+  param_infer i n (FreshTy k) a = cc
+  param_infer i n (FreshIntTy k) a = cc
+  param_infer i n (FreshFloatTy k) a = cc
+
   -- What a type that is alike to one of a form is.
   alike_slice : (ts : Tree) (l : TyKind Key Id Name) → AreAlike (node slice ts) (kind_tree m l) → ((y : TyKey Key) → l ≡ Slice y → ⊥) → ⊥
   alike_slice ts (Slice y) a o = o y refl
-  alike_slice ts (Infer (TyVar v)) a o = cc
+  alike_slice ts (Infer i) a o = alike_infer slice ts i a
   alike_slice ts l a o = first_of (cc, search a)
 
   alike_array : (ts : Tree) (l : TyKind Key Id Name) → AreAlike (node array ts) (kind_tree m l) → ((y : TyKey Key) (d : ConstKey Key) → l ≡ Array y d → ⊥) → ⊥
   alike_array ts (Array y d) a o = o y d refl
-  alike_array ts (Infer (TyVar v)) a o = cc
+  alike_array ts (Infer i) a o = alike_infer array ts i a
   alike_array ts l a o = first_of (cc, search a)
 
   alike_tuple : (ts : Tree) (l : TyKind Key Id Name) → AreAlike (node tuple ts) (kind_tree m l) → ((y : TysKey Key) → l ≡ Tuple y → ⊥) → ⊥
   alike_tuple ts (Tuple y) a o = o y refl
-  alike_tuple ts (Infer (TyVar v)) a o = cc
+  alike_tuple ts (Infer i) a o = alike_infer tuple ts i a
   alike_tuple ts l a o = first_of (cc, search a)
 
   alike_raw : (u : Mutability) (ts : Tree) (l : TyKind Key Id Name) → AreAlike (node (raw_ptr u) ts) (kind_tree m l) → ((y : TyKey Key) (v : Mutability) → l ≡ RawPtr y v → ⊥) → ⊥
   alike_raw u ts (RawPtr y v) a o = o y v refl
-  alike_raw u ts (Infer (TyVar v)) a o = cc
+  alike_raw u ts (Infer i) a o = alike_infer (raw_ptr u) ts i a
   alike_raw u ts l a o = first_of (cc, search a)
 
   alike_ref : (u : Mutability) (ts : Tree) (l : TyKind Key Id Name) → AreAlike (node (ref u) ts) (kind_tree m l) → ((q : RegionKey Key) (y : TyKey Key) (v : Mutability) → l ≡ Ref q y v → ⊥) → ⊥
   alike_ref u ts (Ref q y v) a o = o q y v refl
-  alike_ref u ts (Infer (TyVar v)) a o = cc
+  alike_ref u ts (Infer i) a o = alike_infer (ref u) ts i a
   alike_ref u ts l a o = first_of (cc, search a)
 
   alike_param : (i n : ℕ) (l : TyKind Key Id Name) → AreAlike (leaf (atom (type_param i n))) (kind_tree m l) → ((q : ParamTy Name) → l ≡ TyParam q → i ≡ q.index → ⊥) → ⊥
   alike_param i n (TyParam q) a o = o q refl (cc)
-  alike_param i n (Infer (TyVar v)) a o = first_of (cc, search a)
+  alike_param i n (Infer j) a o = param_infer i n j a
   alike_param i n l a o = first_of (cc, search a)
 
   alike_item : (f : ItemForm) (n : ℕ) (ts : Tree) (l : TyKind Key Id Name) → IsNoItem l → AreAlike (node (item_head f n) ts) (kind_tree m l) → ⊥
-  alike_item AdtForm n ts (Infer (TyVar v)) o a = cc
-  alike_item FnDefForm n ts (Infer (TyVar v)) o a = cc
-  alike_item ClosureForm n ts (Infer (TyVar v)) o a = cc
-  alike_item AsyncForm n ts (Infer (TyVar v)) o a = cc
-  alike_item CoroutineForm n ts (Infer (TyVar v)) o a = cc
-  alike_item WitnessForm n ts (Infer (TyVar v)) o a = cc
+  alike_item AdtForm n ts (Infer i) o a = alike_infer (adt n) ts i a
+  alike_item FnDefForm n ts (Infer i) o a = alike_infer (fn_def n) ts i a
+  alike_item ClosureForm n ts (Infer i) o a = alike_infer (closure n) ts i a
+  alike_item AsyncForm n ts (Infer i) o a = alike_infer (coroutine_closure n) ts i a
+  alike_item CoroutineForm n ts (Infer i) o a = alike_infer (coroutine n) ts i a
+  alike_item WitnessForm n ts (Infer i) o a = alike_infer (coroutine_witness n) ts i a
   alike_item f n ts l o a = first_of (cc, search o)
 
   pub alike_items : (f g : ItemForm) (n k : ℕ) (ts us : Tree) → AreAlike (node (item_head f n) ts) (node (item_head g k) us) → (f ≡ g) × (n ≡ k)
@@ -280,70 +303,75 @@ module _ {Key Id Name : Type 0} (m : Meaning Key Id Name) where
       go CoroutineForm t = refl
       go WitnessForm t = refl
 
-  -- No type of a form is an error.
-  no_error : (l : TyKind Key Id Name) → IsError (kind_tree m l) → ⊥
-  no_error (Infer (TyVar v)) h = h
-  no_error l h = h
-
   -- The error of two types that are of unlike forms.
   unlike_as : (x y : TyKey Key) (t u : Tree) (e : TypeError Key Id Name) → m.ty x ≡ t → m.ty y ≡ u → HaveNoError t u → (AreAlike t u → ⊥) → e ≡ Sorts (record { expected = x; found = y }) → FormError m x y e
   unlike_as x y t u e p q n o is = subst (FormError m x y) (sym is) (sorts (subst₂ HaveNoError (sym p) (sym q) n) (λ a. o (subst (λ z. AreAlike z u) p (subst (AreAlike (m.ty x)) q a))))
 
-  module _ (l : TyKind Key Id Name) (x y : TyKey Key) (e : TypeError Key Id Name) (q : m.ty y ≡ kind_tree m l) (is : e ≡ Sorts (record { expected = x; found = y })) where
+  module _ (l : TyKind Key Id Name) (x y : TyKey Key) (e : TypeError Key Id Name) (q : m.ty y ≡ kind_tree m l) (is : e ≡ Sorts (record { expected = x; found = y })) (o : IsCovered (m.ty y)) where
+    no_error : IsError (kind_tree m l) → ⊥
+    no_error = covered_no_error (kind_tree m l) (subst IsCovered q o)
+
     pub unlike_slice : (k : TyKey Key) → m.ty x ≡ kind_tree {Name = Name} m (Slice k) → ((z : TyKey Key) → l ≡ Slice z → ⊥) → FormError m x y e
-    unlike_slice k p o = unlike_as x y (node slice (cons (m.ty k) nil)) (kind_tree m l) e p q ((λ z. z), no_error l) (λ a. alike_slice (cons (m.ty k) nil) l a o) is
+    unlike_slice k p o = unlike_as x y (node slice (cons (m.ty k) nil)) (kind_tree m l) e p q ((λ z. z), no_error) (λ a. alike_slice (cons (m.ty k) nil) l a o) is
 
     pub unlike_array : (k : TyKey Key) (c : ConstKey Key) → m.ty x ≡ kind_tree {Name = Name} m (Array k c) → ((z : TyKey Key) (d : ConstKey Key) → l ≡ Array z d → ⊥) → FormError m x y e
-    unlike_array k c p o = unlike_as x y (node array (cons (m.ty k) (cons (m.const_ c) nil))) (kind_tree m l) e p q ((λ z. z), no_error l) (λ a. alike_array (cons (m.ty k) (cons (m.const_ c) nil)) l a o) is
+    unlike_array k c p o = unlike_as x y (node array (cons (m.ty k) (cons (m.const_ c) nil))) (kind_tree m l) e p q ((λ z. z), no_error) (λ a. alike_array (cons (m.ty k) (cons (m.const_ c) nil)) l a o) is
 
     pub unlike_tuple : (k : TysKey Key) → m.ty x ≡ kind_tree {Name = Name} m (Tuple k) → ((z : TysKey Key) → l ≡ Tuple z → ⊥) → FormError m x y e
-    unlike_tuple k p o = unlike_as x y (node tuple (m.tys k)) (kind_tree m l) e p q ((λ z. z), no_error l) (λ a. alike_tuple (m.tys k) l a o) is
+    unlike_tuple k p o = unlike_as x y (node tuple (m.tys k)) (kind_tree m l) e p q ((λ z. z), no_error) (λ a. alike_tuple (m.tys k) l a o) is
 
     pub unlike_raw : (k : TyKey Key) (u : Mutability) → m.ty x ≡ kind_tree {Name = Name} m (RawPtr k u) → ((z : TyKey Key) (v : Mutability) → l ≡ RawPtr z v → ⊥) → FormError m x y e
-    unlike_raw k u p o = unlike_as x y (node (raw_ptr u) (cons (m.ty k) nil)) (kind_tree m l) e p q ((λ z. z), no_error l) (λ a. alike_raw u (cons (m.ty k) nil) l a o) is
+    unlike_raw k u p o = unlike_as x y (node (raw_ptr u) (cons (m.ty k) nil)) (kind_tree m l) e p q ((λ z. z), no_error) (λ a. alike_raw u (cons (m.ty k) nil) l a o) is
 
     pub unlike_ref : (r : RegionKey Key) (k : TyKey Key) (u : Mutability) → m.ty x ≡ kind_tree {Name = Name} m (Ref r k u) → ((s : RegionKey Key) (z : TyKey Key) (v : Mutability) → l ≡ Ref s z v → ⊥) → FormError m x y e
-    unlike_ref r k u p o = unlike_as x y (node (ref u) (cons (m.region r) (cons (m.ty k) nil))) (kind_tree m l) e p q ((λ z. z), no_error l) (λ a. alike_ref u (cons (m.region r) (cons (m.ty k) nil)) l a o) is
+    unlike_ref r k u p o = unlike_as x y (node (ref u) (cons (m.region r) (cons (m.ty k) nil))) (kind_tree m l) e p q ((λ z. z), no_error) (λ a. alike_ref u (cons (m.region r) (cons (m.ty k) nil)) l a o) is
 
     pub unlike_param : (k : ParamTy Name) → m.ty x ≡ kind_tree m (TyParam k) → ((z : ParamTy Name) → l ≡ TyParam z → k.index ≡ z.index → ⊥) → FormError m x y e
-    unlike_param k p o = unlike_as x y (leaf (atom (type_param k.index (m.name k.name)))) (kind_tree m l) e p q ((λ z. z), no_error l) (λ a. alike_param k.index (m.name k.name) l a o) is
+    unlike_param k p o = unlike_as x y (leaf (atom (type_param k.index (m.name k.name)))) (kind_tree m l) e p q ((λ z. z), no_error) (λ a. alike_param k.index (m.name k.name) l a o) is
 
     pub unlike_item : (t : ItemTy Key Id) → m.ty x ≡ kind_tree {Name = Name} m (item_kind t) → IsNoItem l → FormError m x y e
-    unlike_item t p o = unlike_as x y (node (item_head t.form (m.id t.def_id)) (m.args t.args)) (kind_tree m l) e (p ∙ item_tree t) q ((λ z. z), no_error l) (alike_item t.form (m.id t.def_id) (m.args t.args) l o) is
+    unlike_item t p o = unlike_as x y (node (item_head t.form (m.id t.def_id)) (m.args t.args)) (kind_tree m l) e (p ∙ item_tree t) q ((λ z. z), no_error) (alike_item t.form (m.id t.def_id) (m.args t.args) l o) is
 
   -- The first is a type without parts, and no parameter.
   abbrev IsAlone : TyKind Key Id Name → Type 0
   IsAlone k = (l : Leaf) × (kind_tree m k ≡ leaf l) × IsPlainLeaf l
 
-  alone_kind : (k : TyKind Key Id Name) → IsNoItem k → ((x : TyKey Key) → k ≡ Slice x → ⊥) → ((x : TyKey Key) (c : ConstKey Key) → k ≡ Array x c → ⊥)
+  alone_kind : (k : TyKind Key Id Name) → IsCovered (kind_tree m k) → IsNoItem k → ((x : TyKey Key) → k ≡ Slice x → ⊥) → ((x : TyKey Key) (c : ConstKey Key) → k ≡ Array x c → ⊥)
       → ((x : TysKey Key) → k ≡ Tuple x → ⊥) → ((x : TyKey Key) (u : Mutability) → k ≡ RawPtr x u → ⊥) → ((r : RegionKey Key) (x : TyKey Key) (u : Mutability) → k ≡ Ref r x u → ⊥)
       → ((p : ParamTy Name) → k ≡ TyParam p → ⊥) → IsAlone k
-  alone_kind (Slice x) i a b c d e f = absurd (a x refl)
-  alone_kind (Array x y) i a b c d e f = absurd (b x y refl)
-  alone_kind (Tuple x) i a b c d e f = absurd (c x refl)
-  alone_kind (RawPtr x u) i a b c d e f = absurd (d x u refl)
-  alone_kind (Ref r x u) i a b c d e f = absurd (e r x u refl)
-  alone_kind (TyParam p) i a b c d e f = absurd (f p refl)
-  alone_kind (Infer (TyVar v)) i a b c d e f = (_, refl, tt)
-  alone_kind (Adt q z) i a b c d e f = absurd i
-  alone_kind (FnDef q z) i a b c d e f = absurd i
-  alone_kind (Closure q z) i a b c d e f = absurd i
-  alone_kind (CoroutineClosure q z) i a b c d e f = absurd i
-  alone_kind (Coroutine q z) i a b c d e f = absurd i
-  alone_kind (CoroutineWitness q z) i a b c d e f = absurd i
-  alone_kind k i a b c d e f = (_, refl, tt)
+  alone_kind (Slice x) o i a b c d e f = absurd (a x refl)
+  alone_kind (Array x y) o i a b c d e f = absurd (b x y refl)
+  alone_kind (Tuple x) o i a b c d e f = absurd (c x refl)
+  alone_kind (RawPtr x u) o i a b c d e f = absurd (d x u refl)
+  alone_kind (Ref r x u) o i a b c d e f = absurd (e r x u refl)
+  alone_kind (TyParam p) o i a b c d e f = absurd (f p refl)
+  alone_kind (Infer (TyVar v)) o i a b c d e f = (_, refl, tt)
+  alone_kind (Infer (IntVar v)) o i a b c d e f = absurd o
+  alone_kind (Infer (FloatVar v)) o i a b c d e f = absurd o
+  alone_kind (Infer (FreshTy n)) o i a b c d e f = absurd o
+  alone_kind (Infer (FreshIntTy n)) o i a b c d e f = absurd o
+  alone_kind (Infer (FreshFloatTy n)) o i a b c d e f = absurd o
+  alone_kind (Pat t p) o i a b c d e f = absurd o.0
+  alone_kind (Alias t) o i a b c d e f = absurd o.0
+  alone_kind (Adt q z) o i a b c d e f = absurd i
+  alone_kind (FnDef q z) o i a b c d e f = absurd i
+  alone_kind (Closure q z) o i a b c d e f = absurd i
+  alone_kind (CoroutineClosure q z) o i a b c d e f = absurd i
+  alone_kind (Coroutine q z) o i a b c d e f = absurd i
+  alone_kind (CoroutineWitness q z) o i a b c d e f = absurd i
+  alone_kind k o i a b c d e f = (_, refl, tt)
 
   pub unlike_alone : (k other : TyKind Key Id Name) (x y : TyKey Key) (e : TypeError Key Id Name) → m.ty x ≡ kind_tree m k → m.ty y ≡ kind_tree m other → m.ty x ≢ m.ty y → e ≡ Sorts (record { expected = x; found = y })
-      → IsNoItem k → ((x : TyKey Key) → k ≡ Slice x → ⊥) → ((x : TyKey Key) (c : ConstKey Key) → k ≡ Array x c → ⊥) → ((x : TysKey Key) → k ≡ Tuple x → ⊥)
+      → IsCovered (m.ty x) → IsCovered (m.ty y) → IsNoItem k → ((x : TyKey Key) → k ≡ Slice x → ⊥) → ((x : TyKey Key) (c : ConstKey Key) → k ≡ Array x c → ⊥) → ((x : TysKey Key) → k ≡ Tuple x → ⊥)
       → ((x : TyKey Key) (u : Mutability) → k ≡ RawPtr x u → ⊥) → ((r : RegionKey Key) (x : TyKey Key) (u : Mutability) → k ≡ Ref r x u → ⊥) → ((p : ParamTy Name) → k ≡ TyParam p → ⊥) → FormError m x y e
-  unlike_alone k other x y e p w differ is i a b c d f g =
-      let (l, q, plain) = alone_kind k i a b c d f g in
-      unlike_as x y (leaf l) (m.ty y) e (p ∙ q) refl ((λ h. no_error k (subst IsError (sym q) h)), (λ h. no_error other (subst IsError w h))) (λ h. differ (p ∙ q ∙ alone l (m.ty y) plain h)) is
+  unlike_alone k other x y e p w differ is v z i a b c d f g =
+      let (l, q, plain) = alone_kind k (subst IsCovered p v) i a b c d f g in
+      unlike_as x y (leaf l) (m.ty y) e (p ∙ q) refl (covered_no_error (leaf l) (subst IsCovered (p ∙ q) v), covered_no_error (m.ty y) z) (λ h. differ (p ∙ q ∙ alone l (m.ty y) plain h)) is
 
   -- Where the two are one, they are of one form without parts.
-  pub one_alone : (k : TyKind Key Id Name) (a b : Tree) → a ≡ kind_tree m k → a ≡ b → IsNoItem k → ((x : TyKey Key) → k ≡ Slice x → ⊥) → ((x : TyKey Key) (c : ConstKey Key) → k ≡ Array x c → ⊥) → ((x : TysKey Key) → k ≡ Tuple x → ⊥)
+  pub one_alone : (k : TyKind Key Id Name) (a b : Tree) → a ≡ kind_tree m k → a ≡ b → IsCovered a → IsNoItem k → ((x : TyKey Key) → k ≡ Slice x → ⊥) → ((x : TyKey Key) (c : ConstKey Key) → k ≡ Array x c → ⊥) → ((x : TysKey Key) → k ≡ Tuple x → ⊥)
       → ((x : TyKey Key) (u : Mutability) → k ≡ RawPtr x u → ⊥) → ((r : RegionKey Key) (x : TyKey Key) (u : Mutability) → k ≡ Ref r x u → ⊥) → ((p : ParamTy Name) → k ≡ TyParam p → ⊥) → AreOfOneForm a b
-  one_alone k x y p e i a b c d f g = (let (l, q, plain) = alone_kind k i a b c d f g in one_leaf (p ∙ q) (sym e ∙ p ∙ q))
+  one_alone k x y p e v i a b c d f g = (let (l, q, plain) = alone_kind k (subst IsCovered p v) i a b c d f g in one_leaf (p ∙ q) (sym e ∙ p ∙ q))
 
   pub lengths_error : (i j : ℕ) (ts us : Tree) (x y : TyKey Key) (e : TypeError Key Id Name) → m.ty x ≡ node tuple ts → m.ty y ≡ node tuple us → i ≡ count ts → j ≡ count us → i ≢ j →
       (0 < i → 0 < j → e ≡ TupleSize (record { expected = i; found = j })) → ((i ≡ 0) ⊎ (j ≡ 0) → e ≡ Sorts (record { expected = x; found = y })) → FormError m x y e
@@ -438,52 +466,65 @@ module _ {Key Id Name : Type 0} (m : Meaning Key Id Name) where
   form_known x y e a b h (Err z) q = subst (KnowsFault m) (sym q.1) (known_error x y e a b h)
 
   -- Constants.
-  pub formed_const : (k : ConstKind Key Name) (x : ConstKey Key) → m.const_ x ≡ const_tree m k → IsFormedConst (m.const_ x)
-  formed_const k x e = subst IsFormedConst (sym e) (go k)
+  pub formed_const : (k : ConstKind Key Id Name) (x : ConstKey Key) → m.const_ x ≡ const_tree m k → IsCovered (m.const_ x) → IsFormedConst (m.const_ x)
+  formed_const k x e c = subst IsFormedConst (sym e) (go k (subst IsCovered e c))
     where
-      go : (k : ConstKind Key Name) → IsFormedConst (const_tree m k)
-      go (ConstParam p) = refl
-      go (ConstPlaceholder p) = refl
-      go (Value t v) = tt
-      go (Expr x a) = tt
-
-  no_const_error : (l : ConstKind Key Name) → IsError (const_tree m l) → ⊥
-  no_const_error (ConstParam p) h = h
-  no_const_error (ConstPlaceholder p) h = h
-  no_const_error (Value t v) h = h
-  no_const_error (Expr x a) h = h
+      go : (k : ConstKind Key Id Name) → IsCovered (const_tree m k) → IsFormedConst (const_tree m k)
+      go (ConstParam p) c = refl
+      go (ConstInfer (Var v)) c = absurd c
+      go (ConstInfer (Fresh n)) c = absurd c
+      go (ConstBound d b) c = absurd c
+      go (ConstPlaceholder p) c = refl
+      go (Unevaluated u) c = absurd c.0
+      go (Value t v) c = tt
+      go (ConstError z) c = absurd c
+      go (Expr x a) c = tt
 
   -- The error of two constants that are of unlike forms.
   unlike_consts_as : (x y : ConstKey Key) (t u : Tree) (e : TypeError Key Id Name) → m.const_ x ≡ t → m.const_ y ≡ u → HaveNoError t u → (ConstsAlike t u → ⊥) → e ≡ ConstMismatch (record { expected = x; found = y }) → ConstFormError m x y e
   unlike_consts_as x y t u e p q n o is = subst (ConstFormError m x y) (sym is) (const_mismatch (subst₂ HaveNoError (sym p) (sym q) n) (λ a. o (by_forms t u (subst (λ z. AreAlikeConsts z u) p (subst (AreAlikeConsts (m.const_ x)) q a)))))
 
-  abbrev pub IsUnlikeConst : ConstKind Key Name → ConstKind Key Name → Type 0
+  abbrev pub IsUnlikeConst : ConstKind Key Id Name → ConstKind Key Id Name → Type 0
   IsUnlikeConst (ConstParam p) (ConstParam q) = p.index ≢ q.index
+  IsUnlikeConst (ConstParam p) l = Unit {0}
   IsUnlikeConst (ConstPlaceholder p) l = const_tree m (ConstPlaceholder p) ≢ const_tree m l
   IsUnlikeConst (Value t v) (Value u w) = AreOfOneValue (m.valtree v) (m.valtree w) → ⊥
+  IsUnlikeConst (Value t v) l = Unit {0}
   IsUnlikeConst (Expr x a) (Expr y b) = ⊥
-  IsUnlikeConst k l = Unit {0}
+  IsUnlikeConst (Expr x a) l = Unit {0}
+  IsUnlikeConst k l = ⊥
 
-  unlike_const_trees : (k l : ConstKind Key Name) → IsUnlikeConst k l → ConstsAlike (const_tree m k) (const_tree m l) → ⊥
+  unlike_const_trees : (k l : ConstKind Key Id Name) → IsUnlikeConst k l → ConstsAlike (const_tree m k) (const_tree m l) → ⊥
   unlike_const_trees (ConstParam p) (ConstParam q) o a = o (cc)
+  unlike_const_trees (ConstParam p) (ConstInfer (Var v)) o a = cc
+  unlike_const_trees (ConstParam p) (ConstInfer (Fresh n)) o a = cc
+  unlike_const_trees (ConstParam p) l o a = first_of (cc, search a)
   unlike_const_trees (ConstPlaceholder p) (ConstPlaceholder q) o a = o (ap leaf a)
+  unlike_const_trees (ConstPlaceholder p) (ConstInfer (Var v)) o a = cc
+  unlike_const_trees (ConstPlaceholder p) (ConstInfer (Fresh n)) o a = cc
   unlike_const_trees (ConstPlaceholder p) l o a = first_of (cc, search a)
   unlike_const_trees (Value t v) (Value u w) o a = o a
+  unlike_const_trees (Value t v) (ConstInfer (Var n)) o a = absurd a
+  unlike_const_trees (Value t v) (ConstInfer (Fresh n)) o a = absurd a
+  unlike_const_trees (Value t v) l o a = first_of (cc, search a)
   unlike_const_trees (Expr x b) (Expr y d) o a = o
-  unlike_const_trees k l o a = first_of (cc, search a)
+  unlike_const_trees (Expr x b) (ConstInfer (Var n)) o a = absurd a
+  unlike_const_trees (Expr x b) (ConstInfer (Fresh n)) o a = absurd a
+  unlike_const_trees (Expr x b) l o a = first_of (cc, search a)
+  unlike_const_trees k l o a = absurd o
 
-  pub unlike_const : (k l : ConstKind Key Name) (x y : ConstKey Key) (e : TypeError Key Id Name) → m.const_ x ≡ const_tree m k → m.const_ y ≡ const_tree m l → IsUnlikeConst k l → e ≡ ConstMismatch (record { expected = x; found = y }) → ConstFormError m x y e
-  unlike_const k l x y e p q o is = unlike_consts_as x y (const_tree m k) (const_tree m l) e p q (no_const_error k, no_const_error l) (unlike_const_trees k l o) is
+  pub unlike_const : (k l : ConstKind Key Id Name) (x y : ConstKey Key) (e : TypeError Key Id Name) → m.const_ x ≡ const_tree m k → m.const_ y ≡ const_tree m l → IsCovered (m.const_ x) → IsCovered (m.const_ y) → IsUnlikeConst k l → e ≡ ConstMismatch (record { expected = x; found = y }) → ConstFormError m x y e
+  unlike_const k l x y e p q c d o is = unlike_consts_as x y (const_tree m k) (const_tree m l) e p q (covered_no_error (const_tree m k) (subst IsCovered p c), covered_no_error (const_tree m l) (subst IsCovered q d)) (unlike_const_trees k l o) is
 
-  pub param_const : (p : ParamConst Name) (l : ConstKind Key Name) → ((q : ParamConst Name) → l ≡ ConstParam q → p.index ≡ q.index → ⊥) → IsUnlikeConst (ConstParam p) l
+  pub param_const : (p : ParamConst Name) (l : ConstKind Key Id Name) → ((q : ParamConst Name) → l ≡ ConstParam q → p.index ≡ q.index → ⊥) → IsUnlikeConst (ConstParam p) l
   param_const p (ConstParam q) o = o q refl
   param_const p l o = tt
 
-  pub value_const : (t : TyKey Key) (v : ValTreeKey Key) (l : ConstKind Key Name) → ((u : TyKey Key) (w : ValTreeKey Key) → l ≡ Value u w → AreOfOneValue (m.valtree v) (m.valtree w) → ⊥) → IsUnlikeConst (Value t v) l
+  pub value_const : (t : TyKey Key) (v : ValTreeKey Key) (l : ConstKind Key Id Name) → ((u : TyKey Key) (w : ValTreeKey Key) → l ≡ Value u w → AreOfOneValue (m.valtree v) (m.valtree w) → ⊥) → IsUnlikeConst (Value t v) l
   value_const t v (Value u w) o = o u w refl
   value_const t v l o = tt
 
-  pub expr_const : (k : ExprKind) (a : ArgsKey Key) (l : ConstKind Key Name) → ((j : ExprKind) (b : ArgsKey Key) → l ≡ Expr j b → ⊥) → IsUnlikeConst (Expr k a) l
+  pub expr_const : (k : ExprKind) (a : ArgsKey Key) (l : ConstKind Key Id Name) → ((j : ExprKind) (b : ArgsKey Key) → l ≡ Expr j b → ⊥) → IsUnlikeConst (Expr k a) l
   expr_const k a (Expr j b) o = o j b refl
   expr_const k a l o = tt
 

@@ -6,7 +6,7 @@ use Rattle.relation_terms.specs.Trees.{Tree, leaf, node, Assign, apply, IsTerm, 
 use Rattle.relation_terms.specs.Meaning.{Meaning, arg_tree, kind_tree}
 use Rattle.relation_terms.specs.declared.terms.ty_kind.TyKind.{TyKind}
 use Rattle.relation_terms.specs.declared.terms.ty_kind.TyKind.TheVariants.{Array, Infer}
-use Rattle.relation_terms.specs.declared.terms.ty_kind.InferTy.TheVariants.{TyVar}
+use Rattle.relation_terms.specs.declared.terms.ty_kind.InferTy.TheVariants.{TyVar, IntVar, FloatVar, FreshTy, FreshIntTy, FreshFloatTy}
 use Rattle.relation_terms.specs.declared.terms.keys.TyKey.{TyKey}
 use Rattle.relation_terms.specs.declared.terms.keys.RegionKey.{RegionKey}
 use Rattle.relation_terms.specs.declared.terms.keys.ConstKey.{ConstKey}
@@ -97,6 +97,11 @@ module _ {Key Id Name : Type 0} where
   no_array : (m : Meaning Key Id Name) (k : TyKind Key Id Name) (x y : GenericArgKind Key) → ((u : TyKey Key) (c : ConstKey Key) → k ≡ Array u c → ⊥) → IsNoLength (kind_tree m k) x y
   no_array m (Array u c) x y o = absurd (o u c refl)
   no_array m (Infer (TyVar v)) x y o = tt
+  no_array m (Infer (IntVar v)) x y o = tt
+  no_array m (Infer (FloatVar v)) x y o = tt
+  no_array m (Infer (FreshTy n)) x y o = tt
+  no_array m (Infer (FreshIntTy n)) x y o = tt
+  no_array m (Infer (FreshFloatTy n)) x y o = tt
   no_array m k x y o = tt
 
   of_no_length : (f : RelateFault Key Id Name) (t : Tree) (x y : GenericArgKind Key) → IsNoLength t x y → IsPassedOn f t x y

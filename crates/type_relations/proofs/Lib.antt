@@ -1,4 +1,5 @@
 pub mod Trees
+pub mod Covered
 pub mod Related
 pub mod SmallTerms
 pub mod Constants

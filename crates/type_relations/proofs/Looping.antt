@@ -17,6 +17,7 @@ use Rattle.type_relations.specs.Lawful.{State, Manner, Manners, TakesParts, Take
 use Rattle.type_relations.proofs.Going.{depth-mono, depth-strict, depth-spent, depth_later}
 use Rattle.type_relations.proofs.Standing.{later_term}
 use Rattle.type_relations.proofs.Parts.{in_part, in_const_part}
+use Rattle.type_relations.proofs.Covered.{covered_part, covered_const_part}
 use Rattle.type_relations.proofs.PartSizes.{weight_parts, weight_const_parts}
 use Rattle.type_relations.proofs.Passing.{manner_then}
 use Rattle.type_relations.proofs.Fronts.{Fronted, part_small}
@@ -58,12 +59,15 @@ module _ (M : Manner) (is : (c : Items) (h : Head) (i : ℕ) (v : Variance) (l :
 
   takes_ty_part : (t : Tree) (i : ℕ) → i < count (parts_of t) → Takes M v t →
       Takes M (part_at c (head_of t) i v) (nth i (parts_of t))
-  takes_ty_part t i l k = takes_part (head_of t) (parts_of t) i l (parts_taken (M.takes v) t k)
+  takes_ty_part t i l k =
+      (takes_part (head_of t) (parts_of t) i l (parts_taken (M.takes v) t k.0), covered_part t i l k.1)
 
   takes_const_part : (t : Tree) (i : ℕ) → i < count (const_parts_of t) → Takes M v t →
       Takes M (part_at c (const_head_of t) i v) (nth i (const_parts_of t))
-  takes_const_part t i l k =
-      takes_part (const_head_of t) (const_parts_of t) i l (const_parts_taken (M.takes v) t k)
+  takes_const_part t i l k = (
+    takes_part (const_head_of t) (const_parts_of t) i l (const_parts_taken (M.takes v) t k.0),
+    covered_const_part t i l k.1,
+  )
 
 some_part : (i n : ℕ) → i < n → 0 < n
 some_part i n h = omega (arith, h)

@@ -4,7 +4,7 @@ use Rattle.std.proofs.Common.{◌&&◌, IsTrue, true, Option, Some, List, [], �
 use Rattle.std.proofs.lemmas.Bool.{and_parts}
 use Rattle.relation_terms.specs.Heads.{VarKind, Head, Leaf, Sort, Part, row, head_parts}
 use Rattle.relation_terms.specs.Heads.{expression}
-use Rattle.relation_terms.specs.Heads.{Admits, head_sort, type_var, value_sort, const_sort}
+use Rattle.relation_terms.specs.Heads.{type_var}
 use Rattle.relation_terms.specs.Heads.{array, value, value_branch, Shape, one, variable, bound, placeholder, atom}
 use Rattle.relation_terms.specs.Heads.{unknown}
 use Rattle.relation_terms.specs.Trees.{Tree, leaf, node, bind, nil, cons, Assign, apply, Leaves, Occurs, size, count}
@@ -16,19 +16,9 @@ use Rattle.relation_terms.specs.declared.terms.keys.ArgsKey.{ArgsKey}
 use Rattle.relation_terms.specs.declared.terms.keys.ValTreeKey.{ValTreeKey}
 use Rattle.relation_terms.specs.declared.terms.keys.BranchesKey.{BranchesKey}
 use Rattle.relation_terms.specs.declared.terms.const_kind.ExprKind.{ExprKind}
-use Rattle.relation_terms.specs.declared.terms.const_kind.ConstKind.{ConstKind}
-use Rattle.relation_terms.specs.declared.terms.const_kind.ConstKind.TheVariants.{Value, Expr, Param as ConstParam}
-use Rattle.relation_terms.specs.declared.terms.const_kind.ConstKind.TheVariants.{Placeholder as ConstPlaceholder}
+use Rattle.relation_terms.specs.declared.terms.const_kind.ConstKind.TheVariants.{Value, Expr}
 use Rattle.relation_terms.specs.declared.terms.const_kind.ValTreeKind.TheVariants.{Branch}
 use Rattle.relation_terms.specs.declared.terms.ty_kind.TyKind.{TyKind}
-use Rattle.relation_terms.specs.declared.terms.ty_kind.TyKind.TheVariants.{Bool as BoolTy, Char, Int, Uint, Float}
-use Rattle.relation_terms.specs.declared.terms.ty_kind.TyKind.TheVariants.{Adt}
-use Rattle.relation_terms.specs.declared.terms.ty_kind.TyKind.TheVariants.{Foreign, Str, Array, Slice, RawPtr, Ref}
-use Rattle.relation_terms.specs.declared.terms.ty_kind.TyKind.TheVariants.{FnDef, Closure, CoroutineClosure}
-use Rattle.relation_terms.specs.declared.terms.ty_kind.TyKind.TheVariants.{Coroutine, CoroutineWitness, Never, Tuple}
-use Rattle.relation_terms.specs.declared.terms.ty_kind.TyKind.TheVariants.{Infer, Param as TyParam}
-use Rattle.relation_terms.specs.declared.terms.ty_kind.TyKind.TheVariants.{Placeholder as TyPlaceholder}
-use Rattle.relation_terms.specs.declared.terms.ty_kind.InferTy.{InferTy}
 use Rattle.type_relations.specs.Relation.{StaysWithin}
 use Rattle.type_relations.specs.Stores.{Store, IsNamable, IsMadeLeaf, IsTermIn, InContext, resolved, weight}
 use Rattle.type_relations.specs.declared.relate.forms.ItemForm.{ItemForm}
@@ -347,66 +337,3 @@ occurs_formed n (node h ts) f o = o
 occurs_formed n (bind ks t) f o = absurd f
 occurs_formed n nil f o = absurd f
 occurs_formed n (cons t ts) f o = absurd f
-
--- A type variable stands in a value only in its branches.
-value_node : (k : VarKind) (n : ℕ) (h : Head) (ts : Tree) → Admits value_sort (head_sort h) → Occurs k n ts →
-    Occurs k n (branches_of (node h ts))
-value_node k n value_branch ts a o = o
-value_node k n h ts a o = absurd a
-
-occurs_value : (n : ℕ) (v : Tree) → IsTerm value_sort v → Occurs type_var n v → Occurs type_var n (branches_of v)
-occurs_value n (leaf l) f o = absurd (subst (IsTerm value_sort) o f)
-occurs_value n (node h ts) f o = value_node type_var n h ts f.0 o
-occurs_value n (bind ks t) f o = absurd f
-occurs_value n nil f o = absurd f
-occurs_value n (cons t ts) f o = absurd f
-
--- It stands in a constant only in a value's type and in the parts.
-pub nowhere_in_const : {Key Id Name : Type 0} (m : Meaning Key Id Name) (n : ℕ) (k : ConstKind Key Name) →
-    IsTerm const_sort (const_tree m k) → ((t : TyKey Key) (v : ValTreeKey Key) → k ≡ Value t v →
-    Occurs type_var n (m.ty t) → ⊥) →
-    (Occurs type_var n (const_parts_of (const_tree m k)) → ⊥) → Occurs type_var n (const_tree m k) → ⊥
-nowhere_in_const m n (ConstParam p) f t h o = subst (IsTerm const_sort) o f
-nowhere_in_const m n (ConstPlaceholder p) f t h o = subst (IsTerm const_sort) o f
-nowhere_in_const m n (Value t v) f a h (inl (inl o)) = a t v refl o
-nowhere_in_const m n (Value t v) f a h (inl (inr o)) = o
-nowhere_in_const m n (Value t v) f a h (inr (inl o)) = h (occurs_value n (m.valtree v) f.1.1.0 o)
-nowhere_in_const m n (Value t v) f a h (inr (inr o)) = o
-nowhere_in_const m n (Expr x a) f t h o = h o
-
--- A form that is no variable is the form of a type.
-pub kind_formed : {Key Id Name : Type 0} (m : Meaning Key Id Name) (k : TyKind Key Id Name) →
-    ((i : InferTy) → k ≡ Infer i → ⊥) → IsFormed (kind_tree m k)
-kind_formed m BoolTy n = refl
-kind_formed m Char n = refl
-kind_formed m (Int w) n = refl
-kind_formed m (Uint w) n = refl
-kind_formed m (Float w) n = refl
-kind_formed m (Adt d a) n = refl
-kind_formed m (Foreign d) n = refl
-kind_formed m Str n = refl
-kind_formed m (Array t c) n = refl
-kind_formed m (Slice t) n = refl
-kind_formed m (RawPtr t u) n = refl
-kind_formed m (Ref r t u) n = refl
-kind_formed m (FnDef d a) n = refl
-kind_formed m (Closure d a) n = refl
-kind_formed m (CoroutineClosure d a) n = refl
-kind_formed m (Coroutine d a) n = refl
-kind_formed m (CoroutineWitness d a) n = refl
-kind_formed m Never n = refl
-kind_formed m (Tuple ts) n = refl
-kind_formed m (TyParam p) n = refl
-kind_formed m (TyPlaceholder p) n = refl
-kind_formed m (Infer i) n = absurd (n i refl)
-
--- The type of a value is the only one that the form names.
-abbrev type_in : {Key Id Name : Type 0} → Meaning Key Id Name → ConstKind Key Name → Tree
-type_in m (Value t v) = m.ty t
-type_in m k = nil
-
-pub only_type : {Key Id Name : Type 0} (m : Meaning Key Id Name) (n : ℕ) (k : ConstKind Key Name) (t : TyKey Key)
-    (v : ValTreeKey Key) →
-    k ≡ Value t v → (Occurs type_var n (m.ty t) → ⊥) → (u : TyKey Key) (w : ValTreeKey Key) → k ≡ Value u w →
-    Occurs type_var n (m.ty u) → ⊥
-only_type m n k t v e a u w q o = a (subst (Occurs type_var n) (ap (type_in m) (sym q ∙ e)) o)

@@ -24,6 +24,7 @@ use Rattle.type_relations.specs.Headline.{IsFirstOrderPair}
 use Rattle.type_relations.specs.FirstOrder.{IsFirstOrderStore, IsErasedSolution}
 use Rattle.type_relations.specs.Errors.{ErrorOf}
 use Rattle.type_relations.specs.Measures.{Goes, grown}
+use Rattle.type_relations.specs.Covered.{IsCovered}
 
 -- The variances of a list, by their places; past its end, invariance.
 abbrev pub listed : List Variance → ℕ → Variance
@@ -78,9 +79,9 @@ pub record Manner : Type 1 where
 abbrev pub Manners : Type 1
 Manners = Settings → Manner
 
--- A term is taken at a variance: its leaves may stand there.
+-- A term is taken at a variance: of forms that have rules, and its leaves may stand there.
 abbrev pub Takes : Manner → Variance → Tree → Type 0
-Takes M v t = Leaves (M.takes v) t
+Takes M v t = Leaves (M.takes v) t × IsCovered t
 
 -- What may stand in a form may stand in its parts, at their variances.
 abbrev pub TakesParts : Manners → Type 0

@@ -4,6 +4,7 @@ use Rattle.relation_terms.specs.declared.terms.enums.Variance.TheVariants.{Covar
 use Rattle.relation_terms.specs.declared.terms.enums.Variance.TheVariants.{Bivariant}
 use Rattle.relation_terms.specs.Heads.{Leaf, region_var, variable}
 use Rattle.relation_terms.specs.Trees.{Tree, Leaves}
+use Rattle.type_relations.specs.Covered.{IsCovered}
 
 -- No variable, but for a region's.
 abbrev pub IsFixedLeaf : Leaf → Type 0
@@ -18,6 +19,6 @@ IsTakenLeaf Contravariant l = IsFixedLeaf l
 IsTakenLeaf Invariant l = Unit {0}
 IsTakenLeaf Bivariant l = Unit {0}
 
--- A term that may be related at a variance.
+-- A term that may be related at a variance: of forms that have rules, and its leaves may stand there.
 abbrev pub IsTaken : Variance → Tree → Type 0
-IsTaken v t = Leaves (IsTakenLeaf v) t
+IsTaken v t = Leaves (IsTakenLeaf v) t × IsCovered t

@@ -1,6 +1,6 @@
 //! Resolving types in a context at every depth, and binding variables to what they come to.
 ghost use Rattle.std.specs.Prelude.{◌≡◌, ℕ, ◌<◌, IsTrue, IsFalse, IfOk, IfErr, IfSome, IfNone, length};
-ghost use Rattle.relation_terms.specs.Heads.{Leaf, type_var, variable};
+ghost use Rattle.relation_terms.specs.Heads.{type_var, variable};
 ghost use Rattle.relation_terms.specs.Trees.{leaf, known, Occurs};
 ghost use Rattle.relation_terms.specs.Meaning.{Extends};
 ghost use Rattle.relation_terms.specs.Parts.{part_tree, part_sort, parts_of, over};
@@ -10,35 +10,32 @@ ghost use Rattle.relation_tools.specs.Faults.{KnowsFault};
 ghost use Rattle.relation_reference.specs.Tables.{IsLawful};
 ghost use Rattle.relation_reference.specs.RefCtxt.{store_in, resolved_in};
 ghost use Rattle.type_relations.specs.Parts.{IsFormed};
+ghost use Rattle.type_relations.specs.Covered.{IsCovered};
 ghost use Rattle.relation_reference.specs.Answers.{Instantiated, StepsByInstantiating};
 
 use crate::context::variables::ty_vid;
 use crate::context::{RefCtxt, TypeVariableValue};
 use relation_terms::terms::parts::{is_same, part, parts_count, the_ty, with_parts};
-use relation_terms::terms::{Interner, OutOfMemory, Part, Ty, TyKind, TyVid};
+use relation_terms::terms::{Interner, OutOfMemory, Part, Ty, TyVid};
 use relation_tools::error::{RelateFault, RelateFaultOf, TypeError};
 
-// The type variable that a term is, or none. What stands in a part of the term stands in the term.
+// The type variable that a term is, or none.
 fn variable_of<I: Interner>(cx: &I, term: &Part<I::Key>) -> Option<TyVid>
     requires { IsTrue (known (part_tree (I.meaning cx.now) term.now)) }
     ensures is { IfSome result (λ v. part_tree (I.meaning cx.now) term.now ≡ leaf (variable type_var v.0)) }
     ensures is_none { IfNone result ((n : ℕ) →
         part_tree (I.meaning cx.now) term.now ≡ leaf (variable type_var n) → ⊥) }
-    ensures open { let t = part_tree (I.meaning cx.now) term.now in
-        (l : Leaf) → StandsOutside l (parts_of t) → StandsOutside l t }
 {
     let Part::Ty(ty) = term else {
         return None;
     };
-    let TyKind::Infer(variable) = cx.ty_kind(ty) else {
-        return None;
-    };
-    Some(ty_vid(variable))
+    ty_vid(&cx.ty_kind(ty))
 }
 
-// Whether a type variable stands in a term.
+// Whether a type variable stands in a term, of forms that relating has rules for.
 fn occurs<I: Interner>(cx: &I, term: &Part<I::Key>, var: TyVid) -> bool
-    requires { IsTrue (known (part_tree (I.meaning cx.now) term.now)) }
+    requires term_known { IsTrue (known (part_tree (I.meaning cx.now) term.now)) }
+    requires term_covered { IsCovered (part_tree (I.meaning cx.now) term.now) }
     ensures stands { IsTrue result →
         StandsOutside (variable type_var var.0) (part_tree (I.meaning cx.now) term.now) }
     ensures absent { IsFalse result → Occurs type_var var.0 (part_tree (I.meaning cx.now) term.now) → ⊥ }
@@ -123,14 +120,12 @@ impl<I: Interner> RefCtxt<I> {
 
     // The variable that a type is, or none.
     pub(crate) fn ty_var(&self, ty: &Ty<I>) -> Option<TyVid>
-        requires { IsTrue (known ((I.meaning self.now.interner).ty ty.now)) }
+        requires ty_known { IsTrue (known ((I.meaning self.now.interner).ty ty.now)) }
+        requires ty_covered { IsCovered ((I.meaning self.now.interner).ty ty.now) }
         ensures is { IfSome result (λ v. (I.meaning self.now.interner).ty ty.now ≡ leaf (variable type_var v.0)) }
         ensures formed { IfNone result (IsFormed ((I.meaning self.now.interner).ty ty.now)) }
     {
-        let TyKind::Infer(variable) = self.interner.ty_kind(ty) else {
-            return None;
-        };
-        Some(ty_vid(variable))
+        ty_vid(&self.interner.ty_kind(ty))
     }
 
     // Binds a root to what a type comes to, for one of the budget, and answers that. The type does not come to the
@@ -146,6 +141,7 @@ impl<I: Interner> RefCtxt<I> {
         requires source_known { IsTrue (known ((I.meaning self.old.interner).ty source.now)) }
         requires source_in { IsTermIn (store_in I.meaning self.old) ((I.meaning self.old.interner).ty source.now) }
         requires source_formed { IsFormed ((I.meaning self.old.interner).ty source.now) }
+        requires source_covered { IsCovered ((I.meaning self.old.interner).ty source.now) }
         ensures lawful { IsLawful (I.meaning self.new.interner) self.new.inner }
         ensures grown { Extends (I.meaning self.old.interner) (I.meaning self.new.interner) }
         ensures sure { IfOk result (λ t. IsTrue (known ((I.meaning self.new.interner).ty t))) }

@@ -2,7 +2,9 @@
 ghost use Rattle.std.specs.Prelude.{◌≡◌, ℕ, ◌<◌, IsTrue, IfSome, IfNone, length, []};
 ghost use Rattle.relation_terms.specs.Heads.{type_var, variable};
 ghost use Rattle.relation_terms.specs.Trees.{leaf, known};
-ghost use Rattle.relation_terms.specs.Meaning.{infer_tree};
+ghost use Rattle.relation_terms.specs.declared.terms.ty_kind.TyKind.TheVariants.{Infer};
+ghost use Rattle.relation_terms.specs.declared.terms.ty_kind.InferTy.TheVariants.{TyVar};
+ghost use Rattle.type_relations.specs.Covered.{IsCovered};
 ghost use Rattle.type_relations.specs.Stores.{unbound, entry_of, bound_to, IsTermIn};
 ghost use Rattle.type_relations.specs.Steps.{LeadsTo, Resolves};
 ghost use Rattle.type_relations.specs.Errors.{IsReadAs};
@@ -21,12 +23,14 @@ pub struct RefCtxt<I: Interner> {
     pub inner: InferCtxtInner<I::Key>,
 }
 
-// The number of a type variable.
-pub(crate) fn ty_vid(infer: InferTy) -> TyVid
-    ensures { infer_tree infer ≡ leaf (variable type_var result.0) }
+// The type variable that a form is, or none.
+pub(crate) fn ty_vid<X, D, N>(kind: &TyKind<X, D, N>) -> Option<TyVid>
+    ensures is { IfSome result (λ v. kind.now ≡ Infer (TyVar v)) }
+    ensures is_none { IfNone result ((v : _) → kind.now ≡ Infer (TyVar v) → ⊥) }
 {
-    match infer {
-        InferTy::TyVar(vid) => vid,
+    match kind {
+        TyKind::Infer(InferTy::TyVar(vid)) => Some(*vid),
+        _ => None,
     }
 }
 
@@ -116,7 +120,7 @@ impl<I: Interner> RefCtxt<I> {
         }
     }
 
-    /// The type itself, or for a variable the type that its class is bound to, or else the root of its class.
+    /// The type itself, or for a type variable the type that its class is bound to, or else the root of its class.
     pub(crate) fn shallow_resolve(&self, ty: &Ty<I>) -> Ty<I>
         requires lawful { IsLawful (I.meaning self.now.interner) self.now.inner }
         requires ty_known { IsTrue (known ((I.meaning self.now.interner).ty ty.now)) }
@@ -127,11 +131,12 @@ impl<I: Interner> RefCtxt<I> {
         ensures resolves { let m = I.meaning self.now.interner in
             Resolves (store_in I.meaning self.now) (m.ty ty.now) (m.ty result) }
         ensures shallow { IsShallow (store_in I.meaning self.now) ((I.meaning self.now.interner).ty result) }
+        ensures covered { let m = I.meaning self.now.interner in IsCovered (m.ty ty.now) → IsCovered (m.ty result) }
     {
-        let TyKind::Infer(variable) = self.interner.ty_kind(ty) else {
+        let Some(vid) = ty_vid(&self.interner.ty_kind(ty)) else {
             return *ty;
         };
-        let root = self.root_ty_var(ty_vid(variable));
+        let root = self.root_ty_var(vid);
         match self.probe(root.0) {
             TypeVariableValue::Known(bound) => bound,
             TypeVariableValue::Unknown => self.inner.types[root.0].key,

@@ -1,15 +1,31 @@
 //! The outermost forms of constants and of value trees.
-use crate::terms::{ArgsKey, BranchesKey, Keys, PlaceholderConst, TyKey, ValTreeKey};
+use crate::terms::{
+    ArgsKey, BoundConst, BranchesKey, ConstVid, DebruijnIndex, ErrorGuaranteed, Keys,
+    PlaceholderConst, TyKey, UnevaluatedConst, ValTreeKey,
+};
 
-/// The outermost form of a constant, over keys and names.
+/// The outermost form of a constant, over keys, ids of items and names.
 #[derive(Clone, Copy, PartialEq, Eq, Hash)]
-pub enum ConstKind<X, N> {
+pub enum ConstKind<X, D, N> {
     Param(ParamConst<N>),
+    Infer(InferConst),
+    /// What a binder binds, that stands so many binders further out.
+    Bound(DebruijnIndex, BoundConst<N>),
     Placeholder(PlaceholderConst<N>),
+    Unevaluated(UnevaluatedConst<X, D>),
     /// A value and its type.
     Value(TyKey<X>, ValTreeKey<X>),
+    Error(ErrorGuaranteed),
     /// An operation and its arguments.
     Expr(ExprKind, ArgsKey<X>),
+}
+
+/// A variable that stands for a constant, or a stand-in for one.
+#[derive(Clone, Copy, PartialEq, Eq, Hash)]
+pub enum InferConst {
+    Var(ConstVid),
+    /// A stand-in, by its number.
+    Fresh(u32),
 }
 
 /// A constant parameter of an item, by its index and its name.
@@ -33,7 +49,7 @@ pub enum ValTreeKind<X> {
 }
 
 /// The outermost form of an interner's constant.
-pub type ConstForm<I> = ConstKind<<I as Keys>::Key, <I as Keys>::Name>;
+pub type ConstForm<I> = ConstKind<<I as Keys>::Key, <I as Keys>::Id, <I as Keys>::Name>;
 
 /// The outermost form of an interner's value tree.
 pub type ValTreeForm<I> = ValTreeKind<<I as Keys>::Key>;

@@ -38,6 +38,42 @@ pub struct ForeignId<D>(pub D);
 #[derive(Clone, Copy, PartialEq, Eq, Hash, Debug)]
 pub struct TraitId<D>(pub D);
 
+/// The id of an associated type of a trait.
+#[derive(Clone, Copy, PartialEq, Eq, Hash)]
+pub struct TraitAssocTyId<D>(pub D);
+
+/// The id of an associated constant of a trait.
+#[derive(Clone, Copy, PartialEq, Eq, Hash)]
+pub struct TraitAssocConstId<D>(pub D);
+
+/// The id of an associated type or constant of a trait.
+#[derive(Clone, Copy, PartialEq, Eq, Hash)]
+pub struct TraitAssocTermId<D>(pub D);
+
+/// The id of an associated type of an inherent impl.
+#[derive(Clone, Copy, PartialEq, Eq, Hash)]
+pub struct InherentAssocTyId<D>(pub D);
+
+/// The id of an associated constant of an inherent impl.
+#[derive(Clone, Copy, PartialEq, Eq, Hash)]
+pub struct InherentAssocConstId<D>(pub D);
+
+/// The id of an opaque type.
+#[derive(Clone, Copy, PartialEq, Eq, Hash)]
+pub struct OpaqueTyId<D>(pub D);
+
+/// The id of a type alias.
+#[derive(Clone, Copy, PartialEq, Eq, Hash)]
+pub struct FreeTyAliasId<D>(pub D);
+
+/// The id of a constant that stands free of any trait or impl.
+#[derive(Clone, Copy, PartialEq, Eq, Hash)]
+pub struct FreeConstAliasId<D>(pub D);
+
+/// The id of a constant that is not evaluated.
+#[derive(Clone, Copy, PartialEq, Eq, Hash)]
+pub struct UnevaluatedConstId<D>(pub D);
+
 /// The id of an item of an interner.
 pub type ItemOf<I> = DefId<<I as Keys>::Id>;
 
@@ -94,5 +130,117 @@ impl<D> From<TraitId<D>> for DefId<D> {
 
     fn from(id: TraitId<D>) -> DefId<D> {
         DefId(id.0)
+    }
+}
+
+impl<D> From<TraitAssocTyId<D>> for DefId<D> {
+    ghost from_gives = { λ id d. d ≡ record { 0 = id.0 } };
+
+    fn from(id: TraitAssocTyId<D>) -> DefId<D> {
+        DefId(id.0)
+    }
+}
+
+impl<D> From<TraitAssocConstId<D>> for DefId<D> {
+    ghost from_gives = { λ id d. d ≡ record { 0 = id.0 } };
+
+    fn from(id: TraitAssocConstId<D>) -> DefId<D> {
+        DefId(id.0)
+    }
+}
+
+impl<D> From<TraitAssocTermId<D>> for DefId<D> {
+    ghost from_gives = { λ id d. d ≡ record { 0 = id.0 } };
+
+    fn from(id: TraitAssocTermId<D>) -> DefId<D> {
+        DefId(id.0)
+    }
+}
+
+impl<D> From<InherentAssocTyId<D>> for DefId<D> {
+    ghost from_gives = { λ id d. d ≡ record { 0 = id.0 } };
+
+    fn from(id: InherentAssocTyId<D>) -> DefId<D> {
+        DefId(id.0)
+    }
+}
+
+impl<D> From<InherentAssocConstId<D>> for DefId<D> {
+    ghost from_gives = { λ id d. d ≡ record { 0 = id.0 } };
+
+    fn from(id: InherentAssocConstId<D>) -> DefId<D> {
+        DefId(id.0)
+    }
+}
+
+impl<D> From<OpaqueTyId<D>> for DefId<D> {
+    ghost from_gives = { λ id d. d ≡ record { 0 = id.0 } };
+
+    fn from(id: OpaqueTyId<D>) -> DefId<D> {
+        DefId(id.0)
+    }
+}
+
+impl<D> From<FreeTyAliasId<D>> for DefId<D> {
+    ghost from_gives = { λ id d. d ≡ record { 0 = id.0 } };
+
+    fn from(id: FreeTyAliasId<D>) -> DefId<D> {
+        DefId(id.0)
+    }
+}
+
+impl<D> From<FreeConstAliasId<D>> for DefId<D> {
+    ghost from_gives = { λ id d. d ≡ record { 0 = id.0 } };
+
+    fn from(id: FreeConstAliasId<D>) -> DefId<D> {
+        DefId(id.0)
+    }
+}
+
+impl<D> From<UnevaluatedConstId<D>> for DefId<D> {
+    ghost from_gives = { λ id d. d ≡ record { 0 = id.0 } };
+
+    fn from(id: UnevaluatedConstId<D>) -> DefId<D> {
+        DefId(id.0)
+    }
+}
+
+impl<D> From<TraitAssocTyId<D>> for TraitAssocTermId<D> {
+    ghost from_gives = { λ id d. d ≡ record { 0 = id.0 } };
+
+    fn from(id: TraitAssocTyId<D>) -> TraitAssocTermId<D> {
+        TraitAssocTermId(id.0)
+    }
+}
+
+impl<D> From<TraitAssocConstId<D>> for TraitAssocTermId<D> {
+    ghost from_gives = { λ id d. d ≡ record { 0 = id.0 } };
+
+    fn from(id: TraitAssocConstId<D>) -> TraitAssocTermId<D> {
+        TraitAssocTermId(id.0)
+    }
+}
+
+impl<D> From<TraitAssocConstId<D>> for UnevaluatedConstId<D> {
+    ghost from_gives = { λ id d. d ≡ record { 0 = id.0 } };
+
+    fn from(id: TraitAssocConstId<D>) -> UnevaluatedConstId<D> {
+        UnevaluatedConstId(id.0)
+    }
+}
+
+impl<D> From<InherentAssocConstId<D>> for UnevaluatedConstId<D> {
+    ghost from_gives = { λ id d. d ≡ record { 0 = id.0 } };
+
+    fn from(id: InherentAssocConstId<D>) -> UnevaluatedConstId<D> {
+        UnevaluatedConstId(id.0)
+    }
+}
+
+impl<D> From<FreeConstAliasId<D>> for UnevaluatedConstId<D> {
+    ghost from_gives = { λ id d. d ≡ record { 0 = id.0 } };
+
+    fn from(id: FreeConstAliasId<D>) -> UnevaluatedConstId<D> {
+        UnevaluatedConstId(id.0)
     }
 }

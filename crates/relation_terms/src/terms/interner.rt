@@ -1,18 +1,20 @@
 //! What makes and reads keys.
 ghost use Rattle.std.specs.Prelude.{◌≡◌, IsTrue, IfOk, OnErr};
 ghost use Rattle.relation_terms.specs.Heads.{type_sort, region_sort, const_sort, value_sort, argument_sort};
+ghost use Rattle.relation_terms.specs.Heads.{pattern_sort};
 ghost use Rattle.relation_terms.specs.Heads.{environment, environment_sort};
 ghost use Rattle.relation_terms.specs.Trees.{known, list_tree, node, nil};
 ghost use Rattle.relation_terms.specs.Meaning.{Meaning, Extends, kind_tree, region_tree, const_tree, valtree_tree};
-ghost use Rattle.relation_terms.specs.Meaning.{arg_tree};
+ghost use Rattle.relation_terms.specs.Meaning.{arg_tree, pattern_tree};
 ghost use Rattle.relation_terms.specs.Interning.{AreEqualAsTrees, AreEqualAsNumbers, IsOfSort, AreOfSort, RemakesTy};
 ghost use Rattle.relation_terms.specs.Interning.{RemakesRegion, RemakesConst, RemakesValTree, RemakesEmptyEnv};
+ghost use Rattle.relation_terms.specs.Interning.{RemakesPat, MakesAlternatives, KeepsAlternatives};
 ghost use Rattle.relation_terms.specs.Interning.{MakesTys, MakesArgs, MakesBranches, KeepsTys, KeepsArgs};
 ghost use Rattle.relation_terms.specs.Interning.{KeepsBranches};
 
 use crate::terms::{
-    Branches, Const, ConstForm, GenericArg, GenericArgs, ItemOf, Keys, ParamEnv, Region,
-    RegionForm, Span, Ty, TyForm, Tys, ValTree, ValTreeForm, Variance,
+    Alternatives, Branches, Const, ConstForm, GenericArg, GenericArgs, ItemOf, Keys, ParamEnv, Pat,
+    PatternForm, Region, RegionForm, Span, Ty, TyForm, Tys, ValTree, ValTreeForm, Variance,
 };
 use std::alloc::{AllocError, AllocFailed, Global};
 
@@ -71,6 +73,11 @@ pub trait Interner: Keys {
         requires { IsTrue (known ((meaning self.now).valtree valtree.now)) }
         ensures { (meaning self.now).valtree valtree.now ≡ valtree_tree (meaning self.now) result };
 
+    /// The outermost form of a pattern.
+    fn pat_kind(&self, pat: &Pat<Self>) -> PatternForm<Self>
+        requires { IsTrue (known ((meaning self.now).pat pat.now)) }
+        ensures { (meaning self.now).pat pat.now ≡ pattern_tree (meaning self.now) result };
+
     /// The arguments of a list.
     fn args(&self, args: &GenericArgs<Self>) -> &[GenericArg<Self>]
         requires { IsTrue (known ((meaning self.now).args args.now)) }
@@ -80,6 +87,11 @@ pub trait Interner: Keys {
     fn branches(&self, branches: &Branches<Self>) -> &[Const<Self>]
         requires { IsTrue (known ((meaning self.now).branches branches.now)) }
         ensures { (meaning self.now).branches branches.now ≡ list_tree (meaning self.now).const_ result.now };
+
+    /// The patterns of a list.
+    fn alternatives(&self, alternatives: &Alternatives<Self>) -> &[Pat<Self>]
+        requires { IsTrue (known ((meaning self.now).alternatives alternatives.now)) }
+        ensures { (meaning self.now).alternatives alternatives.now ≡ list_tree (meaning self.now).pat result.now };
 
     /// How many generic parameters an item has.
     fn generics_count(&self, def_id: &ItemOf<Self>) -> usize
@@ -133,6 +145,15 @@ pub trait Interner: Keys {
         ensures refused { OnErr result (meaning self.new ≡ meaning self.old) }
         ensures there { RemakesValTree (meaning self.old) (meaning self.new) kind result };
 
+    /// The pattern of an outermost form.
+    fn mk_pat(&mut self, kind: PatternForm<Self>) -> Result<Pat<Self>, OutOfMemory>
+        requires { IsTrue (known (pattern_tree (meaning self.old) kind)) }
+        ensures grown { Extends (meaning self.old) (meaning self.new) }
+        ensures sure { IfOk result (λ k. IsTrue (known ((meaning self.new).pat k))) }
+        ensures made { IfOk result (λ k. (meaning self.new).pat k ≡ pattern_tree (meaning self.old) kind) }
+        ensures refused { OnErr result (meaning self.new ≡ meaning self.old) }
+        ensures there { RemakesPat (meaning self.old) (meaning self.new) kind result };
+
     /// The list of arguments.
     fn mk_args(&mut self, args: &[GenericArg<Self>]) -> Result<GenericArgs<Self>, OutOfMemory>
         requires { IsTrue (known (list_tree (arg_tree (meaning self.old)) args.now)) }
@@ -150,6 +171,18 @@ pub trait Interner: Keys {
         ensures made { MakesBranches (meaning self.old) (meaning self.new) branches.now result }
         ensures refused { OnErr result (meaning self.new ≡ meaning self.old) }
         ensures there { KeepsBranches (meaning self.old) (meaning self.new) branches.now };
+
+    /// The list of patterns, alternatives of one.
+    fn mk_alternatives(
+        &mut self,
+        alternatives: &[Pat<Self>],
+    ) -> Result<Alternatives<Self>, OutOfMemory>
+        requires { IsTrue (known (list_tree (meaning self.old).pat alternatives.now)) }
+        ensures grown { Extends (meaning self.old) (meaning self.new) }
+        ensures sure { IfOk result (λ k. IsTrue (known ((meaning self.new).alternatives k))) }
+        ensures made { MakesAlternatives (meaning self.old) (meaning self.new) alternatives.now result }
+        ensures refused { OnErr result (meaning self.new ≡ meaning self.old) }
+        ensures there { KeepsAlternatives (meaning self.old) (meaning self.new) alternatives.now };
 
     /// The environment without clauses.
     fn empty_param_env(&mut self) -> Result<ParamEnv<Self>, OutOfMemory>
@@ -174,6 +207,10 @@ pub trait Interner: Keys {
 
     ghost same_branches: { (a : Self) → AreEqualAsTrees (meaning a).branches (λ k l. Self.Key.eq k.0 l.0) };
 
+    ghost same_pat: { (a : Self) → AreEqualAsTrees (meaning a).pat (λ k l. Self.Key.eq k.0 l.0) };
+
+    ghost same_alternatives: { (a : Self) → AreEqualAsTrees (meaning a).alternatives (λ k l. Self.Key.eq k.0 l.0) };
+
     ghost same_param_env: { (a : Self) → AreEqualAsTrees (meaning a).param_env (λ k l. Self.Key.eq k.0 l.0) };
 
     // Names are equal exactly where their numbers are.
@@ -196,6 +233,10 @@ pub trait Interner: Keys {
     ghost are_args: { (a : Self) → AreOfSort (meaning a).args argument_sort };
 
     ghost are_branches: { (a : Self) → AreOfSort (meaning a).branches const_sort };
+
+    ghost is_pat: { (a : Self) → IsOfSort (meaning a).pat pattern_sort };
+
+    ghost are_alternatives: { (a : Self) → AreOfSort (meaning a).alternatives pattern_sort };
 
     ghost is_param_env: { (a : Self) → IsOfSort (meaning a).param_env environment_sort };
 }

@@ -96,6 +96,12 @@ pub type ValTree<I> = ValTreeKey<<I as Keys>::Key>;
 /// A list of constants of an interner, the branches of a value tree.
 pub type Branches<I> = BranchesKey<<I as Keys>::Key>;
 
+/// A pattern of an interner.
+pub type Pat<I> = PatKey<<I as Keys>::Key>;
+
+/// A list of patterns of an interner, the alternatives of a pattern.
+pub type Alternatives<I> = AlternativesKey<<I as Keys>::Key>;
+
 /// A predicate of an interner.
 pub type Predicate<I> = PredicateKey<<I as Keys>::Key>;
 

@@ -4,6 +4,10 @@
 #[derive(Clone, Copy, PartialEq, Eq, PartialOrd, Ord, Hash)]
 pub struct UniverseIndex(pub usize);
 
+/// How many binders stand between a bound variable and the one that binds it: 0 is the nearest.
+#[derive(Clone, Copy, PartialEq, Eq, PartialOrd, Ord, Hash)]
+pub struct DebruijnIndex(pub u64);
+
 /// The place of a variable in the list of the binder that binds it.
 #[derive(Clone, Copy, PartialEq, Eq, PartialOrd, Ord, Hash, Debug)]
 pub struct BoundVar(pub usize);

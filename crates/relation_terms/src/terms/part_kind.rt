@@ -1,5 +1,7 @@
 //! Parts of terms, of any sort, and lists of them.
-use crate::terms::{ArgsKey, BranchesKey, ConstKey, RegionKey, TyKey, TysKey, ValTreeKey};
+use crate::terms::{
+    AlternativesKey, ArgsKey, BranchesKey, ConstKey, PatKey, RegionKey, TyKey, TysKey, ValTreeKey,
+};
 
 /// A term of any sort that can be a part.
 #[derive(Clone, Copy)]
@@ -8,6 +10,7 @@ pub enum Part<X> {
     Ty(TyKey<X>),
     Const(ConstKey<X>),
     ValTree(ValTreeKey<X>),
+    Pat(PatKey<X>),
     /// The declared type of a value, a form of its own: its part is the type.
     ValueType(TyKey<X>),
 }
@@ -21,4 +24,5 @@ pub enum Parts<X> {
     Args(ArgsKey<X>),
     Tys(TysKey<X>),
     Branches(BranchesKey<X>),
+    Alternatives(AlternativesKey<X>),
 }

@@ -9,7 +9,8 @@ mod members;
 mod whole;
 
 pub use keys::{
-    is_same, the_args, the_branches, the_const, the_region, the_ty, the_tys, the_valtree,
+    is_same, the_alternatives, the_args, the_branches, the_const, the_pat, the_region, the_ty,
+    the_tys, the_valtree,
 };
 pub use members::{make_parts, member, member_count};
 pub use whole::{part, parts_count, parts_of, with_parts};

@@ -2,8 +2,9 @@
 ghost use Rattle.std.specs.Prelude.{◌≡◌};
 
 use crate::terms::{
-    AdtId, ArgsKey, ClosureId, ConstKey, CoroutineClosureId, CoroutineId, FloatTy, ForeignId,
-    FunctionId, IntTy, Keys, Mutability, PlaceholderType, RegionKey, TyKey, TyVid, TysKey, UintTy,
+    AdtId, AliasTy, ArgsKey, BoundTy, ClosureId, ConstKey, CoroutineClosureId, CoroutineId,
+    DebruijnIndex, ErrorGuaranteed, FloatTy, FloatVid, ForeignId, FunctionId, IntTy, IntVid, Keys,
+    Mutability, PatKey, PlaceholderType, RegionKey, TyKey, TyVid, TysKey, UintTy,
 };
 use std::alloc::AllocError;
 
@@ -19,6 +20,8 @@ pub enum TyKind<X, D, N> {
     Foreign(ForeignId<D>),
     Str,
     Array(TyKey<X>, ConstKey<X>),
+    /// The values of a type that a pattern admits.
+    Pat(TyKey<X>, PatKey<X>),
     Slice(TyKey<X>),
     RawPtr(TyKey<X>, Mutability),
     Ref(RegionKey<X>, TyKey<X>, Mutability),
@@ -29,9 +32,13 @@ pub enum TyKind<X, D, N> {
     CoroutineWitness(CoroutineId<D>, ArgsKey<X>),
     Never,
     Tuple(TysKey<X>),
+    Alias(AliasTy<X, D>),
     Param(ParamTy<N>),
+    /// What a binder binds, that stands so many binders further out.
+    Bound(DebruijnIndex, BoundTy<N>),
     Placeholder(PlaceholderType<N>),
     Infer(InferTy),
+    Error(ErrorGuaranteed),
 }
 
 /// A type parameter of an item, by its index and its name.
@@ -41,10 +48,16 @@ pub struct ParamTy<N> {
     pub name: N,
 }
 
-/// A variable that stands for a type.
+/// A variable that stands for a type, for an integer type or for a float type, or a stand-in for one.
 #[derive(Clone, Copy, PartialEq, Eq, Hash)]
 pub enum InferTy {
     TyVar(TyVid),
+    IntVar(IntVid),
+    FloatVar(FloatVid),
+    /// Stand-ins for variables, by their number.
+    FreshTy(u32),
+    FreshIntTy(u32),
+    FreshFloatTy(u32),
 }
 
 /// The outermost form of an interner's type.

@@ -1,5 +1,5 @@
 //! The texts of names, of items and of the small enums.
-ghost use Rattle.std.specs.Prelude.{◌≡◌};
+ghost use Rattle.std.specs.Prelude.{◌≡◌, None};
 ghost use Rattle.relation_text.specs.Texts.{int_name, uint_name, float_name, pointer_name, mutability_text};
 
 use relation_terms::terms::{FloatTy, IntTy, Keys, Mutability, UintTy};
@@ -11,11 +11,31 @@ pub struct Parameter<'a, N> {
     pub text: &'a str,
 }
 
-/// An item's id in an interner, and its text.
+/// The trait that an item is an associated one of: its text, and how many of the item's arguments are the trait's, the
+/// first of which is the type that the trait is of.
+#[derive(Clone, Copy)]
+pub struct TraitText<'a> {
+    pub text: &'a str,
+    pub count: usize,
+}
+
+/// An item's id in an interner, and its text; of an associated item of a trait also the trait's.
 #[derive(Clone, Copy)]
 pub struct ItemText<'a, D> {
     pub id: D,
     pub text: &'a str,
+    pub of: Option<TraitText<'a>>,
+}
+
+impl<'a, D> ItemText<'a, D> {
+    /// The text of an item that is no associated item of a trait.
+    pub fn new(id: D, text: &'a str) -> ItemText<'a, D>
+        ensures id { result.id ≡ id }
+        ensures text { result.text.now ≡ text.now }
+        ensures of { result.of ≡ None }
+    {
+        ItemText { id, text, of: None }
+    }
 }
 
 /// The texts of names and of items, as the caller hands them in. Of several texts of one name or one item the first is
@@ -51,6 +71,19 @@ pub(super) fn item_text<'a, D: PartialEq>(items: &[ItemText<'a, D>], id: &D) -> 
         }
     }
     "_"
+}
+
+// The trait that an item is an associated one of, if the texts say so.
+pub(super) fn trait_text<'a, D: PartialEq>(
+    items: &[ItemText<'a, D>],
+    id: &D,
+) -> Option<TraitText<'a>> {
+    for item in items {
+        if item.id == *id {
+            return item.of;
+        }
+    }
+    None
 }
 
 // The name of a signed integer type.

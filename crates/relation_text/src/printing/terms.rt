@@ -1,63 +1,20 @@
 //! How terms print.
-ghost use Rattle.std.specs.Prelude.{IsTrue};
+ghost use Rattle.std.specs.Prelude.{◌≡◌, IsTrue};
 ghost use Rattle.relation_terms.specs.Trees.{known};
-ghost use Rattle.relation_terms.specs.Meaning.{arg_tree};
+ghost use Rattle.relation_terms.specs.Meaning.{alias_id, arg_tree};
 
+use crate::printing::leaves::{
+    write_bound, write_const_variable, write_placeholder, write_region, write_variable,
+};
 use crate::printing::names::{
-    Parameter, TextsOf, float_name, int_name, item_text, mutability_text, name_text, pointer_name,
-    uint_name,
+    TextsOf, TraitText, float_name, int_name, item_text, mutability_text, name_text, pointer_name,
+    trait_text, uint_name,
 };
 use relation_terms::terms::{
-    Const, ConstKind, GenericArg, GenericArgKind, GenericArgs, InferTy, Interner, Mutability,
-    Region, RegionKind, Ty, TyKind, Tys, UniverseIndex, ValTree, ValTreeKind,
+    AliasTyKind, Alternatives, Const, ConstKind, ExprKind, GenericArg, GenericArgKind, GenericArgs,
+    Interner, Mutability, Pat, PatternKind, Region, Ty, TyKind, Tys, ValTree, ValTreeKind,
 };
 use std::fmt::{self, Write};
-
-/// Writes a region. A parameter that has no text is `'_`.
-///
-/// # Errors
-/// `fmt::Error` where `out` refused to take some of the text. What it took before stands.
-pub fn write_region<I: Interner, W: Write>(
-    cx: &I,
-    texts: &TextsOf<I>,
-    region: &Region<I>,
-    out: &mut W,
-) -> fmt::Result
-    requires { IsTrue (known ((I.meaning cx.now).region region.now)) }
-{
-    match cx.region_kind(region) {
-        RegionKind::ReStatic => out.write_str("'static"),
-        RegionKind::ReVar(variable) => {
-            let number = variable.0;
-            write!(out, "'?{number}")
-        }
-        RegionKind::ReEarlyParam(named) => {
-            out.write_str(name_text(texts.names, &named.name, "'_"))
-        }
-    }
-}
-
-// Writes a placeholder: the number of its universe, and its name.
-fn write_placeholder<N: PartialEq, W: Write>(
-    names: &[Parameter<N>],
-    universe: UniverseIndex,
-    name: &N,
-    out: &mut W,
-) -> fmt::Result {
-    let number = universe.0;
-    let text = name_text(names, name, "_");
-    write!(out, "!{number}{text}")
-}
-
-// Writes a variable that stands for a type.
-fn write_variable<W: Write>(variable: InferTy, out: &mut W) -> fmt::Result {
-    match variable {
-        InferTy::TyVar(variable) => {
-            let number = variable.0;
-            write!(out, "?{number}")
-        }
-    }
-}
 
 /// Writes a type. A parameter or an item that has no text is `_`, a region parameter `'_`.
 ///
@@ -84,7 +41,9 @@ pub fn write_ty<I: Interner, W: Write>(
         TyKind::Foreign(def) => out.write_str(item_text(texts.items, &def.0)),
         TyKind::Param(named) => out.write_str(name_text(texts.names, &named.name, "_")),
         TyKind::Placeholder(of) => write_placeholder(texts.names, of.universe, &of.bound.name, out),
+        TyKind::Bound(depth, of) => write_bound("^", depth, of.var, out),
         TyKind::Infer(variable) => write_variable(variable, out),
+        TyKind::Error(_) => out.write_str("{error}"),
         TyKind::Array(element, length) => write_array(cx, texts, &element, &length, out),
         TyKind::Slice(element) => {
             out.write_str("[")?;
@@ -106,6 +65,8 @@ pub fn write_ty<I: Interner, W: Write>(
         TyKind::CoroutineClosure(def, args) => write_item(cx, texts, &def.0, &args, out),
         TyKind::Coroutine(def, args) => write_item(cx, texts, &def.0, &args, out),
         TyKind::CoroutineWitness(def, args) => write_item(cx, texts, &def.0, &args, out),
+        TyKind::Alias(alias) => write_item(cx, texts, &alias_id(&alias.kind), &alias.args, out),
+        TyKind::Pat(base, pat) => write_pattern_type(cx, texts, &base, &pat, out),
     }
 }
 
@@ -169,7 +130,19 @@ fn write_tuple<I: Interner, W: Write>(
     out.write_str(")")
 }
 
-// Writes an item and, where there are any, its arguments.
+// The id of an alias.
+fn alias_id<D: Copy>(kind: &AliasTyKind<D>) -> D
+    ensures { result ≡ alias_id kind.now }
+{
+    match kind {
+        AliasTyKind::Projection { def_id } => def_id.0,
+        AliasTyKind::Inherent { def_id } => def_id.0,
+        AliasTyKind::Opaque { def_id } => def_id.0,
+        AliasTyKind::Free { def_id } => def_id.0,
+    }
+}
+
+// Writes an item over its arguments: an associated item of a trait by the trait, any other by its name.
 #[cycle(write_ty)]
 #[tactic(auto, using(crate::proofs::Parts::size_part, crate::proofs::Parts::known_part))]
 fn write_item<I: Interner, W: Write>(
@@ -181,33 +154,172 @@ fn write_item<I: Interner, W: Write>(
 ) -> fmt::Result
     requires { IsTrue (known ((I.meaning cx.now).args args.now)) }
 {
-    out.write_str(item_text(texts.items, id))?;
-    if cx.args(args).is_empty() {
+    let name = item_text(texts.items, id);
+    let count = cx.args(args).len();
+    match trait_text(texts.items, id) {
+        Some(of) if 0 < of.count && of.count <= count => {
+            write_associated(cx, texts, of, args, out)?;
+            write_named(cx, texts, name, args, of.count, count, out)
+        }
+        _ => write_named(cx, texts, name, args, 0, count, out),
+    }
+}
+
+// Writes what stands before the name of an associated item: the type that its trait is of, and the trait.
+#[cycle(write_ty)]
+#[tactic(auto, using(crate::proofs::Parts::size_part, crate::proofs::Parts::known_part))]
+fn write_associated<I: Interner, W: Write>(
+    cx: &I,
+    texts: &TextsOf<I>,
+    of: TraitText,
+    args: &GenericArgs<I>,
+    out: &mut W,
+) -> fmt::Result
+    requires { IsTrue (known ((I.meaning cx.now).args args.now)) }
+{
+    out.write_str("<")?;
+    write_args(cx, texts, args, 0, 1, out)?;
+    out.write_str(" as ")?;
+    write_named(cx, texts, of.text, args, 1, of.count, out)?;
+    out.write_str(">::")
+}
+
+// Writes a name and, where there are any, the arguments from a place on, up to another.
+#[cycle(write_ty)]
+#[tactic(auto, using(crate::proofs::Parts::size_part, crate::proofs::Parts::known_part))]
+fn write_named<I: Interner, W: Write>(
+    cx: &I,
+    texts: &TextsOf<I>,
+    name: &str,
+    args: &GenericArgs<I>,
+    first: usize,
+    behind: usize,
+    out: &mut W,
+) -> fmt::Result
+    requires { IsTrue (known ((I.meaning cx.now).args args.now)) }
+{
+    out.write_str(name)?;
+    if behind <= first {
         return Ok(());
     }
     out.write_str("<")?;
-    write_args(cx, texts, args, out)?;
+    write_args(cx, texts, args, first, behind, out)?;
     out.write_str(">")
 }
 
-// Writes arguments with commas between.
+// Writes the arguments from a place on, up to another, with commas between.
 #[cycle(write_ty)]
 #[tactic(auto, using(crate::proofs::Parts::size_part, crate::proofs::Parts::known_part))]
 fn write_args<I: Interner, W: Write>(
     cx: &I,
     texts: &TextsOf<I>,
     args: &GenericArgs<I>,
+    first: usize,
+    behind: usize,
     out: &mut W,
 ) -> fmt::Result
     requires { IsTrue (known ((I.meaning cx.now).args args.now)) }
 {
     for (place, arg) in cx.args(args).iter().enumerate() {
-        if place > 0 {
-            out.write_str(", ")?;
+        if first <= place && place < behind {
+            if place > first {
+                out.write_str(", ")?;
+            }
+            write_arg(cx, texts, arg, out)?;
         }
-        write_arg(cx, texts, arg, out)?;
     }
     Ok(())
+}
+
+// Writes the values of a type that a pattern admits: `T is P`. A pointer's target would take the pattern for its own,
+// so a pointer stands in brackets, and so does another such type.
+#[cycle(write_ty)]
+#[tactic(auto, using(crate::proofs::Parts::size_part, crate::proofs::Parts::known_part))]
+fn write_pattern_type<I: Interner, W: Write>(
+    cx: &I,
+    texts: &TextsOf<I>,
+    base: &Ty<I>,
+    pat: &Pat<I>,
+    out: &mut W,
+) -> fmt::Result
+    requires base { IsTrue (known ((I.meaning cx.now).ty base.now)) }
+    requires pat { IsTrue (known ((I.meaning cx.now).pat pat.now)) }
+{
+    let (open, close) = match cx.ty_kind(base) {
+        TyKind::RawPtr(..) | TyKind::Ref(..) | TyKind::Pat(..) => ("(", ") is "),
+        _ => ("", " is "),
+    };
+    out.write_str(open)?;
+    write_ty(cx, texts, base, out)?;
+    out.write_str(close)?;
+    write_pattern(cx, texts, pat, out)
+}
+
+// Writes a pattern.
+#[cycle(write_ty)]
+#[tactic(auto, using(crate::proofs::Parts::size_part, crate::proofs::Parts::known_part))]
+fn write_pattern<I: Interner, W: Write>(
+    cx: &I,
+    texts: &TextsOf<I>,
+    pat: &Pat<I>,
+    out: &mut W,
+) -> fmt::Result
+    requires { IsTrue (known ((I.meaning cx.now).pat pat.now)) }
+{
+    match cx.pat_kind(pat) {
+        PatternKind::NotNull => out.write_str("!null"),
+        PatternKind::Range { start, end } => {
+            write_const(cx, texts, &start, out)?;
+            out.write_str("..=")?;
+            write_const(cx, texts, &end, out)
+        }
+        PatternKind::Or(alternatives) => write_alternatives(cx, texts, &alternatives, out),
+    }
+}
+
+// Writes alternatives with `|` between. A lone one has a `|` before it, and one that has alternatives of its own stands
+// in brackets.
+#[cycle(write_ty)]
+#[tactic(auto, using(crate::proofs::Parts::size_part, crate::proofs::Parts::known_part))]
+fn write_alternatives<I: Interner, W: Write>(
+    cx: &I,
+    texts: &TextsOf<I>,
+    alternatives: &Alternatives<I>,
+    out: &mut W,
+) -> fmt::Result
+    requires { IsTrue (known ((I.meaning cx.now).alternatives alternatives.now)) }
+{
+    let pats = cx.alternatives(alternatives);
+    if pats.len() < 2 {
+        out.write_str("| ")?;
+    }
+    for (place, pat) in pats.iter().enumerate() {
+        if place > 0 {
+            out.write_str(" | ")?;
+        }
+        write_alternative(cx, texts, pat, out)?;
+    }
+    Ok(())
+}
+
+// Writes one alternative.
+#[cycle(write_ty)]
+#[tactic(auto, using(crate::proofs::Parts::size_part, crate::proofs::Parts::known_part))]
+fn write_alternative<I: Interner, W: Write>(
+    cx: &I,
+    texts: &TextsOf<I>,
+    pat: &Pat<I>,
+    out: &mut W,
+) -> fmt::Result
+    requires { IsTrue (known ((I.meaning cx.now).pat pat.now)) }
+{
+    let (open, close) = match cx.pat_kind(pat) {
+        PatternKind::Or(_) => ("(", ")"),
+        _ => ("", ""),
+    };
+    out.write_str(open)?;
+    write_pattern(cx, texts, pat, out)?;
+    out.write_str(close)
 }
 
 /// Writes a generic argument: a region, a type or a constant, as each is written alone.
@@ -253,14 +365,32 @@ pub fn write_const<I: Interner, W: Write>(
             &of.bound.name,
             out,
         ),
+        ConstKind::Bound(depth, of) => write_bound("^c", depth, of.var, out),
+        ConstKind::Infer(variable) => write_const_variable(variable, out),
+        ConstKind::Error(_) => out.write_str("{error}"),
         ConstKind::Value(_, value) => write_valtree(cx, texts, &value, out),
-        ConstKind::Expr(kind, args) => {
-            let number = kind.0;
-            write!(out, "expr {number}(")?;
-            write_args(cx, texts, &args, out)?;
-            out.write_str(")")
-        }
+        ConstKind::Unevaluated(of) => write_item(cx, texts, &of.def.0, &of.args, out),
+        ConstKind::Expr(kind, args) => write_expression(cx, texts, kind, &args, out),
     }
+}
+
+// Writes an expression: the number of its operation, and its arguments.
+#[cycle(write_ty)]
+#[tactic(auto, using(crate::proofs::Parts::size_part, crate::proofs::Parts::known_part))]
+fn write_expression<I: Interner, W: Write>(
+    cx: &I,
+    texts: &TextsOf<I>,
+    kind: ExprKind,
+    args: &GenericArgs<I>,
+    out: &mut W,
+) -> fmt::Result
+    requires { IsTrue (known ((I.meaning cx.now).args args.now)) }
+{
+    let number = kind.0;
+    let count = cx.args(args).len();
+    write!(out, "expr {number}(")?;
+    write_args(cx, texts, args, 0, count, out)?;
+    out.write_str(")")
 }
 
 // Writes a value: a leaf's bits as a number, or the constants that it is made of, in braces.

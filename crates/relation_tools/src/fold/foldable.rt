@@ -2,12 +2,13 @@
 
 use crate::error::ExpectedFound;
 use crate::fold::{
-    TypeFoldable, TypeFolder, fold_arg_with, fold_args_with, fold_branches_with, fold_const_with,
-    fold_region_with, fold_ty_with, fold_tys_with, fold_valtree_with,
+    TypeFoldable, TypeFolder, fold_alternatives_with, fold_arg_with, fold_args_with,
+    fold_branches_with, fold_const_with, fold_pat_with, fold_region_with, fold_ty_with,
+    fold_tys_with, fold_valtree_with,
 };
 use relation_terms::terms::{
-    ArgsKey, BranchesKey, ConstKey, GenericArgKind, Interner, OutOfMemory, RegionKey, TermKind,
-    TyKey, TysKey, ValTreeKey,
+    AlternativesKey, ArgsKey, BranchesKey, ConstKey, GenericArgKind, Interner, OutOfMemory, PatKey,
+    RegionKey, TermKind, TyKey, TysKey, ValTreeKey,
 };
 
 impl<I: Interner> TypeFoldable<I> for TyKey<I::Key> {
@@ -52,6 +53,18 @@ impl<I: Interner> TypeFoldable<I> for BranchesKey<I::Key> {
     }
 }
 
+impl<I: Interner> TypeFoldable<I> for PatKey<I::Key> {
+    fn fold_with<F: TypeFolder<I>>(&self, cx: &mut I, folder: &mut F) -> Result<Self, OutOfMemory> {
+        fold_pat_with(cx, self, folder)
+    }
+}
+
+impl<I: Interner> TypeFoldable<I> for AlternativesKey<I::Key> {
+    fn fold_with<F: TypeFolder<I>>(&self, cx: &mut I, folder: &mut F) -> Result<Self, OutOfMemory> {
+        fold_alternatives_with(cx, self, folder)
+    }
+}
+
 impl<I: Interner> TypeFoldable<I> for GenericArgKind<I::Key> {
     fn fold_with<F: TypeFolder<I>>(&self, cx: &mut I, folder: &mut F) -> Result<Self, OutOfMemory> {
         fold_arg_with(cx, self, folder)
@@ -69,7 +82,7 @@ impl<I: Interner> TypeFoldable<I> for TermKind<I::Key> {
     }
 }
 
-impl<I: Interner, T: TypeFoldable<I> + Drop> TypeFoldable<I> for ExpectedFound<T> {
+impl<I: Interner, T: TypeFoldable<I> + Copy> TypeFoldable<I> for ExpectedFound<T> {
     fn fold_with<F: TypeFolder<I>>(&self, cx: &mut I, folder: &mut F) -> Result<Self, OutOfMemory> {
         let expected = self.expected.fold_with(cx, folder)?;
         let found = self.found.fold_with(cx, folder)?;

@@ -7,11 +7,12 @@ ghost use Rattle.relation_tools.specs.Folds.{Steps, folded, folded_parts};
 use crate::fold::TypeFolder;
 use crate::fold::walk::{fold_list, fold_part, fold_parts};
 use relation_terms::terms::parts::{
-    the_args, the_branches, the_const, the_region, the_ty, the_tys, the_valtree,
+    the_alternatives, the_args, the_branches, the_const, the_pat, the_region, the_ty, the_tys,
+    the_valtree,
 };
 use relation_terms::terms::{
-    Branches, Const, GenericArg, GenericArgKind, GenericArgs, Interner, OutOfMemory, Part, Parts,
-    Region, Ty, Tys, ValTree,
+    Alternatives, Branches, Const, GenericArg, GenericArgKind, GenericArgs, Interner, OutOfMemory,
+    Part, Parts, Pat, Region, Ty, Tys, ValTree,
 };
 
 /// What the folder makes of a type: what it puts for it, or else the type with its parts folded.
@@ -119,6 +120,22 @@ pub fn fold_valtree_with<I: Interner, F: TypeFolder<I>>(
     Ok(the_valtree(&fold_part(cx, &Part::ValTree(*valtree), 0, folder)?))
 }
 
+/// The pattern with its constants folded.
+pub fn fold_pat_with<I: Interner, F: TypeFolder<I>>(
+    cx: &mut I,
+    pat: &Pat<I>,
+    folder: &mut F,
+) -> Result<Pat<I>, OutOfMemory>
+    requires known { IsTrue (known ((I.meaning cx.old).pat pat.now)) }
+    requires ready { F.ready (I.meaning cx.old) folder.old }
+    ensures steps { Steps F.ready F.replaces (I.meaning cx.old) folder.old (I.meaning cx.new) folder.new }
+    ensures sure { IfOk result (λ k. IsTrue (known ((I.meaning cx.new).pat k))) }
+    ensures made { IfOk result (λ k. (I.meaning cx.new).pat k ≡
+        folded (F.replaces (I.meaning cx.old) folder.old) 0 ((I.meaning cx.old).pat pat.now)) }
+{
+    Ok(the_pat(&fold_part(cx, &Part::Pat(*pat), 0, folder)?))
+}
+
 /// What the folder makes of a generic argument.
 pub fn fold_arg_with<I: Interner, F: TypeFolder<I>>(
     cx: &mut I,
@@ -195,4 +212,20 @@ pub fn fold_branches_with<I: Interner, F: TypeFolder<I>>(
         folded (F.replaces (I.meaning cx.old) folder.old) 0 ((I.meaning cx.old).branches branches.now)) }
 {
     Ok(the_branches(&fold_list(cx, &Parts::Branches(*branches), 0, folder)?))
+}
+
+/// The list with each pattern folded.
+pub fn fold_alternatives_with<I: Interner, F: TypeFolder<I>>(
+    cx: &mut I,
+    alternatives: &Alternatives<I>,
+    folder: &mut F,
+) -> Result<Alternatives<I>, OutOfMemory>
+    requires known { IsTrue (known ((I.meaning cx.old).alternatives alternatives.now)) }
+    requires ready { F.ready (I.meaning cx.old) folder.old }
+    ensures steps { Steps F.ready F.replaces (I.meaning cx.old) folder.old (I.meaning cx.new) folder.new }
+    ensures sure { IfOk result (λ k. IsTrue (known ((I.meaning cx.new).alternatives k))) }
+    ensures made { IfOk result (λ k. (I.meaning cx.new).alternatives k ≡
+        folded (F.replaces (I.meaning cx.old) folder.old) 0 ((I.meaning cx.old).alternatives alternatives.now)) }
+{
+    Ok(the_alternatives(&fold_list(cx, &Parts::Alternatives(*alternatives), 0, folder)?))
 }

@@ -1,11 +1,15 @@
 //! The walk of a folder through a term: one loop over the parts of all forms, so that no folder folds by itself.
 //!
+//! What was made of a part is kept for the length of a call, so the walk takes as many steps as there are different parts.
+//!
 //! No form that an interner reads has a binder yet, so each part stands as deep as the term that it is a part of.
 ghost use Rattle.std.specs.Prelude.{◌≡◌, IsTrue, IfOk, option_map};
 ghost use Rattle.relation_terms.specs.Trees.{known};
 ghost use Rattle.relation_terms.specs.Parts.{part_tree, parts_tree, part_sort, Alike};
 ghost use Rattle.relation_tools.specs.Folds.{Steps, folded, folded_parts, KnownAnswer, Folds, members_tree, FitMembers};
+ghost use Rattle.relation_tools.specs.Folds.{Remembers};
 
+use crate::fold::memory::{Memory, Place, keep, nothing, recall};
 use crate::fold::{Fold, TypeFolder};
 use relation_terms::terms::parts::{
     is_same, make_parts, member, member_count, parts_of, with_parts,
@@ -16,7 +20,7 @@ use relation_terms::terms::{Interner, OutOfMemory, Part, Parts};
 fn put_for<I: Interner, F: TypeFolder<I>>(
     cx: &mut I,
     part: &Part<I::Key>,
-    depth: usize,
+    depth: u64,
     folder: &mut F,
 ) -> Result<Fold<Part<I::Key>>, OutOfMemory>
     requires known { IsTrue (known (part_tree (I.meaning cx.old) part.now)) }
@@ -40,22 +44,56 @@ fn put_for<I: Interner, F: TypeFolder<I>>(
             Fold::Descend => Ok(Fold::Descend),
         },
         Part::ValTree(_) => Ok(Fold::Descend),
+        Part::Pat(_) => Ok(Fold::Descend),
         Part::ValueType(_) => Ok(Fold::Descend),
     }
 }
 
-// What the folder makes of a part that stands under `depth` binders: what it puts for it, or else the part with its own
-// parts folded.
+// What the folder makes of a part that stands under `depth` binders: what it made before, where it has met it there.
 #[cycle(walk)]
-pub fn fold_part<I: Interner, F: TypeFolder<I>>(
+fn fold_met<I: Interner, F: TypeFolder<I>>(
     cx: &mut I,
     part: &Part<I::Key>,
-    depth: usize,
+    depth: u64,
     folder: &mut F,
+    memory: &mut Memory<I::Key>,
 ) -> Result<Part<I::Key>, OutOfMemory>
     requires known { IsTrue (known (part_tree (I.meaning cx.old) part.now)) }
     requires ready { F.ready (I.meaning cx.old) folder.old }
+    requires remembers { Remembers (I.meaning cx.old) (F.replaces (I.meaning cx.old) folder.old)
+        ⟦<Place<I::Key> as PartialEq>⟧.eq memory.old }
     ensures steps { Steps F.ready F.replaces (I.meaning cx.old) folder.old (I.meaning cx.new) folder.new }
+    ensures remembers { Remembers (I.meaning cx.new) (F.replaces (I.meaning cx.new) folder.new)
+        ⟦<Place<I::Key> as PartialEq>⟧.eq memory.new }
+    ensures sure { IfOk result (λ k. IsTrue (known (part_tree (I.meaning cx.new) k))) }
+    ensures made { IfOk result (λ k. part_tree (I.meaning cx.new) k ≡
+        folded (F.replaces (I.meaning cx.old) folder.old) depth (part_tree (I.meaning cx.old) part.now)) }
+    ensures sort { IfOk result (λ k. part_sort k ≡ part_sort part.now) }
+{
+    if let Some(made) = recall(cx, folder, memory, part, depth) {
+        return Ok(made);
+    }
+    let made = fold_new(cx, part, depth, folder, memory)?;
+    keep(cx, folder, memory, part, depth, made)?;
+    Ok(made)
+}
+
+// The same of a part that it meets for the first time: what it puts for it, or else the part with its own parts folded.
+#[cycle(walk)]
+fn fold_new<I: Interner, F: TypeFolder<I>>(
+    cx: &mut I,
+    part: &Part<I::Key>,
+    depth: u64,
+    folder: &mut F,
+    memory: &mut Memory<I::Key>,
+) -> Result<Part<I::Key>, OutOfMemory>
+    requires known { IsTrue (known (part_tree (I.meaning cx.old) part.now)) }
+    requires ready { F.ready (I.meaning cx.old) folder.old }
+    requires remembers { Remembers (I.meaning cx.old) (F.replaces (I.meaning cx.old) folder.old)
+        ⟦<Place<I::Key> as PartialEq>⟧.eq memory.old }
+    ensures steps { Steps F.ready F.replaces (I.meaning cx.old) folder.old (I.meaning cx.new) folder.new }
+    ensures remembers { Remembers (I.meaning cx.new) (F.replaces (I.meaning cx.new) folder.new)
+        ⟦<Place<I::Key> as PartialEq>⟧.eq memory.new }
     ensures sure { IfOk result (λ k. IsTrue (known (part_tree (I.meaning cx.new) k))) }
     ensures made { IfOk result (λ k. part_tree (I.meaning cx.new) k ≡
         folded (F.replaces (I.meaning cx.old) folder.old) depth (part_tree (I.meaning cx.old) part.now)) }
@@ -63,27 +101,32 @@ pub fn fold_part<I: Interner, F: TypeFolder<I>>(
 {
     match put_for(cx, part, depth, folder)? {
         Fold::Replace(by) => Ok(by),
-        Fold::Descend => fold_parts(cx, part, depth, folder),
+        Fold::Descend => fold_inside(cx, part, depth, folder, memory),
     }
 }
 
 // The part with its own parts folded, whatever the folder puts for it. Where they are what they were, so is the part.
 #[cycle(walk)]
-pub fn fold_parts<I: Interner, F: TypeFolder<I>>(
+fn fold_inside<I: Interner, F: TypeFolder<I>>(
     cx: &mut I,
     part: &Part<I::Key>,
-    depth: usize,
+    depth: u64,
     folder: &mut F,
+    memory: &mut Memory<I::Key>,
 ) -> Result<Part<I::Key>, OutOfMemory>
     requires known { IsTrue (known (part_tree (I.meaning cx.old) part.now)) }
     requires ready { F.ready (I.meaning cx.old) folder.old }
+    requires remembers { Remembers (I.meaning cx.old) (F.replaces (I.meaning cx.old) folder.old)
+        ⟦<Place<I::Key> as PartialEq>⟧.eq memory.old }
     ensures steps { Steps F.ready F.replaces (I.meaning cx.old) folder.old (I.meaning cx.new) folder.new }
+    ensures remembers { Remembers (I.meaning cx.new) (F.replaces (I.meaning cx.new) folder.new)
+        ⟦<Place<I::Key> as PartialEq>⟧.eq memory.new }
     ensures sure { IfOk result (λ k. IsTrue (known (part_tree (I.meaning cx.new) k))) }
     ensures made { IfOk result (λ k. part_tree (I.meaning cx.new) k ≡
         folded_parts (F.replaces (I.meaning cx.old) folder.old) depth (part_tree (I.meaning cx.old) part.now)) }
     ensures sort { IfOk result (λ k. part_sort k ≡ part_sort part.now) }
 {
-    match fold_members(cx, &parts_of(cx, part), depth, folder)? {
+    match fold_members(cx, &parts_of(cx, part), depth, folder, memory)? {
         Some(made) => with_parts(cx, part, &made),
         None => Ok(*part),
     }
@@ -94,7 +137,77 @@ pub fn fold_parts<I: Interner, F: TypeFolder<I>>(
 fn fold_members<I: Interner, F: TypeFolder<I>>(
     cx: &mut I,
     parts: &Parts<I::Key>,
-    depth: usize,
+    depth: u64,
+    folder: &mut F,
+    memory: &mut Memory<I::Key>,
+) -> Result<Option<Vec<Part<I::Key>>>, OutOfMemory>
+    requires known { IsTrue (known (parts_tree (I.meaning cx.old) parts.now)) }
+    requires ready { F.ready (I.meaning cx.old) folder.old }
+    requires remembers { Remembers (I.meaning cx.old) (F.replaces (I.meaning cx.old) folder.old)
+        ⟦<Place<I::Key> as PartialEq>⟧.eq memory.old }
+    ensures steps { Steps F.ready F.replaces (I.meaning cx.old) folder.old (I.meaning cx.new) folder.new }
+    ensures remembers { Remembers (I.meaning cx.new) (F.replaces (I.meaning cx.new) folder.new)
+        ⟦<Place<I::Key> as PartialEq>⟧.eq memory.new }
+    ensures sure { IfOk result (λ r. IsTrue (known (members_tree (part_tree (I.meaning cx.new))
+        (parts_tree (I.meaning cx.old) parts.now) (option_map (λ list. list.items) r)))) }
+    ensures made { IfOk result (λ r. members_tree (part_tree (I.meaning cx.new))
+        (parts_tree (I.meaning cx.old) parts.now) (option_map (λ list. list.items) r) ≡
+        folded (F.replaces (I.meaning cx.old) folder.old) depth (parts_tree (I.meaning cx.old) parts.now)) }
+    ensures fits { IfOk result (λ r.
+        FitMembers (parts_tree (I.meaning cx.old) parts.now) (option_map (λ list. list.items) r)) }
+{
+    let mut made = Vec::new(cx.alloc());
+    let mut same = true;
+    for i in 0..member_count(cx, parts) {
+        let old = member(cx, parts, i);
+        let new = fold_met(cx, &old, depth, folder, memory)?;
+        same &= is_same(cx, &new, &old);
+        made.push(new)?;
+    }
+    if same { Ok(None) } else { Ok(Some(made)) }
+}
+
+// What the folder makes of a part that stands under `depth` binders.
+pub fn fold_part<I: Interner, F: TypeFolder<I>>(
+    cx: &mut I,
+    part: &Part<I::Key>,
+    depth: u64,
+    folder: &mut F,
+) -> Result<Part<I::Key>, OutOfMemory>
+    requires known { IsTrue (known (part_tree (I.meaning cx.old) part.now)) }
+    requires ready { F.ready (I.meaning cx.old) folder.old }
+    ensures steps { Steps F.ready F.replaces (I.meaning cx.old) folder.old (I.meaning cx.new) folder.new }
+    ensures sure { IfOk result (λ k. IsTrue (known (part_tree (I.meaning cx.new) k))) }
+    ensures made { IfOk result (λ k. part_tree (I.meaning cx.new) k ≡
+        folded (F.replaces (I.meaning cx.old) folder.old) depth (part_tree (I.meaning cx.old) part.now)) }
+    ensures sort { IfOk result (λ k. part_sort k ≡ part_sort part.now) }
+{
+    fold_new(cx, part, depth, folder, &mut nothing(cx))
+}
+
+// The part with its own parts folded, whatever the folder puts for it.
+pub fn fold_parts<I: Interner, F: TypeFolder<I>>(
+    cx: &mut I,
+    part: &Part<I::Key>,
+    depth: u64,
+    folder: &mut F,
+) -> Result<Part<I::Key>, OutOfMemory>
+    requires known { IsTrue (known (part_tree (I.meaning cx.old) part.now)) }
+    requires ready { F.ready (I.meaning cx.old) folder.old }
+    ensures steps { Steps F.ready F.replaces (I.meaning cx.old) folder.old (I.meaning cx.new) folder.new }
+    ensures sure { IfOk result (λ k. IsTrue (known (part_tree (I.meaning cx.new) k))) }
+    ensures made { IfOk result (λ k. part_tree (I.meaning cx.new) k ≡
+        folded_parts (F.replaces (I.meaning cx.old) folder.old) depth (part_tree (I.meaning cx.old) part.now)) }
+    ensures sort { IfOk result (λ k. part_sort k ≡ part_sort part.now) }
+{
+    fold_inside(cx, part, depth, folder, &mut nothing(cx))
+}
+
+// The members of a list, each folded, or none where all are what they were.
+fn fold_all<I: Interner, F: TypeFolder<I>>(
+    cx: &mut I,
+    parts: &Parts<I::Key>,
+    depth: u64,
     folder: &mut F,
 ) -> Result<Option<Vec<Part<I::Key>>>, OutOfMemory>
     requires known { IsTrue (known (parts_tree (I.meaning cx.old) parts.now)) }
@@ -108,22 +221,14 @@ fn fold_members<I: Interner, F: TypeFolder<I>>(
     ensures fits { IfOk result (λ r.
         FitMembers (parts_tree (I.meaning cx.old) parts.now) (option_map (λ list. list.items) r)) }
 {
-    let mut made = Vec::new(cx.alloc());
-    let mut same = true;
-    for i in 0..member_count(cx, parts) {
-        let old = member(cx, parts, i);
-        let new = fold_part(cx, &old, depth, folder)?;
-        same &= is_same(cx, &new, &old);
-        made.push(new)?;
-    }
-    if same { Ok(None) } else { Ok(Some(made)) }
+    fold_members(cx, parts, depth, folder, &mut nothing(cx))
 }
 
 // The list with each member folded. Where they are what they were, so is the list.
 pub fn fold_list<I: Interner, F: TypeFolder<I>>(
     cx: &mut I,
     parts: &Parts<I::Key>,
-    depth: usize,
+    depth: u64,
     folder: &mut F,
 ) -> Result<Parts<I::Key>, OutOfMemory>
     requires known { IsTrue (known (parts_tree (I.meaning cx.old) parts.now)) }
@@ -134,7 +239,7 @@ pub fn fold_list<I: Interner, F: TypeFolder<I>>(
         folded (F.replaces (I.meaning cx.old) folder.old) depth (parts_tree (I.meaning cx.old) parts.now)) }
     ensures alike { IfOk result (λ ps. Alike parts.now ps) }
 {
-    match fold_members(cx, parts, depth, folder)? {
+    match fold_all(cx, parts, depth, folder)? {
         Some(made) => make_parts(cx, parts, &made),
         None => Ok(*parts),
     }

@@ -1,10 +1,13 @@
 //! What is asked about terms as a whole.
-ghost use Rattle.std.specs.Prelude.{◌≡◌, IsTrue};
+ghost use Rattle.std.specs.Prelude.{◌≡◌, IsTrue, cond, not, nat_lt};
 ghost use Rattle.relation_terms.specs.Trees.{known};
 ghost use Rattle.relation_tools.specs.Visits.{bound_var_escapes, non_region_infer_stands, is_rigid};
+ghost use Rattle.relation_tools.specs.declared.visit.Visit.TheVariants.{Enter as VisitEnter, Stop as VisitStop};
 
 use crate::visit::{TypeVisitable, TypeVisitor, Visit};
-use relation_terms::terms::{Const, ConstKind, InferTy, Interner, Region, RegionKind, Ty, TyKind};
+use relation_terms::terms::{
+    Const, ConstKind, DebruijnIndex, InferConst, InferTy, Interner, Region, RegionKind, Ty, TyKind,
+};
 
 // Stops at an inference variable that is no region.
 #[derive(Clone, Copy)]
@@ -15,31 +18,40 @@ impl<I: Interner> TypeVisitor<I> for FindsNonRegionInfer {
 
     ghost visits = { λ cx v d t w a. Searches is_non_region_infer v d t w a };
 
-    fn visit_ty(&mut self, cx: &I, ty: &Ty<I>, _depth: usize) -> Visit {
+    fn visit_ty(&mut self, cx: &I, ty: &Ty<I>, _depth: u64) -> Visit {
         let kind = cx.ty_kind(ty);
         match &kind {
-            TyKind::Infer(_) => Visit::Stop,
+            TyKind::Infer(InferTy::TyVar(_) | InferTy::IntVar(_) | InferTy::FloatVar(_)) =>
+                Visit::Stop,
             _ => Visit::Enter,
         }
     }
 
-    fn visit_region(&mut self, _cx: &I, _region: &Region<I>, _depth: usize) -> Visit {
+    fn visit_region(&mut self, _cx: &I, _region: &Region<I>, _depth: u64) -> Visit {
         Visit::Enter
     }
 
-    fn visit_const(&mut self, cx: &I, constant: &Const<I>, _depth: usize) -> Visit {
+    fn visit_const(&mut self, cx: &I, constant: &Const<I>, _depth: u64) -> Visit {
         let kind = cx.const_kind(constant);
         match &kind {
-            ConstKind::Param(_)
-            | ConstKind::Placeholder(_)
-            | ConstKind::Value(..)
-            | ConstKind::Expr(..) => Visit::Enter,
+            ConstKind::Infer(InferConst::Var(_)) => Visit::Stop,
+            _ => Visit::Enter,
         }
     }
 }
 
-// Stops at a variable that a binder outside the term binds. No form that an interner reads is bound so far: the matches
-// name each form, so that one that is bound can't be left out.
+// Stops where a variable is bound further out than there are binders around it.
+fn stop_at_escaping(index: &DebruijnIndex, depth: u64) -> Visit
+    ensures { result ≡ cond (not (nat_lt (index.now).0 depth)) VisitStop VisitEnter }
+{
+    if index.0 < depth {
+        Visit::Enter
+    } else {
+        Visit::Stop
+    }
+}
+
+// Stops at a variable that a binder outside the term binds.
 #[derive(Clone, Copy)]
 struct FindsEscaping;
 
@@ -48,49 +60,27 @@ impl<I: Interner> TypeVisitor<I> for FindsEscaping {
 
     ghost visits = { λ cx v d t w a. Searches is_escaping v d t w a };
 
-    fn visit_ty(&mut self, cx: &I, ty: &Ty<I>, _depth: usize) -> Visit {
+    fn visit_ty(&mut self, cx: &I, ty: &Ty<I>, depth: u64) -> Visit {
         let kind = cx.ty_kind(ty);
         match &kind {
-            TyKind::Bool
-            | TyKind::Char
-            | TyKind::Int(_)
-            | TyKind::Uint(_)
-            | TyKind::Float(_)
-            | TyKind::Adt(..)
-            | TyKind::Foreign(_)
-            | TyKind::Str
-            | TyKind::Array(..)
-            | TyKind::Slice(_)
-            | TyKind::RawPtr(..)
-            | TyKind::Ref(..)
-            | TyKind::FnDef(..)
-            | TyKind::Closure(..)
-            | TyKind::CoroutineClosure(..)
-            | TyKind::Coroutine(..)
-            | TyKind::CoroutineWitness(..)
-            | TyKind::Never
-            | TyKind::Tuple(_)
-            | TyKind::Param(_)
-            | TyKind::Placeholder(_)
-            | TyKind::Infer(InferTy::TyVar(_)) => Visit::Enter,
+            TyKind::Bound(index, _) => stop_at_escaping(index, depth),
+            _ => Visit::Enter,
         }
     }
 
-    fn visit_region(&mut self, cx: &I, region: &Region<I>, _depth: usize) -> Visit {
+    fn visit_region(&mut self, cx: &I, region: &Region<I>, depth: u64) -> Visit {
         let kind = cx.region_kind(region);
         match &kind {
-            RegionKind::ReStatic | RegionKind::ReEarlyParam(_) | RegionKind::ReVar(_) =>
-                Visit::Enter,
+            RegionKind::ReBound(index, _) => stop_at_escaping(index, depth),
+            _ => Visit::Enter,
         }
     }
 
-    fn visit_const(&mut self, cx: &I, constant: &Const<I>, _depth: usize) -> Visit {
+    fn visit_const(&mut self, cx: &I, constant: &Const<I>, depth: u64) -> Visit {
         let kind = cx.const_kind(constant);
         match &kind {
-            ConstKind::Param(_)
-            | ConstKind::Placeholder(_)
-            | ConstKind::Value(..)
-            | ConstKind::Expr(..) => Visit::Enter,
+            ConstKind::Bound(index, _) => stop_at_escaping(index, depth),
+            _ => Visit::Enter,
         }
     }
 }
@@ -111,15 +101,20 @@ pub fn has_non_region_infer<I: Interner, T: TypeVisitable<I>>(cx: &I, term: &T) 
     term.visit_with(cx, &mut FindsNonRegionInfer).is_break()
 }
 
-/// Whether the outermost form of a type stays what it is, whatever variables are instantiated: of all forms but
-/// parameters, placeholders and variables. The interner knows the type.
+/// Whether the outermost form of a type stays what it is, whatever is instantiated or normalised: of all forms but
+/// aliases, parameters, bound variables, placeholders, variables and errors. The interner knows the type.
 pub fn is_known_rigid<I: Interner>(cx: &I, ty: &Ty<I>) -> bool
     requires { IsTrue (known ((I.meaning cx.now).ty ty.now)) }
     ensures { result ≡ is_rigid ((I.meaning cx.now).ty ty.now) }
 {
     let kind = cx.ty_kind(ty);
     match &kind {
-        TyKind::Param(_) | TyKind::Placeholder(_) | TyKind::Infer(_) => false,
+        TyKind::Alias(_)
+        | TyKind::Param(_)
+        | TyKind::Bound(..)
+        | TyKind::Placeholder(_)
+        | TyKind::Infer(_)
+        | TyKind::Error(_) => false,
         TyKind::Bool
         | TyKind::Char
         | TyKind::Int(_)
@@ -129,6 +124,7 @@ pub fn is_known_rigid<I: Interner>(cx: &I, ty: &Ty<I>) -> bool
         | TyKind::Foreign(_)
         | TyKind::Str
         | TyKind::Array(..)
+        | TyKind::Pat(..)
         | TyKind::Slice(_)
         | TyKind::RawPtr(..)
         | TyKind::Ref(..)

@@ -1,4 +1,4 @@
-//! Visits by keys: of a type, a region, a constant, a value tree, an argument and of lists of these.
+//! Visits by keys: of a type, a region, a constant, a value tree, a pattern, an argument and of lists of these.
 ghost use Rattle.std.specs.Prelude.{IsTrue};
 ghost use Rattle.relation_terms.specs.Trees.{known};
 ghost use Rattle.relation_terms.specs.Meaning.{arg_tree};
@@ -9,8 +9,8 @@ use crate::visit::TypeVisitor;
 use crate::visit::walk::{visit_list, visit_part};
 use relation_terms::terms::parts::parts_of;
 use relation_terms::terms::{
-    Branches, Const, GenericArg, GenericArgKind, GenericArgs, Interner, Part, Parts, Region, Ty,
-    Tys, ValTree,
+    Alternatives, Branches, Const, GenericArg, GenericArgKind, GenericArgs, Interner, Part, Parts,
+    Pat, Region, Ty, Tys, ValTree,
 };
 use std::ops::ControlFlow;
 
@@ -97,6 +97,31 @@ pub fn visit_branches_with<I: Interner, V: TypeVisitor<I>>(
     ensures { Walks (V.visits cx.now) 0 visitor.old ((I.meaning cx.now).branches branches.now) visitor.new result }
 {
     visit_list(cx, &Parts::Branches(*branches), 0, visitor)
+}
+
+/// Goes over what a pattern is made of.
+pub fn visit_pat_with<I: Interner, V: TypeVisitor<I>>(
+    cx: &I,
+    pat: &Pat<I>,
+    visitor: &mut V,
+) -> ControlFlow<()>
+    requires { IsTrue (known ((I.meaning cx.now).pat pat.now)) }
+    ensures { Walks (V.visits cx.now) 0 visitor.old ((I.meaning cx.now).pat pat.now) visitor.new result }
+{
+    visit_part(cx, &Part::Pat(*pat), 0, visitor)
+}
+
+/// Goes over a list of patterns, in order.
+pub fn visit_alternatives_with<I: Interner, V: TypeVisitor<I>>(
+    cx: &I,
+    alternatives: &Alternatives<I>,
+    visitor: &mut V,
+) -> ControlFlow<()>
+    requires { IsTrue (known ((I.meaning cx.now).alternatives alternatives.now)) }
+    ensures { let t = (I.meaning cx.now).alternatives alternatives.now in
+        Walks (V.visits cx.now) 0 visitor.old t visitor.new result }
+{
+    visit_list(cx, &Parts::Alternatives(*alternatives), 0, visitor)
 }
 
 /// Goes over what is given for a generic parameter.

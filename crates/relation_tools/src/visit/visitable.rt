@@ -2,12 +2,13 @@
 use crate::error::{ExpectedFound, TypeError};
 use crate::visit::{
     TypeSuperVisitable, TypeVisitable, TypeVisitor, super_visit_const, super_visit_ty,
-    visit_arg_with, visit_args_with, visit_branches_with, visit_const_with, visit_region_with,
-    visit_ty_with, visit_tys_with, visit_valtree_with,
+    visit_alternatives_with, visit_arg_with, visit_args_with, visit_branches_with,
+    visit_const_with, visit_pat_with, visit_region_with, visit_ty_with, visit_tys_with,
+    visit_valtree_with,
 };
 use relation_terms::terms::{
-    ArgsKey, BranchesKey, ConstKey, GenericArgKind, Interner, RegionKey, TermKind, TyKey, TysKey,
-    ValTreeKey,
+    AlternativesKey, ArgsKey, BranchesKey, ConstKey, GenericArgKind, Interner, PatKey, RegionKey,
+    TermKind, TyKey, TysKey, ValTreeKey,
 };
 use std::ops::ControlFlow;
 
@@ -77,6 +78,18 @@ impl<I: Interner> TypeVisitable<I> for ValTreeKey<I::Key> {
 impl<I: Interner> TypeVisitable<I> for BranchesKey<I::Key> {
     fn visit_with<V: TypeVisitor<I>>(&self, cx: &I, visitor: &mut V) -> ControlFlow<()> {
         visit_branches_with(cx, self, visitor)
+    }
+}
+
+impl<I: Interner> TypeVisitable<I> for PatKey<I::Key> {
+    fn visit_with<V: TypeVisitor<I>>(&self, cx: &I, visitor: &mut V) -> ControlFlow<()> {
+        visit_pat_with(cx, self, visitor)
+    }
+}
+
+impl<I: Interner> TypeVisitable<I> for AlternativesKey<I::Key> {
+    fn visit_with<V: TypeVisitor<I>>(&self, cx: &I, visitor: &mut V) -> ControlFlow<()> {
+        visit_alternatives_with(cx, self, visitor)
     }
 }
 

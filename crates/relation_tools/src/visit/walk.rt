@@ -16,7 +16,7 @@ use std::ops::ControlFlow;
 fn ask<I: Interner, V: TypeVisitor<I>>(
     cx: &I,
     part: &Part<I::Key>,
-    depth: usize,
+    depth: u64,
     visitor: &mut V,
 ) -> Visit
     requires { IsTrue (known (part_tree (I.meaning cx.now) part.now)) }
@@ -28,6 +28,7 @@ fn ask<I: Interner, V: TypeVisitor<I>>(
         Part::Ty(ty) => visitor.visit_ty(cx, ty, depth),
         Part::Const(constant) => visitor.visit_const(cx, constant, depth),
         Part::ValTree(_) => Visit::Enter,
+        Part::Pat(_) => Visit::Enter,
         Part::ValueType(_) => Visit::Enter,
     }
 }
@@ -38,7 +39,7 @@ fn ask<I: Interner, V: TypeVisitor<I>>(
 pub fn visit_part<I: Interner, V: TypeVisitor<I>>(
     cx: &I,
     part: &Part<I::Key>,
-    depth: usize,
+    depth: u64,
     visitor: &mut V,
 ) -> ControlFlow<()>
     requires { IsTrue (known (part_tree (I.meaning cx.now) part.now)) }
@@ -57,7 +58,7 @@ pub fn visit_part<I: Interner, V: TypeVisitor<I>>(
 pub fn visit_list<I: Interner, V: TypeVisitor<I>>(
     cx: &I,
     parts: &Parts<I::Key>,
-    depth: usize,
+    depth: u64,
     visitor: &mut V,
 ) -> ControlFlow<()>
     requires { IsTrue (known (parts_tree (I.meaning cx.now) parts.now)) }

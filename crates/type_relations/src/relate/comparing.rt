@@ -6,6 +6,7 @@ ghost use Rattle.type_relations.specs.Errors.{FormError, ConstFormError, AreOfOn
 ghost use Rattle.relation_tools.specs.declared.error.TypeError.TheVariants.{Sorts, TupleSize, ConstMismatch};
 ghost use Rattle.type_relations.specs.Parts.{item_kind};
 ghost use Rattle.type_relations.specs.Parts.{IsFormedConst};
+ghost use Rattle.type_relations.specs.Covered.{IsCovered};
 
 use crate::relate::forms::{ItemTy, item_of};
 use relation_terms::terms::{Const, ConstKind, Interner, Ty, TyKind, ValTree, ValTreeKind};
@@ -14,7 +15,7 @@ use relation_tools::error::{ExpectedFound, TypeError, TypeErrorOf};
 /// Answers `Ok` where two types are of one outermost form, with as many parts, which are not compared. Parameters are
 /// of one form where they have one index; types that have no parts, all others, where they are one type.
 ///
-/// The interner has to know both types; it is only read.
+/// The interner has to know both types, which are of forms that relating has rules for; it is only read.
 ///
 /// Answers `Mutability` for two references or two raw pointers of unlike mutability, `TupleSize` for two tuples of
 /// unlike lengths of which none is 0, and `Sorts` for all other types that differ. An error names the left one first.
@@ -22,6 +23,8 @@ use relation_tools::error::{ExpectedFound, TypeError, TypeErrorOf};
 pub fn compare_tys<I: Interner>(cx: &I, a: &Ty<I>, b: &Ty<I>) -> Result<(), TypeErrorOf<I>>
     requires a_known { IsTrue (known ((I.meaning cx.now).ty a.now)) }
     requires b_known { IsTrue (known ((I.meaning cx.now).ty b.now)) }
+    requires a_covered { IsCovered ((I.meaning cx.now).ty a.now) }
+    requires b_covered { IsCovered ((I.meaning cx.now).ty b.now) }
     ensures alike { OnOk result (AreOfOneForm ((I.meaning cx.now).ty a.now) ((I.meaning cx.now).ty b.now)) }
     ensures errors { IfErr result (FormError (I.meaning cx.now) a.now b.now) }
 {
@@ -99,6 +102,7 @@ fn compare_items<I: Interner>(
 ) -> Result<(), TypeErrorOf<I>>
     requires a_known { IsTrue (known ((I.meaning cx.now).ty a.now)) }
     requires b_known { IsTrue (known ((I.meaning cx.now).ty b.now)) }
+    requires b_covered { IsCovered ((I.meaning cx.now).ty b.now) }
     requires means { (I.meaning cx.now).ty a.now ≡ kind_tree (I.meaning cx.now) (item_kind item.now) }
     ensures alike { OnOk result (AreOfOneForm ((I.meaning cx.now).ty a.now) ((I.meaning cx.now).ty b.now)) }
     ensures errors { IfErr result (FormError (I.meaning cx.now) a.now b.now) }
@@ -122,7 +126,8 @@ fn compare_items<I: Interner>(
 /// are of one form where they have one index, values where their value trees are one or have as many branches. The
 /// types of values are not looked at.
 ///
-/// The interner has to know both constants, which may not be one; it is only read.
+/// The interner has to know both constants, which may not be one and are of forms that relating has rules for; it is
+/// only read.
 ///
 /// Answers `Mismatch` for two expressions of unlike operations or with unlike numbers of arguments, and
 /// `ConstMismatch`, which names the left one first, for all other constants that differ. Upstream these cases stand in
@@ -131,6 +136,8 @@ fn compare_items<I: Interner>(
 pub fn compare_consts<I: Interner>(cx: &I, a: &Const<I>, b: &Const<I>) -> Result<(), TypeErrorOf<I>>
     requires a_known { IsTrue (known ((I.meaning cx.now).const_ a.now)) }
     requires b_known { IsTrue (known ((I.meaning cx.now).const_ b.now)) }
+    requires a_covered { IsCovered ((I.meaning cx.now).const_ a.now) }
+    requires b_covered { IsCovered ((I.meaning cx.now).const_ b.now) }
     requires differ { (I.meaning cx.now).const_ a.now ≢ (I.meaning cx.now).const_ b.now }
     ensures alike { OnOk result (AreOfOneConst ((I.meaning cx.now).const_ a.now) ((I.meaning cx.now).const_ b.now)) }
     ensures errors { IfErr result (ConstFormError (I.meaning cx.now) a.now b.now) }
@@ -149,6 +156,10 @@ pub fn compare_consts<I: Interner>(cx: &I, a: &Const<I>, b: &Const<I>) -> Result
             Ok(())
         }
         ConstKind::Placeholder(_) => Err(unlike_consts::<I>(a, b)),
+        ConstKind::Infer(_)
+        | ConstKind::Bound(..)
+        | ConstKind::Unevaluated(_)
+        | ConstKind::Error(_) => Err(unlike_consts::<I>(a, b)),
         ConstKind::Value(_, value) => {
             let ConstKind::Value(_, other) = right else {
                 return Err(unlike_consts::<I>(a, b));

@@ -4,6 +4,7 @@ ghost use Rattle.relation_terms.specs.Heads.{region_sort, type_sort, const_sort}
 ghost use Rattle.relation_terms.specs.Trees.{known, nth, list_tree};
 ghost use Rattle.relation_terms.specs.Meaning.{Extends, arg_tree};
 ghost use Rattle.type_relations.specs.Parts.{parts_of, const_parts_of};
+ghost use Rattle.type_relations.specs.Covered.{IsCovered};
 ghost use Rattle.type_relations.specs.Lawful.{WithMeaning, OnlyMemory};
 ghost use Rattle.type_relations.specs.Making.{sort_at, Fit, over, const_over, Made};
 
@@ -87,6 +88,7 @@ fn ty_with_parts<I: Interner>(
     parts: &[GenericArg<I>],
 ) -> Result<Ty<I>, OutOfMemory>
     requires ty_known { IsTrue (known ((I.meaning cx.old).ty ty.now)) }
+    requires ty_covered { IsCovered ((I.meaning cx.old).ty ty.now) }
     requires parts_known { IsTrue (known (list_tree (arg_tree (I.meaning cx.old)) parts.now)) }
     requires fits { Fit parts.now (parts_of ((I.meaning cx.old).ty ty.now)) }
     ensures { let m = I.meaning cx.old in let n = I.meaning cx.new in
@@ -151,8 +153,12 @@ fn const_with_parts<I: Interner>(
             let value = cx.mk_valtree(ValTreeKind::Branch(branches))?;
             cx.mk_const(ConstKind::Value(ty, value))
         }
-        ConstKind::Param(_) => Ok(*constant),
-        ConstKind::Placeholder(_) => Ok(*constant),
+        ConstKind::Param(_)
+        | ConstKind::Infer(_)
+        | ConstKind::Bound(..)
+        | ConstKind::Placeholder(_)
+        | ConstKind::Unevaluated(_)
+        | ConstKind::Error(_) => Ok(*constant),
     }
 }
 
@@ -164,6 +170,7 @@ pub(crate) fn make_ty<I: Interner, R: TypeRelation<I>>(
 ) -> RelateResult<I, Ty<I>>
     requires lawful { (R.state r.old).lawful }
     requires ty_known { IsTrue (known ((R.state r.old).meaning.ty ty.now)) }
+    requires ty_covered { IsCovered ((R.state r.old).meaning.ty ty.now) }
     requires parts_known { IsTrue (known (list_tree (arg_tree (R.state r.old).meaning) parts.now)) }
     requires fits { Fit parts.now (parts_of ((R.state r.old).meaning.ty ty.now)) }
     ensures grown { WithMeaning (R.state r.old) (R.state r.new).meaning (R.state r.new) }

@@ -3,15 +3,16 @@ ghost use Rattle.std.specs.Prelude.{◌≡◌, ◌<◌, IsTrue};
 ghost use Rattle.relation_terms.specs.Trees.{known, count, nth, IsList};
 ghost use Rattle.relation_terms.specs.Meaning.{arg_tree};
 ghost use Rattle.type_relations.specs.Parts.{parts_of, const_parts_of};
+ghost use Rattle.type_relations.specs.Covered.{IsCovered};
 
 use crate::relate::forms::item_of;
 use relation_terms::terms::{
     Const, ConstKind, GenericArg, GenericArgKind, Interner, Ty, TyKind, ValTreeKind,
 };
 
-/// How many parts a type has: the arguments of a type over an item, the element and the length of an array, the region
-/// and the pointee of a reference, the pointee of a raw pointer, the element of a slice, the members of a tuple. Any
-/// other type has none.
+/// How many parts a type has: the arguments of a type over an item, an alias too, the element and the length of an
+/// array, the type and the pattern of a pattern type, the region and the pointee of a reference, the pointee of a raw
+/// pointer, the element of a slice, the members of a tuple. Any other type has none.
 ///
 /// The interner has to know the type.
 pub fn parts_count<I: Interner>(cx: &I, ty: &Ty<I>) -> usize
@@ -27,17 +28,21 @@ pub fn parts_count<I: Interner>(cx: &I, ty: &Ty<I>) -> usize
         TyKind::Slice(_) => 1,
         TyKind::RawPtr(..) => 1,
         TyKind::Array(..) => 2,
+        TyKind::Pat(..) => 2,
         TyKind::Ref(..) => 2,
         TyKind::Tuple(members) => cx.tys(members).len(),
+        TyKind::Alias(alias) => cx.args(&alias.args).len(),
         _ => 0,
     }
 }
 
 /// The part of a type at a place. Places count from 0, in the order in which parts are related.
 ///
-/// The interner has to know the type, and the place has to be below `parts_count`. The interner knows the part too.
+/// The interner has to know the type, which is of forms that relating has rules for, and the place has to be below
+/// `parts_count`. The interner knows the part too.
 pub fn part<I: Interner>(cx: &I, ty: &Ty<I>, i: usize) -> GenericArg<I>
     requires ty_known { IsTrue (known ((I.meaning cx.now).ty ty.now)) }
+    requires ty_covered { IsCovered ((I.meaning cx.now).ty ty.now) }
     requires in_bounds { i < count (parts_of ((I.meaning cx.now).ty ty.now)) }
     ensures sure { IsTrue (known (arg_tree (I.meaning cx.now) result)) }
     ensures means { arg_tree (I.meaning cx.now) result ≡ nth i (parts_of ((I.meaning cx.now).ty ty.now)) }
@@ -74,7 +79,11 @@ pub fn const_parts_count<I: Interner>(cx: &I, constant: &Const<I>) -> usize
             ValTreeKind::Leaf { .. } => 0,
         },
         ConstKind::Param(_) => 0,
+        ConstKind::Infer(_) => 0,
+        ConstKind::Bound(..) => 0,
         ConstKind::Placeholder(_) => 0,
+        ConstKind::Unevaluated(_) => 0,
+        ConstKind::Error(_) => 0,
     }
 }
 
@@ -95,6 +104,10 @@ pub fn const_part<I: Interner>(cx: &I, constant: &Const<I>, i: usize) -> Generic
             ValTreeKind::Leaf { .. } => unreachable!(),
         },
         ConstKind::Param(_) => unreachable!(),
+        ConstKind::Infer(_) => unreachable!(),
+        ConstKind::Bound(..) => unreachable!(),
         ConstKind::Placeholder(_) => unreachable!(),
+        ConstKind::Unevaluated(_) => unreachable!(),
+        ConstKind::Error(_) => unreachable!(),
     }
 }

@@ -7,6 +7,7 @@ ghost use Rattle.relation_terms.specs.Meaning.{arg_tree};
 ghost use Rattle.type_relations.specs.Relation.{part_at, pointee_variance};
 ghost use Rattle.type_relations.specs.Errors.{FormError, ConstFormError, AreOfOneForm, AreOfOneConst};
 ghost use Rattle.type_relations.specs.Parts.{parts_of, const_parts_of, head_of, const_head_of};
+ghost use Rattle.type_relations.specs.Covered.{IsCovered};
 ghost use Rattle.type_relations.specs.Lawful.{Noted, items_in};
 ghost use Rattle.type_relations.specs.Keyed.{AskedTys, RelatesTys, AreOver, part_in};
 ghost use Rattle.type_relations.specs.Handing.{IsResultOfTy, IsResultOfConst};
@@ -27,6 +28,8 @@ pub(crate) fn compare_tys_of<I: Interner, R: TypeRelation<I>>(
 ) -> Result<(), TypeErrorOf<I>>
     requires a_known { IsTrue (known ((R.state r.now).meaning.ty a.now)) }
     requires b_known { IsTrue (known ((R.state r.now).meaning.ty b.now)) }
+    requires a_covered { IsCovered ((R.state r.now).meaning.ty a.now) }
+    requires b_covered { IsCovered ((R.state r.now).meaning.ty b.now) }
     ensures alike { OnOk result (AreOfOneForm ((R.state r.now).meaning.ty a.now) ((R.state r.now).meaning.ty b.now)) }
     ensures errors { IfErr result (FormError (R.state r.now).meaning a.now b.now) }
 {
@@ -40,6 +43,8 @@ pub(crate) fn compare_consts_of<I: Interner, R: TypeRelation<I>>(
 ) -> Result<(), TypeErrorOf<I>>
     requires a_known { IsTrue (known ((R.state r.now).meaning.const_ a.now)) }
     requires b_known { IsTrue (known ((R.state r.now).meaning.const_ b.now)) }
+    requires a_covered { IsCovered ((R.state r.now).meaning.const_ a.now) }
+    requires b_covered { IsCovered ((R.state r.now).meaning.const_ b.now) }
     requires differ { (R.state r.now).meaning.const_ a.now ≢ (R.state r.now).meaning.const_ b.now }
     ensures alike { let m = (R.state r.now).meaning in OnOk result (AreOfOneConst (m.const_ a.now) (m.const_ b.now)) }
     ensures errors { IfErr result (ConstFormError (R.state r.now).meaning a.now b.now) }
@@ -57,6 +62,7 @@ pub(crate) fn parts_count_of<I: Interner, R: TypeRelation<I>>(r: &R, ty: &Ty<I>)
 
 pub(crate) fn part_of<I: Interner, R: TypeRelation<I>>(r: &R, ty: &Ty<I>, i: usize) -> GenericArg<I>
     requires ty_known { IsTrue (known ((R.state r.now).meaning.ty ty.now)) }
+    requires ty_covered { IsCovered ((R.state r.now).meaning.ty ty.now) }
     requires in_bounds { i < count (parts_of ((R.state r.now).meaning.ty ty.now)) }
     ensures sure { IsTrue (known (arg_tree (R.state r.now).meaning result)) }
     ensures means { arg_tree (R.state r.now).meaning result ≡ nth i (parts_of ((R.state r.now).meaning.ty ty.now)) }
@@ -119,7 +125,8 @@ pub(crate) fn declared_at<I: Interner, R: TypeRelation<I>>(
 
 // The variance at which the part of a type at a place is related, seen from the type's own.
 pub(crate) fn variance_at<I: Interner, R: TypeRelation<I>>(r: &R, ty: &Ty<I>, i: usize) -> Variance
-    requires { IsTrue (known ((R.state r.now).meaning.ty ty.now)) }
+    requires ty_known { IsTrue (known ((R.state r.now).meaning.ty ty.now)) }
+    requires ty_covered { IsCovered ((R.state r.now).meaning.ty ty.now) }
     ensures { let q = R.state r.now in xform q.ambient result ≡ part_in q (head_of (q.meaning.ty ty.now)) i }
 {
     let kind = r.cx().ty_kind(ty);
@@ -149,7 +156,11 @@ pub(crate) fn const_variance_at<I: Interner, R: TypeRelation<I>>(
         ConstKind::Expr(..) => Variance::Invariant,
         ConstKind::Value(..) => Variance::Covariant,
         ConstKind::Param(_) => Variance::Covariant,
+        ConstKind::Infer(_) => Variance::Covariant,
+        ConstKind::Bound(..) => Variance::Covariant,
         ConstKind::Placeholder(_) => Variance::Covariant,
+        ConstKind::Unevaluated(_) => Variance::Covariant,
+        ConstKind::Error(_) => Variance::Covariant,
     }
 }
 

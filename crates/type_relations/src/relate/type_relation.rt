@@ -19,7 +19,8 @@ use relation_tools::error::RelateResult;
 /// these itself, so one recursion serves all relations, and what it does follows from what the steps do.
 ///
 /// The steps ask for terms that the relation's interner knows, that are the relation's own and that it takes at the
-/// ambient variance, which is not `Bivariant`.
+/// ambient variance, which is not `Bivariant`. No relation takes terms of forms that have no rule yet: aliases,
+/// unevaluated constants, pattern types, errors, binders and what they bind, variables but of types and regions.
 pub trait TypeRelation<I: Interner> {
     // The relation as it stands.
     ghost state: { Self → State I.Key I.Id I.Name };

@@ -3,7 +3,7 @@ use Rattle.std.specs.HashMap.{get}
 use Rattle.reference_interner.specs.declared.node.Node.{Node}
 use Rattle.reference_interner.specs.Nodes.{AllKnown, AllDistinct}
 use Rattle.reference_interner.specs.Finding.{Finds}
-use Rattle.reference_interner.proofs.AlikeLemmas.{node_eq}
+use Rattle.reference_interner.proofs.AlikeFormLemmas.{node_eq}
 use Rattle.reference_interner.proofs.ItemLemmas.{same_entry}
 use Rattle.reference_interner.proofs.OnceLemmas.{known_alone, all_known, all_distinct, new_at}
 use Rattle.reference_interner.proofs.FindingLemmas.{finds_more}

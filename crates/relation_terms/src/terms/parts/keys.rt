@@ -3,7 +3,11 @@ ghost use Rattle.std.specs.Prelude.{◌≡◌, ◌↔◌, IsTrue, [], ◌∷◌}
 ghost use Rattle.relation_terms.specs.Heads.{region_sort, type_sort, const_sort, value_sort};
 ghost use Rattle.relation_terms.specs.Trees.{known};
 ghost use Rattle.relation_terms.specs.Parts.{part_of_arg, part_sort, part_key, part_tree};
-ghost use Rattle.relation_terms.specs.Parts.{AreArgs, IsArgs, IsTys, IsBranches};
+ghost use Rattle.relation_terms.specs.Heads.{pattern_sort};
+ghost use Rattle.relation_terms.specs.Parts.{AreArgs, IsArgs, IsTys, IsBranches, IsAlternatives};
+ghost use Rattle.relation_terms.specs.Parts.{pat_in, alternatives_in};
+ghost use Rattle.relation_terms.specs.declared.terms.part_kind.Part.TheVariants.{Pat as PatPart};
+ghost use Rattle.relation_terms.specs.declared.terms.part_kind.Parts.TheVariants.{Alternatives as AlternativesParts};
 ghost use Rattle.relation_terms.specs.Parts.{region_in, ty_in, const_in, valtree_in, value_type_in};
 ghost use Rattle.relation_terms.specs.Parts.{first_in, second_in, args_in, tys_in, branches_in};
 ghost use Rattle.relation_terms.specs.declared.terms.part_kind.Part.TheVariants.{Region as RegionPart, Ty as TyPart};
@@ -13,8 +17,8 @@ ghost use Rattle.relation_terms.specs.declared.terms.part_kind.Parts.TheVariants
 ghost use Rattle.relation_terms.specs.declared.terms.part_kind.Parts.TheVariants.{Branches as BranchesParts};
 
 use crate::terms::{
-    ArgsKey, BranchesKey, ConstKey, GenericArgKind, Interner, Part, Parts, RegionKey, TyKey,
-    TysKey, ValTreeKey,
+    AlternativesKey, ArgsKey, BranchesKey, ConstKey, GenericArgKind, Interner, Part, Parts, PatKey,
+    RegionKey, TyKey, TysKey, ValTreeKey,
 };
 
 // The key of a part, whatever its sort.
@@ -26,6 +30,7 @@ fn key_of<X: Copy>(part: &Part<X>) -> X
         Part::Ty(ty) => ty.0,
         Part::Const(constant) => constant.0,
         Part::ValTree(valtree) => valtree.0,
+        Part::Pat(pat) => pat.0,
         Part::ValueType(ty) => ty.0,
     }
 }
@@ -61,7 +66,7 @@ pub fn the_arg<X: Copy>(part: &Part<X>) -> GenericArgKind<X>
         Part::Region(region) => GenericArgKind::Lifetime(*region),
         Part::Ty(ty) => GenericArgKind::Ty(*ty),
         Part::Const(constant) => GenericArgKind::Const(*constant),
-        Part::ValTree(_) | Part::ValueType(_) => unreachable!(),
+        _ => unreachable!(),
     }
 }
 
@@ -72,7 +77,7 @@ pub fn the_region<X: Copy>(part: &Part<X>) -> RegionKey<X>
 {
     match part {
         Part::Region(region) => *region,
-        Part::Ty(_) | Part::Const(_) | Part::ValTree(_) | Part::ValueType(_) => unreachable!(),
+        _ => unreachable!(),
     }
 }
 
@@ -83,7 +88,7 @@ pub fn the_ty<X: Copy>(part: &Part<X>) -> TyKey<X>
 {
     match part {
         Part::Ty(ty) => *ty,
-        Part::Region(_) | Part::Const(_) | Part::ValTree(_) | Part::ValueType(_) => unreachable!(),
+        _ => unreachable!(),
     }
 }
 
@@ -94,7 +99,7 @@ pub fn the_const<X: Copy>(part: &Part<X>) -> ConstKey<X>
 {
     match part {
         Part::Const(constant) => *constant,
-        Part::Region(_) | Part::Ty(_) | Part::ValTree(_) | Part::ValueType(_) => unreachable!(),
+        _ => unreachable!(),
     }
 }
 
@@ -105,7 +110,18 @@ pub fn the_valtree<X: Copy>(part: &Part<X>) -> ValTreeKey<X>
 {
     match part {
         Part::ValTree(valtree) => *valtree,
-        Part::Region(_) | Part::Ty(_) | Part::Const(_) | Part::ValueType(_) => unreachable!(),
+        _ => unreachable!(),
+    }
+}
+
+/// The pattern that a part is.
+pub fn the_pat<X: Copy>(part: &Part<X>) -> PatKey<X>
+    requires { part_sort part.now ≡ pattern_sort }
+    ensures { PatPart result ≡ part.now }
+{
+    match part {
+        Part::Pat(pat) => *pat,
+        _ => unreachable!(),
     }
 }
 
@@ -116,8 +132,7 @@ pub fn the_args<X: Copy>(parts: &Parts<X>) -> ArgsKey<X>
 {
     match parts {
         Parts::Args(args) => *args,
-        Parts::Empty | Parts::One(_) | Parts::Two(..) | Parts::Tys(_) | Parts::Branches(_) =>
-            unreachable!(),
+        _ => unreachable!(),
     }
 }
 
@@ -128,8 +143,7 @@ pub fn the_tys<X: Copy>(parts: &Parts<X>) -> TysKey<X>
 {
     match parts {
         Parts::Tys(tys) => *tys,
-        Parts::Empty | Parts::One(_) | Parts::Two(..) | Parts::Args(_) | Parts::Branches(_) =>
-            unreachable!(),
+        _ => unreachable!(),
     }
 }
 
@@ -140,8 +154,18 @@ pub fn the_branches<X: Copy>(parts: &Parts<X>) -> BranchesKey<X>
 {
     match parts {
         Parts::Branches(branches) => *branches,
-        Parts::Empty | Parts::One(_) | Parts::Two(..) | Parts::Args(_) | Parts::Tys(_) =>
-            unreachable!(),
+        _ => unreachable!(),
+    }
+}
+
+/// The list of patterns that a list of parts is.
+pub fn the_alternatives<X: Copy>(parts: &Parts<X>) -> AlternativesKey<X>
+    requires { IsAlternatives parts.now }
+    ensures { AlternativesParts result ≡ parts.now }
+{
+    match parts {
+        Parts::Alternatives(alternatives) => *alternatives,
+        _ => unreachable!(),
     }
 }
 
@@ -151,7 +175,7 @@ pub fn region_or<X: Copy>(part: &Part<X>, other: &RegionKey<X>) -> RegionKey<X>
 {
     match part {
         Part::Region(key) => *key,
-        Part::Ty(_) | Part::Const(_) | Part::ValTree(_) | Part::ValueType(_) => *other,
+        _ => *other,
     }
 }
 
@@ -160,7 +184,7 @@ pub fn ty_or<X: Copy>(part: &Part<X>, other: &TyKey<X>) -> TyKey<X>
 {
     match part {
         Part::Ty(key) => *key,
-        Part::Region(_) | Part::Const(_) | Part::ValTree(_) | Part::ValueType(_) => *other,
+        _ => *other,
     }
 }
 
@@ -169,7 +193,7 @@ pub fn const_or<X: Copy>(part: &Part<X>, other: &ConstKey<X>) -> ConstKey<X>
 {
     match part {
         Part::Const(key) => *key,
-        Part::Region(_) | Part::Ty(_) | Part::ValTree(_) | Part::ValueType(_) => *other,
+        _ => *other,
     }
 }
 
@@ -178,7 +202,16 @@ pub fn valtree_or<X: Copy>(part: &Part<X>, other: &ValTreeKey<X>) -> ValTreeKey<
 {
     match part {
         Part::ValTree(key) => *key,
-        Part::Region(_) | Part::Ty(_) | Part::Const(_) | Part::ValueType(_) => *other,
+        _ => *other,
+    }
+}
+
+pub fn pat_or<X: Copy>(part: &Part<X>, other: &PatKey<X>) -> PatKey<X>
+    ensures { result ≡ pat_in part.now other.now }
+{
+    match part {
+        Part::Pat(key) => *key,
+        _ => *other,
     }
 }
 
@@ -187,7 +220,7 @@ pub fn value_type_or<X: Copy>(part: &Part<X>, other: &TyKey<X>) -> TyKey<X>
 {
     match part {
         Part::ValueType(key) => *key,
-        Part::Region(_) | Part::Ty(_) | Part::Const(_) | Part::ValTree(_) => *other,
+        _ => *other,
     }
 }
 
@@ -198,7 +231,7 @@ pub fn first_or<X: Copy>(parts: &Parts<X>, other: Part<X>) -> Part<X>
     match parts {
         Parts::One(part) => *part,
         Parts::Two(part, _) => *part,
-        Parts::Empty | Parts::Args(_) | Parts::Tys(_) | Parts::Branches(_) => other,
+        _ => other,
     }
 }
 
@@ -207,7 +240,7 @@ pub fn second_or<X: Copy>(parts: &Parts<X>, other: Part<X>) -> Part<X>
 {
     match parts {
         Parts::Two(_, part) => *part,
-        Parts::Empty | Parts::One(_) | Parts::Args(_) | Parts::Tys(_) | Parts::Branches(_) => other,
+        _ => other,
     }
 }
 
@@ -217,8 +250,7 @@ pub fn args_or<X: Copy>(parts: &Parts<X>, other: &ArgsKey<X>) -> ArgsKey<X>
 {
     match parts {
         Parts::Args(key) => *key,
-        Parts::Empty | Parts::One(_) | Parts::Two(..) | Parts::Tys(_) | Parts::Branches(_) =>
-            *other,
+        _ => *other,
     }
 }
 
@@ -227,8 +259,7 @@ pub fn tys_or<X: Copy>(parts: &Parts<X>, other: &TysKey<X>) -> TysKey<X>
 {
     match parts {
         Parts::Tys(key) => *key,
-        Parts::Empty | Parts::One(_) | Parts::Two(..) | Parts::Args(_) | Parts::Branches(_) =>
-            *other,
+        _ => *other,
     }
 }
 
@@ -237,6 +268,15 @@ pub fn branches_or<X: Copy>(parts: &Parts<X>, other: &BranchesKey<X>) -> Branche
 {
     match parts {
         Parts::Branches(key) => *key,
-        Parts::Empty | Parts::One(_) | Parts::Two(..) | Parts::Args(_) | Parts::Tys(_) => *other,
+        _ => *other,
+    }
+}
+
+pub fn alternatives_or<X: Copy>(parts: &Parts<X>, other: &AlternativesKey<X>) -> AlternativesKey<X>
+    ensures { result ≡ alternatives_in parts.now other.now }
+{
+    match parts {
+        Parts::Alternatives(key) => *key,
+        _ => *other,
     }
 }

@@ -3,12 +3,13 @@ ghost use Rattle.std.specs.Prelude.{◌≡◌, ◌<◌, IsTrue, IfOk, OnErr, map
 ghost use Rattle.relation_terms.specs.Trees.{known, count, nth, list_tree, IsList};
 ghost use Rattle.relation_terms.specs.Meaning.{Extends};
 ghost use Rattle.relation_terms.specs.Parts.{part_tree, parts_tree, part_of_arg, Fit, Alike, AreArgs, AreTys};
-ghost use Rattle.relation_terms.specs.Parts.{AreConsts};
+ghost use Rattle.relation_terms.specs.Parts.{AreConsts, ArePats};
 ghost use Rattle.relation_terms.specs.declared.terms.part_kind.Part.TheVariants.{Ty as TyPart};
 ghost use Rattle.relation_terms.specs.declared.terms.part_kind.Part.TheVariants.{Const as ConstPart};
+ghost use Rattle.relation_terms.specs.declared.terms.part_kind.Part.TheVariants.{Pat as PatPart};
 
-use crate::terms::parts::keys::{of_arg, the_arg, the_const, the_ty};
-use crate::terms::{ConstKey, GenericArgKind, Interner, OutOfMemory, Part, Parts, TyKey};
+use crate::terms::parts::keys::{of_arg, the_arg, the_const, the_pat, the_ty};
+use crate::terms::{ConstKey, GenericArgKind, Interner, OutOfMemory, Part, Parts, PatKey, TyKey};
 use std::alloc::Global;
 
 /// How many members a list of parts has. The interner has to know the list.
@@ -24,6 +25,7 @@ pub fn member_count<I: Interner>(cx: &I, parts: &Parts<I::Key>) -> usize
         Parts::Args(args) => cx.args(args).len(),
         Parts::Tys(tys) => cx.tys(tys).len(),
         Parts::Branches(branches) => cx.branches(branches).len(),
+        Parts::Alternatives(alternatives) => cx.alternatives(alternatives).len(),
     }
 }
 
@@ -44,6 +46,7 @@ pub fn member<I: Interner>(cx: &I, parts: &Parts<I::Key>, i: usize) -> Part<I::K
         Parts::Args(args) => of_arg(&cx.args(args)[i]),
         Parts::Tys(tys) => Part::Ty(cx.tys(tys)[i]),
         Parts::Branches(branches) => Part::Const(cx.branches(branches)[i]),
+        Parts::Alternatives(alternatives) => Part::Pat(cx.alternatives(alternatives)[i]),
     }
 }
 
@@ -79,6 +82,18 @@ fn consts_of<X: Copy>(parts: &[Part<X>], alloc: Global) -> Result<Vec<ConstKey<X
     let mut list = Vec::new(alloc);
     for part in parts {
         list.push(the_const(part))?;
+    }
+    Ok(list)
+}
+
+// Parts that are patterns, as the list of these.
+fn pats_of<X: Copy>(parts: &[Part<X>], alloc: Global) -> Result<Vec<PatKey<X>>, OutOfMemory>
+    requires { ArePats parts.now }
+    ensures { IfOk result (λ list. map (λ p. PatPart p) list.items ≡ parts.now) }
+{
+    let mut list = Vec::new(alloc);
+    for part in parts {
+        list.push(the_pat(part))?;
     }
     Ok(list)
 }
@@ -121,6 +136,11 @@ pub fn make_parts<I: Interner>(
             let list = consts_of(members, cx.alloc())?;
             let made = cx.mk_branches(&list)?;
             Ok(Parts::Branches(made))
+        }
+        Parts::Alternatives(_) => {
+            let list = pats_of(members, cx.alloc())?;
+            let made = cx.mk_alternatives(&list)?;
+            Ok(Parts::Alternatives(made))
         }
     }
 }

@@ -6,11 +6,12 @@ ghost use Rattle.relation_terms.specs.Parts.{part_tree, parts_tree, part_sort, F
 ghost use Rattle.relation_terms.specs.Parts.{parts_of as list_of_parts};
 
 use crate::terms::parts::forms::{
-    const_over, const_parts, ty_over, ty_parts, valtree_over, valtree_parts,
+    const_over, const_parts, pattern_over, pattern_parts, ty_over, ty_parts, valtree_over,
+    valtree_parts,
 };
 use crate::terms::parts::keys::the_ty;
 use crate::terms::parts::{make_parts, member, member_count};
-use crate::terms::{Const, Interner, OutOfMemory, Part, Parts, Ty, ValTree};
+use crate::terms::{Const, Interner, OutOfMemory, Part, Parts, Pat, Ty, ValTree};
 
 /// The list of the parts of a term. The interner has to know the term, and knows the list too.
 pub fn parts_of<I: Interner>(cx: &I, term: &Part<I::Key>) -> Parts<I::Key>
@@ -23,6 +24,7 @@ pub fn parts_of<I: Interner>(cx: &I, term: &Part<I::Key>) -> Parts<I::Key>
         Part::Ty(ty) => ty_parts(&cx.ty_kind(ty)),
         Part::Const(constant) => const_parts(&cx.const_kind(constant)),
         Part::ValTree(valtree) => valtree_parts(&cx.valtree_kind(valtree)),
+        Part::Pat(pat) => pattern_parts(&cx.pat_kind(pat)),
         Part::ValueType(ty) => Parts::One(Part::Ty(*ty)),
     }
 }
@@ -106,6 +108,25 @@ fn valtree_with_parts<I: Interner>(
     cx.mk_valtree(valtree_over(&kind, &made))
 }
 
+// The pattern of that one's form over these parts.
+fn pat_with_parts<I: Interner>(
+    cx: &mut I,
+    pat: &Pat<I>,
+    parts: &[Part<I::Key>],
+) -> Result<Pat<I>, OutOfMemory>
+    requires term_known { IsTrue (known ((I.meaning cx.old).pat pat.now)) }
+    requires parts_known { IsTrue (known (list_tree (part_tree (I.meaning cx.old)) parts.now)) }
+    requires fits { Fit parts.now (list_of_parts ((I.meaning cx.old).pat pat.now)) }
+    ensures grown { Extends (I.meaning cx.old) (I.meaning cx.new) }
+    ensures sure { IfOk result (λ k. IsTrue (known ((I.meaning cx.new).pat k))) }
+    ensures made { IfOk result (λ k. (I.meaning cx.new).pat k ≡
+        over ((I.meaning cx.old).pat pat.now) (list_tree (part_tree (I.meaning cx.old)) parts.now)) }
+{
+    let kind = cx.pat_kind(pat);
+    let made = make_parts(cx, &pattern_parts(&kind), parts)?;
+    cx.mk_pat(pattern_over(&kind, &made))
+}
+
 /// The term of that one's form over these parts, as many as it has and each of the sort of the part at its place.
 ///
 /// The interner has to know the term and the parts. Answers `OutOfMemory` where a growth was refused. All keys keep
@@ -129,6 +150,7 @@ pub fn with_parts<I: Interner>(
         Part::Ty(ty) => Ok(Part::Ty(ty_with_parts(cx, ty, parts)?)),
         Part::Const(constant) => Ok(Part::Const(const_with_parts(cx, constant, parts)?)),
         Part::ValTree(valtree) => Ok(Part::ValTree(valtree_with_parts(cx, valtree, parts)?)),
+        Part::Pat(pat) => Ok(Part::Pat(pat_with_parts(cx, pat, parts)?)),
         Part::ValueType(_) => Ok(Part::ValueType(the_ty(&parts[0]))),
     }
 }

@@ -7,5 +7,5 @@ pub related_args-requires-clause-asked : goal.related_args-requires-clause-asked
 related_args-requires-clause-asked g c =
     let m = g.I.Interner.meaning c.args.cx in
     let h = adt (m.id c.args.def_id.now.0) in
-    concrete_asked m c.args.variance (node h (m.args c.args.a.now)) (node h (m.args c.args.b.now)) c.requires.lhs
-    c.requires.rhs
+    concrete_asked m c.args.variance (node h (m.args c.args.a.now)) (node h (m.args c.args.b.now))
+    (tt, c.requires.lhs) (tt, c.requires.rhs)

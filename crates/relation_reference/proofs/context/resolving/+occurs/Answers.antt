@@ -7,6 +7,8 @@ use Rattle.type_relations.specs.Errors.{StandsOutside}
 use Rattle.relation_terms.proofs.Sorted.{Sorted}
 use Rattle.relation_terms.proofs.Parts.{sort_known}
 use Rattle.relation_reference.proofs.Outside.{outside_nth, occurs_nowhere, part_smaller}
+use Rattle.type_relations.specs.Covered.{IsCovered}
+use Rattle.relation_reference.proofs.Covering.{part_covered, covered_open}
 use Rattle.relation_reference.proofs.Resolving.{some_sort}
 use Rattle.relation_reference.proofs.context.resolving.+occurs.Goals as goal
 
@@ -23,6 +25,7 @@ occurs-requires g t c κs within =
     let f = ap size c.part.ensures.means in
     let small : size (part_tree m c.part.result) < size u = omega (arith, e, f) in
     let sure = c.part.ensures.sure in
+    let covered = subst IsCovered (sym c.part.ensures.means) (part_covered u i below c.requires.term_covered) in
     search rules
 
 pub returns-then-occurs : goal.returns-then-occurs
@@ -35,7 +38,7 @@ returns-then-occurs g t c =
     let test = c.loop-i-test.true in
     let below : i < count (parts_of u) = omega (arith, counted, test) in
     record {
-      stands = λ h. c.variable_of.ensures.open l (outside_nth l (parts_of u) i below
+      stands = λ h. covered_open l u c.requires.term_covered (outside_nth l (parts_of u) i below
           (subst (StandsOutside l) c.part.ensures.means (c.occurs.ensures.stands c.if-occurs.true)));
       absent = λ h o. true≢false h;
     }
@@ -52,12 +55,14 @@ returns g t c =
       valtree = g.met.I.Interner.is_valtree c.args.cx.now;
       args = g.met.I.Interner.are_args c.args.cx.now;
       branches = g.met.I.Interner.are_branches c.args.cx.now;
+      pat = g.met.I.Interner.is_pat c.args.cx.now;
+      alternatives = g.met.I.Interner.are_alternatives c.args.cx.now;
     } in
     let counted = c.parts_count-i-end.ensures.counts in
     let test = c.loop-i-test.false in
     record {
       stands = λ h. absurd (false≢true h);
       absent = λ h. occurs_nowhere c.args.var.0 (part_tree m p) (c.in_default.ensures.is_none c.args.var.0)
-          (λ s. some_sort p (sym (sort_known m sorted p c.requires) ∙ s)) c.parts_count-i-end.ensures.is_list
+          (λ s. some_sort p (sym (sort_known m sorted p c.requires.term_known) ∙ s)) c.parts_count-i-end.ensures.is_list
           (λ i j. c.loop-i.invariant i (omega (arith, j, test, counted)));
     }

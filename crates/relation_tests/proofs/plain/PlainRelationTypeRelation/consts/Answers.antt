@@ -11,5 +11,7 @@ returns g c =
     parts_left plain_manner IsFormedConst
     (plain_state m c.args.self.now.ambient c.args.self.now.constraints.items) m.const_
     c.args.a.now c.args.b.now c.args.a.now c.args.b.now refl refl c.requires.asked
-    (formed_const m c.const_kind-a.result c.args.a.now c.const_kind-a.ensures)
-    (formed_const m c.const_kind-b.result c.args.b.now c.const_kind-b.ensures)
+    (formed_const m c.const_kind-a.result c.args.a.now c.const_kind-a.ensures
+    c.requires.asked.left_taken.1)
+    (formed_const m c.const_kind-b.result c.args.b.now c.const_kind-b.ensures
+    c.requires.asked.right_taken.1)

@@ -4,27 +4,50 @@ use Rattle.relation_terms.specs.Meaning.{arg_tree}
 use Rattle.relation_text.proofs.printing.terms.+write_ty.Given as goal
 
 abbrev pub decreases-write_ty : goal.decreases-write_ty
-decreases-write_ty g l = 2 * size ((g.I.Interner.meaning l.cx.now).ty l.ty.now)
+decreases-write_ty g l = 4 * size ((g.I.Interner.meaning l.cx.now).ty l.ty.now)
 
 abbrev pub decreases-write_array : goal.decreases-write_array
 decreases-write_array g l =
     let m = g.I.Interner.meaning l.cx.now in
-    2 * (size (m.ty l.element.now) + size (m.const_ l.length.now)) + 1
+    4 * (size (m.ty l.element.now) + size (m.const_ l.length.now)) + 1
 
 abbrev pub decreases-write_tuple : goal.decreases-write_tuple
-decreases-write_tuple g l = 2 * size ((g.I.Interner.meaning l.cx.now).tys l.members.now)
+decreases-write_tuple g l = 4 * size ((g.I.Interner.meaning l.cx.now).tys l.members.now)
 
 abbrev pub decreases-write_item : goal.decreases-write_item
-decreases-write_item g l = 2 * size ((g.I.Interner.meaning l.cx.now).args l.args.now) + 1
+decreases-write_item g l = 4 * size ((g.I.Interner.meaning l.cx.now).args l.args.now) + 3
+
+abbrev pub decreases-write_associated : goal.decreases-write_associated
+decreases-write_associated g l = 4 * size ((g.I.Interner.meaning l.cx.now).args l.args.now) + 2
+
+abbrev pub decreases-write_named : goal.decreases-write_named
+decreases-write_named g l = 4 * size ((g.I.Interner.meaning l.cx.now).args l.args.now) + 1
+
+abbrev pub decreases-write_expression : goal.decreases-write_expression
+decreases-write_expression g l = 4 * size ((g.I.Interner.meaning l.cx.now).args l.args.now) + 1
 
 abbrev pub decreases-write_args : goal.decreases-write_args
-decreases-write_args g l = 2 * size ((g.I.Interner.meaning l.cx.now).args l.args.now)
+decreases-write_args g l = 4 * size ((g.I.Interner.meaning l.cx.now).args l.args.now)
 
 abbrev pub decreases-write_arg : goal.decreases-write_arg
-decreases-write_arg g l = 2 * size (arg_tree (g.I.Interner.meaning l.cx.now) l.arg.now) + 1
+decreases-write_arg g l = 4 * size (arg_tree (g.I.Interner.meaning l.cx.now) l.arg.now) + 1
+
+abbrev pub decreases-write_pattern_type : goal.decreases-write_pattern_type
+decreases-write_pattern_type g l =
+    let m = g.I.Interner.meaning l.cx.now in
+    4 * (size (m.ty l.base.now) + size (m.pat l.pat.now)) + 1
+
+abbrev pub decreases-write_pattern : goal.decreases-write_pattern
+decreases-write_pattern g l = 4 * size ((g.I.Interner.meaning l.cx.now).pat l.pat.now)
+
+abbrev pub decreases-write_alternatives : goal.decreases-write_alternatives
+decreases-write_alternatives g l = 4 * size ((g.I.Interner.meaning l.cx.now).alternatives l.alternatives.now)
+
+abbrev pub decreases-write_alternative : goal.decreases-write_alternative
+decreases-write_alternative g l = 4 * size ((g.I.Interner.meaning l.cx.now).pat l.pat.now) + 1
 
 abbrev pub decreases-write_const : goal.decreases-write_const
-decreases-write_const g l = 2 * size ((g.I.Interner.meaning l.cx.now).const_ l.constant.now)
+decreases-write_const g l = 4 * size ((g.I.Interner.meaning l.cx.now).const_ l.constant.now)
 
 abbrev pub decreases-write_valtree : goal.decreases-write_valtree
-decreases-write_valtree g l = 2 * size ((g.I.Interner.meaning l.cx.now).valtree l.value.now)
+decreases-write_valtree g l = 4 * size ((g.I.Interner.meaning l.cx.now).valtree l.value.now)

@@ -1,19 +1,64 @@
-use Rattle.std.proofs.Common.{rules, arith, refl, sym, ap, ◌∙◌, ◌≡◌, ◌<◌, ◌+◌, ◌*◌, suc, subst, IsTrue}
+use Rattle.std.proofs.Common.{IfSome, rules, arith, refl, sym, ap, ◌∙◌, ◌≡◌, ◌<◌, ◌+◌, ◌*◌, suc, subst, IsTrue}
 use Rattle.relation_terms.specs.Trees.{known, size, count, nth, list_tree}
 use Rattle.relation_terms.specs.Parts.{part_tree, parts_tree, parts_of, part_sort, tree_sort, Fit}
 use Rattle.relation_terms.proofs.Stays.{knows_as}
 use Rattle.relation_terms.proofs.Sorted.{Sorted}
 use Rattle.relation_terms.proofs.Members.{member_small, parts_small}
 use Rattle.relation_terms.proofs.Parts.{sort_known, stays_part, stays_parts}
-use Rattle.relation_tools.specs.Folds.{Folds, KnownAnswer, folded, folded_parts}
-use Rattle.relation_tools.proofs.Folding.{steps_none, steps_on, steps_grown, parts_later, later, if_ok}
+use Rattle.relation_tools.specs.Folds.{Folds, KnownAnswer, IsMade, folded, folded_parts}
+use Rattle.relation_tools.proofs.Folding.{steps_none, steps_on, steps_grown, folded_later, parts_later, later, if_ok}
+use Rattle.relation_tools.proofs.Remembering.{place_eq, remembers_on}
 use Rattle.relation_tools.proofs.Members.{built_none, built_next, built_all, left_more, left_all, whole_made}
 use Rattle.relation_tools.proofs.Members.{whole_left}
 use Rattle.relation_tools.proofs.Members.{some_sure, some_made, some_fits, none_made}
 use Rattle.relation_tools.proofs.fold.walk.+walk.Goals as goal
 
-pub fold_part-returns-in-Replace : goal.fold_part-returns-in-Replace
-fold_part-returns-in-Replace g t' c =
+pub fold_met-returns-in-Some : goal.fold_met-returns-in-Some
+fold_met-returns-in-Some g t' c =
+    let m = g.I.Interner.meaning c.args.cx.now in
+    let p = g.F.TypeFolder.replaces m c.args.folder.now in
+    let made : IsMade m p c.args.part.now c.args.depth c.in-Some.made =
+    subst (λ o. IfSome o (λ by. IsMade m p c.args.part.now c.args.depth by)) c.in-Some.is c.recall.ensures in
+    record {
+      steps = steps_none m c.args.folder.now c.requires.ready;
+      remembers = c.requires.remembers;
+      sure = made.sure;
+      made = made.made;
+      sort = made.sort;
+    }
+
+pub fold_met-fold_new-requires : goal.fold_met-fold_new-requires
+fold_met-fold_new-requires g t' c κs within =
+    let m = g.I.Interner.meaning c.args.cx.now in
+    let x = c.args.part.now in
+    let d = c.decreases in
+    let small : 4 * size (part_tree m x) + 2 < 4 * size (part_tree m x) + 3 = omega arith in
+    let k = c.requires.known in
+    let r = c.requires.ready in
+    let o = c.requires.remembers in
+    search rules
+
+pub fold_met-keep-requires : goal.fold_met-keep-requires
+fold_met-keep-requires g t' c =
+    let m = g.I.Interner.meaning c.args.cx.now in
+    let n = g.I.Interner.meaning c.fold_new.new.cx in
+    let x = c.args.part.now in
+    let p = g.F.TypeFolder.replaces m c.args.folder.now in
+    let q = g.F.TypeFolder.replaces n c.fold_new.new.folder in
+    let r = c.in_ok-made.ensures in
+    let e : part_tree n x ≡ part_tree m x = stays_part r.steps.grown x c.requires.known in
+    record {
+      made = record {
+        there = knows_as (part_tree m x) (part_tree n x) e c.requires.known;
+        sure = r.sure;
+        made = r.made ∙ sym (folded_later p q r.steps.kept c.args.depth (part_tree m x) (part_tree n x) e);
+        sort = r.sort;
+      };
+      remembers = r.remembers;
+    }
+
+pub fold_new-returns-in-Replace : goal.fold_new-returns-in-Replace
+fold_new-returns-in-Replace g t' c =
     let m = g.I.Interner.meaning c.args.cx.now in
     let x = c.args.part.now in
     let n = g.I.Interner.meaning c.put_for.new.cx in
@@ -22,13 +67,18 @@ fold_part-returns-in-Replace g t' c =
     let made = subst (Folds p c.args.depth (part_tree m x) (part_tree n) (part_sort x)) c.in-Replace.is r.made in
     record {
       steps = r.steps;
+      remembers = remembers_on r.steps (place_eq g.I.Key.PartialEq.eq) c.args.memory.now c.requires.remembers;
       sure = subst (KnownAnswer (part_tree n)) c.in-Replace.is r.sure;
       made = made.0;
       sort = made.1;
     }
 
-pub fold_part-fold_parts-requires : goal.fold_part-fold_parts-requires
-fold_part-fold_parts-requires g t' c κs within =
+pub fold_new-returns-in_err-by-clause-remembers : goal.fold_new-returns-in_err-by-clause-remembers
+fold_new-returns-in_err-by-clause-remembers g t' c =
+    remembers_on c.in_err-by.ensures.steps (place_eq g.I.Key.PartialEq.eq) c.args.memory.now c.requires.remembers
+
+pub fold_new-fold_inside-requires : goal.fold_new-fold_inside-requires
+fold_new-fold_inside-requires g t' c κs within =
     let m = g.I.Interner.meaning c.args.cx.now in
     let x = c.args.part.now in
     let n = g.I.Interner.meaning c.put_for.new.cx in
@@ -37,12 +87,13 @@ fold_part-fold_parts-requires g t' c κs within =
     let e : part_tree n x ≡ part_tree m x = stays_part s.grown x c.requires.known in
     let k : IsTrue (known (part_tree n x)) = knows_as (part_tree m x) (part_tree n x) e c.requires.known in
     let is : size (part_tree n x) ≡ size (part_tree m x) = ap size e in
-    let small : 3 * size (part_tree n x) + 1 < 3 * size (part_tree m x) + 2 = omega (arith, is) in
+    let small : 4 * size (part_tree n x) + 1 < 4 * size (part_tree m x) + 2 = omega (arith, is) in
     let r = s.ready in
+    let o = remembers_on s (place_eq g.I.Key.PartialEq.eq) c.args.memory.now c.requires.remembers in
     search rules
 
-pub fold_part-returns-in-Descend : goal.fold_part-returns-in-Descend
-fold_part-returns-in-Descend g t' c =
+pub fold_new-returns-in-Descend : goal.fold_new-returns-in-Descend
+fold_new-returns-in-Descend g t' c =
     let m = g.I.Interner.meaning c.args.cx.now in
     let x = c.args.part.now in
     let n = g.I.Interner.meaning c.put_for.new.cx in
@@ -50,7 +101,7 @@ fold_part-returns-in-Descend g t' c =
     let q = g.F.TypeFolder.replaces n c.put_for.new.folder in
     let i = c.args.depth in
     let r = c.in_ok-by.ensures in
-    let o = c.fold_parts.ensures in
+    let o = c.fold_inside.ensures in
     let e = stays_part r.steps.grown x c.requires.known in
     let left : folded p i (part_tree m x) ≡ folded_parts p i (part_tree m x) =
     subst (Folds p i (part_tree m x) (part_tree n) (part_sort x)) c.in-Descend.is r.made in
@@ -58,26 +109,28 @@ fold_part-returns-in-Descend g t' c =
     parts_later p q r.steps.kept i (part_tree m x) (part_tree n x) e in
     record {
       steps = steps_on r.steps o.steps;
+      remembers = o.remembers;
       sure = o.sure;
-      made = if_ok c.fold_parts.result (λ y h. h ∙ (parts ∙ sym left)) o.made;
+      made = if_ok c.fold_inside.result (λ y h. h ∙ (parts ∙ sym left)) o.made;
       sort = o.sort;
     }
 
-pub fold_parts-fold_members-requires : goal.fold_parts-fold_members-requires
-fold_parts-fold_members-requires g t' c κs within =
+pub fold_inside-fold_members-requires : goal.fold_inside-fold_members-requires
+fold_inside-fold_members-requires g t' c κs within =
     let m = g.I.Interner.meaning c.args.cx.now in
     let t = part_tree m c.args.part.now in
     let ts = parts_tree m c.parts_of.result in
     let d = c.decreases in
     let less = parts_small t in
     let is : size ts ≡ size (parts_of t) = ap size c.parts_of.ensures.means in
-    let small : 3 * size ts < 3 * size t + 1 = omega (arith, less, is) in
+    let small : 4 * size ts < 4 * size t + 1 = omega (arith, less, is) in
+    let o = c.requires.remembers in
     let k = c.parts_of.ensures.sure in
     let r = c.requires.ready in
     search rules
 
-pub fold_parts-with_parts-requires : goal.fold_parts-with_parts-requires
-fold_parts-with_parts-requires g t' c =
+pub fold_inside-with_parts-requires : goal.fold_inside-with_parts-requires
+fold_inside-with_parts-requires g t' c =
     let m = g.I.Interner.meaning c.args.cx.now in
     let n = g.I.Interner.meaning c.fold_members.new.cx in
     let x = c.args.part.now in
@@ -93,8 +146,8 @@ fold_parts-with_parts-requires g t' c =
           (some_fits (λ l. l.items) (part_tree n) ts c.in-Some.is r.fits));
     }
 
-pub fold_parts-returns-in-Some : goal.fold_parts-returns-in-Some
-fold_parts-returns-in-Some g t' c =
+pub fold_inside-returns-in-Some : goal.fold_inside-returns-in-Some
+fold_inside-returns-in-Some g t' c =
     let m = g.I.Interner.meaning c.args.cx.now in
     let n = g.I.Interner.meaning c.fold_members.new.cx in
     let p = g.F.TypeFolder.replaces m c.args.folder.now in
@@ -110,14 +163,17 @@ fold_parts-returns-in-Some g t' c =
     ∙ ap (folded p c.args.depth) c.parts_of.ensures.means) in
     record {
       steps = steps_grown g.met.F.TypeFolder.ready_on g.met.F.TypeFolder.replaces_on r.steps o.grown;
+      remembers = remembers_on (steps_grown g.met.F.TypeFolder.ready_on g.met.F.TypeFolder.replaces_on
+          (steps_none n c.fold_members.new.folder r.steps.ready) o.grown) (place_eq g.I.Key.PartialEq.eq)
+          c.fold_members.new.memory r.remembers;
       sure = o.sure;
       made = if_ok c.with_parts.result (λ y h. h ∙ whole_made p c.args.depth (part_tree m x) (part_tree n x) us e q)
           o.made;
       sort = o.sort;
     }
 
-pub fold_parts-returns-in-None : goal.fold_parts-returns-in-None
-fold_parts-returns-in-None g t' c =
+pub fold_inside-returns-in-None : goal.fold_inside-returns-in-None
+fold_inside-returns-in-None g t' c =
     let m = g.I.Interner.meaning c.args.cx.now in
     let n = g.I.Interner.meaning c.fold_members.new.cx in
     let p = g.F.TypeFolder.replaces m c.args.folder.now in
@@ -127,6 +183,7 @@ fold_parts-returns-in-None g t' c =
     let e : part_tree n x ≡ part_tree m x = stays_part r.steps.grown x c.requires.known in
     record {
       steps = r.steps;
+      remembers = r.remembers;
       sure = knows_as (part_tree m x) (part_tree n x) e c.requires.known;
       made = e ∙ whole_left p c.args.depth (part_tree m x) ts c.parts_of.ensures.means
           (none_made (λ l. l.items) (part_tree n) ts c.in-None.is r.made
@@ -139,6 +196,7 @@ fold_members-loop-i-init g t' c =
     let m = g.I.Interner.meaning c.args.cx.now in
     record {
       steps = steps_none m c.args.folder.now c.requires.ready;
+      remembers = c.requires.remembers;
       built = built_none (g.F.TypeFolder.replaces m c.args.folder.now) c.args.depth (part_tree m)
           (parts_tree m c.args.parts.now) c.new-made.result.items c.new-made.ensures.items;
       left = λ k. refl;
@@ -159,8 +217,8 @@ fold_members-member-old-requires g t' c =
       in_bounds = subst (λ z. c.loop-i.i < count z) (sym e) below;
     }
 
-pub fold_members-fold_part-requires : goal.fold_members-fold_part-requires
-fold_members-fold_part-requires g t' c κs within =
+pub fold_members-fold_met-requires : goal.fold_members-fold_met-requires
+fold_members-fold_met-requires g t' c κs within =
     let m = g.I.Interner.meaning c.args.cx.now in
     let n = g.I.Interner.meaning c.loop-i.cx in
     let ps = c.args.parts.now in
@@ -175,7 +233,8 @@ fold_members-fold_part-requires g t' c κs within =
     let d = c.decreases in
     let less = member_small ts i below in
     let is : size (part_tree n x) ≡ size (nth i ts) = ap size (c.member-old.ensures.means ∙ ap (nth i) e) in
-    let small : 3 * size (part_tree n x) + 2 < 3 * size ts = omega (arith, less, is) in
+    let small : 4 * size (part_tree n x) + 3 < 4 * size ts = omega (arith, less, is) in
+    let o = c.loop-i.invariant.remembers in
     let k = c.member-old.ensures.sure in
     let r = s.ready in
     search rules
@@ -183,7 +242,7 @@ fold_members-fold_part-requires g t' c κs within =
 pub fold_members-is_same-same-requires : goal.fold_members-is_same-same-requires
 fold_members-is_same-same-requires g t' c =
     let n = g.I.Interner.meaning c.loop-i.cx in
-    let o = g.I.Interner.meaning c.fold_part.new.cx in
+    let o = g.I.Interner.meaning c.fold_met.new.cx in
     let x = c.member-old.result in
     let r = c.in_ok-new.ensures in
     let e : part_tree o x ≡ part_tree n x = stays_part r.steps.grown x c.member-old.ensures.sure in
@@ -205,7 +264,7 @@ pub fold_members-loop-i-preserved : goal.fold_members-loop-i-preserved
 fold_members-loop-i-preserved g t' c =
     let m = g.I.Interner.meaning c.args.cx.now in
     let n = g.I.Interner.meaning c.loop-i.cx in
-    let o = g.I.Interner.meaning c.fold_part.new.cx in
+    let o = g.I.Interner.meaning c.fold_met.new.cx in
     let p = g.F.TypeFolder.replaces m c.args.folder.now in
     let d = c.args.depth in
     let ps = c.args.parts.now in
@@ -231,9 +290,12 @@ fold_members-loop-i-preserved g t' c =
       valtree = g.met.I.Interner.is_valtree c.loop-i.cx;
       args = g.met.I.Interner.are_args c.loop-i.cx;
       branches = g.met.I.Interner.are_branches c.loop-i.cx;
+      pat = g.met.I.Interner.is_pat c.loop-i.cx;
+      alternatives = g.met.I.Interner.are_alternatives c.loop-i.cx;
     } in
     record {
       steps = steps_on s r.steps;
+      remembers = r.remembers;
       built = built_next p d (part_tree n) (part_tree o) (stays_part r.steps.grown) y i (i + 1) ts c.loop-i.made.items _
           c.loop-i.invariant.built below next made r.sure
           (r.sort ∙ sym (sort_known n sorted x c.member-old.ensures.sure) ∙ ap tree_sort at)
@@ -254,6 +316,7 @@ fold_members-returns-then-same g t' c =
     let all : i ≡ count ts = omega (arith, counted, test, end) in
     record {
       steps = c.loop-i.invariant.steps;
+      remembers = c.loop-i.invariant.remembers;
       sure = c.requires.known;
       made = left_all p c.args.depth i ts c.member_count-i-end.ensures.is_list all
           (c.loop-i.invariant.left c.if-same.true);
@@ -275,6 +338,7 @@ fold_members-returns-else-same g t' c =
     c.loop-i.invariant.built in
     record {
       steps = c.loop-i.invariant.steps;
+      remembers = c.loop-i.invariant.remembers;
       sure = built.1.0;
       made = built.0;
       fits = built.1.1;

@@ -10,7 +10,7 @@ use Rattle.relation_tools.proofs.fold.walk.fold_list.Goals as goal
 pub make_parts-requires : goal.make_parts-requires
 make_parts-requires g c =
     let m = g.I.Interner.meaning c.args.cx.now in
-    let n = g.I.Interner.meaning c.fold_members.new.cx in
+    let n = g.I.Interner.meaning c.fold_all.new.cx in
     let ps = c.args.parts.now in
     let ts = parts_tree m ps in
     let r = c.in_ok-made.ensures in
@@ -27,7 +27,7 @@ make_parts-requires g c =
 pub returns-in-Some : goal.returns-in-Some
 returns-in-Some g c =
     let m = g.I.Interner.meaning c.args.cx.now in
-    let n = g.I.Interner.meaning c.fold_members.new.cx in
+    let n = g.I.Interner.meaning c.fold_all.new.cx in
     let ts = parts_tree m c.args.parts.now in
     let r = c.in_ok-made.ensures in
     let o = c.make_parts.ensures in
@@ -42,7 +42,7 @@ returns-in-Some g c =
 pub returns-in-None : goal.returns-in-None
 returns-in-None g c =
     let m = g.I.Interner.meaning c.args.cx.now in
-    let n = g.I.Interner.meaning c.fold_members.new.cx in
+    let n = g.I.Interner.meaning c.fold_all.new.cx in
     let ps = c.args.parts.now in
     let ts = parts_tree m ps in
     let r = c.in_ok-made.ensures in

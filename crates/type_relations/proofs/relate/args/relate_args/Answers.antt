@@ -38,6 +38,8 @@ loop-i-init g c =
       valtree = g.met.I.Interner.is_valtree cx;
       args = g.met.I.Interner.are_args cx;
       branches = g.met.I.Interner.are_branches cx;
+      pat = g.met.I.Interner.is_pat cx;
+      alternatives = g.met.I.Interner.are_alternatives cx;
     }) in
     record {
       lawful = c.requires.lawful;

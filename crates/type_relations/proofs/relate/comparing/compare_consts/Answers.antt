@@ -13,9 +13,9 @@ returns-in_default g c =
     let m = g.I.Interner.meaning c.args.cx.now in
     record {
       alike = tt;
-      errors = unlike_const m (Param c.in-Param.parameter) c.const_kind-right.result c.args.a.now c.args.b.now c.unlike_consts.result (c.const_kind.ensures ∙ ap (const_tree m) c.in-Param.is) c.const_kind-right.ensures (param_const m c.in-Param.parameter c.const_kind-right.result (λ q e i. c.in_default.not-Param q e)) c.unlike_consts.ensures;
-      a_formed = formed_const m c.const_kind.result c.args.a.now c.const_kind.ensures;
-      b_formed = formed_const m c.const_kind-right.result c.args.b.now c.const_kind-right.ensures;
+      errors = unlike_const m (Param c.in-Param.parameter) c.const_kind-right.result c.args.a.now c.args.b.now c.unlike_consts.result (c.const_kind.ensures ∙ ap (const_tree m) c.in-Param.is) c.const_kind-right.ensures c.requires.a_covered c.requires.b_covered (param_const m c.in-Param.parameter c.const_kind-right.result (λ q e i. c.in_default.not-Param q e)) c.unlike_consts.ensures;
+      a_formed = formed_const m c.const_kind.result c.args.a.now c.const_kind.ensures c.requires.a_covered;
+      b_formed = formed_const m c.const_kind-right.result c.args.b.now c.const_kind-right.ensures c.requires.b_covered;
     }
 
 pub returns-in_default-right : goal.returns-in_default-right
@@ -23,9 +23,9 @@ returns-in_default-right g c =
     let m = g.I.Interner.meaning c.args.cx.now in
     record {
       alike = tt;
-      errors = unlike_const m (Value c.in-Value.field-0 c.in-Value.value) c.const_kind-right.result c.args.a.now c.args.b.now c.unlike_consts-in_default-right.result (c.const_kind.ensures ∙ ap (const_tree m) c.in-Value.is) c.const_kind-right.ensures (value_const m c.in-Value.field-0 c.in-Value.value c.const_kind-right.result (λ u w e i. c.in_default-right.not-Value u w e)) c.unlike_consts-in_default-right.ensures;
-      a_formed = formed_const m c.const_kind.result c.args.a.now c.const_kind.ensures;
-      b_formed = formed_const m c.const_kind-right.result c.args.b.now c.const_kind-right.ensures;
+      errors = unlike_const m (Value c.in-Value.field-0 c.in-Value.value) c.const_kind-right.result c.args.a.now c.args.b.now c.unlike_consts-in_default-right.result (c.const_kind.ensures ∙ ap (const_tree m) c.in-Value.is) c.const_kind-right.ensures c.requires.a_covered c.requires.b_covered (value_const m c.in-Value.field-0 c.in-Value.value c.const_kind-right.result (λ u w e i. c.in_default-right.not-Value u w e)) c.unlike_consts-in_default-right.ensures;
+      a_formed = formed_const m c.const_kind.result c.args.a.now c.const_kind.ensures c.requires.a_covered;
+      b_formed = formed_const m c.const_kind-right.result c.args.b.now c.const_kind-right.ensures c.requires.b_covered;
     }
 
 pub returns-in_default-right-2 : goal.returns-in_default-right-2
@@ -33,15 +33,15 @@ returns-in_default-right-2 g c =
     let m = g.I.Interner.meaning c.args.cx.now in
     record {
       alike = tt;
-      errors = unlike_const m (Expr c.in-Expr.kind c.in-Expr.args) c.const_kind-right.result c.args.a.now c.args.b.now c.unlike_consts-in_default-right-2.result (c.const_kind.ensures ∙ ap (const_tree m) c.in-Expr.is) c.const_kind-right.ensures (expr_const m c.in-Expr.kind c.in-Expr.args c.const_kind-right.result c.in_default-right-2.not-Expr) c.unlike_consts-in_default-right-2.ensures;
-      a_formed = formed_const m c.const_kind.result c.args.a.now c.const_kind.ensures;
-      b_formed = formed_const m c.const_kind-right.result c.args.b.now c.const_kind-right.ensures;
+      errors = unlike_const m (Expr c.in-Expr.kind c.in-Expr.args) c.const_kind-right.result c.args.a.now c.args.b.now c.unlike_consts-in_default-right-2.result (c.const_kind.ensures ∙ ap (const_tree m) c.in-Expr.is) c.const_kind-right.ensures c.requires.a_covered c.requires.b_covered (expr_const m c.in-Expr.kind c.in-Expr.args c.const_kind-right.result c.in_default-right-2.not-Expr) c.unlike_consts-in_default-right-2.ensures;
+      a_formed = formed_const m c.const_kind.result c.args.a.now c.const_kind.ensures c.requires.a_covered;
+      b_formed = formed_const m c.const_kind-right.result c.args.b.now c.const_kind-right.ensures c.requires.b_covered;
     }
 
 pub returns-then-parameter-other-clause-errors : goal.returns-then-parameter-other-clause-errors
 returns-then-parameter-other-clause-errors g c =
     let m = g.I.Interner.meaning c.args.cx.now in
-    unlike_const m (Param c.in-Param.parameter) (Param c.in-Param-right.other) c.args.a.now c.args.b.now c.unlike_consts-then-parameter-other.result (c.const_kind.ensures ∙ ap (const_tree m) c.in-Param.is) (c.const_kind-right.ensures ∙ ap (const_tree m) c.in-Param-right.is) c.if-parameter-other.true c.unlike_consts-then-parameter-other.ensures
+    unlike_const m (Param c.in-Param.parameter) (Param c.in-Param-right.other) c.args.a.now c.args.b.now c.unlike_consts-then-parameter-other.result (c.const_kind.ensures ∙ ap (const_tree m) c.in-Param.is) (c.const_kind-right.ensures ∙ ap (const_tree m) c.in-Param-right.is) c.requires.a_covered c.requires.b_covered c.if-parameter-other.true c.unlike_consts-then-parameter-other.ensures
 
 pub returns-else-parameter-other-clause-alike : goal.returns-else-parameter-other-clause-alike
 returns-else-parameter-other-clause-alike g c =
@@ -51,12 +51,12 @@ returns-else-parameter-other-clause-alike g c =
 pub returns-in-Placeholder-clause-errors : goal.returns-in-Placeholder-clause-errors
 returns-in-Placeholder-clause-errors g c =
     let m = g.I.Interner.meaning c.args.cx.now in
-    unlike_const m (Placeholder c.in-Placeholder.field-0) c.const_kind-right.result c.args.a.now c.args.b.now c.unlike_consts-in-Placeholder.result (c.const_kind.ensures ∙ ap (const_tree m) c.in-Placeholder.is) c.const_kind-right.ensures (λ e. c.requires.differ ((c.const_kind.ensures ∙ ap (const_tree m) c.in-Placeholder.is) ∙ e ∙ sym c.const_kind-right.ensures)) c.unlike_consts-in-Placeholder.ensures
+    unlike_const m (Placeholder c.in-Placeholder.field-0) c.const_kind-right.result c.args.a.now c.args.b.now c.unlike_consts-in-Placeholder.result (c.const_kind.ensures ∙ ap (const_tree m) c.in-Placeholder.is) c.const_kind-right.ensures c.requires.a_covered c.requires.b_covered (λ e. c.requires.differ ((c.const_kind.ensures ∙ ap (const_tree m) c.in-Placeholder.is) ∙ e ∙ sym c.const_kind-right.ensures)) c.unlike_consts-in-Placeholder.ensures
 
 pub returns-then-not-is_one_value-clause-errors : goal.returns-then-not-is_one_value-clause-errors
 returns-then-not-is_one_value-clause-errors g c =
     let m = g.I.Interner.meaning c.args.cx.now in
-    unlike_const m (Value c.in-Value.field-0 c.in-Value.value) (Value c.in-Value-right.field-0 c.in-Value-right.other) c.args.a.now c.args.b.now c.unlike_consts-then-not-is_one_value.result (c.const_kind.ensures ∙ ap (const_tree m) c.in-Value.is) (c.const_kind-right.ensures ∙ ap (const_tree m) c.in-Value-right.is) (c.if-not-is_one_value.ensures.unlike refl) c.unlike_consts-then-not-is_one_value.ensures
+    unlike_const m (Value c.in-Value.field-0 c.in-Value.value) (Value c.in-Value-right.field-0 c.in-Value-right.other) c.args.a.now c.args.b.now c.unlike_consts-then-not-is_one_value.result (c.const_kind.ensures ∙ ap (const_tree m) c.in-Value.is) (c.const_kind-right.ensures ∙ ap (const_tree m) c.in-Value-right.is) c.requires.a_covered c.requires.b_covered (c.if-not-is_one_value.ensures.unlike refl) c.unlike_consts-then-not-is_one_value.ensures
 
 pub returns-else-not-is_one_value-clause-alike : goal.returns-else-not-is_one_value-clause-alike
 returns-else-not-is_one_value-clause-alike g c =

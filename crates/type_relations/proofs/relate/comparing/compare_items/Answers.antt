@@ -7,7 +7,7 @@ use Rattle.type_relations.proofs.relate.comparing.compare_items.Goals as goal
 
 pub returns-in_default-clause-errors : goal.returns-in_default-clause-errors
 returns-in_default-clause-errors g c =
-    unlike_item (g.I.Interner.meaning c.args.cx.now) c.ty_kind.result c.args.a.now c.args.b.now c.unlike.result c.ty_kind.ensures c.unlike.ensures c.args.item.now c.requires.means c.in_default.ensures.is_none
+    unlike_item (g.I.Interner.meaning c.args.cx.now) c.ty_kind.result c.args.a.now c.args.b.now c.unlike.result c.ty_kind.ensures c.unlike.ensures c.requires.b_covered c.args.item.now c.requires.means c.in_default.ensures.is_none
 
 pub returns-then-ne-clause-errors : goal.returns-then-ne-clause-errors
 returns-then-ne-clause-errors g c =

@@ -13,7 +13,7 @@ returns-in_default-right g c =
     let m = g.I.Interner.meaning c.args.cx.now in
     record {
       alike = tt;
-      errors = unlike_slice m c.ty_kind-right.result c.args.a.now c.args.b.now c.unlike.result c.ty_kind-right.ensures c.unlike.ensures c.in-Slice.field-0 (c.ty_kind-left.ensures ∙ ap (kind_tree m) c.in-Slice.is) c.in_default-right.not-Slice;
+      errors = unlike_slice m c.ty_kind-right.result c.args.a.now c.args.b.now c.unlike.result c.ty_kind-right.ensures c.unlike.ensures c.requires.b_covered c.in-Slice.field-0 (c.ty_kind-left.ensures ∙ ap (kind_tree m) c.in-Slice.is) c.in_default-right.not-Slice;
     }
 
 pub returns-in_default-right-2 : goal.returns-in_default-right-2
@@ -21,7 +21,7 @@ returns-in_default-right-2 g c =
     let m = g.I.Interner.meaning c.args.cx.now in
     record {
       alike = tt;
-      errors = unlike_array m c.ty_kind-right.result c.args.a.now c.args.b.now c.unlike-in_default-right-2.result c.ty_kind-right.ensures c.unlike-in_default-right-2.ensures c.in-Array.field-0 c.in-Array.field-1 (c.ty_kind-left.ensures ∙ ap (kind_tree m) c.in-Array.is) c.in_default-right-2.not-Array;
+      errors = unlike_array m c.ty_kind-right.result c.args.a.now c.args.b.now c.unlike-in_default-right-2.result c.ty_kind-right.ensures c.unlike-in_default-right-2.ensures c.requires.b_covered c.in-Array.field-0 c.in-Array.field-1 (c.ty_kind-left.ensures ∙ ap (kind_tree m) c.in-Array.is) c.in_default-right-2.not-Array;
     }
 
 pub returns-in_default-right-3 : goal.returns-in_default-right-3
@@ -29,7 +29,7 @@ returns-in_default-right-3 g c =
     let m = g.I.Interner.meaning c.args.cx.now in
     record {
       alike = tt;
-      errors = unlike_tuple m c.ty_kind-right.result c.args.a.now c.args.b.now c.unlike-in_default-right-3.result c.ty_kind-right.ensures c.unlike-in_default-right-3.ensures c.in-Tuple.xs (c.ty_kind-left.ensures ∙ ap (kind_tree m) c.in-Tuple.is) c.in_default-right-3.not-Tuple;
+      errors = unlike_tuple m c.ty_kind-right.result c.args.a.now c.args.b.now c.unlike-in_default-right-3.result c.ty_kind-right.ensures c.unlike-in_default-right-3.ensures c.requires.b_covered c.in-Tuple.xs (c.ty_kind-left.ensures ∙ ap (kind_tree m) c.in-Tuple.is) c.in_default-right-3.not-Tuple;
     }
 
 pub returns-in_default-right-4 : goal.returns-in_default-right-4
@@ -37,7 +37,7 @@ returns-in_default-right-4 g c =
     let m = g.I.Interner.meaning c.args.cx.now in
     record {
       alike = tt;
-      errors = unlike_raw m c.ty_kind-right.result c.args.a.now c.args.b.now c.unlike-in_default-right-4.result c.ty_kind-right.ensures c.unlike-in_default-right-4.ensures c.in-RawPtr.field-0 c.in-RawPtr.mutability (c.ty_kind-left.ensures ∙ ap (kind_tree m) c.in-RawPtr.is) c.in_default-right-4.not-RawPtr;
+      errors = unlike_raw m c.ty_kind-right.result c.args.a.now c.args.b.now c.unlike-in_default-right-4.result c.ty_kind-right.ensures c.unlike-in_default-right-4.ensures c.requires.b_covered c.in-RawPtr.field-0 c.in-RawPtr.mutability (c.ty_kind-left.ensures ∙ ap (kind_tree m) c.in-RawPtr.is) c.in_default-right-4.not-RawPtr;
     }
 
 pub returns-in_default-right-5 : goal.returns-in_default-right-5
@@ -45,7 +45,7 @@ returns-in_default-right-5 g c =
     let m = g.I.Interner.meaning c.args.cx.now in
     record {
       alike = tt;
-      errors = unlike_ref m c.ty_kind-right.result c.args.a.now c.args.b.now c.unlike-in_default-right-5.result c.ty_kind-right.ensures c.unlike-in_default-right-5.ensures c.in-Ref.field-0 c.in-Ref.field-1 c.in-Ref.mutability (c.ty_kind-left.ensures ∙ ap (kind_tree m) c.in-Ref.is) c.in_default-right-5.not-Ref;
+      errors = unlike_ref m c.ty_kind-right.result c.args.a.now c.args.b.now c.unlike-in_default-right-5.result c.ty_kind-right.ensures c.unlike-in_default-right-5.ensures c.requires.b_covered c.in-Ref.field-0 c.in-Ref.field-1 c.in-Ref.mutability (c.ty_kind-left.ensures ∙ ap (kind_tree m) c.in-Ref.is) c.in_default-right-5.not-Ref;
     }
 
 pub returns-in_default-right-6 : goal.returns-in_default-right-6
@@ -53,7 +53,7 @@ returns-in_default-right-6 g c =
     let m = g.I.Interner.meaning c.args.cx.now in
     record {
       alike = tt;
-      errors = unlike_param m c.ty_kind-right.result c.args.a.now c.args.b.now c.unlike-in_default-right-6.result c.ty_kind-right.ensures c.unlike-in_default-right-6.ensures c.in-Param.parameter (c.ty_kind-left.ensures ∙ ap (kind_tree m) c.in-Param.is) (λ z e i. c.in_default-right-6.not-Param z e);
+      errors = unlike_param m c.ty_kind-right.result c.args.a.now c.args.b.now c.unlike-in_default-right-6.result c.ty_kind-right.ensures c.unlike-in_default-right-6.ensures c.requires.b_covered c.in-Param.parameter (c.ty_kind-left.ensures ∙ ap (kind_tree m) c.in-Param.is) (λ z e i. c.in_default-right-6.not-Param z e);
     }
 
 pub returns-in-Slice-right-clause-alike : goal.returns-in-Slice-right-clause-alike
@@ -105,7 +105,7 @@ pub returns-then-parameter-other-clause-errors : goal.returns-then-parameter-oth
 returns-then-parameter-other-clause-errors g c =
     let m = g.I.Interner.meaning c.args.cx.now in
     let un = c.unlike-then-parameter-other in
-    unlike_param m c.ty_kind-right.result c.args.a.now c.args.b.now un.result c.ty_kind-right.ensures un.ensures c.in-Param.parameter (c.ty_kind-left.ensures ∙ ap (kind_tree m) c.in-Param.is) (λ z e i. c.if-parameter-other.true (let h = sym e ∙ c.in-Param-right.is in let k : z.index ≡ c.in-Param-right.other.index = cc in i ∙ k))
+    unlike_param m c.ty_kind-right.result c.args.a.now c.args.b.now un.result c.ty_kind-right.ensures un.ensures c.requires.b_covered c.in-Param.parameter (c.ty_kind-left.ensures ∙ ap (kind_tree m) c.in-Param.is) (λ z e i. c.if-parameter-other.true (let h = sym e ∙ c.in-Param-right.is in let k : z.index ≡ c.in-Param-right.other.index = cc in i ∙ k))
 
 pub returns-else-parameter-other-clause-alike : goal.returns-else-parameter-other-clause-alike
 returns-else-parameter-other-clause-alike g c =
@@ -118,7 +118,7 @@ returns-then-ne-3-clause-errors g c =
     let differ : m.ty c.args.a.now ≢ m.ty c.args.b.now = (λ e. (let t = c.if-ne-3.true in let h = c.ne-in_default-left.ensures in let k = c.if-ne-3.ensures in
     let l = (g.met.I.Interner.same_ty c.args.cx.now c.args.a.now c.args.b.now c.requires.a_known c.requires.b_known).1 e in search rules)) in
     unlike_alone m c.ty_kind-left.result c.ty_kind-right.result c.args.a.now c.args.b.now c.unlike-then-ne-3.result c.ty_kind-left.ensures c.ty_kind-right.ensures differ c.unlike-then-ne-3.ensures
-    c.in_default.ensures.is_none c.in_default-left.not-Slice c.in_default-left.not-Array c.in_default-left.not-Tuple c.in_default-left.not-RawPtr c.in_default-left.not-Ref c.in_default-left.not-Param
+    c.requires.a_covered c.requires.b_covered c.in_default.ensures.is_none c.in_default-left.not-Slice c.in_default-left.not-Array c.in_default-left.not-Tuple c.in_default-left.not-RawPtr c.in_default-left.not-Ref c.in_default-left.not-Param
 
 pub returns-else-ne-3-clause-alike : goal.returns-else-ne-3-clause-alike
 returns-else-ne-3-clause-alike g c =
@@ -126,4 +126,4 @@ returns-else-ne-3-clause-alike g c =
     let one : m.ty c.args.a.now ≡ m.ty c.args.b.now = (g.met.I.Interner.same_ty c.args.cx.now c.args.a.now c.args.b.now c.requires.a_known c.requires.b_known).0
     (let t = c.if-ne-3.false in let h = c.ne-in_default-left.ensures in let k = c.if-ne-3.ensures in search rules) in
     one_alone m c.ty_kind-left.result (m.ty c.args.a.now) (m.ty c.args.b.now) c.ty_kind-left.ensures one
-    c.in_default.ensures.is_none c.in_default-left.not-Slice c.in_default-left.not-Array c.in_default-left.not-Tuple c.in_default-left.not-RawPtr c.in_default-left.not-Ref c.in_default-left.not-Param
+    c.requires.a_covered c.in_default.ensures.is_none c.in_default-left.not-Slice c.in_default-left.not-Array c.in_default-left.not-Tuple c.in_default-left.not-RawPtr c.in_default-left.not-Ref c.in_default-left.not-Param

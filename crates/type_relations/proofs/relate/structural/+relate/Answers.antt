@@ -12,6 +12,7 @@ use Rattle.relation_tools.specs.declared.error.RelateFault.TheVariants.{Unrelate
 use Rattle.type_relations.specs.Relation.{part_at}
 use Rattle.type_relations.specs.Goals.{Relates}
 use Rattle.type_relations.specs.Errors.{AreOfOneForm}
+use Rattle.type_relations.specs.Covered.{IsCovered}
 use Rattle.type_relations.specs.Parts.{IsFormed, IsFormedConst, parts_of, const_parts_of, head_of, const_head_of}
 use Rattle.type_relations.specs.Handing.{IsResultOfTy, IsResultOfConst}
 use Rattle.type_relations.specs.Making.{arg_sort, Fit, over, const_over}
@@ -457,6 +458,8 @@ relate-returns-in_default g t c =
       valtree = g.met.I.Interner.is_valtree cx;
       args = g.met.I.Interner.are_args cx;
       branches = g.met.I.Interner.are_branches cx;
+      pat = g.met.I.Interner.is_pat cx;
+      alternatives = g.met.I.Interner.are_alternatives cx;
     }) in
     let k = c.requires.asked in
     record {
@@ -480,6 +483,8 @@ relate-returns-in_default-b g t c =
       valtree = g.met.I.Interner.is_valtree cx;
       args = g.met.I.Interner.are_args cx;
       branches = g.met.I.Interner.are_branches cx;
+      pat = g.met.I.Interner.is_pat cx;
+      alternatives = g.met.I.Interner.are_alternatives cx;
     }) in
     let k = c.requires.asked in
     record {
@@ -503,6 +508,8 @@ relate-returns-in_default-b-2 g t c =
       valtree = g.met.I.Interner.is_valtree cx;
       args = g.met.I.Interner.are_args cx;
       branches = g.met.I.Interner.are_branches cx;
+      pat = g.met.I.Interner.is_pat cx;
+      alternatives = g.met.I.Interner.are_alternatives cx;
     }) in
     let k = c.requires.asked in
     record {
@@ -623,6 +630,12 @@ structurally_relate_consts-compare_consts_of-requires-clause-differ g t c =
     (sym e) (g.met.I.Interner.same_const cx c.args.a.now c.args.b.now) k.left_known k.right_known in
     λ h. false≢true (c.if-eq.ensures ∙ same.1 h)
 
+pub structurally_relate_consts-compare_consts_of-requires-clause-a_covered : goal.structurally_relate_consts-compare_consts_of-requires-clause-a_covered
+structurally_relate_consts-compare_consts_of-requires-clause-a_covered g t c = ((c.requires.asked).left_taken).1
+
+pub structurally_relate_consts-compare_consts_of-requires-clause-b_covered : goal.structurally_relate_consts-compare_consts_of-requires-clause-b_covered
+structurally_relate_consts-compare_consts_of-requires-clause-b_covered g t c = ((c.requires.asked).right_taken).1
+
 pub structurally_relate_consts-returns-in_err-compare_consts_of : goal.structurally_relate_consts-returns-in_err-compare_consts_of
 structurally_relate_consts-returns-in_err-compare_consts_of g t c =
     let r = g.R.TypeRelation.state c.args.r.now in
@@ -639,6 +652,8 @@ structurally_relate_consts-returns-in_err-compare_consts_of g t c =
       valtree = g.met.I.Interner.is_valtree cx;
       args = g.met.I.Interner.are_args cx;
       branches = g.met.I.Interner.are_branches cx;
+      pat = g.met.I.Interner.is_pat cx;
+      alternatives = g.met.I.Interner.are_alternatives cx;
     }) in
     let n = c.in_err-compare_consts_of in
     let k = c.requires.asked in
@@ -664,6 +679,8 @@ structurally_relate_consts-loop-i-init g t c =
       valtree = g.met.I.Interner.is_valtree cx;
       args = g.met.I.Interner.are_args cx;
       branches = g.met.I.Interner.are_branches cx;
+      pat = g.met.I.Interner.is_pat cx;
+      alternatives = g.met.I.Interner.are_alternatives cx;
     }) in
     let k = c.requires.asked in
     let alike = (c.in_ok-compare_consts_of.ensures).alike in
@@ -823,6 +840,8 @@ structurally_relate_consts-loop-i-preserved g t c =
       valtree = g.met.I.Interner.is_valtree cx;
       args = g.met.I.Interner.are_args cx;
       branches = g.met.I.Interner.are_branches cx;
+      pat = g.met.I.Interner.is_pat cx;
+      alternatives = g.met.I.Interner.are_alternatives cx;
     }) in
     let kind = subst (λ u. IfOk u (λ k. arg_sort k ≡ arg_sort X)) z (related.ensures).kind in
     let was = c.loop-i.answers.items in
@@ -955,6 +974,12 @@ structurally_relate_consts-returns g t c =
     (ap₂ const_over same_a (ap (list_tree (arg_tree q.meaning)) c.as_slice.ensures.value)) (made.made).sure
     (made.made).means
 
+pub structurally_relate_tys-compare_tys_of-requires-clause-a_covered : goal.structurally_relate_tys-compare_tys_of-requires-clause-a_covered
+structurally_relate_tys-compare_tys_of-requires-clause-a_covered g t c = ((c.requires.asked).left_taken).1
+
+pub structurally_relate_tys-compare_tys_of-requires-clause-b_covered : goal.structurally_relate_tys-compare_tys_of-requires-clause-b_covered
+structurally_relate_tys-compare_tys_of-requires-clause-b_covered g t c = ((c.requires.asked).right_taken).1
+
 pub structurally_relate_tys-returns-in_err-compare_tys_of : goal.structurally_relate_tys-returns-in_err-compare_tys_of
 structurally_relate_tys-returns-in_err-compare_tys_of g t c =
     let r = g.R.TypeRelation.state c.args.r.now in
@@ -971,6 +996,8 @@ structurally_relate_tys-returns-in_err-compare_tys_of g t c =
       valtree = g.met.I.Interner.is_valtree cx;
       args = g.met.I.Interner.are_args cx;
       branches = g.met.I.Interner.are_branches cx;
+      pat = g.met.I.Interner.is_pat cx;
+      alternatives = g.met.I.Interner.are_alternatives cx;
     }) in
     let n = c.in_err-compare_tys_of in
     let k = c.requires.asked in
@@ -996,6 +1023,8 @@ structurally_relate_tys-loop-i-init g t c =
       valtree = g.met.I.Interner.is_valtree cx;
       args = g.met.I.Interner.are_args cx;
       branches = g.met.I.Interner.are_branches cx;
+      pat = g.met.I.Interner.is_pat cx;
+      alternatives = g.met.I.Interner.are_alternatives cx;
     }) in
     let k = c.requires.asked in
     let alike = (c.in_ok-compare_tys_of.ensures).alike in
@@ -1014,6 +1043,30 @@ structurally_relate_tys-loop-i-init g t c =
           (sym c.new-answers.ensures.items) (answers_none M r (head_of a) r.ambient (parts_of a));
       fits = subst (λ z. Fit z nil) (sym c.new-answers.ensures.items) tt;
     }
+
+pub structurally_relate_tys-part_of-x-requires-clause-ty_covered : goal.structurally_relate_tys-part_of-x-requires-clause-ty_covered
+structurally_relate_tys-part_of-x-requires-clause-ty_covered g t c =
+    let r = g.R.TypeRelation.state c.args.r.now in
+    let q = g.R.TypeRelation.state c.loop-i.r in
+    let k = c.requires.asked in
+    let same = (((c.loop-i.invariant.fronted).passes).extends).ty c.args.a.now k.left_known in
+    subst IsCovered (sym same) (k.left_taken).1
+
+pub structurally_relate_tys-part_of-y-requires-clause-ty_covered : goal.structurally_relate_tys-part_of-y-requires-clause-ty_covered
+structurally_relate_tys-part_of-y-requires-clause-ty_covered g t c =
+    let r = g.R.TypeRelation.state c.args.r.now in
+    let q = g.R.TypeRelation.state c.loop-i.r in
+    let k = c.requires.asked in
+    let same = (((c.loop-i.invariant.fronted).passes).extends).ty c.args.b.now k.right_known in
+    subst IsCovered (sym same) (k.right_taken).1
+
+pub structurally_relate_tys-variance_at-variance-requires-clause-ty_covered : goal.structurally_relate_tys-variance_at-variance-requires-clause-ty_covered
+structurally_relate_tys-variance_at-variance-requires-clause-ty_covered g t c =
+    let r = g.R.TypeRelation.state c.args.r.now in
+    let q = g.R.TypeRelation.state c.loop-i.r in
+    let k = c.requires.asked in
+    let same = (((c.loop-i.invariant.fronted).passes).extends).ty c.args.a.now k.left_known in
+    subst IsCovered (sym same) (k.left_taken).1
 
 pub structurally_relate_tys-relate_with_variance-related-requires : goal.structurally_relate_tys-relate_with_variance-related-requires
 structurally_relate_tys-relate_with_variance-related-requires g t c κs within =
@@ -1101,6 +1154,8 @@ structurally_relate_tys-returns-in_err-answer g t c =
       valtree = g.met.I.Interner.is_valtree cx;
       args = g.met.I.Interner.are_args cx;
       branches = g.met.I.Interner.are_branches cx;
+      pat = g.met.I.Interner.is_pat cx;
+      alternatives = g.met.I.Interner.are_alternatives cx;
     }) in
     let n = c.in_err-answer in
     let z = failed_ty a X Y related.result n.field-0.0
@@ -1165,6 +1220,8 @@ structurally_relate_tys-loop-i-preserved g t c =
       valtree = g.met.I.Interner.is_valtree cx;
       args = g.met.I.Interner.are_args cx;
       branches = g.met.I.Interner.are_branches cx;
+      pat = g.met.I.Interner.is_pat cx;
+      alternatives = g.met.I.Interner.are_alternatives cx;
     }) in
     let kind = subst (λ u. IfOk u (λ k. arg_sort k ≡ arg_sort X)) z (related.ensures).kind in
     let was = c.loop-i.answers.items in
@@ -1362,6 +1419,21 @@ structurally_relate_tys-make_ty-requires-clause-ty_known g t c =
     let listed : list_tree (arg_tree u.meaning) items ≡ was =
     stays_list (arg_tree q.meaning) (arg_tree u.meaning) items (stays_arg e) (inv.answers).sure in
     subst (λ z. IsTrue (known z)) (sym stays) k.left_known
+
+pub structurally_relate_tys-make_ty-requires-clause-ty_covered : goal.structurally_relate_tys-make_ty-requires-clause-ty_covered
+structurally_relate_tys-make_ty-requires-clause-ty_covered g t c =
+    let r = g.R.TypeRelation.state c.args.r.now in
+    let a = (r.meaning).ty c.args.a.now in
+    let q = g.R.TypeRelation.state c.loop-i.r in
+    let inv = c.loop-i.invariant in
+    let k = c.requires.asked in
+    let extends = ((inv.fronted).passes).extends in
+    let same_a : (q.meaning).ty c.args.a.now ≡ a = extends.ty c.args.a.now k.left_known in
+    let u = g.R.TypeRelation.state c.note_args.new.r in
+    let e = (((c.in_ok-note_args.ensures).passes).extends) in
+    let stays : (u.meaning).ty c.args.a.now ≡ a =
+    e.ty c.args.a.now (subst (λ z. IsTrue (known z)) (sym same_a) k.left_known) ∙ same_a in
+    subst IsCovered (sym stays) (k.left_taken).1
 
 pub structurally_relate_tys-make_ty-requires-clause-parts_known : goal.structurally_relate_tys-make_ty-requires-clause-parts_known
 structurally_relate_tys-make_ty-requires-clause-parts_known g t c =

@@ -12,5 +12,5 @@ returns g c =
     parts_left solver_manner IsFormedConst (solving r.infcx.ghost_name m r.infcx.now.inner
     r.ambient_variance r.param_env) m.const_
     c.args.a.now c.args.b.now c.args.a.now c.args.b.now refl refl c.requires.asked
-    (formed_const m c.const_kind-a.result c.args.a.now c.const_kind-a.ensures)
-    (formed_const m c.const_kind-b.result c.args.b.now c.const_kind-b.ensures)
+    (formed_const m c.const_kind-a.result c.args.a.now c.const_kind-a.ensures c.requires.asked.left_taken.1)
+    (formed_const m c.const_kind-b.result c.args.b.now c.const_kind-b.ensures c.requires.asked.right_taken.1)

@@ -85,7 +85,7 @@ returns-in-Some-ty_var g c =
     let gone : Goes 0 st later = roots_goes st later x y sound stays done.equates 0 in
     let taken = read_taken st r.ambient_variance a l
     (g.met.I.Interner.is_ty r.infcx.now.interner c.args.a.now k.left_known)
-    c.shallow_resolve-left.ensures.reads k.left_taken in
+    c.shallow_resolve-left.ensures.reads c.shallow_resolve-left.ensures.covered k.left_taken in
     united_step r.infcx.ghost_name IsFormed m o r.infcx.now.inner new r.ambient_variance r.param_env a b l o.ty
     c.shallow_resolve-left.result e
     (taken_invariantly r.ambient_variance x l c.in-Some.ensures.is c.requires.decides taken) c.requires.lawful.1
@@ -118,7 +118,7 @@ returns-in_err-bound-in-None-ty_var g c =
     let k = c.requires.asked in
     let taken = read_taken st r.ambient_variance a l
     (g.met.I.Interner.is_ty r.infcx.now.interner c.args.a.now k.left_known)
-    c.shallow_resolve-left.ensures.reads k.left_taken in
+    c.shallow_resolve-left.ensures.reads c.shallow_resolve-left.ensures.covered k.left_taken in
     subst (λ res. Stepped solver_manner IsFormed (solving r.infcx.ghost_name m r.infcx.now.inner
     r.ambient_variance r.param_env)
     (solving r.infcx.ghost_name o q.inner r.ambient_variance r.param_env) a b o.ty res)
@@ -147,7 +147,7 @@ returns-in_err-bound-in-Some-ty_var-2 g c =
     let k = c.requires.asked in
     let taken = read_taken st r.ambient_variance b l
     (g.met.I.Interner.is_ty r.infcx.now.interner c.args.b.now k.right_known)
-    c.shallow_resolve-right.ensures.reads k.right_taken in
+    c.shallow_resolve-right.ensures.reads c.shallow_resolve-right.ensures.covered k.right_taken in
     let res = c.from_residual-in_err-bound-in-Some-ty_var-2 in
     subst (λ res. Stepped solver_manner IsFormed (solving r.infcx.ghost_name m r.infcx.now.inner
     r.ambient_variance r.param_env)
@@ -180,11 +180,11 @@ returns-in_ok-bound-in-None-ty_var g c =
     let h = c.in_ok-bound-in-None-ty_var.ensures in
     let is = c.in-Some.ensures.is in
     let taken = read_taken st r.ambient_variance a (m.ty l.result)
-    (g.met.I.Interner.is_ty r.infcx.now.interner c.args.a.now k.left_known) l.ensures.reads k.left_taken in
+    (g.met.I.Interner.is_ty r.infcx.now.interner c.args.a.now k.left_known) l.ensures.reads l.ensures.covered k.left_taken in
     let t_stays : o.ty t.result ≡ m.ty t.result = h.grown.ty t.result t.ensures.sure in
     left_step r.infcx.ghost_name m o h.grown x q.inner r.param_env c.requires.lawful.1 c.requires.lawful.0
     h.lawful c.in-Some.x.0
-    (m.ty t.result) (o.ty z) c.in-None-ty_var.ensures.formed (t.ensures.resolves.is_in k.right_in) t.ensures.sure
+    (m.ty t.result) (o.ty z) (t.ensures.covered k.right_taken.1) (t.ensures.resolves.is_in k.right_in) t.ensures.sure
     h.sure (g.met.I.Interner.is_ty q.interner z h.sure) h.answers.1 h.answers.0 h.answers.2 h.steps IsFormed a b
     r.ambient_variance (taken_invariantly r.ambient_variance c.in-Some.x.0 (m.ty l.result) is c.requires.decides taken)
     l.result t.result z t.result o.ty
@@ -209,10 +209,10 @@ returns-in_ok-bound-in-Some-ty_var-2 g c =
     let h = c.in_ok-bound-in-Some-ty_var-2.ensures in
     let is = c.in-Some-ty_var-2.ensures.is in
     let taken = read_taken st r.ambient_variance b (m.ty l.result)
-    (g.met.I.Interner.is_ty r.infcx.now.interner c.args.b.now k.right_known) l.ensures.reads k.right_taken in
+    (g.met.I.Interner.is_ty r.infcx.now.interner c.args.b.now k.right_known) l.ensures.reads l.ensures.covered k.right_taken in
     let t_stays : o.ty t.result ≡ m.ty t.result = h.grown.ty t.result t.ensures.sure in
     right_step r.infcx.ghost_name m o h.grown x q.inner r.param_env c.requires.lawful.1 c.requires.lawful.0 h.lawful
-    c.in-Some-ty_var-2.y.0 (m.ty t.result) (o.ty z) c.in-None.ensures.formed (t.ensures.resolves.is_in k.left_in)
+    c.in-Some-ty_var-2.y.0 (m.ty t.result) (o.ty z) (t.ensures.covered k.left_taken.1) (t.ensures.resolves.is_in k.left_in)
     t.ensures.sure h.sure (g.met.I.Interner.is_ty q.interner z h.sure) h.answers.1 h.answers.0
     h.answers.2 h.steps IsFormed
     a b r.ambient_variance
@@ -241,8 +241,8 @@ returns-in-None-ty_var-2 g c =
       left_in = l.ensures.resolves.is_in k.left_in;
       right_in = t.ensures.resolves.is_in k.right_in;
       left_taken = read_taken st r.ambient_variance a (m.ty l.result) (is c.args.a.now k.left_known) l.ensures.reads
-          k.left_taken;
+          l.ensures.covered k.left_taken;
       right_taken = read_taken st r.ambient_variance b (m.ty t.result) (is c.args.b.now k.right_known) t.ensures.reads
-          k.right_taken;
+          t.ensures.covered k.right_taken;
     })
     c.in-None.ensures.formed c.in-None-ty_var-2.ensures.formed

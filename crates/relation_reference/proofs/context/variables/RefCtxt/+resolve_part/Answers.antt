@@ -122,6 +122,8 @@ loop-i-preserved g t c =
       valtree = g.met.I.Interner.is_valtree c.loop-i.self.interner;
       args = g.met.I.Interner.are_args c.loop-i.self.interner;
       branches = g.met.I.Interner.are_branches c.loop-i.self.interner;
+      pat = g.met.I.Interner.is_pat c.loop-i.self.interner;
+      alternatives = g.met.I.Interner.are_alternatives c.loop-i.self.interner;
     } in
     let next : i + 1 ≡ suc i = omega arith in
     let was = part_was inv.grown x y c.requires.lawful inv.inner (part_tree m p) (part_tree n p) (part_tree n z) i e

@@ -7,6 +7,8 @@ use Rattle.type_relations.specs.Steps.{RefusesToInstantiate}
 use Rattle.type_relations.specs.Stores.{resolved, universe_of}
 use Rattle.relation_reference.specs.declared.context.inner.InferCtxtInner.{InferCtxtInner}
 use Rattle.relation_reference.specs.Tables.{store_of, IsLawful}
+use Rattle.type_relations.specs.Covered.{IsCovered}
+use Rattle.relation_reference.proofs.Covering.{comes_covered}
 use Rattle.relation_reference.proofs.Outside.{outside_occurs}
 use Rattle.relation_reference.proofs.Grows.{store_grows, lawful_grows}
 use Rattle.relation_reference.proofs.Binding.{memory_instantiated, memory_steps, nothing_changed, cycle_refuses, target_bound, target_lawful, target_steps}
@@ -74,17 +76,23 @@ returns g c =
     let e' = c.record.ensures in
     let u = c.universe_of_ty-universe.result in
     record {
-      lawful = target_lawful grown x z y same_tables c.requires.lawful c.args.target.0 k u c.requires.target_made c.requires.target_unbound t c.requires.source_in c.requires.source_formed means stands absent in_universe
+      lawful = target_lawful grown x z y same_tables c.requires.lawful c.args.target.0 k u c.requires.target_made c.requires.target_unbound t c.requires.source_in (c.requires.source_formed, c.requires.source_covered) means stands absent in_universe
           e'.keys e'.values e'.universes e'.regions e'.constraints e'.universe left;
       grown = grown;
       sure = sure;
       answers = (
         means,
-        target_bound grown x z y same_tables c.requires.lawful c.args.target.0 k u c.requires.target_made c.requires.target_unbound t c.requires.source_in c.requires.source_formed means stands absent in_universe
+        target_bound grown x z y same_tables c.requires.lawful c.args.target.0 k u c.requires.target_made c.requires.target_unbound t c.requires.source_in (c.requires.source_formed, c.requires.source_covered) means stands absent in_universe
             e'.keys e'.values e'.universes e'.regions e'.constraints e'.universe left,
         absent,
       );
-      steps = target_steps grown x z y same_tables c.requires.lawful c.args.target.0 k u c.requires.target_made c.requires.target_unbound t c.requires.source_in c.requires.source_formed means stands absent in_universe
+      steps = target_steps grown x z y same_tables c.requires.lawful c.args.target.0 k u c.requires.target_made c.requires.target_unbound t c.requires.source_in (c.requires.source_formed, c.requires.source_covered) means stands absent in_universe
           e'.keys e'.values e'.universes e'.regions e'.constraints e'.universe left;
       why_known = tt;
     }
+
+pub occurs-requires-clause-term_covered : goal.occurs-requires-clause-term_covered
+occurs-requires-clause-term_covered g c =
+    let m = g.I.Interner.meaning c.args.self.now.interner in
+    subst IsCovered (sym c.in_ok-bound.ensures.resolves)
+    (comes_covered m c.args.self.now.inner c.requires.lawful (m.ty c.args.source.now) c.requires.source_covered)

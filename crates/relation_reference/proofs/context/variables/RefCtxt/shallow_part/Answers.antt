@@ -18,6 +18,8 @@ returns-in_default-clause-by_parts g c =
       valtree = g.met.I.Interner.is_valtree c.args.self.now.interner;
       args = g.met.I.Interner.are_args c.args.self.now.interner;
       branches = g.met.I.Interner.are_branches c.args.self.now.interner;
+      pat = g.met.I.Interner.is_pat c.args.self.now.interner;
+      alternatives = g.met.I.Interner.are_alternatives c.args.self.now.interner;
     } in
     other_by_parts m c.args.self.now.inner c.requires.lawful.sound c.args.term.now c.in_default.not-Ty
     (sort_known m sorted c.args.term.now c.requires.term_known)

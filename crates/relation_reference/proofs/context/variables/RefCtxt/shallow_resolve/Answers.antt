@@ -2,16 +2,17 @@ use Rattle.std.proofs.Common.{refl, sym, ap, ◌∙◌, subst}
 use Rattle.type_relations.specs.Errors.{itself}
 use Rattle.type_relations.proofs.ReadAs.{read_resolves}
 use Rattle.relation_reference.specs.Tables.{store_of}
-use Rattle.type_relations.specs.Parts.{IsFormed}
-use Rattle.relation_reference.specs.Answers.{formed}
+use Rattle.type_relations.specs.Covered.{IsCovered}
+use Rattle.relation_terms.specs.Meaning.{kind_tree}
+use Rattle.relation_reference.specs.Answers.{IsShallow}
 use Rattle.relation_reference.proofs.Grows.{known_bound, known_of_term}
-use Rattle.relation_reference.proofs.Reading.{formed_kind, key_of, made_of_key, root_read, bound_read, root_shallow, bound_shallow, root_known}
+use Rattle.relation_reference.proofs.Reading.{kind_shallow, other_free, key_of, made_of_key, root_read, bound_read, root_shallow, bound_shallow, bound_covered, root_known}
 use Rattle.relation_reference.proofs.context.variables.RefCtxt.shallow_resolve.Goals as goal
 
 pub root_ty_var-root-requires-clause-made : goal.root_ty_var-root-requires-clause-made
 root_ty_var-root-requires-clause-made g c =
     let m = g.I.Interner.meaning c.args.self.now.interner in
-    made_of_key m c.args.self.now.inner c.requires.lawful (m.ty c.args.ty.now) _ (c.in-Infer.ensures ∙ c.ty_vid.ensures) c.requires.ty_in
+    made_of_key m c.args.self.now.inner c.requires.lawful (m.ty c.args.ty.now) _ (c.ty_kind.ensures ∙ ap (kind_tree m) c.in-Some.ensures.is) c.requires.ty_in
 
 pub returns-in-Known-clause-sure : goal.returns-in-Known-clause-sure
 returns-in-Known-clause-sure g c =
@@ -22,13 +23,13 @@ returns-in-Known-clause-sure g c =
 pub returns-in-Known-clause-reads : goal.returns-in-Known-clause-reads
 returns-in-Known-clause-reads g c =
     let m = g.I.Interner.meaning c.args.self.now.interner in
-    bound_read m c.args.self.now.inner c.requires.lawful (m.ty c.args.ty.now) (m.ty c.in-Known.bound) _ c.root_ty_var-root.result.0 (c.in-Infer.ensures ∙ c.ty_vid.ensures) c.root_ty_var-root.ensures.leads c.in-Known.ensures
+    bound_read m c.args.self.now.inner c.requires.lawful (m.ty c.args.ty.now) (m.ty c.in-Known.bound) _ c.root_ty_var-root.result.0 (c.ty_kind.ensures ∙ ap (kind_tree m) c.in-Some.ensures.is) c.root_ty_var-root.ensures.leads c.in-Known.ensures
 
 pub returns-in-Known-clause-resolves : goal.returns-in-Known-clause-resolves
 returns-in-Known-clause-resolves g c =
     let m = g.I.Interner.meaning c.args.self.now.interner in
     read_resolves (store_of m c.args.self.now.inner) c.requires.lawful.sound (m.ty c.args.ty.now) (m.ty c.in-Known.bound)
-    (bound_read m c.args.self.now.inner c.requires.lawful (m.ty c.args.ty.now) (m.ty c.in-Known.bound) _ c.root_ty_var-root.result.0 (c.in-Infer.ensures ∙ c.ty_vid.ensures) c.root_ty_var-root.ensures.leads c.in-Known.ensures)
+    (bound_read m c.args.self.now.inner c.requires.lawful (m.ty c.args.ty.now) (m.ty c.in-Known.bound) _ c.root_ty_var-root.result.0 (c.ty_kind.ensures ∙ ap (kind_tree m) c.in-Some.ensures.is) c.root_ty_var-root.ensures.leads c.in-Known.ensures)
 
 pub returns-in-Known-clause-shallow : goal.returns-in-Known-clause-shallow
 returns-in-Known-clause-shallow g c =
@@ -46,7 +47,7 @@ pub returns-in-Unknown-clause-reads : goal.returns-in-Unknown-clause-reads
 returns-in-Unknown-clause-reads g c =
     let m = g.I.Interner.meaning c.args.self.now.interner in
     let x = c.args.self.now.inner in
-    root_read m x c.requires.lawful (m.ty c.args.ty.now) (m.ty (c.index.result.now).key) _ c.root_ty_var-root.result.0 (c.in-Infer.ensures ∙ c.ty_vid.ensures) c.root_ty_var-root.ensures.leads
+    root_read m x c.requires.lawful (m.ty c.args.ty.now) (m.ty (c.index.result.now).key) _ c.root_ty_var-root.result.0 (c.ty_kind.ensures ∙ ap (kind_tree m) c.in-Some.ensures.is) c.root_ty_var-root.ensures.leads
     (ap (λ v. m.ty v.key) c.index.ensures ∙ key_of m x c.requires.lawful c.root_ty_var-root.result.0 c.index.result.now c.root_ty_var-root.ensures.made)
 
 pub returns-in-Unknown-clause-resolves : goal.returns-in-Unknown-clause-resolves
@@ -54,7 +55,7 @@ returns-in-Unknown-clause-resolves g c =
     let m = g.I.Interner.meaning c.args.self.now.interner in
     let x = c.args.self.now.inner in
     read_resolves (store_of m x) c.requires.lawful.sound (m.ty c.args.ty.now) (m.ty (c.index.result.now).key)
-    (root_read m x c.requires.lawful (m.ty c.args.ty.now) (m.ty (c.index.result.now).key) _ c.root_ty_var-root.result.0 (c.in-Infer.ensures ∙ c.ty_vid.ensures) c.root_ty_var-root.ensures.leads
+    (root_read m x c.requires.lawful (m.ty c.args.ty.now) (m.ty (c.index.result.now).key) _ c.root_ty_var-root.result.0 (c.ty_kind.ensures ∙ ap (kind_tree m) c.in-Some.ensures.is) c.root_ty_var-root.ensures.leads
     (ap (λ v. m.ty v.key) c.index.ensures ∙ key_of m x c.requires.lawful c.root_ty_var-root.result.0 c.index.result.now c.root_ty_var-root.ensures.made))
 
 pub returns-in-Unknown-clause-shallow : goal.returns-in-Unknown-clause-shallow
@@ -65,6 +66,19 @@ returns-in-Unknown-clause-shallow g c =
     (ap (λ v. m.ty v.key) c.index.ensures ∙ key_of m x c.requires.lawful c.root_ty_var-root.result.0 c.index.result.now c.root_ty_var-root.ensures.made)
     c.in-Unknown.ensures
 
+pub returns-in-Known-clause-covered : goal.returns-in-Known-clause-covered
+returns-in-Known-clause-covered g c = λ d.
+    let m = g.I.Interner.meaning c.args.self.now.interner in
+    bound_covered m c.args.self.now.inner c.requires.lawful (m.ty c.in-Known.bound) c.root_ty_var-root.result.0
+    c.in-Known.ensures
+
+pub returns-in-Unknown-clause-covered : goal.returns-in-Unknown-clause-covered
+returns-in-Unknown-clause-covered g c = λ d.
+    let m = g.I.Interner.meaning c.args.self.now.interner in
+    let x = c.args.self.now.inner in
+    subst IsCovered (sym (ap (λ v. m.ty v.key) c.index.ensures ∙ key_of m x c.requires.lawful
+    c.root_ty_var-root.result.0 c.index.result.now c.root_ty_var-root.ensures.made)) tt
+
 pub returns-in_default : goal.returns-in_default
 returns-in_default g c =
     let m = g.I.Interner.meaning c.args.self.now.interner in
@@ -73,5 +87,7 @@ returns-in_default g c =
       sure = c.requires.ty_known;
       reads = itself refl;
       resolves = read_resolves st c.requires.lawful.sound (m.ty c.args.ty.now) (m.ty c.args.ty.now) (itself refl);
-      shallow = formed (subst IsFormed (sym c.ty_kind.ensures) (formed_kind m c.ty_kind.result c.in_default.not-Infer));
+      shallow = subst (IsShallow st) (sym c.ty_kind.ensures) (kind_shallow m st
+          (other_free m c.args.self.now.inner c.requires.lawful.sound) c.ty_kind.result c.in_default.ensures.is_none);
+      covered = λ d. d;
     }

@@ -13,6 +13,6 @@ returns g c =
     c.eq.ensures ∙ ap₂ eq c.key_of.ensures c.key_of-2.ensures in
     let laws = g.met.I.Interner in
     let o = same_part m eq (laws.same_ty c.args.cx.now) (laws.same_region c.args.cx.now)
-    (laws.same_const c.args.cx.now) (laws.same_valtree c.args.cx.now) p q c.requires.same_sort c.requires.part_known
-    c.requires.other_known in
+    (laws.same_const c.args.cx.now) (laws.same_valtree c.args.cx.now) (laws.same_pat c.args.cx.now) p q
+    c.requires.same_sort c.requires.part_known c.requires.other_known in
     (λ x. o.0 (subst (λ b. IsTrue b) e x), λ x. subst (λ b. IsTrue b) (sym e) (o.1 x))

@@ -3,11 +3,12 @@ use Rattle.std.proofs.lemmas.Bool.{and_parts}
 use Rattle.relation_terms.specs.Trees.{known, nil, cons, list_tree}
 use Rattle.relation_terms.specs.Meaning.{arg_tree}
 use Rattle.relation_terms.specs.Parts.{Fit, Alike, part_tree, parts_tree, part_of_arg}
-use Rattle.relation_terms.specs.declared.terms.part_kind.Part.TheVariants.{Ty, Const}
+use Rattle.relation_terms.specs.declared.terms.part_kind.Part.TheVariants.{Ty, Const, Pat}
 use Rattle.relation_terms.specs.declared.terms.part_kind.Parts.TheVariants.{Empty, One, Two, Args, Tys, Branches}
+use Rattle.relation_terms.specs.declared.terms.part_kind.Parts.TheVariants.{Alternatives}
 use Rattle.relation_terms.proofs.Stays.{stays_same, knows_as}
 use Rattle.relation_terms.proofs.Sorted.{Sorted}
-use Rattle.relation_terms.proofs.Members.{fit_args, fit_tys, fit_consts, fit_none, mapped}
+use Rattle.relation_terms.proofs.Members.{fit_args, fit_tys, fit_consts, fit_pats, fit_none, mapped}
 use Rattle.relation_terms.proofs.Parts.{fit_one, fit_two, arg_part, sort_known}
 use Rattle.relation_terms.proofs.terms.parts.members.make_parts.Goals as goal
 
@@ -37,6 +38,8 @@ returns-in-One g c =
       valtree = g.met.I.Interner.is_valtree c.args.cx.now;
       args = g.met.I.Interner.are_args c.args.cx.now;
       branches = g.met.I.Interner.are_branches c.args.cx.now;
+      pat = g.met.I.Interner.is_pat c.args.cx.now;
+      alternatives = g.met.I.Interner.are_alternatives c.args.cx.now;
     } in
     let p = c.in-One.field-0 in
     let k : IsTrue (known (cons (part_tree m p) nil)) = subst (λ p. IsTrue (known (parts_tree m p))) c.in-One.is c.requires.like_known in
@@ -64,6 +67,8 @@ returns-in-Two g c =
       valtree = g.met.I.Interner.is_valtree c.args.cx.now;
       args = g.met.I.Interner.are_args c.args.cx.now;
       branches = g.met.I.Interner.are_branches c.args.cx.now;
+      pat = g.met.I.Interner.is_pat c.args.cx.now;
+      alternatives = g.met.I.Interner.are_alternatives c.args.cx.now;
     } in
     let p = c.in-Two.field-0 in
     let q = c.in-Two.field-1 in
@@ -188,5 +193,41 @@ returns-in_ok-made-in-Branches g c =
       sure = r.sure;
       made = r.made ∙ q;
       alike = subst (λ p. Alike p (Branches c.in_ok-made-in-Branches.made)) (sym c.in-Branches.is) tt;
+      refused = tt;
+    }
+
+pub pats_of-requires : goal.pats_of-requires
+pats_of-requires g c =
+    let m = g.I.Interner.meaning c.args.cx.now in
+    let xs = c.args.members.now in
+    let f = subst (λ p. Fit xs (parts_tree m p)) c.in-Alternatives.is c.requires.fits in
+    let a = c.in-Alternatives.field-0 in
+    let k : IsTrue (known (m.alternatives a)) = subst (λ p. IsTrue (known (parts_tree m p))) c.in-Alternatives.is c.requires.like_known in
+    fit_pats xs (m.alternatives a) f (g.met.I.Interner.are_alternatives c.args.cx.now a k)
+
+pub mk_alternatives-requires : goal.mk_alternatives-requires
+mk_alternatives-requires g c =
+    let m = g.I.Interner.meaning c.args.cx.now in
+    let xs = c.args.members.now in
+    let l = c.in_ok-list-in-Alternatives.list.items in
+    let q : list_tree m.pat c.deref-in-Alternatives.result.now ≡ list_tree (part_tree m) xs =
+    ap (list_tree m.pat) c.deref-in-Alternatives.ensures.value
+    ∙ mapped m.pat (part_tree m) (λ t. Pat t) (λ t. refl) l xs c.in_ok-list-in-Alternatives.ensures in
+    knows_as (list_tree (part_tree m) xs) (list_tree m.pat c.deref-in-Alternatives.result.now) q c.requires.members_known
+
+pub returns-in_ok-made-in-Alternatives : goal.returns-in_ok-made-in-Alternatives
+returns-in_ok-made-in-Alternatives g c =
+    let m = g.I.Interner.meaning c.args.cx.now in
+    let xs = c.args.members.now in
+    let l = c.in_ok-list-in-Alternatives.list.items in
+    let q : list_tree m.pat c.deref-in-Alternatives.result.now ≡ list_tree (part_tree m) xs =
+    ap (list_tree m.pat) c.deref-in-Alternatives.ensures.value
+    ∙ mapped m.pat (part_tree m) (λ t. Pat t) (λ t. refl) l xs c.in_ok-list-in-Alternatives.ensures in
+    let r = c.in_ok-made-in-Alternatives.ensures in
+    record {
+      grown = r.grown;
+      sure = r.sure;
+      made = r.made ∙ q;
+      alike = subst (λ p. Alike p (Alternatives c.in_ok-made-in-Alternatives.made)) (sym c.in-Alternatives.is) tt;
       refused = tt;
     }

@@ -103,3 +103,35 @@ returns-in-Branches g c =
       sure = slice_sure (m.const_) xs w e c.requires.list_known i x x c.requires.in_bounds c.index-branches-i.is;
       means = slice_nth (m.const_) xs w e i x x c.requires.in_bounds c.index-branches-i.is;
     }
+
+pub bounds-alternatives-i : goal.bounds-alternatives-i
+bounds-alternatives-i g c =
+    let m = g.I.Interner.meaning c.args.cx.now in
+    let w = parts_tree m c.args.parts.now in
+    let xs = c.alternatives.result.now in
+    let e = ap (parts_tree m) c.in-Alternatives.is ∙ c.alternatives.ensures in
+    let i = c.args.i in
+    slice_below (m.pat) xs w e i c.requires.in_bounds
+
+pub offset_bounds-alternatives-i : goal.offset_bounds-alternatives-i
+offset_bounds-alternatives-i g c =
+    let m = g.I.Interner.meaning c.args.cx.now in
+    let w = parts_tree m c.args.parts.now in
+    let xs = c.alternatives.result.now in
+    let e = ap (parts_tree m) c.in-Alternatives.is ∙ c.alternatives.ensures in
+    let i = c.args.i in
+    let h : i < length xs = slice_below (m.pat) xs w e i c.requires.in_bounds in
+    omega (arith, h)
+
+pub returns-in-Alternatives : goal.returns-in-Alternatives
+returns-in-Alternatives g c =
+    let m = g.I.Interner.meaning c.args.cx.now in
+    let w = parts_tree m c.args.parts.now in
+    let xs = c.alternatives.result.now in
+    let e = ap (parts_tree m) c.in-Alternatives.is ∙ c.alternatives.ensures in
+    let i = c.args.i in
+    let x = c.index-alternatives-i.result in
+    record {
+      sure = slice_sure (m.pat) xs w e c.requires.list_known i x x c.requires.in_bounds c.index-alternatives-i.is;
+      means = slice_nth (m.pat) xs w e i x x c.requires.in_bounds c.index-alternatives-i.is;
+    }

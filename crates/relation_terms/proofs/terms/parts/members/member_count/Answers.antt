@@ -33,3 +33,13 @@ returns-in-Branches g c =
       counts = slice_counts (m.const_) c.branches.result.now w e;
       is_list = slice_list (m.const_) c.branches.result.now w e;
     }
+
+pub returns-in-Alternatives : goal.returns-in-Alternatives
+returns-in-Alternatives g c =
+    let m = g.I.Interner.meaning c.args.cx.now in
+    let w = parts_tree m c.args.parts.now in
+    let e = ap (parts_tree m) c.in-Alternatives.is ∙ c.alternatives.ensures in
+    record {
+      counts = slice_counts (m.pat) c.alternatives.result.now w e;
+      is_list = slice_list (m.pat) c.alternatives.result.now w e;
+    }

@@ -25,6 +25,8 @@ returns-in_default g c =
       valtree = g.met.I.Interner.is_valtree cx;
       args = g.met.I.Interner.are_args cx;
       branches = g.met.I.Interner.are_branches cx;
+      pat = g.met.I.Interner.is_pat cx;
+      alternatives = g.met.I.Interner.are_alternatives cx;
     }) in
     let z = else_const c.args.b.now c.in_default.not-Ty in
     let k = subst₂ (λ a b. Asked M r r.ambient (term_tree r.meaning a) (term_tree r.meaning b)) c.in-Ty.is z.1
@@ -48,6 +50,8 @@ returns-in_default-b g c =
       valtree = g.met.I.Interner.is_valtree cx;
       args = g.met.I.Interner.are_args cx;
       branches = g.met.I.Interner.are_branches cx;
+      pat = g.met.I.Interner.is_pat cx;
+      alternatives = g.met.I.Interner.are_alternatives cx;
     }) in
     let z = else_ty c.args.b.now c.in_default-b.not-Const in
     let k = subst₂ (λ a b. Asked M r r.ambient (term_tree r.meaning a) (term_tree r.meaning b)) c.in-Const.is z.1

@@ -1,0 +1,108 @@
+-- Terms that relating has rules for, in a context: their parts, and what they come to.
+use Rattle.std.proofs.Common.{◌≡◌, ℕ, zero, suc, ◌<◌, refl, sym, ap, ◌∙◌, subst, Some}
+use Rattle.relation_terms.specs.Heads.{Sort, type_sort, Admits, bound_sort, atom_sort, head_sort, Leaf}
+use Rattle.relation_terms.specs.Heads.{VarKind, type_var, int_var, float_var, const_var, region_var, alias}
+use Rattle.relation_terms.specs.Heads.{variable, bound, placeholder, atom, unknown}
+use Rattle.relation_terms.specs.Trees.{Tree, leaf, node, bind, nil, cons, IsTerm, Assign, apply, count, nth}
+use Rattle.relation_terms.specs.Parts.{parts_of}
+use Rattle.relation_terms.specs.Meaning.{Meaning}
+use Rattle.type_relations.specs.Stores.{Store, Entry, unbound, same_as, bound_to, entry_of, entry_term, bound_term}
+use Rattle.type_relations.specs.Stores.{resolve, rounds_for, all_taken, resolved}
+use Rattle.type_relations.specs.Errors.{StandsOutside}
+use Rattle.type_relations.specs.Parts.{IsFormed}
+use Rattle.type_relations.specs.Covered.{IsCovered}
+use Rattle.type_relations.proofs.Covered.{covered_nth}
+use Rattle.type_relations.proofs.Resolved.{resolve_free, resolve_bound, HasTerm, is_free, is_bound, has_term}
+use Rattle.relation_reference.specs.declared.context.inner.InferCtxtInner.{InferCtxtInner}
+use Rattle.relation_reference.specs.Tables.{store_of, IsLawful}
+
+-- A part of a covered term is covered, and what stands in one stands in the term.
+parts_covered : (t : Tree) → IsCovered t → IsCovered (parts_of t)
+parts_covered (node h ts) c = c.1
+parts_covered t c = tt
+
+pub part_covered : (t : Tree) (i : ℕ) → i < count (parts_of t) → IsCovered t → IsCovered (nth i (parts_of t))
+part_covered t i l c = covered_nth (parts_of t) i l (parts_covered t c)
+
+pub covered_open : (l : Leaf) (t : Tree) → IsCovered t → StandsOutside l (parts_of t) → StandsOutside l t
+covered_open l (node (alias k d) ts) c o = absurd c.0
+covered_open l (node h ts) c o = o
+covered_open l t c o = absurd o
+
+-- A covered type that is no type variable is of a form.
+type_admitted : (s : Sort) → Admits type_sort s → s ≡ type_sort
+type_admitted type_sort a = refl
+type_admitted s a = absurd a
+
+pub covered_formed : (t : Tree) → IsTerm type_sort t → IsCovered t → ((n : ℕ) → t ≡ leaf (variable type_var n) → ⊥) →
+    IsFormed t
+covered_formed (leaf (variable type_var n)) s c o = absurd (o n refl)
+covered_formed (leaf (variable int_var n)) s c o = absurd c
+covered_formed (leaf (variable float_var n)) s c o = absurd c
+covered_formed (leaf (variable const_var n)) s c o = absurd c
+covered_formed (leaf (variable region_var n)) s c o = absurd s
+covered_formed (leaf (bound k d i)) s c o = absurd c
+covered_formed (leaf (placeholder k u n)) s c o = type_admitted (bound_sort k) s
+covered_formed (leaf (atom x)) s c o = type_admitted (atom_sort x) s
+covered_formed (leaf unknown) s c o = absurd c
+covered_formed (node h ts) s c o = type_admitted (head_sort h) s.0
+covered_formed (bind ks t) s c o = absurd c
+covered_formed nil s c o = absurd s
+covered_formed (cons t ts) s c o = absurd s
+
+-- What a covered term comes to is covered, where each binding is.
+covered_apply : (s : Assign) → ((k : VarKind) (n : ℕ) → IsCovered (leaf (variable k n)) → IsCovered (s k n)) →
+    (t : Tree) → IsCovered t → IsCovered (apply s t)
+covered_apply s f (leaf (variable k n)) c = f k n c
+covered_apply s f (leaf (bound k d i)) c = c
+covered_apply s f (leaf (placeholder k u n)) c = c
+covered_apply s f (leaf (atom x)) c = c
+covered_apply s f (leaf unknown) c = c
+covered_apply s f (node h ts) c = (c.0, covered_apply s f ts c.1)
+covered_apply s f (bind ks t) c = absurd c
+covered_apply s f nil c = c
+covered_apply s f (cons t ts) c = (covered_apply s f t c.0, covered_apply s f ts c.1)
+
+module _ (st : Store) (all : (k : VarKind) (n : ℕ) (t : Tree) → entry_of st k n ≡ bound_to t → IsCovered t) where
+  entry_covered : (k : VarKind) (n : ℕ) (t : Tree) → bound_term st k n ≡ Some t → IsCovered (leaf (variable k n)) →
+      IsCovered t
+  entry_covered k n t p c = go (entry_of st k n) refl
+    where
+      go : (e : Entry) → entry_of st k n ≡ e → IsCovered t
+      go unbound q = absurd (let h = ap (entry_term k) q in cc (h, p))
+      go (same_as m) q =
+          let h : Some (leaf (variable k m)) ≡ Some t = sym (ap (entry_term k) q) ∙ p in
+          let i : leaf (variable k m) ≡ t = cc in
+          subst IsCovered i c
+      go (bound_to u) q =
+          let h : Some u ≡ Some t = sym (ap (entry_term k) q) ∙ p in
+          let i : u ≡ t = cc in
+          subst IsCovered i (all k n u q)
+
+  covered_resolve : (f : ℕ) (k : VarKind) (n : ℕ) → IsCovered (leaf (variable k n)) → IsCovered (resolve f st k n)
+  unfolding resolve
+  covered_resolve zero k n c = c
+  covered_resolve (suc f) k n c = go (covered_resolve f) (has_term st k n)
+    where
+      go : ((j : VarKind) (i : ℕ) → IsCovered (leaf (variable j i)) → IsCovered (resolve f st j i)) → HasTerm st k n →
+          IsCovered (resolve (suc f) st k n)
+      go ih (is_free e) = subst IsCovered (sym (resolve_free (suc f) st k n e)) c
+      go ih (is_bound t e) = subst IsCovered (sym (resolve_bound f st k n t e))
+          (covered_apply (resolve f st) ih t (entry_covered k n t e c))
+
+  covered_resolved : (t : Tree) → IsCovered t → IsCovered (apply (resolved st) t)
+  unfolding resolved
+  covered_resolved t c = covered_apply (resolve (rounds_for (all_taken st)) st)
+      (covered_resolve (rounds_for (all_taken st))) t c
+
+-- In a lawful context it is.
+module _ {Key Id Name : Type 0} (m : Meaning Key Id Name) (x : InferCtxtInner Key) (l : IsLawful m x) where
+  bindings_covered : (k : VarKind) (n : ℕ) (t : Tree) → entry_of (store_of m x) k n ≡ bound_to t → IsCovered t
+  bindings_covered type_var n t e = (l.formed n t e).1
+  bindings_covered region_var n t e = absurd (let h = sym (l.sound.regions_unbound n) ∙ e in cc)
+  bindings_covered int_var n t e = absurd (cc)
+  bindings_covered float_var n t e = absurd (cc)
+  bindings_covered const_var n t e = absurd (cc)
+
+  pub comes_covered : (t : Tree) → IsCovered t → IsCovered (apply (resolved (store_of m x)) t)
+  comes_covered t c = covered_resolved (store_of m x) bindings_covered t c

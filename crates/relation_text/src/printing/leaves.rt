@@ -1,0 +1,90 @@
+//! How terms print that have no parts.
+ghost use Rattle.std.specs.Prelude.{IsTrue};
+ghost use Rattle.relation_terms.specs.Trees.{known};
+
+use crate::printing::names::{Parameter, TextsOf, name_text};
+use relation_terms::terms::{
+    BoundVar, DebruijnIndex, InferConst, InferTy, Interner, Region, RegionKind, UniverseIndex,
+};
+use std::fmt::{self, Write};
+
+/// Writes a region. A parameter that has no text is `'_`.
+///
+/// # Errors
+/// `fmt::Error` where `out` refused to take some of the text. What it took before stands.
+pub fn write_region<I: Interner, W: Write>(
+    cx: &I,
+    texts: &TextsOf<I>,
+    region: &Region<I>,
+    out: &mut W,
+) -> fmt::Result
+    requires { IsTrue (known ((I.meaning cx.now).region region.now)) }
+{
+    match cx.region_kind(region) {
+        RegionKind::ReStatic => out.write_str("'static"),
+        RegionKind::ReVar(variable) => {
+            let number = variable.0;
+            write!(out, "'?{number}")
+        }
+        RegionKind::ReEarlyParam(named) => {
+            out.write_str(name_text(texts.names, &named.name, "'_"))
+        }
+        RegionKind::ReBound(depth, of) => write_bound("'^", depth, of.var, out),
+        RegionKind::RePlaceholder(of) => {
+            out.write_str("'")?;
+            write_placeholder(texts.names, of.universe, &of.bound.name, out)
+        }
+    }
+}
+
+// Writes a placeholder: the number of its universe, and its name.
+pub(super) fn write_placeholder<N: PartialEq, W: Write>(
+    names: &[Parameter<N>],
+    universe: UniverseIndex,
+    name: &N,
+    out: &mut W,
+) -> fmt::Result {
+    let number = universe.0;
+    let text = name_text(names, name, "_");
+    write!(out, "!{number}{text}")
+}
+
+// Writes what a binder outside the term binds, behind its mark: how far out that binder stands, unless it is the
+// nearest, and its place in the binder's list.
+pub(super) fn write_bound<W: Write>(
+    mark: &str,
+    depth: DebruijnIndex,
+    var: BoundVar,
+    out: &mut W,
+) -> fmt::Result {
+    let (depth, place) = (depth.0, var.0);
+    if depth == 0 {
+        write!(out, "{mark}{place}")
+    } else {
+        write!(out, "{mark}{depth}.{place}")
+    }
+}
+
+// Writes a variable that stands for a type, or a stand-in for one.
+pub(super) fn write_variable<W: Write>(variable: InferTy, out: &mut W) -> fmt::Result {
+    let (mark, number) = match variable {
+        InferTy::TyVar(variable) => ("?", variable.0),
+        InferTy::IntVar(variable) => ("?i", variable.0),
+        InferTy::FloatVar(variable) => ("?f", variable.0),
+        InferTy::FreshTy(number) => return write!(out, "fresh {number}"),
+        InferTy::FreshIntTy(number) => return write!(out, "fresh i{number}"),
+        InferTy::FreshFloatTy(number) => return write!(out, "fresh f{number}"),
+    };
+    write!(out, "{mark}{number}")
+}
+
+// Writes a variable that stands for a constant, or a stand-in for one.
+pub(super) fn write_const_variable<W: Write>(variable: InferConst, out: &mut W) -> fmt::Result {
+    match variable {
+        InferConst::Var(variable) => {
+            let number = variable.0;
+            write!(out, "?c{number}")
+        }
+        InferConst::Fresh(number) => write!(out, "fresh c{number}"),
+    }
+}
