@@ -12,11 +12,11 @@ use Rattle.relation_terms.specs.declared.terms.generic_arg.GenericArgKind.{Gener
 use Rattle.relation_terms.specs.declared.terms.generic_arg.GenericArgKind.TheVariants.{Ty, Const}
 use Rattle.relation_terms.specs.declared.terms.keys.TyKey.{TyKey}
 use Rattle.relation_terms.specs.declared.terms.keys.ConstKey.{ConstKey}
-use Rattle.relation_terms.proofs.Stays.{stays_arg, knows_arg}
+use Rattle.relation_terms.specs.declared.terms.keys.PatKey.{PatKey}
 use Rattle.relation_text.specs.declared.reading.tree.ItemSort.{ItemSort}
 use Rattle.relation_text.specs.declared.naming.program.Term.{Term}
 use Rattle.relation_text.specs.Terms.{at, leaf_of, item_tree, term_tree, trees_from, trees_of}
-use Rattle.relation_text.specs.Built.{AreKnown, AreBuilt, Makes, MakesTree}
+use Rattle.relation_text.specs.Built.{EachKnown, EachBuilt, AreBuilt, ArePatsBuilt, Makes, MakesOf, MakesTree}
 
 -- what stands in a list with one more at its end
 get_more : {X : Type 0} (xs : List X) (x y : X) (k : ℕ) → slice_get (xs ++ x ∷ []) k ≡ Some y → (slice_get xs k ≡ Some y) ⊎ ((k ≡ length xs) × (x ≡ y))
@@ -42,17 +42,18 @@ module _ {A : Type 0} (f : ℕ → Option (Option A)) where
   unfolding rest
   rest_are n ns x xs h = ap rest h
 
-module _ {Key Id Name : Type 0} (m : Meaning Key Id Name) (keys : List (Option (GenericArgKind Key))) where
+-- Keys of one kind, by the trees that they mean.
+module _ {K : Type 0} (f : K → Tree) (keys : List (Option K)) where
   -- Keys that are there are known as a list.
-  pub known_list : AreKnown m keys → (ns : List ℕ) (xs : List (GenericArgKind Key)) → map (slice_get keys) ns ≡ map (λ key. Some (Some key)) xs → IsTrue (known (list_tree (arg_tree m) xs))
+  pub known_list : EachKnown f keys → (ns : List ℕ) (xs : List K) → map (slice_get keys) ns ≡ map (λ key. Some (Some key)) xs → IsTrue (known (list_tree f xs))
   known_list h ns [] e = refl
   known_list h [] (x ∷ xs) e = absurd cc
   known_list h (n ∷ ns) (x ∷ xs) e =
-      both_true (known (arg_tree m x)) (known (list_tree (arg_tree m) xs)) (h n x (first_is (slice_get keys) n ns x xs e))
+      both_true (known (f x)) (known (list_tree f xs)) (h n x (first_is (slice_get keys) n ns x xs e))
       (known_list h ns xs (rest_are (slice_get keys) n ns x xs e))
 
   -- Their list means that of the trees.
-  pub built_list : (trees : List Tree) → AreBuilt m trees keys → (ns : List ℕ) (xs : List (GenericArgKind Key)) → map (slice_get keys) ns ≡ map (λ key. Some (Some key)) xs → list_tree (arg_tree m) xs ≡ list_tree (at trees) ns
+  pub built_list : (trees : List Tree) → EachBuilt f trees keys → (ns : List ℕ) (xs : List K) → map (slice_get keys) ns ≡ map (λ key. Some (Some key)) xs → list_tree f xs ≡ list_tree (at trees) ns
   built_list trees h [] [] e = refl
   built_list trees h (n ∷ ns) [] e = absurd cc
   built_list trees h [] (x ∷ xs) e = absurd cc
@@ -61,20 +62,20 @@ module _ {Key Id Name : Type 0} (m : Meaning Key Id Name) (keys : List (Option (
       (built_list trees h ns xs (rest_are (slice_get keys) n ns x xs e))
 
   -- One more key, if there is one.
-  pub known_more : (o : Option (GenericArgKind Key)) → AreKnown m keys → IfSome o (λ key. IsTrue (known (arg_tree m key))) → AreKnown m (keys ++ o ∷ [])
+  pub known_more : (o : Option K) → EachKnown f keys → IfSome o (λ key. IsTrue (known (f key))) → EachKnown f (keys ++ o ∷ [])
   known_more o h p k key e = elim (get_more keys o (Some key) k e) [
     | inl q ↦ h k key q
-    | inr q ↦ subst (λ z. IfSome z (λ key. IsTrue (known (arg_tree m key)))) q.1 p
+    | inr q ↦ subst (λ z. IfSome z (λ key. IsTrue (known (f key)))) q.1 p
   ]
 
-  pub built_more : (trees : List Tree) (t : Tree) (o : Option (GenericArgKind Key)) → length trees ≡ length keys → AreBuilt m trees keys → IfSome o (λ key. arg_tree m key ≡ t) → AreBuilt m (trees ++ t ∷ []) (keys ++ o ∷ [])
+  pub built_more : (trees : List Tree) (t : Tree) (o : Option K) → length trees ≡ length keys → EachBuilt f trees keys → IfSome o (λ key. f key ≡ t) → EachBuilt f (trees ++ t ∷ []) (keys ++ o ∷ [])
   built_more trees t o same h p k key e = elim (get_more keys o (Some key) k e) [
     | inl q ↦
         let below : k < length keys = slice_get_within keys k (Some key) q in
         h k key q ∙ sym (get_or_append_left trees (t ∷ []) (leaf unknown) k (omega (arith, below, same)))
     | inr q ↦
         let here : k ≡ length trees = omega (arith, q.0, same) in
-        subst (λ z. IfSome z (λ key. arg_tree m key ≡ t)) q.1 p
+        subst (λ z. IfSome z (λ key. f key ≡ t)) q.1 p
         ∙ sym (ap (at (trees ++ t ∷ [])) here ∙ get_or-append_seam trees t [] (leaf unknown))
   ]
 
@@ -88,12 +89,12 @@ consts_tree m [] = refl
 consts_tree m (c ∷ cs) = ap (cons (m.const_ c)) (consts_tree m cs)
 
 -- What is known stays as the interner grows.
-module _ {Key Id Name : Type 0} {m n : Meaning Key Id Name} (e : Extends m n) (keys : List (Option (GenericArgKind Key))) where
-  pub known_stays : AreKnown m keys → AreKnown n keys
-  known_stays h k key p = knows_arg e key (h k key p)
+module _ {K : Type 0} (f g : K → Tree) (stays : (k : K) → IsTrue (known (f k)) → g k ≡ f k) (keys : List (Option K)) where
+  pub known_stays : EachKnown f keys → EachKnown g keys
+  known_stays h k key p = subst (λ t. IsTrue (known t)) (sym (stays key (h k key p))) (h k key p)
 
-  pub built_stays : (trees : List Tree) → AreKnown m keys → AreBuilt m trees keys → AreBuilt n trees keys
-  built_stays trees h b k key p = stays_arg e key (h k key p) ∙ b k key p
+  pub built_stays : (trees : List Tree) → EachKnown f keys → EachBuilt f trees keys → EachBuilt g trees keys
+  built_stays trees h b k key p = stays key (h k key p) ∙ b k key p
 
 pub ids_stay : {Key Id Name : Type 0} {m n : Meaning Key Id Name} (e : Extends m n) (ids : List Id) → map n.id ids ≡ map m.id ids
 ids_stay e ids = ap (λ f. map f ids) (fun_ext e.id)
@@ -143,41 +144,78 @@ pub makes : {Key Id Name : Type 0} (m n : Meaning Key Id Name) (keys : List (Opt
 makes m n keys tree t None h f = h
 makes m n keys tree t (Some k) h f = (h.0, λ trees b. h.1 ∙ f trees b)
 
-module _ {Key Id Name : Type 0} (m n : Meaning Key Id Name) (keys : List (Option (GenericArgKind Key))) (tree : List Tree → Tree) where
+-- What is made of keys and patterns.
+module _ {Key Id Name : Type 0} (m : Meaning Key Id Name) (keys : List (Option (GenericArgKind Key))) (pats : List (Option (PatKey Key))) (tree : List Tree → Tree) where
+  -- What is made of keys alone is made of them and of any patterns.
+  pub makes_of : (n : Meaning Key Id Name) (o : Option (GenericArgKind Key)) → Makes m n keys tree o → MakesOf m (arg_tree n) keys pats tree o
+  makes_of n None h = h
+  makes_of n (Some k) h = (h.0, λ trees b p. h.1 trees b)
+
   -- What has no parts is made of no tree.
-  pub leaf_makes : (o : Option (GenericArgKind Key)) → ((ts : List Tree) → MakesTree n (tree ts) o) → Makes m n keys tree o
-  leaf_makes None f = f []
-  leaf_makes (Some k) f = ((f []).0, λ trees b. (f trees).1)
+  pub leaf_makes : (n : Meaning Key Id Name) (o : Option (GenericArgKind Key)) → ((ts : List Tree) → MakesTree n (tree ts) o) → MakesOf m (arg_tree n) keys pats tree o
+  leaf_makes n None f = f []
+  leaf_makes n (Some k) f = ((f []).0, λ trees b p. (f trees).1)
 
-  pub made_known : (o : Option (GenericArgKind Key)) → Makes m n keys tree o → IfSome o (λ key. IsTrue (known (arg_tree n key)))
-  made_known None h = h
-  made_known (Some k) h = h.0
+  -- What is made means a tree that is made of those that keys and patterns mean.
+  pub made_of : {K : Type 0} (f : K → Tree) (t : Tree) (o : Option K) → IfSome o (λ key. IsTrue (known (f key)) × (f key ≡ t)) →
+      ((trees : List Tree) → AreBuilt m trees keys → ArePatsBuilt m trees pats → t ≡ tree trees) → MakesOf m f keys pats tree o
+  made_of f t None h e = h
+  made_of f t (Some k) h e = (h.0, λ trees b p. h.1 ∙ e trees b p)
 
-  made_is : (o : Option (GenericArgKind Key)) (trees : List Tree) → AreBuilt m trees keys → Makes m n keys tree o → IfSome o (λ key. arg_tree n key ≡ tree trees)
-  made_is None trees b h = h
-  made_is (Some k) trees b h = h.1 trees b
+  pub made_known : {K : Type 0} (f : K → Tree) (o : Option K) → MakesOf m f keys pats tree o → IfSome o (λ key. IsTrue (known (f key)))
+  made_known f None h = h
+  made_known f (Some k) h = h.0
+
+  pub made_is : {K : Type 0} (f : K → Tree) (o : Option K) (trees : List Tree) → AreBuilt m trees keys → ArePatsBuilt m trees pats → MakesOf m f keys pats tree o → IfSome o (λ key. f key ≡ tree trees)
+  made_is f None trees b p h = h
+  made_is f (Some k) trees b p h = h.1 trees b p
 
 -- Of no keys each is known, and means its tree.
-pub none_known : {Key Id Name : Type 0} (m : Meaning Key Id Name) (keys : List (Option (GenericArgKind Key))) → keys ≡ [] → AreKnown m keys
-none_known m keys e k key h = let p = subst (λ xs. slice_get xs k ≡ Some (Some key)) e h in absurd cc
+pub none_known : {K : Type 0} (f : K → Tree) (keys : List (Option K)) → keys ≡ [] → EachKnown f keys
+none_known f keys e k key h = let p = subst (λ xs. slice_get xs k ≡ Some (Some key)) e h in absurd cc
 
-pub none_built : {Key Id Name : Type 0} (m : Meaning Key Id Name) (trees : List Tree) (keys : List (Option (GenericArgKind Key))) → keys ≡ [] → AreBuilt m trees keys
-none_built m trees keys e k key h = let p = subst (λ xs. slice_get xs k ≡ Some (Some key)) e h in absurd cc
+pub none_built : {K : Type 0} (f : K → Tree) (trees : List Tree) (keys : List (Option K)) → keys ≡ [] → EachBuilt f trees keys
+none_built f trees keys e k key h = let p = subst (λ xs. slice_get xs k ≡ Some (Some key)) e h in absurd cc
+
+-- What is made of the next term means its tree, over ids and names as they were.
+pub step_is : {Key Id Name K : Type 0} {m p : Meaning Key Id Name} (f : K → Tree) (keys : List (Option (GenericArgKind Key))) (pats : List (Option (PatKey Key))) (o : Option K) (ids : List Id) (names : List Name) (parts : List ℕ)
+    (trees : List Tree) (x : Term) → Extends m p → AreBuilt p trees keys → ArePatsBuilt p trees pats →
+    MakesOf p f keys pats (λ ts. term_tree (map p.id ids) (map p.name names) parts ts x) o → IfSome o (λ key. f key ≡ term_tree (map m.id ids) (map m.name names) parts trees x)
+step_is {m = m} {p = p} f keys pats o ids names parts trees x e b q made =
+    let made_here = made_is p keys pats (λ ts. term_tree (map p.id ids) (map p.name names) parts ts x) f o trees b q made in
+    subst (λ u. IfSome o (λ key. f key ≡ u)) (ap₂ (λ a c. term_tree a c parts trees x) (ids_stay e ids) (names_stay e names)) made_here
 
 -- One more key, of the next term.
-pub built_step : {Key Id Name : Type 0} (m p n : Meaning Key Id Name) (keys : List (Option (GenericArgKind Key))) (o : Option (GenericArgKind Key)) (ids : List Id) (names : List Name) (parts : List ℕ)
-    (xs : List Term) (i : ℕ) (d : Term) → i < length xs → length keys ≡ i → Extends m p → Extends p n → AreKnown p keys → AreBuilt p (trees_of (map m.id ids) (map m.name names) parts (take i xs)) keys →
-    Makes p n keys (λ ts. term_tree (map p.id ids) (map p.name names) parts ts (get_or xs i d)) o → AreBuilt n (trees_of (map m.id ids) (map m.name names) parts (take (i + 1) xs)) (keys ++ o ∷ [])
-built_step m p n keys o ids names parts xs i d h same e f sure b made =
-    let items = map m.id ids in
-    let known_names = map m.name names in
+pub built_step : {K : Type 0} (f g : K → Tree) (keys : List (Option K)) (o : Option K) (items names parts : List ℕ) (xs : List Term) (i : ℕ) (d : Term) → i < length xs → length keys ≡ i →
+    ((k : K) → IsTrue (known (f k)) → g k ≡ f k) → EachKnown f keys → EachBuilt f (trees_of items names parts (take i xs)) keys →
+    IfSome o (λ key. g key ≡ term_tree items names parts (trees_of items names parts (take i xs)) (get_or xs i d)) → EachBuilt g (trees_of items names parts (take (i + 1) xs)) (keys ++ o ∷ [])
+built_step f g keys o items names parts xs i d h same stays sure b made =
     let x = get_or xs i d in
-    let trees = trees_of items known_names parts (take i xs) in
-    let made_here = made_is p n keys (λ ts. term_tree (map p.id ids) (map p.name names) parts ts x) o trees b made in
+    let trees = trees_of items names parts (take i xs) in
     let first : length (take i xs) ≡ i = length-take-le i xs (omega (arith, h)) in
-    subst (λ z. AreBuilt n z (keys ++ o ∷ []))
-    (sym (ap (trees_of items known_names parts) (take_more xs i d h) ∙ trees_more items known_names parts (take i xs) x))
-    (built_more n keys trees (term_tree items known_names parts trees x) o
-    (length_trees items known_names parts (take i xs) ∙ first ∙ sym same)
-    (built_stays f keys trees sure b)
-    (subst (λ u. IfSome o (λ key. arg_tree n key ≡ u)) (ap₂ (λ a c. term_tree a c parts trees x) (ids_stay e ids) (names_stay e names)) made_here))
+    subst (λ z. EachBuilt g z (keys ++ o ∷ []))
+    (sym (ap (trees_of items names parts) (take_more xs i d h) ∙ trees_more items names parts (take i xs) x))
+    (built_more g keys trees (term_tree items names parts trees x) o
+    (length_trees items names parts (take i xs) ∙ first ∙ sym same)
+    (built_stays f g stays keys trees sure b) made)
+
+-- The keys of one kind, or the patterns, with that of the next term.
+module _ {Key Id Name : Type 0} {m p : Meaning Key Id Name} (e : Extends m p) (ids : List Id) (names : List Name) (parts : List ℕ) (keys : List (Option (GenericArgKind Key))) (pats : List (Option (PatKey Key)))
+    (xs : List Term) (i : ℕ) (d : Term) (h : i < length xs) (b : AreBuilt p (trees_of (map m.id ids) (map m.name names) parts (take i xs)) keys) (q : ArePatsBuilt p (trees_of (map m.id ids) (map m.name names) parts (take i xs)) pats) where
+  pub next_key : {K : Type 0} (f g : K → Tree) (ks ls : List (Option K)) (o : Option K) (keys_now : List (Option (GenericArgKind Key))) (pats_now : List (Option (PatKey Key))) (parts_now : List ℕ) →
+      length ks ≡ i → ((k : K) → IsTrue (known (f k)) → g k ≡ f k) → EachKnown f ks → EachBuilt f (trees_of (map m.id ids) (map m.name names) parts (take i xs)) ks →
+      keys_now ≡ keys → pats_now ≡ pats → parts_now ≡ parts → ls ≡ ks ++ o ∷ [] →
+      MakesOf p g keys_now pats_now (λ ts. term_tree (map p.id ids) (map p.name names) parts_now ts (get_or xs i d)) o →
+      EachKnown g ls × EachBuilt g (trees_of (map m.id ids) (map m.name names) parts (take (i + 1) xs)) ls
+  next_key {K} f g ks ls o keys_now pats_now parts_now same stays sure built ek ep en el made =
+      let x = get_or xs i d in
+      let items = map m.id ids in
+      let texts = map m.name names in
+      let tree : List ℕ → List Tree → Tree = λ ns ts. term_tree (map p.id ids) (map p.name names) ns ts x in
+      let over_parts : MakesOf p g keys_now pats_now (tree parts) o = subst (λ z. MakesOf p g keys_now pats_now (tree z) o) en made in
+      let over_pats : MakesOf p g keys_now pats (tree parts) o = subst (λ z. MakesOf p g keys_now z (tree parts) o) ep over_parts in
+      let over : MakesOf p g keys pats (tree parts) o = subst (λ z. MakesOf p g z pats (tree parts) o) ek over_pats in (
+        subst (EachKnown g) (sym el) (known_more g ks o (known_stays f g stays ks sure) (made_known p keys pats (tree parts) g o over)),
+        subst (EachBuilt g (trees_of items texts parts (take (i + 1) xs))) (sym el)
+            (built_step f g ks o items texts parts xs i d h same stays sure built (step_is g keys pats o ids names parts (trees_of items texts parts (take i xs)) x e b q over)),
+      )

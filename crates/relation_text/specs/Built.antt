@@ -6,23 +6,50 @@ use Rattle.relation_terms.specs.declared.terms.ty_kind.TyKind.{TyKind}
 use Rattle.relation_terms.specs.declared.terms.region_kind.RegionKind.{RegionKind}
 use Rattle.relation_terms.specs.declared.terms.const_kind.ConstKind.{ConstKind}
 use Rattle.relation_terms.specs.declared.terms.generic_arg.GenericArgKind.{GenericArgKind}
+use Rattle.relation_terms.specs.declared.terms.keys.PatKey.{PatKey}
 use Rattle.relation_text.specs.declared.naming.program.Term.{Term}
 use Rattle.relation_text.specs.Terms.{at, term_tree}
 
-module _ {Key Id Name : Type 0} (m : Meaning Key Id Name) where
-  -- Each key that is there is known.
-  abbrev pub AreKnown : List (Option (GenericArgKind Key)) → Type 0
-  AreKnown keys = (k : ℕ) (key : GenericArgKind Key) → slice_get keys k ≡ Some (Some key) → IsTrue (known (arg_tree m key))
+-- Each key that is there is known, and means the tree of its number: keys of one kind, by the trees that they mean.
+abbrev pub EachKnown : {K : Type 0} → (K → Tree) → List (Option K) → Type 0
+EachKnown {K} tree keys = (k : ℕ) (key : K) → slice_get keys k ≡ Some (Some key) → IsTrue (known (tree key))
 
-  -- Each key that is there means the tree of its number.
+abbrev pub EachBuilt : {K : Type 0} → (K → Tree) → List Tree → List (Option K) → Type 0
+EachBuilt {K} tree trees keys = (k : ℕ) (key : K) → slice_get keys k ≡ Some (Some key) → tree key ≡ at trees k
+
+module _ {Key Id Name : Type 0} (m : Meaning Key Id Name) where
+  -- Each key of a type, a region or a constant that is there is known.
+  abbrev pub AreKnown : List (Option (GenericArgKind Key)) → Type 0
+  AreKnown keys = EachKnown (arg_tree m) keys
+
+  -- Each such key that is there means the tree of its number.
   abbrev pub AreBuilt : List Tree → List (Option (GenericArgKind Key)) → Type 0
-  AreBuilt trees keys = (k : ℕ) (key : GenericArgKind Key) → slice_get keys k ≡ Some (Some key) → arg_tree m key ≡ at trees k
+  AreBuilt trees keys = EachBuilt (arg_tree m) trees keys
+
+  -- Each pattern that is there is known.
+  abbrev pub ArePatsKnown : List (Option (PatKey Key)) → Type 0
+  ArePatsKnown pats = EachKnown m.pat pats
+
+  -- Each pattern that is there means the tree of its number.
+  abbrev pub ArePatsBuilt : List Tree → List (Option (PatKey Key)) → Type 0
+  ArePatsBuilt trees pats = EachBuilt m.pat trees pats
 
 -- What is made of keys, if anything is: a known key, which means what that is made of the trees that those keys mean.
 abbrev pub Makes : {Key Id Name : Type 0} → Meaning Key Id Name → Meaning Key Id Name → List (Option (GenericArgKind Key)) →
     (List Tree → Tree) → Option (GenericArgKind Key) → Type 0
 Makes m n keys tree result = IfSome result (λ key. IsTrue (known (arg_tree n key)) ×
     ((trees : List Tree) → AreBuilt m trees keys → arg_tree n key ≡ tree trees))
+
+-- What is made of keys and patterns, if anything is: a known key of its kind, which means what that is made of the
+-- trees that those keys and patterns mean.
+abbrev pub MakesOf : {Key Id Name K : Type 0} → Meaning Key Id Name → (K → Tree) → List (Option (GenericArgKind Key)) →
+    List (Option (PatKey Key)) → (List Tree → Tree) → Option K → Type 0
+MakesOf m key_tree keys pats tree result = IfSome result (λ key. IsTrue (known (key_tree key)) ×
+    ((trees : List Tree) → AreBuilt m trees keys → ArePatsBuilt m trees pats → key_tree key ≡ tree trees))
+
+-- The pattern that is made, if one is: a known one that means that tree.
+abbrev pub MakesPattern : {Key Id Name : Type 0} → Meaning Key Id Name → Tree → Option (PatKey Key) → Type 0
+MakesPattern n tree result = IfSome result (λ pat. IsTrue (known (n.pat pat)) × (n.pat pat ≡ tree))
 
 -- What is made, if anything is: a known key that means that tree.
 abbrev pub MakesTree : {Key Id Name : Type 0} → Meaning Key Id Name → Tree → Option (GenericArgKind Key) → Type 0

@@ -23,6 +23,7 @@ abbrev pub sort_name : Sort → List ℕ
 sort_name sort.Region = codes "a region"
 sort_name sort.Type = codes "a type"
 sort_name sort.Const = codes "a constant"
+sort_name sort.Pattern = codes "a pattern"
 
 -- what was expected, where the text itself tells what was found
 abbrev pub expected_found : List ℕ → List ℕ → List ℕ

@@ -36,10 +36,13 @@ spelling sign.Star = codes "*"
 spelling sign.Plus = codes "+"
 spelling sign.Minus = codes "-"
 spelling sign.Bang = codes "!"
+spelling sign.Bar = codes "|"
+spelling sign.UpTo = codes "..="
 spelling sign.Budget = codes "budget"
 spelling sign.Closure = codes "closure"
 spelling sign.Const = codes "const"
 spelling sign.Coroutine = codes "coroutine"
+spelling sign.Error = codes "error"
 spelling sign.Escapes = codes "escapes"
 spelling sign.Expr = codes "expr"
 spelling sign.Extern = codes "extern"
@@ -47,8 +50,10 @@ spelling sign.Fn = codes "fn"
 spelling sign.Fold = codes "fold"
 spelling sign.In = codes "in"
 spelling sign.Infers = codes "infers"
+spelling sign.Is = codes "is"
 spelling sign.Let = codes "let"
 spelling sign.Mut = codes "mut"
+spelling sign.Null = codes "null"
 spelling sign.Param = codes "param"
 spelling sign.Repeat = codes "repeat"
 spelling sign.Rigid = codes "rigid"
@@ -108,9 +113,21 @@ BeginsList ws k form.Branch s = StandsAt ws k sign.LeftBrace × (s ≡ sign.Righ
 BeginsList ws k form.Expr s = StandsAt ws k sign.Expr × (s ≡ sign.RightParen)
 BeginsList ws k f s = ⊥
 
+-- what a term of that form is, whose first word has that number
+abbrev pub IsWhole : List Word → ℕ → Form → Type 0
+IsWhole ws k form.Never = StandsAt ws k sign.Bang
+IsWhole ws k form.Error = StandFrom ws k (sign.LeftBrace ∷ sign.Error ∷ sign.RightBrace ∷ [])
+IsWhole ws k f = ⊥
+
+-- what stands in braces behind the first, whose first word has that number: an error, or a list that is to end in one
+abbrev pub InBraces : List Word → ℕ → Rest → Type 0
+InBraces ws k (rest.Nothing form.Error) = StandFrom ws k (sign.Error ∷ sign.RightBrace ∷ [])
+InBraces ws k (rest.List form.Branch s) = s ≡ sign.RightBrace
+InBraces ws k r = ⊥
+
 -- what a term begins with of which that is still to be read, whose first word has that number
 abbrev pub Begins : List Word → ℕ → Rest → Type 0
-Begins ws k (rest.Nothing f) = StandsAt ws k sign.Bang × (f ≡ form.Never)
+Begins ws k (rest.Nothing f) = IsWhole ws k f
 Begins ws k (rest.Pointee f) = BeginsPointer ws k f
 Begins ws k (rest.List f s) = BeginsList ws k f s
 Begins ws k rest.Brackets = StandsAt ws k sign.LeftBracket

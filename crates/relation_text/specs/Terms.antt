@@ -5,6 +5,8 @@ use Rattle.relation_terms.specs.Heads.{type_var, region_var, bool_type, char_typ
 use Rattle.relation_terms.specs.Heads.{uint_type, float_type, foreign, type_param, static_region, early_region}
 use Rattle.relation_terms.specs.Heads.{const_param, value_leaf, adt, fn_def, closure, coroutine_closure, coroutine}
 use Rattle.relation_terms.specs.Heads.{array, slice, tuple, raw_ptr, ref, expression, value, value_type, value_branch}
+use Rattle.relation_terms.specs.Heads.{region_kind, int_var, float_var, const_var, type_error, const_error}
+use Rattle.relation_terms.specs.Heads.{pattern_type, range_pattern, or_pattern, not_null_pattern}
 use Rattle.relation_terms.specs.Trees.{Tree, leaf, node, nil, cons, list_tree}
 use Rattle.relation_text.specs.declared.reading.tree.ItemSort.{ItemSort}
 use Rattle.relation_text.specs.declared.reading.tree.ItemSort.TheVariants as sort
@@ -59,15 +61,26 @@ module _ (items names parts : List ℕ) where
   term_tree ts (term.TyParam i n) = leaf_of (λ x. atom (type_param i x)) (slice_get names n)
   term_tree ts (term.TyPlaceholder u v n) = leaf_of (λ x. placeholder (bound_kind type_kind x) u v) (slice_get names n)
   term_tree ts (term.TyVar n) = leaf (variable type_var n)
+  term_tree ts (term.IntVar n) = leaf (variable int_var n)
+  term_tree ts (term.FloatVar n) = leaf (variable float_var n)
+  term_tree ts term.TyError = leaf (atom type_error)
+  term_tree ts (term.Pat t p) = node pattern_type (cons (at ts t) (cons (at ts p) nil))
   term_tree ts term.Static = leaf (atom static_region)
   term_tree ts (term.RegionParam i n) = leaf_of (λ x. atom (early_region i x)) (slice_get names n)
   term_tree ts (term.RegionVar n) = leaf (variable region_var n)
+  term_tree ts (term.RegionPlaceholder u v n) =
+      leaf_of (λ x. placeholder (bound_kind region_kind x) u v) (slice_get names n)
   term_tree ts (term.ConstParam i n) = leaf_of (λ x. atom (const_param i x)) (slice_get names n)
   term_tree ts (term.ConstPlaceholder u v n) =
       leaf_of (λ x. placeholder (bound_kind const_kind x) u v) (slice_get names n)
+  term_tree ts (term.ConstVar n) = leaf (variable const_var n)
+  term_tree ts term.ConstError = leaf (atom const_error)
   term_tree ts (term.Number t b n) = value_tree (at ts t) (leaf (atom (value_leaf b n)))
   term_tree ts (term.Branch t p) = value_tree (at ts t) (node value_branch (parts_tree parts ts p))
   term_tree ts (term.Expr k p) = node (expression k) (parts_tree parts ts p)
+  term_tree ts (term.Range s e) = node range_pattern (cons (at ts s) (cons (at ts e) nil))
+  term_tree ts (term.Or p) = node or_pattern (parts_tree parts ts p)
+  term_tree ts term.NotNull = leaf (atom not_null_pattern)
 
   -- The trees of terms that stand behind those of these trees.
   abbrev pub trees_from : List Tree → List Term → List Tree

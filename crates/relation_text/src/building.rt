@@ -6,14 +6,15 @@ ghost use Rattle.relation_text.specs.Built.{AreKnown, AreBuilt};
 
 mod lists;
 mod making;
+mod patterns;
 
 use crate::naming::Program;
 pub use lists::{key_at, keys_at, ty_at};
-use making::make_term;
+use making::make_either;
 use relation_terms::terms::{GenericArg, Interner, OutOfMemory};
 
-/// The keys of a program's terms, over ids of its items and names of an interner. There is none of a term where a growth
-/// was refused, and none of a term over such a one.
+/// The keys of a program's terms, over ids of its items and names of an interner. There is none of a pattern, which is
+/// only built as a part; none of a term where a growth was refused, and none of a term over such a one.
 ///
 /// # Errors
 /// `OutOfMemory` where there is no room for the list of keys.
@@ -31,9 +32,11 @@ pub fn build<I: Interner>(
         IfOk result (λ keys. AreBuilt (I.meaning cx.new) trees keys.items) }
 {
     let mut built = Vec::with_capacity(cx.alloc(), program.terms.len())?;
+    let mut pats = Vec::with_capacity(cx.alloc(), program.terms.len())?;
     for term in &program.terms {
-        let key = make_term(cx, ids, names, &program.parts, &built, *term);
+        let (key, pat) = make_either(cx, ids, names, &program.parts, &built, &pats, *term);
         built.push(key)?;
+        pats.push(pat)?;
     }
     Ok(built)
 }

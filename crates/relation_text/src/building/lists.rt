@@ -6,10 +6,7 @@ use relation_terms::terms::{ConstKey, GenericArgKind, RegionKey, TyKey};
 use std::alloc::Global;
 
 /// The key of the term of that number, if there is one.
-pub fn key_at<X: Copy>(
-    built: &[Option<GenericArgKind<X>>],
-    number: usize,
-) -> Option<GenericArgKind<X>>
+pub fn key_at<K: Copy>(built: &[Option<K>], number: usize) -> Option<K>
     ensures { IfSome result (λ key. slice_get built.now number ≡ Some (Some key)) }
 {
     match built.get(number) {
@@ -58,12 +55,12 @@ pub(super) fn const_at<X: Copy>(
 }
 
 /// The keys of a term's parts, if there is one of each. There are none where memory for them is refused.
-pub fn keys_at<X: Copy>(
+pub fn keys_at<K: Copy>(
     alloc: Global,
     numbers: &[usize],
-    built: &[Option<GenericArgKind<X>>],
+    built: &[Option<K>],
     parts: Parts,
-) -> Option<Vec<GenericArgKind<X>>>
+) -> Option<Vec<K>>
     ensures { let places = slice_range numbers.now parts.first parts.behind in
         IfSome result (λ keys. map (slice_get built.now) places ≡ map (λ key. Some (Some key)) keys.items) }
 {

@@ -4,20 +4,23 @@ ghost use Rattle.relation_terms.specs.Heads.{tuple, expression, value_branch};
 ghost use Rattle.relation_terms.specs.Trees.{Tree, known, node, list_tree};
 ghost use Rattle.relation_terms.specs.Meaning.{Extends, arg_tree, kind_tree, region_tree, const_tree, valtree_tree};
 ghost use Rattle.relation_text.specs.Terms.{item_tree, value_tree, term_tree};
-ghost use Rattle.relation_text.specs.Built.{AreKnown, Makes, MakesTree, IsFormOf, IsRegionOf, IsConstOf};
+ghost use Rattle.relation_text.specs.Built.{AreKnown, ArePatsKnown, Makes, MakesOf, MakesTree, IsFormOf};
+ghost use Rattle.relation_text.specs.Built.{IsRegionOf, IsConstOf};
 
 use crate::building::lists::{const_at, consts_of, keys_at, region_at, ty_at, tys_of};
-use crate::naming::{Parts, Term};
+use crate::building::patterns::{make_pattern, make_pattern_type};
+use crate::naming::Term;
 use crate::reading::ItemSort;
 use relation_terms::terms::{
-    AdtId, BoundConst, BoundTy, BoundVar, ClosureId, ConstForm, ConstKind, CoroutineClosureId,
-    CoroutineId, EarlyParamRegion, ExprKind, ForeignId, FunctionId, GenericArg, GenericArgKind,
-    InferTy, Interner, ParamConst, ParamTy, Placeholder, RegionForm, RegionKind, RegionVid, Ty,
-    TyForm, TyKind, TyVid, UniverseIndex, ValTreeForm, ValTreeKind,
+    AdtId, BoundConst, BoundRegion, BoundTy, BoundVar, ClosureId, ConstForm, ConstKind, ConstVid,
+    CoroutineClosureId, CoroutineId, EarlyParamRegion, ErrorGuaranteed, ExprKind, FloatVid,
+    ForeignId, FunctionId, GenericArg, GenericArgKind, InferConst, InferTy, IntVid, Interner,
+    ParamConst, ParamTy, Pat, Placeholder, RegionForm, RegionKind, RegionVid, Ty, TyForm, TyKind,
+    TyVid, UniverseIndex, ValTreeForm, ValTreeKind,
 };
 
 // The type of a form.
-fn make_ty<I: Interner>(cx: &mut I, form: TyForm<I>) -> Option<GenericArg<I>>
+pub(super) fn make_ty<I: Interner>(cx: &mut I, form: TyForm<I>) -> Option<GenericArg<I>>
     requires { IsTrue (known (kind_tree (I.meaning cx.old) form)) }
     ensures grown { Extends (I.meaning cx.old) (I.meaning cx.new) }
     ensures made { MakesTree (I.meaning cx.new) (kind_tree (I.meaning cx.old) form) result }
@@ -71,6 +74,9 @@ fn ty_leaf<I: Interner>(names: &[I::Name], term: Term) -> Option<TyForm<I>>
         Term::Uint(width) => Some(TyKind::Uint(width)),
         Term::Float(width) => Some(TyKind::Float(width)),
         Term::TyVar(number) => Some(TyKind::Infer(InferTy::TyVar(TyVid(number)))),
+        Term::IntVar(number) => Some(TyKind::Infer(InferTy::IntVar(IntVid(number)))),
+        Term::FloatVar(number) => Some(TyKind::Infer(InferTy::FloatVar(FloatVid(number)))),
+        Term::TyError => Some(TyKind::Error(ErrorGuaranteed)),
         Term::TyParam(index, name) => {
             let name = name_at(names, name)?;
             Some(TyKind::Param(ParamTy { index, name }))
@@ -97,6 +103,13 @@ fn region_form<I: Interner>(names: &[I::Name], term: Term) -> Option<RegionForm<
             let name = name_at(names, name)?;
             Some(RegionKind::ReEarlyParam(EarlyParamRegion { index, name }))
         }
+        Term::RegionPlaceholder(universe, place, name) => {
+            let name = name_at(names, name)?;
+            let var = BoundVar(place);
+            let universe = UniverseIndex(universe);
+            let bound = BoundRegion { var, name };
+            Some(RegionKind::RePlaceholder(Placeholder { universe, bound }))
+        }
         _ => None,
     }
 }
@@ -110,6 +123,8 @@ fn const_leaf<I: Interner>(names: &[I::Name], term: Term) -> Option<ConstForm<I>
             let name = name_at(names, name)?;
             Some(ConstKind::Param(ParamConst { index, name }))
         }
+        Term::ConstVar(number) => Some(ConstKind::Infer(InferConst::Var(ConstVid(number)))),
+        Term::ConstError => Some(ConstKind::Error(ErrorGuaranteed)),
         Term::ConstPlaceholder(universe, place, name) => {
             let name = name_at(names, name)?;
             let var = BoundVar(place);
@@ -305,20 +320,23 @@ fn make_leaf<I: Interner>(cx: &mut I, names: &[I::Name], term: Term) -> Option<G
     make_const(cx, form)
 }
 
-// The key of a term. There is none where a growth was refused, or there is none of a part.
-pub(super) fn make_term<I: Interner>(
+// The key of a term that is no pattern. There is none where a growth was refused, or there is none of a part.
+fn make_term<I: Interner>(
     cx: &mut I,
     ids: &[I::Id],
     names: &[I::Name],
     numbers: &[usize],
     built: &[Option<GenericArg<I>>],
+    pats: &[Option<Pat<I>>],
     term: Term,
 ) -> Option<GenericArg<I>>
-    requires { AreKnown (I.meaning cx.old) built.now }
+    requires keys { AreKnown (I.meaning cx.old) built.now }
+    requires pats { ArePatsKnown (I.meaning cx.old) pats.now }
     ensures grown { Extends (I.meaning cx.old) (I.meaning cx.new) }
     ensures made { let m = I.meaning cx.old in let items = map m.id ids.now in
         let names = map m.name names.now in
-        Makes m (I.meaning cx.new) built.now (λ ts. term_tree items names numbers.now ts term) result }
+        let tree = λ (ts : List Tree). term_tree items names numbers.now ts term in
+        MakesOf m (arg_tree (I.meaning cx.new)) built.now pats.now tree result }
 {
     match term {
         Term::Slice(_) | Term::Array(..) | Term::RawPtr(..) | Term::Ref(..) | Term::Number(..) => {
@@ -327,6 +345,38 @@ pub(super) fn make_term<I: Interner>(
         Term::Item(..) | Term::Tuple(_) | Term::Branch(..) | Term::Expr(..) => {
             make_listed(cx, ids, numbers, built, term)
         }
+        Term::Pat(..) => make_pattern_type(cx, built, pats, term),
         _ => make_leaf(cx, names, term),
+    }
+}
+
+// The key of a term, or the pattern that it is. There is neither where a growth was refused, or there is none of a
+// part.
+pub(super) fn make_either<I: Interner>(
+    cx: &mut I,
+    ids: &[I::Id],
+    names: &[I::Name],
+    numbers: &[usize],
+    built: &[Option<GenericArg<I>>],
+    pats: &[Option<Pat<I>>],
+    term: Term,
+) -> (Option<GenericArg<I>>, Option<Pat<I>>)
+    requires keys { AreKnown (I.meaning cx.old) built.now }
+    requires pats { ArePatsKnown (I.meaning cx.old) pats.now }
+    ensures grown { Extends (I.meaning cx.old) (I.meaning cx.new) }
+    ensures key { let m = I.meaning cx.old in let items = map m.id ids.now in
+        let names = map m.name names.now in
+        let tree = λ (ts : List Tree). term_tree items names numbers.now ts term in
+        MakesOf m (arg_tree (I.meaning cx.new)) built.now pats.now tree result.0 }
+    ensures pattern { let m = I.meaning cx.old in let items = map m.id ids.now in
+        let names = map m.name names.now in
+        let tree = λ (ts : List Tree). term_tree items names numbers.now ts term in
+        MakesOf m (I.meaning cx.new).pat built.now pats.now tree result.1 }
+{
+    match term {
+        Term::Range(..) | Term::Or(_) | Term::NotNull => {
+            (None, make_pattern(cx, numbers, built, pats, term))
+        }
+        _ => (make_term(cx, ids, names, numbers, built, pats, term), None),
     }
 }

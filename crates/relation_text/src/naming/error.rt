@@ -103,6 +103,7 @@ fn sort_name(sort: Sort) -> &'static str
         Sort::Region => "a region",
         Sort::Type => "a type",
         Sort::Const => "a constant",
+        Sort::Pattern => "a pattern",
     }
 }
 

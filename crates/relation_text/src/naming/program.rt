@@ -11,6 +11,8 @@ pub enum Sort {
     Region,
     Type,
     Const,
+    /// A pattern, which stands in the types that it is of and nowhere else.
+    Pattern,
 }
 
 /// A parameter that an item declares: what it is given, and how the item varies with it.
@@ -59,20 +61,37 @@ pub enum Term {
     /// A type that stands for a bound one: its universe, its place in the binder's list, and its name.
     TyPlaceholder(usize, usize, usize),
     TyVar(usize),
+    IntVar(usize),
+    FloatVar(usize),
+    /// A type that could not be told.
+    TyError,
+    /// The values of a type that a pattern admits.
+    Pat(usize, usize),
     Static,
     /// A region that is a parameter: its index and its name.
     RegionParam(u32, usize),
     RegionVar(usize),
+    /// A region that stands for a bound one: its universe, its place in the binder's list, and its name.
+    RegionPlaceholder(usize, usize, usize),
     /// A constant that is a parameter: its index and its name.
     ConstParam(u32, usize),
     /// A constant that stands for a bound one: its universe, its place in the binder's list, and its name.
     ConstPlaceholder(usize, usize, usize),
+    ConstVar(usize),
+    /// A constant that could not be told.
+    ConstError,
     /// A number: its type, its bits, and how many bytes they take.
     Number(usize, u128, u8),
     /// A value that is made of constants, and its type.
     Branch(usize, Parts),
     /// An expression: the number of its operation, and its arguments.
     Expr(u32, Parts),
+    /// The pattern of the values between two constants.
+    Range(usize, usize),
+    /// The pattern of what one of some patterns admits.
+    Or(Parts),
+    /// The pattern of all but null.
+    NotNull,
 }
 
 // A derived copy matches over all forms, and takes its check as many seconds.

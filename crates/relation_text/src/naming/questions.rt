@@ -146,7 +146,7 @@ impl<'a> Namer<'a> {
             }
             (Form::Then, [_]) => self.ask_then(node),
             (Form::Repeat, [times, _]) => self.ask_again(node, *times),
-            (Form::Terms | Form::Put, _) => Ok(()),
+            (Form::Terms | Form::Put | Form::Error, _) => Ok(()),
             _ => Err(error_at(node, Wrong::NotRead)),
         }
     }

@@ -139,14 +139,8 @@ impl<'a> Namer<'a> {
         self.add(node, Term::Number(ty, value, size), Sort::Const, 0)
     }
 
-    // A placeholder, whose name or place is behind its universe. It is a type where no constant is wanted.
-    fn placeholder(
-        &mut self,
-        node: &Node,
-        universe: usize,
-        behind: usize,
-        expected: Option<Sort>,
-    ) -> Result<Made, NameError> {
+    // The place and the name of a placeholder, one of which is behind its universe.
+    fn place(&mut self, node: &Node, behind: usize) -> Result<(usize, usize), NameError> {
         let text = self.text;
         let Some(name) = text.get(behind..node.end) else {
             return Err(error_at(node, Wrong::NotRead));
@@ -158,7 +152,18 @@ impl<'a> Namer<'a> {
                 Err(_) => return Err(error_at(node, Wrong::Place)),
             },
         };
-        let name = self.name(name)?;
+        Ok((place, self.name(name)?))
+    }
+
+    // A placeholder that is no region. It is a type where no constant is wanted.
+    fn placeholder(
+        &mut self,
+        node: &Node,
+        universe: usize,
+        behind: usize,
+        expected: Option<Sort>,
+    ) -> Result<Made, NameError> {
+        let (place, name) = self.place(node, behind)?;
         if expected == Some(Sort::Const) {
             let term = Term::ConstPlaceholder(universe, place, name);
             return self.add(node, term, Sort::Const, 0);
@@ -167,14 +172,44 @@ impl<'a> Namer<'a> {
         self.add(node, term, Sort::Type, 0)
     }
 
+    // A placeholder that is a region.
+    fn region_placeholder(
+        &mut self,
+        node: &Node,
+        universe: usize,
+        behind: usize,
+    ) -> Result<Made, NameError> {
+        let (place, name) = self.place(node, behind)?;
+        let term = Term::RegionPlaceholder(universe, place, name);
+        self.add(node, term, Sort::Region, 0)
+    }
+
+    // What could not be told. It is a type where no constant is wanted.
+    fn error(&mut self, node: &Node, expected: Option<Sort>) -> Result<Made, NameError> {
+        if expected == Some(Sort::Const) {
+            return self.add(node, Term::ConstError, Sort::Const, 0);
+        }
+        self.add(node, Term::TyError, Sort::Type, 0)
+    }
+
     // The term of a leaf.
     fn leaf(&mut self, node: &Node, leaf: Leaf, expected: Option<Sort>) -> Result<Made, NameError> {
         match leaf {
             Leaf::Name | Leaf::Lifetime => self.named(node),
             Leaf::Number { value, behind } => self.number(node, value, behind),
             Leaf::TyVar(number) => self.variable(node, number, Term::TyVar(number), Sort::Type),
+            Leaf::IntVar(number) => self.variable(node, number, Term::IntVar(number), Sort::Type),
+            Leaf::FloatVar(number) => {
+                self.variable(node, number, Term::FloatVar(number), Sort::Type)
+            }
+            Leaf::ConstVar(number) => {
+                self.variable(node, number, Term::ConstVar(number), Sort::Const)
+            }
             Leaf::RegionVar(number) => {
                 self.variable(node, number, Term::RegionVar(number), Sort::Region)
+            }
+            Leaf::RegionPlaceholder { universe, behind } => {
+                self.region_placeholder(node, universe, behind)
             }
             Leaf::Placeholder { universe, behind } => {
                 self.placeholder(node, universe, behind, expected)
@@ -192,6 +227,7 @@ impl<'a> Namer<'a> {
         let node = self.node(whole, number)?;
         let made = match node.kind {
             NodeKind::Leaf(leaf) => self.leaf(&node, leaf, expected)?,
+            NodeKind::Form(Form::Error) => self.error(&node, expected)?,
             NodeKind::Form(_) => match self.made.get(number) {
                 Some(Some(made)) => *made,
                 _ => return Err(error_at(&node, Wrong::NotRead)),
@@ -280,6 +316,37 @@ impl<'a> Namer<'a> {
         self.add(node, Term::Expr(kind, args.parts), Sort::Const, args.levels)
     }
 
+    // The values of a type that a pattern admits.
+    fn pattern_type(&mut self, node: &Node, base: usize, pat: usize) -> Result<Made, NameError> {
+        let base = self.term(node, base, Some(Sort::Type))?;
+        let pat = self.term(node, pat, Some(Sort::Pattern))?;
+        let levels = base.levels.max(pat.levels);
+        let term = Term::Pat(base.number, pat.number);
+        self.add(node, term, Sort::Type, levels)
+    }
+
+    // A pattern of the values between two constants.
+    fn range(&mut self, node: &Node, start: usize, end: usize) -> Result<Made, NameError> {
+        let start = self.term(node, start, Some(Sort::Const))?;
+        let end = self.term(node, end, Some(Sort::Const))?;
+        let levels = start.levels.max(end.levels);
+        let term = Term::Range(start.number, end.number);
+        self.add(node, term, Sort::Pattern, levels)
+    }
+
+    // A value that is made of constants.
+    fn branch(&mut self, node: &Node, constants: &[usize]) -> Result<Made, NameError> {
+        let list = self.list(node, constants, Wanted::Each(Sort::Const))?;
+        let term = Term::Branch(USIZE, list.parts);
+        self.add(node, term, Sort::Const, list.levels)
+    }
+
+    // A pattern of alternatives.
+    fn alternatives(&mut self, node: &Node, pats: &[usize]) -> Result<Made, NameError> {
+        let list = self.list(node, pats, Wanted::Each(Sort::Pattern))?;
+        self.add(node, Term::Or(list.parts), Sort::Pattern, list.levels)
+    }
+
     // The term of a form, if that is one.
     pub fn form(
         &mut self,
@@ -300,16 +367,12 @@ impl<'a> Namer<'a> {
             (Form::Ref(mutability), [region, pointee]) => {
                 self.reference(node, *region, *pointee, mutability)?
             }
-            (Form::Branch, constants) => {
-                let list = self.list(node, constants, Wanted::Each(Sort::Const))?;
-                self.add(
-                    node,
-                    Term::Branch(USIZE, list.parts),
-                    Sort::Const,
-                    list.levels,
-                )?
-            }
+            (Form::Branch, constants) => self.branch(node, constants)?,
             (Form::Expr, _) => self.expression(node, parts)?,
+            (Form::Pat, [base, pat]) => self.pattern_type(node, *base, *pat)?,
+            (Form::Range, [start, end]) => self.range(node, *start, *end)?,
+            (Form::Or, pats) => self.alternatives(node, pats)?,
+            (Form::NotNull, []) => self.add(node, Term::NotNull, Sort::Pattern, 0)?,
             _ => return Ok(None),
         };
         Ok(Some(made))

@@ -30,6 +30,7 @@ fn admits(expected: Expected, leaf: Leaf) -> bool {
         (Expected::Number, Leaf::Number { .. }) => true,
         (Expected::Region, Leaf::Lifetime) => true,
         (Expected::Region, Leaf::RegionVar(_)) => true,
+        (Expected::Region, Leaf::RegionPlaceholder { .. }) => true,
         (Expected::Variable, Leaf::TyVar(_)) => true,
         (Expected::Variable, Leaf::RegionVar(_)) => true,
         (Expected::Parameter, Leaf::Name) => true,

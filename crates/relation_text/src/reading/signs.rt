@@ -24,10 +24,13 @@ pub enum Sign {
     Plus,
     Minus,
     Bang,
+    Bar,
+    UpTo,
     Budget,
     Closure,
     Const,
     Coroutine,
+    Error,
     Escapes,
     Expr,
     Extern,
@@ -35,8 +38,10 @@ pub enum Sign {
     Fold,
     In,
     Infers,
+    Is,
     Let,
     Mut,
+    Null,
     Param,
     Repeat,
     Rigid,
@@ -75,10 +80,13 @@ impl Sign {
             Sign::Plus => "+",
             Sign::Minus => "-",
             Sign::Bang => "!",
+            Sign::Bar => "|",
+            Sign::UpTo => "..=",
             Sign::Budget => "budget",
             Sign::Closure => "closure",
             Sign::Const => "const",
             Sign::Coroutine => "coroutine",
+            Sign::Error => "error",
             Sign::Escapes => "escapes",
             Sign::Expr => "expr",
             Sign::Extern => "extern",
@@ -86,8 +94,10 @@ impl Sign {
             Sign::Fold => "fold",
             Sign::In => "in",
             Sign::Infers => "infers",
+            Sign::Is => "is",
             Sign::Let => "let",
             Sign::Mut => "mut",
+            Sign::Null => "null",
             Sign::Param => "param",
             Sign::Repeat => "repeat",
             Sign::Rigid => "rigid",
@@ -104,11 +114,12 @@ impl Sign {
 }
 
 // The words of the language, each of which is written as a name would be.
-const RESERVED: [Sign; 24] = [
+const RESERVED: [Sign; 27] = [
     Sign::Budget,
     Sign::Closure,
     Sign::Const,
     Sign::Coroutine,
+    Sign::Error,
     Sign::Escapes,
     Sign::Expr,
     Sign::Extern,
@@ -116,8 +127,10 @@ const RESERVED: [Sign; 24] = [
     Sign::Fold,
     Sign::In,
     Sign::Infers,
+    Sign::Is,
     Sign::Let,
     Sign::Mut,
+    Sign::Null,
     Sign::Param,
     Sign::Repeat,
     Sign::Rigid,
@@ -141,6 +154,16 @@ pub(super) fn reserved_word(name: &[u8]) -> Option<Sign>
         }
     }
     None
+}
+
+// The mark of three bytes.
+pub(super) fn mark_of_three(first: u8, second: u8, third: u8) -> Option<Sign>
+    ensures { IfSome result (λ s. spelling s ≡ first ∷ second ∷ third ∷ []) }
+{
+    match (first, second, third) {
+        (b'.', b'.', b'=') => Some(Sign::UpTo),
+        _ => None,
+    }
 }
 
 // The mark of two bytes.
@@ -176,6 +199,7 @@ pub(super) fn mark_of_one(byte: u8) -> Option<Sign>
         b'+' => Some(Sign::Plus),
         b'-' => Some(Sign::Minus),
         b'!' => Some(Sign::Bang),
+        b'|' => Some(Sign::Bar),
         _ => None,
     }
 }

@@ -4,7 +4,7 @@ ghost use Rattle.relation_text.specs.Words.{skip, AreWordsOf, EachLies};
 ghost use Rattle.relation_text.specs.Errors.{LiesIn};
 
 use crate::reading::error::ReadError;
-use crate::reading::signs::{Sign, mark_of_one, mark_of_two, reserved_word};
+use crate::reading::signs::{mark_of_one, mark_of_three, mark_of_two, reserved_word};
 use crate::reading::words::{Leaf, Word, WordKind};
 use std::alloc::Global;
 
@@ -113,7 +113,24 @@ fn name_at(text: &[u8], at: usize) -> (WordKind, usize)
     }
 }
 
-// A lifetime or a region variable.
+// The universe of a placeholder whose `!` is at `at`, where its name or its place begins, and where that ends.
+fn universe_at(text: &[u8], at: usize) -> Result<(usize, usize, usize), ReadError>
+    requires { at < length text.now }
+    ensures behind { IfOk result (λ u. at < u.2) }
+    ensures within { IfOk result (λ u. u.2 ≤ length text.now) }
+    ensures wrong { IfErr result (LiesIn (length text.now)) }
+{
+    let (universe, behind) = index_at(text, at + 1)?;
+    let dotted = behind < text.len() && text[behind] == b'.';
+    let tail = if dotted { behind + 1 } else { behind };
+    let end = name_end(text, tail);
+    if end == tail {
+        return Err(ReadError::NoWord { at });
+    }
+    Ok((universe, behind, end))
+}
+
+// A lifetime, or a region that is a variable or a placeholder.
 fn region_at(text: &[u8], at: usize) -> Result<(WordKind, usize), ReadError>
     requires { at < length text.now }
     ensures behind { IfOk result (λ w. at < w.1) }
@@ -124,6 +141,11 @@ fn region_at(text: &[u8], at: usize) -> Result<(WordKind, usize), ReadError>
     if next < text.len() && text[next] == b'?' {
         let (number, end) = index_at(text, next + 1)?;
         return Ok((WordKind::Leaf(Leaf::RegionVar(number)), end));
+    }
+    if next < text.len() && text[next] == b'!' {
+        let (universe, behind, end) = universe_at(text, next)?;
+        let leaf = Leaf::RegionPlaceholder { universe, behind };
+        return Ok((WordKind::Leaf(leaf), end));
     }
     let end = name_end(text, next);
     if end == next {
@@ -139,14 +161,39 @@ fn placeholder_at(text: &[u8], at: usize) -> Result<(WordKind, usize), ReadError
     ensures within { IfOk result (λ w. w.1 ≤ length text.now) }
     ensures wrong { IfErr result (LiesIn (length text.now)) }
 {
-    let (universe, behind) = index_at(text, at + 1)?;
-    let dotted = behind < text.len() && text[behind] == b'.';
-    let tail = if dotted { behind + 1 } else { behind };
-    let end = name_end(text, tail);
-    if end == tail {
-        return Err(ReadError::NoWord { at });
-    }
+    let (universe, behind, end) = universe_at(text, at)?;
     Ok((WordKind::Leaf(Leaf::Placeholder { universe, behind }), end))
+}
+
+// Whether a variable behind whose `?` that stands is of another kind than type and region.
+fn is_variable_letter(byte: u8) -> bool {
+    byte == b'i' || byte == b'f' || byte == b'c'
+}
+
+// The variable of that letter and that number.
+fn lettered_variable(letter: u8, number: usize) -> Leaf {
+    match letter {
+        b'i' => Leaf::IntVar(number),
+        b'f' => Leaf::FloatVar(number),
+        _ => Leaf::ConstVar(number),
+    }
+}
+
+// A variable that is no region.
+fn variable_at(text: &[u8], at: usize) -> Result<(WordKind, usize), ReadError>
+    requires { at < length text.now }
+    ensures behind { IfOk result (λ w. at < w.1) }
+    ensures within { IfOk result (λ w. w.1 ≤ length text.now) }
+    ensures wrong { IfErr result (LiesIn (length text.now)) }
+{
+    let next = at + 1;
+    if next < text.len() && is_variable_letter(text[next]) {
+        let (number, end) = index_at(text, next + 1)?;
+        let leaf = lettered_variable(text[next], number);
+        return Ok((WordKind::Leaf(leaf), end));
+    }
+    let (number, end) = index_at(text, next)?;
+    Ok((WordKind::Leaf(Leaf::TyVar(number)), end))
 }
 
 // A mark.
@@ -156,6 +203,11 @@ fn mark_at(text: &[u8], at: usize) -> Result<(WordKind, usize), ReadError>
     ensures within { IfOk result (λ w. w.1 ≤ length text.now) }
     ensures wrong { IfErr result (LiesIn (length text.now)) }
 {
+    if at + 2 < text.len() {
+        if let Some(sign) = mark_of_three(text[at], text[at + 1], text[at + 2]) {
+            return Ok((WordKind::Sign(sign), at + 3));
+        }
+    }
     if at + 1 < text.len() {
         if let Some(sign) = mark_of_two(text[at], text[at + 1]) {
             return Ok((WordKind::Sign(sign), at + 2));
@@ -187,8 +239,7 @@ fn word_at(text: &[u8], at: usize) -> Result<(WordKind, usize), ReadError>
         return region_at(text, at);
     }
     if byte == b'?' {
-        let (number, end) = index_at(text, at + 1)?;
-        return Ok((WordKind::Leaf(Leaf::TyVar(number)), end));
+        return variable_at(text, at);
     }
     if byte == b'!' && at + 1 < text.len() && text[at + 1].is_ascii_digit() {
         return placeholder_at(text, at);

@@ -3,7 +3,7 @@ ghost use Rattle.std.specs.Prelude.{◌≡◌, ◌≤◌, ◌↔◌, IfOk, IfErr
 ghost use Rattle.relation_text.specs.Errors.{LiesIn};
 ghost use Rattle.relation_text.specs.Trees.{EachBelow};
 ghost use Rattle.relation_text.specs.Words.{StandsAt};
-ghost use Rattle.relation_text.specs.Signs.{pointer_sign, IsMutability, IsReference, Begins};
+ghost use Rattle.relation_text.specs.Signs.{pointer_sign, IsMutability, IsReference, InBraces, Begins};
 ghost use Rattle.relation_text.specs.Reads.{GoesOn, Makes, Collects, CollectsMore};
 
 use crate::reading::error::{Expected, ReadError};
@@ -90,6 +90,21 @@ fn open_expression(reader: &mut Reader, parts: &mut Vec<usize>) -> Result<Rest, 
     Ok(Rest::List(Form::Expr, Sign::RightParen))
 }
 
+// Reads the beginning of a term in braces, behind the first.
+fn open_braces(reader: &mut Reader) -> Result<Rest, ReadError>
+    ensures braces { IfOk result (InBraces reader.old.words.items reader.old.at) }
+    ensures words { reader.new.words ≡ reader.old.words }
+    ensures tree { reader.new.tree ≡ reader.old.tree }
+    ensures later { reader.old.at ≤ reader.new.at }
+    ensures wrong { IfErr result (LiesIn reader.old.tree.text_len) }
+{
+    if reader.accept(Sign::Error) {
+        reader.expect(Sign::RightBrace)?;
+        return Ok(Rest::Nothing(Form::Error));
+    }
+    Ok(Rest::List(Form::Branch, Sign::RightBrace))
+}
+
 // Reads the beginning of a term that begins with a sign, with the parts that stand there.
 fn open(reader: &mut Reader, parts: &mut Vec<usize>) -> Result<Rest, ReadError>
     requires { EachBelow parts.old.items (length reader.old.tree.nodes.items) }
@@ -108,7 +123,7 @@ fn open(reader: &mut Reader, parts: &mut Vec<usize>) -> Result<Rest, ReadError>
         return Ok(Rest::Parens);
     }
     if reader.accept(Sign::LeftBrace) {
-        return Ok(Rest::List(Form::Branch, Sign::RightBrace));
+        return open_braces(reader);
     }
     if reader.accept(Sign::Star) {
         let mutability = read_pointer(reader)?;
@@ -223,9 +238,84 @@ fn read_rest(
     }
 }
 
-// Reads a term, and answers its node.
+// Reads the values from one constant on, up to another.
+#[cycle(terms)]
+fn read_range(reader: &mut Reader, levels: usize) -> Result<usize, ReadError>
+    ensures goes { GoesOn reader.old reader.new }
+    ensures node { IfOk result (Makes reader.old reader.new) }
+    ensures wrong { IfErr result (LiesIn reader.old.tree.text_len) }
+{
+    let start = reader.place();
+    let first = read_plain(reader, levels)?;
+    reader.expect(Sign::UpTo)?;
+    let last = read_plain(reader, levels)?;
+    reader.make(Form::Range, start, &[first, last])
+}
+
+// Reads one alternative of a pattern.
+#[cycle(terms)]
+fn read_alternative(reader: &mut Reader, levels: usize) -> Result<usize, ReadError>
+    ensures goes { GoesOn reader.old reader.new }
+    ensures node { IfOk result (Makes reader.old reader.new) }
+    ensures wrong { IfErr result (LiesIn reader.old.tree.text_len) }
+{
+    let start = reader.place();
+    if levels == 0 {
+        return Err(ReadError::TooDeep { at: start });
+    }
+    if reader.accept(Sign::Bang) {
+        reader.expect(Sign::Null)?;
+        return reader.make(Form::NotNull, start, &[]);
+    }
+    if reader.accept(Sign::LeftParen) {
+        let pattern = read_pattern(reader, levels - 1)?;
+        reader.expect(Sign::RightParen)?;
+        return Ok(pattern);
+    }
+    read_range(reader, levels)
+}
+
+// Reads a pattern: alternatives, or a lone one without a `|` before it.
+#[cycle(terms)]
+fn read_pattern(reader: &mut Reader, levels: usize) -> Result<usize, ReadError>
+    ensures goes { GoesOn reader.old reader.new }
+    ensures node { IfOk result (Makes reader.old reader.new) }
+    ensures wrong { IfErr result (LiesIn reader.old.tree.text_len) }
+{
+    let mut parts = Vec::new(reader.alloc);
+    let start = reader.place();
+    let listed = reader.accept(Sign::Bar);
+    let first = read_alternative(reader, levels)?;
+    parts.push(first)?;
+    'list: while reader.accept(Sign::Bar) {
+        let next = read_alternative(reader, levels)?;
+        parts.push(next)?;
+    }
+    if !listed && parts.len() == 1 {
+        return Ok(parts[0]);
+    }
+    reader.make(Form::Or, start, &parts)
+}
+
+// Reads a term, and answers its node: one without a pattern of its own, or the values of a type that a pattern admits.
 #[cycle(terms)]
 pub(super) fn read_term(reader: &mut Reader, levels: usize) -> Result<usize, ReadError>
+    ensures goes { GoesOn reader.old reader.new }
+    ensures node { IfOk result (Makes reader.old reader.new) }
+    ensures wrong { IfErr result (LiesIn reader.old.tree.text_len) }
+{
+    let start = reader.place();
+    let term = read_plain(reader, levels)?;
+    if !reader.accept(Sign::Is) {
+        return Ok(term);
+    }
+    let pattern = read_pattern(reader, levels)?;
+    reader.make(Form::Pat, start, &[term, pattern])
+}
+
+// Reads a term behind which no pattern is looked for, and answers its node.
+#[cycle(terms)]
+fn read_plain(reader: &mut Reader, levels: usize) -> Result<usize, ReadError>
     ensures goes { GoesOn reader.old reader.new }
     ensures node { IfOk result (Makes reader.old reader.new) }
     ensures wrong { IfErr result (LiesIn reader.old.tree.text_len) }

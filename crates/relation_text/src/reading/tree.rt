@@ -63,6 +63,8 @@ pub enum Form {
     /// A name over arguments: the name, and the arguments.
     Applied,
     Never,
+    /// What could not be told, of which an error was reported.
+    Error,
     Slice,
     /// An array: its element's type and its length.
     Array,
@@ -74,6 +76,14 @@ pub enum Form {
     Branch,
     /// An expression: the number of its operation, and its arguments.
     Expr,
+    /// The values of a type that a pattern admits: the type and the pattern.
+    Pat,
+    /// A pattern: the values between two constants, both included.
+    Range,
+    /// A pattern: what one of the patterns admits that are its parts.
+    Or,
+    /// A pattern: all but null.
+    NotNull,
 }
 
 /// What a node is: a word of the text, or a form over further nodes.

@@ -11,10 +11,16 @@ pub enum Leaf {
     Number { value: u128, behind: usize },
     /// A type variable, by its number.
     TyVar(usize),
+    /// An integer variable, a float variable, a constant variable, by their numbers.
+    IntVar(usize),
+    FloatVar(usize),
+    ConstVar(usize),
     /// A region variable, by its number.
     RegionVar(usize),
     /// A placeholder of a universe. A name, or a `.` and a place in the binder's list, stands behind the number.
     Placeholder { universe: usize, behind: usize },
+    /// The same of a region.
+    RegionPlaceholder { universe: usize, behind: usize },
 }
 
 /// What a word is.

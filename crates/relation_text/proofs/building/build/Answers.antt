@@ -1,49 +1,59 @@
-use Rattle.std.proofs.Common.{◌+◌, ap, sym, subst, map, take, get_or, length, ◌∷◌, [], arith, length-append, ◌∙◌}
+use Rattle.std.proofs.Common.{ap, subst, map, length, ◌∷◌, [], arith, length-append, ◌∙◌}
 use Rattle.std.proofs.lemmas.List.{take_all}
-use Rattle.relation_terms.proofs.Stays.{stays_same, extends_on}
+use Rattle.relation_terms.specs.Meaning.{arg_tree}
+use Rattle.relation_terms.proofs.Stays.{stays_same, stays_arg, extends_on}
 use Rattle.relation_text.specs.declared.naming.program.Term.TheVariants.{Bool}
-use Rattle.relation_text.specs.Terms.{term_tree, trees_of}
-use Rattle.relation_text.specs.Built.{AreKnown, AreBuilt, Makes}
-use Rattle.relation_text.proofs.BuildingLemmas.{none_known, none_built, known_more, known_stays, made_known, built_step}
+use Rattle.relation_text.specs.Terms.{trees_of}
+use Rattle.relation_text.specs.Built.{AreBuilt}
+use Rattle.relation_text.proofs.BuildingLemmas.{none_known, none_built, next_key}
 use Rattle.relation_text.proofs.building.build.Goals as goal
 
 pub loop-term-init : goal.loop-term-init
 loop-term-init g c =
     let m = g.I.Interner.meaning c.args.cx.now in
+    let trees = trees_of (map m.id c.args.ids.now) (map m.name c.args.names.now) c.args.program.now.parts.items [] in
     record {
       grown = stays_same m;
       each = ap length c.in_ok-built.ensures.items;
-      sure = none_known m c.in_ok-built.built.items c.in_ok-built.ensures.items;
-      made = none_built m (trees_of (map m.id c.args.ids.now) (map m.name c.args.names.now) c.args.program.now.parts.items []) c.in_ok-built.built.items c.in_ok-built.ensures.items;
+      each_pat = ap length c.in_ok-pats.ensures.items;
+      sure = none_known (arg_tree m) c.in_ok-built.built.items c.in_ok-built.ensures.items;
+      sure_pats = none_known m.pat c.in_ok-pats.pats.items c.in_ok-pats.ensures.items;
+      made = none_built (arg_tree m) trees c.in_ok-built.built.items c.in_ok-built.ensures.items;
+      made_pats = none_built m.pat trees c.in_ok-pats.pats.items c.in_ok-pats.ensures.items;
     }
 
 pub loop-term-preserved : goal.loop-term-preserved
 loop-term-preserved g c =
-    let m = g.I.Interner.meaning c.args.cx.now in
     let p = g.I.Interner.meaning c.loop-term.cx in
-    let n = g.I.Interner.meaning c.make_term-key.new.cx in
+    let n = g.I.Interner.meaning c.make_either-key.new.cx in
     let keys = c.loop-term.built.items in
-    let o = c.make_term-key.result in
+    let pats = c.loop-term.pats.items in
     let parts = c.args.program.now.parts.items in
-    let x = get_or c.deref-term-items.result.now c.loop-term.term-index Bool in
-    let read : Makes p n c.deref-in-loop-term.result.now (λ ts. term_tree (map p.id c.args.ids.now) (map p.name c.args.names.now) c.deref.result.now ts x) o =
-    c.make_term-key.ensures.made in
-    let here : Makes p n keys (λ ts. term_tree (map p.id c.args.ids.now) (map p.name c.args.names.now) parts ts x) o =
-    subst (λ ks. Makes p n ks (λ ts. term_tree (map p.id c.args.ids.now) (map p.name c.args.names.now) parts ts x) o) c.deref-in-loop-term.ensures.value
-    (subst (λ ps. Makes p n c.deref-in-loop-term.result.now (λ ts. term_tree (map p.id c.args.ids.now) (map p.name c.args.names.now) ps ts x) o) c.deref.ensures.value read) in
+    let grown = c.make_either-key.ensures.grown in
+    let made = c.make_either-key.result in
+    let key = next_key c.loop-term.invariant.grown c.args.ids.now c.args.names.now parts keys pats c.deref-term-items.result.now c.loop-term.term-index Bool
+    c.loop-term-test.true c.loop-term.invariant.made c.loop-term.invariant.made_pats (arg_tree p) (arg_tree n) keys _ made.0 _ _ _
+    c.loop-term.invariant.each (stays_arg grown) c.loop-term.invariant.sure c.loop-term.invariant.made
+    c.deref-in-loop-term.ensures.value c.deref-in-loop-term-2.ensures.value c.deref.ensures.value c.in_ok-push.ensures.items c.make_either-key.ensures.key in
+    let pat = next_key c.loop-term.invariant.grown c.args.ids.now c.args.names.now parts keys pats c.deref-term-items.result.now c.loop-term.term-index Bool
+    c.loop-term-test.true c.loop-term.invariant.made c.loop-term.invariant.made_pats p.pat n.pat pats _ made.1 _ _ _
+    c.loop-term.invariant.each_pat grown.pat c.loop-term.invariant.sure_pats c.loop-term.invariant.made_pats
+    c.deref-in-loop-term.ensures.value c.deref-in-loop-term-2.ensures.value c.deref.ensures.value c.in_ok-push-2.ensures.items c.make_either-key.ensures.pattern in
     record {
-      grown = extends_on c.loop-term.invariant.grown c.make_term-key.ensures.grown;
-      each = omega (arith, ap length c.in_ok-push.ensures.items, length-append keys (o ∷ []), c.loop-term.invariant.each);
-      sure = subst (AreKnown n) (sym c.in_ok-push.ensures.items)
-          (known_more n keys o (known_stays c.make_term-key.ensures.grown keys c.loop-term.invariant.sure) (made_known p n keys (λ ts. term_tree (map p.id c.args.ids.now) (map p.name c.args.names.now) parts ts x) o here));
-      made = subst (AreBuilt n (trees_of (map m.id c.args.ids.now) (map m.name c.args.names.now) parts (take (c.loop-term.term-index + 1) c.deref-term-items.result.now))) (sym c.in_ok-push.ensures.items)
-          (built_step m p n keys o c.args.ids.now c.args.names.now parts c.deref-term-items.result.now c.loop-term.term-index Bool
-          c.loop-term-test.true c.loop-term.invariant.each c.loop-term.invariant.grown c.make_term-key.ensures.grown c.loop-term.invariant.sure c.loop-term.invariant.made
-          here);
+      grown = extends_on c.loop-term.invariant.grown grown;
+      each = omega (arith, ap length c.in_ok-push.ensures.items, length-append keys (made.0 ∷ []), c.loop-term.invariant.each);
+      each_pat = omega (arith, ap length c.in_ok-push-2.ensures.items, length-append pats (made.1 ∷ []), c.loop-term.invariant.each_pat);
+      sure = key.0;
+      sure_pats = pat.0;
+      made = key.1;
+      made_pats = pat.1;
     }
 
 pub returns-in_err-push-clause-grown : goal.returns-in_err-push-clause-grown
-returns-in_err-push-clause-grown g c = extends_on c.loop-term.invariant.grown c.make_term-key.ensures.grown
+returns-in_err-push-clause-grown g c = extends_on c.loop-term.invariant.grown c.make_either-key.ensures.grown
+
+pub returns-in_err-push-2-clause-grown : goal.returns-in_err-push-2-clause-grown
+returns-in_err-push-2-clause-grown g c = extends_on c.loop-term.invariant.grown c.make_either-key.ensures.grown
 
 pub returns : goal.returns
 returns g c =

@@ -1,17 +1,21 @@
 use Rattle.std.proofs.Common.{◌≡◌, length, map, take}
 use Rattle.relation_terms.specs.Meaning.{Extends}
 use Rattle.relation_text.specs.Terms.{trees_of}
-use Rattle.relation_text.specs.Built.{AreKnown, AreBuilt}
+use Rattle.relation_text.specs.Built.{AreKnown, AreBuilt, ArePatsKnown, ArePatsBuilt}
 use Rattle.relation_text.proofs.building.build.Given as goal
 
--- the keys so far mean the trees of the first terms
+-- the keys and the patterns so far mean the trees of the first terms
 abbrev pub invariant-loop-term : goal.invariant-loop-term
 invariant-loop-term g l =
     let m = g.I.Interner.meaning l.fn.cx in
     let n = g.I.Interner.meaning l.cx in
+    let trees = trees_of (map m.id l.ids) (map m.name l.names) l.program.parts.items (take l.term-index l.term-items) in
     record {
       grown : Extends m n;
       each : length l.built.items ≡ l.term-index;
+      each_pat : length l.pats.items ≡ l.term-index;
       sure : AreKnown n l.built.items;
-      made : AreBuilt n (trees_of (map m.id l.ids) (map m.name l.names) l.program.parts.items (take l.term-index l.term-items)) l.built.items;
+      sure_pats : ArePatsKnown n l.pats.items;
+      made : AreBuilt n trees l.built.items;
+      made_pats : ArePatsBuilt n trees l.pats.items;
     }

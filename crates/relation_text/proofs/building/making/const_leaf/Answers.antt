@@ -19,3 +19,15 @@ returns-in_ok-name-in-ConstPlaceholder g c m = (
       leaf_is (λ x. placeholder (bound_kind const_kind x) c.in-ConstPlaceholder.universe c.in-ConstPlaceholder.place) m.name c.args.names.now c.in-ConstPlaceholder.name c.in_ok-name-in-ConstPlaceholder.name c.in_ok-name-in-ConstPlaceholder.ensures
       ∙ sym (ap (term_tree items (map m.name c.args.names.now) parts ts) c.in-ConstPlaceholder.is),
 )
+
+pub returns-in-ConstVar : goal.returns-in-ConstVar
+returns-in-ConstVar g c m = (
+  refl,
+  λ items parts ts. sym (ap (term_tree items (map m.name c.args.names.now) parts ts) c.in-ConstVar.is),
+)
+
+pub returns-in-ConstError : goal.returns-in-ConstError
+returns-in-ConstError g c m = (
+  refl,
+  λ items parts ts. sym (ap (term_tree items (map m.name c.args.names.now) parts ts) c.in-ConstError.is),
+)

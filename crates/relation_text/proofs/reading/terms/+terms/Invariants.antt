@@ -1,22 +1,34 @@
-use Rattle.std.proofs.Common.{◌+◌, ◌-◌, ◌*◌, length}
+use Rattle.std.proofs.Common.{◌+◌, ◌-◌, ◌*◌, ◌<◌, [], length}
 use Rattle.relation_text.specs.Trees.{EachBelow}
 use Rattle.relation_text.specs.Reads.{GoesOn, Gathers}
 use Rattle.relation_text.proofs.reading.terms.+terms.Given as goal
 
+abbrev pub decreases-read_plain : goal.decreases-read_plain
+decreases-read_plain l = 8 * l.levels
+
+abbrev pub decreases-read_range : goal.decreases-read_range
+decreases-read_range l = 8 * l.levels + 1
+
+abbrev pub decreases-read_alternative : goal.decreases-read_alternative
+decreases-read_alternative l = 8 * l.levels + 2
+
+abbrev pub decreases-read_pattern : goal.decreases-read_pattern
+decreases-read_pattern l = 8 * l.levels + 3
+
 abbrev pub decreases-read_term : goal.decreases-read_term
-decreases-read_term l = 4 * l.levels
+decreases-read_term l = 8 * l.levels + 4
 
 abbrev pub decreases-read_list : goal.decreases-read_list
-decreases-read_list l = 4 * l.levels + 1
+decreases-read_list l = 8 * l.levels + 5
 
 abbrev pub decreases-read_brackets : goal.decreases-read_brackets
-decreases-read_brackets l = 4 * l.levels + 1
+decreases-read_brackets l = 8 * l.levels + 5
 
 abbrev pub decreases-read_applied : goal.decreases-read_applied
-decreases-read_applied l = 4 * l.levels + 2
+decreases-read_applied l = 8 * l.levels + 6
 
 abbrev pub decreases-read_rest : goal.decreases-read_rest
-decreases-read_rest l = 4 * l.levels + 2
+decreases-read_rest l = 8 * l.levels + 6
 
 -- what was read so far is in the list
 abbrev pub invariant-read_list-list : goal.invariant-read_list-list
@@ -27,3 +39,14 @@ invariant-read_list-list l =
 -- each turn reads at least one word
 abbrev pub decreases-read_list-list : goal.decreases-read_list-list
 decreases-read_list-list l = length l.reader.words.items - l.reader.at
+
+-- the alternatives so far are in the list
+abbrev pub invariant-read_pattern-list : goal.invariant-read_pattern-list
+invariant-read_pattern-list l =
+    GoesOn l.fn.reader l.reader × (l.fn.reader.at < l.reader.at)
+    × EachBelow l.parts.items (length l.reader.tree.nodes.items)
+    × Gathers 0 l.fn.reader l.reader [] l.parts.items
+
+-- each turn reads at least one word
+abbrev pub decreases-read_pattern-list : goal.decreases-read_pattern-list
+decreases-read_pattern-list l = length l.reader.words.items - l.reader.at
