@@ -53,25 +53,27 @@ module _ {Key : Type 0} (x : InferCtxtInner Key) (a b : Needs) (h : Has x (both_
     universe = (let u = h.universe in omega (arith, u));
   }
 
--- Such a context's terms.
+-- Such a context's terms, of forms that have rules.
 pub ready_in : {Key Id Name : Type 0} (m : Meaning Key Id Name) (x : InferCtxtInner Key) (n : Needs) → Has x n →
-    (t : Tree) → IsReady n t → IsTermIn (store_of m x) t
-ready_in m x n h t r = allowed_in (store_of m x) n
+    (t : Tree) → IsTrue n.has_rules → IsReady n t → IsTermIn (store_of m x) t
+ready_in m x n h t k r = allowed_in (store_of m x) n
     (λ i k. subst (λ l. i < l) (sym (length-map x.types.items _)) (h.types i k))
-    (λ i k. subst (λ l. i < l) (sym (length-map x.regions.items _)) (h.regions i k)) h.universe t r.0 r.1.0
+    (λ i k. subst (λ l. i < l) (sym (length-map x.regions.items _)) (h.regions i k)) h.universe k t r.0 r.1.0
 
 -- What may be asked.
-pub left_taken : (v : Variance) (a b : Needs) (t : Tree) → MayBeAsked v a b → Allows a t × IsCovered t → IsTaken v t
-left_taken Covariant a b t h k = fixed_taken a h.0 Covariant t k.0 k.1
-left_taken Contravariant a b t h k = fixed_taken a h.0 Contravariant t k.0 k.1
-left_taken Invariant a b t h k = all_taken a t k.0 k.1
-left_taken Bivariant a b t h k = absurd h
+pub left_taken : (v : Variance) (a b : Needs) (t : Tree) → MayBeAsked v a b → IsTrue a.has_rules → IsReady a t →
+    IsTaken v t
+left_taken Covariant a b t h r k = fixed_taken a h.0 r Covariant t k.1.0 (k.1.1 r)
+left_taken Contravariant a b t h r k = fixed_taken a h.0 r Contravariant t k.1.0 (k.1.1 r)
+left_taken Invariant a b t h r k = all_taken a t k.1.0 (k.1.1 r)
+left_taken Bivariant a b t h r k = absurd h
 
-pub right_taken : (v : Variance) (a b : Needs) (t : Tree) → MayBeAsked v a b → Allows b t × IsCovered t → IsTaken v t
-right_taken Covariant a b t h k = fixed_taken b h.1 Covariant t k.0 k.1
-right_taken Contravariant a b t h k = fixed_taken b h.1 Contravariant t k.0 k.1
-right_taken Invariant a b t h k = all_taken b t k.0 k.1
-right_taken Bivariant a b t h k = absurd h
+pub right_taken : (v : Variance) (a b : Needs) (t : Tree) → MayBeAsked v a b → IsTrue b.has_rules → IsReady b t →
+    IsTaken v t
+right_taken Covariant a b t h r k = fixed_taken b h.1 r Covariant t k.1.0 (k.1.1 r)
+right_taken Contravariant a b t h r k = fixed_taken b h.1 r Contravariant t k.1.0 (k.1.1 r)
+right_taken Invariant a b t h r k = all_taken b t k.1.0 (k.1.1 r)
+right_taken Bivariant a b t h r k = absurd h
 
 pub asked_decides : (v : Variance) (a b : Needs) → MayBeAsked v a b → v ≢ Bivariant
 asked_decides Covariant a b h = λ e. absurd cc
@@ -89,8 +91,9 @@ all_ready m items names parts xs keys needs sure made same = λ k key there. (
     subst (Allows (need_at needs k)) (sym (made k key there))
         (subst (λ ns. Allows (need_at ns k) (at (trees_of items names parts xs) k)) (sym same)
         (all_enough items names parts xs k)),
-    subst IsCovered (sym (made k key there)) (all_covered items names parts xs k
-        (subst (λ t. IsTrue (known t)) (made k key there) (sure k key there))),
+    λ rules. subst IsCovered (sym (made k key there)) (all_covered items names parts xs k
+        (subst (λ t. IsTrue (known t)) (made k key there) (sure k key there))
+        (subst (λ ns. IsTrue (need_at ns k).has_rules) same rules)),
   ),
 )
 

@@ -1,6 +1,7 @@
 -- What terms need, and contexts that have it.
 use Rattle.std.proofs.Common.{◌≡◌, ℕ, zero, suc, ◌<◌, ◌≤◌, max, IsTrue, refl, sym, ap, ◌∙◌, subst, arith, List, [], ◌∷◌, ◌++◌}
-use Rattle.std.proofs.Common.{Option, Some, None, length, get_or, slice_get, slice_range, take, drop, ◌+◌, ◌-◌, ◌⊎◌, inl, inr}
+use Rattle.std.proofs.Common.{Bool, true, false, ◌&&◌, Option, Some, None, length, get_or, slice_get, slice_range}
+use Rattle.std.proofs.Common.{take, drop, ◌+◌, ◌-◌, ◌⊎◌, inl, inr}
 use native.Mathlib.Decide.{dec_lt}
 use Rattle.std.proofs.lemmas.List.{take_more, length-drop, get_or-drop, take_all}
 use Rattle.std.proofs.lemmas.Option.{slice_get_within, get_or_from_slice_get, slice_get_cases}
@@ -20,8 +21,8 @@ use Rattle.relation_text.specs.declared.reading.tree.ItemSort.TheVariants as sor
 use Rattle.relation_text.specs.declared.naming.program.Term.{Term}
 use Rattle.relation_text.specs.declared.naming.program.Term.TheVariants as term
 use Rattle.relation_text.specs.Terms.{at, parts_tree, leaf_of, item_tree, term_tree, trees_from, trees_of}
-use Rattle.relation_asking.specs.Needs.{larger, both_needs, no_needs, need_at, needs_with, parts_need, term_need, needs_from}
-use Rattle.relation_asking.specs.Needs.{needs_of, Reaches, IsEnough, Allows, AreEnough}
+use Rattle.relation_asking.specs.Needs.{larger, both_needs, no_needs, universe_need, without_rules, need_at, needs_with}
+use Rattle.relation_asking.specs.Needs.{parts_need, term_need, needs_from, needs_of, Reaches, IsEnough, Allows, AreEnough}
 
 some_is_there : {x : ℕ} → Some x ≡ None → ⊥
 some_is_there e = cc
@@ -31,6 +32,14 @@ max_left a b i h = omega (arith, h)
 
 max_right : (a b i : ℕ) → i ≤ b → i ≤ max a b
 max_right a b i h = omega (arith, h)
+
+false_left : (x y : Bool) → x ≡ false → (x && y) ≡ false
+false_left false y e = refl
+false_left true y e = absurd (false≢true (sym e))
+
+false_right : (x y : Bool) → y ≡ false → (x && y) ≡ false
+false_right false y e = refl
+false_right true y e = e
 
 pub reaches_left : (a b : Option ℕ) (i : ℕ) → Reaches a i → Reaches (larger a b) i
 reaches_left None b i h = absurd h
@@ -46,9 +55,9 @@ reaches_right (Some a) (Some b) i h = max_right a b i h
 enough_left : (a b : Needs) (l : Leaf) → IsEnough a l → IsEnough (both_needs a b) l
 enough_left a b (variable type_var i) h = reaches_left a.types b.types i h
 enough_left a b (variable region_var i) h = reaches_left a.regions b.regions i h
-enough_left a b (variable int_var i) h = h
-enough_left a b (variable float_var i) h = h
-enough_left a b (variable const_var i) h = h
+enough_left a b (variable int_var i) h = false_left a.has_rules b.has_rules h
+enough_left a b (variable float_var i) h = false_left a.has_rules b.has_rules h
+enough_left a b (variable const_var i) h = false_left a.has_rules b.has_rules h
 enough_left a b (bound k d i) h = h
 enough_left a b (placeholder k u i) h = max_left a.universe b.universe u h
 enough_left a b (atom x) h = h
@@ -57,13 +66,24 @@ enough_left a b unknown h = tt
 enough_right : (a b : Needs) (l : Leaf) → IsEnough b l → IsEnough (both_needs a b) l
 enough_right a b (variable type_var i) h = reaches_right a.types b.types i h
 enough_right a b (variable region_var i) h = reaches_right a.regions b.regions i h
-enough_right a b (variable int_var i) h = h
-enough_right a b (variable float_var i) h = h
-enough_right a b (variable const_var i) h = h
+enough_right a b (variable int_var i) h = false_right a.has_rules b.has_rules h
+enough_right a b (variable float_var i) h = false_right a.has_rules b.has_rules h
+enough_right a b (variable const_var i) h = false_right a.has_rules b.has_rules h
 enough_right a b (bound k d i) h = h
 enough_right a b (placeholder k u i) h = max_right a.universe b.universe u h
 enough_right a b (atom x) h = h
 enough_right a b unknown h = tt
+
+enough_without : (n : Needs) (l : Leaf) → IsEnough n l → IsEnough (without_rules n) l
+enough_without n (variable type_var i) h = h
+enough_without n (variable region_var i) h = h
+enough_without n (variable int_var i) h = refl
+enough_without n (variable float_var i) h = refl
+enough_without n (variable const_var i) h = refl
+enough_without n (bound k d i) h = h
+enough_without n (placeholder k u i) h = h
+enough_without n (atom x) h = h
+enough_without n unknown h = tt
 
 each_leaf : (P Q : Leaf → Type 0) → ((l : Leaf) → P l → Q l) → (t : Tree) → Leaves P t → Leaves Q t
 each_leaf P Q f (leaf l) h = f l h
@@ -77,6 +97,9 @@ allows_left a b t h = each_leaf (IsEnough a) (IsEnough (both_needs a b)) (enough
 
 allows_right : (a b : Needs) (t : Tree) → Allows b t → Allows (both_needs a b) t
 allows_right a b t h = each_leaf (IsEnough b) (IsEnough (both_needs a b)) (enough_right a b) t h
+
+allows_without : (n : Needs) (t : Tree) → Allows n t → Allows (without_rules n) t
+allows_without n t h = each_leaf (IsEnough n) (IsEnough (without_rules n)) (enough_without n) t h
 
 -- Of lists.
 allows_still : (ns : List Needs) (n : Needs) (ks : List ℕ) (t : Tree) → Allows n t → Allows (needs_with ns n ks) t
@@ -105,8 +128,57 @@ item_enough n sort.Coroutine (Some d) ts h = h
 item_enough n sort.CoroutineClosure (Some d) ts h = h
 item_enough n sort.Foreign (Some d) ts h = tt
 
+-- Of two parts of a form without rules.
+two_without : (a b : Needs) (t u : Tree) → Allows a t → Allows b u →
+    Allows (without_rules (both_needs a b)) (cons t (cons u nil))
+two_without a b t u h k = (
+  allows_without (both_needs a b) t (allows_left a b t h),
+  (allows_without (both_needs a b) u (allows_right a b u k), tt),
+)
+
 same_number : (n : ℕ) → n ≤ n
 same_number n = omega arith
+
+-- One more term, and what it needs.
+one_longer : (ts : List Tree) (ns : List Needs) (t : Tree) (n : Needs) → length ts ≡ length ns →
+    length (ts ++ t ∷ []) ≡ length (ns ++ n ∷ [])
+one_longer [] [] t n l = refl
+one_longer (x ∷ ts) (y ∷ ns) t n l = ap suc (one_longer ts ns t n (omega (arith, l)))
+one_longer [] (y ∷ ns) t n l = absurd (omega (arith, l))
+one_longer (x ∷ ts) [] t n l = absurd (omega (arith, l))
+
+-- What holds of each term, by what it needs.
+abbrev pub HoldsOfEach : (Needs → Tree → Type 0) → List Tree → List Needs → Type 0
+HoldsOfEach P ts ns = (k : ℕ) → P (need_at ns k) (at ts k)
+
+module _ (items names parts : List ℕ) (P : Needs → Tree → Type 0) (missing : P no_needs (leaf unknown)) where
+  holds_more : (ts : List Tree) (ns : List Needs) → length ts ≡ length ns → HoldsOfEach P ts ns → (t : Tree) (n : Needs) →
+      P n t → HoldsOfEach P (ts ++ t ∷ []) (ns ++ n ∷ [])
+  holds_more [] [] l e t n h zero = h
+  holds_more [] [] l e t n h (suc k) = missing
+  holds_more (x ∷ ts) (y ∷ ns) l e t n h zero = e zero
+  holds_more (x ∷ ts) (y ∷ ns) l e t n h (suc k) =
+      holds_more ts ns (omega (arith, l)) (λ j. e (suc j)) t n h k
+  holds_more [] (y ∷ ns) l e t n h k = absurd (omega (arith, l))
+  holds_more (x ∷ ts) [] l e t n h k = absurd (omega (arith, l))
+
+  none_hold : HoldsOfEach P [] []
+  none_hold zero = missing
+  none_hold (suc k) = missing
+
+  module _ (each : (ts : List Tree) (ns : List Needs) → HoldsOfEach P ts ns → (x : Term) →
+      P (term_need parts ns x) (term_tree items names parts ts x)) where
+    holds_from : (ts : List Tree) (ns : List Needs) → length ts ≡ length ns → HoldsOfEach P ts ns → (xs : List Term) →
+        HoldsOfEach P (trees_from items names parts ts xs) (needs_from parts ns xs)
+    holds_from ts ns l e [] = e
+    holds_from ts ns l e (x ∷ xs) =
+        holds_from (ts ++ term_tree items names parts ts x ∷ []) (ns ++ term_need parts ns x ∷ [])
+        (one_longer ts ns (term_tree items names parts ts x) (term_need parts ns x) l)
+        (holds_more ts ns l e (term_tree items names parts ts x) (term_need parts ns x) (each ts ns e x)) xs
+
+    -- What holds of each term that is over such terms holds of all terms of a program.
+    pub all_hold : (xs : List Term) → HoldsOfEach P (trees_of items names parts xs) (needs_of parts xs)
+    all_hold xs = holds_from [] [] refl none_hold xs
 
 module _ (items names parts : List ℕ) where
   -- What a term needs is enough for it.
@@ -133,14 +205,16 @@ module _ (items names parts : List ℕ) where
   )
   term_enough ts ns e (term.TyParam i n) = leaf_enough no_needs _ (λ x. tt) (slice_get names n)
   term_enough ts ns e (term.TyPlaceholder u v n) =
-      leaf_enough (record { types = None; regions = None; universe = u }) _ (λ x. same_number u) (slice_get names n)
+      leaf_enough (universe_need u) _ (λ x. same_number u) (slice_get names n)
   term_enough ts ns e (term.TyVar n) = same_number n
   term_enough ts ns e term.Static = tt
   term_enough ts ns e (term.RegionParam i n) = leaf_enough no_needs _ (λ x. tt) (slice_get names n)
   term_enough ts ns e (term.RegionVar n) = same_number n
   term_enough ts ns e (term.ConstParam i n) = leaf_enough no_needs _ (λ x. tt) (slice_get names n)
+  term_enough ts ns e (term.RegionPlaceholder u v n) =
+      leaf_enough (universe_need u) _ (λ x. same_number u) (slice_get names n)
   term_enough ts ns e (term.ConstPlaceholder u v n) =
-      leaf_enough (record { types = None; regions = None; universe = u }) _ (λ x. same_number u) (slice_get names n)
+      leaf_enough (universe_need u) _ (λ x. same_number u) (slice_get names n)
   term_enough ts ns e (term.Number t b n) = ((e t, tt), (tt, tt))
   term_enough ts ns e (term.Branch t p) = (
     (allows_left (need_at ns t) (parts_need parts ns p) (at ts t) (e t), tt),
@@ -151,40 +225,20 @@ module _ (items names parts : List ℕ) where
     ),
   )
   term_enough ts ns e (term.Expr k p) = list_enough ts ns e no_needs _
-
-  -- One more term, and what it needs.
-  enough_more : (ts : List Tree) (ns : List Needs) → length ts ≡ length ns → AreEnough ts ns → (t : Tree) (n : Needs) →
-      Allows n t → AreEnough (ts ++ t ∷ []) (ns ++ n ∷ [])
-  enough_more [] [] l e t n h zero = h
-  enough_more [] [] l e t n h (suc k) = tt
-  enough_more (x ∷ ts) (y ∷ ns) l e t n h zero = e zero
-  enough_more (x ∷ ts) (y ∷ ns) l e t n h (suc k) =
-      enough_more ts ns (omega (arith, l)) (λ j. e (suc j)) t n h k
-  enough_more [] (y ∷ ns) l e t n h k = absurd (omega (arith, l))
-  enough_more (x ∷ ts) [] l e t n h k = absurd (omega (arith, l))
-
-  one_longer : (ts : List Tree) (ns : List Needs) (t : Tree) (n : Needs) → length ts ≡ length ns →
-      length (ts ++ t ∷ []) ≡ length (ns ++ n ∷ [])
-  one_longer [] [] t n l = refl
-  one_longer (x ∷ ts) (y ∷ ns) t n l = ap suc (one_longer ts ns t n (omega (arith, l)))
-  one_longer [] (y ∷ ns) t n l = absurd (omega (arith, l))
-  one_longer (x ∷ ts) [] t n l = absurd (omega (arith, l))
-
-  enough_from : (ts : List Tree) (ns : List Needs) → length ts ≡ length ns → AreEnough ts ns → (xs : List Term) →
-      AreEnough (trees_from items names parts ts xs) (needs_from parts ns xs)
-  enough_from ts ns l e [] = e
-  enough_from ts ns l e (x ∷ xs) =
-      enough_from (ts ++ term_tree items names parts ts x ∷ []) (ns ++ term_need parts ns x ∷ [])
-      (one_longer ts ns (term_tree items names parts ts x) (term_need parts ns x) l)
-      (enough_more ts ns l e (term_tree items names parts ts x) (term_need parts ns x) (term_enough ts ns e x)) xs
-
-  none_enough : AreEnough [] []
-  none_enough zero = tt
-  none_enough (suc k) = tt
+  term_enough ts ns e (term.IntVar n) = refl
+  term_enough ts ns e (term.FloatVar n) = refl
+  term_enough ts ns e (term.ConstVar n) = refl
+  term_enough ts ns e term.TyError = tt
+  term_enough ts ns e term.ConstError = tt
+  term_enough ts ns e term.NotNull = tt
+  term_enough ts ns e (term.Pat t p) = two_without (need_at ns t) (need_at ns p) (at ts t) (at ts p) (e t) (e p)
+  term_enough ts ns e (term.Range a b) = two_without (need_at ns a) (need_at ns b) (at ts a) (at ts b) (e a) (e b)
+  term_enough ts ns e (term.Or p) =
+      allows_without (parts_need parts ns p) (parts_tree parts ts p) (list_enough ts ns e no_needs _)
 
   -- What all terms of a program need is enough for them.
   pub all_enough : (xs : List Term) → AreEnough (trees_of items names parts xs) (needs_of parts xs)
-  all_enough xs = enough_from [] [] refl none_enough xs
+  all_enough xs = all_hold items names parts Allows tt term_enough xs
 
 -- One more term behind others.
 pub needs_more : (parts : List ℕ) (ns : List Needs) (xs : List Term) (x : Term) →
@@ -198,15 +252,16 @@ pub needs_with_more : (ns : List Needs) (n : Needs) (ks : List ℕ) (k : ℕ) �
 needs_with_more ns n [] k = refl
 needs_with_more ns n (j ∷ ks) k = needs_with_more ns (both_needs n (need_at ns j)) ks k
 
--- A context that has what a known term needs.
+-- A context that has what a known term needs, of forms that have rules.
 module _ (st : Store) (n : Needs) (types : (i : ℕ) → Reaches n.types i → IsMade st type_var i)
-    (regions : (i : ℕ) → Reaches n.regions i → IsMade st region_var i) (universe : n.universe ≤ st.universe) where
+    (regions : (i : ℕ) → Reaches n.regions i → IsMade st region_var i) (universe : n.universe ≤ st.universe)
+    (rules : IsTrue n.has_rules) where
   is_made : (l : Leaf) → IsTrue (known (leaf l)) → IsEnough n l → IsMadeLeaf st l
   is_made (variable type_var i) k h = types i h
   is_made (variable region_var i) k h = regions i h
-  is_made (variable int_var i) k h = absurd h
-  is_made (variable float_var i) k h = absurd h
-  is_made (variable const_var i) k h = absurd h
+  is_made (variable int_var i) k h = absurd (false≢true (sym h ∙ rules))
+  is_made (variable float_var i) k h = absurd (false≢true (sym h ∙ rules))
+  is_made (variable const_var i) k h = absurd (false≢true (sym h ∙ rules))
   is_made (bound c d i) k h = tt
   is_made (placeholder c u i) k h = tt
   is_made (atom x) k h = h
@@ -248,22 +303,23 @@ module _ (st : Store) (n : Needs) (types : (i : ℕ) → Reaches n.types i → I
       (known_leaves (IsMadeLeaf st) is_made t k h, stays 0 t h, known_leaves (IsNamable st.universe) is_namable t k h)
 
 -- A term that needs no type variable is taken at each variance.
-fixed : (n : Needs) → n.types ≡ None → (l : Leaf) → IsEnough n l → IsFixedLeaf l
-fixed n e (variable region_var i) h = tt
-fixed n e (variable type_var i) h = absurd (subst (λ o. Reaches o i) e h)
-fixed n e (variable int_var i) h = absurd h
-fixed n e (variable float_var i) h = absurd h
-fixed n e (variable const_var i) h = absurd h
-fixed n e (bound k d i) h = tt
-fixed n e (placeholder k u i) h = tt
-fixed n e (atom x) h = tt
-fixed n e unknown h = tt
+fixed : (n : Needs) → n.types ≡ None → IsTrue n.has_rules → (l : Leaf) → IsEnough n l → IsFixedLeaf l
+fixed n e r (variable region_var i) h = tt
+fixed n e r (variable type_var i) h = absurd (subst (λ o. Reaches o i) e h)
+fixed n e r (variable int_var i) h = absurd (false≢true (sym h ∙ r))
+fixed n e r (variable float_var i) h = absurd (false≢true (sym h ∙ r))
+fixed n e r (variable const_var i) h = absurd (false≢true (sym h ∙ r))
+fixed n e r (bound k d i) h = tt
+fixed n e r (placeholder k u i) h = tt
+fixed n e r (atom x) h = tt
+fixed n e r unknown h = tt
 
-pub fixed_taken : (n : Needs) → n.types ≡ None → (v : Variance) (t : Tree) → Allows n t → IsCovered t → IsTaken v t
-fixed_taken n e Covariant t h k = (each_leaf (IsEnough n) (IsTakenLeaf Covariant) (fixed n e) t h, k)
-fixed_taken n e Contravariant t h k = (each_leaf (IsEnough n) (IsTakenLeaf Contravariant) (fixed n e) t h, k)
-fixed_taken n e Invariant t h k = (each_leaf (IsEnough n) (IsTakenLeaf Invariant) (λ l o. tt) t h, k)
-fixed_taken n e Bivariant t h k = (each_leaf (IsEnough n) (IsTakenLeaf Bivariant) (λ l o. tt) t h, k)
+pub fixed_taken : (n : Needs) → n.types ≡ None → IsTrue n.has_rules → (v : Variance) (t : Tree) → Allows n t →
+    IsCovered t → IsTaken v t
+fixed_taken n e r Covariant t h k = (each_leaf (IsEnough n) (IsTakenLeaf Covariant) (fixed n e r) t h, k)
+fixed_taken n e r Contravariant t h k = (each_leaf (IsEnough n) (IsTakenLeaf Contravariant) (fixed n e r) t h, k)
+fixed_taken n e r Invariant t h k = (each_leaf (IsEnough n) (IsTakenLeaf Invariant) (λ l o. tt) t h, k)
+fixed_taken n e r Bivariant t h k = (each_leaf (IsEnough n) (IsTakenLeaf Bivariant) (λ l o. tt) t h, k)
 
 pub all_taken : (n : Needs) (t : Tree) → Allows n t → IsCovered t → IsTaken Invariant t
 all_taken n t h k = (each_leaf (IsEnough n) (IsTakenLeaf Invariant) (λ l o. tt) t h, k)

@@ -13,9 +13,9 @@ use Rattle.relation_asking.specs.declared.question.Answer.TheVariants.{Related, 
 use Rattle.relation_asking.specs.Meets.{AllKnown}
 use Rattle.relation_asking.specs.Needs.{Allows, Reaches, need_at}
 
--- A known term, for which what is needed is enough, of forms that have rules.
+-- A known term, for which what is needed is enough; of forms that have rules where that is said of it.
 abbrev pub IsReady : Needs → Tree → Type 0
-IsReady n t = IsTrue (known t) × (Allows n t × IsCovered t)
+IsReady n t = IsTrue (known t) × (Allows n t × (IsTrue n.has_rules → IsCovered t))
 
 -- Each key that is there means such a term.
 abbrev pub AreReady : {Key Id Name : Type 0} → Meaning Key Id Name → List (Option (GenericArgKind Key)) → List Needs →
@@ -38,6 +38,8 @@ MayBeAsked Bivariant a b = ⊥
 
 -- Two types may be asked about in a context of that universe.
 pub record IsAskable (u : ℕ) (v : Variance) (a b : Needs) : Type 0 where
+  pub left_rules : IsTrue a.has_rules
+  pub right_rules : IsTrue b.has_rules
   pub left : a.universe ≤ u
   pub right : b.universe ≤ u
   pub at : MayBeAsked v a b

@@ -1,5 +1,6 @@
 -- What a context has to have for a term to be its own.
-use Rattle.std.specs.Prelude.{ℕ, ◌≤◌, max, List, [], ◌∷◌, ◌++◌, Option, Some, None, slice_get, slice_range}
+use Rattle.std.specs.Prelude.{◌≡◌, ℕ, ◌≤◌, max, true, false, ◌&&◌, List, [], ◌∷◌, ◌++◌, Option, Some, None}
+use Rattle.std.specs.Prelude.{slice_get, slice_range}
 use Rattle.relation_terms.specs.Heads.{Leaf, variable, bound, placeholder, atom, unknown, type_var, region_var}
 use Rattle.relation_terms.specs.Trees.{Tree, Leaves}
 use Rattle.type_relations.specs.Relation.{IsValueAtom}
@@ -17,7 +18,11 @@ larger (Some a) (Some b) = Some (max a b)
 
 -- Nothing is needed.
 abbrev pub no_needs : Needs
-no_needs = record { types = None; regions = None; universe = 0 }
+no_needs = record { types = None; regions = None; universe = 0; has_rules = true }
+
+-- What a placeholder of a universe needs.
+abbrev pub universe_need : ℕ → Needs
+universe_need u = record { types = None; regions = None; universe = u; has_rules = true }
 
 -- What is needed for both.
 abbrev pub both_needs : Needs → Needs → Needs
@@ -25,7 +30,12 @@ both_needs a b = record {
   types = larger a.types b.types;
   regions = larger a.regions b.regions;
   universe = max a.universe b.universe;
+  has_rules = a.has_rules && b.has_rules;
 }
+
+-- The same is needed, and a form has no rules.
+abbrev pub without_rules : Needs → Needs
+without_rules n = record { types = n.types; regions = n.regions; universe = n.universe; has_rules = false }
 
 -- What a term of that number needs.
 abbrev pub need_in : Option Needs → Needs
@@ -47,10 +57,11 @@ parts_need ps ns p = needs_with ns no_needs (slice_range ps p.first p.behind)
 module _ (parts : List ℕ) where
   -- What a term needs, by what the terms before it need.
   abbrev pub term_need : List Needs → Term → Needs
-  term_need ns (term.TyVar n) = record { types = Some n; regions = None; universe = 0 }
-  term_need ns (term.RegionVar n) = record { types = None; regions = Some n; universe = 0 }
-  term_need ns (term.TyPlaceholder u v n) = record { types = None; regions = None; universe = u }
-  term_need ns (term.ConstPlaceholder u v n) = record { types = None; regions = None; universe = u }
+  term_need ns (term.TyVar n) = record { types = Some n; regions = None; universe = 0; has_rules = true }
+  term_need ns (term.RegionVar n) = record { types = None; regions = Some n; universe = 0; has_rules = true }
+  term_need ns (term.TyPlaceholder u v n) = universe_need u
+  term_need ns (term.RegionPlaceholder u v n) = universe_need u
+  term_need ns (term.ConstPlaceholder u v n) = universe_need u
   term_need ns (term.Slice t) = need_at ns t
   term_need ns (term.RawPtr t m) = need_at ns t
   term_need ns (term.Number t b n) = need_at ns t
@@ -60,6 +71,15 @@ module _ (parts : List ℕ) where
   term_need ns (term.Item s d p) = parts_need parts ns p
   term_need ns (term.Tuple p) = parts_need parts ns p
   term_need ns (term.Expr k p) = parts_need parts ns p
+  term_need ns (term.IntVar n) = without_rules no_needs
+  term_need ns (term.FloatVar n) = without_rules no_needs
+  term_need ns (term.ConstVar n) = without_rules no_needs
+  term_need ns term.TyError = without_rules no_needs
+  term_need ns term.ConstError = without_rules no_needs
+  term_need ns term.NotNull = without_rules no_needs
+  term_need ns (term.Pat t p) = without_rules (both_needs (need_at ns t) (need_at ns p))
+  term_need ns (term.Range s e) = without_rules (both_needs (need_at ns s) (need_at ns e))
+  term_need ns (term.Or p) = without_rules (parts_need parts ns p)
   term_need ns t = no_needs
 
   -- What terms need that stand behind those of these needs; what all need.
@@ -76,11 +96,12 @@ Reaches None i = ⊥
 Reaches (Some n) i = i ≤ n
 
 -- What is needed is enough for a leaf: a type or a region variable up to the largest, a placeholder that the universe
--- names. No other variable stands in a term, and nothing that a binder binds.
+-- names. Another variable stands only in a term with a form that has no rules, and nothing that a binder binds stands in
+-- any.
 abbrev pub IsEnough : Needs → Leaf → Type 0
 IsEnough n (variable type_var i) = Reaches n.types i
 IsEnough n (variable region_var i) = Reaches n.regions i
-IsEnough n (variable k i) = ⊥
+IsEnough n (variable k i) = n.has_rules ≡ false
 IsEnough n (bound k d i) = ⊥
 IsEnough n (placeholder k u i) = u ≤ n.universe
 IsEnough n (atom x) = IsValueAtom x

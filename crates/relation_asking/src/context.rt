@@ -18,6 +18,8 @@ use type_relations::relate::solver_relating::{RelateExt, RelateGoals};
 /// Why a question is not asked.
 #[derive(Clone, Copy, PartialEq, Eq, Debug)]
 pub enum NotAsked {
+    /// No rules relate terms of one of the forms.
+    Rules,
     /// Types with type variables are related at `==` alone.
     Variables,
     /// The context's universe does not name a placeholder.
@@ -93,6 +95,9 @@ pub(super) fn refusal<I: Interner>(
 ) -> Option<NotAsked>
     ensures { IfNone result (IsAskable ctx.now.inner.universe.0 variance lhs rhs) }
 {
+    if !lhs.has_rules || !rhs.has_rules {
+        return Some(NotAsked::Rules);
+    }
     let universe = ctx.inner.universe.0;
     if universe < lhs.universe || universe < rhs.universe {
         return Some(NotAsked::Universe);
@@ -142,6 +147,7 @@ pub(super) fn relate<C: RelateExt>(
 pub(super) fn write_not_asked<W: Write>(why: NotAsked, out: &mut W) -> fmt::Result {
     out.write_str("not asked: ")?;
     match why {
+        NotAsked::Rules => out.write_str("a form in these types has no rules yet"),
         NotAsked::Variables => out.write_str("types with type variables are related by `==` alone"),
         NotAsked::Universe => {
             out.write_str("the context's universe, 0, does not name the placeholder")

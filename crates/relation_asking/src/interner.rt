@@ -4,7 +4,7 @@ use reference_interner::{
     DefKind, GenericParam, GenericParamKind, ItemId, ItemKind, RefInterner, SymbolId,
 };
 use relation_terms::terms::OutOfMemory;
-use relation_text::naming::{Declared, Item, Program, Sort};
+use relation_text::naming::{Declared, Item, ParamSort, Program};
 use relation_text::printing::{ItemText, Parameter};
 use relation_text::reading::ItemSort;
 use std::alloc::{AllocError, Global};
@@ -32,9 +32,9 @@ fn def_kind(sort: ItemSort) -> DefKind {
 // What a parameter stands for.
 fn param_kind(declared: &Declared) -> GenericParamKind {
     match declared.sort {
-        Sort::Region => GenericParamKind::Lifetime,
-        Sort::Type => GenericParamKind::Type,
-        Sort::Const => GenericParamKind::Const,
+        ParamSort::Region => GenericParamKind::Lifetime,
+        ParamSort::Type => GenericParamKind::Type,
+        ParamSort::Const => GenericParamKind::Const,
     }
 }
 

@@ -1,17 +1,19 @@
 //! What a context has to have for a term to be asked about in it.
-ghost use Rattle.std.specs.Prelude.{◌≡◌, None, IfOk, max, slice_get};
-ghost use Rattle.relation_asking.specs.Needs.{larger, both_needs, need_at, parts_need, term_need, needs_of};
+ghost use Rattle.std.specs.Prelude.{◌≡◌, IfOk, max, slice_get};
+ghost use Rattle.relation_asking.specs.Needs.{larger, both_needs, universe_need, without_rules};
+ghost use Rattle.relation_asking.specs.Needs.{need_at, parts_need, term_need, needs_of};
 
 use relation_text::naming::{Parts, Program, Term};
 use std::alloc::{AllocError, Global};
 
 /// What a term needs of a context: variables up to these numbers, the largest that it names, if it names any; and a
-/// universe that names its placeholders.
+/// universe that names its placeholders. To be related, it needs to be of forms that have rules.
 #[derive(Clone, Copy, PartialEq, Eq, Debug)]
 pub struct Needs {
     pub types: Option<usize>,
     pub regions: Option<usize>,
     pub universe: usize,
+    pub has_rules: bool,
 }
 
 // Nothing is needed.
@@ -19,6 +21,7 @@ const NONE: Needs = Needs {
     types: None,
     regions: None,
     universe: 0,
+    has_rules: true,
 };
 
 // The larger of two numbers.
@@ -49,6 +52,7 @@ pub(crate) fn both(a: Needs, b: Needs) -> Needs
         types: larger(a.types, b.types),
         regions: larger(a.regions, b.regions),
         universe: greater(a.universe, b.universe),
+        has_rules: a.has_rules && b.has_rules,
     }
 }
 
@@ -85,12 +89,18 @@ fn parts_need(numbers: &[usize], before: &[Needs], parts: Parts) -> Needs
 
 // What a placeholder of a universe needs.
 fn universe_need(universe: usize) -> Needs
-    ensures { result ≡ record { types = None; regions = None; universe = universe } }
+    ensures { result ≡ universe_need universe }
+{
+    Needs { universe, ..NONE }
+}
+
+// What a term of a form without rules needs, over parts that need so much.
+fn without_rules(parts: Needs) -> Needs
+    ensures { result ≡ without_rules parts }
 {
     Needs {
-        types: None,
-        regions: None,
-        universe,
+        has_rules: false,
+        ..parts
     }
 }
 
@@ -101,15 +111,14 @@ fn term_need(numbers: &[usize], before: &[Needs], term: Term) -> Needs
     match term {
         Term::TyVar(number) => Needs {
             types: Some(number),
-            regions: None,
-            universe: 0,
+            ..NONE
         },
         Term::RegionVar(number) => Needs {
-            types: None,
             regions: Some(number),
-            universe: 0,
+            ..NONE
         },
         Term::TyPlaceholder(universe, ..) => universe_need(universe),
+        Term::RegionPlaceholder(universe, ..) => universe_need(universe),
         Term::ConstPlaceholder(universe, ..) => universe_need(universe),
         Term::Slice(element) => need_at(before, element),
         Term::RawPtr(pointee, _) => need_at(before, pointee),
@@ -120,6 +129,13 @@ fn term_need(numbers: &[usize], before: &[Needs], term: Term) -> Needs
         Term::Item(_, _, parts) => parts_need(numbers, before, parts),
         Term::Tuple(parts) => parts_need(numbers, before, parts),
         Term::Expr(_, parts) => parts_need(numbers, before, parts),
+        Term::IntVar(_) | Term::FloatVar(_) | Term::ConstVar(_) => without_rules(NONE),
+        Term::TyError | Term::ConstError | Term::NotNull => without_rules(NONE),
+        Term::Pat(base, pat) => without_rules(both(need_at(before, base), need_at(before, pat))),
+        Term::Range(start, end) => {
+            without_rules(both(need_at(before, start), need_at(before, end)))
+        }
+        Term::Or(parts) => without_rules(parts_need(numbers, before, parts)),
         _ => NONE,
     }
 }

@@ -122,6 +122,30 @@ fn wrong_names_are_told(rt: HostRuntime) -> Result<(), Fail> {
             "1:17: expected a type, found a region",
         ),
         (
+            "visit ?0 is 1..=u8;",
+            "1:17: expected a constant, found a type",
+        ),
+        (
+            "visit 2 is 1..=2;",
+            "1:7: expected a type, found a constant",
+        ),
+        (
+            "struct K<T>; visit K<?c0>;",
+            "1:22: expected a type, found a constant",
+        ),
+        (
+            "visit [u8; ?i0];",
+            "1:12: expected a constant, found a type",
+        ),
+        (
+            "visit ?f10000;",
+            "1:7: expected a variable below 10000, found `?f10000`",
+        ),
+        (
+            "visit '!1.x;",
+            "1:7: expected a place by its number, found `'!1.x`",
+        ),
+        (
             "then visit u8;",
             "1:1: expected a question before this, found none",
         ),

@@ -69,6 +69,11 @@ fn form_name(form: Form) -> &'static str {
         Form::Ref(_) => "ref",
         Form::Branch => "branch",
         Form::Expr => "expr",
+        Form::Error => "error",
+        Form::Pat => "pat",
+        Form::Range => "range",
+        Form::Or => "or",
+        Form::NotNull => "not-null",
     }
 }
 
@@ -133,6 +138,23 @@ fn questions_are_read(rt: HostRuntime) -> Result<(), Fail> {
 }
 
 #[test]
+fn patterns_are_read(rt: HostRuntime) -> Result<(), Fail> {
+    let text = "visit (T is 1..=?c2 | !null, ({error}) is | (A..=B | {error}..=!1N));";
+    let all = shown(rt.alloc(), text)?;
+    assert_eq!(rt;
+        all.as_str(),
+        "file(visit(tuple(pat(T or(range(1 ?c2) not-null())) \
+         pat(error() or(or(range(A B) range(error() !1N))))) terms() terms()))"
+    );
+    let all = shown(rt.alloc(), "visit &'!1a (?i0, *const ?f3 is (!null));")?;
+    assert_eq!(rt;
+        all.as_str(),
+        "file(visit(ref('!1a tuple(?i0 pointer(pat(?f3 not-null())))) terms() terms()))"
+    );
+    Ok(())
+}
+
+#[test]
 fn wrong_texts_are_refused(rt: HostRuntime) -> Result<(), Fail> {
     for (text, why) in [
         ("", "file()"),
@@ -150,6 +172,17 @@ fn wrong_texts_are_refused(rt: HostRuntime) -> Result<(), Fail> {
         ("budget x;", "1:8: expected a number, found `x`"),
         ("fold T;", "1:7: expected `with`, found `;`"),
         ("visit T stop A skip B;", "1:16: expected `;`, found `skip`"),
+        ("visit {error, T};", "1:13: expected `}`, found `,`"),
+        ("visit T is 1;", "1:13: expected `..=`, found `;`"),
+        ("visit T is !;", "1:13: expected `null`, found `;`"),
+        ("visit T is 1..=2 |;", "1:19: expected a term, found `;`"),
+        ("visit T is (1..=2;", "1:18: expected `)`, found `;`"),
+        (
+            "visit T is 1..=2 is 3..=4;",
+            "1:18: expected `;`, found `is`",
+        ),
+        ("visit '!1;", "1:8: no word begins here"),
+        ("visit ?i;", "1:9: no word begins here"),
     ] {
         let all = shown(rt.alloc(), text)?;
         assert_eq!(rt; all.as_str(), why);

@@ -9,5 +9,7 @@ mod statements;
 mod terms;
 
 pub use error::{NameError, Wrong, write_name_error};
-pub use program::{Declared, Item, Parts, Program, Put, Question, QuestionKind, Sort, Term};
+pub use program::{
+    Declared, Item, ParamSort, Parts, Program, Put, Question, QuestionKind, Sort, Term,
+};
 pub use statements::{MOST_VARIABLES, look_up};

@@ -15,10 +15,18 @@ pub enum Sort {
     Pattern,
 }
 
+/// What a parameter that an item declares is given.
+#[derive(Clone, Copy, PartialEq, Eq, Debug)]
+pub enum ParamSort {
+    Region,
+    Type,
+    Const,
+}
+
 /// A parameter that an item declares: what it is given, and how the item varies with it.
 #[derive(Clone, Copy, PartialEq, Eq)]
 pub struct Declared<'a> {
-    pub sort: Sort,
+    pub sort: ParamSort,
     pub variance: Variance,
     pub text: &'a str,
 }

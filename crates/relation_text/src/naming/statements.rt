@@ -2,7 +2,7 @@
 
 use crate::naming::error::{NameError, Wrong, error_at};
 use crate::naming::namer::{Meaning, Namer};
-use crate::naming::program::{Declared, Item, Program, Sort, Term};
+use crate::naming::program::{Declared, Item, ParamSort, Program, Sort, Term};
 use crate::reading::{Form, ItemSort, Leaf, Node, NodeKind, Tree};
 use std::alloc::Global;
 use std::collections::HashSet;
@@ -33,12 +33,12 @@ impl<'a> Namer<'a> {
         let text = self.text_of(&name)?;
         let (sort, variance) = match (node.kind, name.kind) {
             (NodeKind::Form(Form::Declared(variance)), NodeKind::Leaf(Leaf::Name)) => {
-                (Sort::Type, variance)
+                (ParamSort::Type, variance)
             }
             (NodeKind::Form(Form::Declared(variance)), NodeKind::Leaf(Leaf::Lifetime)) => {
-                (Sort::Region, variance)
+                (ParamSort::Region, variance)
             }
-            (NodeKind::Form(Form::DeclaredConst(variance)), _) => (Sort::Const, variance),
+            (NodeKind::Form(Form::DeclaredConst(variance)), _) => (ParamSort::Const, variance),
             _ => return Err(error_at(&node, Wrong::NotRead)),
         };
         Ok((

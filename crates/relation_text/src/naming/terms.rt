@@ -3,7 +3,7 @@
 use crate::naming::error::{NameError, Wrong, error_at};
 use crate::naming::namer::{Made, Meaning, Namer};
 use crate::naming::plain::{USIZE, number_size};
-use crate::naming::program::{Parts, Sort, Term};
+use crate::naming::program::{ParamSort, Parts, Sort, Term};
 use crate::naming::statements::MOST_VARIABLES;
 use crate::reading::{Form, ItemSort, Leaf, Node, NodeKind};
 use relation_terms::terms::Mutability;
@@ -14,6 +14,15 @@ enum Wanted {
     Any,
     Each(Sort),
     Declared(usize),
+}
+
+// What a parameter is given.
+fn given_to(param: ParamSort) -> Sort {
+    match param {
+        ParamSort::Region => Sort::Region,
+        ParamSort::Type => Sort::Type,
+        ParamSort::Const => Sort::Const,
+    }
 }
 
 // A list of parts, and how many levels the deepest has.
@@ -32,7 +41,7 @@ impl<'a> Namer<'a> {
             Wanted::Declared(item) => {
                 let item = self.program.items.get(item)?;
                 let declared = item.declared.get(place)?;
-                Some(declared.sort)
+                Some(given_to(declared.sort))
             }
         }
     }

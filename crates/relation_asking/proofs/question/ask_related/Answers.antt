@@ -20,7 +20,8 @@ relate-requires-clause-lhs_taken g c =
     let a = c.in-Some.lhs_needs in
     let r : IsReady a (m.ty t) = c.in-Some.ensures m c.requires.ready in
     let ready = one_ready (m.ty t) (n.ty t) a (e.ty t r.0) r in
-    left_taken c.args.variance a c.in-Some-type_of.rhs_needs (n.ty t) (c.in_default-refusal.ensures).at ready.1
+    let may = c.in_default-refusal.ensures in
+    left_taken c.args.variance a c.in-Some-type_of.rhs_needs (n.ty t) may.at may.left_rules ready
 
 pub relate-requires-clause-rhs_taken : goal.relate-requires-clause-rhs_taken
 relate-requires-clause-rhs_taken g c =
@@ -31,7 +32,8 @@ relate-requires-clause-rhs_taken g c =
     let b = c.in-Some-type_of.rhs_needs in
     let r : IsReady b (m.ty t) = c.in-Some-type_of.ensures m c.requires.ready in
     let ready = one_ready (m.ty t) (n.ty t) b (e.ty t r.0) r in
-    right_taken c.args.variance c.in-Some.lhs_needs b (n.ty t) (c.in_default-refusal.ensures).at ready.1
+    let may = c.in_default-refusal.ensures in
+    right_taken c.args.variance c.in-Some.lhs_needs b (n.ty t) may.at may.right_rules ready
 
 pub relate-requires-clause-lhs_in : goal.relate-requires-clause-lhs_in
 relate-requires-clause-lhs_in g c =
@@ -44,7 +46,8 @@ relate-requires-clause-lhs_in g c =
     let x = c.have_variables.new.ctx.inner in
     let r : IsReady a (m.ty t) = c.in-Some.ensures m c.requires.ready in
     let has : Has x (both_needs a b) = subst (Has x) c.both.ensures c.in-Ok.ensures.has in
-    ready_in n x a (has_left x a b has) (n.ty t) (one_ready (m.ty t) (n.ty t) a (e.ty t r.0) r)
+    ready_in n x a (has_left x a b has) (n.ty t) (c.in_default-refusal.ensures).left_rules
+    (one_ready (m.ty t) (n.ty t) a (e.ty t r.0) r)
 
 pub relate-requires-clause-rhs_in : goal.relate-requires-clause-rhs_in
 relate-requires-clause-rhs_in g c =
@@ -57,4 +60,5 @@ relate-requires-clause-rhs_in g c =
     let x = c.have_variables.new.ctx.inner in
     let r : IsReady b (m.ty t) = c.in-Some-type_of.ensures m c.requires.ready in
     let has : Has x (both_needs a b) = subst (Has x) c.both.ensures c.in-Ok.ensures.has in
-    ready_in n x b (has_right x a b has) (n.ty t) (one_ready (m.ty t) (n.ty t) b (e.ty t r.0) r)
+    ready_in n x b (has_right x a b has) (n.ty t) (c.in_default-refusal.ensures).right_rules
+    (one_ready (m.ty t) (n.ty t) b (e.ty t r.0) r)
