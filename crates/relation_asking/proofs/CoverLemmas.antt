@@ -1,6 +1,6 @@
 -- The terms of a text whose forms have rules.
-use Rattle.std.proofs.Common.{ℕ, zero, suc, IsTrue, true, false, ◌&&◌, List, [], ◌∷◌, ◌++◌, Option, Some, None}
-use Rattle.std.specs.Prelude.{slice_get, slice_range}
+use Rattle.std.proofs.Common.{ℕ, IsTrue, true, ◌&&◌, List, [], ◌∷◌, Option, Some, None}
+use Rattle.std.specs.Prelude.{slice_get}
 use Rattle.std.proofs.lemmas.Bool.{and_parts, false≢true}
 use Rattle.relation_terms.specs.Heads.{Leaf, unknown}
 use Rattle.relation_terms.specs.Trees.{Tree, leaf, known, list_tree}
