@@ -10,10 +10,10 @@ use Rattle.relation_reference.proofs.Outside.{outside_nth, occurs_nowhere, part_
 use Rattle.type_relations.specs.Covered.{IsCovered}
 use Rattle.relation_reference.proofs.Covering.{part_covered, covered_open}
 use Rattle.relation_reference.proofs.Resolving.{some_sort}
-use Rattle.relation_reference.proofs.context.resolving.+occurs.Goals as goal
+use Rattle.relation_reference.proofs.context.resolving.+occurs_in.Goals as goal
 
-pub occurs-requires : goal.occurs-requires
-occurs-requires g t c κs within =
+pub occurs_in-requires : goal.occurs_in-requires
+occurs_in-requires g t c κs within =
     let m = g.I.Interner.meaning c.args.cx.now in
     let u = part_tree m c.args.term.now in
     let d = c.decreases in
