@@ -1,6 +1,6 @@
 -- What walks through terms remember, as they go on.
 use Rattle.std.proofs.Common.{ℕ, ◌≡◌, ◌↔◌, IsTrue, Bool, true, false, cond, Option, Some, None, IfSome, refl, sym, ap}
-use Rattle.std.proofs.Common.{ap₂, ◌∙◌, ◌&&◌, eqb, subst, []}
+use Rattle.std.proofs.Common.{ap₂, ◌∙◌, ◌&&◌, eqb, subst, [], Result, Ok, Err, OnOk}
 use Rattle.std.proofs.lemmas.Bool.{and_parts, eqb-true, false≢true}
 use Rattle.std.specs.HashMap.{HashMap, get, IsEmpty}
 use Rattle.std.specs.HashSet.{HashSet, contains}
@@ -18,7 +18,7 @@ use Rattle.type_relations.specs.Stores.{resolved}
 use Rattle.relation_tools.specs.Folds.{part_rank}
 use Rattle.relation_reference.specs.declared.context.memory.PartKey.{PartKey}
 use Rattle.relation_reference.specs.declared.context.variables.RefCtxt.{RefCtxt}
-use Rattle.relation_reference.specs.Tables.{store_of, IsLawful}
+use Rattle.relation_reference.specs.Tables.{IsLawful}
 use Rattle.relation_reference.specs.RefCtxt.{resolved_in}
 use Rattle.relation_reference.specs.Remembering.{key_of, ComesTo, IsKept, Remembers, IsWithout, IsLacking, Lacks}
 use Rattle.relation_reference.proofs.Resolving.{store_now}
@@ -26,6 +26,11 @@ use Rattle.relation_reference.proofs.Resolving.{store_now}
 -- Parts are looked for by their sorts and their keys.
 abbrev pub key_eq : {Key : Type 0} → (Key → Key → Bool) → PartKey Key → PartKey Key → Bool
 key_eq eq x y = eqb x.sort y.sort && eq x.key y.key
+
+-- What holds anyway holds where a call succeeds.
+pub on_ok : {A E P : Type 0} (r : Result A E) → P → OnOk r P
+on_ok (Ok x) p = p
+on_ok (Err e) p = tt
 
 -- Parts of one rank are of one sort.
 one_sort : {Key : Type 0} (p q : Part Key) → part_rank p ≡ part_rank q → part_sort p ≡ part_sort q

@@ -56,7 +56,8 @@ fn occurs_in<I: Interner>(
     if let Some(other) = variable_of(cx, term) {
         return Ok(other.0 == var.0);
     }
-    if lacking.contains(&key_of(term)) {
+    let key = key_of(term);
+    if lacking.contains(&key) {
         return Ok(false);
     }
     for i in 0..parts_count(cx, term) {
@@ -65,7 +66,7 @@ fn occurs_in<I: Interner>(
             return Ok(true);
         }
     }
-    lacking.insert(key_of(term))?;
+    lacking.insert(key)?;
     Ok(false)
 }
 
@@ -226,7 +227,8 @@ impl<I: Interner> RefCtxt<I> {
             return Err(RelateFault::Budget);
         }
         let bound = self.resolve_vars_if_possible(source)?;
-        if occurs(&self.interner, &Part::Ty(bound), target)? {
+        let cyclic = occurs(&self.interner, &Part::Ty(bound), target)?;
+        if cyclic {
             return Err(RelateFault::Unrelated(TypeError::CyclicTy(bound)));
         }
         let universe = self.universe_of_ty(target.0);

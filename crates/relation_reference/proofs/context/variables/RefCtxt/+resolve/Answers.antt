@@ -1,4 +1,4 @@
-use Rattle.std.proofs.Common.{rules, arith, refl, sym, ap, ap₂, ◌∙◌, ◌≡◌, ◌<◌, ◌+◌, ◌*◌}
+use Rattle.std.proofs.Common.{rules, arith, refl, sym, ap, ◌∙◌, ◌≡◌, ◌<◌, ◌+◌, ◌*◌}
 use Rattle.std.proofs.Common.{suc, subst, IsTrue, IfSome}
 use Rattle.std.proofs.lemmas.Bool.{and_parts}
 use Rattle.relation_terms.specs.Trees.{known, apply, count, list_tree}
@@ -9,8 +9,8 @@ use Rattle.relation_terms.proofs.Members.{if_ok}
 use Rattle.relation_terms.proofs.Parts.{sort_known, stays_part}
 use Rattle.type_relations.specs.Stores.{weight, resolved, IsTermIn}
 use Rattle.relation_reference.specs.Tables.{store_of, IsLawful}
-use Rattle.relation_reference.specs.Remembering.{ComesTo, Remembers}
-use Rattle.relation_reference.proofs.Remembering.{key_eq, came, remembers_on}
+use Rattle.relation_reference.specs.Remembering.{ComesTo}
+use Rattle.relation_reference.proofs.Remembering.{key_eq, came, remembers_on, on_ok}
 use Rattle.relation_reference.proofs.Resolving.{lawful_now, part_was, part_in, part_falls, part_comes}
 use Rattle.relation_reference.proofs.Resolving.{done_none, done_next, done_all, whole_comes}
 use Rattle.relation_reference.proofs.Resolving.{unchanged_next, unchanged_all, whole_stays, weight_as}
@@ -280,3 +280,13 @@ resolve_part-keep-requires g t' c =
           c.shallow_part-shallow.result c.in_ok-resolved.resolved s.sure r.sure r.resolves r.sort;
       remembers = r.remembers;
     }
+
+pub resolve_inside-returns-clause-remembers : goal.resolve_inside-returns-clause-remembers
+resolve_inside-returns-clause-remembers g t' c =
+    let x = c.args.self.now.inner in
+    let y = c.loop-i.self.inner in
+    let inv = c.loop-i.invariant in
+    on_ok c.with_parts.result (remembers_on g.I.Interner.meaning c.loop-i.self
+    (record { interner = c.with_parts.new.cx; inner = y })
+    (lawful_now inv.grown x y c.requires.lawful inv.inner) c.with_parts.ensures.grown refl
+    (key_eq g.I.Key.PartialEq.eq) c.loop-i.memory inv.remembers)
