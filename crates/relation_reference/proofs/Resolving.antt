@@ -102,14 +102,14 @@ weight_falls : (st : Store) (t : Tree) (i : ℕ) → i < count (parts_of t) → 
 unfolding weight
 weight_falls st t i h = size_falls (resolved st) t i h
 
-weight_as : (st : Store) (t u : Tree) → apply (resolved st) t ≡ apply (resolved st) u → weight st t ≡ weight st u
+pub weight_as : (st : Store) (t u : Tree) → apply (resolved st) t ≡ apply (resolved st) u → weight st t ≡ weight st u
 unfolding weight
 weight_as st t u e = ap size e
 
 -- What a term was resolved to while the interner grew: `n` is what keys mean after some parts were resolved.
 module _ {Key Id Name : Type 0} {m n : Meaning Key Id Name} (first : Extends m n) (x y : InferCtxtInner Key)
     (l : IsLawful m x) (same : y ≡ x) where
-  store_now : store_of n y ≡ store_of m x
+  pub store_now : store_of n y ≡ store_of m x
   store_now = ap (store_of n) same ∙ store_grows first x l
 
   pub lawful_now : IsLawful n y

@@ -1,4 +1,5 @@
 pub mod Tables
 pub mod RefCtxt
+pub mod Remembering
 pub mod Solving
 pub mod Answers

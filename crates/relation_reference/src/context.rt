@@ -1,6 +1,7 @@
 //! An inference context over plain tables, and relating in it.
 
 mod inner;
+mod memory;
 mod recording;
 mod resolving;
 mod solver;

@@ -31,6 +31,8 @@ mod reading;
 #[cfg(test)]
 mod relating;
 #[cfg(test)]
+mod resolving;
+#[cfg(test)]
 mod solving;
 #[cfg(test)]
 mod variances;

@@ -1,5 +1,6 @@
 //! Resolving types in a context at every depth, and binding variables to what they come to.
-ghost use Rattle.std.specs.Prelude.{◌≡◌, ℕ, ◌<◌, IsTrue, IsFalse, IfOk, IfErr, IfSome, IfNone, length};
+ghost use Rattle.std.specs.Prelude.{◌≡◌, ℕ, ◌<◌, IsTrue, IsFalse, IfOk, IfErr, IfSome, IfNone, OnOk};
+ghost use Rattle.std.specs.Prelude.{length};
 ghost use Rattle.relation_terms.specs.Heads.{type_var, variable};
 ghost use Rattle.relation_terms.specs.Trees.{leaf, known, Occurs};
 ghost use Rattle.relation_terms.specs.Meaning.{Extends};
@@ -9,15 +10,18 @@ ghost use Rattle.type_relations.specs.Errors.{StandsOutside};
 ghost use Rattle.relation_tools.specs.Faults.{KnowsFault};
 ghost use Rattle.relation_reference.specs.Tables.{IsLawful};
 ghost use Rattle.relation_reference.specs.RefCtxt.{store_in, resolved_in};
+ghost use Rattle.relation_reference.specs.Remembering.{Remembers, Lacks};
 ghost use Rattle.type_relations.specs.Parts.{IsFormed};
 ghost use Rattle.type_relations.specs.Covered.{IsCovered};
 ghost use Rattle.relation_reference.specs.Answers.{Instantiated, StepsByInstantiating};
 
+use crate::context::memory::{Lacking, PartKey, Resolutions, key_of};
 use crate::context::variables::ty_vid;
 use crate::context::{RefCtxt, TypeVariableValue};
 use relation_terms::terms::parts::{is_same, part, parts_count, the_ty, with_parts};
 use relation_terms::terms::{Interner, OutOfMemory, Part, Ty, TyVid};
 use relation_tools::error::{RelateFault, RelateFaultOf, TypeError};
+use std::collections::{HashMap, HashSet};
 
 // The type variable that a term is, or none.
 fn variable_of<I: Interner>(cx: &I, term: &Part<I::Key>) -> Option<TyVid>
@@ -32,23 +36,50 @@ fn variable_of<I: Interner>(cx: &I, term: &Part<I::Key>) -> Option<TyVid>
     ty_vid(&cx.ty_kind(ty))
 }
 
-// Whether a type variable stands in a term, of forms that relating has rules for.
-fn occurs<I: Interner>(cx: &I, term: &Part<I::Key>, var: TyVid) -> bool
+// Whether a type variable stands in a term, of forms that relating has rules for. A part that it was looked for in before,
+// and doesn't stand in, is not gone through again.
+fn occurs_in<I: Interner>(
+    cx: &I,
+    term: &Part<I::Key>,
+    var: TyVid,
+    lacking: &mut Lacking<I::Key>,
+) -> Result<bool, OutOfMemory>
     requires term_known { IsTrue (known (part_tree (I.meaning cx.now) term.now)) }
     requires term_covered { IsCovered (part_tree (I.meaning cx.now) term.now) }
-    ensures stands { IsTrue result →
-        StandsOutside (variable type_var var.0) (part_tree (I.meaning cx.now) term.now) }
-    ensures absent { IsFalse result → Occurs type_var var.0 (part_tree (I.meaning cx.now) term.now) → ⊥ }
+    requires lacks { Lacks (I.meaning cx.now) var.0 ⟦<PartKey<I::Key> as PartialEq>⟧.eq lacking.old }
+    ensures lacks { OnOk result (Lacks (I.meaning cx.now) var.0 ⟦<PartKey<I::Key> as PartialEq>⟧.eq lacking.new) }
+    ensures stands { IfOk result (λ b. IsTrue b →
+        StandsOutside (variable type_var var.0) (part_tree (I.meaning cx.now) term.now)) }
+    ensures absent { IfOk result (λ b. IsFalse b →
+        Occurs type_var var.0 (part_tree (I.meaning cx.now) term.now) → ⊥) }
 {
     if let Some(other) = variable_of(cx, term) {
-        return other.0 == var.0;
+        return Ok(other.0 == var.0);
+    }
+    let key = key_of(term);
+    if lacking.contains(&key) {
+        return Ok(false);
     }
     for i in 0..parts_count(cx, term) {
-        if occurs(cx, &part(cx, term, i), var) {
-            return true;
+        let stands = occurs_in(cx, &part(cx, term, i), var, lacking)?;
+        if stands {
+            return Ok(true);
         }
     }
-    false
+    lacking.insert(key)?;
+    Ok(false)
+}
+
+// Whether a type variable stands in a term, of forms that relating has rules for.
+fn occurs<I: Interner>(cx: &I, term: &Part<I::Key>, var: TyVid) -> Result<bool, OutOfMemory>
+    requires term_known { IsTrue (known (part_tree (I.meaning cx.now) term.now)) }
+    requires term_covered { IsCovered (part_tree (I.meaning cx.now) term.now) }
+    ensures stands { IfOk result (λ b. IsTrue b →
+        StandsOutside (variable type_var var.0) (part_tree (I.meaning cx.now) term.now)) }
+    ensures absent { IfOk result (λ b. IsFalse b →
+        Occurs type_var var.0 (part_tree (I.meaning cx.now) term.now) → ⊥) }
+{
+    occurs_in(cx, term, var, &mut HashSet::new(cx.alloc()))
 }
 
 impl<I: Interner> RefCtxt<I> {
@@ -74,33 +105,71 @@ impl<I: Interner> RefCtxt<I> {
         Part::Ty(self.shallow_resolve(ty))
     }
 
-    // The term with each variable that has a term replaced by it, at every depth, and each other by its root. Where its
-    // parts come to what they are, nothing is made.
-    fn resolve_part(&mut self, term: &Part<I::Key>) -> Result<Part<I::Key>, OutOfMemory>
+    // The term with each variable that has a term replaced by it, at every depth, and each other by its root. What was
+    // met before is not resolved again.
+    #[cycle(resolve)]
+    fn resolve_part(
+        &mut self,
+        term: &Part<I::Key>,
+        memory: &mut Resolutions<I::Key>,
+    ) -> Result<Part<I::Key>, OutOfMemory>
         requires lawful { IsLawful (I.meaning self.old.interner) self.old.inner }
+        requires remembers { Remembers I.meaning self.old ⟦<PartKey<I::Key> as PartialEq>⟧.eq memory.old }
         requires term_known { IsTrue (known (part_tree (I.meaning self.old.interner) term.now)) }
         requires term_in { let m = I.meaning self.old.interner in
             IsTermIn (store_in I.meaning self.old) (part_tree m term.now) }
         ensures inner { self.new.inner ≡ self.old.inner }
         ensures grown { Extends (I.meaning self.old.interner) (I.meaning self.new.interner) }
+        ensures remembers { OnOk result (Remembers I.meaning self.new ⟦<PartKey<I::Key> as PartialEq>⟧.eq memory.new) }
         ensures sure { IfOk result (λ t. IsTrue (known (part_tree (I.meaning self.new.interner) t))) }
         ensures sort { IfOk result (λ t. part_sort t ≡ part_sort term.now) }
         ensures resolves { IfOk result (λ t. part_tree (I.meaning self.new.interner) t ≡
             resolved_in I.meaning self.old (part_tree (I.meaning self.old.interner) term.now)) }
     {
         let shallow = self.shallow_part(term);
+        if let Some(resolved) = self.recall(&shallow, memory) {
+            return Ok(resolved);
+        }
+        let resolved = self.resolve_inside(&shallow, memory)?;
+        self.keep(&shallow, resolved, memory)?;
+        Ok(resolved)
+    }
+
+    // The same of a term that comes to the form over what its parts come to. Where they come to what they are, nothing is
+    // made.
+    #[cycle(resolve)]
+    fn resolve_inside(
+        &mut self,
+        term: &Part<I::Key>,
+        memory: &mut Resolutions<I::Key>,
+    ) -> Result<Part<I::Key>, OutOfMemory>
+        requires lawful { IsLawful (I.meaning self.old.interner) self.old.inner }
+        requires remembers { Remembers I.meaning self.old ⟦<PartKey<I::Key> as PartialEq>⟧.eq memory.old }
+        requires term_known { IsTrue (known (part_tree (I.meaning self.old.interner) term.now)) }
+        requires term_in { let m = I.meaning self.old.interner in
+            IsTermIn (store_in I.meaning self.old) (part_tree m term.now) }
+        requires by_parts { let t = part_tree (I.meaning self.old.interner) term.now in
+            resolved_in I.meaning self.old t ≡ over t (resolved_in I.meaning self.old (parts_of t)) }
+        ensures inner { self.new.inner ≡ self.old.inner }
+        ensures grown { Extends (I.meaning self.old.interner) (I.meaning self.new.interner) }
+        ensures remembers { OnOk result (Remembers I.meaning self.new ⟦<PartKey<I::Key> as PartialEq>⟧.eq memory.new) }
+        ensures sure { IfOk result (λ t. IsTrue (known (part_tree (I.meaning self.new.interner) t))) }
+        ensures sort { IfOk result (λ t. part_sort t ≡ part_sort term.now) }
+        ensures resolves { IfOk result (λ t. part_tree (I.meaning self.new.interner) t ≡
+            resolved_in I.meaning self.old (part_tree (I.meaning self.old.interner) term.now)) }
+    {
         let mut parts = Vec::new(self.interner.alloc());
         let mut same = true;
-        for i in 0..parts_count(&self.interner, &shallow) {
-            let next = part(&self.interner, &shallow, i);
-            let resolved = self.resolve_part(&next)?;
+        for i in 0..parts_count(&self.interner, term) {
+            let next = part(&self.interner, term, i);
+            let resolved = self.resolve_part(&next, memory)?;
             same &= is_same(&self.interner, &resolved, &next);
             parts.push(resolved)?;
         }
         if same {
-            return Ok(shallow);
+            return Ok(*term);
         }
-        with_parts(&mut self.interner, &shallow, parts.as_slice())
+        with_parts(&mut self.interner, term, parts.as_slice())
     }
 
     // The type with each variable that has a term replaced by it, at every depth, and each other by its root.
@@ -114,8 +183,9 @@ impl<I: Interner> RefCtxt<I> {
         ensures resolves { IfOk result (λ t. (I.meaning self.new.interner).ty t ≡
             resolved_in I.meaning self.old ((I.meaning self.old.interner).ty ty.now)) }
     {
-        let resolved = self.resolve_part(&Part::Ty(*ty))?;
-        Ok(the_ty(&resolved))
+        let mut memory = HashMap::new(self.interner.alloc());
+        let resolved = self.resolve_part(&Part::Ty(*ty), &mut memory);
+        Ok(the_ty(&resolved?))
     }
 
     // The variable that a type is, or none.
@@ -157,7 +227,8 @@ impl<I: Interner> RefCtxt<I> {
             return Err(RelateFault::Budget);
         }
         let bound = self.resolve_vars_if_possible(source)?;
-        if occurs(&self.interner, &Part::Ty(bound), target) {
+        let cyclic = occurs(&self.interner, &Part::Ty(bound), target)?;
+        if cyclic {
             return Err(RelateFault::Unrelated(TypeError::CyclicTy(bound)));
         }
         let universe = self.universe_of_ty(target.0);

@@ -31,17 +31,34 @@ returns-in_err-bound-clause-steps g c =
     let kept = ap (store_of n) c.resolve_vars_if_possible.ensures.inner ∙ store_grows c.resolve_vars_if_possible.ensures.grown c.args.self.now.inner c.requires.lawful in
     memory_steps n (store_of (g.I.Interner.meaning c.args.self.now.interner) c.args.self.now.inner) (store_of n c.resolve_vars_if_possible.new.self.inner) c.args.target.0 ((g.I.Interner.meaning c.args.self.now.interner).ty c.args.source.now) c.from_residual.result c.from_residual.ensures.0 c.from_residual.ensures.1 kept
 
+pub returns-in_err-cyclic-clause-lawful : goal.returns-in_err-cyclic-clause-lawful
+returns-in_err-cyclic-clause-lawful g c =
+    let n = g.I.Interner.meaning c.resolve_vars_if_possible.new.self.interner in
+    subst (IsLawful n) (sym c.resolve_vars_if_possible.ensures.inner) (lawful_grows c.resolve_vars_if_possible.ensures.grown c.args.self.now.inner c.requires.lawful)
+
+pub returns-in_err-cyclic-clause-answers : goal.returns-in_err-cyclic-clause-answers
+returns-in_err-cyclic-clause-answers g c =
+    let n = g.I.Interner.meaning c.resolve_vars_if_possible.new.self.interner in
+    let kept = ap (store_of n) c.resolve_vars_if_possible.ensures.inner ∙ store_grows c.resolve_vars_if_possible.ensures.grown c.args.self.now.inner c.requires.lawful in
+    memory_instantiated n (store_of (g.I.Interner.meaning c.args.self.now.interner) c.args.self.now.inner) (store_of n c.resolve_vars_if_possible.new.self.inner) c.args.target.0 ((g.I.Interner.meaning c.args.self.now.interner).ty c.args.source.now) c.from_residual-in_err-cyclic.result c.from_residual-in_err-cyclic.ensures.0 c.from_residual-in_err-cyclic.ensures.1 (let d = c.if-self-eq0.false in omega arith) kept
+
+pub returns-in_err-cyclic-clause-steps : goal.returns-in_err-cyclic-clause-steps
+returns-in_err-cyclic-clause-steps g c =
+    let n = g.I.Interner.meaning c.resolve_vars_if_possible.new.self.interner in
+    let kept = ap (store_of n) c.resolve_vars_if_possible.ensures.inner ∙ store_grows c.resolve_vars_if_possible.ensures.grown c.args.self.now.inner c.requires.lawful in
+    memory_steps n (store_of (g.I.Interner.meaning c.args.self.now.interner) c.args.self.now.inner) (store_of n c.resolve_vars_if_possible.new.self.inner) c.args.target.0 ((g.I.Interner.meaning c.args.self.now.interner).ty c.args.source.now) c.from_residual-in_err-cyclic.result c.from_residual-in_err-cyclic.ensures.0 c.from_residual-in_err-cyclic.ensures.1 kept
+
 pub returns-then-self-eq0-clause-steps : goal.returns-then-self-eq0-clause-steps
 returns-then-self-eq0-clause-steps g c = nothing_changed _ _ refl
 
-pub returns-then-occurs : goal.returns-then-occurs
-returns-then-occurs g c =
+pub returns-then-cyclic : goal.returns-then-cyclic
+returns-then-cyclic g c =
     let m = g.I.Interner.meaning c.args.self.now.interner in
     let n = g.I.Interner.meaning c.resolve_vars_if_possible.new.self.interner in
     let st = store_of m c.args.self.now.inner in
     let t = m.ty c.args.source.now in
     let kept = ap (store_of n) c.resolve_vars_if_possible.ensures.inner ∙ store_grows c.resolve_vars_if_possible.ensures.grown c.args.self.now.inner c.requires.lawful in
-    let stands = c.occurs.ensures.stands c.if-occurs.true in
+    let stands = c.in_ok-cyclic.ensures.stands c.if-cyclic.true in
     let means = c.in_ok-bound.ensures.resolves in
     record {
       lawful = subst (IsLawful n) (sym c.resolve_vars_if_possible.ensures.inner) (lawful_grows c.resolve_vars_if_possible.ensures.grown c.args.self.now.inner c.requires.lawful);
@@ -65,7 +82,7 @@ returns g c =
     let k = c.in_ok-bound.bound in
     let means : n.ty k ≡ apply (resolved st) t = ap (λ z. z.ty k) e ∙ c.in_ok-bound.ensures.resolves in
     let sure : IsTrue (known (n.ty k)) = subst (λ z. IsTrue (known (z.ty k))) (sym e) c.in_ok-bound.ensures.sure in
-    let absent : Occurs type_var c.args.target.0 (apply (resolved st) t) → ⊥ = λ h. c.occurs.ensures.absent c.if-occurs.false (subst (Occurs type_var c.args.target.0) (sym c.in_ok-bound.ensures.resolves) h) in
+    let absent : Occurs type_var c.args.target.0 (apply (resolved st) t) → ⊥ = λ h. c.in_ok-cyclic.ensures.absent c.if-cyclic.false (subst (Occurs type_var c.args.target.0) (sym c.in_ok-bound.ensures.resolves) h) in
     let in_universe : c.universe_of_ty-universe.result.0 ≡ universe_of (store_of n c.resolve_vars_if_possible.new.self.inner) type_var c.args.target.0 = c.universe_of_ty-universe.ensures ∙ ap (λ z. universe_of (store_of z c.resolve_vars_if_possible.new.self.inner) type_var c.args.target.0) (sym e) in
     let left : c.resolve_vars_if_possible.new.self.inner.budget ≡ suc (c.record.new.self.inner.budget - 1) = (let a = ap (λ z. z.budget) c.resolve_vars_if_possible.ensures.inner in let b = c.record.ensures.budget in let d = c.if-self-eq0.false in omega arith) in
     let y : InferCtxtInner g.row.I-Key.Denot = record { types = w.types; regions = w.regions; constraints = w.constraints; universe = w.universe; budget = w.budget - 1 } in

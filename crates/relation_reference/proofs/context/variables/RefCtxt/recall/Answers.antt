@@ -1,0 +1,17 @@
+use Rattle.std.proofs.Common.{◌∙◌, ap}
+use Rattle.std.specs.HashMap.{get}
+use Rattle.relation_terms.proofs.Parts.{same_part}
+use Rattle.relation_reference.proofs.Remembering.{key_eq, recalled}
+use Rattle.relation_reference.proofs.context.variables.RefCtxt.recall.Goals as goal
+
+pub returns : goal.returns
+returns g c =
+    let m = g.I.Interner.meaning c.args.self.now.interner in
+    let eq = g.I.Key.PartialEq.eq in
+    let laws = g.met.I.Interner in
+    let a = c.args.self.now.interner in
+    let memory = c.args.memory.now in
+    let found = c.copied.ensures ∙ c.get.ensures.value ∙ ap (get (key_eq eq) memory) c.key_of.ensures in
+    recalled g.I.Interner.meaning c.args.self.now eq
+    (same_part m eq (laws.same_ty a) (laws.same_region a) (laws.same_const a) (laws.same_valtree a) (laws.same_pat a))
+    memory c.requires.remembers c.args.part.now c.requires.known c.copied.result found

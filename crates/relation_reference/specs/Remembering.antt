@@ -1,0 +1,52 @@
+-- What walks through terms remember of the parts that they have met.
+use Rattle.std.specs.Prelude.{◌≡◌, ℕ, Bool, IsTrue, Some}
+use Rattle.std.specs.HashMap.{HashMap, get}
+use Rattle.std.specs.HashSet.{HashSet, contains}
+use Rattle.relation_terms.specs.Heads.{type_var}
+use Rattle.relation_terms.specs.Trees.{known, Occurs}
+use Rattle.relation_terms.specs.Meaning.{Meaning}
+use Rattle.relation_terms.specs.Parts.{part_sort, part_key, part_tree}
+use Rattle.relation_terms.specs.declared.terms.part_kind.Part.{Part}
+use Rattle.relation_tools.specs.Folds.{part_rank}
+use Rattle.relation_reference.specs.declared.context.memory.PartKey.{PartKey}
+use Rattle.relation_reference.specs.declared.context.variables.RefCtxt.{RefCtxt}
+use Rattle.relation_reference.specs.RefCtxt.{resolved_in}
+
+-- A part, as it is looked for.
+abbrev pub key_of : {Key : Type 0} → Part Key → PartKey Key
+key_of p = record { sort = part_rank p; key = part_key p }
+
+module _ {I Key Id Name Span : Type 0} (meaning : I → Meaning Key Id Name) (c : RefCtxt I Key Id Name Span) where
+  -- What a known part comes to in a context, at every depth.
+  pub record ComesTo (p by : Part Key) : Type 0 where
+    pub there : IsTrue (known (part_tree (meaning c.interner) p))
+    pub sure : IsTrue (known (part_tree (meaning c.interner) by))
+    pub comes : part_tree (meaning c.interner) by ≡ resolved_in meaning c (part_tree (meaning c.interner) p)
+    pub sort : part_sort by ≡ part_sort p
+
+  -- What is kept at a key is what a part of an equal key comes to.
+  pub record IsKept (eq : PartKey Key → PartKey Key → Bool) (q : PartKey Key) (by : Part Key) : Type 0 where
+    pub part : Part Key
+    pub same : IsTrue (eq (key_of part) q)
+    pub is : ComesTo part by
+
+  -- What is found is kept so.
+  abbrev pub Remembers : {S : Type 0} → (PartKey Key → PartKey Key → Bool) →
+      HashMap (PartKey Key) (Part Key) S → Type 0
+  Remembers eq memory = (q : PartKey Key) (by : Part Key) → get eq memory q ≡ Some by → IsKept eq q by
+
+module _ {Key Id Name : Type 0} (m : Meaning Key Id Name) (n : ℕ) where
+  -- A known part that a type variable doesn't stand in.
+  pub record IsWithout (p : Part Key) : Type 0 where
+    pub there : IsTrue (known (part_tree m p))
+    pub absent : Occurs type_var n (part_tree m p) → ⊥
+
+  -- It stands in no part of an equal key.
+  pub record IsLacking (eq : PartKey Key → PartKey Key → Bool) (q : PartKey Key) : Type 0 where
+    pub part : Part Key
+    pub same : IsTrue (eq (key_of part) q)
+    pub is : IsWithout part
+
+  -- What is found is such a part.
+  abbrev pub Lacks : {S : Type 0} → (PartKey Key → PartKey Key → Bool) → HashSet (PartKey Key) S → Type 0
+  Lacks eq lacking = (q : PartKey Key) → IsTrue (contains eq lacking q) → IsLacking eq q
