@@ -44,6 +44,8 @@ use Rattle.relation_terms.specs.declared.terms.region_kind.RegionKind.TheVariant
 use Rattle.relation_terms.specs.declared.terms.generic_arg.GenericArgKind.{GenericArgKind}
 use Rattle.relation_terms.specs.declared.terms.generic_arg.GenericArgKind.TheVariants.{Lifetime, Ty as TyArg}
 use Rattle.relation_terms.specs.declared.terms.generic_arg.GenericArgKind.TheVariants.{Const as ConstArg}
+use Rattle.relation_terms.specs.declared.terms.ty_kind.TyKind.TheVariants.{FnPtr, UnsafeBinder, Dynamic}
+use Rattle.relation_terms.proofs.Same.{header_eq, header_same, header_self}
 use Rattle.reference_interner.specs.declared.keys.NodeKey.{NodeKey}
 use Rattle.reference_interner.specs.declared.keys.ItemId.{ItemId}
 use Rattle.reference_interner.specs.declared.keys.SymbolId.{SymbolId}
@@ -149,10 +151,10 @@ pub eqb_self : (n : ℕ) → IsTrue (eqb n n)
 eqb_self n = eq-eqb n n refl
 
 -- What is made of one number, of two or of three.
-one_number : {A : Type 0} (f : ℕ → A) (i j : ℕ) → IsTrue (eqb i j) → f i ≡ f j
+pub one_number : {A : Type 0} (f : ℕ → A) (i j : ℕ) → IsTrue (eqb i j) → f i ≡ f j
 one_number f i j h = ap f (eqb-true i j h)
 
-two_numbers : {A : Type 0} (f : ℕ → ℕ → A) (i j k l : ℕ) → IsTrue (eqb i j && eqb k l) → f i k ≡ f j l
+pub two_numbers : {A : Type 0} (f : ℕ → ℕ → A) (i j k l : ℕ) → IsTrue (eqb i j && eqb k l) → f i k ≡ f j l
 two_numbers f i j k l h =
     let p = and_parts (eqb i j) (eqb k l) h in
     ap₂ f (eqb-true i j p.0) (eqb-true k l p.1)
@@ -163,7 +165,7 @@ three_numbers f i j k l m n h =
     let p = and_parts (eqb i j) (eqb k l && eqb m n) h in
     two_numbers (λ x y. f i x y) k l m n p.1 ∙ ap (λ x. f x l n) (eqb-true i j p.0)
 
-two_selves : (i j : ℕ) → IsTrue (eqb i i && eqb j j)
+pub two_selves : (i j : ℕ) → IsTrue (eqb i i && eqb j j)
 two_selves i j = and_from (eqb i i) (eqb j j) (eqb_self i) (eqb_self j)
 
 three_selves : (i j k : ℕ) → IsTrue (eqb i i && (eqb j j && eqb k k))
@@ -220,6 +222,24 @@ kind_same (Ref r t a) (Ref s u b) h =
 kind_same (FnDef d a) (FnDef e b) h =
     two_numbers (λ x y. FnDef (record { 0 = record { 0 = x } }) (record { 0 = record { 0 = y } }))
     (d.0).0 (e.0).0 (a.0).0 (b.0).0 h
+kind_same (FnPtr b g) (FnPtr c i) h =
+    let t = ((b.value).inputs_and_output).0 in
+    let u = ((c.value).inputs_and_output).0 in
+    let v = (b.bound_vars).0 in
+    let w = (c.bound_vars).0 in
+    let p = and_parts (eqb t.0 u.0 && eqb v.0 w.0) (header_eq g i) h in
+    two_numbers (λ x y. FnPtr (record {
+      value = record { inputs_and_output = record { 0 = record { 0 = x } } };
+      bound_vars = record { 0 = record { 0 = y } };
+    }) g) t.0 u.0 v.0 w.0 p.0 ∙ ap (λ x. FnPtr c x) (header_same g i p.1)
+kind_same (UnsafeBinder b) (UnsafeBinder c) h =
+    two_numbers (λ x y. UnsafeBinder (record {
+      value = record { 0 = record { 0 = x } };
+      bound_vars = record { 0 = record { 0 = y } };
+    })) ((b.value).0).0 ((c.value).0).0 ((b.bound_vars).0).0 ((c.bound_vars).0).0 h
+kind_same (Dynamic ps r) (Dynamic qs s) h =
+    two_numbers (λ x y. Dynamic (record { 0 = record { 0 = x } }) (record { 0 = record { 0 = y } }))
+    (ps.0).0 (qs.0).0 (r.0).0 (s.0).0 h
 kind_same (Closure d a) (Closure e b) h =
     two_numbers (λ x y. Closure (record { 0 = record { 0 = x } }) (record { 0 = record { 0 = y } }))
     (d.0).0 (e.0).0 (a.0).0 (b.0).0 h
@@ -272,6 +292,12 @@ kind_self (Ref r t a) =
     and_from (eqb (r.0).0 (r.0).0) (ty_eq t t && mut_eq a a) (eqb_self (r.0).0)
     (and_from (ty_eq t t) (mut_eq a a) (eqb_self (t.0).0) (mut_self a))
 kind_self (FnDef d a) = two_selves (d.0).0 (a.0).0
+kind_self (FnPtr b g) =
+    let t = (((b.value).inputs_and_output).0).0 in
+    let v = ((b.bound_vars).0).0 in
+    and_from (eqb t t && eqb v v) (header_eq g g) (two_selves t v) (header_self g)
+kind_self (UnsafeBinder b) = two_selves ((b.value).0).0 ((b.bound_vars).0).0
+kind_self (Dynamic ps r) = two_selves (ps.0).0 (r.0).0
 kind_self (Closure d a) = two_selves (d.0).0 (a.0).0
 kind_self (CoroutineClosure d a) = two_selves (d.0).0 (a.0).0
 kind_self (Coroutine d a) = two_selves (d.0).0 (a.0).0

@@ -10,20 +10,27 @@ use Rattle.relation_terms.specs.declared.terms.const_kind.ValTreeKind.{ValTreeKi
 use Rattle.relation_terms.specs.declared.terms.pattern_kind.PatternKind.{PatternKind}
 use Rattle.relation_terms.specs.declared.terms.region_kind.RegionKind.{RegionKind}
 use Rattle.relation_terms.specs.declared.terms.generic_arg.GenericArgKind.{GenericArgKind}
+use Rattle.relation_terms.specs.declared.predicate.ExistentialPredicate.{ExistentialPredicate}
+use Rattle.relation_terms.specs.declared.terms.binder.Binder.{Binder}
+use Rattle.relation_terms.specs.declared.terms.binder.BoundVariableKind.{BoundVariableKind}
 use Rattle.reference_interner.specs.declared.keys.NodeKey.{NodeKey}
 use Rattle.reference_interner.specs.declared.keys.ItemId.{ItemId}
 use Rattle.reference_interner.specs.declared.keys.SymbolId.{SymbolId}
 use Rattle.reference_interner.specs.declared.node.Node.{Node}
 use Rattle.reference_interner.specs.declared.node.Node.TheVariants.{Ty, Region, Const, ValTree, Args, Tys}
 use Rattle.reference_interner.specs.declared.node.Node.TheVariants.{Branches, ParamEnv, Pat, Alternatives}
+use Rattle.reference_interner.specs.declared.node.Node.TheVariants.{ExistentialPredicates, BoundVars}
 use Rattle.reference_interner.specs.Forms.{Form, ty_form, region_form, const_form, valtree_form, args_form, tys_form}
 use Rattle.reference_interner.specs.Forms.{branches_form, pattern_form, alternatives_form, form_of}
+use Rattle.reference_interner.specs.Forms.{predicates_form, bound_vars_form}
 use lib.Pointwise.{pointwise}
 use Rattle.reference_interner.proofs.AlikeFormLemmas.{node_eq, arg_eq, ty_eq, const_eq, pat_eq, eqb_self}
 use Rattle.reference_interner.proofs.AlikeFormLemmas.{kind_same, kind_self, const_same, const_self, valtree_same}
 use Rattle.reference_interner.proofs.AlikeFormLemmas.{valtree_self, pattern_same, pattern_self, region_same}
 use Rattle.reference_interner.proofs.AlikeFormLemmas.{region_self, arg_same, arg_self, ty_same, const_key_same}
 use Rattle.reference_interner.proofs.AlikeFormLemmas.{pat_same}
+use Rattle.reference_interner.proofs.AlikeElementLemmas.{object_eq, object_same, object_self}
+use Rattle.reference_interner.proofs.AlikeElementLemmas.{variable_eq, variable_same, variable_self}
 
 -- Lists, by what their members are.
 list_same : {A : Type 0} (eq : A → A → Bool) → ((x y : A) → IsTrue (eq x y) → x ≡ y) → (xs ys : List A) →
@@ -50,6 +57,10 @@ node_same (Tys v) (Tys w) h = ap (λ x. tys_form x) (list_same ty_eq ty_same v.i
 node_same (Branches v) (Branches w) h = ap (λ x. branches_form x) (list_same const_eq const_key_same v.items w.items h)
 node_same (Alternatives v) (Alternatives w) h =
     ap (λ x. alternatives_form x) (list_same pat_eq pat_same v.items w.items h)
+node_same (ExistentialPredicates v) (ExistentialPredicates w) h =
+    ap (λ x. predicates_form x) (list_same object_eq object_same v.items w.items h)
+node_same (BoundVars v) (BoundVars w) h =
+    ap (λ x. bound_vars_form x) (list_same variable_eq variable_same v.items w.items h)
 node_same ParamEnv ParamEnv h = refl
 node_same _ _ h = absurd (false≢true h)
 
@@ -89,6 +100,15 @@ abbrev alternatives_in : List (PatKey NodeKey) → Form → List (PatKey NodeKey
 alternatives_in d (alternatives_form f) = f
 alternatives_in d _ = d
 
+abbrev predicates_in : List (Binder NodeKey (ExistentialPredicate NodeKey ItemId)) → Form →
+    List (Binder NodeKey (ExistentialPredicate NodeKey ItemId))
+predicates_in d (predicates_form f) = f
+predicates_in d _ = d
+
+abbrev variables_in : List (BoundVariableKind SymbolId) → Form → List (BoundVariableKind SymbolId)
+variables_in d (bound_vars_form f) = f
+variables_in d _ = d
+
 node_self : (a b : Node) → form_of a ≡ form_of b → IsTrue (node_eq a b)
 node_self (Ty f) (Ty g) e = subst (λ x. IsTrue (node_eq (Ty f) (Ty x))) (ap (kind_in f) e) (kind_self f)
 node_self (Region f) (Region g) e =
@@ -108,6 +128,12 @@ node_self (Branches v) (Branches w) e =
 node_self (Alternatives v) (Alternatives w) e =
     subst (λ x. IsTrue (pointwise pat_eq v.items x)) (ap (alternatives_in v.items) e)
     (list_self pat_eq (λ x. eqb_self (x.0).0) v.items)
+node_self (ExistentialPredicates v) (ExistentialPredicates w) e =
+    subst (λ x. IsTrue (pointwise object_eq v.items x)) (ap (predicates_in v.items) e)
+    (list_self object_eq object_self v.items)
+node_self (BoundVars v) (BoundVars w) e =
+    subst (λ x. IsTrue (pointwise variable_eq v.items x)) (ap (variables_in v.items) e)
+    (list_self variable_eq variable_self v.items)
 node_self ParamEnv ParamEnv e = refl
 node_self _ _ e = absurd (cc)
 

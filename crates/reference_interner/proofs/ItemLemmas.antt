@@ -5,7 +5,10 @@ use Rattle.std.proofs.lemmas.Bool.{cases_lt}
 use Rattle.std.proofs.lemmas.List.{get_or-map, length-map, map-append, get_or_append_left, get_or_past}
 use Rattle.std.proofs.Math.Seq.{get_or-append_seam}
 use Rattle.relation_terms.proofs.Lists.{last_place}
-use Rattle.relation_terms.specs.Trees.{Tree, list_tree, cons}
+use Rattle.relation_terms.specs.Heads.{existential_projection}
+use Rattle.relation_terms.specs.Trees.{Tree, list_tree, node, bind, nil, cons}
+use Rattle.relation_terms.specs.Meaning.{existential_tree, term_tree, object_predicate_tree, bound_kind_of, bound_kinds}
+use Rattle.relation_terms.specs.Meaning.{under}
 use Rattle.relation_terms.specs.Meaning.{kind_tree, region_tree, const_tree, valtree_tree, pattern_tree, arg_tree}
 use Rattle.relation_terms.specs.declared.terms.enums.Variance.{Variance}
 use Rattle.relation_terms.specs.declared.terms.ty_kind.TyKind.{TyKind}
@@ -32,6 +35,17 @@ use Rattle.relation_terms.specs.declared.terms.region_kind.RegionKind.TheVariant
 use Rattle.relation_terms.specs.declared.terms.region_kind.RegionKind.TheVariants.{ReVar, RePlaceholder}
 use Rattle.relation_terms.specs.declared.terms.generic_arg.GenericArgKind.{GenericArgKind}
 use Rattle.relation_terms.specs.declared.terms.generic_arg.GenericArgKind.TheVariants.{Lifetime, Ty, Const}
+use Rattle.relation_terms.specs.declared.terms.ty_kind.TyKind.TheVariants.{FnPtr, UnsafeBinder, Dynamic}
+use Rattle.relation_terms.specs.declared.terms.generic_arg.TermKind.{TermKind}
+use Rattle.relation_terms.specs.declared.terms.generic_arg.TermKind.TheVariants.{Ty as TyTerm, Const as ConstTerm}
+use Rattle.relation_terms.specs.declared.predicate.ExistentialPredicate.{ExistentialPredicate}
+use Rattle.relation_terms.specs.declared.predicate.ExistentialPredicate.TheVariants.{Trait, AutoTrait}
+use Rattle.relation_terms.specs.declared.predicate.ExistentialPredicate.TheVariants.{Projection as ProjectionPredicate}
+use Rattle.relation_terms.specs.declared.terms.binder.Binder.{Binder}
+use Rattle.relation_terms.specs.declared.terms.binder.BoundVariableKind.{BoundVariableKind}
+use Rattle.relation_terms.specs.declared.terms.binder.BoundVariableKind.TheVariants.{Ty as TyVariable}
+use Rattle.relation_terms.specs.declared.terms.binder.BoundVariableKind.TheVariants.{Region as RegionVariable}
+use Rattle.relation_terms.specs.declared.terms.binder.BoundVariableKind.TheVariants.{Const as ConstVariable}
 use Rattle.reference_interner.specs.declared.keys.NodeKey.{NodeKey}
 use Rattle.reference_interner.specs.declared.keys.ItemId.{ItemId}
 use Rattle.reference_interner.specs.declared.keys.SymbolId.{SymbolId}
@@ -41,6 +55,7 @@ use Rattle.reference_interner.specs.Forms.{Form, ty_form, region_form, const_for
 use Rattle.reference_interner.specs.Forms.{branches_form, environment_form, pattern_form, alternatives_form, form_of}
 use Rattle.reference_interner.specs.Adding.{SameTerms, OthersStand, HasNoGenerics}
 use Rattle.reference_interner.specs.Items.{variances_at, alias_variances_of, alias_variances_at}
+use Rattle.reference_interner.specs.Forms.{predicates_form, bound_vars_form}
 use Rattle.reference_interner.specs.Nodes.{Entry, entry, meaning_of, form_sort, form_tree, entry_of, entries}
 use Rattle.reference_interner.specs.Nodes.{table_meaning}
 
@@ -66,6 +81,9 @@ module _ (as_before more : List Item) (es : List Entry) where
   same_kind (RawPtr t u) = refl
   same_kind (Ref r t u) = refl
   same_kind (FnDef d a) = refl
+  same_kind (FnPtr b h) = refl
+  same_kind (UnsafeBinder b) = refl
+  same_kind (Dynamic ps r) = refl
   same_kind (Closure d a) = refl
   same_kind (CoroutineClosure d a) = refl
   same_kind (Coroutine d a) = refl
@@ -119,6 +137,38 @@ module _ (as_before more : List Item) (es : List Entry) where
   same_arg (Ty t) = refl
   same_arg (Const c) = refl
 
+  same_term : (t : TermKind NodeKey) → term_tree (meaning_of as_before es) t ≡ term_tree (meaning_of more es) t
+  unfolding meaning_of
+  same_term (TyTerm t) = refl
+  same_term (ConstTerm c) = refl
+
+  same_existential : (p : ExistentialPredicate NodeKey ItemId) →
+      existential_tree (meaning_of as_before es) p ≡ existential_tree (meaning_of more es) p
+  unfolding meaning_of
+  same_existential (Trait t) = refl
+  same_existential (ProjectionPredicate p) =
+      ap (λ x. node (existential_projection ((p.def_id).0).0) (cons x ((meaning_of more es).args p.args)))
+      (same_term p.term)
+  same_existential (AutoTrait d) = refl
+
+  same_predicate : (b : Binder NodeKey (ExistentialPredicate NodeKey ItemId)) →
+      object_predicate_tree (meaning_of as_before es) b ≡ object_predicate_tree (meaning_of more es) b
+  unfolding meaning_of
+  same_predicate b =
+      ap (λ x. under ((meaning_of more es).bound_vars b.bound_vars) x) (same_existential b.value)
+
+  same_variable : (x : BoundVariableKind SymbolId) →
+      bound_kind_of (meaning_of as_before es) x ≡ bound_kind_of (meaning_of more es) x
+  unfolding meaning_of
+  same_variable (TyVariable n) = refl
+  same_variable (RegionVariable n) = refl
+  same_variable (ConstVariable n) = refl
+
+  same_kinds : (xs : List (BoundVariableKind SymbolId)) →
+      bound_kinds (meaning_of as_before es) xs ≡ bound_kinds (meaning_of more es) xs
+  same_kinds [] = refl
+  same_kinds (x ∷ xs) = ap₂ (λ y ys. y ∷ ys) (same_variable x) (same_kinds xs)
+
   same_form : (f : Form) → form_tree (meaning_of as_before es) f ≡ form_tree (meaning_of more es) f
   unfolding meaning_of
   same_form (ty_form f) = same_kind f
@@ -131,6 +181,10 @@ module _ (as_before more : List Item) (es : List Entry) where
   same_form (tys_form ts) = refl
   same_form (branches_form cs) = refl
   same_form (alternatives_form ps) = refl
+  same_form (predicates_form ps) =
+      same_list (object_predicate_tree (meaning_of as_before es)) (object_predicate_tree (meaning_of more es))
+      same_predicate ps
+  same_form (bound_vars_form xs) = ap (λ ks. bind ks nil) (same_kinds xs)
   same_form environment_form = refl
 
 -- A node's entry is one whatever the items are.

@@ -5,11 +5,11 @@ use Rattle.std.proofs.lemmas.Bool.{cases_lt}
 use Rattle.std.proofs.lemmas.List.{get_or_append_left}
 use Rattle.std.proofs.Math.Seq.{get_or-append_seam}
 use Rattle.relation_terms.specs.Trees.{Tree, known}
-use Rattle.relation_terms.specs.Meaning.{Meaning, Extends, arg_tree}
+use Rattle.relation_terms.specs.Meaning.{Meaning, Extends, arg_tree, object_predicate_tree, bound_kinds}
 use Rattle.relation_terms.proofs.Stays.{stays_same}
 use Rattle.relation_terms.proofs.Sorted.{Sorted}
 use Rattle.relation_terms.proofs.Once.{Injective, kind_once, region_once, const_once, valtree_once, arg_once}
-use Rattle.relation_terms.proofs.Once.{pattern_once, list_once}
+use Rattle.relation_terms.proofs.Once.{pattern_once, list_once, object_predicate_once, bound_kinds_once}
 use Rattle.reference_interner.specs.declared.keys.NodeKey.{NodeKey}
 use Rattle.reference_interner.specs.declared.keys.ItemId.{ItemId}
 use Rattle.reference_interner.specs.declared.keys.SymbolId.{SymbolId}
@@ -17,18 +17,19 @@ use Rattle.reference_interner.specs.declared.items.Item.{Item}
 use Rattle.reference_interner.specs.declared.node.Node.{Node}
 use Rattle.reference_interner.specs.Forms.{Form, ty_form, region_form, const_form, valtree_form, args_form, tys_form}
 use Rattle.reference_interner.specs.Forms.{branches_form, environment_form, pattern_form, alternatives_form, form_of}
-use Rattle.reference_interner.specs.Nodes.{NodeSort, Entry, no_entry, entry, tree_as, meaning_of, form_tree, entry_at}
+use Rattle.reference_interner.specs.Nodes.{NodeSort, Entry, no_entry, entry, tree_as, meaning_of, entry_at}
 use Rattle.reference_interner.specs.Nodes.{entry_of, entries, table_meaning, known_entry, AllKnown, AllDistinct}
-use Rattle.reference_interner.specs.Nodes.{StandsAt}
+use Rattle.reference_interner.specs.Nodes.{StandsAt, shown}
+use Rattle.reference_interner.specs.Forms.{predicates_form, bound_vars_form}
 use Rattle.reference_interner.specs.Empty.{KnowsNone}
-use Rattle.reference_interner.specs.Places.{length_entries, known_in, of_sort, reads_itself, tree_of_key, key_reads}
+use Rattle.reference_interner.specs.Places.{length_entries, known_in, of_sort, reads_as_shown, tree_of_key, key_reads}
 use Rattle.reference_interner.specs.Laws.{injective, all_sorted}
 use Rattle.reference_interner.proofs.ItemLemmas.{same_entry}
 use Rattle.reference_interner.proofs.TableLemmas.{tree_in, entries_snoc, extends_node, at_now}
 
 -- Forms of one entry are one form.
 form_once : (m : Meaning NodeKey ItemId SymbolId) → Injective m → Sorted m → (f g : Form) →
-    IsTrue (known (form_tree m f)) → entry_at m f ≡ entry_at m g → f ≡ g
+    IsTrue (known_entry (entry_at m f)) → entry_at m f ≡ entry_at m g → f ≡ g
 form_once m j s (ty_form f) (ty_form g) k e = ap (λ x. ty_form x) (kind_once m j f g k (ap tree_in e))
 form_once m j s (region_form f) (region_form g) k e = ap (λ x. region_form x) (region_once m j f g (ap tree_in e))
 form_once m j s (const_form f) (const_form g) k e = ap (λ x. const_form x) (const_once m j f g k (ap tree_in e))
@@ -43,6 +44,12 @@ form_once m j s (branches_form xs) (branches_form ys) k e =
     ap (λ x. branches_form x) (list_once m.const_ j.const_ xs ys k (ap tree_in e))
 form_once m j s (alternatives_form xs) (alternatives_form ys) k e =
     ap (λ x. alternatives_form x) (list_once m.pat j.pat xs ys k (ap tree_in e))
+form_once m j s (predicates_form xs) (predicates_form ys) k e =
+    ap (λ x. predicates_form x)
+    (list_once (object_predicate_tree m) (object_predicate_once m j s) xs ys k (ap tree_in e))
+form_once m j s (bound_vars_form xs) (bound_vars_form ys) k e =
+    let kinds : bound_kinds m xs ≡ bound_kinds m ys = cc in
+    ap (λ x. bound_vars_form x) (bound_kinds_once m j xs ys kinds)
 form_once m j s environment_form environment_form k e = refl
 form_once m j s f g k e = absurd (cc)
 
@@ -131,8 +138,8 @@ module _ (items : List Item) (ns : List Node) where
 
   -- The key of a number where an entry stands means the entry's tree.
   pub made : (s : NodeSort) (t : Tree) (i : ℕ) → StandsAt ns i (entry s t) →
-      tree_of_key s (table_meaning items ns) i ≡ t
-  made s t i h = key_reads items (entries ns) s i ∙ ap (tree_as s) h ∙ reads_itself s t
+      tree_of_key s (table_meaning items ns) i ≡ shown s t
+  made s t i h = key_reads items (entries ns) s i ∙ ap (tree_as s) h ∙ reads_as_shown s t
 
   -- Where a key of a known tree stands.
   pub stands : (s : NodeSort) (t : Tree) (i : ℕ) → IsTrue (known t) → tree_of_key s (table_meaning items ns) i ≡ t →

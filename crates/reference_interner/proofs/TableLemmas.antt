@@ -1,19 +1,28 @@
 -- A table's entries, and what its keys read.
 use Rattle.std.proofs.Common.{ℕ, zero, suc, ◌+◌, ◌<◌, ◌≡◌, ◌↔◌, IsTrue, List, [], ◌∷◌, ◌++◌, length, get_or, inl, inr}
-use Rattle.std.proofs.Common.{refl, ap, sym, ◌∙◌, subst, arith, length-append}
+use Rattle.std.proofs.Common.{refl, ap, ap₂, sym, ◌∙◌, subst, arith, length-append, IsSome, Option, Some, None}
 use Rattle.std.proofs.lemmas.Bool.{false≢true, cases_lt}
 use Rattle.std.proofs.lemmas.List.{get_or_append_left, get_or_past}
 use Rattle.std.proofs.Math.Seq.{get_or-append_seam}
-use Rattle.relation_terms.specs.Trees.{Tree, nil, known}
-use Rattle.relation_terms.specs.Meaning.{Meaning, Extends, arg_tree}
+use Rattle.relation_terms.specs.Heads.{BoundKind, bound_kind, type_kind, region_kind, const_kind}
+use Rattle.relation_terms.specs.Trees.{Tree, bind, nil, known}
+use Rattle.relation_terms.specs.Meaning.{Meaning, Extends, arg_tree, object_predicate_tree, bound_kind_of, bound_kinds}
+use Rattle.relation_terms.specs.Meaning.{under}
 use Rattle.relation_terms.proofs.Stays.{stays_same, extends_on, stays_kind, stays_region, stays_const, stays_valtree}
-use Rattle.relation_terms.proofs.Stays.{stays_pattern, stays_list, stays_arg}
+use Rattle.relation_terms.proofs.Stays.{stays_pattern, stays_list, stays_arg, stays_object_predicate}
 use Rattle.reference_interner.specs.declared.keys.NodeKey.{NodeKey}
 use Rattle.reference_interner.specs.declared.keys.ItemId.{ItemId}
 use Rattle.reference_interner.specs.declared.keys.SymbolId.{SymbolId}
 use Rattle.reference_interner.specs.declared.items.Item.{Item}
 use Rattle.reference_interner.specs.declared.node.Node.TheVariants.{Ty, Region, Const, ValTree, Args, Tys}
 use Rattle.reference_interner.specs.declared.node.Node.TheVariants.{Branches, Pat, Alternatives}
+use Rattle.reference_interner.specs.declared.node.Node.TheVariants.{ExistentialPredicates, BoundVars}
+use Rattle.relation_terms.specs.declared.predicate.ExistentialPredicate.{ExistentialPredicate}
+use Rattle.relation_terms.specs.declared.terms.binder.Binder.{Binder}
+use Rattle.relation_terms.specs.declared.terms.binder.BoundVariableKind.{BoundVariableKind}
+use Rattle.relation_terms.specs.declared.terms.binder.BoundVariableKind.TheVariants.{Ty as TyVariable}
+use Rattle.relation_terms.specs.declared.terms.binder.BoundVariableKind.TheVariants.{Region as RegionVariable}
+use Rattle.relation_terms.specs.declared.terms.binder.BoundVariableKind.TheVariants.{Const as ConstVariable}
 use Rattle.relation_terms.specs.declared.terms.keys.TyKey.{TyKey}
 use Rattle.relation_terms.specs.declared.terms.keys.ConstKey.{ConstKey}
 use Rattle.relation_terms.specs.declared.terms.keys.PatKey.{PatKey}
@@ -30,9 +39,11 @@ use Rattle.reference_interner.specs.Forms.{Form, ty_form, region_form, const_for
 use Rattle.reference_interner.specs.Forms.{branches_form, environment_form, pattern_form, alternatives_form, form_of}
 use Rattle.reference_interner.specs.Nodes.{NodeSort, ty_node, region_node, const_node, valtree_node, args_node}
 use Rattle.reference_interner.specs.Nodes.{tys_node, branches_node, environment_node, pat_node, alternatives_node}
+use Rattle.reference_interner.specs.Forms.{predicates_form, bound_vars_form}
+use Rattle.reference_interner.specs.Nodes.{predicates_node, bound_vars_node, kinds_in}
 use Rattle.reference_interner.specs.Nodes.{Entry, no_entry, entry, tree_as, meaning_of, form_sort, form_tree, entry_at}
 use Rattle.reference_interner.specs.Nodes.{entry_of, entries_from, entries, table_meaning, known_entry, AllKnown}
-use Rattle.reference_interner.specs.Places.{known_in, of_sort, reads_itself, sure_of, tree_of_key, HasKey, key_reads}
+use Rattle.reference_interner.specs.Places.{known_in, of_sort, reads_as_shown, sure_of, tree_of_key, HasKey, key_reads}
 use Rattle.reference_interner.proofs.ItemLemmas.{same_entry}
 
 abbrev pub sort_in : Entry → NodeSort
@@ -51,6 +62,15 @@ keeps s es fs i k = elim (cases_lt i (length es)) [
   | inr h ↦ absurd (false≢true (subst (λ e. IsTrue (known (tree_as s e))) (get_or_past es i no_entry h) k))
 ]
 
+keeps_list : (es fs : List Entry) (i : ℕ) → IsSome (kinds_in (tree_as bound_vars_node (get_or es i no_entry))) →
+    kinds_in (tree_as bound_vars_node (get_or (es ++ fs) i no_entry)) ≡
+    kinds_in (tree_as bound_vars_node (get_or es i no_entry))
+keeps_list es fs i k = elim (cases_lt i (length es)) [
+  | inl h ↦ ap (λ e. kinds_in (tree_as bound_vars_node e)) (get_or_append_left es fs no_entry i h)
+  | inr h ↦
+      absurd (false≢true (subst (λ e. IsSome (kinds_in (tree_as bound_vars_node e))) (get_or_past es i no_entry h) k))
+]
+
 pub extends_append : (items : List Item) (es fs : List Entry) →
     Extends (meaning_of items es) (meaning_of items (es ++ fs))
 unfolding meaning_of
@@ -64,8 +84,8 @@ extends_append items es fs = record {
   valtree = λ k h. keeps valtree_node es fs (k.0).0 h;
   branches = λ k h. keeps branches_node es fs (k.0).0 h;
   alternatives = λ k h. keeps alternatives_node es fs (k.0).0 h;
-  existential_predicates = λ k h. refl;
-  bound_vars = λ k h. refl;
+  existential_predicates = λ k h. keeps predicates_node es fs (k.0).0 h;
+  bound_vars = λ k h. keeps_list es fs (k.0).0 h;
   predicate = λ k h. refl;
   clause = λ k h. refl;
   param_env = λ k h. keeps environment_node es fs (k.0).0 h;
@@ -124,8 +144,20 @@ node_at es (n ∷ ns) (suc i) d h =
     let z : length es + suc i ≡ length (es ++ e ∷ []) + i = omega (arith, l) in
     record { before = r.before; older = r.older; stands = rw z r.stands }
 
-stays_form : {m n : Meaning NodeKey ItemId SymbolId} → Extends m n → (f : Form) → IsTrue (known (form_tree m f)) →
-    form_tree n f ≡ form_tree m f
+-- A variable of a binder, and a list of them, mean the same while names do.
+stays_variable : {m n : Meaning NodeKey ItemId SymbolId} → Extends m n → (x : BoundVariableKind SymbolId) →
+    bound_kind_of n x ≡ bound_kind_of m x
+stays_variable e (TyVariable x) = ap (λ i. bound_kind type_kind i) (e.name x)
+stays_variable e (RegionVariable x) = ap (λ i. bound_kind region_kind i) (e.name x)
+stays_variable e (ConstVariable x) = ap (λ i. bound_kind const_kind i) (e.name x)
+
+stays_kinds : {m n : Meaning NodeKey ItemId SymbolId} → Extends m n → (xs : List (BoundVariableKind SymbolId)) →
+    bound_kinds n xs ≡ bound_kinds m xs
+stays_kinds e [] = refl
+stays_kinds e (x ∷ xs) = ap₂ (λ y ys. y ∷ ys) (stays_variable e x) (stays_kinds e xs)
+
+stays_form : {m n : Meaning NodeKey ItemId SymbolId} → Extends m n → (f : Form) →
+    IsTrue (known_entry (entry_at m f)) → form_tree n f ≡ form_tree m f
 stays_form e (ty_form f) k = stays_kind e f k
 stays_form e (region_form f) k = stays_region e f k
 stays_form e (const_form f) k = stays_const e f k
@@ -135,6 +167,9 @@ stays_form {m} {n} e (args_form xs) k = stays_list (arg_tree m) (arg_tree n) xs 
 stays_form {m} {n} e (tys_form ts) k = stays_list m.ty n.ty ts e.ty k
 stays_form {m} {n} e (branches_form cs) k = stays_list m.const_ n.const_ cs e.const_ k
 stays_form {m} {n} e (alternatives_form ps) k = stays_list m.pat n.pat ps e.pat k
+stays_form {m} {n} e (predicates_form ps) k =
+    stays_list (object_predicate_tree m) (object_predicate_tree n) ps (stays_object_predicate e) k
+stays_form {m} {n} e (bound_vars_form xs) k = ap (λ ks. bind ks nil) (stays_kinds e xs)
 stays_form e environment_form k = refl
 
 -- An entry is that of the node as its keys are read now.
@@ -148,6 +183,11 @@ at_now ns i d h k =
     let p : get_or (entries ns) i no_entry ≡ entry_at (meaning_of [] a.before) f =
     subst (λ j. get_or (entries ns) j no_entry ≡ entry_at (meaning_of [] a.before) f) z a.stands in
     p ∙ ap (entry (form_sort f)) (sym (stays_form a.older f (subst (λ e. IsTrue (known_entry e)) p k)))
+
+-- The list of a binder over nothing.
+pub list_under : (o : Option (List BoundKind)) (ks : List BoundKind) → under o nil ≡ bind ks nil → o ≡ Some ks
+list_under (Some ls) ks e = cc
+list_under None ks e = absurd (cc)
 
 -- What a known key reads.
 module _ (items : List Item) (ns : List Node) (s : NodeSort) (i : ℕ)
@@ -181,7 +221,7 @@ entry_key : (items : List Item) (ns : List Node) (i : ℕ) (e : Entry) → get_o
     IsTrue (known_entry e) → HasKey (table_meaning items ns) i
 entry_key items ns i no_entry p k = absurd (false≢true k)
 entry_key items ns i (entry s t) p k =
-    let reads = key_reads items (entries ns) s i ∙ ap (tree_as s) p ∙ reads_itself s t in
+    let reads = key_reads items (entries ns) s i ∙ ap (tree_as s) p ∙ reads_as_shown s t in
     (s, subst (λ x. IsTrue (known x)) (sym reads) k)
 
 -- The numbers of known keys are those of nodes.
@@ -233,3 +273,14 @@ pub not_alternatives : (n : Node) → ((v : Vec (PatKey NodeKey) Global) → n �
     alternatives_node ≡ form_sort (form_of n) → ⊥
 not_alternatives (Alternatives v) u e = u v refl
 not_alternatives n u e = absurd (cc)
+
+pub not_predicates : (n : Node) →
+    ((v : Vec (Binder NodeKey (ExistentialPredicate NodeKey ItemId)) Global) → n ≡ ExistentialPredicates v → ⊥) →
+    predicates_node ≡ form_sort (form_of n) → ⊥
+not_predicates (ExistentialPredicates v) u e = u v refl
+not_predicates n u e = absurd (cc)
+
+pub not_bound_vars : (n : Node) → ((v : Vec (BoundVariableKind SymbolId) Global) → n ≡ BoundVars v → ⊥) →
+    bound_vars_node ≡ form_sort (form_of n) → ⊥
+not_bound_vars (BoundVars v) u e = u v refl
+not_bound_vars n u e = absurd (cc)

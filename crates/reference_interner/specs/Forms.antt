@@ -9,12 +9,16 @@ use Rattle.relation_terms.specs.declared.terms.const_kind.ConstKind.{ConstKind}
 use Rattle.relation_terms.specs.declared.terms.const_kind.ValTreeKind.{ValTreeKind}
 use Rattle.relation_terms.specs.declared.terms.pattern_kind.PatternKind.{PatternKind}
 use Rattle.relation_terms.specs.declared.terms.generic_arg.GenericArgKind.{GenericArgKind}
+use Rattle.relation_terms.specs.declared.predicate.ExistentialPredicate.{ExistentialPredicate}
+use Rattle.relation_terms.specs.declared.terms.binder.Binder.{Binder}
+use Rattle.relation_terms.specs.declared.terms.binder.BoundVariableKind.{BoundVariableKind}
 use Rattle.reference_interner.specs.declared.keys.NodeKey.{NodeKey}
 use Rattle.reference_interner.specs.declared.keys.ItemId.{ItemId}
 use Rattle.reference_interner.specs.declared.keys.SymbolId.{SymbolId}
 use Rattle.reference_interner.specs.declared.node.Node.{Node}
 use Rattle.reference_interner.specs.declared.node.Node.TheVariants.{Ty, Region, Const, ValTree, Args, Tys}
 use Rattle.reference_interner.specs.declared.node.Node.TheVariants.{Branches, ParamEnv, Pat, Alternatives}
+use Rattle.reference_interner.specs.declared.node.Node.TheVariants.{ExistentialPredicates, BoundVars}
 
 -- A node's form, whose lists are plain.
 pub data Form : Type 0 where
@@ -27,6 +31,8 @@ pub data Form : Type 0 where
   tys_form : List (TyKey NodeKey) → Form
   branches_form : List (ConstKey NodeKey) → Form
   alternatives_form : List (PatKey NodeKey) → Form
+  predicates_form : List (Binder NodeKey (ExistentialPredicate NodeKey ItemId)) → Form
+  bound_vars_form : List (BoundVariableKind SymbolId) → Form
   environment_form : Form
 
 -- The form of a node.
@@ -40,4 +46,6 @@ form_of (Args v) = args_form v.items
 form_of (Tys v) = tys_form v.items
 form_of (Branches v) = branches_form v.items
 form_of (Alternatives v) = alternatives_form v.items
+form_of (ExistentialPredicates v) = predicates_form v.items
+form_of (BoundVars v) = bound_vars_form v.items
 form_of ParamEnv = environment_form

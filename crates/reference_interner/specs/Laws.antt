@@ -1,16 +1,19 @@
 -- What holds of the keys of a table: each reads a term of its sort, and in a table in which nothing stands twice keys
 -- of one tree are one key.
-use Rattle.std.proofs.Common.{ℕ, ◌≡◌, ◌↔◌, IsTrue, List, [], ◌∷◌, ◌++◌, length, get_or, eqb, ap, sym, ◌∙◌}
-use Rattle.std.proofs.Common.{subst, inl, inr}
+use Rattle.std.proofs.Common.{ℕ, ◌≡◌, ◌↔◌, IsTrue, List, [], ◌∷◌, ◌++◌, length, get_or, eqb, refl, ap, sym, ◌∙◌}
+use Rattle.std.proofs.Common.{subst, inl, inr, Some, IsSome}
 use Rattle.std.proofs.lemmas.Bool.{eqb-true, eq-eqb, cases_lt}
 use Rattle.std.proofs.lemmas.List.{get_or_append_left, get_or_past}
 use Rattle.std.proofs.Math.Seq.{get_or-append_seam}
 use Rattle.relation_terms.specs.Heads.{type_sort, region_sort, const_sort, value_sort, pattern_sort, argument_sort}
-use Rattle.relation_terms.specs.Heads.{environment_sort}
-use Rattle.relation_terms.specs.Trees.{Tree, known, IsTerm, AreTerms}
-use Rattle.relation_terms.specs.Meaning.{Meaning, arg_tree}
+use Rattle.relation_terms.specs.Heads.{environment_sort, existential_sort, row, binder_of}
+use Rattle.relation_terms.specs.Trees.{Tree, nil, known, Fits, IsTerm, AreTerms}
+use Rattle.relation_terms.specs.Meaning.{Meaning, arg_tree, object_predicate_tree, under}
 use Rattle.relation_terms.proofs.Sorted.{Sorted, kind_sorted, region_sorted, const_sorted, valtree_sorted, arg_sorted}
-use Rattle.relation_terms.proofs.Sorted.{pattern_sorted, list_sorted, environment_sorted}
+use Rattle.relation_terms.proofs.Sorted.{pattern_sorted, list_sorted, environment_sorted, binders_sorted}
+use Rattle.relation_terms.proofs.Sorted.{object_predicate_sorted}
+use Rattle.relation_terms.proofs.Binders.{known_under}
+use Rattle.relation_terms.specs.declared.terms.keys.BoundVarsKey.{BoundVarsKey}
 use Rattle.relation_terms.proofs.Once.{Injective}
 use Rattle.relation_terms.proofs.Lists.{last_place}
 use Rattle.reference_interner.specs.declared.keys.NodeKey.{NodeKey}
@@ -22,11 +25,14 @@ use Rattle.reference_interner.specs.Forms.{Form, ty_form, region_form, const_for
 use Rattle.reference_interner.specs.Forms.{branches_form, environment_form, pattern_form, alternatives_form, form_of}
 use Rattle.reference_interner.specs.Nodes.{NodeSort, ty_node, region_node, const_node, valtree_node, args_node}
 use Rattle.reference_interner.specs.Nodes.{tys_node, branches_node, environment_node, pat_node, alternatives_node}
+use Rattle.reference_interner.specs.Forms.{predicates_form, bound_vars_form}
+use Rattle.reference_interner.specs.Nodes.{predicates_node, bound_vars_node}
 use Rattle.reference_interner.specs.Nodes.{Entry, no_entry, entry, tree_as, meaning_of, form_sort, form_tree, entry_of}
 use Rattle.reference_interner.specs.Nodes.{entries_from, entries, table_meaning, known_entry, AllDistinct}
-use Rattle.reference_interner.specs.Places.{known_in, of_sort, tree_of_key, key_reads}
+use Rattle.reference_interner.specs.Places.{known_in, of_sort, shown_as, tree_of_key, key_reads}
 
--- The tree is a term, or a list of terms, as a node of the sort has.
+-- The tree is a term, or a list of terms or of binders over terms, as a node of the sort has. Of a list of variables
+-- nothing is asked.
 abbrev pub IsOfSort : NodeSort → Tree → Type 0
 IsOfSort ty_node t = IsTerm type_sort t
 IsOfSort region_node t = IsTerm region_sort t
@@ -37,6 +43,8 @@ IsOfSort args_node t = AreTerms argument_sort t
 IsOfSort tys_node t = AreTerms type_sort t
 IsOfSort branches_node t = AreTerms const_sort t
 IsOfSort alternatives_node t = AreTerms pattern_sort t
+IsOfSort predicates_node t = Fits (row [] (Some (binder_of existential_sort))) t
+IsOfSort bound_vars_node t = Unit {0}
 IsOfSort environment_node t = IsTerm environment_sort t
 
 -- A known tree of an entry is of the entry's sort.
@@ -69,6 +77,7 @@ sorted items es h = record {
   branches = λ k. key_sorted items es h branches_node (k.0).0;
   pat = λ k. key_sorted items es h pat_node (k.0).0;
   alternatives = λ k. key_sorted items es h alternatives_node (k.0).0;
+  existential_predicates = λ k. key_sorted items es h predicates_node (k.0).0;
 }
 
 form_sorted : (m : Meaning NodeKey ItemId SymbolId) → Sorted m → (f : Form) → IsTrue (known (form_tree m f)) →
@@ -82,6 +91,9 @@ form_sorted m s (args_form xs) k = list_sorted argument_sort (arg_tree m) (arg_s
 form_sorted m s (tys_form ts) k = list_sorted type_sort m.ty s.ty ts k
 form_sorted m s (branches_form cs) k = list_sorted const_sort m.const_ s.const_ cs k
 form_sorted m s (alternatives_form ps) k = list_sorted pattern_sort m.pat s.pat ps k
+form_sorted m s (predicates_form ps) k =
+    binders_sorted existential_sort (object_predicate_tree m) (object_predicate_sorted m s) ps k
+form_sorted m s (bound_vars_form xs) k = tt
 form_sorted m s environment_form k = environment_sorted
 
 one_more : (es : List Entry) (e : Entry) → AllSorted es → IsSorted e → AllSorted (es ++ e ∷ [])
@@ -139,8 +151,16 @@ module _ (items : List Item) (ns : List Node) (d : AllDistinct ns) where
       let h : IsTrue (known (tree_as s (get_or (entries ns) i no_entry))) = subst (λ x. IsTrue (known x)) a k in
       let same : tree_as s (get_or (entries ns) i no_entry) ≡ u = sym a ∙ e ∙ b in
       let l : IsTrue (known u) = subst (λ x. IsTrue (known x)) same h in
-      same_place ns d i j (entry s u) l
+      let is_shown = sym (shown_as s (get_or (entries ns) j no_entry)) in
+      same_place ns d i j (entry s u) (subst (λ x. IsTrue (known x)) is_shown l)
       (of_sort s (get_or (entries ns) i no_entry) h ∙ ap (entry s) same) (of_sort s (get_or (entries ns) j no_entry) l)
+
+  -- Known lists of variables that are one are one key's.
+  once_listed : (k l : BoundVarsKey NodeKey) → IsSome ((table_meaning items ns).bound_vars k) →
+      (table_meaning items ns).bound_vars k ≡ (table_meaning items ns).bound_vars l → (k.0).0 ≡ (l.0).0
+  once_listed k l h e =
+      let m = table_meaning items ns in
+      once bound_vars_node (k.0).0 (l.0).0 (known_under (m.bound_vars k) nil h refl) (ap (λ o. under o nil) e)
 
   pub injective : Injective (table_meaning items ns)
   unfolding meaning_of
@@ -154,6 +174,9 @@ module _ (items : List Item) (ns : List Node) (d : AllDistinct ns) where
     branches = λ k l h e. ap (λ n. record { 0 = record { 0 = n } }) (once branches_node (k.0).0 (l.0).0 h e);
     pat = λ k l h e. ap (λ n. record { 0 = record { 0 = n } }) (once pat_node (k.0).0 (l.0).0 h e);
     alternatives = λ k l h e. ap (λ n. record { 0 = record { 0 = n } }) (once alternatives_node (k.0).0 (l.0).0 h e);
+    existential_predicates = λ k l h e.
+        ap (λ n. record { 0 = record { 0 = n } }) (once predicates_node (k.0).0 (l.0).0 h e);
+    bound_vars = λ k l h e. ap (λ n. record { 0 = record { 0 = n } }) (once_listed k l h e);
     id = λ x y e. ap (λ n. record { 0 = n }) e;
     name = λ x y e. ap (λ n. record { 0 = n }) e;
   }
@@ -165,4 +188,14 @@ module _ (items : List Item) (ns : List Node) (d : AllDistinct ns) where
   same_law s i j h _ = (
     λ e. ap (λ n. tree_of_key s (table_meaning items ns) n) (eqb-true i j e),
     λ e. eq-eqb i j (once s i j h e),
+  )
+
+  -- Known keys of lists of variables are equal exactly where the lists are.
+  pub same_kinds_law : (i j : ℕ) → IsSome ((table_meaning items ns).bound_vars (record { 0 = record { 0 = i } })) →
+      IsSome ((table_meaning items ns).bound_vars (record { 0 = record { 0 = j } })) →
+      (IsTrue (eqb i j) ↔ ((table_meaning items ns).bound_vars (record { 0 = record { 0 = i } }) ≡
+      (table_meaning items ns).bound_vars (record { 0 = record { 0 = j } })))
+  same_kinds_law i j h _ = (
+    λ e. ap (λ n. (table_meaning items ns).bound_vars (record { 0 = record { 0 = n } })) (eqb-true i j e),
+    λ e. eq-eqb i j (once_listed (record { 0 = record { 0 = i } }) (record { 0 = record { 0 = j } }) h e),
   )

@@ -1,10 +1,10 @@
 -- What the numbers of a table's nodes mean.
 use Rattle.std.specs.Prelude.{ℕ, ◌≡◌, ◌<◌, Bool, true, false, IsTrue, cond, length, List, [], ◌∷◌, ◌++◌}
-use Rattle.std.specs.Prelude.{slice_index_or, None}
-use Rattle.relation_terms.specs.Heads.{environment, unknown}
-use Rattle.relation_terms.specs.Trees.{Tree, leaf, node, nil, known, list_tree}
+use Rattle.std.specs.Prelude.{slice_index_or, Option, Some, None}
+use Rattle.relation_terms.specs.Heads.{environment, unknown, BoundKind}
+use Rattle.relation_terms.specs.Trees.{Tree, leaf, node, bind, nil, known, list_tree}
 use Rattle.relation_terms.specs.Meaning.{Meaning, kind_tree, region_tree, const_tree, valtree_tree, arg_tree}
-use Rattle.relation_terms.specs.Meaning.{pattern_tree}
+use Rattle.relation_terms.specs.Meaning.{pattern_tree, object_predicate_tree, bound_kinds, under}
 use Rattle.reference_interner.specs.declared.keys.NodeKey.{NodeKey}
 use Rattle.reference_interner.specs.declared.keys.ItemId.{ItemId}
 use Rattle.reference_interner.specs.declared.keys.SymbolId.{SymbolId}
@@ -12,12 +12,13 @@ use Rattle.reference_interner.specs.declared.node.Node.{Node}
 use Rattle.reference_interner.specs.declared.items.Item.{Item}
 use Rattle.reference_interner.specs.Forms.{Form, ty_form, region_form, const_form, valtree_form, args_form, tys_form}
 use Rattle.reference_interner.specs.Forms.{branches_form, environment_form, pattern_form, alternatives_form, form_of}
+use Rattle.reference_interner.specs.Forms.{predicates_form, bound_vars_form}
 use Rattle.reference_interner.specs.Items.{variances_at, alias_variances_at}
 
 -- What a key may stand for.
 pub data NodeSort : Type 0 where
   ty_node region_node const_node valtree_node pat_node args_node tys_node branches_node alternatives_node : NodeSort
-  environment_node : NodeSort
+  predicates_node bound_vars_node environment_node : NodeSort
 
 -- Whether the sorts are one.
 abbrev pub same_sort : NodeSort → NodeSort → Bool
@@ -30,8 +31,20 @@ same_sort args_node args_node = true
 same_sort tys_node tys_node = true
 same_sort branches_node branches_node = true
 same_sort alternatives_node alternatives_node = true
+same_sort predicates_node predicates_node = true
+same_sort bound_vars_node bound_vars_node = true
 same_sort environment_node environment_node = true
 same_sort s r = false
+
+-- The list that a binder over nothing has.
+abbrev pub kinds_in : Tree → Option (List BoundKind)
+kinds_in (bind ks nil) = Some ks
+kinds_in t = None
+
+-- What a tree is as one of a sort. A list of variables is a binder over nothing; no other tree is one.
+abbrev pub shown : NodeSort → Tree → Tree
+shown bound_vars_node t = under (kinds_in t) nil
+shown s t = t
 
 -- The tree of a node, with its sort.
 pub data Entry : Type 0 where
@@ -41,7 +54,7 @@ pub data Entry : Type 0 where
 -- The tree of an entry of a sort; nothing is known of the others.
 abbrev pub tree_as : NodeSort → Entry → Tree
 tree_as s no_entry = leaf unknown
-tree_as s (entry r t) = cond (same_sort s r) t (leaf unknown)
+tree_as s (entry r t) = cond (same_sort s r) (shown s t) (leaf unknown)
 
 -- What keys and ids mean, by their numbers. No node is of another sort than these.
 unfoldable pub meaning_of : List Item → List Entry → Meaning NodeKey ItemId SymbolId
@@ -55,8 +68,8 @@ meaning_of items es = record {
   valtree = λ k. tree_as valtree_node (slice_index_or es (k.0).0 no_entry);
   branches = λ k. tree_as branches_node (slice_index_or es (k.0).0 no_entry);
   alternatives = λ k. tree_as alternatives_node (slice_index_or es (k.0).0 no_entry);
-  existential_predicates = λ k. leaf unknown;
-  bound_vars = λ k. None;
+  existential_predicates = λ k. tree_as predicates_node (slice_index_or es (k.0).0 no_entry);
+  bound_vars = λ k. kinds_in (tree_as bound_vars_node (slice_index_or es (k.0).0 no_entry));
   predicate = λ k. leaf unknown;
   clause = λ k. leaf unknown;
   param_env = λ k. tree_as environment_node (slice_index_or es (k.0).0 no_entry);
@@ -78,6 +91,8 @@ form_sort (args_form xs) = args_node
 form_sort (tys_form ts) = tys_node
 form_sort (branches_form cs) = branches_node
 form_sort (alternatives_form ps) = alternatives_node
+form_sort (predicates_form ps) = predicates_node
+form_sort (bound_vars_form xs) = bound_vars_node
 form_sort environment_form = environment_node
 
 -- The tree of a form.
@@ -91,6 +106,8 @@ form_tree m (args_form xs) = list_tree (arg_tree m) xs
 form_tree m (tys_form ts) = list_tree m.ty ts
 form_tree m (branches_form cs) = list_tree m.const_ cs
 form_tree m (alternatives_form ps) = list_tree m.pat ps
+form_tree m (predicates_form ps) = list_tree (object_predicate_tree m) ps
+form_tree m (bound_vars_form xs) = bind (bound_kinds m xs) nil
 form_tree m environment_form = node environment nil
 
 -- The entry of a form.
@@ -114,10 +131,10 @@ entries ns = entries_from [] ns
 abbrev pub table_meaning : List Item → List Node → Meaning NodeKey ItemId SymbolId
 table_meaning items ns = meaning_of items (entries ns)
 
--- No part of the entry's tree is unknown.
+-- No part of what the entry shows is unknown.
 abbrev pub known_entry : Entry → Bool
 known_entry no_entry = false
-known_entry (entry s t) = known t
+known_entry (entry s t) = known (shown s t)
 
 -- Each node speaks of things that were there before it, of the right sorts.
 abbrev pub AllKnown : List Node → Type 0

@@ -3,8 +3,8 @@ use Rattle.std.proofs.Common.{ℕ, ◌+◌, ◌<◌, ◌≡◌, IsTrue, List, []
 use Rattle.std.proofs.Common.{subst, add-zero, zero-add, true}
 use Rattle.std.proofs.lemmas.Bool.{false≢true, cases_lt}
 use Rattle.std.proofs.lemmas.List.{get_or_past}
-use Rattle.relation_terms.specs.Trees.{Tree, known}
-use Rattle.relation_terms.specs.Meaning.{Meaning}
+use Rattle.relation_terms.specs.Trees.{Tree, bind, nil, known}
+use Rattle.relation_terms.specs.Meaning.{Meaning, under}
 use Rattle.relation_terms.proofs.Lists.{length_after}
 use Rattle.reference_interner.specs.declared.keys.NodeKey.{NodeKey}
 use Rattle.reference_interner.specs.declared.keys.ItemId.{ItemId}
@@ -13,7 +13,7 @@ use Rattle.reference_interner.specs.declared.items.Item.{Item}
 use Rattle.reference_interner.specs.declared.node.Node.{Node}
 use Rattle.reference_interner.specs.Nodes.{NodeSort, ty_node, region_node, const_node, valtree_node, args_node}
 use Rattle.reference_interner.specs.Nodes.{tys_node, branches_node, environment_node, pat_node, alternatives_node}
-use Rattle.reference_interner.specs.Nodes.{same_sort}
+use Rattle.reference_interner.specs.Nodes.{predicates_node, bound_vars_node, same_sort, shown, kinds_in}
 use Rattle.reference_interner.specs.Nodes.{Entry, no_entry, entry, tree_as, meaning_of, entry_of}
 use Rattle.reference_interner.specs.Nodes.{entries_from, entries, known_entry}
 
@@ -43,6 +43,8 @@ sort_itself args_node = refl
 sort_itself tys_node = refl
 sort_itself branches_node = refl
 sort_itself alternatives_node = refl
+sort_itself predicates_node = refl
+sort_itself bound_vars_node = refl
 sort_itself environment_node = refl
 
 -- An entry that reads as known, at a sort, is one of that sort.
@@ -56,18 +58,34 @@ of_sort args_node (entry args_node t) k = refl
 of_sort tys_node (entry tys_node t) k = refl
 of_sort branches_node (entry branches_node t) k = refl
 of_sort alternatives_node (entry alternatives_node t) k = refl
+of_sort predicates_node (entry predicates_node t) k = refl
+of_sort bound_vars_node (entry bound_vars_node (bind ks nil)) k = refl
 of_sort environment_node (entry environment_node t) k = refl
 of_sort s e k = absurd (false≢true k)
 
--- A tree reads as itself at its entry's sort.
-pub reads_itself : (s : NodeSort) (t : Tree) → tree_as s (entry s t) ≡ t
-reads_itself s t = rw (sort_itself s) refl
+-- A tree reads as one of its entry's sort.
+pub reads_as_shown : (s : NodeSort) (t : Tree) → tree_as s (entry s t) ≡ shown s t
+reads_as_shown s t = rw (sort_itself s) refl
+
+-- What is shown of an entry is shown once.
+list_once : (t : Tree) → under (kinds_in (under (kinds_in t) nil)) nil ≡ under (kinds_in t) nil
+list_once (bind ks nil) = refl
+list_once t = refl
+
+list_as : (e : Entry) → under (kinds_in (tree_as bound_vars_node e)) nil ≡ tree_as bound_vars_node e
+list_as (entry bound_vars_node t) = list_once t
+list_as e = refl
+
+pub shown_as : (s : NodeSort) (e : Entry) → shown s (tree_as s e) ≡ tree_as s e
+shown_as bound_vars_node e = list_as e
+shown_as s e = refl
 
 -- What is known at a sort is known.
 pub sure_of : (s : NodeSort) (e : Entry) → IsTrue (known (tree_as s e)) → IsTrue (known_entry e)
-sure_of s e k = subst (λ x. IsTrue (known_entry x)) (sym (of_sort s e k)) k
+sure_of s e k =
+    subst (λ x. IsTrue (known_entry x)) (sym (of_sort s e k)) (subst (λ x. IsTrue (known x)) (sym (shown_as s e)) k)
 
--- The tree of the key that has a number, at a sort.
+-- The tree of the key that has a number, at a sort; of a list of variables, a binder over nothing.
 abbrev pub tree_of_key : NodeSort → Meaning NodeKey ItemId SymbolId → ℕ → Tree
 tree_of_key ty_node m i = m.ty (record { 0 = record { 0 = i } })
 tree_of_key region_node m i = m.region (record { 0 = record { 0 = i } })
@@ -78,6 +96,8 @@ tree_of_key args_node m i = m.args (record { 0 = record { 0 = i } })
 tree_of_key tys_node m i = m.tys (record { 0 = record { 0 = i } })
 tree_of_key branches_node m i = m.branches (record { 0 = record { 0 = i } })
 tree_of_key alternatives_node m i = m.alternatives (record { 0 = record { 0 = i } })
+tree_of_key predicates_node m i = m.existential_predicates (record { 0 = record { 0 = i } })
+tree_of_key bound_vars_node m i = under (m.bound_vars (record { 0 = record { 0 = i } })) nil
 tree_of_key environment_node m i = m.param_env (record { 0 = record { 0 = i } })
 
 -- A key of the number, of some sort, is known.
@@ -97,4 +117,6 @@ key_reads items es args_node i = refl
 key_reads items es tys_node i = refl
 key_reads items es branches_node i = refl
 key_reads items es alternatives_node i = refl
+key_reads items es predicates_node i = refl
+key_reads items es bound_vars_node i = list_as (get_or es i no_entry)
 key_reads items es environment_node i = refl

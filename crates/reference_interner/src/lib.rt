@@ -16,8 +16,10 @@ pub use items::{DefKind, GenericParam, GenericParamKind, Item, ItemKind};
 pub use keys::{ItemId, NoSpan, NodeKey, SymbolId};
 pub use node::Node;
 use node::copied;
+use relation_terms::predicate::ObjectPredicate;
 use relation_terms::terms::{
-    Alternatives, AlternativesKey, ArgsKey, Branches, BranchesKey, Const, ConstForm, ConstKey,
+    Alternatives, AlternativesKey, ArgsKey, BoundVariable, BoundVars, BoundVarsKey, Branches,
+    BranchesKey, Const, ConstForm, ConstKey, ExistentialPredicates, ExistentialPredicatesKey,
     GenericArg, GenericArgs, Interner, ItemOf, Keys, OutOfMemory, ParamEnv, ParamEnvKey, Pat,
     PatKey, PatternForm, Region, RegionForm, RegionKey, Span, Ty, TyForm, TyKey, Tys, TysKey,
     ValTree, ValTreeForm, ValTreeKey, Variance,
@@ -73,16 +75,17 @@ impl Interner for RefInterner {
     ghost use Rattle.relation_terms.specs.Heads.{environment};
     ghost use Rattle.relation_terms.specs.Trees.{known, list_tree, node, nil};
     ghost use Rattle.relation_terms.specs.Meaning.{Extends, kind_tree, region_tree, const_tree, valtree_tree, arg_tree};
-    ghost use Rattle.relation_terms.specs.Meaning.{pattern_tree};
+    ghost use Rattle.relation_terms.specs.Meaning.{pattern_tree, object_predicate_tree};
     ghost use Rattle.relation_terms.specs.Interning.{RemakesTy, RemakesRegion, RemakesConst, RemakesValTree};
     ghost use Rattle.relation_terms.specs.Interning.{RemakesEmptyEnv, MakesTys, MakesArgs, MakesBranches};
     ghost use Rattle.relation_terms.specs.Interning.{KeepsTys, KeepsArgs, KeepsBranches};
     ghost use Rattle.relation_terms.specs.Interning.{RemakesPat, MakesAlternatives, KeepsAlternatives};
+    ghost use Rattle.relation_terms.specs.Interning.{MakesPredicates, KeepsPredicates, MakesBoundVars, KeepsBoundVars};
     ghost use Rattle.reference_interner.specs.Nodes.{ty_node, region_node, const_node, valtree_node, args_node};
     ghost use Rattle.reference_interner.specs.Nodes.{tys_node, branches_node, environment_node};
-    ghost use Rattle.reference_interner.specs.Nodes.{pat_node, alternatives_node};
+    ghost use Rattle.reference_interner.specs.Nodes.{pat_node, alternatives_node, predicates_node};
     ghost use Rattle.reference_interner.specs.Adding.{meaning_in, node_count};
-    ghost use Rattle.reference_interner.specs.Laws.{sort_law, same_law, same_name_law, same_id_law};
+    ghost use Rattle.reference_interner.specs.Laws.{sort_law, same_law, same_kinds_law, same_name_law, same_id_law};
 
     ghost meaning = { λ s. meaning_in s };
 
@@ -153,6 +156,23 @@ impl Interner for RefInterner {
     fn alternatives(&self, alternatives: &Alternatives<Self>) -> &[Pat<Self>] {
         match &self.nodes[alternatives.0.0] {
             Node::Alternatives(list) => list.as_slice(),
+            _ => unreachable!(),
+        }
+    }
+
+    fn existential_predicates(
+        &self,
+        predicates: &ExistentialPredicates<Self>,
+    ) -> &[ObjectPredicate<Self>] {
+        match &self.nodes[predicates.0.0] {
+            Node::ExistentialPredicates(list) => list.as_slice(),
+            _ => unreachable!(),
+        }
+    }
+
+    fn bound_vars(&self, bound_vars: &BoundVars<Self>) -> &[BoundVariable<Self>] {
+        match &self.nodes[bound_vars.0.0] {
+            Node::BoundVars(list) => list.as_slice(),
             _ => unreachable!(),
         }
     }
@@ -291,6 +311,38 @@ impl Interner for RefInterner {
         Ok(AlternativesKey(number))
     }
 
+    fn mk_existential_predicates(
+        &mut self,
+        predicates: &[ObjectPredicate<Self>],
+    ) -> Result<ExistentialPredicates<Self>, OutOfMemory>
+        requires { IsTrue (known (list_tree (object_predicate_tree (meaning_in self.old)) predicates.now)) }
+        ensures grown { Extends (meaning_in self.old) (meaning_in self.new) }
+        ensures sure { IfOk result (λ k. IsTrue (known ((meaning_in self.new).existential_predicates k))) }
+        ensures made { MakesPredicates (meaning_in self.old) (meaning_in self.new) predicates.now result }
+        ensures refused { OnErr result (meaning_in self.new ≡ meaning_in self.old) }
+        ensures there { KeepsPredicates (meaning_in self.old) (meaning_in self.new) predicates.now }
+        ensures one_more { node_count self.new ≤ suc (node_count self.old) }
+    {
+        let list = copied(self.alloc, predicates)?;
+        let number = self.add(Node::ExistentialPredicates(list))?;
+        Ok(ExistentialPredicatesKey(number))
+    }
+
+    fn mk_bound_vars(
+        &mut self,
+        bound_vars: &[BoundVariable<Self>],
+    ) -> Result<BoundVars<Self>, OutOfMemory>
+        ensures grown { Extends (meaning_in self.old) (meaning_in self.new) }
+        ensures made { MakesBoundVars (meaning_in self.old) (meaning_in self.new) bound_vars.now result }
+        ensures refused { OnErr result (meaning_in self.new ≡ meaning_in self.old) }
+        ensures there { KeepsBoundVars (meaning_in self.old) (meaning_in self.new) bound_vars.now }
+        ensures one_more { node_count self.new ≤ suc (node_count self.old) }
+    {
+        let list = copied(self.alloc, bound_vars)?;
+        let number = self.add(Node::BoundVars(list))?;
+        Ok(BoundVarsKey(number))
+    }
+
     fn empty_param_env(&mut self) -> Result<ParamEnv<Self>, OutOfMemory>
         ensures grown { Extends (meaning_in self.old) (meaning_in self.new) }
         ensures sure { IfOk result (λ k. IsTrue (known ((meaning_in self.new).param_env k))) }
@@ -322,6 +374,11 @@ impl Interner for RefInterner {
     ghost same_alternatives = { λ a k l.
         same_law a.items.items a.nodes.items a.distinct alternatives_node (k.0).0 (l.0).0 };
 
+    ghost same_existential_predicates = { λ a k l.
+        same_law a.items.items a.nodes.items a.distinct predicates_node (k.0).0 (l.0).0 };
+
+    ghost same_bound_vars = { λ a k l. same_kinds_law a.items.items a.nodes.items a.distinct (k.0).0 (l.0).0 };
+
     ghost same_param_env = { λ a k l.
         same_law a.items.items a.nodes.items a.distinct environment_node (k.0).0 (l.0).0 };
 
@@ -346,6 +403,8 @@ impl Interner for RefInterner {
     ghost is_pat = { λ a k. sort_law a.items.items a.nodes.items pat_node (k.0).0 };
 
     ghost are_alternatives = { λ a k. sort_law a.items.items a.nodes.items alternatives_node (k.0).0 };
+
+    ghost are_existential_predicates = { λ a k. sort_law a.items.items a.nodes.items predicates_node (k.0).0 };
 
     ghost is_param_env = { λ a k. sort_law a.items.items a.nodes.items environment_node (k.0).0 };
 }

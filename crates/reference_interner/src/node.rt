@@ -3,9 +3,10 @@ ghost use Rattle.std.specs.Prelude.{◌≡◌, IfOk};
 ghost use Rattle.reference_interner.specs.Forms.{form_of};
 
 use crate::{ItemId, NodeKey, SymbolId};
+use relation_terms::predicate::ExistentialPredicate;
 use relation_terms::terms::{
-    ConstKey, ConstKind, GenericArgKind, OutOfMemory, PatKey, PatternKind, RegionKind, TyKey,
-    TyKind, ValTreeKind,
+    Binder, BoundVariableKind, ConstKey, ConstKind, GenericArgKind, OutOfMemory, PatKey,
+    PatternKind, RegionKind, TyKey, TyKind, ValTreeKind,
 };
 use std::alloc::Global;
 
@@ -30,6 +31,10 @@ pub enum Node {
     Branches(Vec<ConstKey<NodeKey>>),
     /// A list of patterns, the alternatives of one.
     Alternatives(Vec<PatKey<NodeKey>>),
+    /// A list of a trait object's predicates, each under its binder.
+    ExistentialPredicates(Vec<Binder<NodeKey, ExistentialPredicate<NodeKey, ItemId>>>),
+    /// A list of a binder's variables.
+    BoundVars(Vec<BoundVariableKind<SymbolId>>),
     /// The environment without clauses.
     ParamEnv,
 }
@@ -59,6 +64,11 @@ pub fn copied_node(alloc: Global, node: &Node) -> Result<Node, OutOfMemory>
         Node::Tys(list) => Ok(Node::Tys(copied(alloc, list.as_slice())?)),
         Node::Branches(list) => Ok(Node::Branches(copied(alloc, list.as_slice())?)),
         Node::Alternatives(list) => Ok(Node::Alternatives(copied(alloc, list.as_slice())?)),
+        Node::ExistentialPredicates(list) => Ok(Node::ExistentialPredicates(copied(
+            alloc,
+            list.as_slice(),
+        )?)),
+        Node::BoundVars(list) => Ok(Node::BoundVars(copied(alloc, list.as_slice())?)),
         Node::ParamEnv => Ok(Node::ParamEnv),
     }
 }

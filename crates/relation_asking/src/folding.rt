@@ -58,7 +58,7 @@ impl<'a, I: Interner> TypeFolder<I> for Puts<'a, I::Key> {
     ghost replaces = { λ m f d t. tree_put m f.puts.now t };
 
     #[tactic(auto, using(relation_terms::proofs::Stays::stays_same))]
-    fn fold_ty(&mut self, cx: &mut I, ty: &Ty<I>, _depth: u64) -> Result<Fold<Ty<I>>, OutOfMemory> {
+    fn fold_ty(&mut self, cx: &mut I, ty: &Ty<I>, _depth: u128) -> Result<Fold<Ty<I>>, OutOfMemory> {
         match put_for(cx, self.puts, GenericArgKind::Ty(*ty)) {
             Some(GenericArgKind::Ty(by)) => Ok(Fold::Replace(by)),
             Some(GenericArgKind::Lifetime(_)) => Ok(Fold::Descend),
@@ -72,7 +72,7 @@ impl<'a, I: Interner> TypeFolder<I> for Puts<'a, I::Key> {
         &mut self,
         cx: &mut I,
         region: &Region<I>,
-        _depth: u64,
+        _depth: u128,
     ) -> Result<Fold<Region<I>>, OutOfMemory> {
         match put_for(cx, self.puts, GenericArgKind::Lifetime(*region)) {
             Some(GenericArgKind::Lifetime(by)) => Ok(Fold::Replace(by)),
@@ -87,7 +87,7 @@ impl<'a, I: Interner> TypeFolder<I> for Puts<'a, I::Key> {
         &mut self,
         cx: &mut I,
         constant: &Const<I>,
-        _depth: u64,
+        _depth: u128,
     ) -> Result<Fold<Const<I>>, OutOfMemory> {
         match put_for(cx, self.puts, GenericArgKind::Const(*constant)) {
             Some(GenericArgKind::Const(by)) => Ok(Fold::Replace(by)),

@@ -73,15 +73,15 @@ impl<'a, I: Interner> TypeVisitor<I> for Collects<'a, I::Key> {
 
     ghost visits = { λ cx v d t w a. Asks (I.meaning cx) v d t w a };
 
-    fn visit_ty(&mut self, _cx: &I, ty: &Ty<I>, _depth: u64) -> Visit {
+    fn visit_ty(&mut self, _cx: &I, ty: &Ty<I>, _depth: u128) -> Visit {
         self.meet(GenericArgKind::Ty(*ty))
     }
 
-    fn visit_region(&mut self, _cx: &I, region: &Region<I>, _depth: u64) -> Visit {
+    fn visit_region(&mut self, _cx: &I, region: &Region<I>, _depth: u128) -> Visit {
         self.meet(GenericArgKind::Lifetime(*region))
     }
 
-    fn visit_const(&mut self, _cx: &I, constant: &Const<I>, _depth: u64) -> Visit {
+    fn visit_const(&mut self, _cx: &I, constant: &Const<I>, _depth: u128) -> Visit {
         self.meet(GenericArgKind::Const(*constant))
     }
 }

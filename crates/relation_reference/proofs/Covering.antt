@@ -19,6 +19,7 @@ use Rattle.relation_reference.specs.Tables.{store_of, IsLawful}
 -- A part of a covered term is covered, and what stands in one stands in the term.
 parts_covered : (t : Tree) → IsCovered t → IsCovered (parts_of t)
 parts_covered (node h ts) c = c.1
+parts_covered (bind ks t) c = absurd c
 parts_covered t c = tt
 
 pub part_covered : (t : Tree) (i : ℕ) → i < count (parts_of t) → IsCovered t → IsCovered (nth i (parts_of t))
@@ -27,6 +28,7 @@ part_covered t i l c = covered_nth (parts_of t) i l (parts_covered t c)
 pub covered_open : (l : Leaf) (t : Tree) → IsCovered t → StandsOutside l (parts_of t) → StandsOutside l t
 covered_open l (node (alias k d) ts) c o = absurd c.0
 covered_open l (node h ts) c o = o
+covered_open l (bind ks t) c o = absurd c
 covered_open l t c o = absurd o
 
 -- A covered type that is no type variable is of a form.

@@ -31,7 +31,7 @@ pub occurs_nowhere : (n : ℕ) (t : Tree) → (t ≡ leaf (variable type_var n) 
     Occurs type_var n t → ⊥
 occurs_nowhere n (leaf l) v s p h o = v o
 occurs_nowhere n (node g ts) v s p h o = nowhere type_var n ts p h o
-occurs_nowhere n (bind ks t) v s p h o = s refl
+occurs_nowhere n (bind ks t) v s p h o = h 0 (omega arith) o
 occurs_nowhere n nil v s p h o = s refl
 occurs_nowhere n (cons t ts) v s p h o = s refl
 

@@ -1,5 +1,5 @@
 -- What walks through terms remember, as they go on.
-use Rattle.std.proofs.Common.{ℕ, ◌≡◌, ◌↔◌, IsTrue, Bool, true, false, cond, Option, Some, None, IfSome, refl, sym, ap}
+use Rattle.std.proofs.Common.{ℕ, ◌≡◌, ◌↔◌, IsTrue, Bool, true, false, cond, Option, Some, None, option_map, IfSome, refl, sym, ap}
 use Rattle.std.proofs.Common.{ap₂, ◌∙◌, ◌&&◌, eqb, subst, [], Result, Ok, Err, OnOk}
 use Rattle.std.proofs.lemmas.Bool.{and_parts, eqb-true, false≢true}
 use Rattle.std.specs.HashMap.{HashMap, get, IsEmpty}
@@ -12,6 +12,7 @@ use Rattle.relation_terms.specs.Meaning.{Meaning, Extends}
 use Rattle.relation_terms.specs.Parts.{part_tree, part_sort, part_key}
 use Rattle.relation_terms.specs.declared.terms.part_kind.Part.{Part}
 use Rattle.relation_terms.specs.declared.terms.part_kind.Part.TheVariants.{Region, Ty, Const, ValTree, Pat, ValueType}
+use Rattle.relation_terms.specs.declared.terms.part_kind.Part.TheVariants.{Object}
 use Rattle.relation_terms.proofs.Stays.{knows_as}
 use Rattle.relation_terms.proofs.Parts.{stays_part}
 use Rattle.type_relations.specs.Stores.{resolved}
@@ -32,34 +33,53 @@ pub on_ok : {A E P : Type 0} (r : Result A E) → P → OnOk r P
 on_ok (Ok x) p = p
 on_ok (Err e) p = tt
 
--- Parts of one rank are of one sort.
-one_sort : {Key : Type 0} (p q : Part Key) → part_rank p ≡ part_rank q → part_sort p ≡ part_sort q
-one_sort (Region r) (Region s) e = refl
-one_sort (Ty t) (Ty u) e = refl
-one_sort (Const c) (Const d) e = refl
-one_sort (ValTree v) (ValTree w) e = refl
-one_sort (Pat a) (Pat b) e = refl
-one_sort (ValueType t) (ValueType u) e = refl
-one_sort p q e = absurd (cc)
+-- What is looked for a part by: its key and its rank.
+keyed : {Key : Type 0} (o : Option Key) (r : ℕ) (q : PartKey Key) →
+    option_map (λ k. record { sort = r; key = k }) o ≡ Some q → (o ≡ Some q.key) × (r ≡ q.sort)
+keyed (Some k) r q e =
+    let h : record { sort = r; key = k } ≡ q = cc in
+    (ap (λ x. Some x.key) h, ap (λ x. x.sort) h)
+keyed None r q e = absurd (cc)
+
+-- Parts of one rank that have keys are of one sort.
+one_sort : {Key Id : Type 0} (p q : Part Key Id) (x y : Key) → part_key p ≡ Some x → part_key q ≡ Some y →
+    part_rank p ≡ part_rank q → part_sort p ≡ part_sort q
+one_sort (Region r) (Region s) x y a b e = refl
+one_sort (Ty t) (Ty u) x y a b e = refl
+one_sort (Const c) (Const d) x y a b e = refl
+one_sort (ValTree v) (ValTree w) x y a b e = refl
+one_sort (Pat o) (Pat p) x y a b e = refl
+one_sort (ValueType t) (ValueType u) x y a b e = refl
+one_sort (Object o) (Object p) x y a b e = refl
+one_sort p q x y a b e = absurd (cc)
 
 -- Known parts of equal keys are one tree, of one sort.
 module _ {Key Id Name : Type 0} (m : Meaning Key Id Name) (eq : Key → Key → Bool)
-    (same : (p q : Part Key) → part_sort q ≡ part_sort p → IsTrue (known (part_tree m p)) →
-    IsTrue (known (part_tree m q)) → (IsTrue (eq (part_key p) (part_key q)) ↔ (part_tree m p ≡ part_tree m q))) where
-  found_sort : (p q : Part Key) → IsTrue (key_eq eq (key_of p) (key_of q)) → part_sort p ≡ part_sort q
-  found_sort p q h = one_sort p q (eqb-true (part_rank p) (part_rank q)
-      (and_parts (eqb (part_rank p) (part_rank q)) (eq (part_key p) (part_key q)) h).0)
+    (same : (p q : Part Key Id) (x y : Key) → part_key p ≡ Some x → part_key q ≡ Some y → part_sort q ≡ part_sort p →
+    IsTrue (known (part_tree m p)) → IsTrue (known (part_tree m q)) →
+    (IsTrue (eq x y) ↔ (part_tree m p ≡ part_tree m q))) where
+  found_sort : (p q : Part Key Id) (x y : PartKey Key) → key_of p ≡ Some x → key_of q ≡ Some y →
+      IsTrue (key_eq eq x y) → part_sort p ≡ part_sort q
+  found_sort p q x y a b h =
+      let here = keyed (part_key p) (part_rank p) x a in
+      let there = keyed (part_key q) (part_rank q) y b in
+      one_sort p q x.key y.key here.0 there.0
+      (here.1 ∙ eqb-true x.sort y.sort (and_parts (eqb x.sort y.sort) (eq x.key y.key) h).0 ∙ sym there.1)
 
-  found_tree : (p q : Part Key) → IsTrue (key_eq eq (key_of p) (key_of q)) → IsTrue (known (part_tree m p)) →
-      IsTrue (known (part_tree m q)) → part_tree m p ≡ part_tree m q
-  found_tree p q h k l = (same p q (sym (found_sort p q h)) k l).0
-      (and_parts (eqb (part_rank p) (part_rank q)) (eq (part_key p) (part_key q)) h).1
+  found_tree : (p q : Part Key Id) (x y : PartKey Key) → key_of p ≡ Some x → key_of q ≡ Some y →
+      IsTrue (key_eq eq x y) → IsTrue (known (part_tree m p)) → IsTrue (known (part_tree m q)) →
+      part_tree m p ≡ part_tree m q
+  found_tree p q x y a b h k l =
+      let here = keyed (part_key p) (part_rank p) x a in
+      let there = keyed (part_key q) (part_rank q) y b in
+      (same p q x.key y.key here.0 there.0 (sym (found_sort p q x y a b h)) k l).0
+      (and_parts (eqb x.sort y.sort) (eq x.key y.key) h).1
 
 -- What was resolved stays so while the interner grows: `d` is the context after.
 module _ {I Key Id Name Span : Type 0} (meaning : I → Meaning Key Id Name) (c d : RefCtxt I Key Id Name Span)
     (lawful : IsLawful (meaning c.interner) c.inner) (grown : Extends (meaning c.interner) (meaning d.interner))
     (same : d.inner ≡ c.inner) where
-  pub came : (p by : Part Key) → IsTrue (known (part_tree (meaning c.interner) p)) →
+  pub came : (p by : Part Key Id) → IsTrue (known (part_tree (meaning c.interner) p)) →
       IsTrue (known (part_tree (meaning d.interner) by)) →
       part_tree (meaning d.interner) by ≡ resolved_in meaning c (part_tree (meaning c.interner) p) →
       part_sort by ≡ part_sort p → ComesTo meaning d p by
@@ -72,61 +92,63 @@ module _ {I Key Id Name Span : Type 0} (meaning : I → Meaning Key Id Name) (c 
         sort = s;
       }
 
-  comes_on : (p by : Part Key) → ComesTo meaning c p by → ComesTo meaning d p by
+  comes_on : (p by : Part Key Id) → ComesTo meaning c p by → ComesTo meaning d p by
   comes_on p by i =
       let b : part_tree (meaning d.interner) by ≡ part_tree (meaning c.interner) by = stays_part grown by i.sure in
       came p by i.there (knows_as (part_tree (meaning c.interner) by) (part_tree (meaning d.interner) by) b i.sure)
       (b ∙ i.comes) i.sort
 
   pub remembers_on : {S : Type 0} (eq : PartKey Key → PartKey Key → Bool)
-      (memory : HashMap (PartKey Key) (Part Key) S) → Remembers meaning c eq memory → Remembers meaning d eq memory
+      (memory : HashMap (PartKey Key) (Part Key Id) S) → Remembers meaning c eq memory → Remembers meaning d eq memory
   remembers_on eq memory r = λ q by e.
       let k = r q by e in
-      record { part = k.part; same = k.same; is = comes_on k.part by k.is }
+      record { part = k.part; key = k.key; stands = k.stands; same = k.same; is = comes_on k.part by k.is }
 
 module _ {I Key Id Name Span : Type 0} (meaning : I → Meaning Key Id Name) (c : RefCtxt I Key Id Name Span) where
-  one_more : (b : Bool) (by new : Part Key) (o : Option (Part Key)) (P : Part Key → Type 0) →
-      (IsTrue b → P new) → ((x : Part Key) → o ≡ Some x → P x) → cond b (Some new) o ≡ Some by → P by
+  one_more : (b : Bool) (by new : Part Key Id) (o : Option (Part Key Id)) (P : Part Key Id → Type 0) →
+      (IsTrue b → P new) → ((x : Part Key Id) → o ≡ Some x → P x) → cond b (Some new) o ≡ Some by → P by
   one_more true by new o P f g e =
       let same : new ≡ by = cc in
       subst P same (f refl)
   one_more false by new o P f g e = g by e
 
   pub remembers_more : {S : Type 0} (eq : PartKey Key → PartKey Key → Bool)
-      (old new : HashMap (PartKey Key) (Part Key) S) (p by : Part Key) → ComesTo meaning c p by →
-      ((q : PartKey Key) → get eq new q ≡ cond (eq (key_of p) q) (Some by) (get eq old q)) →
+      (old new : HashMap (PartKey Key) (Part Key Id) S) (p by : Part Key Id) (key : PartKey Key) →
+      key_of p ≡ Some key → ComesTo meaning c p by →
+      ((q : PartKey Key) → get eq new q ≡ cond (eq key q) (Some by) (get eq old q)) →
       Remembers meaning c eq old → Remembers meaning c eq new
-  remembers_more eq old new p by i u r = λ q x e.
-      one_more (eq (key_of p) q) x by (get eq old q) (IsKept meaning c eq q)
-      (λ t. record { part = p; same = t; is = i }) (r q) (sym (u q) ∙ e)
+  remembers_more eq old new p by key o i u r = λ q x e.
+      one_more (eq key q) x by (get eq old q) (IsKept meaning c eq q)
+      (λ t. record { part = p; key = key; stands = o; same = t; is = i }) (r q) (sym (u q) ∙ e)
 
   pub remembers_none : {S : Type 0} (eq : PartKey Key → PartKey Key → Bool)
-      (memory : HashMap (PartKey Key) (Part Key) S) → IsEmpty memory → Remembers meaning c eq memory
+      (memory : HashMap (PartKey Key) (Part Key Id) S) → IsEmpty memory → Remembers meaning c eq memory
   remembers_none eq memory u = λ q x e.
       let h : Some x ≡ None = sym e ∙ ap (λ es. lookup (eq q) es) u in
       absurd (cc)
 
   -- What is found of a known part is what it comes to.
   module _ (eq : Key → Key → Bool)
-      (same : (p q : Part Key) → part_sort q ≡ part_sort p → IsTrue (known (part_tree (meaning c.interner) p)) →
-      IsTrue (known (part_tree (meaning c.interner) q)) →
-      (IsTrue (eq (part_key p) (part_key q)) ↔ (part_tree (meaning c.interner) p ≡ part_tree (meaning c.interner) q)))
+      (same : (p q : Part Key Id) (x y : Key) → part_key p ≡ Some x → part_key q ≡ Some y → part_sort q ≡ part_sort p →
+      IsTrue (known (part_tree (meaning c.interner) p)) → IsTrue (known (part_tree (meaning c.interner) q)) →
+      (IsTrue (eq x y) ↔ (part_tree (meaning c.interner) p ≡ part_tree (meaning c.interner) q)))
     where
-      kept_comes : (p by : Part Key) → IsTrue (known (part_tree (meaning c.interner) p)) →
-          IsKept meaning c (key_eq eq) (key_of p) by → ComesTo meaning c p by
-      kept_comes p by k h = record {
+      kept_comes : (p by : Part Key Id) (key : PartKey Key) → key_of p ≡ Some key →
+          IsTrue (known (part_tree (meaning c.interner) p)) → IsKept meaning c (key_eq eq) key by → ComesTo meaning c p by
+      kept_comes p by key s k h = record {
         there = k;
         sure = h.is.sure;
         comes = h.is.comes ∙ ap (resolved_in meaning c)
-            (found_tree (meaning c.interner) eq same h.part p h.same h.is.there k);
-        sort = h.is.sort ∙ found_sort (meaning c.interner) eq same h.part p h.same;
+            (found_tree (meaning c.interner) eq same h.part p h.key key h.stands s h.same h.is.there k);
+        sort = h.is.sort ∙ found_sort (meaning c.interner) eq same h.part p h.key key h.stands s h.same;
       }
 
-      pub recalled : {S : Type 0} (memory : HashMap (PartKey Key) (Part Key) S) →
-          Remembers meaning c (key_eq eq) memory → (p : Part Key) → IsTrue (known (part_tree (meaning c.interner) p)) →
-          (o : Option (Part Key)) → o ≡ get (key_eq eq) memory (key_of p) → IfSome o (ComesTo meaning c p)
-      recalled memory r p k None e = tt
-      recalled memory r p k (Some by) e = kept_comes p by k (r (key_of p) by (sym e))
+      pub recalled : {S : Type 0} (memory : HashMap (PartKey Key) (Part Key Id) S) →
+          Remembers meaning c (key_eq eq) memory → (p : Part Key Id) (key : PartKey Key) → key_of p ≡ Some key →
+          IsTrue (known (part_tree (meaning c.interner) p)) →
+          (o : Option (Part Key Id)) → o ≡ get (key_eq eq) memory key → IfSome o (ComesTo meaning c p)
+      recalled memory r p key s k None e = tt
+      recalled memory r p key s k (Some by) e = kept_comes p by key s k (r key by (sym e))
 
 -- Parts that a variable doesn't stand in.
 module _ {Key Id Name : Type 0} (m : Meaning Key Id Name) (n : ℕ) where
@@ -135,24 +157,26 @@ module _ {Key Id Name : Type 0} (m : Meaning Key Id Name) (n : ℕ) where
   or_more false o P f g h = g h
 
   pub lacks_more : {S : Type 0} (eq : PartKey Key → PartKey Key → Bool) (old new : HashSet (PartKey Key) S)
-      (p : Part Key) → IsWithout m n p →
-      ((q : PartKey Key) → contains eq new q ≡ cond (eq (key_of p) q) true (contains eq old q)) →
+      (p : Part Key Id) (key : PartKey Key) → key_of p ≡ Some key → IsWithout m n p →
+      ((q : PartKey Key) → contains eq new q ≡ cond (eq key q) true (contains eq old q)) →
       Lacks m n eq old → Lacks m n eq new
-  lacks_more eq old new p i u r = λ q h.
-      or_more (eq (key_of p) q) (contains eq old q) (IsLacking m n eq q)
-      (λ t. record { part = p; same = t; is = i }) (r q) (subst (λ b. IsTrue b) (u q) h)
+  lacks_more eq old new p key o i u r = λ q h.
+      or_more (eq key q) (contains eq old q) (IsLacking m n eq q)
+      (λ t. record { part = p; key = key; stands = o; same = t; is = i }) (r q) (subst (λ b. IsTrue b) (u q) h)
 
   pub lacks_none : {S : Type 0} (eq : PartKey Key → PartKey Key → Bool) (lacking : HashSet (PartKey Key) S) →
       lacking.keys ≡ [] → Lacks m n eq lacking
   lacks_none eq lacking u = λ q h. absurd (false≢true (sym (ap (λ ks. list_any (eq q) ks) u) ∙ h))
 
   pub found_absent : (eq : Key → Key → Bool)
-      (same : (p q : Part Key) → part_sort q ≡ part_sort p → IsTrue (known (part_tree m p)) →
-      IsTrue (known (part_tree m q)) → (IsTrue (eq (part_key p) (part_key q)) ↔ (part_tree m p ≡ part_tree m q)))
-      {S : Type 0} (lacking : HashSet (PartKey Key) S) → Lacks m n (key_eq eq) lacking → (p : Part Key) →
-      IsTrue (known (part_tree m p)) → IsTrue (contains (key_eq eq) lacking (key_of p)) →
+      (same : (p q : Part Key Id) (x y : Key) → part_key p ≡ Some x → part_key q ≡ Some y → part_sort q ≡ part_sort p →
+      IsTrue (known (part_tree m p)) → IsTrue (known (part_tree m q)) →
+      (IsTrue (eq x y) ↔ (part_tree m p ≡ part_tree m q)))
+      {S : Type 0} (lacking : HashSet (PartKey Key) S) → Lacks m n (key_eq eq) lacking → (p : Part Key Id)
+      (key : PartKey Key) → key_of p ≡ Some key →
+      IsTrue (known (part_tree m p)) → IsTrue (contains (key_eq eq) lacking key) →
       Occurs type_var n (part_tree m p) → ⊥
-  found_absent eq same lacking r p k h o =
-      let found = r (key_of p) h in
-      found.is.absent
-      (subst (Occurs type_var n) (sym (found_tree m eq same found.part p found.same found.is.there k)) o)
+  found_absent eq same lacking r p key s k h o =
+      let found = r key h in
+      found.is.absent (subst (Occurs type_var n)
+      (sym (found_tree m eq same found.part p found.key key found.stands s found.same found.is.there k)) o)

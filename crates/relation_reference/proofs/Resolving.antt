@@ -10,6 +10,7 @@ use Rattle.relation_terms.specs.Parts.{part_tree, part_sort, tree_sort, parts_of
 use Rattle.relation_terms.specs.declared.terms.keys.TyKey.{TyKey}
 use Rattle.relation_terms.specs.declared.terms.part_kind.Part.{Part}
 use Rattle.relation_terms.specs.declared.terms.part_kind.Part.TheVariants.{Region, Ty, Const, ValTree, Pat, ValueType}
+use Rattle.relation_terms.specs.declared.terms.part_kind.Part.TheVariants.{Binder, Signature, Inputs, Existential, Object}
 use Rattle.relation_terms.proofs.Stays.{stays_list, knows_as}
 use Rattle.type_relations.specs.Stores.{Store, bound_term, IsSound, IsTermIn}
 use Rattle.type_relations.specs.Stores.{InContext, resolved, weight}
@@ -23,22 +24,32 @@ use Rattle.relation_reference.proofs.Grows.{store_grows, lawful_grows}
 use Rattle.relation_reference.proofs.Reading.{other_free}
 
 -- A part that is no type is of another sort, and each part is of some.
-module _ {Key : Type 0} where
-  pub not_type : (p : Part Key) → ((t : TyKey Key) → p ≡ Ty t → ⊥) → part_sort p ≡ type_sort → ⊥
+module _ {Key Id : Type 0} where
+  pub not_type : (p : Part Key Id) → ((t : TyKey Key) → p ≡ Ty t → ⊥) → part_sort p ≡ type_sort → ⊥
   not_type (Ty t) n e = n t refl
   not_type (Region r) n e = cc
   not_type (Const c) n e = cc
   not_type (ValTree v) n e = cc
   not_type (Pat v) n e = cc
   not_type (ValueType t) n e = cc
+  not_type (Binder vs b) n e = cc
+  not_type (Signature s) n e = cc
+  not_type (Inputs t) n e = cc
+  not_type (Existential p) n e = cc
+  not_type (Object k) n e = cc
 
-  pub some_sort : (p : Part Key) → part_sort p ≡ no_sort → ⊥
+  pub some_sort : (p : Part Key Id) → part_sort p ≡ no_sort → ⊥
   some_sort (Ty t) e = cc
   some_sort (Region r) e = cc
   some_sort (Const c) e = cc
   some_sort (ValTree v) e = cc
   some_sort (Pat v) e = cc
   some_sort (ValueType t) e = cc
+  some_sort (Binder vs b) e = cc
+  some_sort (Signature s) e = cc
+  some_sort (Inputs t) e = cc
+  some_sort (Existential p) e = cc
+  some_sort (Object k) e = cc
 
 -- A term comes to its form over what its parts come to, where it is no variable that has a term.
 pub comes_by_parts : (st : Store) (t : Tree) → (tree_sort t ≡ no_sort → ⊥) →
@@ -50,7 +61,7 @@ comes_by_parts st (leaf (placeholder k u n)) s f = refl
 comes_by_parts st (leaf (atom x)) s f = refl
 comes_by_parts st (leaf unknown) s f = refl
 comes_by_parts st (node h ts) s f = refl
-comes_by_parts st (bind ks t) s f = absurd (s refl)
+comes_by_parts st (bind ks t) s f = refl
 comes_by_parts st nil s f = absurd (s refl)
 comes_by_parts st (cons t ts) s f = absurd (s refl)
 
@@ -72,7 +83,7 @@ shallow_by_parts st nil (formed f) = absurd f
 shallow_by_parts st (cons t ts) (formed f) = absurd f
 
 pub other_by_parts : {Key Id Name : Type 0} (m : Meaning Key Id Name) (x : InferCtxtInner Key) →
-    IsSound (store_of m x) → (p : Part Key) → ((t : TyKey Key) → p ≡ Ty t → ⊥) →
+    IsSound (store_of m x) → (p : Part Key Id) → ((t : TyKey Key) → p ≡ Ty t → ⊥) →
     tree_sort (part_tree m p) ≡ part_sort p → apply (resolved (store_of m x)) (part_tree m p) ≡
     over (part_tree m p) (apply (resolved (store_of m x)) (parts_of (part_tree m p)))
 other_by_parts m x g p n e = comes_by_parts (store_of m x) (part_tree m p) (λ s. some_sort p (sym e ∙ s))
@@ -94,7 +105,8 @@ size_falls : (s : Assign) (t : Tree) (i : ℕ) → i < count (parts_of t) →
     size (apply s (nth i (parts_of t))) < size (apply s t)
 size_falls s (node h ts) i l = let e = nth_size s ts i l in omega (arith, e)
 size_falls s (leaf x) i l = absurd (omega arith)
-size_falls s (bind ks t) i l = absurd (omega arith)
+size_falls s (bind ks t) zero l = omega arith
+size_falls s (bind ks t) (suc i) l = absurd (omega (arith, l))
 size_falls s nil i l = absurd (omega arith)
 size_falls s (cons t ts) i l = absurd (omega arith)
 
@@ -135,20 +147,20 @@ module _ {Key Id Name : Type 0} {m n : Meaning Key Id Name} (first : Extends m n
     part_comes b q = q ∙ ap₂ (λ st v. apply (resolved st) v) store_now part_was
 
 -- The first parts of a list have been resolved: what the keys mean, and of which sorts they are.
-pub record Done {Key : Type 0} (s : Assign) (f : Part Key → Tree) (i : ℕ) (ts : Tree) (xs : List (Part Key)) : Type 0
+pub record Done {Key Id : Type 0} (s : Assign) (f : Part Key Id → Tree) (i : ℕ) (ts : Tree) (xs : List (Part Key Id)) : Type 0
   where
     pub same : list_tree f xs ≡ apply s (firsts i ts)
     pub sure : IsTrue (known (list_tree f xs))
     pub fit : Fit xs (firsts i ts)
 
-pub done_none : {Key : Type 0} (s : Assign) (f : Part Key → Tree) (ts : Tree) (xs : List (Part Key)) → xs ≡ [] →
+pub done_none : {Key Id : Type 0} (s : Assign) (f : Part Key Id → Tree) (ts : Tree) (xs : List (Part Key Id)) → xs ≡ [] →
     Done s f 0 ts xs
 done_none s f ts xs e = subst (Done s f 0 ts) (sym e) (record { same = refl; sure = refl; fit = tt })
 
 -- One more, in an interner that has grown.
-module _ {Key : Type 0} (s : Assign) (f g : Part Key → Tree) (stay : (x : Part Key) → IsTrue (known (f x)) → g x ≡ f x)
-    (y : Part Key) where
-  fit_next : (i : ℕ) (ts : Tree) (xs : List (Part Key)) → i < count ts → Fit xs (firsts i ts) →
+module _ {Key Id : Type 0} (s : Assign) (f g : Part Key Id → Tree) (stay : (x : Part Key Id) → IsTrue (known (f x)) → g x ≡ f x)
+    (y : Part Key Id) where
+  fit_next : (i : ℕ) (ts : Tree) (xs : List (Part Key Id)) → i < count ts → Fit xs (firsts i ts) →
       part_sort y ≡ tree_sort (nth i ts) → Fit (xs ++ y ∷ []) (firsts (suc i) ts)
   fit_next zero (cons t ts) [] h a q = (q, tt)
   fit_next zero (cons t ts) (x ∷ xs) h a q = absurd a
@@ -159,13 +171,13 @@ module _ {Key : Type 0} (s : Assign) (f g : Part Key → Tree) (stay : (x : Part
   fit_next i (bind ks l) xs h a q = absurd (omega arith)
   fit_next i nil xs h a q = absurd (omega arith)
 
-  same_next : (i : ℕ) (ts : Tree) (xs : List (Part Key)) → i < count ts → IsTrue (known (list_tree f xs)) →
+  same_next : (i : ℕ) (ts : Tree) (xs : List (Part Key Id)) → i < count ts → IsTrue (known (list_tree f xs)) →
       list_tree f xs ≡ apply s (firsts i ts) → g y ≡ apply s (nth i ts) →
       list_tree g (xs ++ y ∷ []) ≡ apply s (firsts (suc i) ts)
   same_next i ts xs h k e q = list_push g xs y ∙ ap₂ snoc (stays_list f g xs stay k ∙ e) q
       ∙ sym (apply_snoc s i ts (nth i ts)) ∙ ap (apply s) (sym (firsts_more i ts h))
 
-  pub done_next : (i j : ℕ) (ts : Tree) (xs ys : List (Part Key)) → Done s f i ts xs → i < count ts → j ≡ suc i →
+  pub done_next : (i j : ℕ) (ts : Tree) (xs ys : List (Part Key Id)) → Done s f i ts xs → i < count ts → j ≡ suc i →
       g y ≡ apply s (nth i ts) → IsTrue (known (g y)) → part_sort y ≡ tree_sort (nth i ts) → ys ≡ xs ++ y ∷ [] →
       Done s g j ts ys
   done_next i j ts xs ys d h e q k o r =
@@ -176,7 +188,7 @@ module _ {Key : Type 0} (s : Assign) (f g : Part Key → Tree) (stay : (x : Part
       })
 
 -- All were.
-pub done_all : {Key : Type 0} (s : Assign) (f : Part Key → Tree) (i : ℕ) (ts : Tree) (xs : List (Part Key)) →
+pub done_all : {Key Id : Type 0} (s : Assign) (f : Part Key Id → Tree) (i : ℕ) (ts : Tree) (xs : List (Part Key Id)) →
     IsList ts → i ≡ count ts → Done s f i ts xs → (list_tree f xs ≡ apply s ts) × Fit xs ts
 done_all s f i ts xs l e d =
     let whole : firsts i ts ≡ ts = ap (λ n. firsts n ts) e ∙ firsts_all ts l in

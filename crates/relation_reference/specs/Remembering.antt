@@ -1,5 +1,5 @@
 -- What walks through terms remember of the parts that they have met.
-use Rattle.std.specs.Prelude.{◌≡◌, ℕ, Bool, IsTrue, Some}
+use Rattle.std.specs.Prelude.{◌≡◌, ℕ, Bool, IsTrue, Option, Some, option_map}
 use Rattle.std.specs.HashMap.{HashMap, get}
 use Rattle.std.specs.HashSet.{HashSet, contains}
 use Rattle.relation_terms.specs.Heads.{type_var}
@@ -12,39 +12,43 @@ use Rattle.relation_reference.specs.declared.context.memory.PartKey.{PartKey}
 use Rattle.relation_reference.specs.declared.context.variables.RefCtxt.{RefCtxt}
 use Rattle.relation_reference.specs.RefCtxt.{resolved_in}
 
--- A part, as it is looked for.
-abbrev pub key_of : {Key : Type 0} → Part Key → PartKey Key
-key_of p = record { sort = part_rank p; key = part_key p }
+-- A part that has a key, as it is looked for.
+abbrev pub key_of : {Key Id : Type 0} → Part Key Id → Option (PartKey Key)
+key_of p = option_map (λ k. record { sort = part_rank p; key = k }) (part_key p)
 
 module _ {I Key Id Name Span : Type 0} (meaning : I → Meaning Key Id Name) (c : RefCtxt I Key Id Name Span) where
   -- What a known part comes to in a context, at every depth.
-  pub record ComesTo (p by : Part Key) : Type 0 where
+  pub record ComesTo (p by : Part Key Id) : Type 0 where
     pub there : IsTrue (known (part_tree (meaning c.interner) p))
     pub sure : IsTrue (known (part_tree (meaning c.interner) by))
     pub comes : part_tree (meaning c.interner) by ≡ resolved_in meaning c (part_tree (meaning c.interner) p)
     pub sort : part_sort by ≡ part_sort p
 
   -- What is kept at a key is what a part of an equal key comes to.
-  pub record IsKept (eq : PartKey Key → PartKey Key → Bool) (q : PartKey Key) (by : Part Key) : Type 0 where
-    pub part : Part Key
-    pub same : IsTrue (eq (key_of part) q)
+  pub record IsKept (eq : PartKey Key → PartKey Key → Bool) (q : PartKey Key) (by : Part Key Id) : Type 0 where
+    pub part : Part Key Id
+    pub key : PartKey Key
+    pub stands : key_of part ≡ Some key
+    pub same : IsTrue (eq key q)
     pub is : ComesTo part by
 
   -- What is found is kept so.
   abbrev pub Remembers : {S : Type 0} → (PartKey Key → PartKey Key → Bool) →
-      HashMap (PartKey Key) (Part Key) S → Type 0
-  Remembers eq memory = (q : PartKey Key) (by : Part Key) → get eq memory q ≡ Some by → IsKept eq q by
+      HashMap (PartKey Key) (Part Key Id) S → Type 0
+  Remembers eq memory = (q : PartKey Key) (by : Part Key Id) → get eq memory q ≡ Some by → IsKept eq q by
 
 module _ {Key Id Name : Type 0} (m : Meaning Key Id Name) (n : ℕ) where
   -- A known part that a type variable doesn't stand in.
-  pub record IsWithout (p : Part Key) : Type 0 where
+  pub record IsWithout (p : Part Key Id) : Type 0 where
     pub there : IsTrue (known (part_tree m p))
     pub absent : Occurs type_var n (part_tree m p) → ⊥
 
   -- It stands in no part of an equal key.
   pub record IsLacking (eq : PartKey Key → PartKey Key → Bool) (q : PartKey Key) : Type 0 where
-    pub part : Part Key
-    pub same : IsTrue (eq (key_of part) q)
+    pub part : Part Key Id
+    pub key : PartKey Key
+    pub stands : key_of part ≡ Some key
+    pub same : IsTrue (eq key q)
     pub is : IsWithout part
 
   -- What is found is such a part.

@@ -57,6 +57,29 @@ use Rattle.relation_terms.specs.declared.terms.region_kind.RegionKind.{RegionKin
 use Rattle.relation_terms.specs.declared.terms.region_kind.RegionKind.TheVariants.{ReStatic, ReEarlyParam, ReBound}
 use Rattle.relation_terms.specs.declared.terms.region_kind.RegionKind.TheVariants.{ReVar, RePlaceholder}
 use Rattle.relation_terms.specs.declared.terms.region_kind.BoundRegion.{BoundRegion}
+use Rattle.relation_terms.specs.Heads.{fn_ptr, unsafe_binder, dynamic}
+use Rattle.relation_terms.specs.declared.terms.enums.Safety.{Safety}
+use Rattle.relation_terms.specs.declared.terms.enums.ExternAbi.{ExternAbi}
+use Rattle.relation_terms.specs.Trees.{front, last}
+use Rattle.relation_terms.specs.Meaning.{under, sig_of, signature_tree, existential_tree, term_tree}
+use Rattle.relation_terms.specs.Meaning.{object_predicate_tree, bound_kind_of, bound_kinds}
+use Rattle.relation_terms.specs.Parts.{fn_ptr_of, unsafe_of}
+use Rattle.relation_terms.specs.declared.terms.keys.ExistentialPredicatesKey.{ExistentialPredicatesKey}
+use Rattle.relation_terms.specs.declared.terms.keys.BoundVarsKey.{BoundVarsKey}
+use Rattle.relation_terms.specs.declared.terms.generic_arg.TermKind.{TermKind}
+use Rattle.relation_terms.specs.declared.terms.generic_arg.TermKind.TheVariants.{Ty as TyTerm, Const as ConstTerm}
+use Rattle.relation_terms.specs.declared.terms.fn_sig.FnSig.{FnSig}
+use Rattle.relation_terms.specs.declared.predicate.ExistentialPredicate.{ExistentialPredicate}
+use Rattle.relation_terms.specs.declared.predicate.ExistentialPredicate.TheVariants.{Trait, AutoTrait}
+use Rattle.relation_terms.specs.declared.predicate.ExistentialPredicate.TheVariants.{Projection as ProjectionPredicate}
+use Rattle.relation_terms.specs.declared.terms.binder.BoundVariableKind.{BoundVariableKind}
+use Rattle.relation_terms.specs.declared.terms.binder.BoundVariableKind.TheVariants.{Ty as TyVariable}
+use Rattle.relation_terms.specs.declared.terms.binder.BoundVariableKind.TheVariants.{Region as RegionVariable}
+use Rattle.relation_terms.specs.declared.terms.binder.BoundVariableKind.TheVariants.{Const as ConstVariable}
+use Rattle.relation_terms.specs.declared.terms.ty_kind.TyKind.TheVariants.{FnPtr, UnsafeBinder, Dynamic}
+use Rattle.relation_terms.specs.declared.terms.binder.Binder.{Binder}
+use Rattle.std.proofs.Common.{IsSome}
+use Rattle.relation_terms.proofs.Binders.{under_known, under_once, front_known, front_last_once}
 
 -- Known keys of one tree are one key, and ids and names of one number are one.
 pub record Injective {Key Id Name : Type 0} (m : Meaning Key Id Name) : Type 0 where
@@ -70,6 +93,9 @@ pub record Injective {Key Id Name : Type 0} (m : Meaning Key Id Name) : Type 0 w
   pub pat : (k l : PatKey Key) → IsTrue (known (m.pat k)) → m.pat k ≡ m.pat l → k ≡ l
   pub alternatives : (k l : AlternativesKey Key) → IsTrue (known (m.alternatives k)) →
       m.alternatives k ≡ m.alternatives l → k ≡ l
+  pub existential_predicates : (k l : ExistentialPredicatesKey Key) → IsTrue (known (m.existential_predicates k)) →
+      m.existential_predicates k ≡ m.existential_predicates l → k ≡ l
+  pub bound_vars : (k l : BoundVarsKey Key) → IsSome (m.bound_vars k) → m.bound_vars k ≡ m.bound_vars l → k ≡ l
   pub id : (d e : Id) → m.id d ≡ m.id e → d ≡ e
   pub name : (x y : Name) → m.name x ≡ m.name y → x ≡ y
 
@@ -129,6 +155,9 @@ kind_tag (TyBound d b) = 22
 kind_tag (TyPlaceholder p) = 23
 kind_tag (Infer i) = 24
 kind_tag (TyError e) = 25
+kind_tag (FnPtr b h) = 26
+kind_tag (UnsafeBinder b) = 27
+kind_tag (Dynamic ps r) = 28
 
 abbrev tree_tag : Tree → ℕ
 tree_tag (leaf (atom bool_type)) = 0
@@ -156,6 +185,9 @@ tree_tag (leaf (atom (type_param i n))) = 21
 tree_tag (leaf (bound k d i)) = 22
 tree_tag (leaf (placeholder k u n)) = 23
 tree_tag (leaf (atom type_error)) = 25
+tree_tag (node fn_ptr ts) = 26
+tree_tag (node unsafe_binder ts) = 27
+tree_tag (node dynamic ts) = 28
 tree_tag t = 24
 
 module _ {Key Id Name : Type 0} (m : Meaning Key Id Name) (j : Injective m) where
@@ -247,6 +279,85 @@ module _ {Key Id Name : Type 0} (m : Meaning Key Id Name) (j : Injective m) wher
   infer_const_once (Fresh n) (Fresh o) e = cc
   infer_const_once i k e = absurd (cc)
 
+  bound_kind_once : (a b : BoundVariableKind Name) → bound_kind_of m a ≡ bound_kind_of m b → a ≡ b
+  bound_kind_once (TyVariable x) (TyVariable y) e =
+      let same : m.name x ≡ m.name y = cc in
+      ap (λ z. TyVariable z) (j.name x y same)
+  bound_kind_once (RegionVariable x) (RegionVariable y) e =
+      let same : m.name x ≡ m.name y = cc in
+      ap (λ z. RegionVariable z) (j.name x y same)
+  bound_kind_once (ConstVariable x) (ConstVariable y) e =
+      let same : m.name x ≡ m.name y = cc in
+      ap (λ z. ConstVariable z) (j.name x y same)
+  bound_kind_once a b e = absurd (cc)
+
+  pub bound_kinds_once : (xs ys : List (BoundVariableKind Name)) → bound_kinds m xs ≡ bound_kinds m ys → xs ≡ ys
+  bound_kinds_once [] [] e = refl
+  bound_kinds_once (x ∷ xs) (y ∷ ys) e =
+      let head : bound_kind_of m x ≡ bound_kind_of m y = cc in
+      let tail : bound_kinds m xs ≡ bound_kinds m ys = cc in
+      ap₂ (λ z zs. z ∷ zs) (bound_kind_once x y head) (bound_kinds_once xs ys tail)
+  bound_kinds_once xs ys e = absurd (cc)
+
+  signature_once : (g h : FnSig Key) → IsTrue (known (signature_tree m g)) → signature_tree m g ≡ signature_tree m h →
+      g ≡ h
+  signature_once g h k e =
+      let ts = m.tys g.inputs_and_output in
+      let us = m.tys h.inputs_and_output in
+      let p = (and_parts (known (front ts)) (known (last ts) && true) k).0 in
+      let variadic : (g.header).c_variadic ≡ (h.header).c_variadic = cc in
+      let safety : (g.header).safety ≡ (h.header).safety = cc in
+      let abi : (g.header).abi ≡ (h.header).abi = cc in
+      let fronts : front ts ≡ front us = cc in
+      let lasts : last ts ≡ last us = cc in
+      let types = j.tys g.inputs_and_output h.inputs_and_output (front_known ts p) (front_last_once ts us p fronts lasts) in
+      let header : g.header ≡ h.header =
+      ap₂ (λ v (x : Safety × ExternAbi). record { c_variadic = v; safety = x.0; abi = x.1 }) variadic
+      (ap₂ (λ x y. (x, y)) safety abi) in
+      ap₂ (λ t x. record { inputs_and_output = t; header = x }) types header
+
+  term_once : Sorted m → (a b : TermKind Key) → IsTrue (known (term_tree m a)) → term_tree m a ≡ term_tree m b → a ≡ b
+  term_once s (TyTerm t) (TyTerm u) k e = ap (λ x. TyTerm x) (j.ty t u k e)
+  term_once s (ConstTerm c) (ConstTerm d) k e = ap (λ x. ConstTerm x) (j.const_ c d k e)
+  term_once s (TyTerm t) (ConstTerm c) k e =
+      let l = knows_as (m.ty t) (m.const_ c) (sym e) k in
+      absurd (apart type_sort const_sort type_no_const (m.const_ c) (subst (IsTerm type_sort) e (s.ty t k)) (s.const_ c l))
+  term_once s (ConstTerm c) (TyTerm t) k e =
+      let l = knows_as (m.const_ c) (m.ty t) (sym e) k in
+      absurd (apart type_sort const_sort type_no_const (m.const_ c) (subst (IsTerm type_sort) (sym e) (s.ty t l)) (s.const_ c k))
+
+  existential_once : Sorted m → (p q : ExistentialPredicate Key Id) → IsTrue (known (existential_tree m p)) →
+      existential_tree m p ≡ existential_tree m q → p ≡ q
+  existential_once s (Trait t) (Trait u) k e =
+      let ids : m.id (t.def_id).0 ≡ m.id (u.def_id).0 = cc in
+      let args : m.args t.args ≡ m.args u.args = cc in
+      ap₂ (λ x y. Trait (record { def_id = record { 0 = x }; args = y })) (j.id (t.def_id).0 (u.def_id).0 ids)
+      (j.args t.args u.args k args)
+  existential_once s (ProjectionPredicate p) (ProjectionPredicate q) k e =
+      let h = and_parts (known (term_tree m p.term)) (known (m.args p.args)) k in
+      let ids : m.id (p.def_id).0 ≡ m.id (q.def_id).0 = cc in
+      let terms : term_tree m p.term ≡ term_tree m q.term = cc in
+      let args : m.args p.args ≡ m.args q.args = cc in
+      let one : p.args ≡ q.args = j.args p.args q.args h.1 args in
+      let other : p.term ≡ q.term = term_once s p.term q.term h.0 terms in
+      let items : (p.def_id).0 ≡ (q.def_id).0 = j.id (p.def_id).0 (q.def_id).0 ids in
+      let inside : (p.args, p.term) ≡ (q.args, q.term) = ap₂ (λ x y. (x, y)) one other in
+      ap₂ (λ x (y : ArgsKey Key × TermKind Key). ProjectionPredicate
+      (record { def_id = record { 0 = x }; args = y.0; term = y.1 })) items inside
+  existential_once s (AutoTrait d) (AutoTrait f) k e =
+      let ids : m.id d.0 ≡ m.id f.0 = cc in
+      ap (λ x. AutoTrait (record { 0 = x })) (j.id d.0 f.0 ids)
+  existential_once s p q k e = absurd (cc)
+
+  pub object_predicate_once : Sorted m → (b c : Binder Key (ExistentialPredicate Key Id)) →
+      IsTrue (known (object_predicate_tree m b)) → object_predicate_tree m b ≡ object_predicate_tree m c → b ≡ c
+  object_predicate_once s b c k e =
+      let p = under_known (m.bound_vars b.bound_vars) (existential_tree m b.value) k in
+      let o = under_once (m.bound_vars b.bound_vars) (m.bound_vars c.bound_vars) (existential_tree m b.value)
+      (existential_tree m c.value) k e in
+      ap₂ (λ x y. record { value = x; bound_vars = y }) (existential_once s b.value c.value p.1 o.1)
+      (j.bound_vars b.bound_vars c.bound_vars p.0 o.0)
+
   tagged : (f : TyKind Key Id Name) → tree_tag (kind_tree m f) ≡ kind_tag f
   tagged Bool = refl
   tagged Char = refl
@@ -279,6 +390,9 @@ module _ {Key Id Name : Type 0} (m : Meaning Key Id Name) (j : Injective m) wher
   tagged (Infer (FreshIntTy n)) = refl
   tagged (Infer (FreshFloatTy n)) = refl
   tagged (TyError e) = refl
+  tagged (FnPtr b h) = refl
+  tagged (UnsafeBinder b) = refl
+  tagged (Dynamic ps r) = refl
 
   -- Two forms of one tag, and of one tree, are one.
   alike_once : (f g : TyKind Key Id Name) → IsTrue (known (kind_tree m f)) → kind_tree m f ≡ kind_tree m g →
@@ -363,6 +477,33 @@ module _ {Key Id Name : Type 0} (m : Meaning Key Id Name) (j : Injective m) wher
   alike_once (TyPlaceholder p) (TyPlaceholder q) k e tag = ap (λ x. TyPlaceholder x) (ty_placeholder_once p q e)
   alike_once (Infer i) (Infer l) k e tag = ap (λ x. Infer x) (infer_once i l e)
   alike_once (TyError x) (TyError y) k e tag = refl
+  alike_once (FnPtr b h) (FnPtr c i) k e tag =
+      let o = m.bound_vars b.bound_vars in
+      let q = m.bound_vars c.bound_vars in
+      let t = signature_tree m (sig_of b.value h) in
+      let u = signature_tree m (sig_of c.value i) in
+      let known_one = (and_parts (known (under o t)) true k).0 in
+      let p = under_known o t known_one in
+      let same : under o t ≡ under q u = cc in
+      let one = under_once o q t u known_one same in
+      ap₂ (λ v s. fn_ptr_of v s) (j.bound_vars b.bound_vars c.bound_vars p.0 one.0)
+      (signature_once (sig_of b.value h) (sig_of c.value i) p.1 one.1)
+  alike_once (UnsafeBinder b) (UnsafeBinder c) k e tag =
+      let o = m.bound_vars b.bound_vars in
+      let q = m.bound_vars c.bound_vars in
+      let t = m.ty b.value in
+      let u = m.ty c.value in
+      let known_one = (and_parts (known (under o t)) true k).0 in
+      let p = under_known o t known_one in
+      let same : under o t ≡ under q u = cc in
+      let one = under_once o q t u known_one same in
+      ap₂ (λ v s. unsafe_of v s) (j.bound_vars b.bound_vars c.bound_vars p.0 one.0) (j.ty b.value c.value p.1 one.1)
+  alike_once (Dynamic ps r) (Dynamic qs s) k e tag =
+      let p = and_parts (known (m.existential_predicates ps)) (known (m.region r) && true) k in
+      let q = and_parts (known (m.region r)) true p.1 in
+      let lists : m.existential_predicates ps ≡ m.existential_predicates qs = cc in
+      let regions : m.region r ≡ m.region s = cc in
+      ap₂ (λ x y. Dynamic x y) (j.existential_predicates ps qs p.0 lists) (j.region r s q.0 regions)
   alike_once f g k e tag = absurd (false≢true tag)
 
   pub kind_once : (f g : TyKind Key Id Name) → IsTrue (known (kind_tree m f)) → kind_tree m f ≡ kind_tree m g → f ≡ g

@@ -40,6 +40,21 @@ use Rattle.relation_terms.specs.declared.terms.ty_kind.InferTy.TheVariants.{Fres
 use Rattle.relation_terms.specs.declared.terms.region_kind.RegionKind.{RegionKind}
 use Rattle.relation_terms.specs.declared.terms.region_kind.RegionKind.TheVariants.{ReStatic, ReEarlyParam, ReBound}
 use Rattle.relation_terms.specs.declared.terms.region_kind.RegionKind.TheVariants.{ReVar, RePlaceholder}
+use Rattle.relation_terms.specs.Heads.{existential_sort, term_sort, signature_sort, binder_of, row}
+use Rattle.relation_terms.specs.Trees.{IsBinder, Fits, front, last}
+use Rattle.relation_terms.specs.Meaning.{under, sig_of, signature_tree, existential_tree, term_tree}
+use Rattle.relation_terms.specs.Meaning.{object_predicate_tree}
+use Rattle.relation_terms.specs.declared.terms.keys.ExistentialPredicatesKey.{ExistentialPredicatesKey}
+use Rattle.relation_terms.specs.declared.terms.generic_arg.TermKind.{TermKind}
+use Rattle.relation_terms.specs.declared.terms.generic_arg.TermKind.TheVariants.{Ty as TyTerm, Const as ConstTerm}
+use Rattle.relation_terms.specs.declared.terms.fn_sig.FnSig.{FnSig}
+use Rattle.relation_terms.specs.declared.predicate.ExistentialPredicate.{ExistentialPredicate}
+use Rattle.relation_terms.specs.declared.predicate.ExistentialPredicate.TheVariants.{Trait, AutoTrait}
+use Rattle.relation_terms.specs.declared.predicate.ExistentialPredicate.TheVariants.{Projection as ProjectionPredicate}
+use Rattle.relation_terms.specs.declared.terms.ty_kind.TyKind.TheVariants.{FnPtr, UnsafeBinder, Dynamic}
+use Rattle.relation_terms.specs.declared.terms.binder.Binder.{Binder}
+use Rattle.std.proofs.Common.{Some}
+use Rattle.relation_terms.proofs.Binders.{under_sorted, front_known, front_terms, last_term}
 
 -- The trees of known keys are terms of their sorts.
 pub record Sorted {Key Id Name : Type 0} (m : Meaning Key Id Name) : Type 0 where
@@ -53,6 +68,8 @@ pub record Sorted {Key Id Name : Type 0} (m : Meaning Key Id Name) : Type 0 wher
   pub pat : (k : PatKey Key) → IsTrue (known (m.pat k)) → IsTerm pattern_sort (m.pat k)
   pub alternatives : (k : AlternativesKey Key) → IsTrue (known (m.alternatives k)) →
       AreTerms pattern_sort (m.alternatives k)
+  pub existential_predicates : (k : ExistentialPredicatesKey Key) → IsTrue (known (m.existential_predicates k)) →
+      Fits (row [] (Some (binder_of existential_sort))) (m.existential_predicates k)
 
 pub list_sorted : {A : Type 0} (s : Sort) (f : A → Tree) → ((x : A) → IsTrue (known (f x)) → IsTerm s (f x)) →
     (xs : List A) → IsTrue (known (list_tree f xs)) → AreTerms s (list_tree f xs)
@@ -62,11 +79,10 @@ list_sorted s f h (x ∷ xs) k =
     (h x p.0, list_sorted s f h xs p.1)
 
 -- A region, a type or a constant is an argument.
-widen : (s : Sort) → ((x : Sort) → Admits s x → Admits argument_sort x) → (t : Tree) → IsTerm s t →
-    IsTerm argument_sort t
-widen s f (leaf l) h = f (leaf_sort l) h
-widen s f (node x ts) h = (f (head_sort x) h.0, h.1)
-widen s f t h = absurd h
+widen : (s u : Sort) → ((x : Sort) → Admits s x → Admits u x) → (t : Tree) → IsTerm s t → IsTerm u t
+widen s u f (leaf l) h = f (leaf_sort l) h
+widen s u f (node x ts) h = (f (head_sort x) h.0, h.1)
+widen s u f t h = absurd h
 
 region_admitted : (x : Sort) → Admits region_sort x → Admits argument_sort x
 region_admitted region_sort h = tt
@@ -79,6 +95,22 @@ type_admitted x h = absurd h
 const_admitted : (x : Sort) → Admits const_sort x → Admits argument_sort x
 const_admitted const_sort h = tt
 const_admitted x h = absurd h
+
+type_is_term : (x : Sort) → Admits type_sort x → Admits term_sort x
+type_is_term type_sort h = tt
+type_is_term x h = absurd h
+
+const_is_term : (x : Sort) → Admits const_sort x → Admits term_sort x
+const_is_term const_sort h = tt
+const_is_term x h = absurd h
+
+-- A list of binders over terms of a sort.
+pub binders_sorted : {A : Type 0} (s : Sort) (f : A → Tree) → ((x : A) → IsTrue (known (f x)) → IsBinder s (f x)) →
+    (xs : List A) → IsTrue (known (list_tree f xs)) → Fits (row [] (Some (binder_of s))) (list_tree f xs)
+binders_sorted s f h [] k = tt
+binders_sorted s f h (x ∷ xs) k =
+    let p = and_parts (known (f x)) (known (list_tree f xs)) k in
+    (h x p.0, binders_sorted s f h xs p.1)
 
 pub environment_sorted : IsTerm environment_sort (node environment nil)
 environment_sorted = (tt, tt)
@@ -101,9 +133,35 @@ module _ {Key Id Name : Type 0} (m : Meaning Key Id Name) where
 
   pub arg_sorted : Sorted m → (a : GenericArgKind Key) → IsTrue (known (arg_tree m a)) →
       IsTerm argument_sort (arg_tree m a)
-  arg_sorted s (Lifetime r) k = widen region_sort region_admitted (m.region r) (s.region r k)
-  arg_sorted s (Ty t) k = widen type_sort type_admitted (m.ty t) (s.ty t k)
-  arg_sorted s (Const c) k = widen const_sort const_admitted (m.const_ c) (s.const_ c k)
+  arg_sorted s (Lifetime r) k = widen region_sort argument_sort region_admitted (m.region r) (s.region r k)
+  arg_sorted s (Ty t) k = widen type_sort argument_sort type_admitted (m.ty t) (s.ty t k)
+  arg_sorted s (Const c) k = widen const_sort argument_sort const_admitted (m.const_ c) (s.const_ c k)
+
+  pub term_sorted : Sorted m → (a : TermKind Key) → IsTrue (known (term_tree m a)) → IsTerm term_sort (term_tree m a)
+  term_sorted s (TyTerm t) k = widen type_sort term_sort type_is_term (m.ty t) (s.ty t k)
+  term_sorted s (ConstTerm c) k = widen const_sort term_sort const_is_term (m.const_ c) (s.const_ c k)
+
+  pub signature_sorted : Sorted m → (g : FnSig Key) → IsTrue (known (signature_tree m g)) →
+      IsTerm signature_sort (signature_tree m g)
+  signature_sorted s g k =
+      let ts = m.tys g.inputs_and_output in
+      let p = (and_parts (known (front ts)) (known (last ts) && true) k).0 in
+      let h = s.tys g.inputs_and_output (front_known ts p) in
+      (tt, ((tt, front_terms type_sort ts p h), (last_term type_sort ts p h, tt)))
+
+  pub existential_sorted : Sorted m → (p : ExistentialPredicate Key Id) → IsTrue (known (existential_tree m p)) →
+      IsTerm existential_sort (existential_tree m p)
+  existential_sorted s (Trait t) k = (tt, s.args t.args k)
+  existential_sorted s (ProjectionPredicate p) k =
+      let h = and_parts (known (term_tree m p.term)) (known (m.args p.args)) k in
+      (tt, (term_sorted s p.term h.0, s.args p.args h.1))
+  existential_sorted s (AutoTrait d) k = tt
+
+  pub object_predicate_sorted : Sorted m → (b : Binder Key (ExistentialPredicate Key Id)) →
+      IsTrue (known (object_predicate_tree m b)) → IsBinder existential_sort (object_predicate_tree m b)
+  object_predicate_sorted s b k =
+      under_sorted existential_sort (m.bound_vars b.bound_vars) (existential_tree m b.value) k
+      (existential_sorted s b.value)
 
   pub kind_sorted : Sorted m → (f : TyKind Key Id Name) → IsTrue (known (kind_tree m f)) →
       IsTerm type_sort (kind_tree m f)
@@ -130,6 +188,17 @@ module _ {Key Id Name : Type 0} (m : Meaning Key Id Name) where
       let q = and_parts (known (m.ty t)) true p.1 in
       (tt, (s.region r p.0, (s.ty t q.0, tt)))
   kind_sorted s (FnDef d a) k = (tt, s.args a k)
+  kind_sorted s (FnPtr b h) k =
+      let g = sig_of b.value h in
+      let p = and_parts (known (under (m.bound_vars b.bound_vars) (signature_tree m g))) true k in
+      (tt, (under_sorted signature_sort (m.bound_vars b.bound_vars) (signature_tree m g) p.0 (signature_sorted s g), tt))
+  kind_sorted s (UnsafeBinder b) k =
+      let p = and_parts (known (under (m.bound_vars b.bound_vars) (m.ty b.value))) true k in
+      (tt, (under_sorted type_sort (m.bound_vars b.bound_vars) (m.ty b.value) p.0 (s.ty b.value), tt))
+  kind_sorted s (Dynamic ps r) k =
+      let p = and_parts (known (m.existential_predicates ps)) (known (m.region r) && true) k in
+      let q = and_parts (known (m.region r)) true p.1 in
+      (tt, ((tt, s.existential_predicates ps p.0), (s.region r q.0, tt)))
   kind_sorted s (Closure d a) k = (tt, s.args a k)
   kind_sorted s (CoroutineClosure d a) k = (tt, s.args a k)
   kind_sorted s (Coroutine d a) k = (tt, s.args a k)

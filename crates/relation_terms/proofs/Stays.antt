@@ -45,6 +45,17 @@ use Rattle.relation_terms.specs.declared.terms.generic_arg.GenericArgKind.{Gener
 use Rattle.relation_terms.specs.declared.terms.generic_arg.GenericArgKind.TheVariants.{Lifetime, Ty, Const}
 use Rattle.relation_terms.specs.declared.terms.generic_arg.TermKind.{TermKind}
 use Rattle.relation_terms.specs.declared.terms.generic_arg.TermKind.TheVariants.{Ty as TyTerm, Const as ConstTerm}
+use Rattle.relation_terms.specs.Heads.{fn_ptr, unsafe_binder, dynamic, signature, inputs, object, existential_trait}
+use Rattle.relation_terms.specs.Heads.{existential_projection, existential_auto}
+use Rattle.relation_terms.specs.Trees.{front, last}
+use Rattle.relation_terms.specs.Meaning.{under, sig_of, signature_tree, existential_tree, object_predicate_tree}
+use Rattle.relation_terms.specs.declared.terms.fn_sig.FnSig.{FnSig}
+use Rattle.relation_terms.specs.declared.predicate.ExistentialPredicate.{ExistentialPredicate}
+use Rattle.relation_terms.specs.declared.predicate.ExistentialPredicate.TheVariants.{Trait, AutoTrait}
+use Rattle.relation_terms.specs.declared.predicate.ExistentialPredicate.TheVariants.{Projection as ProjectionPredicate}
+use Rattle.relation_terms.specs.declared.terms.ty_kind.TyKind.TheVariants.{FnPtr, UnsafeBinder, Dynamic}
+use Rattle.relation_terms.specs.declared.terms.binder.Binder.{Binder}
+use Rattle.relation_terms.proofs.Binders.{under_stays, front_known}
 
 -- Of equal trees both are known or neither.
 pub knows_as : (t u : Tree) → u ≡ t → IsTrue (known t) → IsTrue (known u)
@@ -159,6 +170,28 @@ module _ {Key Id Name : Type 0} {m n : Meaning Key Id Name} (e : Extends m n) wh
   stays_term (TyTerm t) k = e.ty t k
   stays_term (ConstTerm c) k = e.const_ c k
 
+  pub stays_signature : (g : FnSig Key) → IsTrue (known (signature_tree m g)) → signature_tree n g ≡ signature_tree m g
+  stays_signature g k =
+      let ts = m.tys g.inputs_and_output in
+      let p = (and_parts (known (front ts)) (known (last ts) && true) k).0 in
+      ap (λ x. node (signature (g.header).c_variadic (g.header).safety (g.header).abi)
+      (cons (node inputs (front x)) (cons (last x) nil))) (e.tys g.inputs_and_output (front_known ts p))
+
+  pub stays_existential : (p : ExistentialPredicate Key Id) → IsTrue (known (existential_tree m p)) →
+      existential_tree n p ≡ existential_tree m p
+  stays_existential (Trait t) k = ap₂ (λ x y. node (existential_trait x) y) (e.id (t.def_id).0) (e.args t.args k)
+  stays_existential (ProjectionPredicate p) k =
+      let h = and_parts (known (term_tree m p.term)) (known (m.args p.args)) k in
+      ap₂ (λ x y. node (existential_projection x) y) (e.id (p.def_id).0)
+      (ap₂ (λ x y. cons x y) (stays_term p.term h.0) (e.args p.args h.1))
+  stays_existential (AutoTrait d) k = ap (λ x. leaf (atom (existential_auto x))) (e.id d.0)
+
+  pub stays_object_predicate : (b : Binder Key (ExistentialPredicate Key Id)) →
+      IsTrue (known (object_predicate_tree m b)) → object_predicate_tree n b ≡ object_predicate_tree m b
+  stays_object_predicate b k =
+      under_stays (m.bound_vars b.bound_vars) (n.bound_vars b.bound_vars) (existential_tree m b.value)
+      (existential_tree n b.value) (e.bound_vars b.bound_vars) (stays_existential b.value) k
+
   pub stays_kind : (a : TyKind Key Id Name) → IsTrue (known (kind_tree m a)) → kind_tree n a ≡ kind_tree m a
   stays_kind Bool k = refl
   stays_kind Char k = refl
@@ -185,6 +218,19 @@ module _ {Key Id Name : Type 0} {m n : Meaning Key Id Name} (e : Extends m n) wh
       let q = and_parts (known (m.ty t)) true p.1 in
       ap₂ (λ x y. node (ref u) (cons x (cons y nil))) (e.region r p.0) (e.ty t q.0)
   stays_kind (FnDef d a) k = ap₂ (λ x y. node (fn_def x) y) (e.id d.0) (e.args a k)
+  stays_kind (FnPtr b h) k =
+      let g = sig_of b.value h in
+      let p = and_parts (known (under (m.bound_vars b.bound_vars) (signature_tree m g))) true k in
+      ap (λ x. node fn_ptr (cons x nil)) (under_stays (m.bound_vars b.bound_vars) (n.bound_vars b.bound_vars)
+      (signature_tree m g) (signature_tree n g) (e.bound_vars b.bound_vars) (stays_signature g) p.0)
+  stays_kind (UnsafeBinder b) k =
+      let p = and_parts (known (under (m.bound_vars b.bound_vars) (m.ty b.value))) true k in
+      ap (λ x. node unsafe_binder (cons x nil)) (under_stays (m.bound_vars b.bound_vars) (n.bound_vars b.bound_vars)
+      (m.ty b.value) (n.ty b.value) (e.bound_vars b.bound_vars) (e.ty b.value) p.0)
+  stays_kind (Dynamic ps r) k =
+      let p = and_parts (known (m.existential_predicates ps)) (known (m.region r) && true) k in
+      let q = and_parts (known (m.region r)) true p.1 in
+      ap₂ (λ x y. node dynamic (cons (node object x) (cons y nil))) (e.existential_predicates ps p.0) (e.region r q.0)
   stays_kind (Closure d a) k = ap₂ (λ x y. node (closure x) y) (e.id d.0) (e.args a k)
   stays_kind (CoroutineClosure d a) k = ap₂ (λ x y. node (coroutine_closure x) y) (e.id d.0) (e.args a k)
   stays_kind (Coroutine d a) k = ap₂ (λ x y. node (coroutine x) y) (e.id d.0) (e.args a k)

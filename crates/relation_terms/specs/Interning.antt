@@ -1,9 +1,14 @@
 -- What making and reading keys promise, sort by sort.
-use Rattle.std.specs.Prelude.{◌≡◌, ◌↔◌, Bool, IsTrue, IsOk, IfOk, Result, List, ℕ}
-use Rattle.relation_terms.specs.Trees.{Tree, node, nil, known, list_tree, IsTerm, AreTerms}
-use Rattle.relation_terms.specs.Heads.{Sort, environment}
+use Rattle.std.specs.Prelude.{◌≡◌, ◌↔◌, Bool, IsTrue, IsOk, IfOk, Result, List, [], ℕ, Option, Some, IsSome}
+use Rattle.relation_terms.specs.Trees.{Tree, node, nil, known, list_tree, Fits, IsTerm, AreTerms}
+use Rattle.relation_terms.specs.Heads.{Sort, environment, BoundKind, row, binder_of}
 use Rattle.relation_terms.specs.Meaning.{Meaning, kind_tree, region_tree, const_tree, valtree_tree, arg_tree}
-use Rattle.relation_terms.specs.Meaning.{pattern_tree}
+use Rattle.relation_terms.specs.Meaning.{pattern_tree, object_predicate_tree, bound_kinds}
+use Rattle.relation_terms.specs.declared.predicate.ExistentialPredicate.{ExistentialPredicate}
+use Rattle.relation_terms.specs.declared.terms.binder.Binder.{Binder}
+use Rattle.relation_terms.specs.declared.terms.binder.BoundVariableKind.{BoundVariableKind}
+use Rattle.relation_terms.specs.declared.terms.keys.ExistentialPredicatesKey.{ExistentialPredicatesKey}
+use Rattle.relation_terms.specs.declared.terms.keys.BoundVarsKey.{BoundVarsKey}
 use Rattle.relation_terms.specs.declared.terms.keys.TyKey.{TyKey}
 use Rattle.relation_terms.specs.declared.terms.keys.RegionKey.{RegionKey}
 use Rattle.relation_terms.specs.declared.terms.keys.ConstKey.{ConstKey}
@@ -26,6 +31,10 @@ abbrev pub AreEqualAsTrees : {K : Type 0} → (K → Tree) → (K → K → Bool
 AreEqualAsTrees {K} tree eq = (k l : K) → IsTrue (known (tree k)) → IsTrue (known (tree l)) →
     (IsTrue (eq k l) ↔ (tree k ≡ tree l))
 
+-- Known keys of lists of bound variables are equal exactly where the lists are.
+abbrev pub AreEqualAsKinds : {K : Type 0} → (K → Option (List BoundKind)) → (K → K → Bool) → Type 0
+AreEqualAsKinds {K} kinds eq = (k l : K) → IsSome (kinds k) → IsSome (kinds l) → (IsTrue (eq k l) ↔ (kinds k ≡ kinds l))
+
 -- The tree of a known key is a term of a sort.
 abbrev pub IsOfSort : {K : Type 0} → (K → Tree) → Sort → Type 0
 IsOfSort {K} tree sort = (k : K) → IsTrue (known (tree k)) → IsTerm sort (tree k)
@@ -33,6 +42,10 @@ IsOfSort {K} tree sort = (k : K) → IsTrue (known (tree k)) → IsTerm sort (tr
 -- The list of a known key is one of terms of a sort.
 abbrev pub AreOfSort : {K : Type 0} → (K → Tree) → Sort → Type 0
 AreOfSort {K} tree sort = (k : K) → IsTrue (known (tree k)) → AreTerms sort (tree k)
+
+-- The list of a known key is one of binders over terms of a sort.
+abbrev pub AreBindersOf : {K : Type 0} → (K → Tree) → Sort → Type 0
+AreBindersOf {K} tree sort = (k : K) → IsTrue (known (tree k)) → Fits (row [] (Some (binder_of sort))) (tree k)
 
 -- Ids and names are equal exactly where their numbers are.
 abbrev pub AreEqualAsNumbers : {N : Type 0} → (N → ℕ) → (N → N → Bool) → Type 0
@@ -82,6 +95,14 @@ module _ {Key Id Name E : Type 0} (before after : Meaning Key Id Name) where
   abbrev pub MakesAlternatives : List (PatKey Key) → Result (AlternativesKey Key) E → Type 0
   MakesAlternatives list result = IfOk result (λ k. after.alternatives k ≡ list_tree before.pat list)
 
+  abbrev pub MakesPredicates : List (Binder Key (ExistentialPredicate Key Id)) →
+      Result (ExistentialPredicatesKey Key) E → Type 0
+  MakesPredicates list result =
+      IfOk result (λ k. after.existential_predicates k ≡ list_tree (object_predicate_tree before) list)
+
+  abbrev pub MakesBoundVars : List (BoundVariableKind Name) → Result (BoundVarsKey Key) E → Type 0
+  MakesBoundVars list result = IfOk result (λ k. after.bound_vars k ≡ Some (bound_kinds before list))
+
 module _ {Key Id Name : Type 0} (before after : Meaning Key Id Name) where
   -- Where it is there already nothing grows: lists of types, arguments, branches, alternatives, by their elements.
   abbrev pub KeepsTys : List (TyKey Key) → Type 0
@@ -95,3 +116,10 @@ module _ {Key Id Name : Type 0} (before after : Meaning Key Id Name) where
 
   abbrev pub KeepsAlternatives : List (PatKey Key) → Type 0
   KeepsAlternatives list = IsNotMadeAgain before after before.alternatives (list_tree before.pat list)
+
+  abbrev pub KeepsPredicates : List (Binder Key (ExistentialPredicate Key Id)) → Type 0
+  KeepsPredicates list =
+      IsNotMadeAgain before after before.existential_predicates (list_tree (object_predicate_tree before) list)
+
+  abbrev pub KeepsBoundVars : List (BoundVariableKind Name) → Type 0
+  KeepsBoundVars list = (k : BoundVarsKey Key) → before.bound_vars k ≡ Some (bound_kinds before list) → after ≡ before

@@ -1,5 +1,5 @@
 -- What the keys of an interner and the forms over them mean.
-use Rattle.std.specs.Prelude.{ℕ, ◌≡◌, IsTrue, List, Option, IsSome}
+use Rattle.std.specs.Prelude.{ℕ, ◌≡◌, IsTrue, List, map, Option, Some, None, IsSome}
 use Rattle.relation_terms.specs.Heads.{BoundKind, bound_kind, type_kind, const_kind, region_kind, type_var, int_var}
 use Rattle.relation_terms.specs.Heads.{float_var, const_var, region_var, AliasKind}
 use Rattle.relation_terms.specs.Heads.{fresh_type, fresh_int, fresh_float, type_error, const_error, fresh_const}
@@ -9,8 +9,10 @@ use Rattle.relation_terms.specs.Heads.{bool_type, char_type, str_type, never_typ
 use Rattle.relation_terms.specs.Heads.{foreign, type_param, static_region, early_region, const_param, value_leaf}
 use Rattle.relation_terms.specs.Heads.{adt, fn_def, closure, coroutine_closure, coroutine, coroutine_witness}
 use Rattle.relation_terms.specs.Heads.{array, slice, tuple, raw_ptr, ref, expression, value, value_type, value_branch}
-use Rattle.relation_terms.specs.Heads.{variable, bound, placeholder, atom}
-use Rattle.relation_terms.specs.Trees.{Tree, leaf, node, nil, cons, known}
+use Rattle.relation_terms.specs.Heads.{fn_ptr, unsafe_binder, dynamic, signature, inputs, object, existential_trait}
+use Rattle.relation_terms.specs.Heads.{existential_projection, existential_auto}
+use Rattle.relation_terms.specs.Heads.{variable, bound, placeholder, atom, unknown}
+use Rattle.relation_terms.specs.Trees.{Tree, leaf, node, bind, nil, cons, known, list_tree, front, last}
 use Rattle.relation_terms.specs.declared.terms.enums.Variance.{Variance}
 use Rattle.relation_terms.specs.declared.terms.keys.TyKey.{TyKey}
 use Rattle.relation_terms.specs.declared.terms.keys.RegionKey.{RegionKey}
@@ -37,6 +39,7 @@ use Rattle.relation_terms.specs.declared.terms.ty_kind.TyKind.TheVariants.{Bool,
 use Rattle.relation_terms.specs.declared.terms.ty_kind.TyKind.TheVariants.{Str, Array, Slice, RawPtr, Ref, FnDef}
 use Rattle.relation_terms.specs.declared.terms.ty_kind.TyKind.TheVariants.{Closure, CoroutineClosure, Coroutine}
 use Rattle.relation_terms.specs.declared.terms.ty_kind.TyKind.TheVariants.{CoroutineWitness, Never, Tuple, Infer}
+use Rattle.relation_terms.specs.declared.terms.ty_kind.TyKind.TheVariants.{FnPtr, UnsafeBinder, Dynamic}
 use Rattle.relation_terms.specs.declared.terms.ty_kind.TyKind.TheVariants.{Param as TyParam, Bound as TyBound}
 use Rattle.relation_terms.specs.declared.terms.ty_kind.TyKind.TheVariants.{Error as TyError, Alias, Pat}
 use Rattle.relation_terms.specs.declared.terms.ty_kind.TyKind.TheVariants.{Placeholder as TyPlaceholder}
@@ -60,6 +63,17 @@ use Rattle.relation_terms.specs.declared.terms.pattern_kind.PatternKind.{Pattern
 use Rattle.relation_terms.specs.declared.terms.pattern_kind.PatternKind.TheVariants.{Range, Or, NotNull}
 use Rattle.relation_terms.specs.declared.terms.generic_arg.GenericArgKind.{GenericArgKind}
 use Rattle.relation_terms.specs.declared.terms.generic_arg.GenericArgKind.TheVariants.{Lifetime, Ty, Const}
+use Rattle.relation_terms.specs.declared.terms.binder.Binder.{Binder}
+use Rattle.relation_terms.specs.declared.terms.binder.BoundVariableKind.{BoundVariableKind}
+use Rattle.relation_terms.specs.declared.terms.binder.BoundVariableKind.TheVariants.{Ty as TyVariable}
+use Rattle.relation_terms.specs.declared.terms.binder.BoundVariableKind.TheVariants.{Region as RegionVariable}
+use Rattle.relation_terms.specs.declared.terms.binder.BoundVariableKind.TheVariants.{Const as ConstVariable}
+use Rattle.relation_terms.specs.declared.terms.fn_sig.FnSig.{FnSig}
+use Rattle.relation_terms.specs.declared.terms.fn_sig.FnSigTys.{FnSigTys}
+use Rattle.relation_terms.specs.declared.terms.fn_sig.FnHeader.{FnHeader}
+use Rattle.relation_terms.specs.declared.predicate.ExistentialPredicate.{ExistentialPredicate}
+use Rattle.relation_terms.specs.declared.predicate.ExistentialPredicate.TheVariants.{Trait, AutoTrait}
+use Rattle.relation_terms.specs.declared.predicate.ExistentialPredicate.TheVariants.{Projection as ProjectionPredicate}
 use Rattle.relation_terms.specs.declared.terms.generic_arg.TermKind.{TermKind}
 use Rattle.relation_terms.specs.declared.terms.generic_arg.TermKind.TheVariants.{Ty as TyTerm, Const as ConstTerm}
 
@@ -138,7 +152,45 @@ abbrev pub infer_const_tree : InferConst → Tree
 infer_const_tree (Var v) = leaf (variable const_var v.0)
 infer_const_tree (Fresh n) = leaf (atom (fresh_const n))
 
+-- A tree under the binder of a list of variables, where the list is known.
+abbrev pub under : Option (List BoundKind) → Tree → Tree
+under (Some ks) t = bind ks t
+under None t = leaf unknown
+
+-- The signature of these types and this header.
+abbrev pub sig_of : {Key : Type 0} → FnSigTys Key → FnHeader → FnSig Key
+sig_of tys header = record { inputs_and_output = tys.inputs_and_output; header = header }
+
 module _ {Key Id Name : Type 0} (m : Meaning Key Id Name) where
+  -- A variable of a binder, and a list of them.
+  abbrev pub bound_kind_of : BoundVariableKind Name → BoundKind
+  bound_kind_of (TyVariable n) = bound_kind type_kind (m.name n)
+  bound_kind_of (RegionVariable n) = bound_kind region_kind (m.name n)
+  bound_kind_of (ConstVariable n) = bound_kind const_kind (m.name n)
+
+  abbrev pub bound_kinds : List (BoundVariableKind Name) → List BoundKind
+  bound_kinds list = map bound_kind_of list
+
+  -- The tree of a term.
+  abbrev pub term_tree : TermKind Key → Tree
+  term_tree (TyTerm t) = m.ty t
+  term_tree (ConstTerm c) = m.const_ c
+
+  -- The tree of a signature.
+  abbrev pub signature_tree : FnSig Key → Tree
+  signature_tree s = node (signature (s.header).c_variadic (s.header).safety (s.header).abi)
+      (cons (node inputs (front (m.tys s.inputs_and_output))) (cons (last (m.tys s.inputs_and_output)) nil))
+
+  -- The tree of a trait object's predicate, and of one under its binder.
+  abbrev pub existential_tree : ExistentialPredicate Key Id → Tree
+  existential_tree (Trait t) = node (existential_trait (m.id (t.def_id).0)) (m.args t.args)
+  existential_tree (ProjectionPredicate p) =
+      node (existential_projection (m.id (p.def_id).0)) (cons (term_tree p.term) (m.args p.args))
+  existential_tree (AutoTrait d) = leaf (atom (existential_auto (m.id d.0)))
+
+  abbrev pub object_predicate_tree : Binder Key (ExistentialPredicate Key Id) → Tree
+  object_predicate_tree b = under (m.bound_vars b.bound_vars) (existential_tree b.value)
+
   -- The tree of a type placeholder.
   abbrev pub ty_placeholder_tree : Placeholder (BoundTy Name) → Tree
   ty_placeholder_tree p =
@@ -180,6 +232,10 @@ module _ {Key Id Name : Type 0} (m : Meaning Key Id Name) where
   kind_tree (RawPtr t u) = node (raw_ptr u) (cons (m.ty t) nil)
   kind_tree (Ref r t u) = node (ref u) (cons (m.region r) (cons (m.ty t) nil))
   kind_tree (FnDef d a) = node (fn_def (m.id d.0)) (m.args a)
+  kind_tree (FnPtr b h) = node fn_ptr (cons (under (m.bound_vars b.bound_vars) (signature_tree (sig_of b.value h))) nil)
+  kind_tree (UnsafeBinder b) = node unsafe_binder (cons (under (m.bound_vars b.bound_vars) (m.ty b.value)) nil)
+  kind_tree (Dynamic ps r) =
+      node dynamic (cons (node object (m.existential_predicates ps)) (cons (m.region r) nil))
   kind_tree (Closure d a) = node (closure (m.id d.0)) (m.args a)
   kind_tree (CoroutineClosure d a) = node (coroutine_closure (m.id d.0)) (m.args a)
   kind_tree (Coroutine d a) = node (coroutine (m.id d.0)) (m.args a)
@@ -228,8 +284,3 @@ module _ {Key Id Name : Type 0} (m : Meaning Key Id Name) where
   arg_tree (Lifetime r) = m.region r
   arg_tree (Ty t) = m.ty t
   arg_tree (Const c) = m.const_ c
-
-  -- The tree of a term.
-  abbrev pub term_tree : TermKind Key → Tree
-  term_tree (TyTerm t) = m.ty t
-  term_tree (ConstTerm c) = m.const_ c

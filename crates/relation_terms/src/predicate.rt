@@ -1,5 +1,7 @@
 //! Predicates.
-use crate::terms::{GenericArgKind, RegionKey};
+use crate::terms::{
+    ArgsKey, Binder, GenericArgKind, Keys, RegionKey, TermKind, TraitAssocTermId, TraitId,
+};
 
 /// The first outlives the second.
 #[derive(Clone, Copy, PartialEq, Eq, Hash)]
@@ -15,3 +17,32 @@ pub enum RegionConstraint<X> {
     Outlives(OutlivesPredicate<X, GenericArgKind<X>>),
     Eq(RegionEqPredicate<X>),
 }
+
+/// What a trait object implements: a trait, without the object's own type; a projection of one; or an auto trait.
+#[derive(Clone, Copy, PartialEq, Eq, Hash)]
+pub enum ExistentialPredicate<X, D> {
+    Trait(ExistentialTraitRef<X, D>),
+    Projection(ExistentialProjection<X, D>),
+    AutoTrait(TraitId<D>),
+}
+
+/// A trait with its arguments but for the type that implements it.
+#[derive(Clone, Copy, PartialEq, Eq, Hash)]
+pub struct ExistentialTraitRef<X, D> {
+    pub def_id: TraitId<D>,
+    pub args: ArgsKey<X>,
+}
+
+/// What an associated type or constant of a trait is, with its arguments but for the type that implements the trait.
+#[derive(Clone, Copy, PartialEq, Eq, Hash)]
+pub struct ExistentialProjection<X, D> {
+    pub def_id: TraitAssocTermId<D>,
+    pub args: ArgsKey<X>,
+    pub term: TermKind<X>,
+}
+
+/// A predicate of an interner's trait object, under its binder.
+pub type ObjectPredicate<I> = Binder<
+    <I as Keys>::Key,
+    ExistentialPredicate<<I as Keys>::Key, <I as Keys>::Id>,
+>;

@@ -1,8 +1,10 @@
 //! Terms: keys, outermost forms, and the interner.
 
 mod alias;
+mod binder;
 mod const_kind;
 mod enums;
+mod fn_sig;
 mod generic_arg;
 mod goal;
 mod ids;
@@ -16,33 +18,114 @@ mod placeholder;
 mod region_kind;
 mod ty_kind;
 
-pub use alias::{AliasTy, AliasTyKind, ErrorGuaranteed, UnevaluatedConst};
-pub use const_kind::{
-    ConstForm, ConstKind, ExprKind, InferConst, ParamConst, ValTreeForm, ValTreeKind,
-};
-pub use enums::{
-    AliasRelationDirection, BoundConstness, ExternAbi, FloatTy, IntTy, Mutability,
-    PredicatePolarity, Safety, UintTy, Variance,
-};
-pub use generic_arg::{GenericArg, GenericArgKind, Term, TermKind};
+pub use alias::AliasTy;
+pub use alias::AliasTyKind;
+pub use alias::ErrorGuaranteed;
+pub use alias::UnevaluatedConst;
+pub use binder::Binder;
+pub use binder::BoundVariable;
+pub use binder::BoundVariableKind;
+pub use const_kind::ConstForm;
+pub use const_kind::ConstKind;
+pub use const_kind::ExprKind;
+pub use const_kind::InferConst;
+pub use const_kind::ParamConst;
+pub use const_kind::ValTreeForm;
+pub use const_kind::ValTreeKind;
+pub use enums::AliasRelationDirection;
+pub use enums::BoundConstness;
+pub use enums::ExternAbi;
+pub use enums::FloatTy;
+pub use enums::IntTy;
+pub use enums::Mutability;
+pub use enums::PredicatePolarity;
+pub use enums::Safety;
+pub use enums::UintTy;
+pub use enums::Variance;
+pub use fn_sig::FnHeader;
+pub use fn_sig::FnSig;
+pub use fn_sig::FnSigTys;
+pub use generic_arg::GenericArg;
+pub use generic_arg::GenericArgKind;
+pub use generic_arg::Term;
+pub use generic_arg::TermKind;
 pub use goal::Goal;
-pub use ids::{
-    AdtId, ClosureId, CoroutineClosureId, CoroutineId, DefId, ForeignId, FreeConstAliasId,
-    FreeTyAliasId, FunctionId, InherentAssocConstId, InherentAssocTyId, ItemOf, OpaqueTyId,
-    TraitAssocConstId, TraitAssocTermId, TraitAssocTyId, TraitId, UnevaluatedConstId,
-};
-pub use interner::{Interner, OutOfMemory};
-pub use keys::{
-    Alternatives, AlternativesKey, ArgsKey, BoundVarsKey, Branches, BranchesKey, ClauseKey, Const,
-    ConstKey, ExistentialPredicatesKey, GenericArgs, Keys, ParamEnv, ParamEnvKey, Pat, PatKey,
-    Predicate, PredicateKey, Region, RegionKey, Span, Symbol, Ty, TyKey, Tys, TysKey, ValTree,
-    ValTreeKey,
-};
-pub use numbers::{
-    BoundVar, ConstVid, DebruijnIndex, FloatVid, IntVid, RegionVid, TyVid, UniverseIndex,
-};
-pub use part_kind::{Part, Parts};
-pub use pattern_kind::{PatternForm, PatternKind};
-pub use placeholder::{BoundConst, BoundTy, Placeholder, PlaceholderConst, PlaceholderType};
-pub use region_kind::{BoundRegion, EarlyParamRegion, PlaceholderRegion, RegionForm, RegionKind};
-pub use ty_kind::{InferTy, ParamTy, TyForm, TyKind};
+pub use ids::AdtId;
+pub use ids::ClosureId;
+pub use ids::CoroutineClosureId;
+pub use ids::CoroutineId;
+pub use ids::DefId;
+pub use ids::ForeignId;
+pub use ids::FreeConstAliasId;
+pub use ids::FreeTyAliasId;
+pub use ids::FunctionId;
+pub use ids::InherentAssocConstId;
+pub use ids::InherentAssocTyId;
+pub use ids::ItemOf;
+pub use ids::OpaqueTyId;
+pub use ids::TraitAssocConstId;
+pub use ids::TraitAssocTermId;
+pub use ids::TraitAssocTyId;
+pub use ids::TraitId;
+pub use ids::UnevaluatedConstId;
+pub use interner::Interner;
+pub use interner::OutOfMemory;
+pub use keys::Alternatives;
+pub use keys::AlternativesKey;
+pub use keys::ArgsKey;
+pub use keys::BoundVars;
+pub use keys::BoundVarsKey;
+pub use keys::Branches;
+pub use keys::BranchesKey;
+pub use keys::ClauseKey;
+pub use keys::Const;
+pub use keys::ConstKey;
+pub use keys::ExistentialPredicates;
+pub use keys::ExistentialPredicatesKey;
+pub use keys::GenericArgs;
+pub use keys::Keys;
+pub use keys::ParamEnv;
+pub use keys::ParamEnvKey;
+pub use keys::Pat;
+pub use keys::PatKey;
+pub use keys::Predicate;
+pub use keys::PredicateKey;
+pub use keys::Region;
+pub use keys::RegionKey;
+pub use keys::Span;
+pub use keys::Symbol;
+pub use keys::Ty;
+pub use keys::TyKey;
+pub use keys::Tys;
+pub use keys::TysKey;
+pub use keys::ValTree;
+pub use keys::ValTreeKey;
+pub use numbers::BoundVar;
+pub use numbers::ConstVid;
+pub use numbers::DebruijnIndex;
+pub use numbers::FloatVid;
+pub use numbers::IntVid;
+pub use numbers::RegionVid;
+pub use numbers::TyVid;
+pub use numbers::UniverseIndex;
+pub use part_kind::Body;
+pub use part_kind::Part;
+pub use part_kind::PartOf;
+pub use part_kind::Parts;
+pub use part_kind::PartsOf;
+pub use pattern_kind::PatternForm;
+pub use pattern_kind::PatternKind;
+pub use placeholder::BoundConst;
+pub use placeholder::BoundTy;
+pub use placeholder::Placeholder;
+pub use placeholder::PlaceholderConst;
+pub use placeholder::PlaceholderType;
+pub use region_kind::BoundRegion;
+pub use region_kind::EarlyParamRegion;
+pub use region_kind::PlaceholderRegion;
+pub use region_kind::RegionForm;
+pub use region_kind::RegionKind;
+pub use ty_kind::InferTy;
+pub use ty_kind::ParamTy;
+pub use ty_kind::TyForm;
+pub use ty_kind::TyKind;

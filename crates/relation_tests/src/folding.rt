@@ -27,7 +27,7 @@ impl<I: Interner> TypeFolder<I> for PutsNothing {
         &mut self,
         _cx: &mut I,
         _ty: &Ty<I>,
-        _depth: u64,
+        _depth: u128,
     ) -> Result<Fold<Ty<I>>, OutOfMemory> {
         Ok(Fold::Descend)
     }
@@ -37,7 +37,7 @@ impl<I: Interner> TypeFolder<I> for PutsNothing {
         &mut self,
         _cx: &mut I,
         _region: &Region<I>,
-        _depth: u64,
+        _depth: u128,
     ) -> Result<Fold<Region<I>>, OutOfMemory> {
         Ok(Fold::Descend)
     }
@@ -47,7 +47,7 @@ impl<I: Interner> TypeFolder<I> for PutsNothing {
         &mut self,
         _cx: &mut I,
         _constant: &Const<I>,
-        _depth: u64,
+        _depth: u128,
     ) -> Result<Fold<Const<I>>, OutOfMemory> {
         Ok(Fold::Descend)
     }

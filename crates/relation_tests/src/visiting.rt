@@ -18,15 +18,15 @@ struct Stops;
 impl<I: Interner> TypeVisitor<I> for Stops {
     ghost visits = { λ cx v d t w a. Unit {0} };
 
-    fn visit_ty(&mut self, _cx: &I, _ty: &Ty<I>, _depth: u64) -> Visit {
+    fn visit_ty(&mut self, _cx: &I, _ty: &Ty<I>, _depth: u128) -> Visit {
         Visit::Stop
     }
 
-    fn visit_region(&mut self, _cx: &I, _region: &Region<I>, _depth: u64) -> Visit {
+    fn visit_region(&mut self, _cx: &I, _region: &Region<I>, _depth: u128) -> Visit {
         Visit::Stop
     }
 
-    fn visit_const(&mut self, _cx: &I, _constant: &Const<I>, _depth: u64) -> Visit {
+    fn visit_const(&mut self, _cx: &I, _constant: &Const<I>, _depth: u128) -> Visit {
         Visit::Stop
     }
 }

@@ -1,7 +1,11 @@
 -- The parts of a list's tree.
 use Rattle.std.proofs.Common.{ℕ, zero, suc, ◌<◌, ◌≡◌, IsTrue, List, [], ◌∷◌, length, get_or, arith, sym, subst, subst₂}
-use Rattle.std.proofs.lemmas.Bool.{and_parts}
-use Rattle.relation_terms.specs.Trees.{Tree, known, size, list_tree}
+use Rattle.std.proofs.Common.{Option, Some, None, IsSome, refl, ◌+◌, ◌≤◌, ◌&&◌, true, false}
+use Rattle.std.proofs.lemmas.Bool.{and_parts, false≢true}
+use Rattle.relation_terms.specs.Heads.{BoundKind, Head}
+use Rattle.relation_terms.specs.Trees.{Tree, leaf, node, bind, nil, cons, known, size, list_tree, front, last}
+use Rattle.relation_terms.specs.Meaning.{under}
+use Rattle.relation_terms.proofs.Binders.{under_known, front_known, known_if, front_one}
 
 module _ {A : Type 0} (f : A → Tree) where
   -- A part is smaller than the whole.
@@ -23,3 +27,36 @@ module _ {A : Type 0} (f : A → Tree) where
     subst (λ y. IsTrue (known (f y))) (sym e) (known_part xs i x h (subst (λ u. IsTrue (known u)) q k)),
     subst₂ (λ y u. size (f y) < size u) (sym e) (sym q) (size_part xs i x h),
   )
+
+-- A known binder is larger than its body.
+pub under_size : (o : Option (List BoundKind)) (t : Tree) → IsTrue (known (under o t)) → size t < size (under o t)
+under_size (Some ks) t k = omega arith
+under_size None t k = absurd (false≢true k)
+
+-- A list is as large as its front and its last member.
+pub front_size : (ts : Tree) → IsTrue (known (front ts)) → size ts ≤ size (front ts) + size (last ts) + 1
+front_size (cons t nil) k =
+    let e = front_one t (known_if (known t) k) in
+    subst (λ f. size (cons t nil) ≤ size f + size t + 1) (sym e) (omega arith)
+front_size (cons t (cons u us)) k =
+    let h = front_size (cons u us) (and_parts (known t) (known (front (cons u us))) k).1 in
+    omega (arith, h)
+front_size (cons t (leaf l)) k = absurd (false≢true (and_parts (known t) false k).1)
+front_size (cons t (node h us)) k = absurd (false≢true (and_parts (known t) false k).1)
+front_size (cons t (bind ks u)) k = absurd (false≢true (and_parts (known t) false k).1)
+front_size nil k = absurd (false≢true k)
+front_size (leaf l) k = absurd (false≢true k)
+front_size (node h us) k = absurd (false≢true k)
+front_size (bind ks u) k = absurd (false≢true k)
+
+-- The types of a known signature under its binder: they are known, and smaller than the whole.
+pub signature_part : (o : Option (List BoundKind)) (s i : Head) (ts : Tree) →
+    IsTrue (known (under o (node s (cons (node i (front ts)) (cons (last ts) nil))))) →
+    IsTrue (known ts) × (size ts < size (under o (node s (cons (node i (front ts)) (cons (last ts) nil)))))
+signature_part o s i ts k =
+    let sig = node s (cons (node i (front ts)) (cons (last ts) nil)) in
+    let k' = (under_known o sig k).1 in
+    let f = (and_parts (known (front ts)) (known (last ts) && true) k').0 in
+    let small = under_size o sig k in
+    let sum = front_size ts f in
+    (front_known ts f, omega (arith, small, sum))

@@ -8,6 +8,10 @@ use Rattle.relation_terms.specs.declared.terms.enums.FloatTy.{FloatTy}
 use Rattle.relation_terms.specs.declared.terms.enums.FloatTy.TheVariants as float
 use Rattle.relation_terms.specs.declared.terms.enums.Mutability.{Mutability}
 use Rattle.relation_terms.specs.declared.terms.enums.Mutability.TheVariants as mutability
+use Rattle.relation_terms.specs.declared.terms.enums.Safety.{Safety}
+use Rattle.relation_terms.specs.declared.terms.enums.Safety.TheVariants as safety
+use Rattle.relation_terms.specs.declared.terms.enums.ExternAbi.{ExternAbi}
+use Rattle.relation_terms.specs.declared.terms.enums.ExternAbi.TheVariants as abi
 use Rattle.relation_text.specs.declared.reading.signs.Sign.TheVariants as sign
 use Rattle.relation_text.specs.Signs.{spelling, pointer_sign}
 
@@ -44,3 +48,14 @@ pointer_name m = spelling sign.Star ++ spelling (pointer_sign m) ++ codes " "
 abbrev pub mutability_text : Mutability → List ℕ
 mutability_text mutability.Not = codes " "
 mutability_text mutability.Mut = codes " " ++ spelling sign.Mut ++ codes " "
+
+-- what stands before a function pointer that safe code must not call
+abbrev pub safety_text : Safety → List ℕ
+safety_text safety.Safe = codes ""
+safety_text safety.Unsafe = codes "unsafe "
+
+-- what stands before a function pointer that is called in another way than Rust's
+abbrev pub abi_text : ExternAbi → List ℕ
+abi_text abi.Rust = codes ""
+abi_text abi.C = codes "extern \"C\" "
+abi_text abi.System = codes "extern \"system\" "

@@ -1,9 +1,10 @@
 //! How terms print, over any interner.
 
+mod binders;
 mod leaves;
 mod names;
 mod terms;
+mod whole;
 
-pub use leaves::write_region;
 pub use names::{ItemText, Parameter, Texts, TextsOf, TraitText};
-pub use terms::{write_arg, write_const, write_ty};
+pub use whole::{write_arg, write_const, write_region, write_ty};

@@ -30,7 +30,7 @@ parts_later f g e d t u p = ap (folded_parts g d) p ∙ parts_alike t
     parts_alike : (t : Tree) → folded_parts g d t ≡ folded_parts f d t
     parts_alike (leaf l) = refl
     parts_alike (node h ts) = ap (λ x. node h x) (folded_alike f g e d ts)
-    parts_alike (bind ks t) = refl
+    parts_alike (bind ks t) = ap (λ x. bind ks x) (folded_alike f g e (suc d) t)
     parts_alike nil = refl
     parts_alike (cons t ts) = refl
 

@@ -1,5 +1,7 @@
 pub mod Visiting
 pub mod Errors
+pub mod Depths
+pub mod Found
 mod Remembering
 pub mod Searching
 pub mod Walking

@@ -5,7 +5,7 @@ use Rattle.std.proofs.lemmas.Bool.{and_parts}
 use Rattle.relation_terms.specs.Trees.{Tree, leaf, node, bind, nil, cons, known, list_tree, count, nth, IsList}
 use Rattle.relation_terms.specs.Parts.{part_sort, tree_sort, parts_of, over, Fit}
 use Rattle.relation_terms.specs.declared.terms.part_kind.Part.{Part}
-use Rattle.relation_tools.specs.Folds.{folded, folded_parts, members_tree, FitMembers}
+use Rattle.relation_tools.specs.Folds.{folded, folded_parts, inside, members_tree, FitMembers}
 
 abbrev pub firsts : ℕ → Tree → Tree
 firsts zero t = nil
@@ -24,16 +24,16 @@ both_known true b h k = k
 both_known false b h k = h
 
 -- The first parts are built.
-pub record Built {Key : Type 0} (p : ℕ → Tree → Option Tree) (d : ℕ) (f : Part Key → Tree) (i : ℕ) (ts : Tree) (xs : List (Part Key))
+pub record Built {Key Id : Type 0} (p : ℕ → Tree → Option Tree) (d : ℕ) (f : Part Key Id → Tree) (i : ℕ) (ts : Tree) (xs : List (Part Key Id))
     : Type 0 where
   pub same : list_tree f xs ≡ folded p d (firsts i ts)
   pub sure : IsTrue (known (list_tree f xs))
   pub fit : Fit xs (firsts i ts)
 
-module _ {Key : Type 0} (p : ℕ → Tree → Option Tree) (d : ℕ) (f g : Part Key → Tree)
-    (stay : (x : Part Key) → IsTrue (known (f x)) → g x ≡ f x) (y : Part Key) where
+module _ {Key Id : Type 0} (p : ℕ → Tree → Option Tree) (d : ℕ) (f g : Part Key Id → Tree)
+    (stay : (x : Part Key Id) → IsTrue (known (f x)) → g x ≡ f x) (y : Part Key Id) where
   -- One more, in an interner that has grown.
-  same_next : (i : ℕ) (ts : Tree) (xs : List (Part Key)) → i < count ts → Fit xs (firsts i ts) →
+  same_next : (i : ℕ) (ts : Tree) (xs : List (Part Key Id)) → i < count ts → Fit xs (firsts i ts) →
       IsTrue (known (list_tree f xs)) → list_tree f xs ≡ folded p d (firsts i ts) → g y ≡ folded p d (nth i ts) →
       list_tree g (xs ++ y ∷ []) ≡ folded p d (firsts (suc i) ts)
   same_next zero (cons t ts) [] h a k e q = ap (λ z. cons z nil) q
@@ -49,7 +49,7 @@ module _ {Key : Type 0} (p : ℕ → Tree → Option Tree) (d : ℕ) (f g : Part
   same_next i (bind ks l) xs h a k e q = absurd (omega arith)
   same_next i nil xs h a k e q = absurd (omega arith)
 
-  sure_next : (xs : List (Part Key)) → IsTrue (known (list_tree f xs)) → IsTrue (known (g y)) →
+  sure_next : (xs : List (Part Key Id)) → IsTrue (known (list_tree f xs)) → IsTrue (known (g y)) →
       IsTrue (known (list_tree g (xs ++ y ∷ [])))
   sure_next [] h k = both_known (known (g y)) true k refl
   sure_next (x ∷ xs) h k =
@@ -57,7 +57,7 @@ module _ {Key : Type 0} (p : ℕ → Tree → Option Tree) (d : ℕ) (f g : Part
       both_known (known (g x)) (known (list_tree g (xs ++ y ∷ [])))
       (subst (λ z. IsTrue (known z)) (sym (stay x o.0)) o.0) (sure_next xs o.1 k)
 
-  fit_next : (i : ℕ) (ts : Tree) (xs : List (Part Key)) → i < count ts → Fit xs (firsts i ts) →
+  fit_next : (i : ℕ) (ts : Tree) (xs : List (Part Key Id)) → i < count ts → Fit xs (firsts i ts) →
       part_sort y ≡ tree_sort (nth i ts) → Fit (xs ++ y ∷ []) (firsts (suc i) ts)
   fit_next zero (cons t ts) [] h a q = (q, tt)
   fit_next zero (cons t ts) (x ∷ xs) h a q = absurd a
@@ -68,7 +68,7 @@ module _ {Key : Type 0} (p : ℕ → Tree → Option Tree) (d : ℕ) (f g : Part
   fit_next i (bind ks l) xs h a q = absurd (omega arith)
   fit_next i nil xs h a q = absurd (omega arith)
 
-  pub built_next : (i j : ℕ) (ts : Tree) (xs ys : List (Part Key)) → Built p d f i ts xs → i < count ts → j ≡ suc i →
+  pub built_next : (i j : ℕ) (ts : Tree) (xs ys : List (Part Key Id)) → Built p d f i ts xs → i < count ts → j ≡ suc i →
       g y ≡ folded p d (nth i ts) → IsTrue (known (g y)) → part_sort y ≡ tree_sort (nth i ts) → ys ≡ xs ++ y ∷ [] →
       Built p d g j ts ys
   built_next i j ts xs ys b h e q k s r =
@@ -79,8 +79,8 @@ module _ {Key : Type 0} (p : ℕ → Tree → Option Tree) (d : ℕ) (f g : Part
       }))
 
 -- No member is built yet.
-pub built_none : {Key : Type 0} (p : ℕ → Tree → Option Tree) (d : ℕ) (f : Part Key → Tree) (ts : Tree)
-    (xs : List (Part Key)) → xs ≡ [] → Built p d f 0 ts xs
+pub built_none : {Key Id : Type 0} (p : ℕ → Tree → Option Tree) (d : ℕ) (f : Part Key Id → Tree) (ts : Tree)
+    (xs : List (Part Key Id)) → xs ≡ [] → Built p d f 0 ts xs
 built_none p d f ts xs e = subst (λ ys. Built p d f 0 ts ys) (sym e) (record { same = refl; sure = refl; fit = tt })
 
 -- Where the first members were left as they are, and the next is too, so are all these.
@@ -113,7 +113,7 @@ left_all p d i ts l e q =
     sym whole ∙ sym q ∙ ap (folded p d) whole
 
 -- What is said of members where there are some, and where there are none.
-module _ {Key V : Type 0} {o : Option V} (items : V → List (Part Key)) (f : Part Key → Tree) (ts : Tree) where
+module _ {Key Id V : Type 0} {o : Option V} (items : V → List (Part Key Id)) (f : Part Key Id → Tree) (ts : Tree) where
   pub some_sure : {v : V} → o ≡ Some v → IsTrue (known (members_tree f ts (option_map items o))) →
       IsTrue (known (list_tree f (items v)))
   some_sure e h = subst (λ x. IsTrue (known (members_tree f ts (option_map items x)))) e h
@@ -129,30 +129,36 @@ module _ {Key V : Type 0} {o : Option V} (items : V → List (Part Key)) (f : Pa
   none_made {us = us} e h = subst (λ x. members_tree f ts (option_map items x) ≡ us) e h
 
 -- All parts are built.
-pub built_all : {Key : Type 0} (p : ℕ → Tree → Option Tree) (d : ℕ) (f : Part Key → Tree) (i : ℕ) (ts : Tree)
-    (xs : List (Part Key)) → IsList ts → i ≡ count ts → Built p d f i ts xs →
+pub built_all : {Key Id : Type 0} (p : ℕ → Tree → Option Tree) (d : ℕ) (f : Part Key Id → Tree) (i : ℕ) (ts : Tree)
+    (xs : List (Part Key Id)) → IsList ts → i ≡ count ts → Built p d f i ts xs →
     (list_tree f xs ≡ folded p d ts) × (IsTrue (known (list_tree f xs)) × Fit xs ts)
 built_all p d f i ts xs l e b =
     let whole : firsts i ts ≡ ts = ap (λ n. firsts n ts) e ∙ firsts_all ts l in
     (b.same ∙ ap (folded p d) whole, (b.sure, subst (Fit xs) whole b.fit))
 
 -- A form over its folded parts.
-over_folded : (p : ℕ → Tree → Option Tree) (d : ℕ) (t : Tree) → over t (folded p d (parts_of t)) ≡ folded_parts p d t
+over_folded : (p : ℕ → Tree → Option Tree) (d : ℕ) (t : Tree) →
+    over t (folded p (inside t d) (parts_of t)) ≡ folded_parts p d t
 over_folded p d (node h ts) = refl
 over_folded p d (leaf l) = refl
 over_folded p d (bind ks t) = refl
 over_folded p d nil = refl
 over_folded p d (cons t ts) = refl
 
-pub whole_made : (p : ℕ → Tree → Option Tree) (d : ℕ) (t u us : Tree) → u ≡ t → us ≡ folded p d (parts_of t) →
-    over u us ≡ folded_parts p d t
-whole_made p d t u us e q = ap (λ z. over z us) e ∙ ap (over t) q ∙ over_folded p d t
+pub whole_made : (p : ℕ → Tree → Option Tree) (d e : ℕ) (t u us : Tree) → e ≡ inside t d → u ≡ t →
+    us ≡ folded p e (parts_of t) → over u us ≡ folded_parts p d t
+whole_made p d e t u us i o q =
+    ap (λ z. over z us) o ∙ ap (over t) (q ∙ ap (λ x. folded p x (parts_of t)) i) ∙ over_folded p d t
 
 -- A form whose parts are left as they are is left too.
-pub whole_left : (p : ℕ → Tree → Option Tree) (d : ℕ) (t ts : Tree) → ts ≡ parts_of t → ts ≡ folded p d (parts_of t) →
-    t ≡ folded_parts p d t
-whole_left p d (node h us) ts e q = ap (node h) (sym e ∙ q)
-whole_left p d (leaf l) ts e q = refl
-whole_left p d (bind ks t) ts e q = refl
-whole_left p d nil ts e q = refl
-whole_left p d (cons t us) ts e q = refl
+left_whole : (p : ℕ → Tree → Option Tree) (d : ℕ) (t ts : Tree) → ts ≡ parts_of t →
+    ts ≡ folded p (inside t d) (parts_of t) → t ≡ folded_parts p d t
+left_whole p d (node h us) ts e q = ap (node h) (sym e ∙ q)
+left_whole p d (bind ks t) ts e q = ap (over (bind ks t)) (sym e ∙ q)
+left_whole p d (leaf l) ts e q = refl
+left_whole p d nil ts e q = refl
+left_whole p d (cons t us) ts e q = refl
+
+pub whole_left : (p : ℕ → Tree → Option Tree) (d i : ℕ) (t ts : Tree) → i ≡ inside t d → ts ≡ parts_of t →
+    ts ≡ folded p i (parts_of t) → t ≡ folded_parts p d t
+whole_left p d i t ts h e q = left_whole p d t ts e (q ∙ ap (λ x. folded p x (parts_of t)) h)

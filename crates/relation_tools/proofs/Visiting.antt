@@ -6,10 +6,14 @@ use Rattle.relation_terms.specs.Trees.{Tree, leaf, node, bind, nil, cons, count,
 use Rattle.relation_terms.specs.Parts.{parts_of, tree_sort, part_sort}
 use Rattle.relation_terms.specs.declared.terms.part_kind.Part.{Part}
 use Rattle.relation_terms.specs.declared.terms.part_kind.Part.TheVariants.{Region, Ty, Const, ValTree, Pat, ValueType}
+use Rattle.relation_terms.specs.declared.terms.part_kind.Part.TheVariants.{Binder, Signature, Inputs, Existential}
+use Rattle.relation_terms.specs.declared.terms.part_kind.Part.TheVariants.{Object}
 use Rattle.relation_tools.specs.declared.visit.Visit.{Visit}
 use Rattle.relation_tools.specs.declared.visit.Visit.TheVariants.{Enter, Skip, Stop}
 use Rattle.relation_tools.specs.Visits.{visited_sort, is_visited, Asks, Flow, Walks, entered, skipped, stopped}
-use Rattle.relation_tools.specs.Visits.{passed_leaf, passed, no_part, last_part, next_part}
+use Rattle.relation_tools.specs.Visits.{deeper, told_inside}
+use Rattle.relation_tools.proofs.Depths.{visited_told}
+use Rattle.relation_tools.specs.Visits.{passed_leaf, passed, in_binder, no_part, last_part, next_part}
 
 -- A visitor is asked about a tree by its sort alone.
 pub visited_as : (t : Tree) (s : Sort) → tree_sort t ≡ s → is_visited t ≡ visited_sort s
@@ -20,13 +24,18 @@ visited_as nil s e = ap visited_sort e
 visited_as (cons t ts) s e = ap visited_sort e
 
 -- Each part is a term of a sort.
-pub has_sort : {Key : Type 0} (p : Part Key) → part_sort p ≡ no_sort → ⊥
+pub has_sort : {Key Id : Type 0} (p : Part Key Id) → part_sort p ≡ no_sort → ⊥
 has_sort (Region r) e = cc
 has_sort (Ty t) e = cc
 has_sort (Const c) e = cc
 has_sort (ValTree v) e = cc
 has_sort (Pat q) e = cc
 has_sort (ValueType t) e = cc
+has_sort (Binder vs b) e = cc
+has_sort (Signature s) e = cc
+has_sort (Inputs t) e = cc
+has_sort (Existential p) e = cc
+has_sort (Object k) e = cc
 
 -- What is left of a list from a place on.
 abbrev pub rest : ℕ → Tree → Tree
@@ -51,32 +60,44 @@ rest_end i (leaf x) l e = absurd l
 rest_end i (node g ts) l e = absurd l
 rest_end i (bind ks t) l e = absurd l
 
-module _ {V : Type 0} (visits : V → ℕ → Tree → V → Visit → Type 0) (d : ℕ) where
-  over_nil : (v w : V) (r : Flow) → Walks visits d v nil w r → (v ≡ w) × (r ≡ Continue tt)
-  over_nil v w r (entered i e o) = absurd (cc)
-  over_nil v w r (skipped i e) = absurd (cc)
-  over_nil v w r (stopped i e) = absurd (cc)
-  over_nil v w r no_part = (refl, refl)
+module _ {V : Type 0} (visits : V → ℕ → Tree → V → Visit → Type 0) where
+  over_nil : (d : ℕ) (v w : V) (r : Flow) → Walks visits d v nil w r → (v ≡ w) × (r ≡ Continue tt)
+  over_nil d v w r (entered i e o) = absurd (cc)
+  over_nil d v w r (skipped i e) = absurd (cc)
+  over_nil d v w r (stopped i e) = absurd (cc)
+  over_nil d v w r no_part = (refl, refl)
 
+  -- Over a list of one part it goes as over the part.
+  over_body : (d : ℕ) (v w : V) (t : Tree) (r : Flow) → Walks visits d v (cons t nil) w r → Walks visits d v t w r
+  over_body d v w t r (entered i e o) = absurd (cc)
+  over_body d v w t r (skipped i e) = absurd (cc)
+  over_body d v w t r (stopped i e) = absurd (cc)
+  over_body d v w t r (last_part o) = o
+  over_body d v w t r (next_part {w = u} o n) =
+      let e = over_nil d u w r n in
+      subst₂ (λ x s. Walks visits d v t x s) e.0 (sym e.1) o
+
+module _ {V : Type 0} (visits : V → ℕ → Tree → V → Visit → Type 0) (d : ℕ) where
   -- A term that no visitor is asked about.
   pass : (v w : V) (t : Tree) (r : Flow) → (tree_sort t ≡ no_sort → ⊥) → is_visited t ≡ false →
-      Walks visits d v (parts_of t) w r → Walks visits d v t w r
+      Walks visits (told_inside t d) v (parts_of t) w r → Walks visits d v t w r
   pass v w (leaf l) r n i p =
-      let o = over_nil v w r p in
+      let o = over_nil visits d v w r p in
       subst₂ (λ x s. Walks visits d v (leaf l) x s) o.0 (sym o.1) (passed_leaf i)
   pass v w (node h ts) r n i p = passed i p
-  pass v w (bind ks t) r n i p = absurd (n refl)
+  pass v w (bind ks t) r n i p = in_binder (over_body visits (deeper d) v w t r p)
   pass v w nil r n i p = absurd (n refl)
   pass v w (cons t ts) r n i p = absurd (n refl)
 
   -- What comes of each answer.
   pub when_entered : (b : Bool) (v w x : V) (t : Tree) (a : Visit) (r : Flow) → (tree_sort t ≡ no_sort → ⊥) →
-      is_visited t ≡ b → Asks visits b d v t w a → a ≡ Enter → Walks visits d w (parts_of t) x r →
+      is_visited t ≡ b → Asks visits b d v t w a → a ≡ Enter → Walks visits (told_inside t d) w (parts_of t) x r →
       Walks visits d v t x r
-  when_entered true v w x t Enter r n i h e p = entered i h p
+  when_entered true v w x t Enter r n i h e p =
+      entered i h (subst (λ k. Walks visits k w (parts_of t) x r) (visited_told t d i) p)
   when_entered true v w x t a r n i h e p = absurd (cc)
   when_entered false v w x t a r n i h e p =
-      pass v x t r n i (subst (λ u. Walks visits d u (parts_of t) x r) h.0 p)
+      pass v x t r n i (subst (λ u. Walks visits (told_inside t d) u (parts_of t) x r) h.0 p)
 
   pub when_skipped : (b : Bool) (v w : V) (t : Tree) (a : Visit) → is_visited t ≡ b → Asks visits b d v t w a →
       a ≡ Skip → Walks visits d v t w (Continue tt)

@@ -1,11 +1,11 @@
 -- Where a visitor goes one way at each tree, so does its walk.
-use Rattle.std.proofs.Common.{◌≡◌, ℕ, suc, refl, subst}
+use Rattle.std.proofs.Common.{◌≡◌, ℕ, refl, subst}
 use Rattle.std.specs.declared.ops.ControlFlow.TheVariants.{Continue, Break}
 use Rattle.relation_terms.specs.Trees.{Tree, leaf, node, bind, nil, cons}
 use Rattle.relation_terms.specs.Parts.{parts_of}
 use Rattle.relation_tools.specs.declared.visit.Visit.{Visit}
 use Rattle.relation_tools.specs.declared.visit.Visit.TheVariants.{Enter, Skip, Stop}
-use Rattle.relation_tools.specs.Visits.{Flow, Walks, entered, skipped, stopped}
+use Rattle.relation_tools.specs.Visits.{Flow, Walks, deeper, entered, skipped, stopped}
 use Rattle.relation_tools.specs.Visits.{passed_leaf, passed, in_binder, no_part, last_part, next_part}
 
 module _ {V : Type 0} (visits : V → ℕ → Tree → V → Visit → Type 0)
@@ -32,7 +32,7 @@ module _ {V : Type 0} (visits : V → ℕ → Tree → V → Visit → Type 0)
   walks_once d v w x t q r (stopped i e) (stopped j f) = (one_visitor d v w x t Stop Stop e f, refl)
   walks_once d v w x t q r (passed_leaf i) (passed_leaf j) = (refl, refl)
   walks_once d v w x (node h ts) q r (passed i o) (passed j n) = walks_once d v w x ts q r o n
-  walks_once d v w x (bind ks t) q r (in_binder o) (in_binder n) = walks_once (suc d) v w x t q r o n
+  walks_once d v w x (bind ks t) q r (in_binder o) (in_binder n) = walks_once (deeper d) v w x t q r o n
   walks_once d v w x t q r no_part no_part = (refl, refl)
   walks_once d v w x (cons t ts) q r (last_part o) (last_part n) = walks_once d v w x t (Break tt) (Break tt) o n
   walks_once d v w x (cons t ts) q r (last_part o) (next_part {w = y} n m) =

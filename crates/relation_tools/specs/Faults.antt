@@ -41,8 +41,8 @@ MustIncludeNote e = Unit {0}
 abbrev pub pair_tree : {A : Type 0} → (A → Tree) → ExpectedFound A → Tree
 pair_tree tree pair = cons (tree pair.expected) (cons (tree pair.found) nil)
 
--- The tree of an error: the types, regions and constants that it names, in order. Lists of existential predicates can't
--- be read yet, and are left out.
+-- The tree of an error: the types, regions and constants that it names, in order. Lists of existential predicates
+-- are left out.
 abbrev pub error_tree : {Key Id Name : Type 0} → Meaning Key Id Name → TypeError Key Id Name → Tree
 error_tree m (ArraySize sizes) = pair_tree m.const_ sizes
 error_tree m (RegionsDoesNotOutlive r s) = cons (m.region r) (cons (m.region s) nil)

@@ -1,5 +1,5 @@
 -- What a visitor goes over.
-use Rattle.std.specs.Prelude.{◌≡◌, ℕ, suc, List, Bool, true, false, not, cond, ◌||◌, nat_lt}
+use Rattle.std.specs.Prelude.{◌≡◌, ℕ, suc, List, Bool, true, false, not, cond, ◌||◌, nat_lt, IsTrue}
 use Rattle.std.specs.declared.ops.ControlFlow.{ControlFlow}
 use Rattle.std.specs.declared.ops.ControlFlow.TheVariants.{Continue, Break}
 use Rattle.relation_terms.specs.Heads.{Sort, region_sort, type_sort, const_sort, leaf_sort, head_sort, region_var}
@@ -8,6 +8,8 @@ use Rattle.relation_terms.specs.Heads.{Atom, type_param, type_error, fresh_type,
 use Rattle.relation_terms.specs.Heads.{Leaf, variable, bound, atom}
 use Rattle.relation_terms.specs.Trees.{Tree, leaf, node, bind, nil, cons}
 use Rattle.relation_terms.specs.Parts.{parts_of}
+use Rattle.relation_terms.specs.declared.terms.part_kind.Part.{Part}
+use Rattle.relation_terms.specs.declared.terms.part_kind.Part.TheVariants.{Binder}
 use Rattle.relation_tools.specs.declared.visit.Visit.{Visit}
 use Rattle.relation_tools.specs.declared.visit.Visit.TheVariants.{Enter, Skip, Stop}
 
@@ -33,9 +35,22 @@ abbrev pub Asks : {V : Type 0} → (V → ℕ → Tree → V → Visit → Type 
 Asks visits true d v t w a = visits v d t w a
 Asks visits false d v t w a = (w ≡ v) × (a ≡ Enter)
 
+-- The depth that a visitor is told one binder deeper. From the largest number on it is told that one.
+abbrev pub deeper : ℕ → ℕ
+deeper d = cond (nat_lt d 340282366920938463463374607431768211455) (suc d) d
+
+-- The depth that it is told at the parts of a tree, and of a part.
+abbrev pub told_inside : Tree → ℕ → ℕ
+told_inside (bind ks t) d = deeper d
+told_inside t d = d
+
+abbrev pub told_inside_part : {Key Id : Type 0} → Part Key Id → ℕ → ℕ
+told_inside_part (Binder vs b) d = deeper d
+told_inside_part p d = d
+
 -- From one visitor, over a tree with `d` binders around it, to another: the visitor is asked about each type, region
 -- and constant before its parts, and what it enters it goes over part by part, in order, until it stops. It is told how
--- many binders stand around what it is asked about.
+-- many binders stand around what it is asked about, as far as there are numbers.
 pub data Walks {V : Type 0} (visits : V → ℕ → Tree → V → Visit → Type 0) : ℕ → V → Tree → V → Flow → Type 0 where
   -- a term whose parts are gone over, one whose parts are not, and one that is the last
   entered : {d : ℕ} {v w x : V} {t : Tree} {r : Flow} → is_visited t ≡ true → visits v d t w Enter →
@@ -47,8 +62,8 @@ pub data Walks {V : Type 0} (visits : V → ℕ → Tree → V → Visit → Typ
   passed_leaf : {d : ℕ} {v : V} {l : Leaf} → is_visited (leaf l) ≡ false → Walks visits d v (leaf l) v (Continue tt)
   passed : {d : ℕ} {v w : V} {h : Head} {ts : Tree} {r : Flow} → is_visited (node h ts) ≡ false →
       Walks visits d v ts w r → Walks visits d v (node h ts) w r
-  -- what stands under a binder, one binder deeper; no form that an interner reads has one yet
-  in_binder : {d : ℕ} {v w : V} {ks : List BoundKind} {t : Tree} {r : Flow} → Walks visits (suc d) v t w r →
+  -- what stands under a binder, one binder deeper
+  in_binder : {d : ℕ} {v w : V} {ks : List BoundKind} {t : Tree} {r : Flow} → Walks visits (deeper d) v t w r →
       Walks visits d v (bind ks t) w r
   -- a list, part by part
   no_part : {d : ℕ} {v : V} → Walks visits d v nil v (Continue tt)
@@ -92,6 +107,15 @@ found_here p depth t = false
 -- A visitor that stops at such a leaf and enters all else.
 abbrev pub Searches : {V : Type 0} → (ℕ → Leaf → Bool) → V → ℕ → Tree → V → Visit → Type 0
 Searches p v depth t w a = a ≡ cond (found_here p depth t) Stop Enter
+
+-- Where the tree is a bound variable, its index is one that there is a number for.
+abbrev pub is_near : Tree → Bool
+is_near (leaf (bound k d i)) = nat_lt d 18446744073709551616
+is_near t = true
+
+-- The same, of a visitor that reads this of each tree that it is asked about.
+abbrev pub SearchesNear : {V : Type 0} → (ℕ → Leaf → Bool) → V → ℕ → Tree → V → Visit → Type 0
+SearchesNear p v depth t w a = (a ≡ cond (found_here p depth t) Stop Enter) × IsTrue (is_near t)
 
 -- A form without parts that no instantiation changes into another, and no error.
 abbrev pub rigid_atom : Atom → Bool

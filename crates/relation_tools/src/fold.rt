@@ -8,14 +8,15 @@ use crate::tree::HasTree;
 use relation_terms::terms::{Const, Interner, OutOfMemory, Region, Ty};
 
 mod foldable;
+mod forms;
 mod keyed;
 mod memory;
 mod walk;
 
 pub use keyed::{
     fold_alternatives_with, fold_arg_with, fold_args_with, fold_branches_with, fold_const_with,
-    fold_pat_with, fold_region_with, fold_ty_with, fold_tys_with, fold_valtree_with,
-    super_fold_const, super_fold_ty,
+    fold_pat_with, fold_predicates_with, fold_region_with, fold_ty_with, fold_tys_with,
+    fold_valtree_with, super_fold_const, super_fold_ty,
 };
 
 /// What a folder answers at a type, a region or a constant.
@@ -40,7 +41,7 @@ pub trait TypeFolder<I: Interner> {
     ghost replaces: { Meaning I.Key I.Id I.Name → Self → ℕ → Tree → Option Tree };
 
     /// What stands in the place of a type that stands under `depth` binders.
-    fn fold_ty(&mut self, cx: &mut I, ty: &Ty<I>, depth: u64) -> Result<Fold<Ty<I>>, OutOfMemory>
+    fn fold_ty(&mut self, cx: &mut I, ty: &Ty<I>, depth: u128) -> Result<Fold<Ty<I>>, OutOfMemory>
         requires known { IsTrue (known ((I.meaning cx.old).ty ty.now)) }
         requires ready { ready (I.meaning cx.old) self.old }
         ensures steps { Steps ready replaces (I.meaning cx.old) self.old (I.meaning cx.new) self.new }
@@ -53,7 +54,7 @@ pub trait TypeFolder<I: Interner> {
         &mut self,
         cx: &mut I,
         region: &Region<I>,
-        depth: u64,
+        depth: u128,
     ) -> Result<Fold<Region<I>>, OutOfMemory>
         requires known { IsTrue (known ((I.meaning cx.old).region region.now)) }
         requires ready { ready (I.meaning cx.old) self.old }
@@ -68,7 +69,7 @@ pub trait TypeFolder<I: Interner> {
         &mut self,
         cx: &mut I,
         constant: &Const<I>,
-        depth: u64,
+        depth: u128,
     ) -> Result<Fold<Const<I>>, OutOfMemory>
         requires known { IsTrue (known ((I.meaning cx.old).const_ constant.now)) }
         requires ready { ready (I.meaning cx.old) self.old }

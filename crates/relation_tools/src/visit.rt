@@ -9,6 +9,7 @@ ghost use Rattle.relation_tools.specs.Visits.{Walks};
 ghost use Rattle.relation_tools.specs.declared.visit.Visit.{Visit};
 
 mod flags;
+mod forms;
 mod keyed;
 mod visitable;
 mod walk;
@@ -17,8 +18,8 @@ use crate::tree::HasTree;
 pub use flags::{has_escaping_bound_vars, has_non_region_infer, is_known_rigid};
 pub use keyed::{
     super_visit_const, super_visit_ty, visit_alternatives_with, visit_arg_with, visit_args_with,
-    visit_branches_with, visit_const_with, visit_pat_with, visit_region_with, visit_ty_with,
-    visit_tys_with, visit_valtree_with,
+    visit_branches_with, visit_const_with, visit_pat_with, visit_predicates_with,
+    visit_region_with, visit_ty_with, visit_tys_with, visit_valtree_with,
 };
 use relation_terms::terms::{Const, Interner, Region, Ty};
 use std::ops::ControlFlow;
@@ -43,17 +44,17 @@ pub trait TypeVisitor<I: Interner> {
     ghost visits: { I → Self → ℕ → Tree → Self → Visit → Type 0 };
 
     /// The visitor is asked about a type under `depth` binders, which the interner knows.
-    fn visit_ty(&mut self, cx: &I, ty: &Ty<I>, depth: u64) -> Visit
+    fn visit_ty(&mut self, cx: &I, ty: &Ty<I>, depth: u128) -> Visit
         requires { IsTrue (known ((I.meaning cx.now).ty ty.now)) }
         ensures { visits cx.now self.old depth ((I.meaning cx.now).ty ty.now) self.new result };
 
     /// The visitor is asked about a region under `depth` binders, which the interner knows.
-    fn visit_region(&mut self, cx: &I, region: &Region<I>, depth: u64) -> Visit
+    fn visit_region(&mut self, cx: &I, region: &Region<I>, depth: u128) -> Visit
         requires { IsTrue (known ((I.meaning cx.now).region region.now)) }
         ensures { visits cx.now self.old depth ((I.meaning cx.now).region region.now) self.new result };
 
     /// The visitor is asked about a constant under `depth` binders, which the interner knows.
-    fn visit_const(&mut self, cx: &I, constant: &Const<I>, depth: u64) -> Visit
+    fn visit_const(&mut self, cx: &I, constant: &Const<I>, depth: u128) -> Visit
         requires { IsTrue (known ((I.meaning cx.now).const_ constant.now)) }
         ensures { visits cx.now self.old depth ((I.meaning cx.now).const_ constant.now) self.new result };
 }

@@ -14,6 +14,7 @@ use Rattle.relation_terms.specs.declared.terms.keys.TysKey.{TysKey}
 use Rattle.relation_terms.specs.declared.terms.keys.ConstKey.{ConstKey}
 use Rattle.relation_terms.specs.declared.terms.keys.RegionKey.{RegionKey}
 use Rattle.relation_terms.specs.declared.terms.ty_kind.TyKind.{TyKind}
+use Rattle.relation_terms.specs.declared.terms.ty_kind.TyKind.TheVariants.{FnPtr, UnsafeBinder, Dynamic}
 use Rattle.relation_terms.specs.declared.terms.ty_kind.TyKind.TheVariants.{Slice, Array, Tuple, RawPtr, Ref, Infer}
 use Rattle.relation_terms.specs.declared.terms.ty_kind.TyKind.TheVariants.{Adt, FnDef, Closure, CoroutineClosure, Coroutine, CoroutineWitness}
 use Rattle.relation_terms.specs.declared.terms.ty_kind.TyKind.TheVariants.{Param as TyParam, Alias, Pat}
@@ -353,6 +354,9 @@ module _ {Key Id Name : Type 0} (m : Meaning Key Id Name) where
   alone_kind (Infer (FreshFloatTy n)) o i a b c d e f = absurd o
   alone_kind (Pat t p) o i a b c d e f = absurd o.0
   alone_kind (Alias t) o i a b c d e f = absurd o.0
+  alone_kind (FnPtr q z) o i a b c d e f = absurd o.0
+  alone_kind (UnsafeBinder q) o i a b c d e f = absurd o.0
+  alone_kind (Dynamic q z) o i a b c d e f = absurd o.0
   alone_kind (Adt q z) o i a b c d e f = absurd i
   alone_kind (FnDef q z) o i a b c d e f = absurd i
   alone_kind (Closure q z) o i a b c d e f = absurd i

@@ -100,6 +100,9 @@ only_size_leaf k n v unknown = one_times 1 (size v) (size_positive v)
 pub only_size : (k : VarKind) (n : ℕ) (v t : Tree) → size (apply (only k n v) t) ≤ size t * size v
 only_size k n v (leaf l) = only_size_leaf k n v l
 only_size k n v (node h t) = grow_node (size (apply (only k n v) t)) (size t) (size v) (only_size k n v t) (size_positive v)
-only_size k n v (bind ks t) = grow_node (size (apply (only k n v) t)) (size t) (size v) (only_size k n v t) (size_positive v)
+only_size k n v (bind ks t) =
+    let s = size (apply (only k n v) t) in
+    grow_node (suc s) (suc (size t)) (size v)
+    (grow_node s (size t) (size v) (only_size k n v t) (size_positive v)) (size_positive v)
 only_size k n v nil = one_times 1 (size v) (size_positive v)
 only_size k n v (cons t u) = grow_pair (size (apply (only k n v) t)) (size t) (size (apply (only k n v) u)) (size u) (size v) (only_size k n v t) (only_size k n v u) (size_positive v)

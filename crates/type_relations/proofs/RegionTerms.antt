@@ -270,7 +270,7 @@ size-inst ts d (leaf (placeholder k u n)) h r = refl
 size-inst ts d (leaf (atom x)) h r = refl
 size-inst ts d (leaf unknown) h r = absurd r
 size-inst ts d (node a t) h r = ap suc (size-inst ts d t h r.1)
-size-inst ts d (bind ks t) h r = ap suc (size-inst ts (suc d) t h r.1)
+size-inst ts d (bind ks t) h r = ap (λ n. suc (suc n)) (size-inst ts (suc d) t h r.1)
 size-inst ts d nil h r = refl
 size-inst ts d (cons t u) h r = let p = size-inst ts d t h r.0 in let q = size-inst ts d u h r.1 in omega arith
 

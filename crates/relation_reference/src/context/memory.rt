@@ -1,12 +1,13 @@
 //! What walks through terms have met: a part that was met is not gone through again.
 ghost use Rattle.std.specs.Prelude.{◌≡◌, IsTrue, IfSome, OnOk};
 ghost use Rattle.std.specs.HashMap.{IsEmpty};
-ghost use Rattle.relation_terms.specs.Trees.{known};
+ghost use Rattle.relation_terms.specs.Heads.{type_var};
+ghost use Rattle.relation_terms.specs.Trees.{known, Occurs};
 ghost use Rattle.relation_terms.specs.Parts.{part_tree};
-ghost use Rattle.relation_reference.specs.Remembering.{ComesTo, Remembers, key_of as the_key};
+ghost use Rattle.relation_reference.specs.Remembering.{ComesTo, Remembers, Lacks, IsWithout, key_of as the_key};
 
 use crate::context::RefCtxt;
-use relation_terms::terms::{Interner, OutOfMemory, Part};
+use relation_terms::terms::{Interner, OutOfMemory, Part, PartOf, TyVid};
 use std::collections::{HashMap, HashSet};
 
 /// A part as it is looked for: of which sort it is, and its key.
@@ -17,65 +18,99 @@ pub struct PartKey<X> {
 }
 
 /// What parts that were met were resolved to.
-pub type Resolutions<X> = HashMap<PartKey<X>, Part<X>>;
+pub type Resolutions<X, D> = HashMap<PartKey<X>, Part<X, D>>;
 
 /// Parts that were met, and that a variable doesn't stand in.
 pub type Lacking<X> = HashSet<PartKey<X>>;
 
-/// A part as it is looked for.
-pub fn key_of<X: Copy>(part: &Part<X>) -> PartKey<X>
+// A part as it is looked for, where it has a key.
+fn key_of<X: Copy, D: Copy>(part: &Part<X, D>) -> Option<PartKey<X>>
     ensures { result ≡ the_key part.now }
 {
-    match part {
-        Part::Region(region) => PartKey {
-            sort: 0,
-            key: region.0,
-        },
-        Part::Ty(ty) => PartKey { sort: 1, key: ty.0 },
-        Part::Const(constant) => PartKey {
-            sort: 2,
-            key: constant.0,
-        },
-        Part::ValTree(valtree) => PartKey {
-            sort: 3,
-            key: valtree.0,
-        },
-        Part::Pat(pat) => PartKey {
-            sort: 4,
-            key: pat.0,
-        },
-        Part::ValueType(ty) => PartKey { sort: 5, key: ty.0 },
+    let (sort, key) = match part {
+        Part::Region(region) => (0, region.0),
+        Part::Ty(ty) => (1, ty.0),
+        Part::Const(constant) => (2, constant.0),
+        Part::ValTree(valtree) => (3, valtree.0),
+        Part::Pat(pat) => (4, pat.0),
+        Part::ValueType(ty) => (5, ty.0),
+        Part::Object(predicates) => (6, predicates.0),
+        Part::Binder(..) | Part::Signature(_) | Part::Inputs(_) | Part::Existential(_) => {
+            return None;
+        }
+    };
+    Some(PartKey { sort, key })
+}
+
+// Whether a variable was looked for in the part before, and doesn't stand in it.
+pub(crate) fn is_lacking<I: Interner>(
+    cx: &I,
+    part: &PartOf<I>,
+    var: TyVid,
+    lacking: &Lacking<I::Key>,
+) -> bool
+    requires known { IsTrue (known (part_tree (I.meaning cx.now) part.now)) }
+    requires lacks { Lacks (I.meaning cx.now) var.0 ⟦<PartKey<I::Key> as PartialEq>⟧.eq lacking.now }
+    ensures { IsTrue result → Occurs type_var var.0 (part_tree (I.meaning cx.now) part.now) → ⊥ }
+{
+    let _ = cx;
+    let _ = var;
+    match key_of(part) {
+        Some(key) => lacking.contains(&key),
+        None => false,
     }
+}
+
+// Keeps that a variable doesn't stand in the part.
+pub(crate) fn keep_lacking<I: Interner>(
+    cx: &I,
+    part: &PartOf<I>,
+    var: TyVid,
+    lacking: &mut Lacking<I::Key>,
+) -> Result<(), OutOfMemory>
+    requires without { IsWithout (I.meaning cx.now) var.0 part.now }
+    requires lacks { Lacks (I.meaning cx.now) var.0 ⟦<PartKey<I::Key> as PartialEq>⟧.eq lacking.old }
+    ensures { OnOk result (Lacks (I.meaning cx.now) var.0 ⟦<PartKey<I::Key> as PartialEq>⟧.eq lacking.new) }
+{
+    let _ = cx;
+    let _ = var;
+    if let Some(key) = key_of(part) {
+        lacking.insert(key)?;
+    }
+    Ok(())
 }
 
 impl<I: Interner> RefCtxt<I> {
     // What the part was resolved to, if it was met before.
     pub(crate) fn recall(
         &self,
-        part: &Part<I::Key>,
-        memory: &Resolutions<I::Key>,
-    ) -> Option<Part<I::Key>>
+        part: &PartOf<I>,
+        memory: &Resolutions<I::Key, I::Id>,
+    ) -> Option<PartOf<I>>
         requires known { IsTrue (known (part_tree (I.meaning self.now.interner) part.now)) }
         requires remembers { Remembers I.meaning self.now ⟦<PartKey<I::Key> as PartialEq>⟧.eq memory.now }
         ensures { IfSome result (ComesTo I.meaning self.now part.now) }
     {
         let _ = self;
-        memory.get(&key_of(part)).copied()
+        let key = key_of(part)?;
+        memory.get(&key).copied()
     }
 
     // Keeps what the part was resolved to.
     pub(crate) fn keep(
         &self,
-        part: &Part<I::Key>,
-        resolved: Part<I::Key>,
-        memory: &mut Resolutions<I::Key>,
+        part: &PartOf<I>,
+        resolved: PartOf<I>,
+        memory: &mut Resolutions<I::Key, I::Id>,
     ) -> Result<(), OutOfMemory>
         requires comes { ComesTo I.meaning self.now part.now resolved }
         requires remembers { Remembers I.meaning self.now ⟦<PartKey<I::Key> as PartialEq>⟧.eq memory.old }
         ensures { OnOk result (Remembers I.meaning self.now ⟦<PartKey<I::Key> as PartialEq>⟧.eq memory.new) }
     {
         let _ = self;
-        memory.insert(key_of(part), resolved)?;
+        if let Some(key) = key_of(part) {
+            memory.insert(key, resolved)?;
+        }
         Ok(())
     }
 }

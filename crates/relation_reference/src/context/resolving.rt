@@ -15,16 +15,16 @@ ghost use Rattle.type_relations.specs.Parts.{IsFormed};
 ghost use Rattle.type_relations.specs.Covered.{IsCovered};
 ghost use Rattle.relation_reference.specs.Answers.{Instantiated, StepsByInstantiating};
 
-use crate::context::memory::{Lacking, PartKey, Resolutions, key_of};
+use crate::context::memory::{Lacking, PartKey, Resolutions, is_lacking, keep_lacking};
 use crate::context::variables::ty_vid;
 use crate::context::{RefCtxt, TypeVariableValue};
 use relation_terms::terms::parts::{is_same, part, parts_count, the_ty, with_parts};
-use relation_terms::terms::{Interner, OutOfMemory, Part, Ty, TyVid};
+use relation_terms::terms::{Interner, OutOfMemory, Part, PartOf, Ty, TyVid};
 use relation_tools::error::{RelateFault, RelateFaultOf, TypeError};
 use std::collections::{HashMap, HashSet};
 
 // The type variable that a term is, or none.
-fn variable_of<I: Interner>(cx: &I, term: &Part<I::Key>) -> Option<TyVid>
+fn variable_of<I: Interner>(cx: &I, term: &PartOf<I>) -> Option<TyVid>
     requires { IsTrue (known (part_tree (I.meaning cx.now) term.now)) }
     ensures is { IfSome result (λ v. part_tree (I.meaning cx.now) term.now ≡ leaf (variable type_var v.0)) }
     ensures is_none { IfNone result ((n : ℕ) →
@@ -40,7 +40,7 @@ fn variable_of<I: Interner>(cx: &I, term: &Part<I::Key>) -> Option<TyVid>
 // and doesn't stand in, is not gone through again.
 fn occurs_in<I: Interner>(
     cx: &I,
-    term: &Part<I::Key>,
+    term: &PartOf<I>,
     var: TyVid,
     lacking: &mut Lacking<I::Key>,
 ) -> Result<bool, OutOfMemory>
@@ -56,8 +56,7 @@ fn occurs_in<I: Interner>(
     if let Some(other) = variable_of(cx, term) {
         return Ok(other.0 == var.0);
     }
-    let key = key_of(term);
-    if lacking.contains(&key) {
+    if is_lacking(cx, term, var, lacking) {
         return Ok(false);
     }
     for i in 0..parts_count(cx, term) {
@@ -66,12 +65,12 @@ fn occurs_in<I: Interner>(
             return Ok(true);
         }
     }
-    lacking.insert(key)?;
+    keep_lacking(cx, term, var, lacking)?;
     Ok(false)
 }
 
 // Whether a type variable stands in a term, of forms that relating has rules for.
-fn occurs<I: Interner>(cx: &I, term: &Part<I::Key>, var: TyVid) -> Result<bool, OutOfMemory>
+fn occurs<I: Interner>(cx: &I, term: &PartOf<I>, var: TyVid) -> Result<bool, OutOfMemory>
     requires term_known { IsTrue (known (part_tree (I.meaning cx.now) term.now)) }
     requires term_covered { IsCovered (part_tree (I.meaning cx.now) term.now) }
     ensures stands { IfOk result (λ b. IsTrue b →
@@ -85,7 +84,7 @@ fn occurs<I: Interner>(cx: &I, term: &Part<I::Key>, var: TyVid) -> Result<bool, 
 impl<I: Interner> RefCtxt<I> {
     // The term itself, or for a type what it is resolved to shallowly. What that comes to is the form over what its
     // parts come to.
-    fn shallow_part(&self, term: &Part<I::Key>) -> Part<I::Key>
+    fn shallow_part(&self, term: &PartOf<I>) -> PartOf<I>
         requires lawful { IsLawful (I.meaning self.now.interner) self.now.inner }
         requires term_known { IsTrue (known (part_tree (I.meaning self.now.interner) term.now)) }
         requires term_in { let m = I.meaning self.now.interner in
@@ -110,9 +109,9 @@ impl<I: Interner> RefCtxt<I> {
     #[cycle(resolve)]
     fn resolve_part(
         &mut self,
-        term: &Part<I::Key>,
-        memory: &mut Resolutions<I::Key>,
-    ) -> Result<Part<I::Key>, OutOfMemory>
+        term: &PartOf<I>,
+        memory: &mut Resolutions<I::Key, I::Id>,
+    ) -> Result<PartOf<I>, OutOfMemory>
         requires lawful { IsLawful (I.meaning self.old.interner) self.old.inner }
         requires remembers { Remembers I.meaning self.old ⟦<PartKey<I::Key> as PartialEq>⟧.eq memory.old }
         requires term_known { IsTrue (known (part_tree (I.meaning self.old.interner) term.now)) }
@@ -140,9 +139,9 @@ impl<I: Interner> RefCtxt<I> {
     #[cycle(resolve)]
     fn resolve_inside(
         &mut self,
-        term: &Part<I::Key>,
-        memory: &mut Resolutions<I::Key>,
-    ) -> Result<Part<I::Key>, OutOfMemory>
+        term: &PartOf<I>,
+        memory: &mut Resolutions<I::Key, I::Id>,
+    ) -> Result<PartOf<I>, OutOfMemory>
         requires lawful { IsLawful (I.meaning self.old.interner) self.old.inner }
         requires remembers { Remembers I.meaning self.old ⟦<PartKey<I::Key> as PartialEq>⟧.eq memory.old }
         requires term_known { IsTrue (known (part_tree (I.meaning self.old.interner) term.now)) }

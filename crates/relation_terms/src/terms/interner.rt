@@ -1,20 +1,23 @@
 //! What makes and reads keys.
-ghost use Rattle.std.specs.Prelude.{◌≡◌, IsTrue, IfOk, OnErr};
+ghost use Rattle.std.specs.Prelude.{◌≡◌, IsTrue, IfOk, OnErr, Some, IsSome};
 ghost use Rattle.relation_terms.specs.Heads.{type_sort, region_sort, const_sort, value_sort, argument_sort};
-ghost use Rattle.relation_terms.specs.Heads.{pattern_sort};
+ghost use Rattle.relation_terms.specs.Heads.{pattern_sort, existential_sort};
 ghost use Rattle.relation_terms.specs.Heads.{environment, environment_sort};
 ghost use Rattle.relation_terms.specs.Trees.{known, list_tree, node, nil};
 ghost use Rattle.relation_terms.specs.Meaning.{Meaning, Extends, kind_tree, region_tree, const_tree, valtree_tree};
-ghost use Rattle.relation_terms.specs.Meaning.{arg_tree, pattern_tree};
+ghost use Rattle.relation_terms.specs.Meaning.{arg_tree, pattern_tree, object_predicate_tree, bound_kinds};
 ghost use Rattle.relation_terms.specs.Interning.{AreEqualAsTrees, AreEqualAsNumbers, IsOfSort, AreOfSort, RemakesTy};
 ghost use Rattle.relation_terms.specs.Interning.{RemakesRegion, RemakesConst, RemakesValTree, RemakesEmptyEnv};
 ghost use Rattle.relation_terms.specs.Interning.{RemakesPat, MakesAlternatives, KeepsAlternatives};
 ghost use Rattle.relation_terms.specs.Interning.{MakesTys, MakesArgs, MakesBranches, KeepsTys, KeepsArgs};
-ghost use Rattle.relation_terms.specs.Interning.{KeepsBranches};
+ghost use Rattle.relation_terms.specs.Interning.{KeepsBranches, MakesPredicates, KeepsPredicates, MakesBoundVars};
+ghost use Rattle.relation_terms.specs.Interning.{KeepsBoundVars, AreEqualAsKinds, AreBindersOf};
 
+use crate::predicate::ObjectPredicate;
 use crate::terms::{
-    Alternatives, Branches, Const, ConstForm, GenericArg, GenericArgs, ItemOf, Keys, ParamEnv, Pat,
-    PatternForm, Region, RegionForm, Span, Ty, TyForm, Tys, ValTree, ValTreeForm, Variance,
+    Alternatives, BoundVariable, BoundVars, Branches, Const, ConstForm, ExistentialPredicates,
+    GenericArg, GenericArgs, ItemOf, Keys, ParamEnv, Pat, PatternForm, Region, RegionForm, Span,
+    Ty, TyForm, Tys, ValTree, ValTreeForm, Variance,
 };
 use std::alloc::{AllocError, AllocFailed, Global};
 
@@ -92,6 +95,20 @@ pub trait Interner: Keys {
     fn alternatives(&self, alternatives: &Alternatives<Self>) -> &[Pat<Self>]
         requires { IsTrue (known ((meaning self.now).alternatives alternatives.now)) }
         ensures { (meaning self.now).alternatives alternatives.now ≡ list_tree (meaning self.now).pat result.now };
+
+    /// The predicates of a trait object.
+    fn existential_predicates(
+        &self,
+        predicates: &ExistentialPredicates<Self>,
+    ) -> &[ObjectPredicate<Self>]
+        requires { IsTrue (known ((meaning self.now).existential_predicates predicates.now)) }
+        ensures { (meaning self.now).existential_predicates predicates.now ≡
+            list_tree (object_predicate_tree (meaning self.now)) result.now };
+
+    /// The variables of a binder.
+    fn bound_vars(&self, bound_vars: &BoundVars<Self>) -> &[BoundVariable<Self>]
+        requires { IsSome ((meaning self.now).bound_vars bound_vars.now) }
+        ensures { (meaning self.now).bound_vars bound_vars.now ≡ Some (bound_kinds (meaning self.now) result.now) };
 
     /// How many generic parameters an item has.
     fn generics_count(&self, def_id: &ItemOf<Self>) -> usize
@@ -184,6 +201,28 @@ pub trait Interner: Keys {
         ensures refused { OnErr result (meaning self.new ≡ meaning self.old) }
         ensures there { KeepsAlternatives (meaning self.old) (meaning self.new) alternatives.now };
 
+    /// The list of a trait object's predicates.
+    fn mk_existential_predicates(
+        &mut self,
+        predicates: &[ObjectPredicate<Self>],
+    ) -> Result<ExistentialPredicates<Self>, OutOfMemory>
+        requires { IsTrue (known (list_tree (object_predicate_tree (meaning self.old)) predicates.now)) }
+        ensures grown { Extends (meaning self.old) (meaning self.new) }
+        ensures sure { IfOk result (λ k. IsTrue (known ((meaning self.new).existential_predicates k))) }
+        ensures made { MakesPredicates (meaning self.old) (meaning self.new) predicates.now result }
+        ensures refused { OnErr result (meaning self.new ≡ meaning self.old) }
+        ensures there { KeepsPredicates (meaning self.old) (meaning self.new) predicates.now };
+
+    /// The list of a binder's variables.
+    fn mk_bound_vars(
+        &mut self,
+        bound_vars: &[BoundVariable<Self>],
+    ) -> Result<BoundVars<Self>, OutOfMemory>
+        ensures grown { Extends (meaning self.old) (meaning self.new) }
+        ensures made { MakesBoundVars (meaning self.old) (meaning self.new) bound_vars.now result }
+        ensures refused { OnErr result (meaning self.new ≡ meaning self.old) }
+        ensures there { KeepsBoundVars (meaning self.old) (meaning self.new) bound_vars.now };
+
     /// The environment without clauses.
     fn empty_param_env(&mut self) -> Result<ParamEnv<Self>, OutOfMemory>
         ensures grown { Extends (meaning self.old) (meaning self.new) }
@@ -211,6 +250,11 @@ pub trait Interner: Keys {
 
     ghost same_alternatives: { (a : Self) → AreEqualAsTrees (meaning a).alternatives (λ k l. Self.Key.eq k.0 l.0) };
 
+    ghost same_existential_predicates: { (a : Self) →
+        AreEqualAsTrees (meaning a).existential_predicates (λ k l. Self.Key.eq k.0 l.0) };
+
+    ghost same_bound_vars: { (a : Self) → AreEqualAsKinds (meaning a).bound_vars (λ k l. Self.Key.eq k.0 l.0) };
+
     ghost same_param_env: { (a : Self) → AreEqualAsTrees (meaning a).param_env (λ k l. Self.Key.eq k.0 l.0) };
 
     // Names are equal exactly where their numbers are.
@@ -237,6 +281,8 @@ pub trait Interner: Keys {
     ghost is_pat: { (a : Self) → IsOfSort (meaning a).pat pattern_sort };
 
     ghost are_alternatives: { (a : Self) → AreOfSort (meaning a).alternatives pattern_sort };
+
+    ghost are_existential_predicates: { (a : Self) → AreBindersOf (meaning a).existential_predicates existential_sort };
 
     ghost is_param_env: { (a : Self) → IsOfSort (meaning a).param_env environment_sort };
 }

@@ -102,6 +102,12 @@ pub type Pat<I> = PatKey<<I as Keys>::Key>;
 /// A list of patterns of an interner, the alternatives of a pattern.
 pub type Alternatives<I> = AlternativesKey<<I as Keys>::Key>;
 
+/// A list of a trait object's predicates, of an interner.
+pub type ExistentialPredicates<I> = ExistentialPredicatesKey<<I as Keys>::Key>;
+
+/// A list of a binder's variables, of an interner.
+pub type BoundVars<I> = BoundVarsKey<<I as Keys>::Key>;
+
 /// A predicate of an interner.
 pub type Predicate<I> = PredicateKey<<I as Keys>::Key>;
 

@@ -1,11 +1,13 @@
 //! Parts of terms, of any sort, and lists of them.
+use crate::predicate::ExistentialPredicate;
 use crate::terms::{
-    AlternativesKey, ArgsKey, BranchesKey, ConstKey, PatKey, RegionKey, TyKey, TysKey, ValTreeKey,
+    AlternativesKey, ArgsKey, BoundVarsKey, BranchesKey, ConstKey, ExistentialPredicatesKey, FnSig,
+    Keys, PatKey, RegionKey, TermKind, TyKey, TysKey, ValTreeKey,
 };
 
 /// A term of any sort that can be a part.
 #[derive(Clone, Copy)]
-pub enum Part<X> {
+pub enum Part<X, D> {
     Region(RegionKey<X>),
     Ty(TyKey<X>),
     Const(ConstKey<X>),
@@ -13,16 +15,43 @@ pub enum Part<X> {
     Pat(PatKey<X>),
     /// The declared type of a value, a form of its own: its part is the type.
     ValueType(TyKey<X>),
+    /// A binder over a body: its part is the body, one binder deeper.
+    Binder(BoundVarsKey<X>, Body<X, D>),
+    Signature(FnSig<X>),
+    /// The inputs of a signature: all types of the list but the last.
+    Inputs(TysKey<X>),
+    Existential(ExistentialPredicate<X, D>),
+    /// The predicates of a trait object, each under its binder.
+    Object(ExistentialPredicatesKey<X>),
+}
+
+/// What stands under a binder.
+#[derive(Clone, Copy)]
+pub enum Body<X, D> {
+    Signature(FnSig<X>),
+    Ty(TyKey<X>),
+    Existential(ExistentialPredicate<X, D>),
 }
 
 /// A list of parts: those of a form, as the form has them, or a list that has a key.
 #[derive(Clone, Copy)]
-pub enum Parts<X> {
+pub enum Parts<X, D> {
     Empty,
-    One(Part<X>),
-    Two(Part<X>, Part<X>),
+    One(Part<X, D>),
+    Two(Part<X, D>, Part<X, D>),
     Args(ArgsKey<X>),
     Tys(TysKey<X>),
     Branches(BranchesKey<X>),
     Alternatives(AlternativesKey<X>),
+    /// A term, then arguments.
+    TermArgs(TermKind<X>, ArgsKey<X>),
+    /// All types of the list but the last.
+    Inputs(TysKey<X>),
+    Predicates(ExistentialPredicatesKey<X>),
 }
+
+/// A part of an interner's terms.
+pub type PartOf<I> = Part<<I as Keys>::Key, <I as Keys>::Id>;
+
+/// A list of parts of an interner's terms.
+pub type PartsOf<I> = Parts<<I as Keys>::Key, <I as Keys>::Id>;

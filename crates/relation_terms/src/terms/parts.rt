@@ -6,11 +6,13 @@
 mod forms;
 mod keys;
 mod members;
+mod same;
 mod whole;
 
 pub use keys::{
-    is_same, the_alternatives, the_args, the_branches, the_const, the_pat, the_region, the_ty,
-    the_tys, the_valtree,
+    the_alternatives, the_args, the_branches, the_const, the_input_types, the_pat, the_predicates,
+    the_region, the_ty, the_tys, the_valtree,
 };
 pub use members::{make_parts, member, member_count};
+pub use same::is_same;
 pub use whole::{part, parts_count, parts_of, with_parts};

@@ -2,9 +2,10 @@
 ghost use Rattle.std.specs.Prelude.{◌≡◌};
 
 use crate::terms::{
-    AdtId, AliasTy, ArgsKey, BoundTy, ClosureId, ConstKey, CoroutineClosureId, CoroutineId,
-    DebruijnIndex, ErrorGuaranteed, FloatTy, FloatVid, ForeignId, FunctionId, IntTy, IntVid, Keys,
-    Mutability, PatKey, PlaceholderType, RegionKey, TyKey, TyVid, TysKey, UintTy,
+    AdtId, AliasTy, ArgsKey, Binder, BoundTy, ClosureId, ConstKey, CoroutineClosureId, CoroutineId,
+    DebruijnIndex, ErrorGuaranteed, ExistentialPredicatesKey, FloatTy, FloatVid, FnHeader,
+    FnSigTys, ForeignId, FunctionId, IntTy, IntVid, Keys, Mutability, PatKey, PlaceholderType,
+    RegionKey, TyKey, TyVid, TysKey, UintTy,
 };
 use std::alloc::AllocError;
 
@@ -26,6 +27,11 @@ pub enum TyKind<X, D, N> {
     RawPtr(TyKey<X>, Mutability),
     Ref(RegionKey<X>, TyKey<X>, Mutability),
     FnDef(FunctionId<D>, ArgsKey<X>),
+    FnPtr(Binder<X, FnSigTys<X>>, FnHeader),
+    /// A type whose regions may be bound.
+    UnsafeBinder(Binder<X, TyKey<X>>),
+    /// The types that implement some traits, and outlive a region.
+    Dynamic(ExistentialPredicatesKey<X>, RegionKey<X>),
     Closure(ClosureId<D>, ArgsKey<X>),
     CoroutineClosure(CoroutineClosureId<D>, ArgsKey<X>),
     Coroutine(CoroutineId<D>, ArgsKey<X>),

@@ -2,19 +2,16 @@
 ghost use Rattle.std.specs.Prelude.{IsTrue};
 ghost use Rattle.relation_terms.specs.Trees.{known};
 
+use crate::printing::binders::{Entered, write_bound_region};
 use crate::printing::names::{Parameter, TextsOf, name_text};
-use relation_terms::terms::{
-    BoundVar, DebruijnIndex, InferConst, InferTy, Interner, Region, RegionKind, UniverseIndex,
-};
+use relation_terms::terms::{InferConst, InferTy, Interner, Region, RegionKind, UniverseIndex};
 use std::fmt::{self, Write};
 
-/// Writes a region. A parameter that has no text is `'_`.
-///
-/// # Errors
-/// `fmt::Error` where `out` refused to take some of the text. What it took before stands.
-pub fn write_region<I: Interner, W: Write>(
+// Writes a region.
+pub(super) fn write_region<I: Interner, W: Write>(
     cx: &I,
     texts: &TextsOf<I>,
+    around: &[Entered],
     region: &Region<I>,
     out: &mut W,
 ) -> fmt::Result
@@ -29,7 +26,7 @@ pub fn write_region<I: Interner, W: Write>(
         RegionKind::ReEarlyParam(named) => {
             out.write_str(name_text(texts.names, &named.name, "'_"))
         }
-        RegionKind::ReBound(depth, of) => write_bound("'^", depth, of.var, out),
+        RegionKind::ReBound(depth, of) => write_bound_region(around, depth, of.var, out),
         RegionKind::RePlaceholder(of) => {
             out.write_str("'")?;
             write_placeholder(texts.names, of.universe, &of.bound.name, out)
@@ -47,22 +44,6 @@ pub(super) fn write_placeholder<N: PartialEq, W: Write>(
     let number = universe.0;
     let text = name_text(names, name, "_");
     write!(out, "!{number}{text}")
-}
-
-// Writes what a binder outside the term binds, behind its mark: how far out that binder stands, unless it is the
-// nearest, and its place in the binder's list.
-pub(super) fn write_bound<W: Write>(
-    mark: &str,
-    depth: DebruijnIndex,
-    var: BoundVar,
-    out: &mut W,
-) -> fmt::Result {
-    let (depth, place) = (depth.0, var.0);
-    if depth == 0 {
-        write!(out, "{mark}{place}")
-    } else {
-        write!(out, "{mark}{depth}.{place}")
-    }
 }
 
 // Writes a variable that stands for a type, or a stand-in for one.

@@ -1,8 +1,9 @@
 //! The texts of names, of items and of the small enums.
 ghost use Rattle.std.specs.Prelude.{◌≡◌, None};
 ghost use Rattle.relation_text.specs.Texts.{int_name, uint_name, float_name, pointer_name, mutability_text};
+ghost use Rattle.relation_text.specs.Texts.{safety_text, abi_text};
 
-use relation_terms::terms::{FloatTy, IntTy, Keys, Mutability, UintTy};
+use relation_terms::terms::{ExternAbi, FloatTy, IntTy, Keys, Mutability, Safety, UintTy};
 
 /// A name in an interner, and its text.
 #[derive(Clone, Copy)]
@@ -143,5 +144,26 @@ pub(super) fn mutability_text(mutability: Mutability) -> &'static str
     match mutability {
         Mutability::Not => " ",
         Mutability::Mut => " mut ",
+    }
+}
+
+// What stands before a function pointer that safe code must not call.
+pub(super) fn safety_text(safety: Safety) -> &'static str
+    ensures { result.now ≡ safety_text safety }
+{
+    match safety {
+        Safety::Safe => "",
+        Safety::Unsafe => "unsafe ",
+    }
+}
+
+// What stands before a function pointer that is called in another way than Rust's.
+pub(super) fn abi_text(abi: ExternAbi) -> &'static str
+    ensures { result.now ≡ abi_text abi }
+{
+    match abi {
+        ExternAbi::Rust => "",
+        ExternAbi::C => "extern \"C\" ",
+        ExternAbi::System => "extern \"system\" ",
     }
 }

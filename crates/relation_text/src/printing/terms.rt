@@ -1,30 +1,32 @@
 //! How terms print.
 ghost use Rattle.std.specs.Prelude.{◌≡◌, IsTrue};
 ghost use Rattle.relation_terms.specs.Trees.{known};
-ghost use Rattle.relation_terms.specs.Meaning.{alias_id, arg_tree};
+ghost use Rattle.relation_terms.specs.Meaning.{alias_id, arg_tree, under, sig_of, signature_tree, term_tree};
+ghost use Rattle.relation_terms.specs.Meaning.{existential_tree, object_predicate_tree};
 
+use crate::printing::binders::{Entered, enter, write_bound, write_for, write_variables};
 use crate::printing::leaves::{
-    write_bound, write_const_variable, write_placeholder, write_region, write_variable,
+    write_const_variable, write_placeholder, write_region, write_variable,
 };
 use crate::printing::names::{
-    TextsOf, TraitText, float_name, int_name, item_text, mutability_text, name_text, pointer_name,
-    trait_text, uint_name,
+    TextsOf, TraitText, abi_text, float_name, int_name, item_text, mutability_text, name_text,
+    pointer_name, safety_text, trait_text, uint_name,
 };
+use relation_terms::predicate::{ExistentialPredicate, ExistentialProjection, ObjectPredicate};
 use relation_terms::terms::{
-    AliasTyKind, Alternatives, Const, ConstKind, ExprKind, GenericArg, GenericArgKind, GenericArgs,
-    Interner, Mutability, Pat, PatternKind, Region, Ty, TyKind, Tys, ValTree, ValTreeKind,
+    AliasTyKind, Alternatives, Binder, Const, ConstKind, ExistentialPredicates, ExprKind, FnHeader,
+    FnSigTys, GenericArg, GenericArgKind, GenericArgs, Interner, Mutability, Pat, PatternKind,
+    Region, Term, TermKind, Ty, TyKey, TyKind, Tys, ValTree, ValTreeKind,
 };
 use std::fmt::{self, Write};
 
-/// Writes a type. A parameter or an item that has no text is `_`, a region parameter `'_`.
-///
-/// # Errors
-/// `fmt::Error` where `out` refused to take some of the text. What it took before stands.
+// Writes a type.
 #[cycle(write_ty)]
 #[tactic(auto, using(crate::proofs::Parts::size_part, crate::proofs::Parts::known_part))]
-pub fn write_ty<I: Interner, W: Write>(
+pub(super) fn write_ty<I: Interner, W: Write>(
     cx: &I,
     texts: &TextsOf<I>,
+    around: &[Entered],
     ty: &Ty<I>,
     out: &mut W,
 ) -> fmt::Result
@@ -41,32 +43,44 @@ pub fn write_ty<I: Interner, W: Write>(
         TyKind::Foreign(def) => out.write_str(item_text(texts.items, &def.0)),
         TyKind::Param(named) => out.write_str(name_text(texts.names, &named.name, "_")),
         TyKind::Placeholder(of) => write_placeholder(texts.names, of.universe, &of.bound.name, out),
-        TyKind::Bound(depth, of) => write_bound("^", depth, of.var, out),
+        TyKind::Bound(depth, of) => write_bound("^", around, depth, of.var, out),
         TyKind::Infer(variable) => write_variable(variable, out),
         TyKind::Error(_) => out.write_str("{error}"),
-        TyKind::Array(element, length) => write_array(cx, texts, &element, &length, out),
+        TyKind::Array(element, length) => write_array(cx, texts, around, &element, &length, out),
         TyKind::Slice(element) => {
             out.write_str("[")?;
-            write_ty(cx, texts, &element, out)?;
+            write_ty(cx, texts, around, &element, out)?;
             out.write_str("]")
         }
         TyKind::RawPtr(pointee, mutability) => {
             out.write_str(pointer_name(mutability))?;
-            write_ty(cx, texts, &pointee, out)
+            write_operand(cx, texts, around, &pointee, out)
         }
         TyKind::Ref(region, pointee, mutability) => {
-            write_borrow(cx, texts, &region, mutability, out)?;
-            write_ty(cx, texts, &pointee, out)
+            write_borrow(cx, texts, around, &region, mutability, out)?;
+            write_operand(cx, texts, around, &pointee, out)
         }
-        TyKind::Tuple(members) => write_tuple(cx, texts, &members, out),
-        TyKind::Adt(def, args) => write_item(cx, texts, &def.0, &args, out),
-        TyKind::FnDef(def, args) => write_item(cx, texts, &def.0, &args, out),
-        TyKind::Closure(def, args) => write_item(cx, texts, &def.0, &args, out),
-        TyKind::CoroutineClosure(def, args) => write_item(cx, texts, &def.0, &args, out),
-        TyKind::Coroutine(def, args) => write_item(cx, texts, &def.0, &args, out),
-        TyKind::CoroutineWitness(def, args) => write_item(cx, texts, &def.0, &args, out),
-        TyKind::Alias(alias) => write_item(cx, texts, &alias_id(&alias.kind), &alias.args, out),
-        TyKind::Pat(base, pat) => write_pattern_type(cx, texts, &base, &pat, out),
+        TyKind::FnPtr(types, header) => write_fn_ptr(cx, texts, around, &types, &header, out),
+        TyKind::UnsafeBinder(body) => write_unsafe_binder(cx, texts, around, &body, out),
+        TyKind::Dynamic(predicates, region) => {
+            write_object(cx, texts, around, &predicates, &region, out)
+        }
+        TyKind::Tuple(members) => write_tuple(cx, texts, around, &members, out),
+        TyKind::Adt(def, args) => write_item(cx, texts, around, &def.0, &args, out),
+        TyKind::FnDef(def, args) => write_item(cx, texts, around, &def.0, &args, out),
+        TyKind::Closure(def, args) => write_item(cx, texts, around, &def.0, &args, out),
+        TyKind::CoroutineClosure(def, args) => write_item(cx, texts, around, &def.0, &args, out),
+        TyKind::Coroutine(def, args) => write_item(cx, texts, around, &def.0, &args, out),
+        TyKind::CoroutineWitness(def, args) => write_item(cx, texts, around, &def.0, &args, out),
+        TyKind::Alias(alias) => write_item(
+            cx,
+            texts,
+            around,
+            &alias_id(&alias.kind),
+            &alias.args,
+            out,
+        ),
+        TyKind::Pat(base, pat) => write_pattern_type(cx, texts, around, &base, &pat, out),
     }
 }
 
@@ -76,6 +90,7 @@ pub fn write_ty<I: Interner, W: Write>(
 fn write_array<I: Interner, W: Write>(
     cx: &I,
     texts: &TextsOf<I>,
+    around: &[Entered],
     element: &Ty<I>,
     length: &Const<I>,
     out: &mut W,
@@ -84,9 +99,9 @@ fn write_array<I: Interner, W: Write>(
     requires length { IsTrue (known ((I.meaning cx.now).const_ length.now)) }
 {
     out.write_str("[")?;
-    write_ty(cx, texts, element, out)?;
+    write_ty(cx, texts, around, element, out)?;
     out.write_str("; ")?;
-    write_const(cx, texts, length, out)?;
+    write_const(cx, texts, around, length, out)?;
     out.write_str("]")
 }
 
@@ -94,6 +109,7 @@ fn write_array<I: Interner, W: Write>(
 fn write_borrow<I: Interner, W: Write>(
     cx: &I,
     texts: &TextsOf<I>,
+    around: &[Entered],
     region: &Region<I>,
     mutability: Mutability,
     out: &mut W,
@@ -101,7 +117,7 @@ fn write_borrow<I: Interner, W: Write>(
     requires { IsTrue (known ((I.meaning cx.now).region region.now)) }
 {
     out.write_str("&")?;
-    write_region(cx, texts, region, out)?;
+    write_region(cx, texts, around, region, out)?;
     out.write_str(mutability_text(mutability))
 }
 
@@ -111,6 +127,7 @@ fn write_borrow<I: Interner, W: Write>(
 fn write_tuple<I: Interner, W: Write>(
     cx: &I,
     texts: &TextsOf<I>,
+    around: &[Entered],
     members: &Tys<I>,
     out: &mut W,
 ) -> fmt::Result
@@ -122,12 +139,269 @@ fn write_tuple<I: Interner, W: Write>(
         if place > 0 {
             out.write_str(", ")?;
         }
-        write_ty(cx, texts, ty, out)?;
+        write_ty(cx, texts, around, ty, out)?;
     }
     if types.len() == 1 {
         out.write_str(",")?;
     }
     out.write_str(")")
+}
+
+// Writes a type that another form ends in. The bounds of a trait object would be taken for more, so that one stands in
+// brackets.
+#[cycle(write_ty)]
+#[tactic(auto, using(crate::proofs::Parts::size_part, crate::proofs::Parts::known_part))]
+fn write_operand<I: Interner, W: Write>(
+    cx: &I,
+    texts: &TextsOf<I>,
+    around: &[Entered],
+    ty: &Ty<I>,
+    out: &mut W,
+) -> fmt::Result
+    requires { IsTrue (known ((I.meaning cx.now).ty ty.now)) }
+{
+    let (open, close) = match cx.ty_kind(ty) {
+        TyKind::Dynamic(..) => ("(", ")"),
+        _ => ("", ""),
+    };
+    out.write_str(open)?;
+    write_ty(cx, texts, around, ty, out)?;
+    out.write_str(close)
+}
+
+// Writes a function pointer: `for<'a> unsafe extern "C" fn(&'a T, ..) -> U`.
+#[cycle(write_ty)]
+#[tactic(auto, using(relation_terms::proofs::Binders::under_known, crate::proofs::Parts::signature_part))]
+fn write_fn_ptr<I: Interner, W: Write>(
+    cx: &I,
+    texts: &TextsOf<I>,
+    around: &[Entered],
+    types: &Binder<I::Key, FnSigTys<I::Key>>,
+    header: &FnHeader,
+    out: &mut W,
+) -> fmt::Result
+    requires { let m = I.meaning cx.now in IsTrue (known (
+        under (m.bound_vars (types.now).bound_vars) (signature_tree m (sig_of (types.now).value header.now)))) }
+{
+    let vars = cx.bound_vars(&types.bound_vars);
+    write_for(vars, around, out)?;
+    out.write_str(safety_text(header.safety))?;
+    out.write_str(abi_text(header.abi))?;
+    out.write_str("fn(")?;
+    let inside = enter(cx.alloc(), around, vars.len())?;
+    write_signature(
+        cx,
+        texts,
+        &inside,
+        &types.value.inputs_and_output,
+        header.c_variadic,
+        out,
+    )
+}
+
+// Writes the types of a signature, the last of which is the output, behind the bracket. The unit type is left out.
+#[cycle(write_ty)]
+#[tactic(auto, using(crate::proofs::Parts::size_part, crate::proofs::Parts::known_part))]
+fn write_signature<I: Interner, W: Write>(
+    cx: &I,
+    texts: &TextsOf<I>,
+    around: &[Entered],
+    types: &Tys<I>,
+    c_variadic: bool,
+    out: &mut W,
+) -> fmt::Result
+    requires { IsTrue (known ((I.meaning cx.now).tys types.now)) }
+{
+    let types = cx.tys(types);
+    let inputs = types.len().saturating_sub(1);
+    for (place, ty) in types.iter().enumerate() {
+        if place < inputs {
+            if place > 0 {
+                out.write_str(", ")?;
+            }
+            write_ty(cx, texts, around, ty, out)?;
+        } else {
+            out.write_str(inputs_end(inputs, c_variadic))?;
+            if !is_unit(cx, ty) {
+                out.write_str(" -> ")?;
+                write_operand(cx, texts, around, ty, out)?;
+            }
+        }
+    }
+    Ok(())
+}
+
+// What stands behind so many inputs.
+fn inputs_end(inputs: usize, c_variadic: bool) -> &'static str {
+    match (c_variadic, inputs) {
+        (false, _) => ")",
+        (true, 0) => "..)",
+        (true, _) => ", ..)",
+    }
+}
+
+// Whether a type is the tuple without members.
+fn is_unit<I: Interner>(cx: &I, ty: &Ty<I>) -> bool
+    requires { IsTrue (known ((I.meaning cx.now).ty ty.now)) }
+{
+    match cx.ty_kind(ty) {
+        TyKind::Tuple(members) => cx.tys(&members).is_empty(),
+        _ => false,
+    }
+}
+
+// Writes a type whose regions may be bound: `unsafe<'a> &'a T`.
+#[cycle(write_ty)]
+#[tactic(auto, using(relation_terms::proofs::Binders::under_known, crate::proofs::Parts::under_size))]
+fn write_unsafe_binder<I: Interner, W: Write>(
+    cx: &I,
+    texts: &TextsOf<I>,
+    around: &[Entered],
+    body: &Binder<I::Key, TyKey<I::Key>>,
+    out: &mut W,
+) -> fmt::Result
+    requires { let m = I.meaning cx.now in
+        IsTrue (known (under (m.bound_vars (body.now).bound_vars) (m.ty (body.now).value))) }
+{
+    let vars = cx.bound_vars(&body.bound_vars);
+    out.write_str("unsafe")?;
+    write_variables(vars, around, out)?;
+    let inside = enter(cx.alloc(), around, vars.len())?;
+    write_operand(cx, texts, &inside, &body.value, out)
+}
+
+// Writes a trait object: `dyn for<'a> Tr<'a, T> + Tr<..>::A == U + Auto + 'r`.
+#[cycle(write_ty)]
+#[tactic(auto, using(crate::proofs::Parts::size_part, crate::proofs::Parts::known_part))]
+fn write_object<I: Interner, W: Write>(
+    cx: &I,
+    texts: &TextsOf<I>,
+    around: &[Entered],
+    predicates: &ExistentialPredicates<I>,
+    region: &Region<I>,
+    out: &mut W,
+) -> fmt::Result
+    requires predicates { IsTrue (known ((I.meaning cx.now).existential_predicates predicates.now)) }
+    requires region { IsTrue (known ((I.meaning cx.now).region region.now)) }
+{
+    out.write_str("dyn ")?;
+    write_object_predicates(cx, texts, around, predicates, out)?;
+    if !cx.existential_predicates(predicates).is_empty() {
+        out.write_str(" + ")?;
+    }
+    write_region(cx, texts, around, region, out)
+}
+
+// Writes the predicates of a trait object, with `+` between.
+#[cycle(write_ty)]
+#[tactic(auto, using(crate::proofs::Parts::size_part, crate::proofs::Parts::known_part))]
+fn write_object_predicates<I: Interner, W: Write>(
+    cx: &I,
+    texts: &TextsOf<I>,
+    around: &[Entered],
+    predicates: &ExistentialPredicates<I>,
+    out: &mut W,
+) -> fmt::Result
+    requires { IsTrue (known ((I.meaning cx.now).existential_predicates predicates.now)) }
+{
+    let list = cx.existential_predicates(predicates);
+    for (place, predicate) in list.iter().enumerate() {
+        if place > 0 {
+            out.write_str(" + ")?;
+        }
+        write_object_predicate(&*cx, &*texts, &*around, *predicate, out)?;
+    }
+    Ok(())
+}
+
+// Writes a predicate of a trait object, under its binder.
+#[cycle(write_ty)]
+#[tactic(auto, using(relation_terms::proofs::Binders::under_known, crate::proofs::Parts::under_size))]
+fn write_object_predicate<I: Interner, W: Write>(
+    cx: &I,
+    texts: &TextsOf<I>,
+    around: &[Entered],
+    predicate: ObjectPredicate<I>,
+    out: &mut W,
+) -> fmt::Result
+    requires { IsTrue (known (object_predicate_tree (I.meaning cx.now) predicate)) }
+{
+    let vars = cx.bound_vars(&predicate.bound_vars);
+    write_for(vars, around, out)?;
+    let inside = enter(cx.alloc(), around, vars.len())?;
+    write_existential(cx, texts, &inside, &predicate.value, out)
+}
+
+// Writes what a trait object implements.
+#[cycle(write_ty)]
+#[tactic(auto, using(crate::proofs::Parts::size_part, crate::proofs::Parts::known_part))]
+fn write_existential<I: Interner, W: Write>(
+    cx: &I,
+    texts: &TextsOf<I>,
+    around: &[Entered],
+    predicate: &ExistentialPredicate<I::Key, I::Id>,
+    out: &mut W,
+) -> fmt::Result
+    requires { IsTrue (known (existential_tree (I.meaning cx.now) predicate.now)) }
+{
+    match predicate {
+        ExistentialPredicate::Trait(of) => {
+            let name = item_text(texts.items, &of.def_id.0);
+            let count = cx.args(&of.args).len();
+            write_named(cx, texts, around, name, &of.args, 0, count, out)
+        }
+        ExistentialPredicate::Projection(of) => write_projection(cx, texts, around, of, out),
+        ExistentialPredicate::AutoTrait(def_id) => {
+            out.write_str(item_text(texts.items, &def_id.0))
+        }
+    }
+}
+
+// Writes what an associated item of a trait object's trait is: `Tr<T>::A == U`. The trait's arguments stand without the
+// type that implements it.
+#[cycle(write_ty)]
+#[tactic(auto, using(crate::proofs::Parts::size_part, crate::proofs::Parts::known_part))]
+fn write_projection<I: Interner, W: Write>(
+    cx: &I,
+    texts: &TextsOf<I>,
+    around: &[Entered],
+    of: &ExistentialProjection<I::Key, I::Id>,
+    out: &mut W,
+) -> fmt::Result
+    requires args { IsTrue (known ((I.meaning cx.now).args (of.now).args)) }
+    requires term { IsTrue (known (term_tree (I.meaning cx.now) (of.now).term)) }
+{
+    let name = item_text(texts.items, &of.def_id.0);
+    let count = cx.args(&of.args).len();
+    match trait_text(texts.items, &of.def_id.0) {
+        Some(item) if 0 < item.count && item.count - 1 <= count => {
+            let own = item.count - 1;
+            write_named(cx, texts, around, item.text, &of.args, 0, own, out)?;
+            out.write_str("::")?;
+            write_named(cx, texts, around, name, &of.args, own, count, out)?;
+        }
+        _ => write_named(cx, texts, around, name, &of.args, 0, count, out)?,
+    }
+    out.write_str(" == ")?;
+    write_term(cx, texts, around, &of.term, out)
+}
+
+// Writes a term: a type or a constant.
+#[cycle(write_ty)]
+#[tactic(auto, using(crate::proofs::Parts::size_part, crate::proofs::Parts::known_part))]
+fn write_term<I: Interner, W: Write>(
+    cx: &I,
+    texts: &TextsOf<I>,
+    around: &[Entered],
+    term: &Term<I>,
+    out: &mut W,
+) -> fmt::Result
+    requires { IsTrue (known (term_tree (I.meaning cx.now) term.now)) }
+{
+    match term {
+        TermKind::Ty(ty) => write_operand(cx, texts, around, ty, out),
+        TermKind::Const(constant) => write_const(cx, texts, around, constant, out),
+    }
 }
 
 // The id of an alias.
@@ -148,6 +422,7 @@ fn alias_id<D: Copy>(kind: &AliasTyKind<D>) -> D
 fn write_item<I: Interner, W: Write>(
     cx: &I,
     texts: &TextsOf<I>,
+    around: &[Entered],
     id: &I::Id,
     args: &GenericArgs<I>,
     out: &mut W,
@@ -158,10 +433,10 @@ fn write_item<I: Interner, W: Write>(
     let count = cx.args(args).len();
     match trait_text(texts.items, id) {
         Some(of) if 0 < of.count && of.count <= count => {
-            write_associated(cx, texts, of, args, out)?;
-            write_named(cx, texts, name, args, of.count, count, out)
+            write_associated(cx, texts, around, of, args, out)?;
+            write_named(cx, texts, around, name, args, of.count, count, out)
         }
-        _ => write_named(cx, texts, name, args, 0, count, out),
+        _ => write_named(cx, texts, around, name, args, 0, count, out),
     }
 }
 
@@ -171,6 +446,7 @@ fn write_item<I: Interner, W: Write>(
 fn write_associated<I: Interner, W: Write>(
     cx: &I,
     texts: &TextsOf<I>,
+    around: &[Entered],
     of: TraitText,
     args: &GenericArgs<I>,
     out: &mut W,
@@ -178,9 +454,9 @@ fn write_associated<I: Interner, W: Write>(
     requires { IsTrue (known ((I.meaning cx.now).args args.now)) }
 {
     out.write_str("<")?;
-    write_args(cx, texts, args, 0, 1, out)?;
+    write_args(cx, texts, around, args, 0, 1, out)?;
     out.write_str(" as ")?;
-    write_named(cx, texts, of.text, args, 1, of.count, out)?;
+    write_named(cx, texts, around, of.text, args, 1, of.count, out)?;
     out.write_str(">::")
 }
 
@@ -190,6 +466,7 @@ fn write_associated<I: Interner, W: Write>(
 fn write_named<I: Interner, W: Write>(
     cx: &I,
     texts: &TextsOf<I>,
+    around: &[Entered],
     name: &str,
     args: &GenericArgs<I>,
     first: usize,
@@ -203,7 +480,7 @@ fn write_named<I: Interner, W: Write>(
         return Ok(());
     }
     out.write_str("<")?;
-    write_args(cx, texts, args, first, behind, out)?;
+    write_args(cx, texts, around, args, first, behind, out)?;
     out.write_str(">")
 }
 
@@ -213,6 +490,7 @@ fn write_named<I: Interner, W: Write>(
 fn write_args<I: Interner, W: Write>(
     cx: &I,
     texts: &TextsOf<I>,
+    around: &[Entered],
     args: &GenericArgs<I>,
     first: usize,
     behind: usize,
@@ -225,7 +503,7 @@ fn write_args<I: Interner, W: Write>(
             if place > first {
                 out.write_str(", ")?;
             }
-            write_arg(cx, texts, arg, out)?;
+            write_arg(cx, texts, around, arg, out)?;
         }
     }
     Ok(())
@@ -238,6 +516,7 @@ fn write_args<I: Interner, W: Write>(
 fn write_pattern_type<I: Interner, W: Write>(
     cx: &I,
     texts: &TextsOf<I>,
+    around: &[Entered],
     base: &Ty<I>,
     pat: &Pat<I>,
     out: &mut W,
@@ -246,13 +525,18 @@ fn write_pattern_type<I: Interner, W: Write>(
     requires pat { IsTrue (known ((I.meaning cx.now).pat pat.now)) }
 {
     let (open, close) = match cx.ty_kind(base) {
-        TyKind::RawPtr(..) | TyKind::Ref(..) | TyKind::Pat(..) => ("(", ") is "),
+        TyKind::RawPtr(..)
+        | TyKind::Ref(..)
+        | TyKind::FnPtr(..)
+        | TyKind::UnsafeBinder(_)
+        | TyKind::Dynamic(..)
+        | TyKind::Pat(..) => ("(", ") is "),
         _ => ("", " is "),
     };
     out.write_str(open)?;
-    write_ty(cx, texts, base, out)?;
+    write_ty(cx, texts, around, base, out)?;
     out.write_str(close)?;
-    write_pattern(cx, texts, pat, out)
+    write_pattern(cx, texts, around, pat, out)
 }
 
 // Writes a pattern.
@@ -261,6 +545,7 @@ fn write_pattern_type<I: Interner, W: Write>(
 fn write_pattern<I: Interner, W: Write>(
     cx: &I,
     texts: &TextsOf<I>,
+    around: &[Entered],
     pat: &Pat<I>,
     out: &mut W,
 ) -> fmt::Result
@@ -269,11 +554,11 @@ fn write_pattern<I: Interner, W: Write>(
     match cx.pat_kind(pat) {
         PatternKind::NotNull => out.write_str("!null"),
         PatternKind::Range { start, end } => {
-            write_const(cx, texts, &start, out)?;
+            write_const(cx, texts, around, &start, out)?;
             out.write_str("..=")?;
-            write_const(cx, texts, &end, out)
+            write_const(cx, texts, around, &end, out)
         }
-        PatternKind::Or(alternatives) => write_alternatives(cx, texts, &alternatives, out),
+        PatternKind::Or(alternatives) => write_alternatives(cx, texts, around, &alternatives, out),
     }
 }
 
@@ -284,6 +569,7 @@ fn write_pattern<I: Interner, W: Write>(
 fn write_alternatives<I: Interner, W: Write>(
     cx: &I,
     texts: &TextsOf<I>,
+    around: &[Entered],
     alternatives: &Alternatives<I>,
     out: &mut W,
 ) -> fmt::Result
@@ -297,7 +583,7 @@ fn write_alternatives<I: Interner, W: Write>(
         if place > 0 {
             out.write_str(" | ")?;
         }
-        write_alternative(cx, texts, pat, out)?;
+        write_alternative(cx, texts, around, pat, out)?;
     }
     Ok(())
 }
@@ -308,6 +594,7 @@ fn write_alternatives<I: Interner, W: Write>(
 fn write_alternative<I: Interner, W: Write>(
     cx: &I,
     texts: &TextsOf<I>,
+    around: &[Entered],
     pat: &Pat<I>,
     out: &mut W,
 ) -> fmt::Result
@@ -318,40 +605,36 @@ fn write_alternative<I: Interner, W: Write>(
         _ => ("", ""),
     };
     out.write_str(open)?;
-    write_pattern(cx, texts, pat, out)?;
+    write_pattern(cx, texts, around, pat, out)?;
     out.write_str(close)
 }
 
-/// Writes a generic argument: a region, a type or a constant, as each is written alone.
-///
-/// # Errors
-/// `fmt::Error` where `out` refused to take some of the text. What it took before stands.
+// Writes a generic argument.
 #[cycle(write_ty)]
 #[tactic(auto, using(crate::proofs::Parts::size_part, crate::proofs::Parts::known_part))]
-pub fn write_arg<I: Interner, W: Write>(
+pub(super) fn write_arg<I: Interner, W: Write>(
     cx: &I,
     texts: &TextsOf<I>,
+    around: &[Entered],
     arg: &GenericArg<I>,
     out: &mut W,
 ) -> fmt::Result
     requires { IsTrue (known (arg_tree (I.meaning cx.now) arg.now)) }
 {
     match arg {
-        GenericArgKind::Lifetime(region) => write_region(cx, texts, region, out),
-        GenericArgKind::Ty(ty) => write_ty(cx, texts, ty, out),
-        GenericArgKind::Const(constant) => write_const(cx, texts, constant, out),
+        GenericArgKind::Lifetime(region) => write_region(cx, texts, around, region, out),
+        GenericArgKind::Ty(ty) => write_ty(cx, texts, around, ty, out),
+        GenericArgKind::Const(constant) => write_const(cx, texts, around, constant, out),
     }
 }
 
-/// Writes a constant: of a value the value alone, without its type. A parameter that has no text is `_`.
-///
-/// # Errors
-/// `fmt::Error` where `out` refused to take some of the text. What it took before stands.
+// Writes a constant.
 #[cycle(write_ty)]
 #[tactic(auto, using(crate::proofs::Parts::size_part, crate::proofs::Parts::known_part))]
-pub fn write_const<I: Interner, W: Write>(
+pub(super) fn write_const<I: Interner, W: Write>(
     cx: &I,
     texts: &TextsOf<I>,
+    around: &[Entered],
     constant: &Const<I>,
     out: &mut W,
 ) -> fmt::Result
@@ -365,12 +648,12 @@ pub fn write_const<I: Interner, W: Write>(
             &of.bound.name,
             out,
         ),
-        ConstKind::Bound(depth, of) => write_bound("^c", depth, of.var, out),
+        ConstKind::Bound(depth, of) => write_bound("^c", around, depth, of.var, out),
         ConstKind::Infer(variable) => write_const_variable(variable, out),
         ConstKind::Error(_) => out.write_str("{error}"),
-        ConstKind::Value(_, value) => write_valtree(cx, texts, &value, out),
-        ConstKind::Unevaluated(of) => write_item(cx, texts, &of.def.0, &of.args, out),
-        ConstKind::Expr(kind, args) => write_expression(cx, texts, kind, &args, out),
+        ConstKind::Value(_, value) => write_valtree(cx, texts, around, &value, out),
+        ConstKind::Unevaluated(of) => write_item(cx, texts, around, &of.def.0, &of.args, out),
+        ConstKind::Expr(kind, args) => write_expression(cx, texts, around, kind, &args, out),
     }
 }
 
@@ -380,6 +663,7 @@ pub fn write_const<I: Interner, W: Write>(
 fn write_expression<I: Interner, W: Write>(
     cx: &I,
     texts: &TextsOf<I>,
+    around: &[Entered],
     kind: ExprKind,
     args: &GenericArgs<I>,
     out: &mut W,
@@ -389,7 +673,7 @@ fn write_expression<I: Interner, W: Write>(
     let number = kind.0;
     let count = cx.args(args).len();
     write!(out, "expr {number}(")?;
-    write_args(cx, texts, args, 0, count, out)?;
+    write_args(cx, texts, around, args, 0, count, out)?;
     out.write_str(")")
 }
 
@@ -399,6 +683,7 @@ fn write_expression<I: Interner, W: Write>(
 fn write_valtree<I: Interner, W: Write>(
     cx: &I,
     texts: &TextsOf<I>,
+    around: &[Entered],
     value: &ValTree<I>,
     out: &mut W,
 ) -> fmt::Result
@@ -412,7 +697,7 @@ fn write_valtree<I: Interner, W: Write>(
                 if place > 0 {
                     out.write_str(", ")?;
                 }
-                write_const(cx, texts, constant, out)?;
+                write_const(cx, texts, around, constant, out)?;
             }
             out.write_str("}")
         }

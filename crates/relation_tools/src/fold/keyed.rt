@@ -7,12 +7,12 @@ ghost use Rattle.relation_tools.specs.Folds.{Steps, folded, folded_parts};
 use crate::fold::TypeFolder;
 use crate::fold::walk::{fold_list, fold_part, fold_parts};
 use relation_terms::terms::parts::{
-    the_alternatives, the_args, the_branches, the_const, the_pat, the_region, the_ty, the_tys,
-    the_valtree,
+    the_alternatives, the_args, the_branches, the_const, the_pat, the_predicates, the_region,
+    the_ty, the_tys, the_valtree,
 };
 use relation_terms::terms::{
-    Alternatives, Branches, Const, GenericArg, GenericArgKind, GenericArgs, Interner, OutOfMemory,
-    Part, Parts, Pat, Region, Ty, Tys, ValTree,
+    Alternatives, Branches, Const, ExistentialPredicates, GenericArg, GenericArgKind, GenericArgs,
+    Interner, OutOfMemory, Part, Parts, Pat, Region, Ty, Tys, ValTree,
 };
 
 /// What the folder makes of a type: what it puts for it, or else the type with its parts folded.
@@ -228,4 +228,23 @@ pub fn fold_alternatives_with<I: Interner, F: TypeFolder<I>>(
         folded (F.replaces (I.meaning cx.old) folder.old) 0 ((I.meaning cx.old).alternatives alternatives.now)) }
 {
     Ok(the_alternatives(&fold_list(cx, &Parts::Alternatives(*alternatives), 0, folder)?))
+}
+
+/// The list with each of a trait object's predicates folded, each under its binder.
+pub fn fold_predicates_with<I: Interner, F: TypeFolder<I>>(
+    cx: &mut I,
+    predicates: &ExistentialPredicates<I>,
+    folder: &mut F,
+) -> Result<ExistentialPredicates<I>, OutOfMemory>
+    requires known { IsTrue (known ((I.meaning cx.old).existential_predicates predicates.now)) }
+    requires ready { F.ready (I.meaning cx.old) folder.old }
+    ensures steps { Steps F.ready F.replaces (I.meaning cx.old) folder.old (I.meaning cx.new) folder.new }
+    ensures sure { IfOk result (λ k. IsTrue (known ((I.meaning cx.new).existential_predicates k))) }
+    ensures made { IfOk result (λ k. (I.meaning cx.new).existential_predicates k ≡
+        folded (F.replaces (I.meaning cx.old) folder.old) 0
+        ((I.meaning cx.old).existential_predicates predicates.now)) }
+    ensures same { let t = (I.meaning cx.old).existential_predicates predicates.now in IfOk result (λ k.
+        folded (F.replaces (I.meaning cx.old) folder.old) 0 t ≡ t → IsTrue (I.Key.eq k.0 predicates.now.0)) }
+{
+    Ok(the_predicates(&fold_list(cx, &Parts::Predicates(*predicates), 0, folder)?))
 }

@@ -1,4 +1,6 @@
-//! What a fold has made so far: a part that was met is not folded again at the same depth.
+//! What a fold has made so far: a part that has a key is not folded again where it was met at the same depth.
+//!
+//! What has none, as a signature, is folded each time; its types and lists are kept.
 ghost use Rattle.std.specs.Prelude.{◌≡◌, IsTrue, IfSome};
 ghost use Rattle.std.specs.HashMap.{IsEmpty};
 ghost use Rattle.relation_terms.specs.Trees.{known};
@@ -6,7 +8,7 @@ ghost use Rattle.relation_terms.specs.Parts.{part_tree};
 ghost use Rattle.relation_tools.specs.Folds.{IsMade, Remembers, place_of as the_place};
 
 use crate::fold::TypeFolder;
-use relation_terms::terms::{Interner, OutOfMemory, Part};
+use relation_terms::terms::{Interner, OutOfMemory, Part, PartOf};
 use std::collections::HashMap;
 
 /// A part at a depth: of which sort it is, its key, and how many binders stand around it.
@@ -14,52 +16,33 @@ use std::collections::HashMap;
 pub struct Place<X> {
     pub sort: u8,
     pub key: X,
-    pub depth: u64,
+    pub depth: u128,
 }
 
 /// What a fold has made of the parts that it has met.
-pub type Memory<X> = HashMap<Place<X>, Part<X>>;
+pub type Memory<X, D> = HashMap<Place<X>, Part<X, D>>;
 
-// A part at a depth.
-fn place_of<X: Copy>(part: &Part<X>, depth: u64) -> Place<X>
+// A part at a depth, where it has a key.
+fn place_of<X: Copy, D: Copy>(part: &Part<X, D>, depth: u128) -> Option<Place<X>>
     ensures { result ≡ the_place part.now depth }
 {
-    match part {
-        Part::Region(region) => Place {
-            sort: 0,
-            key: region.0,
-            depth,
-        },
-        Part::Ty(ty) => Place {
-            sort: 1,
-            key: ty.0,
-            depth,
-        },
-        Part::Const(constant) => Place {
-            sort: 2,
-            key: constant.0,
-            depth,
-        },
-        Part::ValTree(valtree) => Place {
-            sort: 3,
-            key: valtree.0,
-            depth,
-        },
-        Part::Pat(pat) => Place {
-            sort: 4,
-            key: pat.0,
-            depth,
-        },
-        Part::ValueType(ty) => Place {
-            sort: 5,
-            key: ty.0,
-            depth,
-        },
-    }
+    let (sort, key) = match part {
+        Part::Region(region) => (0, region.0),
+        Part::Ty(ty) => (1, ty.0),
+        Part::Const(constant) => (2, constant.0),
+        Part::ValTree(valtree) => (3, valtree.0),
+        Part::Pat(pat) => (4, pat.0),
+        Part::ValueType(ty) => (5, ty.0),
+        Part::Object(predicates) => (6, predicates.0),
+        Part::Binder(..) | Part::Signature(_) | Part::Inputs(_) | Part::Existential(_) => {
+            return None;
+        }
+    };
+    Some(Place { sort, key, depth })
 }
 
 /// Nothing is remembered where a fold begins.
-pub fn nothing<I: Interner>(cx: &I) -> Memory<I::Key>
+pub fn nothing<I: Interner>(cx: &I) -> Memory<I::Key, I::Id>
     ensures { IsEmpty result }
 {
     HashMap::new(cx.alloc())
@@ -69,10 +52,10 @@ pub fn nothing<I: Interner>(cx: &I) -> Memory<I::Key>
 pub fn recall<I: Interner, F: TypeFolder<I>>(
     cx: &I,
     folder: &F,
-    memory: &Memory<I::Key>,
-    part: &Part<I::Key>,
-    depth: u64,
-) -> Option<Part<I::Key>>
+    memory: &Memory<I::Key, I::Id>,
+    part: &PartOf<I>,
+    depth: u128,
+) -> Option<PartOf<I>>
     requires known { IsTrue (known (part_tree (I.meaning cx.now) part.now)) }
     requires remembers { Remembers (I.meaning cx.now) (F.replaces (I.meaning cx.now) folder.now)
         ⟦<Place<I::Key> as PartialEq>⟧.eq memory.now }
@@ -81,17 +64,18 @@ pub fn recall<I: Interner, F: TypeFolder<I>>(
 {
     let _ = cx;
     let _ = folder;
-    memory.get(&place_of(part, depth)).copied()
+    let place = place_of(part, depth)?;
+    memory.get(&place).copied()
 }
 
 /// Keeps what was made of the part at this depth.
 pub fn keep<I: Interner, F: TypeFolder<I>>(
     cx: &I,
     folder: &F,
-    memory: &mut Memory<I::Key>,
-    part: &Part<I::Key>,
-    depth: u64,
-    made: Part<I::Key>,
+    memory: &mut Memory<I::Key, I::Id>,
+    part: &PartOf<I>,
+    depth: u128,
+    made: PartOf<I>,
 ) -> Result<(), OutOfMemory>
     requires made { IsMade (I.meaning cx.now) (F.replaces (I.meaning cx.now) folder.now) part.now depth made }
     requires remembers { Remembers (I.meaning cx.now) (F.replaces (I.meaning cx.now) folder.now)
@@ -101,6 +85,8 @@ pub fn keep<I: Interner, F: TypeFolder<I>>(
 {
     let _ = cx;
     let _ = folder;
-    memory.insert(place_of(part, depth), made)?;
+    if let Some(place) = place_of(part, depth) {
+        memory.insert(place, made)?;
+    }
     Ok(())
 }

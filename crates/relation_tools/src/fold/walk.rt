@@ -2,11 +2,12 @@
 //!
 //! What was made of a part is kept for the length of a call, so the walk takes as many steps as there are different parts.
 //!
-//! No form that an interner reads has a binder yet, so each part stands as deep as the term that it is a part of.
+//! The part of a binder stands one binder deeper, and all others as deep as the term that they are parts of.
 ghost use Rattle.std.specs.Prelude.{◌≡◌, IsTrue, IfOk, option_map};
 ghost use Rattle.relation_terms.specs.Trees.{known};
 ghost use Rattle.relation_terms.specs.Parts.{part_tree, parts_tree, part_sort, Alike};
 ghost use Rattle.relation_tools.specs.Folds.{Steps, folded, folded_parts, KnownAnswer, Folds, members_tree, FitMembers};
+ghost use Rattle.relation_tools.specs.Folds.{inside_part};
 ghost use Rattle.relation_tools.specs.Folds.{Remembers};
 
 use crate::fold::memory::{Memory, Place, keep, nothing, recall};
@@ -14,15 +15,15 @@ use crate::fold::{Fold, TypeFolder};
 use relation_terms::terms::parts::{
     is_same, make_parts, member, member_count, parts_of, with_parts,
 };
-use relation_terms::terms::{Interner, OutOfMemory, Part, Parts};
+use relation_terms::terms::{Interner, OutOfMemory, Part, PartOf, PartsOf};
 
 // What the folder puts for a part. It is asked about regions, types and constants, and puts nothing for all else.
 fn put_for<I: Interner, F: TypeFolder<I>>(
     cx: &mut I,
-    part: &Part<I::Key>,
-    depth: u64,
+    part: &PartOf<I>,
+    depth: u128,
     folder: &mut F,
-) -> Result<Fold<Part<I::Key>>, OutOfMemory>
+) -> Result<Fold<PartOf<I>>, OutOfMemory>
     requires known { IsTrue (known (part_tree (I.meaning cx.old) part.now)) }
     requires ready { F.ready (I.meaning cx.old) folder.old }
     ensures steps { Steps F.ready F.replaces (I.meaning cx.old) folder.old (I.meaning cx.new) folder.new }
@@ -43,9 +44,19 @@ fn put_for<I: Interner, F: TypeFolder<I>>(
             Fold::Replace(by) => Ok(Fold::Replace(Part::Const(by))),
             Fold::Descend => Ok(Fold::Descend),
         },
-        Part::ValTree(_) => Ok(Fold::Descend),
-        Part::Pat(_) => Ok(Fold::Descend),
-        Part::ValueType(_) => Ok(Fold::Descend),
+        Part::ValTree(_) | Part::Pat(_) | Part::ValueType(_) => Ok(Fold::Descend),
+        Part::Binder(..) | Part::Signature(_) | Part::Inputs(_) => Ok(Fold::Descend),
+        Part::Existential(_) | Part::Object(_) => Ok(Fold::Descend),
+    }
+}
+
+// How many binders stand around the parts of a part under `depth` binders, if there is a number for it.
+fn depth_inside<X: Copy, D: Copy>(part: &Part<X, D>, depth: u128) -> Result<u128, OutOfMemory>
+    ensures { IfOk result (λ d. d ≡ inside_part part.now depth) }
+{
+    match part {
+        Part::Binder(..) => depth.checked_add(1).ok_or(OutOfMemory),
+        _ => Ok(depth),
     }
 }
 
@@ -53,11 +64,11 @@ fn put_for<I: Interner, F: TypeFolder<I>>(
 #[cycle(walk)]
 fn fold_met<I: Interner, F: TypeFolder<I>>(
     cx: &mut I,
-    part: &Part<I::Key>,
-    depth: u64,
+    part: &PartOf<I>,
+    depth: u128,
     folder: &mut F,
-    memory: &mut Memory<I::Key>,
-) -> Result<Part<I::Key>, OutOfMemory>
+    memory: &mut Memory<I::Key, I::Id>,
+) -> Result<PartOf<I>, OutOfMemory>
     requires known { IsTrue (known (part_tree (I.meaning cx.old) part.now)) }
     requires ready { F.ready (I.meaning cx.old) folder.old }
     requires remembers { Remembers (I.meaning cx.old) (F.replaces (I.meaning cx.old) folder.old)
@@ -82,11 +93,11 @@ fn fold_met<I: Interner, F: TypeFolder<I>>(
 #[cycle(walk)]
 fn fold_new<I: Interner, F: TypeFolder<I>>(
     cx: &mut I,
-    part: &Part<I::Key>,
-    depth: u64,
+    part: &PartOf<I>,
+    depth: u128,
     folder: &mut F,
-    memory: &mut Memory<I::Key>,
-) -> Result<Part<I::Key>, OutOfMemory>
+    memory: &mut Memory<I::Key, I::Id>,
+) -> Result<PartOf<I>, OutOfMemory>
     requires known { IsTrue (known (part_tree (I.meaning cx.old) part.now)) }
     requires ready { F.ready (I.meaning cx.old) folder.old }
     requires remembers { Remembers (I.meaning cx.old) (F.replaces (I.meaning cx.old) folder.old)
@@ -109,11 +120,11 @@ fn fold_new<I: Interner, F: TypeFolder<I>>(
 #[cycle(walk)]
 fn fold_inside<I: Interner, F: TypeFolder<I>>(
     cx: &mut I,
-    part: &Part<I::Key>,
-    depth: u64,
+    part: &PartOf<I>,
+    depth: u128,
     folder: &mut F,
-    memory: &mut Memory<I::Key>,
-) -> Result<Part<I::Key>, OutOfMemory>
+    memory: &mut Memory<I::Key, I::Id>,
+) -> Result<PartOf<I>, OutOfMemory>
     requires known { IsTrue (known (part_tree (I.meaning cx.old) part.now)) }
     requires ready { F.ready (I.meaning cx.old) folder.old }
     requires remembers { Remembers (I.meaning cx.old) (F.replaces (I.meaning cx.old) folder.old)
@@ -126,7 +137,8 @@ fn fold_inside<I: Interner, F: TypeFolder<I>>(
         folded_parts (F.replaces (I.meaning cx.old) folder.old) depth (part_tree (I.meaning cx.old) part.now)) }
     ensures sort { IfOk result (λ k. part_sort k ≡ part_sort part.now) }
 {
-    match fold_members(cx, &parts_of(cx, part), depth, folder, memory)? {
+    let inside = depth_inside(part, depth)?;
+    match fold_members(cx, &parts_of(cx, part), inside, folder, memory)? {
         Some(made) => with_parts(cx, part, &made),
         None => Ok(*part),
     }
@@ -136,11 +148,11 @@ fn fold_inside<I: Interner, F: TypeFolder<I>>(
 #[cycle(walk)]
 fn fold_members<I: Interner, F: TypeFolder<I>>(
     cx: &mut I,
-    parts: &Parts<I::Key>,
-    depth: u64,
+    parts: &PartsOf<I>,
+    depth: u128,
     folder: &mut F,
-    memory: &mut Memory<I::Key>,
-) -> Result<Option<Vec<Part<I::Key>>>, OutOfMemory>
+    memory: &mut Memory<I::Key, I::Id>,
+) -> Result<Option<Vec<PartOf<I>>>, OutOfMemory>
     requires known { IsTrue (known (parts_tree (I.meaning cx.old) parts.now)) }
     requires ready { F.ready (I.meaning cx.old) folder.old }
     requires remembers { Remembers (I.meaning cx.old) (F.replaces (I.meaning cx.old) folder.old)
@@ -170,10 +182,10 @@ fn fold_members<I: Interner, F: TypeFolder<I>>(
 // What the folder makes of a part that stands under `depth` binders.
 pub fn fold_part<I: Interner, F: TypeFolder<I>>(
     cx: &mut I,
-    part: &Part<I::Key>,
-    depth: u64,
+    part: &PartOf<I>,
+    depth: u128,
     folder: &mut F,
-) -> Result<Part<I::Key>, OutOfMemory>
+) -> Result<PartOf<I>, OutOfMemory>
     requires known { IsTrue (known (part_tree (I.meaning cx.old) part.now)) }
     requires ready { F.ready (I.meaning cx.old) folder.old }
     ensures steps { Steps F.ready F.replaces (I.meaning cx.old) folder.old (I.meaning cx.new) folder.new }
@@ -188,10 +200,10 @@ pub fn fold_part<I: Interner, F: TypeFolder<I>>(
 // The part with its own parts folded, whatever the folder puts for it.
 pub fn fold_parts<I: Interner, F: TypeFolder<I>>(
     cx: &mut I,
-    part: &Part<I::Key>,
-    depth: u64,
+    part: &PartOf<I>,
+    depth: u128,
     folder: &mut F,
-) -> Result<Part<I::Key>, OutOfMemory>
+) -> Result<PartOf<I>, OutOfMemory>
     requires known { IsTrue (known (part_tree (I.meaning cx.old) part.now)) }
     requires ready { F.ready (I.meaning cx.old) folder.old }
     ensures steps { Steps F.ready F.replaces (I.meaning cx.old) folder.old (I.meaning cx.new) folder.new }
@@ -206,10 +218,10 @@ pub fn fold_parts<I: Interner, F: TypeFolder<I>>(
 // The members of a list, each folded, or none where all are what they were.
 fn fold_all<I: Interner, F: TypeFolder<I>>(
     cx: &mut I,
-    parts: &Parts<I::Key>,
-    depth: u64,
+    parts: &PartsOf<I>,
+    depth: u128,
     folder: &mut F,
-) -> Result<Option<Vec<Part<I::Key>>>, OutOfMemory>
+) -> Result<Option<Vec<PartOf<I>>>, OutOfMemory>
     requires known { IsTrue (known (parts_tree (I.meaning cx.old) parts.now)) }
     requires ready { F.ready (I.meaning cx.old) folder.old }
     ensures steps { Steps F.ready F.replaces (I.meaning cx.old) folder.old (I.meaning cx.new) folder.new }
@@ -227,10 +239,10 @@ fn fold_all<I: Interner, F: TypeFolder<I>>(
 // The list with each member folded. Where they are what they were, so is the list.
 pub fn fold_list<I: Interner, F: TypeFolder<I>>(
     cx: &mut I,
-    parts: &Parts<I::Key>,
-    depth: u64,
+    parts: &PartsOf<I>,
+    depth: u128,
     folder: &mut F,
-) -> Result<Parts<I::Key>, OutOfMemory>
+) -> Result<PartsOf<I>, OutOfMemory>
     requires known { IsTrue (known (parts_tree (I.meaning cx.old) parts.now)) }
     requires ready { F.ready (I.meaning cx.old) folder.old }
     ensures steps { Steps F.ready F.replaces (I.meaning cx.old) folder.old (I.meaning cx.new) folder.new }

@@ -18,7 +18,7 @@ impl<I: Interner> TypeVisitor<I> for FindsNonRegionInfer {
 
     ghost visits = { λ cx v d t w a. Searches is_non_region_infer v d t w a };
 
-    fn visit_ty(&mut self, cx: &I, ty: &Ty<I>, _depth: u64) -> Visit {
+    fn visit_ty(&mut self, cx: &I, ty: &Ty<I>, _depth: u128) -> Visit {
         let kind = cx.ty_kind(ty);
         match &kind {
             TyKind::Infer(InferTy::TyVar(_) | InferTy::IntVar(_) | InferTy::FloatVar(_)) =>
@@ -27,11 +27,11 @@ impl<I: Interner> TypeVisitor<I> for FindsNonRegionInfer {
         }
     }
 
-    fn visit_region(&mut self, _cx: &I, _region: &Region<I>, _depth: u64) -> Visit {
+    fn visit_region(&mut self, _cx: &I, _region: &Region<I>, _depth: u128) -> Visit {
         Visit::Enter
     }
 
-    fn visit_const(&mut self, cx: &I, constant: &Const<I>, _depth: u64) -> Visit {
+    fn visit_const(&mut self, cx: &I, constant: &Const<I>, _depth: u128) -> Visit {
         let kind = cx.const_kind(constant);
         match &kind {
             ConstKind::Infer(InferConst::Var(_)) => Visit::Stop,
@@ -41,10 +41,11 @@ impl<I: Interner> TypeVisitor<I> for FindsNonRegionInfer {
 }
 
 // Stops where a variable is bound further out than there are binders around it.
-fn stop_at_escaping(index: &DebruijnIndex, depth: u64) -> Visit
-    ensures { result ≡ cond (not (nat_lt (index.now).0 depth)) VisitStop VisitEnter }
+fn stop_at_escaping(index: &DebruijnIndex, depth: u128) -> Visit
+    ensures told { result ≡ cond (not (nat_lt (index.now).0 depth)) VisitStop VisitEnter }
+    ensures near { IsTrue (nat_lt (index.now).0 18446744073709551616) }
 {
-    if index.0 < depth {
+    if u128::from(index.0) < depth {
         Visit::Enter
     } else {
         Visit::Stop
@@ -56,11 +57,11 @@ fn stop_at_escaping(index: &DebruijnIndex, depth: u64) -> Visit
 struct FindsEscaping;
 
 impl<I: Interner> TypeVisitor<I> for FindsEscaping {
-    ghost use Rattle.relation_tools.specs.Visits.{Searches, is_escaping};
+    ghost use Rattle.relation_tools.specs.Visits.{SearchesNear, is_escaping};
 
-    ghost visits = { λ cx v d t w a. Searches is_escaping v d t w a };
+    ghost visits = { λ cx v d t w a. SearchesNear is_escaping v d t w a };
 
-    fn visit_ty(&mut self, cx: &I, ty: &Ty<I>, depth: u64) -> Visit {
+    fn visit_ty(&mut self, cx: &I, ty: &Ty<I>, depth: u128) -> Visit {
         let kind = cx.ty_kind(ty);
         match &kind {
             TyKind::Bound(index, _) => stop_at_escaping(index, depth),
@@ -68,7 +69,7 @@ impl<I: Interner> TypeVisitor<I> for FindsEscaping {
         }
     }
 
-    fn visit_region(&mut self, cx: &I, region: &Region<I>, depth: u64) -> Visit {
+    fn visit_region(&mut self, cx: &I, region: &Region<I>, depth: u128) -> Visit {
         let kind = cx.region_kind(region);
         match &kind {
             RegionKind::ReBound(index, _) => stop_at_escaping(index, depth),
@@ -76,7 +77,7 @@ impl<I: Interner> TypeVisitor<I> for FindsEscaping {
         }
     }
 
-    fn visit_const(&mut self, cx: &I, constant: &Const<I>, depth: u64) -> Visit {
+    fn visit_const(&mut self, cx: &I, constant: &Const<I>, depth: u128) -> Visit {
         let kind = cx.const_kind(constant);
         match &kind {
             ConstKind::Bound(index, _) => stop_at_escaping(index, depth),
@@ -129,6 +130,9 @@ pub fn is_known_rigid<I: Interner>(cx: &I, ty: &Ty<I>) -> bool
         | TyKind::RawPtr(..)
         | TyKind::Ref(..)
         | TyKind::FnDef(..)
+        | TyKind::FnPtr(..)
+        | TyKind::UnsafeBinder(_)
+        | TyKind::Dynamic(..)
         | TyKind::Closure(..)
         | TyKind::CoroutineClosure(..)
         | TyKind::Coroutine(..)

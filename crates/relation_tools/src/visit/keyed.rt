@@ -9,8 +9,8 @@ use crate::visit::TypeVisitor;
 use crate::visit::walk::{visit_list, visit_part};
 use relation_terms::terms::parts::parts_of;
 use relation_terms::terms::{
-    Alternatives, Branches, Const, GenericArg, GenericArgKind, GenericArgs, Interner, Part, Parts,
-    Pat, Region, Ty, Tys, ValTree,
+    Alternatives, Branches, Const, ExistentialPredicates, GenericArg, GenericArgKind, GenericArgs,
+    Interner, Part, Parts, Pat, Region, Ty, Tys, ValTree,
 };
 use std::ops::ControlFlow;
 
@@ -162,4 +162,17 @@ pub fn visit_tys_with<I: Interner, V: TypeVisitor<I>>(
     ensures { Walks (V.visits cx.now) 0 visitor.old ((I.meaning cx.now).tys tys.now) visitor.new result }
 {
     visit_list(cx, &Parts::Tys(*tys), 0, visitor)
+}
+
+/// Goes over a list of a trait object's predicates, in order, each under its binder.
+pub fn visit_predicates_with<I: Interner, V: TypeVisitor<I>>(
+    cx: &I,
+    predicates: &ExistentialPredicates<I>,
+    visitor: &mut V,
+) -> ControlFlow<()>
+    requires { IsTrue (known ((I.meaning cx.now).existential_predicates predicates.now)) }
+    ensures { let t = (I.meaning cx.now).existential_predicates predicates.now in
+        Walks (V.visits cx.now) 0 visitor.old t visitor.new result }
+{
+    visit_list(cx, &Parts::Predicates(*predicates), 0, visitor)
 }

@@ -1,22 +1,22 @@
 //! The walk of a visitor over a term: one loop over the parts of all forms.
 //!
 //! It stands beside the visitors, which never call it: one proof serves all of them.
-//! No form that an interner reads has a binder yet, so each part stands as deep as the term that it is a part of.
-ghost use Rattle.std.specs.Prelude.{IsTrue};
+//! The part of a binder stands one binder deeper, and all others as deep as the term that they are parts of.
+ghost use Rattle.std.specs.Prelude.{◌≡◌, IsTrue};
 ghost use Rattle.relation_terms.specs.Trees.{known};
 ghost use Rattle.relation_terms.specs.Parts.{part_tree, parts_tree, part_sort};
-ghost use Rattle.relation_tools.specs.Visits.{Walks, Asks, visited_sort};
+ghost use Rattle.relation_tools.specs.Visits.{Walks, Asks, visited_sort, told_inside_part};
 
 use crate::visit::{TypeVisitor, Visit};
 use relation_terms::terms::parts::{member, member_count, parts_of};
-use relation_terms::terms::{Interner, Part, Parts};
+use relation_terms::terms::{Interner, Part, PartOf, PartsOf};
 use std::ops::ControlFlow;
 
 // What the visitor answers at a part. It is asked about regions, types and constants, and all else is entered.
 fn ask<I: Interner, V: TypeVisitor<I>>(
     cx: &I,
-    part: &Part<I::Key>,
-    depth: u64,
+    part: &PartOf<I>,
+    depth: u128,
     visitor: &mut V,
 ) -> Visit
     requires { IsTrue (known (part_tree (I.meaning cx.now) part.now)) }
@@ -27,9 +27,19 @@ fn ask<I: Interner, V: TypeVisitor<I>>(
         Part::Region(region) => visitor.visit_region(cx, region, depth),
         Part::Ty(ty) => visitor.visit_ty(cx, ty, depth),
         Part::Const(constant) => visitor.visit_const(cx, constant, depth),
-        Part::ValTree(_) => Visit::Enter,
-        Part::Pat(_) => Visit::Enter,
-        Part::ValueType(_) => Visit::Enter,
+        Part::ValTree(_) | Part::Pat(_) | Part::ValueType(_) => Visit::Enter,
+        Part::Binder(..) | Part::Signature(_) | Part::Inputs(_) => Visit::Enter,
+        Part::Existential(_) | Part::Object(_) => Visit::Enter,
+    }
+}
+
+// How many binders a visitor is told to stand around the parts of a part under `depth` binders.
+fn depth_inside<X: Copy, D: Copy>(part: &Part<X, D>, depth: u128) -> u128
+    ensures { result ≡ told_inside_part part.now depth }
+{
+    match part {
+        Part::Binder(..) if depth < u128::MAX => depth + 1,
+        _ => depth,
     }
 }
 
@@ -38,8 +48,8 @@ fn ask<I: Interner, V: TypeVisitor<I>>(
 #[cycle(walk)]
 pub fn visit_part<I: Interner, V: TypeVisitor<I>>(
     cx: &I,
-    part: &Part<I::Key>,
-    depth: u64,
+    part: &PartOf<I>,
+    depth: u128,
     visitor: &mut V,
 ) -> ControlFlow<()>
     requires { IsTrue (known (part_tree (I.meaning cx.now) part.now)) }
@@ -47,7 +57,7 @@ pub fn visit_part<I: Interner, V: TypeVisitor<I>>(
         (part_tree (I.meaning cx.now) part.now) visitor.new result }
 {
     match ask(cx, part, depth, visitor) {
-        Visit::Enter => visit_list(cx, &parts_of(cx, part), depth, visitor),
+        Visit::Enter => visit_list(cx, &parts_of(cx, part), depth_inside(part, depth), visitor),
         Visit::Skip => ControlFlow::Continue(()),
         Visit::Stop => ControlFlow::Break(()),
     }
@@ -57,8 +67,8 @@ pub fn visit_part<I: Interner, V: TypeVisitor<I>>(
 #[cycle(walk)]
 pub fn visit_list<I: Interner, V: TypeVisitor<I>>(
     cx: &I,
-    parts: &Parts<I::Key>,
-    depth: u64,
+    parts: &PartsOf<I>,
+    depth: u128,
     visitor: &mut V,
 ) -> ControlFlow<()>
     requires { IsTrue (known (parts_tree (I.meaning cx.now) parts.now)) }

@@ -11,7 +11,8 @@ use relation_terms::terms::{
 };
 
 /// How many parts a type has: the arguments of a type over an item, an alias too, the element and the length of an
-/// array, the type and the pattern of a pattern type, the region and the pointee of a reference, the pointee of a raw
+/// array, the type and the pattern of a pattern type, the binder of a function pointer or an unsafe binder, the predicates
+/// and the region of a trait object, the region and the pointee of a reference, the pointee of a raw
 /// pointer, the element of a slice, the members of a tuple. Any other type has none.
 ///
 /// The interner has to know the type.
@@ -29,6 +30,9 @@ pub fn parts_count<I: Interner>(cx: &I, ty: &Ty<I>) -> usize
         TyKind::RawPtr(..) => 1,
         TyKind::Array(..) => 2,
         TyKind::Pat(..) => 2,
+        TyKind::Dynamic(..) => 2,
+        TyKind::FnPtr(..) => 1,
+        TyKind::UnsafeBinder(_) => 1,
         TyKind::Ref(..) => 2,
         TyKind::Tuple(members) => cx.tys(members).len(),
         TyKind::Alias(alias) => cx.args(&alias.args).len(),

@@ -1,18 +1,26 @@
 //! The forms: the parts of each, and each over other parts.
 ghost use Rattle.std.specs.Prelude.{◌≡◌};
+ghost use Rattle.relation_terms.specs.Meaning.{sig_of};
+ghost use Rattle.relation_terms.specs.declared.terms.part_kind.Part.TheVariants.{Binder as BinderPart};
+ghost use Rattle.relation_terms.specs.declared.terms.part_kind.Body.TheVariants.{Signature as SignatureBody};
+ghost use Rattle.relation_terms.specs.declared.terms.part_kind.Body.TheVariants.{Ty as TyBody};
+ghost use Rattle.relation_terms.specs.declared.terms.ty_kind.TyKind.TheVariants.{FnPtr, UnsafeBinder};
 ghost use Rattle.relation_terms.specs.Parts.{ty_view, const_view, valtree_view, ty_made, const_made, valtree_made};
-ghost use Rattle.relation_terms.specs.Parts.{pattern_view, pattern_made};
+ghost use Rattle.relation_terms.specs.Parts.{pattern_view, pattern_made, existential_view, existential_made};
 
+use crate::predicate::{ExistentialPredicate, ExistentialProjection, ExistentialTraitRef};
 use crate::terms::parts::keys::{
-    alternatives_or, args_or, branches_or, const_or, first_or, pat_or, region_or, second_or, ty_or,
-    tys_or, valtree_or, value_type_or,
+    alternatives_or, args_or, bound_signature_or, bound_ty_or, branches_or, const_or, first_or,
+    object_or, pat_or, region_or, second_or, term_args_or, term_or, ty_or, tys_or, valtree_or,
+    value_type_or, vars_or,
 };
 use crate::terms::{
-    AliasTy, ConstKind, Part, Parts, PatternKind, TyKind, UnevaluatedConst, ValTreeKind,
+    AliasTy, Binder, Body, ConstKind, FnHeader, FnSigTys, Part, Parts, PatternKind, TyKey, TyKind,
+    UnevaluatedConst, ValTreeKind,
 };
 
 // The parts of a type.
-pub fn ty_parts<X: Copy, D, N>(kind: &TyKind<X, D, N>) -> Parts<X>
+pub fn ty_parts<X: Copy, D: Copy, N>(kind: &TyKind<X, D, N>) -> Parts<X, D>
     ensures { result ≡ ty_view kind.now }
 {
     match kind {
@@ -22,6 +30,11 @@ pub fn ty_parts<X: Copy, D, N>(kind: &TyKind<X, D, N>) -> Parts<X>
         TyKind::RawPtr(pointee, _) => Parts::One(Part::Ty(*pointee)),
         TyKind::Ref(region, pointee, _) => Parts::Two(Part::Region(*region), Part::Ty(*pointee)),
         TyKind::Tuple(members) => Parts::Tys(*members),
+        TyKind::FnPtr(types, header) => Parts::One(fn_ptr_part(types, header)),
+        TyKind::UnsafeBinder(inner) => Parts::One(unsafe_part(inner)),
+        TyKind::Dynamic(predicates, region) => {
+            Parts::Two(Part::Object(*predicates), Part::Region(*region))
+        }
         TyKind::Adt(_, args)
         | TyKind::FnDef(_, args)
         | TyKind::Closure(_, args)
@@ -46,7 +59,7 @@ pub fn ty_parts<X: Copy, D, N>(kind: &TyKind<X, D, N>) -> Parts<X>
 }
 
 // The parts of a constant.
-pub fn const_parts<X: Copy, D, N>(kind: &ConstKind<X, D, N>) -> Parts<X>
+pub fn const_parts<X: Copy, D: Copy, N>(kind: &ConstKind<X, D, N>) -> Parts<X, D>
     ensures { result ≡ const_view kind.now }
 {
     match kind {
@@ -62,7 +75,7 @@ pub fn const_parts<X: Copy, D, N>(kind: &ConstKind<X, D, N>) -> Parts<X>
 }
 
 // The parts of a value tree.
-pub fn valtree_parts<X: Copy>(kind: &ValTreeKind<X>) -> Parts<X>
+pub fn valtree_parts<X: Copy, D: Copy>(kind: &ValTreeKind<X>) -> Parts<X, D>
     ensures { result ≡ valtree_view kind.now }
 {
     match kind {
@@ -72,7 +85,7 @@ pub fn valtree_parts<X: Copy>(kind: &ValTreeKind<X>) -> Parts<X>
 }
 
 // The parts of a pattern.
-pub fn pattern_parts<X: Copy>(kind: &PatternKind<X>) -> Parts<X>
+pub fn pattern_parts<X: Copy, D: Copy>(kind: &PatternKind<X>) -> Parts<X, D>
     ensures { result ≡ pattern_view kind.now }
 {
     match kind {
@@ -82,10 +95,90 @@ pub fn pattern_parts<X: Copy>(kind: &PatternKind<X>) -> Parts<X>
     }
 }
 
+// The parts of a trait object's predicate.
+pub fn existential_parts<X: Copy, D: Copy>(predicate: &ExistentialPredicate<X, D>) -> Parts<X, D>
+    ensures { result ≡ existential_view predicate.now }
+{
+    match predicate {
+        ExistentialPredicate::Trait(of) => Parts::Args(of.args),
+        ExistentialPredicate::Projection(projection) => {
+            Parts::TermArgs(projection.term, projection.args)
+        }
+        ExistentialPredicate::AutoTrait(_) => Parts::Empty,
+    }
+}
+
+// The binder of a function pointer, as a part.
+fn fn_ptr_part<X: Copy, D: Copy>(types: &Binder<X, FnSigTys<X>>, header: &FnHeader) -> Part<X, D>
+    ensures { result ≡ BinderPart (types.now).bound_vars (SignatureBody (sig_of (types.now).value header.now)) }
+{
+    Part::Binder(types.bound_vars, Body::Signature(types.value.with(*header)))
+}
+
+// The binder of an unsafe binder, as a part.
+fn unsafe_part<X: Copy, D: Copy>(inner: &Binder<X, TyKey<X>>) -> Part<X, D>
+    ensures { result ≡ BinderPart (inner.now).bound_vars (TyBody (inner.now).value) }
+{
+    Part::Binder(inner.bound_vars, Body::Ty(inner.value))
+}
+
+// The function pointer over another binder.
+fn fn_ptr_over<X: Copy, D: Copy, N: Copy>(
+    types: &Binder<X, FnSigTys<X>>,
+    header: &FnHeader,
+    parts: &Parts<X, D>,
+) -> TyKind<X, D, N>
+    ensures { result ≡ ty_made (FnPtr types.now header.now) parts.now }
+{
+    let part = first_or(parts, fn_ptr_part(types, header));
+    let sig = bound_signature_or(&part, &types.value.with(*header));
+    let value = FnSigTys {
+        inputs_and_output: sig.inputs_and_output,
+    };
+    let bound_vars = vars_or(&part, &types.bound_vars);
+    TyKind::FnPtr(Binder { value, bound_vars }, sig.header)
+}
+
+// The unsafe binder over another binder.
+fn unsafe_over<X: Copy, D: Copy, N: Copy>(
+    inner: &Binder<X, TyKey<X>>,
+    parts: &Parts<X, D>,
+) -> TyKind<X, D, N>
+    ensures { result ≡ ty_made (UnsafeBinder inner.now) parts.now }
+{
+    let part = first_or(parts, unsafe_part(inner));
+    let value = bound_ty_or(&part, &inner.value);
+    let bound_vars = vars_or(&part, &inner.bound_vars);
+    TyKind::UnsafeBinder(Binder { value, bound_vars })
+}
+
+// The predicate of a trait object over other parts, alike to its own.
+pub fn existential_over<X: Copy, D: Copy>(
+    predicate: &ExistentialPredicate<X, D>,
+    parts: &Parts<X, D>,
+) -> ExistentialPredicate<X, D>
+    ensures { result ≡ existential_made predicate.now parts.now }
+{
+    match predicate {
+        ExistentialPredicate::Trait(of) => ExistentialPredicate::Trait(ExistentialTraitRef {
+            def_id: of.def_id,
+            args: args_or(parts, &of.args),
+        }),
+        ExistentialPredicate::Projection(projection) => {
+            ExistentialPredicate::Projection(ExistentialProjection {
+                def_id: projection.def_id,
+                args: term_args_or(parts, &projection.args),
+                term: term_or(parts, &projection.term),
+            })
+        }
+        ExistentialPredicate::AutoTrait(_) => *predicate,
+    }
+}
+
 // The form of a type over other parts, alike to its own.
 pub fn ty_over<X: Copy, D: Copy, N: Copy>(
     kind: &TyKind<X, D, N>,
-    parts: &Parts<X>,
+    parts: &Parts<X, D>,
 ) -> TyKind<X, D, N>
     ensures { result ≡ ty_made kind.now parts.now }
 {
@@ -113,6 +206,12 @@ pub fn ty_over<X: Copy, D: Copy, N: Copy>(
             *mutability,
         ),
         TyKind::Tuple(members) => TyKind::Tuple(tys_or(parts, members)),
+        TyKind::FnPtr(types, header) => fn_ptr_over(types, header, parts),
+        TyKind::UnsafeBinder(inner) => unsafe_over(inner, parts),
+        TyKind::Dynamic(predicates, region) => TyKind::Dynamic(
+            object_or(&first_or(parts, Part::Object(*predicates)), predicates),
+            region_or(&second_or(parts, Part::Region(*region)), region),
+        ),
         TyKind::Adt(def, args) => TyKind::Adt(*def, args_or(parts, args)),
         TyKind::FnDef(def, args) => TyKind::FnDef(*def, args_or(parts, args)),
         TyKind::Closure(def, args) => TyKind::Closure(*def, args_or(parts, args)),
@@ -142,7 +241,7 @@ pub fn ty_over<X: Copy, D: Copy, N: Copy>(
 // The form of a constant over other parts, alike to its own.
 pub fn const_over<X: Copy, D: Copy, N: Copy>(
     kind: &ConstKind<X, D, N>,
-    parts: &Parts<X>,
+    parts: &Parts<X, D>,
 ) -> ConstKind<X, D, N>
     ensures { result ≡ const_made kind.now parts.now }
 {
@@ -165,7 +264,7 @@ pub fn const_over<X: Copy, D: Copy, N: Copy>(
 }
 
 // The form of a value tree over other parts, alike to its own.
-pub fn valtree_over<X: Copy>(kind: &ValTreeKind<X>, parts: &Parts<X>) -> ValTreeKind<X>
+pub fn valtree_over<X: Copy, D: Copy>(kind: &ValTreeKind<X>, parts: &Parts<X, D>) -> ValTreeKind<X>
     ensures { result ≡ valtree_made kind.now parts.now }
 {
     match kind {
@@ -175,7 +274,7 @@ pub fn valtree_over<X: Copy>(kind: &ValTreeKind<X>, parts: &Parts<X>) -> ValTree
 }
 
 // The form of a pattern over other parts, alike to its own.
-pub fn pattern_over<X: Copy>(kind: &PatternKind<X>, parts: &Parts<X>) -> PatternKind<X>
+pub fn pattern_over<X: Copy, D: Copy>(kind: &PatternKind<X>, parts: &Parts<X, D>) -> PatternKind<X>
     ensures { result ≡ pattern_made kind.now parts.now }
 {
     match kind {

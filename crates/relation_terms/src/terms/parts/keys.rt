@@ -1,11 +1,17 @@
 //! Parts and lists of parts of which one knows the sort, as keys; and keys as parts.
-ghost use Rattle.std.specs.Prelude.{◌≡◌, ◌↔◌, IsTrue, [], ◌∷◌};
+ghost use Rattle.std.specs.Prelude.{◌≡◌, ◌↔◌, IsTrue, [], ◌∷◌, Option};
 ghost use Rattle.relation_terms.specs.Heads.{region_sort, type_sort, const_sort, value_sort};
 ghost use Rattle.relation_terms.specs.Trees.{known};
 ghost use Rattle.relation_terms.specs.Parts.{part_of_arg, part_sort, part_key, part_tree};
-ghost use Rattle.relation_terms.specs.Heads.{pattern_sort};
+ghost use Rattle.relation_terms.specs.Heads.{pattern_sort, inputs_sort};
+ghost use Rattle.relation_terms.specs.Parts.{IsInputs, IsPredicates};
+ghost use Rattle.relation_terms.specs.declared.terms.part_kind.Part.TheVariants.{Inputs as InputsPart};
+ghost use Rattle.relation_terms.specs.declared.terms.part_kind.Parts.TheVariants.{Inputs as InputsParts};
+ghost use Rattle.relation_terms.specs.declared.terms.part_kind.Parts.TheVariants.{Predicates as PredicatesParts};
 ghost use Rattle.relation_terms.specs.Parts.{AreArgs, IsArgs, IsTys, IsBranches, IsAlternatives};
-ghost use Rattle.relation_terms.specs.Parts.{pat_in, alternatives_in};
+ghost use Rattle.relation_terms.specs.Parts.{pat_in, alternatives_in, HasKey, IsTermPart, part_of_term, part_of_body};
+ghost use Rattle.relation_terms.specs.Parts.{part_of_predicate, object_in, vars_in, bound_signature_in, bound_ty_in};
+ghost use Rattle.relation_terms.specs.Parts.{body_in, term_in, term_args_in, ArePredicates, body_tree, body_sort};
 ghost use Rattle.relation_terms.specs.declared.terms.part_kind.Part.TheVariants.{Pat as PatPart};
 ghost use Rattle.relation_terms.specs.declared.terms.part_kind.Parts.TheVariants.{Alternatives as AlternativesParts};
 ghost use Rattle.relation_terms.specs.Parts.{region_in, ty_in, const_in, valtree_in, value_type_in};
@@ -16,38 +22,31 @@ ghost use Rattle.relation_terms.specs.declared.terms.part_kind.Part.TheVariants.
 ghost use Rattle.relation_terms.specs.declared.terms.part_kind.Parts.TheVariants.{Args as ArgsParts, Tys as TysParts};
 ghost use Rattle.relation_terms.specs.declared.terms.part_kind.Parts.TheVariants.{Branches as BranchesParts};
 
+use crate::predicate::{ExistentialPredicate, ExistentialProjection, ExistentialTraitRef};
 use crate::terms::{
-    AlternativesKey, ArgsKey, BranchesKey, ConstKey, GenericArgKind, Interner, Part, Parts, PatKey,
-    RegionKey, TyKey, TysKey, ValTreeKey,
+    AlternativesKey, ArgsKey, Binder, Body, BoundVarsKey, BranchesKey, ConstKey,
+    ExistentialPredicatesKey, FnSig, GenericArgKind, Interner, Part, PartOf, Parts, PatKey,
+    RegionKey, TermKind, TyKey, TysKey, ValTreeKey,
 };
 
-// The key of a part, whatever its sort.
-fn key_of<X: Copy>(part: &Part<X>) -> X
+// The key of a part, if it has one of its own.
+pub fn key_of<X: Copy, D: Copy>(part: &Part<X, D>) -> Option<X>
     ensures { result ≡ part_key part.now }
 {
     match part {
-        Part::Region(region) => region.0,
-        Part::Ty(ty) => ty.0,
-        Part::Const(constant) => constant.0,
-        Part::ValTree(valtree) => valtree.0,
-        Part::Pat(pat) => pat.0,
-        Part::ValueType(ty) => ty.0,
+        Part::Region(region) => Some(region.0),
+        Part::Ty(ty) => Some(ty.0),
+        Part::Const(constant) => Some(constant.0),
+        Part::ValTree(valtree) => Some(valtree.0),
+        Part::Pat(pat) => Some(pat.0),
+        Part::ValueType(ty) => Some(ty.0),
+        Part::Object(predicates) => Some(predicates.0),
+        Part::Binder(..) | Part::Signature(_) | Part::Inputs(_) | Part::Existential(_) => None,
     }
 }
 
-/// Whether two parts of one sort are one term. The interner has to know both.
-pub fn is_same<I: Interner>(cx: &I, part: &Part<I::Key>, other: &Part<I::Key>) -> bool
-    requires part_known { IsTrue (known (part_tree (I.meaning cx.now) part.now)) }
-    requires other_known { IsTrue (known (part_tree (I.meaning cx.now) other.now)) }
-    requires same_sort { part_sort other.now ≡ part_sort part.now }
-    ensures { IsTrue result ↔ (part_tree (I.meaning cx.now) part.now ≡ part_tree (I.meaning cx.now) other.now) }
-{
-    let _ = cx;
-    key_of(part) == key_of(other)
-}
-
 // A generic argument as a part.
-pub fn of_arg<X: Copy>(arg: &GenericArgKind<X>) -> Part<X>
+pub fn of_arg<X: Copy, D: Copy>(arg: &GenericArgKind<X>) -> Part<X, D>
     ensures { result ≡ part_of_arg arg.now }
 {
     match arg {
@@ -57,8 +56,64 @@ pub fn of_arg<X: Copy>(arg: &GenericArgKind<X>) -> Part<X>
     }
 }
 
+// A term of a predicate as a part.
+pub fn of_term<X: Copy, D: Copy>(term: &TermKind<X>) -> Part<X, D>
+    ensures { result ≡ part_of_term term.now }
+{
+    match term {
+        TermKind::Ty(ty) => Part::Ty(*ty),
+        TermKind::Const(constant) => Part::Const(*constant),
+    }
+}
+
+// A predicate of a trait object as a part.
+pub fn of_predicate<X: Copy, D: Copy>(
+    predicate: &Binder<X, ExistentialPredicate<X, D>>,
+) -> Part<X, D>
+    ensures { result ≡ part_of_predicate predicate.now }
+{
+    Part::Binder(predicate.bound_vars, Body::Existential(predicate.value))
+}
+
+// A body as a part.
+pub fn of_body<X: Copy, D: Copy>(body: &Body<X, D>) -> Part<X, D>
+    ensures { result ≡ part_of_body body.now }
+{
+    match body {
+        Body::Signature(sig) => Part::Signature(*sig),
+        Body::Ty(ty) => Part::Ty(*ty),
+        Body::Existential(predicate) => Part::Existential(*predicate),
+    }
+}
+
+// The term of a predicate that a part is.
+pub fn the_term<X: Copy, D: Copy>(part: &Part<X, D>) -> TermKind<X>
+    requires { IsTermPart part.now }
+    ensures { part_of_term result ≡ part.now }
+{
+    match part {
+        Part::Ty(ty) => TermKind::Ty(*ty),
+        Part::Const(constant) => TermKind::Const(*constant),
+        _ => unreachable!(),
+    }
+}
+
+// The predicate of a trait object that a part is.
+pub fn the_predicate<X: Copy, D: Copy>(part: &Part<X, D>) -> Binder<X, ExistentialPredicate<X, D>>
+    requires { ArePredicates (part.now ∷ []) }
+    ensures { part_of_predicate result ≡ part.now }
+{
+    match part {
+        Part::Binder(bound_vars, Body::Existential(predicate)) => Binder {
+            value: *predicate,
+            bound_vars: *bound_vars,
+        },
+        _ => unreachable!(),
+    }
+}
+
 // The generic argument that a part is.
-pub fn the_arg<X: Copy>(part: &Part<X>) -> GenericArgKind<X>
+pub fn the_arg<X: Copy, D: Copy>(part: &Part<X, D>) -> GenericArgKind<X>
     requires { AreArgs (part.now ∷ []) }
     ensures { part_of_arg result ≡ part.now }
 {
@@ -71,7 +126,7 @@ pub fn the_arg<X: Copy>(part: &Part<X>) -> GenericArgKind<X>
 }
 
 /// The region that a part is.
-pub fn the_region<X: Copy>(part: &Part<X>) -> RegionKey<X>
+pub fn the_region<X: Copy, D: Copy>(part: &Part<X, D>) -> RegionKey<X>
     requires { part_sort part.now ≡ region_sort }
     ensures { RegionPart result ≡ part.now }
 {
@@ -82,7 +137,7 @@ pub fn the_region<X: Copy>(part: &Part<X>) -> RegionKey<X>
 }
 
 /// The type that a part is.
-pub fn the_ty<X: Copy>(part: &Part<X>) -> TyKey<X>
+pub fn the_ty<X: Copy, D: Copy>(part: &Part<X, D>) -> TyKey<X>
     requires { part_sort part.now ≡ type_sort }
     ensures { TyPart result ≡ part.now }
 {
@@ -93,7 +148,7 @@ pub fn the_ty<X: Copy>(part: &Part<X>) -> TyKey<X>
 }
 
 /// The constant that a part is.
-pub fn the_const<X: Copy>(part: &Part<X>) -> ConstKey<X>
+pub fn the_const<X: Copy, D: Copy>(part: &Part<X, D>) -> ConstKey<X>
     requires { part_sort part.now ≡ const_sort }
     ensures { ConstPart result ≡ part.now }
 {
@@ -104,7 +159,7 @@ pub fn the_const<X: Copy>(part: &Part<X>) -> ConstKey<X>
 }
 
 /// The value tree that a part is.
-pub fn the_valtree<X: Copy>(part: &Part<X>) -> ValTreeKey<X>
+pub fn the_valtree<X: Copy, D: Copy>(part: &Part<X, D>) -> ValTreeKey<X>
     requires { part_sort part.now ≡ value_sort }
     ensures { ValTreePart result ≡ part.now }
 {
@@ -114,8 +169,19 @@ pub fn the_valtree<X: Copy>(part: &Part<X>) -> ValTreeKey<X>
     }
 }
 
+// The list of types whose inputs a part is.
+pub fn the_inputs<X: Copy, D: Copy>(part: &Part<X, D>) -> TysKey<X>
+    requires { part_sort part.now ≡ inputs_sort }
+    ensures { InputsPart result ≡ part.now }
+{
+    match part {
+        Part::Inputs(types) => *types,
+        _ => unreachable!(),
+    }
+}
+
 /// The pattern that a part is.
-pub fn the_pat<X: Copy>(part: &Part<X>) -> PatKey<X>
+pub fn the_pat<X: Copy, D: Copy>(part: &Part<X, D>) -> PatKey<X>
     requires { part_sort part.now ≡ pattern_sort }
     ensures { PatPart result ≡ part.now }
 {
@@ -126,7 +192,7 @@ pub fn the_pat<X: Copy>(part: &Part<X>) -> PatKey<X>
 }
 
 /// The list of arguments that a list of parts is.
-pub fn the_args<X: Copy>(parts: &Parts<X>) -> ArgsKey<X>
+pub fn the_args<X: Copy, D: Copy>(parts: &Parts<X, D>) -> ArgsKey<X>
     requires { IsArgs parts.now }
     ensures { ArgsParts result ≡ parts.now }
 {
@@ -137,7 +203,7 @@ pub fn the_args<X: Copy>(parts: &Parts<X>) -> ArgsKey<X>
 }
 
 /// The list of types that a list of parts is.
-pub fn the_tys<X: Copy>(parts: &Parts<X>) -> TysKey<X>
+pub fn the_tys<X: Copy, D: Copy>(parts: &Parts<X, D>) -> TysKey<X>
     requires { IsTys parts.now }
     ensures { TysParts result ≡ parts.now }
 {
@@ -148,7 +214,7 @@ pub fn the_tys<X: Copy>(parts: &Parts<X>) -> TysKey<X>
 }
 
 /// The list of constants that a list of parts is.
-pub fn the_branches<X: Copy>(parts: &Parts<X>) -> BranchesKey<X>
+pub fn the_branches<X: Copy, D: Copy>(parts: &Parts<X, D>) -> BranchesKey<X>
     requires { IsBranches parts.now }
     ensures { BranchesParts result ≡ parts.now }
 {
@@ -159,7 +225,7 @@ pub fn the_branches<X: Copy>(parts: &Parts<X>) -> BranchesKey<X>
 }
 
 /// The list of patterns that a list of parts is.
-pub fn the_alternatives<X: Copy>(parts: &Parts<X>) -> AlternativesKey<X>
+pub fn the_alternatives<X: Copy, D: Copy>(parts: &Parts<X, D>) -> AlternativesKey<X>
     requires { IsAlternatives parts.now }
     ensures { AlternativesParts result ≡ parts.now }
 {
@@ -169,8 +235,30 @@ pub fn the_alternatives<X: Copy>(parts: &Parts<X>) -> AlternativesKey<X>
     }
 }
 
+/// The list of types whose inputs a list of parts is.
+pub fn the_input_types<X: Copy, D: Copy>(parts: &Parts<X, D>) -> TysKey<X>
+    requires { IsInputs parts.now }
+    ensures { InputsParts result ≡ parts.now }
+{
+    match parts {
+        Parts::Inputs(types) => *types,
+        _ => unreachable!(),
+    }
+}
+
+/// The list of a trait object's predicates that a list of parts is.
+pub fn the_predicates<X: Copy, D: Copy>(parts: &Parts<X, D>) -> ExistentialPredicatesKey<X>
+    requires { IsPredicates parts.now }
+    ensures { PredicatesParts result ≡ parts.now }
+{
+    match parts {
+        Parts::Predicates(predicates) => *predicates,
+        _ => unreachable!(),
+    }
+}
+
 // The key of a part, or the given one where the part is of another sort.
-pub fn region_or<X: Copy>(part: &Part<X>, other: &RegionKey<X>) -> RegionKey<X>
+pub fn region_or<X: Copy, D: Copy>(part: &Part<X, D>, other: &RegionKey<X>) -> RegionKey<X>
     ensures { result ≡ region_in part.now other.now }
 {
     match part {
@@ -179,7 +267,7 @@ pub fn region_or<X: Copy>(part: &Part<X>, other: &RegionKey<X>) -> RegionKey<X>
     }
 }
 
-pub fn ty_or<X: Copy>(part: &Part<X>, other: &TyKey<X>) -> TyKey<X>
+pub fn ty_or<X: Copy, D: Copy>(part: &Part<X, D>, other: &TyKey<X>) -> TyKey<X>
     ensures { result ≡ ty_in part.now other.now }
 {
     match part {
@@ -188,7 +276,7 @@ pub fn ty_or<X: Copy>(part: &Part<X>, other: &TyKey<X>) -> TyKey<X>
     }
 }
 
-pub fn const_or<X: Copy>(part: &Part<X>, other: &ConstKey<X>) -> ConstKey<X>
+pub fn const_or<X: Copy, D: Copy>(part: &Part<X, D>, other: &ConstKey<X>) -> ConstKey<X>
     ensures { result ≡ const_in part.now other.now }
 {
     match part {
@@ -197,7 +285,7 @@ pub fn const_or<X: Copy>(part: &Part<X>, other: &ConstKey<X>) -> ConstKey<X>
     }
 }
 
-pub fn valtree_or<X: Copy>(part: &Part<X>, other: &ValTreeKey<X>) -> ValTreeKey<X>
+pub fn valtree_or<X: Copy, D: Copy>(part: &Part<X, D>, other: &ValTreeKey<X>) -> ValTreeKey<X>
     ensures { result ≡ valtree_in part.now other.now }
 {
     match part {
@@ -206,7 +294,7 @@ pub fn valtree_or<X: Copy>(part: &Part<X>, other: &ValTreeKey<X>) -> ValTreeKey<
     }
 }
 
-pub fn pat_or<X: Copy>(part: &Part<X>, other: &PatKey<X>) -> PatKey<X>
+pub fn pat_or<X: Copy, D: Copy>(part: &Part<X, D>, other: &PatKey<X>) -> PatKey<X>
     ensures { result ≡ pat_in part.now other.now }
 {
     match part {
@@ -215,7 +303,7 @@ pub fn pat_or<X: Copy>(part: &Part<X>, other: &PatKey<X>) -> PatKey<X>
     }
 }
 
-pub fn value_type_or<X: Copy>(part: &Part<X>, other: &TyKey<X>) -> TyKey<X>
+pub fn value_type_or<X: Copy, D: Copy>(part: &Part<X, D>, other: &TyKey<X>) -> TyKey<X>
     ensures { result ≡ value_type_in part.now other.now }
 {
     match part {
@@ -224,8 +312,60 @@ pub fn value_type_or<X: Copy>(part: &Part<X>, other: &TyKey<X>) -> TyKey<X>
     }
 }
 
+pub fn object_or<X: Copy, D: Copy>(
+    part: &Part<X, D>,
+    other: &ExistentialPredicatesKey<X>,
+) -> ExistentialPredicatesKey<X>
+    ensures { result ≡ object_in part.now other.now }
+{
+    match part {
+        Part::Object(key) => *key,
+        _ => *other,
+    }
+}
+
+// What a binder has, or the given one where the part is no binder, or one over another body.
+pub fn vars_or<X: Copy, D: Copy>(part: &Part<X, D>, other: &BoundVarsKey<X>) -> BoundVarsKey<X>
+    ensures { result ≡ vars_in part.now other.now }
+{
+    match part {
+        Part::Binder(vars, _) => *vars,
+        _ => *other,
+    }
+}
+
+pub fn bound_signature_or<X: Copy, D: Copy>(part: &Part<X, D>, other: &FnSig<X>) -> FnSig<X>
+    ensures { result ≡ bound_signature_in part.now other.now }
+{
+    match part {
+        Part::Binder(_, Body::Signature(sig)) => *sig,
+        _ => *other,
+    }
+}
+
+pub fn bound_ty_or<X: Copy, D: Copy>(part: &Part<X, D>, other: &TyKey<X>) -> TyKey<X>
+    ensures { result ≡ bound_ty_in part.now other.now }
+{
+    match part {
+        Part::Binder(_, Body::Ty(ty)) => *ty,
+        _ => *other,
+    }
+}
+
+// The body that a part is, or the given one.
+pub fn body_or<X: Copy, D: Copy>(part: &Part<X, D>, other: &Body<X, D>) -> Body<X, D>
+    ensures { result ≡ body_in part.now other.now }
+{
+    match part {
+        Part::Signature(sig) => Body::Signature(*sig),
+        Part::Ty(ty) => Body::Ty(*ty),
+        Part::Existential(predicate) => Body::Existential(*predicate),
+        _ => *other,
+    }
+}
+
 // What stands at a place of a list of parts, or the given one where no part of its own stands there.
-pub fn first_or<X: Copy>(parts: &Parts<X>, other: Part<X>) -> Part<X>
+pub fn first_or<X: Copy, D: Copy>(parts: &Parts<X, D>, other: Part<X, D>) -> Part<X, D>
     ensures { result ≡ first_in parts.now other }
 {
     match parts {
@@ -235,7 +375,7 @@ pub fn first_or<X: Copy>(parts: &Parts<X>, other: Part<X>) -> Part<X>
     }
 }
 
-pub fn second_or<X: Copy>(parts: &Parts<X>, other: Part<X>) -> Part<X>
+pub fn second_or<X: Copy, D: Copy>(parts: &Parts<X, D>, other: Part<X, D>) -> Part<X, D>
     ensures { result ≡ second_in parts.now other }
 {
     match parts {
@@ -245,7 +385,7 @@ pub fn second_or<X: Copy>(parts: &Parts<X>, other: Part<X>) -> Part<X>
 }
 
 // The key of a list of parts, or the given one where the list is another.
-pub fn args_or<X: Copy>(parts: &Parts<X>, other: &ArgsKey<X>) -> ArgsKey<X>
+pub fn args_or<X: Copy, D: Copy>(parts: &Parts<X, D>, other: &ArgsKey<X>) -> ArgsKey<X>
     ensures { result ≡ args_in parts.now other.now }
 {
     match parts {
@@ -254,7 +394,25 @@ pub fn args_or<X: Copy>(parts: &Parts<X>, other: &ArgsKey<X>) -> ArgsKey<X>
     }
 }
 
-pub fn tys_or<X: Copy>(parts: &Parts<X>, other: &TysKey<X>) -> TysKey<X>
+pub fn term_or<X: Copy, D: Copy>(parts: &Parts<X, D>, other: &TermKind<X>) -> TermKind<X>
+    ensures { result ≡ term_in parts.now other.now }
+{
+    match parts {
+        Parts::TermArgs(term, _) => *term,
+        _ => *other,
+    }
+}
+
+pub fn term_args_or<X: Copy, D: Copy>(parts: &Parts<X, D>, other: &ArgsKey<X>) -> ArgsKey<X>
+    ensures { result ≡ term_args_in parts.now other.now }
+{
+    match parts {
+        Parts::TermArgs(_, args) => *args,
+        _ => *other,
+    }
+}
+
+pub fn tys_or<X: Copy, D: Copy>(parts: &Parts<X, D>, other: &TysKey<X>) -> TysKey<X>
     ensures { result ≡ tys_in parts.now other.now }
 {
     match parts {
@@ -263,7 +421,7 @@ pub fn tys_or<X: Copy>(parts: &Parts<X>, other: &TysKey<X>) -> TysKey<X>
     }
 }
 
-pub fn branches_or<X: Copy>(parts: &Parts<X>, other: &BranchesKey<X>) -> BranchesKey<X>
+pub fn branches_or<X: Copy, D: Copy>(parts: &Parts<X, D>, other: &BranchesKey<X>) -> BranchesKey<X>
     ensures { result ≡ branches_in parts.now other.now }
 {
     match parts {
@@ -272,7 +430,10 @@ pub fn branches_or<X: Copy>(parts: &Parts<X>, other: &BranchesKey<X>) -> Branche
     }
 }
 
-pub fn alternatives_or<X: Copy>(parts: &Parts<X>, other: &AlternativesKey<X>) -> AlternativesKey<X>
+pub fn alternatives_or<X: Copy, D: Copy>(
+    parts: &Parts<X, D>,
+    other: &AlternativesKey<X>,
+) -> AlternativesKey<X>
     ensures { result ≡ alternatives_in parts.now other.now }
 {
     match parts {

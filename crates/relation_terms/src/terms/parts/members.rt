@@ -1,19 +1,36 @@
 //! Lists of parts: how many members they have, each by its place, and lists of others.
 ghost use Rattle.std.specs.Prelude.{◌≡◌, ◌<◌, IsTrue, IfOk, OnErr, map};
-ghost use Rattle.relation_terms.specs.Trees.{known, count, nth, list_tree, IsList};
+ghost use Rattle.relation_terms.specs.Trees.{known, count, nth, list_tree, IsList, front, last};
 ghost use Rattle.relation_terms.specs.Meaning.{Extends};
 ghost use Rattle.relation_terms.specs.Parts.{part_tree, parts_tree, part_of_arg, Fit, Alike, AreArgs, AreTys};
-ghost use Rattle.relation_terms.specs.Parts.{AreConsts, ArePats};
+ghost use Rattle.relation_terms.specs.Parts.{AreConsts, ArePats, ArePredicates, part_of_predicate, IsTermArgs};
+ghost use Rattle.relation_terms.specs.Parts.{IsTermList};
 ghost use Rattle.relation_terms.specs.declared.terms.part_kind.Part.TheVariants.{Ty as TyPart};
 ghost use Rattle.relation_terms.specs.declared.terms.part_kind.Part.TheVariants.{Const as ConstPart};
 ghost use Rattle.relation_terms.specs.declared.terms.part_kind.Part.TheVariants.{Pat as PatPart};
 
-use crate::terms::parts::keys::{of_arg, the_arg, the_const, the_pat, the_ty};
-use crate::terms::{ConstKey, GenericArgKind, Interner, OutOfMemory, Part, Parts, PatKey, TyKey};
+use crate::predicate::ExistentialPredicate;
+use crate::terms::parts::keys::{
+    of_arg, of_predicate, of_term, the_arg, the_const, the_pat, the_predicate, the_term, the_ty,
+};
+use crate::terms::{
+    Binder, ConstKey, GenericArgKind, Interner, OutOfMemory, Part, PartOf, Parts, PartsOf, PatKey,
+    Ty, TyKey, Tys,
+};
 use std::alloc::Global;
 
+// The last type of a list that has one.
+pub fn last_of<I: Interner>(cx: &I, tys: &Tys<I>) -> Ty<I>
+    requires { IsTrue (known (front ((I.meaning cx.now).tys tys.now))) }
+    ensures sure { IsTrue (known ((I.meaning cx.now).ty result)) }
+    ensures means { (I.meaning cx.now).ty result ≡ last ((I.meaning cx.now).tys tys.now) }
+{
+    let list = cx.tys(tys);
+    list[list.len() - 1]
+}
+
 /// How many members a list of parts has. The interner has to know the list.
-pub fn member_count<I: Interner>(cx: &I, parts: &Parts<I::Key>) -> usize
+pub fn member_count<I: Interner>(cx: &I, parts: &PartsOf<I>) -> usize
     requires { IsTrue (known (parts_tree (I.meaning cx.now) parts.now)) }
     ensures counts { result ≡ count (parts_tree (I.meaning cx.now) parts.now) }
     ensures is_list { IsList (parts_tree (I.meaning cx.now) parts.now) }
@@ -26,13 +43,16 @@ pub fn member_count<I: Interner>(cx: &I, parts: &Parts<I::Key>) -> usize
         Parts::Tys(tys) => cx.tys(tys).len(),
         Parts::Branches(branches) => cx.branches(branches).len(),
         Parts::Alternatives(alternatives) => cx.alternatives(alternatives).len(),
+        Parts::TermArgs(_, args) => 1 + cx.args(args).len(),
+        Parts::Inputs(tys) => cx.tys(tys).len() - 1,
+        Parts::Predicates(predicates) => cx.existential_predicates(predicates).len(),
     }
 }
 
 /// The member of a list of parts at a place.
 ///
 /// The interner has to know the list, and the place has to be below `member_count`. The interner knows the member too.
-pub fn member<I: Interner>(cx: &I, parts: &Parts<I::Key>, i: usize) -> Part<I::Key>
+pub fn member<I: Interner>(cx: &I, parts: &PartsOf<I>, i: usize) -> PartOf<I>
     requires list_known { IsTrue (known (parts_tree (I.meaning cx.now) parts.now)) }
     requires in_bounds { i < count (parts_tree (I.meaning cx.now) parts.now) }
     ensures sure { IsTrue (known (part_tree (I.meaning cx.now) result)) }
@@ -47,11 +67,18 @@ pub fn member<I: Interner>(cx: &I, parts: &Parts<I::Key>, i: usize) -> Part<I::K
         Parts::Tys(tys) => Part::Ty(cx.tys(tys)[i]),
         Parts::Branches(branches) => Part::Const(cx.branches(branches)[i]),
         Parts::Alternatives(alternatives) => Part::Pat(cx.alternatives(alternatives)[i]),
+        Parts::TermArgs(term, _) if i == 0 => of_term(term),
+        Parts::TermArgs(_, args) => of_arg(&cx.args(args)[i - 1]),
+        Parts::Inputs(tys) => Part::Ty(cx.tys(tys)[i]),
+        Parts::Predicates(predicates) => of_predicate(&cx.existential_predicates(predicates)[i]),
     }
 }
 
 // Parts that are arguments, as the list of these.
-fn args_of<X: Copy>(parts: &[Part<X>], alloc: Global) -> Result<Vec<GenericArgKind<X>>, OutOfMemory>
+fn args_of<X: Copy, D: Copy>(
+    parts: &[Part<X, D>],
+    alloc: Global,
+) -> Result<Vec<GenericArgKind<X>>, OutOfMemory>
     requires { AreArgs parts.now }
     ensures { IfOk result (λ list. map part_of_arg list.items ≡ parts.now) }
 {
@@ -63,7 +90,10 @@ fn args_of<X: Copy>(parts: &[Part<X>], alloc: Global) -> Result<Vec<GenericArgKi
 }
 
 // Parts that are types, as the list of these.
-fn tys_of<X: Copy>(parts: &[Part<X>], alloc: Global) -> Result<Vec<TyKey<X>>, OutOfMemory>
+fn tys_of<X: Copy, D: Copy>(
+    parts: &[Part<X, D>],
+    alloc: Global,
+) -> Result<Vec<TyKey<X>>, OutOfMemory>
     requires { AreTys parts.now }
     ensures { IfOk result (λ list. map (λ t. TyPart t) list.items ≡ parts.now) }
 {
@@ -75,7 +105,10 @@ fn tys_of<X: Copy>(parts: &[Part<X>], alloc: Global) -> Result<Vec<TyKey<X>>, Ou
 }
 
 // Parts that are constants, as the list of these.
-fn consts_of<X: Copy>(parts: &[Part<X>], alloc: Global) -> Result<Vec<ConstKey<X>>, OutOfMemory>
+fn consts_of<X: Copy, D: Copy>(
+    parts: &[Part<X, D>],
+    alloc: Global,
+) -> Result<Vec<ConstKey<X>>, OutOfMemory>
     requires { AreConsts parts.now }
     ensures { IfOk result (λ list. map (λ c. ConstPart c) list.items ≡ parts.now) }
 {
@@ -87,7 +120,10 @@ fn consts_of<X: Copy>(parts: &[Part<X>], alloc: Global) -> Result<Vec<ConstKey<X
 }
 
 // Parts that are patterns, as the list of these.
-fn pats_of<X: Copy>(parts: &[Part<X>], alloc: Global) -> Result<Vec<PatKey<X>>, OutOfMemory>
+fn pats_of<X: Copy, D: Copy>(
+    parts: &[Part<X, D>],
+    alloc: Global,
+) -> Result<Vec<PatKey<X>>, OutOfMemory>
     requires { ArePats parts.now }
     ensures { IfOk result (λ list. map (λ p. PatPart p) list.items ≡ parts.now) }
 {
@@ -98,6 +134,89 @@ fn pats_of<X: Copy>(parts: &[Part<X>], alloc: Global) -> Result<Vec<PatKey<X>>, 
     Ok(list)
 }
 
+// Parts that are predicates of a trait object, as the list of these.
+fn predicates_of<X: Copy, D: Copy>(
+    parts: &[Part<X, D>],
+    alloc: Global,
+) -> Result<Vec<Binder<X, ExistentialPredicate<X, D>>>, OutOfMemory>
+    requires { ArePredicates parts.now }
+    ensures { IfOk result (λ list. map part_of_predicate list.items ≡ parts.now) }
+{
+    let mut list = Vec::new(alloc);
+    for part in parts {
+        list.push(the_predicate(part))?;
+    }
+    Ok(list)
+}
+
+// The list of a term, then arguments, of which these are the members.
+fn make_term_args<I: Interner>(cx: &mut I, members: &[PartOf<I>]) -> Result<PartsOf<I>, OutOfMemory>
+    requires members_known { IsTrue (known (list_tree (part_tree (I.meaning cx.old)) members.now)) }
+    requires fits { IsTermList members.now }
+    ensures grown { Extends (I.meaning cx.old) (I.meaning cx.new) }
+    ensures sure { IfOk result (λ ps. IsTrue (known (parts_tree (I.meaning cx.new) ps))) }
+    ensures made { IfOk result (λ ps. parts_tree (I.meaning cx.new) ps ≡
+        list_tree (part_tree (I.meaning cx.old)) members.now) }
+    ensures is { IfOk result (λ ps. IsTermArgs ps) }
+    ensures refused { OnErr result (I.meaning cx.new ≡ I.meaning cx.old) }
+{
+    let term = the_term(&members[0]);
+    let list = args_of(&members[1..], cx.alloc())?;
+    let made = cx.mk_args(&list)?;
+    Ok(Parts::TermArgs(term, made))
+}
+
+// The inputs that these members are, before the last type of a list.
+fn make_inputs<I: Interner>(
+    cx: &mut I,
+    tys: &Tys<I>,
+    members: &[PartOf<I>],
+) -> Result<Tys<I>, OutOfMemory>
+    requires tys_known { IsTrue (known (front ((I.meaning cx.old).tys tys.now))) }
+    requires members_known { IsTrue (known (list_tree (part_tree (I.meaning cx.old)) members.now)) }
+    requires fits { AreTys members.now }
+    ensures grown { Extends (I.meaning cx.old) (I.meaning cx.new) }
+    ensures sure { IfOk result (λ k. IsTrue (known (front ((I.meaning cx.new).tys k)))) }
+    ensures made { IfOk result (λ k. front ((I.meaning cx.new).tys k) ≡
+        list_tree (part_tree (I.meaning cx.old)) members.now) }
+    ensures refused { OnErr result (I.meaning cx.new ≡ I.meaning cx.old) }
+{
+    let last = last_of(cx, tys);
+    let mut list = tys_of(members, cx.alloc())?;
+    list.push(last)?;
+    cx.mk_type_list(&list)
+}
+
+// The list of the same inputs and another output.
+pub fn with_output<I: Interner>(
+    cx: &mut I,
+    tys: &Tys<I>,
+    output: Ty<I>,
+) -> Result<Tys<I>, OutOfMemory>
+    requires tys_known { IsTrue (known (front ((I.meaning cx.old).tys tys.now))) }
+    requires output_known { IsTrue (known ((I.meaning cx.old).ty output)) }
+    ensures grown { Extends (I.meaning cx.old) (I.meaning cx.new) }
+    ensures sure { IfOk result (λ k. IsTrue (known (front ((I.meaning cx.new).tys k)))) }
+    ensures inputs { IfOk result (λ k.
+        front ((I.meaning cx.new).tys k) ≡ front ((I.meaning cx.old).tys tys.now)) }
+    ensures output { IfOk result (λ k. last ((I.meaning cx.new).tys k) ≡ (I.meaning cx.old).ty output) }
+{
+    let mut list = inputs_of(cx, tys)?;
+    list.push(output)?;
+    cx.mk_type_list(&list)
+}
+
+// All types of a list but the last.
+fn inputs_of<I: Interner>(cx: &I, tys: &Tys<I>) -> Result<Vec<Ty<I>>, OutOfMemory>
+    requires { IsTrue (known (front ((I.meaning cx.now).tys tys.now))) }
+    ensures { IfOk result (λ list. list_tree (I.meaning cx.now).ty list.items ≡ front ((I.meaning cx.now).tys tys.now)) }
+{
+    let list = cx.tys(tys);
+    let mut inputs = Vec::new(cx.alloc());
+    inputs.extend_from_slice(&list[..list.len() - 1])?;
+    Ok(inputs)
+}
+
 /// The list of these members, which stands as that one does: `members` has as many as `like`, each of the sort of the
 /// one at its place.
 ///
@@ -105,9 +224,9 @@ fn pats_of<X: Copy>(parts: &[Part<X>], alloc: Global) -> Result<Vec<PatKey<X>>, 
 /// as it was.
 pub fn make_parts<I: Interner>(
     cx: &mut I,
-    like: &Parts<I::Key>,
-    members: &[Part<I::Key>],
-) -> Result<Parts<I::Key>, OutOfMemory>
+    like: &PartsOf<I>,
+    members: &[PartOf<I>],
+) -> Result<PartsOf<I>, OutOfMemory>
     requires like_known { IsTrue (known (parts_tree (I.meaning cx.old) like.now)) }
     requires members_known { IsTrue (known (list_tree (part_tree (I.meaning cx.old)) members.now)) }
     requires fits { Fit members.now (parts_tree (I.meaning cx.old) like.now) }
@@ -141,6 +260,13 @@ pub fn make_parts<I: Interner>(
             let list = pats_of(members, cx.alloc())?;
             let made = cx.mk_alternatives(&list)?;
             Ok(Parts::Alternatives(made))
+        }
+        Parts::TermArgs(..) => make_term_args(cx, members),
+        Parts::Inputs(tys) => Ok(Parts::Inputs(make_inputs(cx, tys, members)?)),
+        Parts::Predicates(_) => {
+            let list = predicates_of(members, cx.alloc())?;
+            let made = cx.mk_existential_predicates(&list)?;
+            Ok(Parts::Predicates(made))
         }
     }
 }

@@ -1,20 +1,28 @@
 //! Terms and their parts: from a term to the list of its parts, and to a term of its form over others.
 ghost use Rattle.std.specs.Prelude.{◌≡◌, ◌<◌, IsTrue, IfOk};
 ghost use Rattle.relation_terms.specs.Trees.{known, count, nth, list_tree, IsList};
-ghost use Rattle.relation_terms.specs.Meaning.{Extends};
+ghost use Rattle.relation_terms.specs.Meaning.{Extends, signature_tree, existential_tree};
+ghost use Rattle.relation_terms.specs.declared.terms.part_kind.Part.TheVariants.{Binder as BinderPart, Signature as SignaturePart};
+ghost use Rattle.relation_terms.specs.declared.terms.part_kind.Part.TheVariants.{Inputs as InputsPart, Object as ObjectPart};
+ghost use Rattle.relation_terms.specs.declared.terms.part_kind.Part.TheVariants.{Existential as ExistentialPart};
 ghost use Rattle.relation_terms.specs.Parts.{part_tree, parts_tree, part_sort, Fit, over};
 ghost use Rattle.relation_terms.specs.Parts.{parts_of as list_of_parts};
 
+use crate::predicate::ExistentialPredicate;
 use crate::terms::parts::forms::{
-    const_over, const_parts, pattern_over, pattern_parts, ty_over, ty_parts, valtree_over,
-    valtree_parts,
+    const_over, const_parts, existential_over, existential_parts, pattern_over, pattern_parts,
+    ty_over, ty_parts, valtree_over, valtree_parts,
 };
-use crate::terms::parts::keys::the_ty;
-use crate::terms::parts::{make_parts, member, member_count};
-use crate::terms::{Const, Interner, OutOfMemory, Part, Parts, Pat, Ty, ValTree};
+use crate::terms::parts::keys::{body_or, of_body, the_inputs, the_ty};
+use crate::terms::parts::members::{last_of, with_output};
+use crate::terms::parts::{make_parts, member, member_count, the_input_types, the_predicates};
+use crate::terms::{
+    Const, ExistentialPredicates, FnSig, Interner, OutOfMemory, Part, PartOf, Parts, PartsOf, Pat,
+    Ty, Tys, ValTree,
+};
 
 /// The list of the parts of a term. The interner has to know the term, and knows the list too.
-pub fn parts_of<I: Interner>(cx: &I, term: &Part<I::Key>) -> Parts<I::Key>
+pub fn parts_of<I: Interner>(cx: &I, term: &PartOf<I>) -> PartsOf<I>
     requires { IsTrue (known (part_tree (I.meaning cx.now) term.now)) }
     ensures sure { IsTrue (known (parts_tree (I.meaning cx.now) result)) }
     ensures means { parts_tree (I.meaning cx.now) result ≡ list_of_parts (part_tree (I.meaning cx.now) term.now) }
@@ -26,11 +34,19 @@ pub fn parts_of<I: Interner>(cx: &I, term: &Part<I::Key>) -> Parts<I::Key>
         Part::ValTree(valtree) => valtree_parts(&cx.valtree_kind(valtree)),
         Part::Pat(pat) => pattern_parts(&cx.pat_kind(pat)),
         Part::ValueType(ty) => Parts::One(Part::Ty(*ty)),
+        Part::Binder(_, body) => Parts::One(of_body(body)),
+        Part::Signature(sig) => {
+            let types = sig.inputs_and_output;
+            Parts::Two(Part::Inputs(types), Part::Ty(last_of(cx, &types)))
+        }
+        Part::Inputs(types) => Parts::Inputs(*types),
+        Part::Existential(predicate) => existential_parts(predicate),
+        Part::Object(predicates) => Parts::Predicates(*predicates),
     }
 }
 
 /// How many parts a term has. The interner has to know the term.
-pub fn parts_count<I: Interner>(cx: &I, term: &Part<I::Key>) -> usize
+pub fn parts_count<I: Interner>(cx: &I, term: &PartOf<I>) -> usize
     requires { IsTrue (known (part_tree (I.meaning cx.now) term.now)) }
     ensures counts { result ≡ count (list_of_parts (part_tree (I.meaning cx.now) term.now)) }
     ensures is_list { IsList (list_of_parts (part_tree (I.meaning cx.now) term.now)) }
@@ -41,7 +57,7 @@ pub fn parts_count<I: Interner>(cx: &I, term: &Part<I::Key>) -> usize
 /// The part of a term at a place. Places count from 0.
 ///
 /// The interner has to know the term, and the place has to be below `parts_count`. The interner knows the part too.
-pub fn part<I: Interner>(cx: &I, term: &Part<I::Key>, i: usize) -> Part<I::Key>
+pub fn part<I: Interner>(cx: &I, term: &PartOf<I>, i: usize) -> PartOf<I>
     requires term_known { IsTrue (known (part_tree (I.meaning cx.now) term.now)) }
     requires in_bounds { i < count (list_of_parts (part_tree (I.meaning cx.now) term.now)) }
     ensures sure { IsTrue (known (part_tree (I.meaning cx.now) result)) }
@@ -55,7 +71,7 @@ pub fn part<I: Interner>(cx: &I, term: &Part<I::Key>, i: usize) -> Part<I::Key>
 fn ty_with_parts<I: Interner>(
     cx: &mut I,
     ty: &Ty<I>,
-    parts: &[Part<I::Key>],
+    parts: &[PartOf<I>],
 ) -> Result<Ty<I>, OutOfMemory>
     requires term_known { IsTrue (known ((I.meaning cx.old).ty ty.now)) }
     requires parts_known { IsTrue (known (list_tree (part_tree (I.meaning cx.old)) parts.now)) }
@@ -74,7 +90,7 @@ fn ty_with_parts<I: Interner>(
 fn const_with_parts<I: Interner>(
     cx: &mut I,
     constant: &Const<I>,
-    parts: &[Part<I::Key>],
+    parts: &[PartOf<I>],
 ) -> Result<Const<I>, OutOfMemory>
     requires term_known { IsTrue (known ((I.meaning cx.old).const_ constant.now)) }
     requires parts_known { IsTrue (known (list_tree (part_tree (I.meaning cx.old)) parts.now)) }
@@ -93,7 +109,7 @@ fn const_with_parts<I: Interner>(
 fn valtree_with_parts<I: Interner>(
     cx: &mut I,
     valtree: &ValTree<I>,
-    parts: &[Part<I::Key>],
+    parts: &[PartOf<I>],
 ) -> Result<ValTree<I>, OutOfMemory>
     requires term_known { IsTrue (known ((I.meaning cx.old).valtree valtree.now)) }
     requires parts_known { IsTrue (known (list_tree (part_tree (I.meaning cx.old)) parts.now)) }
@@ -112,7 +128,7 @@ fn valtree_with_parts<I: Interner>(
 fn pat_with_parts<I: Interner>(
     cx: &mut I,
     pat: &Pat<I>,
-    parts: &[Part<I::Key>],
+    parts: &[PartOf<I>],
 ) -> Result<Pat<I>, OutOfMemory>
     requires term_known { IsTrue (known ((I.meaning cx.old).pat pat.now)) }
     requires parts_known { IsTrue (known (list_tree (part_tree (I.meaning cx.old)) parts.now)) }
@@ -127,15 +143,93 @@ fn pat_with_parts<I: Interner>(
     cx.mk_pat(pattern_over(&kind, &made))
 }
 
+// The signature over these parts, inputs and an output, with that one's header.
+fn signature_with_parts<I: Interner>(
+    cx: &mut I,
+    sig: &FnSig<I::Key>,
+    parts: &[PartOf<I>],
+) -> Result<FnSig<I::Key>, OutOfMemory>
+    requires term_known { IsTrue (known (signature_tree (I.meaning cx.old) sig.now)) }
+    requires parts_known { IsTrue (known (list_tree (part_tree (I.meaning cx.old)) parts.now)) }
+    requires fits { Fit parts.now (list_of_parts (signature_tree (I.meaning cx.old) sig.now)) }
+    ensures grown { Extends (I.meaning cx.old) (I.meaning cx.new) }
+    ensures sure { IfOk result (λ s. IsTrue (known (signature_tree (I.meaning cx.new) s))) }
+    ensures made { IfOk result (λ s. signature_tree (I.meaning cx.new) s ≡
+        over (signature_tree (I.meaning cx.old) sig.now) (list_tree (part_tree (I.meaning cx.old)) parts.now)) }
+{
+    let types = with_output(cx, &the_inputs(&parts[0]), the_ty(&parts[1]))?;
+    Ok(FnSig {
+        inputs_and_output: types,
+        header: sig.header,
+    })
+}
+
+// The predicate of a trait object over these parts.
+fn existential_with_parts<I: Interner>(
+    cx: &mut I,
+    predicate: &ExistentialPredicate<I::Key, I::Id>,
+    parts: &[PartOf<I>],
+) -> Result<ExistentialPredicate<I::Key, I::Id>, OutOfMemory>
+    requires term_known { IsTrue (known (existential_tree (I.meaning cx.old) predicate.now)) }
+    requires parts_known { IsTrue (known (list_tree (part_tree (I.meaning cx.old)) parts.now)) }
+    requires fits { Fit parts.now (list_of_parts (existential_tree (I.meaning cx.old) predicate.now)) }
+    ensures grown { Extends (I.meaning cx.old) (I.meaning cx.new) }
+    ensures sure { IfOk result (λ p. IsTrue (known (existential_tree (I.meaning cx.new) p))) }
+    ensures made { IfOk result (λ p. existential_tree (I.meaning cx.new) p ≡
+        over (existential_tree (I.meaning cx.old) predicate.now)
+        (list_tree (part_tree (I.meaning cx.old)) parts.now)) }
+{
+    let made = make_parts(cx, &existential_parts(predicate), parts)?;
+    Ok(existential_over(predicate, &made))
+}
+
+// The list of inputs that these are.
+fn inputs_with_parts<I: Interner>(
+    cx: &mut I,
+    tys: &Tys<I>,
+    parts: &[PartOf<I>],
+) -> Result<Tys<I>, OutOfMemory>
+    requires term_known { IsTrue (known (part_tree (I.meaning cx.old) (InputsPart tys.now))) }
+    requires parts_known { IsTrue (known (list_tree (part_tree (I.meaning cx.old)) parts.now)) }
+    requires fits { Fit parts.now (list_of_parts (part_tree (I.meaning cx.old) (InputsPart tys.now))) }
+    ensures grown { Extends (I.meaning cx.old) (I.meaning cx.new) }
+    ensures sure { IfOk result (λ k. IsTrue (known (part_tree (I.meaning cx.new) (InputsPart k)))) }
+    ensures made { IfOk result (λ k. part_tree (I.meaning cx.new) (InputsPart k) ≡
+        over (part_tree (I.meaning cx.old) (InputsPart tys.now))
+        (list_tree (part_tree (I.meaning cx.old)) parts.now)) }
+{
+    let made = make_parts(cx, &Parts::Inputs(*tys), parts)?;
+    Ok(the_input_types(&made))
+}
+
+// The list of a trait object's predicates that these are.
+fn object_with_parts<I: Interner>(
+    cx: &mut I,
+    predicates: &ExistentialPredicates<I>,
+    parts: &[PartOf<I>],
+) -> Result<ExistentialPredicates<I>, OutOfMemory>
+    requires term_known { IsTrue (known (part_tree (I.meaning cx.old) (ObjectPart predicates.now))) }
+    requires parts_known { IsTrue (known (list_tree (part_tree (I.meaning cx.old)) parts.now)) }
+    requires fits { Fit parts.now (list_of_parts (part_tree (I.meaning cx.old) (ObjectPart predicates.now))) }
+    ensures grown { Extends (I.meaning cx.old) (I.meaning cx.new) }
+    ensures sure { IfOk result (λ k. IsTrue (known (part_tree (I.meaning cx.new) (ObjectPart k)))) }
+    ensures made { IfOk result (λ k. part_tree (I.meaning cx.new) (ObjectPart k) ≡
+        over (part_tree (I.meaning cx.old) (ObjectPart predicates.now))
+        (list_tree (part_tree (I.meaning cx.old)) parts.now)) }
+{
+    let made = make_parts(cx, &Parts::Predicates(*predicates), parts)?;
+    Ok(the_predicates(&made))
+}
+
 /// The term of that one's form over these parts, as many as it has and each of the sort of the part at its place.
 ///
 /// The interner has to know the term and the parts. Answers `OutOfMemory` where a growth was refused. All keys keep
 /// their meanings.
 pub fn with_parts<I: Interner>(
     cx: &mut I,
-    term: &Part<I::Key>,
-    parts: &[Part<I::Key>],
-) -> Result<Part<I::Key>, OutOfMemory>
+    term: &PartOf<I>,
+    parts: &[PartOf<I>],
+) -> Result<PartOf<I>, OutOfMemory>
     requires term_known { IsTrue (known (part_tree (I.meaning cx.old) term.now)) }
     requires parts_known { IsTrue (known (list_tree (part_tree (I.meaning cx.old)) parts.now)) }
     requires fits { Fit parts.now (list_of_parts (part_tree (I.meaning cx.old) term.now)) }
@@ -152,5 +246,12 @@ pub fn with_parts<I: Interner>(
         Part::ValTree(valtree) => Ok(Part::ValTree(valtree_with_parts(cx, valtree, parts)?)),
         Part::Pat(pat) => Ok(Part::Pat(pat_with_parts(cx, pat, parts)?)),
         Part::ValueType(_) => Ok(Part::ValueType(the_ty(&parts[0]))),
+        Part::Binder(vars, body) => Ok(Part::Binder(*vars, body_or(&parts[0], body))),
+        Part::Signature(sig) => Ok(Part::Signature(signature_with_parts(cx, sig, parts)?)),
+        Part::Inputs(types) => Ok(Part::Inputs(inputs_with_parts(cx, types, parts)?)),
+        Part::Existential(predicate) => {
+            Ok(Part::Existential(existential_with_parts(cx, predicate, parts)?))
+        }
+        Part::Object(predicates) => Ok(Part::Object(object_with_parts(cx, predicates, parts)?)),
     }
 }

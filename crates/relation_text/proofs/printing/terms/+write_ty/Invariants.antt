@@ -1,6 +1,7 @@
 use Rattle.std.proofs.Common.{◌+◌, ◌*◌}
 use Rattle.relation_terms.specs.Trees.{size}
-use Rattle.relation_terms.specs.Meaning.{arg_tree}
+use Rattle.relation_terms.specs.Meaning.{arg_tree, under, sig_of, signature_tree, term_tree}
+use Rattle.relation_terms.specs.Meaning.{existential_tree, object_predicate_tree}
 use Rattle.relation_text.proofs.printing.terms.+write_ty.Given as goal
 
 abbrev pub decreases-write_ty : goal.decreases-write_ty
@@ -51,3 +52,41 @@ decreases-write_const g l = 4 * size ((g.I.Interner.meaning l.cx.now).const_ l.c
 
 abbrev pub decreases-write_valtree : goal.decreases-write_valtree
 decreases-write_valtree g l = 4 * size ((g.I.Interner.meaning l.cx.now).valtree l.value.now)
+
+abbrev pub decreases-write_operand : goal.decreases-write_operand
+decreases-write_operand g l = 4 * size ((g.I.Interner.meaning l.cx.now).ty l.ty.now) + 1
+
+abbrev pub decreases-write_fn_ptr : goal.decreases-write_fn_ptr
+decreases-write_fn_ptr g l =
+    let m = g.I.Interner.meaning l.cx.now in
+    4 * size (under (m.bound_vars (l.types.now).bound_vars) (signature_tree m (sig_of (l.types.now).value l.header.now)))
+
+abbrev pub decreases-write_signature : goal.decreases-write_signature
+decreases-write_signature g l = 4 * size ((g.I.Interner.meaning l.cx.now).tys l.types.now)
+
+abbrev pub decreases-write_unsafe_binder : goal.decreases-write_unsafe_binder
+decreases-write_unsafe_binder g l =
+    let m = g.I.Interner.meaning l.cx.now in
+    4 * size (under (m.bound_vars (l.body.now).bound_vars) (m.ty (l.body.now).value))
+
+abbrev pub decreases-write_object : goal.decreases-write_object
+decreases-write_object g l =
+    4 * size ((g.I.Interner.meaning l.cx.now).existential_predicates l.predicates.now) + 1
+
+abbrev pub decreases-write_object_predicates : goal.decreases-write_object_predicates
+decreases-write_object_predicates g l =
+    4 * size ((g.I.Interner.meaning l.cx.now).existential_predicates l.predicates.now)
+
+abbrev pub decreases-write_object_predicate : goal.decreases-write_object_predicate
+decreases-write_object_predicate g l = 4 * size (object_predicate_tree (g.I.Interner.meaning l.cx.now) l.predicate)
+
+abbrev pub decreases-write_existential : goal.decreases-write_existential
+decreases-write_existential g l = 4 * size (existential_tree (g.I.Interner.meaning l.cx.now) l.predicate.now)
+
+abbrev pub decreases-write_projection : goal.decreases-write_projection
+decreases-write_projection g l =
+    let m = g.I.Interner.meaning l.cx.now in
+    4 * (size (m.args (l.of.now).args) + size (term_tree m (l.of.now).term)) + 2
+
+abbrev pub decreases-write_term : goal.decreases-write_term
+decreases-write_term g l = 4 * size (term_tree (g.I.Interner.meaning l.cx.now) l.term.now) + 2

@@ -1,7 +1,6 @@
-use Rattle.std.proofs.Common.{◌∙◌, ap}
-use Rattle.std.specs.HashMap.{get}
+use Rattle.std.proofs.Common.{◌∙◌, sym}
 use Rattle.relation_terms.proofs.Parts.{same_part}
-use Rattle.relation_tools.proofs.Remembering.{place_eq, recalled}
+use Rattle.relation_tools.proofs.Remembering.{recalled}
 use Rattle.relation_tools.proofs.fold.memory.recall.Goals as goal
 
 pub returns : goal.returns
@@ -11,7 +10,6 @@ returns g c =
     let eq = g.I.Key.PartialEq.eq in
     let laws = g.met.I.Interner in
     let a = c.args.cx.now in
-    let memory = c.args.memory.now in
-    let found = c.copied.ensures ∙ c.get.ensures.value ∙ ap (get (place_eq eq) memory) c.place_of.ensures in
     recalled m puts eq (same_part m eq (laws.same_ty a) (laws.same_region a) (laws.same_const a) (laws.same_valtree a)
-    (laws.same_pat a)) memory c.requires.remembers c.args.part.now c.args.depth c.requires.known c.copied.result found
+    (laws.same_pat a) (laws.same_existential_predicates a)) c.args.memory.now c.requires.remembers c.args.part.now
+    c.args.depth c.in_ok-place.place (sym c.place_of.ensures ∙ c.in_ok-place.was) c.requires.known c.copied.result (c.copied.ensures ∙ c.get.ensures.value)

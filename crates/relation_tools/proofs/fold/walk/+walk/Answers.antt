@@ -5,12 +5,13 @@ use Rattle.relation_terms.proofs.Stays.{knows_as}
 use Rattle.relation_terms.proofs.Sorted.{Sorted}
 use Rattle.relation_terms.proofs.Members.{member_small, parts_small}
 use Rattle.relation_terms.proofs.Parts.{sort_known, stays_part, stays_parts}
-use Rattle.relation_tools.specs.Folds.{Folds, KnownAnswer, IsMade, folded, folded_parts}
+use Rattle.relation_tools.specs.Folds.{Folds, KnownAnswer, IsMade, folded, folded_parts, inside}
 use Rattle.relation_tools.proofs.Folding.{steps_none, steps_on, steps_grown, folded_later, parts_later, later, if_ok}
 use Rattle.relation_tools.proofs.Remembering.{place_eq, remembers_on}
 use Rattle.relation_tools.proofs.Members.{built_none, built_next, built_all, left_more, left_all, whole_made}
 use Rattle.relation_tools.proofs.Members.{whole_left}
 use Rattle.relation_tools.proofs.Members.{some_sure, some_made, some_fits, none_made}
+use Rattle.relation_tools.proofs.Depths.{inside_known}
 use Rattle.relation_tools.proofs.fold.walk.+walk.Goals as goal
 
 pub fold_met-returns-in-Some : goal.fold_met-returns-in-Some
@@ -152,22 +153,37 @@ fold_inside-returns-in-Some g t' c =
     let n = g.I.Interner.meaning c.fold_members.new.cx in
     let p = g.F.TypeFolder.replaces m c.args.folder.now in
     let x = c.args.part.now in
+    let sorted : Sorted m = record {
+      ty = g.met.I.Interner.is_ty c.args.cx.now;
+      region = g.met.I.Interner.is_region c.args.cx.now;
+      tys = g.met.I.Interner.are_tys c.args.cx.now;
+      const_ = g.met.I.Interner.is_const c.args.cx.now;
+      valtree = g.met.I.Interner.is_valtree c.args.cx.now;
+      args = g.met.I.Interner.are_args c.args.cx.now;
+      branches = g.met.I.Interner.are_branches c.args.cx.now;
+      pat = g.met.I.Interner.is_pat c.args.cx.now;
+      alternatives = g.met.I.Interner.are_alternatives c.args.cx.now;
+      existential_predicates = g.met.I.Interner.are_existential_predicates c.args.cx.now;
+    } in
+    let deep : c.in_ok-inside.inside ≡ inside (part_tree m x) c.args.depth =
+    c.in_ok-inside.ensures ∙ inside_known m sorted x c.args.depth c.requires.known in
     let ts = parts_tree m c.parts_of.result in
     let us = list_tree (part_tree n) c.deref.result.now in
     let r = c.in_ok-made.ensures in
     let o = c.with_parts.ensures in
     let e : part_tree n x ≡ part_tree m x = stays_part r.steps.grown x c.requires.known in
-    let q : us ≡ folded p c.args.depth (parts_of (part_tree m x)) =
+    let q : us ≡ folded p c.in_ok-inside.inside (parts_of (part_tree m x)) =
     ap (list_tree (part_tree n)) c.deref.ensures.value
     ∙ (some_made (λ l. l.items) (part_tree n) ts c.in-Some.is r.made
-    ∙ ap (folded p c.args.depth) c.parts_of.ensures.means) in
+    ∙ ap (folded p c.in_ok-inside.inside) c.parts_of.ensures.means) in
     record {
       steps = steps_grown g.met.F.TypeFolder.ready_on g.met.F.TypeFolder.replaces_on r.steps o.grown;
       remembers = remembers_on (steps_grown g.met.F.TypeFolder.ready_on g.met.F.TypeFolder.replaces_on
           (steps_none n c.fold_members.new.folder r.steps.ready) o.grown) (place_eq g.I.Key.PartialEq.eq)
           c.fold_members.new.memory r.remembers;
       sure = o.sure;
-      made = if_ok c.with_parts.result (λ y h. h ∙ whole_made p c.args.depth (part_tree m x) (part_tree n x) us e q)
+      made = if_ok c.with_parts.result (λ y h. h ∙ whole_made p c.args.depth c.in_ok-inside.inside (part_tree m x)
+          (part_tree n x) us deep e q)
           o.made;
       sort = o.sort;
     }
@@ -178,6 +194,20 @@ fold_inside-returns-in-None g t' c =
     let n = g.I.Interner.meaning c.fold_members.new.cx in
     let p = g.F.TypeFolder.replaces m c.args.folder.now in
     let x = c.args.part.now in
+    let sorted : Sorted m = record {
+      ty = g.met.I.Interner.is_ty c.args.cx.now;
+      region = g.met.I.Interner.is_region c.args.cx.now;
+      tys = g.met.I.Interner.are_tys c.args.cx.now;
+      const_ = g.met.I.Interner.is_const c.args.cx.now;
+      valtree = g.met.I.Interner.is_valtree c.args.cx.now;
+      args = g.met.I.Interner.are_args c.args.cx.now;
+      branches = g.met.I.Interner.are_branches c.args.cx.now;
+      pat = g.met.I.Interner.is_pat c.args.cx.now;
+      alternatives = g.met.I.Interner.are_alternatives c.args.cx.now;
+      existential_predicates = g.met.I.Interner.are_existential_predicates c.args.cx.now;
+    } in
+    let deep : c.in_ok-inside.inside ≡ inside (part_tree m x) c.args.depth =
+    c.in_ok-inside.ensures ∙ inside_known m sorted x c.args.depth c.requires.known in
     let ts = parts_tree m c.parts_of.result in
     let r = c.in_ok-made.ensures in
     let e : part_tree n x ≡ part_tree m x = stays_part r.steps.grown x c.requires.known in
@@ -185,9 +215,10 @@ fold_inside-returns-in-None g t' c =
       steps = r.steps;
       remembers = r.remembers;
       sure = knows_as (part_tree m x) (part_tree n x) e c.requires.known;
-      made = e ∙ whole_left p c.args.depth (part_tree m x) ts c.parts_of.ensures.means
+      made = e ∙ whole_left p c.args.depth c.in_ok-inside.inside (part_tree m x) ts deep
+          c.parts_of.ensures.means
           (none_made (λ l. l.items) (part_tree n) ts c.in-None.is r.made
-          ∙ ap (folded p c.args.depth) c.parts_of.ensures.means);
+          ∙ ap (folded p c.in_ok-inside.inside) c.parts_of.ensures.means);
       sort = refl;
     }
 
@@ -292,6 +323,7 @@ fold_members-loop-i-preserved g t' c =
       branches = g.met.I.Interner.are_branches c.loop-i.cx;
       pat = g.met.I.Interner.is_pat c.loop-i.cx;
       alternatives = g.met.I.Interner.are_alternatives c.loop-i.cx;
+      existential_predicates = g.met.I.Interner.are_existential_predicates c.loop-i.cx;
     } in
     record {
       steps = steps_on s r.steps;
@@ -301,7 +333,7 @@ fold_members-loop-i-preserved g t' c =
           (r.sort ∙ sym (sort_known n sorted x c.member-old.ensures.sure) ∙ ap tree_sort at)
           c.in_ok-push.ensures.items;
       left = λ k. left_more p d c.loop-i.same c.is_same-same.result i (i + 1) ts (part_tree o x) (part_tree o y)
-          c.loop-i.invariant.left (λ b. (c.is_same-same.ensures).0 b) made (stay ∙ at) next below k;
+          c.loop-i.invariant.left (c.is_same-same.ensures).one made (stay ∙ at) next below k;
     }
 
 pub fold_members-returns-then-same : goal.fold_members-returns-then-same

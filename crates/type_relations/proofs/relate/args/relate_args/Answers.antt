@@ -40,6 +40,7 @@ loop-i-init g c =
       branches = g.met.I.Interner.are_branches cx;
       pat = g.met.I.Interner.is_pat cx;
       alternatives = g.met.I.Interner.are_alternatives cx;
+      existential_predicates = g.met.I.Interner.are_existential_predicates cx;
     }) in
     record {
       lawful = c.requires.lawful;

@@ -460,6 +460,7 @@ relate-returns-in_default g t c =
       branches = g.met.I.Interner.are_branches cx;
       pat = g.met.I.Interner.is_pat cx;
       alternatives = g.met.I.Interner.are_alternatives cx;
+      existential_predicates = g.met.I.Interner.are_existential_predicates cx;
     }) in
     let k = c.requires.asked in
     record {
@@ -485,6 +486,7 @@ relate-returns-in_default-b g t c =
       branches = g.met.I.Interner.are_branches cx;
       pat = g.met.I.Interner.is_pat cx;
       alternatives = g.met.I.Interner.are_alternatives cx;
+      existential_predicates = g.met.I.Interner.are_existential_predicates cx;
     }) in
     let k = c.requires.asked in
     record {
@@ -510,6 +512,7 @@ relate-returns-in_default-b-2 g t c =
       branches = g.met.I.Interner.are_branches cx;
       pat = g.met.I.Interner.is_pat cx;
       alternatives = g.met.I.Interner.are_alternatives cx;
+      existential_predicates = g.met.I.Interner.are_existential_predicates cx;
     }) in
     let k = c.requires.asked in
     record {
@@ -654,6 +657,7 @@ structurally_relate_consts-returns-in_err-compare_consts_of g t c =
       branches = g.met.I.Interner.are_branches cx;
       pat = g.met.I.Interner.is_pat cx;
       alternatives = g.met.I.Interner.are_alternatives cx;
+      existential_predicates = g.met.I.Interner.are_existential_predicates cx;
     }) in
     let n = c.in_err-compare_consts_of in
     let k = c.requires.asked in
@@ -681,6 +685,7 @@ structurally_relate_consts-loop-i-init g t c =
       branches = g.met.I.Interner.are_branches cx;
       pat = g.met.I.Interner.is_pat cx;
       alternatives = g.met.I.Interner.are_alternatives cx;
+      existential_predicates = g.met.I.Interner.are_existential_predicates cx;
     }) in
     let k = c.requires.asked in
     let alike = (c.in_ok-compare_consts_of.ensures).alike in
@@ -842,6 +847,7 @@ structurally_relate_consts-loop-i-preserved g t c =
       branches = g.met.I.Interner.are_branches cx;
       pat = g.met.I.Interner.is_pat cx;
       alternatives = g.met.I.Interner.are_alternatives cx;
+      existential_predicates = g.met.I.Interner.are_existential_predicates cx;
     }) in
     let kind = subst (λ u. IfOk u (λ k. arg_sort k ≡ arg_sort X)) z (related.ensures).kind in
     let was = c.loop-i.answers.items in
@@ -998,6 +1004,7 @@ structurally_relate_tys-returns-in_err-compare_tys_of g t c =
       branches = g.met.I.Interner.are_branches cx;
       pat = g.met.I.Interner.is_pat cx;
       alternatives = g.met.I.Interner.are_alternatives cx;
+      existential_predicates = g.met.I.Interner.are_existential_predicates cx;
     }) in
     let n = c.in_err-compare_tys_of in
     let k = c.requires.asked in
@@ -1025,6 +1032,7 @@ structurally_relate_tys-loop-i-init g t c =
       branches = g.met.I.Interner.are_branches cx;
       pat = g.met.I.Interner.is_pat cx;
       alternatives = g.met.I.Interner.are_alternatives cx;
+      existential_predicates = g.met.I.Interner.are_existential_predicates cx;
     }) in
     let k = c.requires.asked in
     let alike = (c.in_ok-compare_tys_of.ensures).alike in
@@ -1156,6 +1164,7 @@ structurally_relate_tys-returns-in_err-answer g t c =
       branches = g.met.I.Interner.are_branches cx;
       pat = g.met.I.Interner.is_pat cx;
       alternatives = g.met.I.Interner.are_alternatives cx;
+      existential_predicates = g.met.I.Interner.are_existential_predicates cx;
     }) in
     let n = c.in_err-answer in
     let z = failed_ty a X Y related.result n.field-0.0
@@ -1222,6 +1231,7 @@ structurally_relate_tys-loop-i-preserved g t c =
       branches = g.met.I.Interner.are_branches cx;
       pat = g.met.I.Interner.is_pat cx;
       alternatives = g.met.I.Interner.are_alternatives cx;
+      existential_predicates = g.met.I.Interner.are_existential_predicates cx;
     }) in
     let kind = subst (λ u. IfOk u (λ k. arg_sort k ≡ arg_sort X)) z (related.ensures).kind in
     let was = c.loop-i.answers.items in

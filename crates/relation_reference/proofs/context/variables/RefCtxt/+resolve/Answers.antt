@@ -130,6 +130,7 @@ resolve_inside-loop-i-preserved g t' c =
       branches = g.met.I.Interner.are_branches c.loop-i.self.interner;
       pat = g.met.I.Interner.is_pat c.loop-i.self.interner;
       alternatives = g.met.I.Interner.are_alternatives c.loop-i.self.interner;
+      existential_predicates = g.met.I.Interner.are_existential_predicates c.loop-i.self.interner;
     } in
     let next : i + 1 ≡ suc i = omega arith in
     let was = part_was inv.grown x y c.requires.lawful inv.inner (part_tree m p) (part_tree n p) (part_tree n z) i e
@@ -148,7 +149,7 @@ resolve_inside-loop-i-preserved g t' c =
       unchanged = λ h.
           let both = and_parts c.loop-i.same c.is_same-same.result h in
           unchanged_next (resolved st) i (i + 1) (parts_of (part_tree m p)) below next (inv.unchanged both.0)
-          (sym comes ∙ c.is_same-same.ensures.0 both.1 ∙ stays ∙ was);
+          (sym comes ∙ c.is_same-same.ensures.one both.1 ∙ stays ∙ was);
     }
 
 pub resolve_inside-with_parts-requires-clause-term_known : goal.resolve_inside-with_parts-requires-clause-term_known

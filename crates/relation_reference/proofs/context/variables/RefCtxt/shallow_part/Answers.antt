@@ -20,6 +20,7 @@ returns-in_default-clause-by_parts g c =
       branches = g.met.I.Interner.are_branches c.args.self.now.interner;
       pat = g.met.I.Interner.is_pat c.args.self.now.interner;
       alternatives = g.met.I.Interner.are_alternatives c.args.self.now.interner;
+      existential_predicates = g.met.I.Interner.are_existential_predicates c.args.self.now.interner;
     } in
     other_by_parts m c.args.self.now.inner c.requires.lawful.sound c.args.term.now c.in_default.not-Ty
     (sort_known m sorted c.args.term.now c.requires.term_known)

@@ -8,6 +8,14 @@ use Rattle.relation_terms.specs.declared.terms.part_kind.Parts.TheVariants.{Empt
 use Rattle.relation_terms.specs.declared.terms.part_kind.Parts.TheVariants.{Alternatives}
 use Rattle.relation_terms.proofs.Stays.{stays_same, knows_as}
 use Rattle.relation_terms.proofs.Sorted.{Sorted}
+use Rattle.relation_terms.specs.Heads.{type_sort}
+use Rattle.relation_terms.specs.Trees.{front}
+use Rattle.relation_terms.specs.Meaning.{term_tree, object_predicate_tree}
+use Rattle.relation_terms.specs.Parts.{part_of_predicate}
+use Rattle.relation_terms.proofs.Binders.{front_known, front_terms}
+use Rattle.relation_terms.proofs.Sorted.{term_sorted}
+use Rattle.relation_terms.proofs.Members.{fit_predicates, fit_term_args, if_ok}
+use Rattle.relation_terms.proofs.Parts.{fit_two_some}
 use Rattle.relation_terms.proofs.Members.{fit_args, fit_tys, fit_consts, fit_pats, fit_none, mapped}
 use Rattle.relation_terms.proofs.Parts.{fit_one, fit_two, arg_part, sort_known}
 use Rattle.relation_terms.proofs.terms.parts.members.make_parts.Goals as goal
@@ -40,6 +48,7 @@ returns-in-One g c =
       branches = g.met.I.Interner.are_branches c.args.cx.now;
       pat = g.met.I.Interner.is_pat c.args.cx.now;
       alternatives = g.met.I.Interner.are_alternatives c.args.cx.now;
+      existential_predicates = g.met.I.Interner.are_existential_predicates c.args.cx.now;
     } in
     let p = c.in-One.field-0 in
     let k : IsTrue (known (cons (part_tree m p) nil)) = subst (λ p. IsTrue (known (parts_tree m p))) c.in-One.is c.requires.like_known in
@@ -69,6 +78,7 @@ returns-in-Two g c =
       branches = g.met.I.Interner.are_branches c.args.cx.now;
       pat = g.met.I.Interner.is_pat c.args.cx.now;
       alternatives = g.met.I.Interner.are_alternatives c.args.cx.now;
+      existential_predicates = g.met.I.Interner.are_existential_predicates c.args.cx.now;
     } in
     let p = c.in-Two.field-0 in
     let q = c.in-Two.field-1 in
@@ -231,3 +241,82 @@ returns-in_ok-made-in-Alternatives g c =
       alike = subst (λ p. Alike p (Alternatives c.in_ok-made-in-Alternatives.made)) (sym c.in-Alternatives.is) tt;
       refused = tt;
     }
+
+pub bounds-members-1 : goal.bounds-members-1
+bounds-members-1 g c =
+    let m = g.I.Interner.meaning c.args.cx.now in
+    let xs = c.args.members.now in
+    fit_two_some m xs (part_tree m c.in-Two.field-0) (part_tree m c.in-Two.field-1)
+    (subst (λ p. Fit xs (parts_tree m p)) c.in-Two.is c.requires.fits)
+
+pub make_term_args-requires-clause-fits : goal.make_term_args-requires-clause-fits
+make_term_args-requires-clause-fits g c =
+    let m = g.I.Interner.meaning c.args.cx.now in
+    let xs = c.args.members.now in
+    let s : Sorted m = record {
+      ty = g.met.I.Interner.is_ty c.args.cx.now;
+      region = g.met.I.Interner.is_region c.args.cx.now;
+      tys = g.met.I.Interner.are_tys c.args.cx.now;
+      const_ = g.met.I.Interner.is_const c.args.cx.now;
+      valtree = g.met.I.Interner.is_valtree c.args.cx.now;
+      args = g.met.I.Interner.are_args c.args.cx.now;
+      branches = g.met.I.Interner.are_branches c.args.cx.now;
+      pat = g.met.I.Interner.is_pat c.args.cx.now;
+      alternatives = g.met.I.Interner.are_alternatives c.args.cx.now;
+      existential_predicates = g.met.I.Interner.are_existential_predicates c.args.cx.now;
+    } in
+    let t = c.in-TermArgs.field-0 in
+    let a = c.in-TermArgs.field-1 in
+    let f = subst (λ p. Fit xs (parts_tree m p)) c.in-TermArgs.is c.requires.fits in
+    let k : IsTrue (known (cons (term_tree m t) (m.args a))) =
+    subst (λ p. IsTrue (known (parts_tree m p))) c.in-TermArgs.is c.requires.like_known in
+    let p = and_parts (known (term_tree m t)) (known (m.args a)) k in
+    fit_term_args xs (cons (term_tree m t) (m.args a)) f (term_sorted m s t p.0, s.args a p.1)
+
+pub returns-in-TermArgs-clause-alike : goal.returns-in-TermArgs-clause-alike
+returns-in-TermArgs-clause-alike g c =
+    if_ok c.make_term_args.result (λ ps i. subst (λ p. Alike p ps) (sym c.in-TermArgs.is) i) c.make_term_args.ensures.is
+
+pub make_inputs-requires-clause-fits : goal.make_inputs-requires-clause-fits
+make_inputs-requires-clause-fits g c =
+    let m = g.I.Interner.meaning c.args.cx.now in
+    let xs = c.args.members.now in
+    let ts = m.tys c.in-Inputs.tys in
+    let f = subst (λ p. Fit xs (parts_tree m p)) c.in-Inputs.is c.requires.fits in
+    let k : IsTrue (known (front ts)) =
+    subst (λ p. IsTrue (known (parts_tree m p))) c.in-Inputs.is c.requires.like_known in
+    fit_tys xs (front ts) f
+    (front_terms type_sort ts k (g.met.I.Interner.are_tys c.args.cx.now c.in-Inputs.tys (front_known ts k)))
+
+pub predicates_of-requires : goal.predicates_of-requires
+predicates_of-requires g c =
+    let m = g.I.Interner.meaning c.args.cx.now in
+    let xs = c.args.members.now in
+    let f = subst (λ p. Fit xs (parts_tree m p)) c.in-Predicates.is c.requires.fits in
+    let a = c.in-Predicates.field-0 in
+    let k : IsTrue (known (m.existential_predicates a)) =
+    subst (λ p. IsTrue (known (parts_tree m p))) c.in-Predicates.is c.requires.like_known in
+    fit_predicates xs (m.existential_predicates a) f (g.met.I.Interner.are_existential_predicates c.args.cx.now a k)
+
+pub mk_existential_predicates-requires : goal.mk_existential_predicates-requires
+mk_existential_predicates-requires g c =
+    let m = g.I.Interner.meaning c.args.cx.now in
+    let xs = c.args.members.now in
+    let l = c.in_ok-list-in-Predicates.list.items in
+    let q : list_tree (object_predicate_tree m) c.deref-in-Predicates.result.now ≡ list_tree (part_tree m) xs =
+    ap (list_tree (object_predicate_tree m)) c.deref-in-Predicates.ensures.value
+    ∙ mapped (object_predicate_tree m) (part_tree m) (λ b. part_of_predicate b) (λ b. refl) l xs
+    c.in_ok-list-in-Predicates.ensures in
+    knows_as (list_tree (part_tree m) xs) (list_tree (object_predicate_tree m) c.deref-in-Predicates.result.now) q
+    c.requires.members_known
+
+pub returns-in_ok-made-in-Predicates-clause-made : goal.returns-in_ok-made-in-Predicates-clause-made
+returns-in_ok-made-in-Predicates-clause-made g c =
+    let m = g.I.Interner.meaning c.args.cx.now in
+    let xs = c.args.members.now in
+    let l = c.in_ok-list-in-Predicates.list.items in
+    let q : list_tree (object_predicate_tree m) c.deref-in-Predicates.result.now ≡ list_tree (part_tree m) xs =
+    ap (list_tree (object_predicate_tree m)) c.deref-in-Predicates.ensures.value
+    ∙ mapped (object_predicate_tree m) (part_tree m) (λ b. part_of_predicate b) (λ b. refl) l xs
+    c.in_ok-list-in-Predicates.ensures in
+    c.in_ok-made-in-Predicates.ensures.made ∙ q

@@ -27,6 +27,7 @@ returns-in_default g c =
       branches = g.met.I.Interner.are_branches cx;
       pat = g.met.I.Interner.is_pat cx;
       alternatives = g.met.I.Interner.are_alternatives cx;
+      existential_predicates = g.met.I.Interner.are_existential_predicates cx;
     }) in
     let z = else_const c.args.b.now c.in_default.not-Ty in
     let k = subst₂ (λ a b. Asked M r r.ambient (term_tree r.meaning a) (term_tree r.meaning b)) c.in-Ty.is z.1
@@ -52,6 +53,7 @@ returns-in_default-b g c =
       branches = g.met.I.Interner.are_branches cx;
       pat = g.met.I.Interner.is_pat cx;
       alternatives = g.met.I.Interner.are_alternatives cx;
+      existential_predicates = g.met.I.Interner.are_existential_predicates cx;
     }) in
     let z = else_ty c.args.b.now c.in_default-b.not-Const in
     let k = subst₂ (λ a b. Asked M r r.ambient (term_tree r.meaning a) (term_tree r.meaning b)) c.in-Const.is z.1

@@ -1,0 +1,38 @@
+use Rattle.std.proofs.Common.{◌<◌, IsTrue, Some, refl, ap, sym, ◌∙◌, subst}
+use Rattle.relation_terms.specs.Trees.{known, nil}
+use Rattle.relation_terms.specs.Meaning.{bound_kinds, under}
+use Rattle.relation_terms.proofs.Binders.{known_under}
+use Rattle.reference_interner.specs.Forms.{bound_vars_form, form_of}
+use Rattle.reference_interner.specs.Nodes.{bound_vars_node, table_meaning}
+use Rattle.reference_interner.proofs.TableLemmas.{key_in, key_sort, key_read, not_bound_vars, list_under}
+use Rattle.reference_interner.proofs.RefInternerInterner.bound_vars.Goals as goal
+
+pub index-requires : goal.index-requires
+index-requires c =
+    let items = c.args.self.now.items.items in
+    let ns = c.args.self.now.nodes.items in
+    let o = (table_meaning items ns).bound_vars c.args.bound_vars.now in
+    let k : IsTrue (known (under o nil)) = known_under o nil c.requires refl in
+    subst (λ n. (c.args.bound_vars.now.0).0 < n) (sym c.args.self.now.nodes.ok.0)
+    (key_in items ns bound_vars_node (c.args.bound_vars.now.0).0 k)
+
+pub unreachable-requires : goal.unreachable-requires
+unreachable-requires c =
+    let items = c.args.self.now.items.items in
+    let ns = c.args.self.now.nodes.items in
+    let o = (table_meaning items ns).bound_vars c.args.bound_vars.now in
+    let k : IsTrue (known (under o nil)) = known_under o nil c.requires refl in
+    not_bound_vars c.index.result.now c.in_default.not-BoundVars
+    (key_sort items ns bound_vars_node (c.args.bound_vars.now.0).0 k c.index.result.now c.index.ensures)
+
+pub returns : goal.returns
+returns c =
+    let items = c.args.self.now.items.items in
+    let ns = c.args.self.now.nodes.items in
+    let m = table_meaning items ns in
+    let o = m.bound_vars c.args.bound_vars.now in
+    let k : IsTrue (known (under o nil)) = known_under o nil c.requires refl in
+    list_under o (bound_kinds m c.in-BoundVars.list.items)
+    (key_read items ns bound_vars_node (c.args.bound_vars.now.0).0 k c.index.result.now c.index.ensures
+    (bound_vars_form c.in-BoundVars.list.items) (ap form_of c.in-BoundVars.is)) ∙
+    ap (λ xs. Some (bound_kinds m xs)) (sym c.as_slice.ensures.value)

@@ -1,0 +1,20 @@
+//! Binders, and the lists of what they bind.
+use crate::terms::{BoundVarsKey, Keys};
+
+/// A body, and the list of the variables that stand bound in it. Two binders are equal where both are.
+#[derive(Clone, Copy, PartialEq, Eq, Hash)]
+pub struct Binder<X, T> {
+    pub value: T,
+    pub bound_vars: BoundVarsKey<X>,
+}
+
+/// What a variable of a binder is, and its name.
+#[derive(Clone, Copy, PartialEq, Eq, Hash)]
+pub enum BoundVariableKind<N> {
+    Ty(N),
+    Region(N),
+    Const(N),
+}
+
+/// A variable of a binder of an interner.
+pub type BoundVariable<I> = BoundVariableKind<<I as Keys>::Name>;

@@ -1,0 +1,72 @@
+//! How terms print that stand alone.
+ghost use Rattle.std.specs.Prelude.{IsTrue};
+ghost use Rattle.relation_terms.specs.Trees.{known};
+ghost use Rattle.relation_terms.specs.Meaning.{arg_tree};
+
+use crate::printing::names::TextsOf;
+use crate::printing::{leaves, terms};
+use relation_terms::terms::{Const, GenericArg, Interner, Region, Ty};
+use std::fmt::{self, Write};
+
+/// Writes a type. A parameter or an item that has no text is `_`, a region parameter `'_`.
+///
+/// # Errors
+/// `fmt::Error` where `out` refused to take some of the text, or memory for the list of binders around a part was
+/// refused. What `out` took before stands.
+pub fn write_ty<I: Interner, W: Write>(
+    cx: &I,
+    texts: &TextsOf<I>,
+    ty: &Ty<I>,
+    out: &mut W,
+) -> fmt::Result
+    requires { IsTrue (known ((I.meaning cx.now).ty ty.now)) }
+{
+    terms::write_ty(cx, texts, &[], ty, out)
+}
+
+/// Writes a region. A parameter that has no text is `'_`.
+///
+/// # Errors
+/// `fmt::Error` where `out` refused to take some of the text. What it took before stands.
+pub fn write_region<I: Interner, W: Write>(
+    cx: &I,
+    texts: &TextsOf<I>,
+    region: &Region<I>,
+    out: &mut W,
+) -> fmt::Result
+    requires { IsTrue (known ((I.meaning cx.now).region region.now)) }
+{
+    leaves::write_region(cx, texts, &[], region, out)
+}
+
+/// Writes a constant: of a value the value alone, without its type. A parameter that has no text is `_`.
+///
+/// # Errors
+/// `fmt::Error` where `out` refused to take some of the text, or memory for the list of binders around a part was
+/// refused. What `out` took before stands.
+pub fn write_const<I: Interner, W: Write>(
+    cx: &I,
+    texts: &TextsOf<I>,
+    constant: &Const<I>,
+    out: &mut W,
+) -> fmt::Result
+    requires { IsTrue (known ((I.meaning cx.now).const_ constant.now)) }
+{
+    terms::write_const(cx, texts, &[], constant, out)
+}
+
+/// Writes a generic argument: a region, a type or a constant, as each is written alone.
+///
+/// # Errors
+/// `fmt::Error` where `out` refused to take some of the text, or memory for the list of binders around a part was
+/// refused. What `out` took before stands.
+pub fn write_arg<I: Interner, W: Write>(
+    cx: &I,
+    texts: &TextsOf<I>,
+    arg: &GenericArg<I>,
+    out: &mut W,
+) -> fmt::Result
+    requires { IsTrue (known (arg_tree (I.meaning cx.now) arg.now)) }
+{
+    terms::write_arg(cx, texts, &[], arg, out)
+}

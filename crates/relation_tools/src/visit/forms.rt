@@ -1,0 +1,63 @@
+//! Visits of forms that have no key: signatures, predicates of trait objects, and binders over these and over types.
+use crate::visit::walk::visit_part;
+use crate::visit::{TypeVisitable, TypeVisitor, visit_predicates_with};
+use relation_terms::predicate::{ExistentialPredicate, ExistentialProjection, ExistentialTraitRef};
+use relation_terms::terms::{Binder, Body, ExistentialPredicatesKey, FnSig, Interner, Part, TyKey};
+use std::ops::ControlFlow;
+
+impl<I: Interner> TypeVisitable<I> for ExistentialPredicatesKey<I::Key> {
+    fn visit_with<V: TypeVisitor<I>>(&self, cx: &I, visitor: &mut V) -> ControlFlow<()> {
+        visit_predicates_with(cx, self, visitor)
+    }
+}
+
+impl<I: Interner> TypeVisitable<I> for FnSig<I::Key> {
+    fn visit_with<V: TypeVisitor<I>>(&self, cx: &I, visitor: &mut V) -> ControlFlow<()> {
+        visit_part(cx, &Part::Signature(*self), 0, visitor)
+    }
+}
+
+impl<I: Interner> TypeVisitable<I> for ExistentialPredicate<I::Key, I::Id> {
+    fn visit_with<V: TypeVisitor<I>>(&self, cx: &I, visitor: &mut V) -> ControlFlow<()> {
+        visit_part(cx, &Part::Existential(*self), 0, visitor)
+    }
+}
+
+impl<I: Interner> TypeVisitable<I> for ExistentialTraitRef<I::Key, I::Id> {
+    fn visit_with<V: TypeVisitor<I>>(&self, cx: &I, visitor: &mut V) -> ControlFlow<()> {
+        visit_part(
+            cx,
+            &Part::Existential(ExistentialPredicate::Trait(*self)),
+            0,
+            visitor,
+        )
+    }
+}
+
+impl<I: Interner> TypeVisitable<I> for ExistentialProjection<I::Key, I::Id> {
+    fn visit_with<V: TypeVisitor<I>>(&self, cx: &I, visitor: &mut V) -> ControlFlow<()> {
+        let predicate = ExistentialPredicate::Projection(*self);
+        visit_part(cx, &Part::Existential(predicate), 0, visitor)
+    }
+}
+
+impl<I: Interner> TypeVisitable<I> for Binder<I::Key, FnSig<I::Key>> {
+    fn visit_with<V: TypeVisitor<I>>(&self, cx: &I, visitor: &mut V) -> ControlFlow<()> {
+        let binder = Part::Binder(self.bound_vars, Body::Signature(self.value));
+        visit_part(cx, &binder, 0, visitor)
+    }
+}
+
+impl<I: Interner> TypeVisitable<I> for Binder<I::Key, TyKey<I::Key>> {
+    fn visit_with<V: TypeVisitor<I>>(&self, cx: &I, visitor: &mut V) -> ControlFlow<()> {
+        let binder = Part::Binder(self.bound_vars, Body::Ty(self.value));
+        visit_part(cx, &binder, 0, visitor)
+    }
+}
+
+impl<I: Interner> TypeVisitable<I> for Binder<I::Key, ExistentialPredicate<I::Key, I::Id>> {
+    fn visit_with<V: TypeVisitor<I>>(&self, cx: &I, visitor: &mut V) -> ControlFlow<()> {
+        let binder = Part::Binder(self.bound_vars, Body::Existential(self.value));
+        visit_part(cx, &binder, 0, visitor)
+    }
+}
