@@ -1,5 +1,5 @@
 -- A visit of a visitor that keeps what it is asked about, as one of trees.
-use Rattle.std.proofs.Common.{◌≡◌, ℕ, suc, Bool, true, false, ◌&&◌, IsTrue, List, [], ◌∷◌, ◌++◌, map, refl, sym, ap, ◌∙◌, subst, subst₂}
+use Rattle.std.proofs.Common.{◌≡◌, ℕ, Bool, true, false, ◌&&◌, IsTrue, List, [], ◌∷◌, ◌++◌, map, refl, sym, ap, ◌∙◌, subst, subst₂}
 use Rattle.std.proofs.lemmas.Bool.{and_parts}
 use Rattle.std.proofs.lemmas.List.{map-append}
 use Rattle.relation_terms.specs.Trees.{Tree, leaf, node, bind, nil, cons, known, list_tree}
@@ -11,7 +11,7 @@ use Rattle.relation_asking.specs.Meets.{answer_at, Meets, AllKnown, Asks}
 use Rattle.relation_asking.proofs.PutLemmas.{Compares, answer_means}
 use Rattle.relation_tools.specs.declared.visit.Visit.{Visit}
 use Rattle.relation_terms.specs.Parts.{parts_of}
-use Rattle.relation_tools.specs.Visits.{Flow, Walks, entered, skipped, stopped}
+use Rattle.relation_tools.specs.Visits.{Flow, Walks, deeper, entered, skipped, stopped}
 use Rattle.relation_tools.specs.Visits.{passed_leaf, passed, in_binder, no_part, last_part, next_part}
 
 -- One visitor goes as another, seen by a map, where it does so at each term: what holds before a term holds behind it,
@@ -33,7 +33,7 @@ module _ {V W : Type 0} (f : V → W) (A : V → ℕ → Tree → V → Visit �
   walks_as d v w (node h ts) r (passed i o) p =
       let more = walks_as d v w ts r o p in (more.0, λ k. let q = more.1 k in (q.0, passed i q.1))
   walks_as d v w (bind ks t) r (in_binder o) p =
-      let more = walks_as (suc d) v w t r o p in (more.0, λ k. let q = more.1 k in (q.0, in_binder q.1))
+      let more = walks_as (deeper d) v w t r o p in (more.0, λ k. let q = more.1 k in (q.0, in_binder q.1))
   walks_as d v w nil r no_part p = (p, λ k. (k, no_part))
   walks_as d v w (cons t ts) r (last_part o) p =
       let more = walks_as d v w t _ o p in (more.0, λ k. let q = more.1 k in (q.0, last_part q.1))

@@ -9,9 +9,10 @@ use Rattle.relation_terms.specs.declared.terms.ty_kind.TyKind.TheVariants.{Infer
 use Rattle.relation_terms.specs.declared.terms.ty_kind.InferTy.{InferTy}
 use Rattle.relation_terms.specs.declared.terms.ty_kind.InferTy.TheVariants.{TyVar, IntVar, FloatVar, FreshTy, FreshIntTy, FreshFloatTy}
 use Rattle.relation_terms.specs.declared.terms.numbers.TyVid.{TyVid}
-use Rattle.type_relations.specs.Stores.{Store, unbound, same_as, bound_to, entry_of, entry_term, bound_term, IsMade, IsSound, IsTermIn}
-use Rattle.type_relations.specs.Errors.{IsReadAs, itself, by_class}
-use Rattle.type_relations.proofs.Standing.{made_of_term, term_of_made}
+use Rattle.type_relations.specs.Stores.{Store, unbound, same_as, bound_to, entry_of, entry_term, bound_term, IsMade, IsSound, IsTermIn, InContext}
+use Rattle.type_relations.specs.Errors.{IsReadAs, itself, by_class, by_binding}
+use Rattle.type_relations.proofs.Standing.{made_of_term, term_of_made, term_context}
+use Rattle.type_relations.proofs.Classes.{class_made}
 use Rattle.type_relations.proofs.ReadAs.{read_bound}
 use Rattle.relation_reference.specs.declared.context.inner.TypeVariable.{TypeVariable}
 use Rattle.relation_reference.specs.declared.context.inner.InferCtxtInner.{InferCtxtInner}
@@ -102,10 +103,29 @@ table_of_made m x n h = subst (λ z. n < z) (length-map x.types.items _) h
 pub key_of : {Key Id Name : Type 0} (m : Meaning Key Id Name) (x : InferCtxtInner Key) → IsLawful m x → (n : ℕ) (d : TypeVariable Key) → n < length x.types.items → m.ty ((get_or x.types.items n d).key) ≡ leaf (variable type_var n)
 key_of m x l n d h = sym (get_or-map (λ v. m.ty v.key) x.types.items n d nil h) ∙ l.keyed n h
 
+-- A variable of the context; and what a term of it is read as is of it.
+made_of_context : (st : Store) (k : VarKind) (n : ℕ) → InContext st (leaf (variable k n)) → IsMade st k n
+unfolding InContext
+made_of_context st k n h = h
+
+context_of_made : (st : Store) (k : VarKind) (n : ℕ) → IsMade st k n → InContext st (leaf (variable k n))
+unfolding InContext
+context_of_made st k n h = h
+
+pub context_read : (st : Store) → IsSound st → (t u : Tree) → IsReadAs st t u → InContext st t → InContext st u
+context_read st g t u (itself e) h = subst (InContext st) e h
+context_read st g t u (by_class k n m e c r) h = context_read st g (leaf (variable k m)) u r
+    (context_of_made st k m (class_made st g k n m c (made_of_context st k n (subst (InContext st) e h))))
+context_read st g t u (by_binding {u = x} k n e b r) h = context_read st g x u r
+    (term_context st x (g.bindings k n x (ap (entry_term k) b)).is_in)
+
 -- What is found for a variable.
 module _ {Key Id Name : Type 0} (m : Meaning Key Id Name) (x : InferCtxtInner Key) (l : IsLawful m x) where
   abbrev st : Store
   st = store_of m x
+
+  pub made_in_context : (t : Tree) (n : ℕ) → t ≡ leaf (variable type_var n) → InContext st t → n < length x.types.items
+  made_in_context t n e h = table_of_made m x n (made_of_context st type_var n (subst (InContext st) e h))
 
   pub made_of_key : (t : Tree) (n : ℕ) → t ≡ leaf (variable type_var n) → IsTermIn st t → n < length x.types.items
   made_of_key t n e h = table_of_made m x n (made_of_term st type_var n (subst (IsTermIn st) e h))

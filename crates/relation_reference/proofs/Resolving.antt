@@ -12,10 +12,11 @@ use Rattle.relation_terms.specs.declared.terms.part_kind.Part.{Part}
 use Rattle.relation_terms.specs.declared.terms.part_kind.Part.TheVariants.{Region, Ty, Const, ValTree, Pat, ValueType}
 use Rattle.relation_terms.specs.declared.terms.part_kind.Part.TheVariants.{Binder, Signature, Inputs, Existential, Object}
 use Rattle.relation_terms.proofs.Stays.{stays_list, knows_as}
-use Rattle.type_relations.specs.Stores.{Store, bound_term, IsSound, IsTermIn}
+use Rattle.type_relations.specs.Stores.{Store, bound_term, IsSound}
 use Rattle.type_relations.specs.Stores.{InContext, resolved, weight}
 use Rattle.type_relations.proofs.Resolved.{resolved_free}
-use Rattle.type_relations.proofs.Parts.{in_nth, nth_size}
+use Rattle.type_relations.proofs.Parts.{nth_size}
+use Rattle.type_relations.proofs.Values.{nth_in}
 use Rattle.type_relations.proofs.Lists.{firsts, firsts_all, snoc, list_push, firsts_more, apply_snoc, push_known}
 use Rattle.relation_reference.specs.declared.context.inner.InferCtxtInner.{InferCtxtInner}
 use Rattle.relation_reference.specs.Tables.{store_of, IsLawful}
@@ -90,16 +91,16 @@ other_by_parts m x g p n e = comes_by_parts (store_of m x) (part_tree m p) (λ s
     (λ k i q. other_free m x g k i (λ s. not_type p n (sym e ∙ ap tree_sort q ∙ ap var_sort s)))
 
 -- A part of a term is of the context, and comes to less.
-term_list : (st : Store) (t : Tree) → IsTermIn st t → IsTermIn st (parts_of t)
-unfolding IsTermIn InContext
-term_list st (node h ts) p = p
-term_list st (leaf l) p = (tt, tt, tt)
-term_list st (bind ks t) p = (tt, tt, tt)
-term_list st nil p = (tt, tt, tt)
-term_list st (cons t ts) p = (tt, tt, tt)
+context_list : (st : Store) (t : Tree) → InContext st t → InContext st (parts_of t)
+unfolding InContext
+context_list st (node h ts) p = p
+context_list st (leaf l) p = tt
+context_list st (bind ks t) p = (p, tt)
+context_list st nil p = tt
+context_list st (cons t ts) p = tt
 
-term_part : (st : Store) (t : Tree) (i : ℕ) → i < count (parts_of t) → IsTermIn st t → IsTermIn st (nth i (parts_of t))
-term_part st t i h p = in_nth st (parts_of t) i h (term_list st t p)
+context_part : (st : Store) (t : Tree) (i : ℕ) → IsList (parts_of t) → InContext st t → InContext st (nth i (parts_of t))
+context_part st t i l p = nth_in st i (parts_of t) l (context_list st t p)
 
 size_falls : (s : Assign) (t : Tree) (i : ℕ) → i < count (parts_of t) →
     size (apply s (nth i (parts_of t))) < size (apply s t)
@@ -132,8 +133,8 @@ module _ {Key Id Name : Type 0} {m n : Meaning Key Id Name} (first : Extends m n
     pub part_was : z ≡ nth i (parts_of t)
     part_was = at ∙ ap (λ w. nth i (parts_of w)) now
 
-    pub part_in : IsTermIn (store_of m x) t → IsTermIn (store_of n y) z
-    part_in p = subst₂ IsTermIn (sym store_now) (sym part_was) (term_part (store_of m x) t i h p)
+    pub part_in : IsList (parts_of t) → InContext (store_of m x) t → InContext (store_of n y) z
+    part_in l p = subst₂ InContext (sym store_now) (sym part_was) (context_part (store_of m x) t i l p)
 
     pub part_falls : (u : Tree) → apply (resolved (store_of m x)) t ≡ apply (resolved (store_of m x)) u →
         weight (store_of n y) z < weight (store_of m x) u

@@ -5,7 +5,7 @@ ghost use Rattle.relation_terms.specs.Heads.{type_var, variable};
 ghost use Rattle.relation_terms.specs.Trees.{leaf, known, Occurs};
 ghost use Rattle.relation_terms.specs.Meaning.{Extends};
 ghost use Rattle.relation_terms.specs.Parts.{part_tree, part_sort, parts_of, over};
-ghost use Rattle.type_relations.specs.Stores.{unbound, entry_of, IsTermIn};
+ghost use Rattle.type_relations.specs.Stores.{unbound, entry_of, InContext, IsTermIn};
 ghost use Rattle.type_relations.specs.Errors.{StandsOutside};
 ghost use Rattle.relation_tools.specs.Faults.{KnowsFault};
 ghost use Rattle.relation_reference.specs.Tables.{IsLawful};
@@ -88,9 +88,9 @@ impl<I: Interner> RefCtxt<I> {
         requires lawful { IsLawful (I.meaning self.now.interner) self.now.inner }
         requires term_known { IsTrue (known (part_tree (I.meaning self.now.interner) term.now)) }
         requires term_in { let m = I.meaning self.now.interner in
-            IsTermIn (store_in I.meaning self.now) (part_tree m term.now) }
+            InContext (store_in I.meaning self.now) (part_tree m term.now) }
         ensures sure { IsTrue (known (part_tree (I.meaning self.now.interner) result)) }
-        ensures is_in { IsTermIn (store_in I.meaning self.now) (part_tree (I.meaning self.now.interner) result) }
+        ensures is_in { InContext (store_in I.meaning self.now) (part_tree (I.meaning self.now.interner) result) }
         ensures sort { part_sort result ≡ part_sort term.now }
         ensures resolves { let m = I.meaning self.now.interner in
             resolved_in I.meaning self.now (part_tree m result) ≡
@@ -116,7 +116,7 @@ impl<I: Interner> RefCtxt<I> {
         requires remembers { Remembers I.meaning self.old ⟦<PartKey<I::Key> as PartialEq>⟧.eq memory.old }
         requires term_known { IsTrue (known (part_tree (I.meaning self.old.interner) term.now)) }
         requires term_in { let m = I.meaning self.old.interner in
-            IsTermIn (store_in I.meaning self.old) (part_tree m term.now) }
+            InContext (store_in I.meaning self.old) (part_tree m term.now) }
         ensures inner { self.new.inner ≡ self.old.inner }
         ensures grown { Extends (I.meaning self.old.interner) (I.meaning self.new.interner) }
         ensures remembers { OnOk result (Remembers I.meaning self.new ⟦<PartKey<I::Key> as PartialEq>⟧.eq memory.new) }
@@ -146,7 +146,7 @@ impl<I: Interner> RefCtxt<I> {
         requires remembers { Remembers I.meaning self.old ⟦<PartKey<I::Key> as PartialEq>⟧.eq memory.old }
         requires term_known { IsTrue (known (part_tree (I.meaning self.old.interner) term.now)) }
         requires term_in { let m = I.meaning self.old.interner in
-            IsTermIn (store_in I.meaning self.old) (part_tree m term.now) }
+            InContext (store_in I.meaning self.old) (part_tree m term.now) }
         requires by_parts { let t = part_tree (I.meaning self.old.interner) term.now in
             resolved_in I.meaning self.old t ≡ over t (resolved_in I.meaning self.old (parts_of t)) }
         ensures inner { self.new.inner ≡ self.old.inner }
@@ -175,7 +175,7 @@ impl<I: Interner> RefCtxt<I> {
     pub(crate) fn resolve_vars_if_possible(&mut self, ty: &Ty<I>) -> Result<Ty<I>, OutOfMemory>
         requires lawful { IsLawful (I.meaning self.old.interner) self.old.inner }
         requires ty_known { IsTrue (known ((I.meaning self.old.interner).ty ty.now)) }
-        requires ty_in { IsTermIn (store_in I.meaning self.old) ((I.meaning self.old.interner).ty ty.now) }
+        requires ty_in { InContext (store_in I.meaning self.old) ((I.meaning self.old.interner).ty ty.now) }
         ensures inner { self.new.inner ≡ self.old.inner }
         ensures grown { Extends (I.meaning self.old.interner) (I.meaning self.new.interner) }
         ensures sure { IfOk result (λ t. IsTrue (known ((I.meaning self.new.interner).ty t))) }

@@ -5,7 +5,7 @@ ghost use Rattle.relation_terms.specs.Trees.{leaf, known};
 ghost use Rattle.relation_terms.specs.declared.terms.ty_kind.TyKind.TheVariants.{Infer};
 ghost use Rattle.relation_terms.specs.declared.terms.ty_kind.InferTy.TheVariants.{TyVar};
 ghost use Rattle.type_relations.specs.Covered.{IsCovered};
-ghost use Rattle.type_relations.specs.Stores.{unbound, entry_of, bound_to, IsTermIn};
+ghost use Rattle.type_relations.specs.Stores.{unbound, entry_of, bound_to, InContext};
 ghost use Rattle.type_relations.specs.Steps.{LeadsTo, Resolves};
 ghost use Rattle.type_relations.specs.Errors.{IsReadAs};
 ghost use Rattle.relation_reference.specs.Tables.{IsLawful, entry_of_value};
@@ -124,7 +124,7 @@ impl<I: Interner> RefCtxt<I> {
     pub(crate) fn shallow_resolve(&self, ty: &Ty<I>) -> Ty<I>
         requires lawful { IsLawful (I.meaning self.now.interner) self.now.inner }
         requires ty_known { IsTrue (known ((I.meaning self.now.interner).ty ty.now)) }
-        requires ty_in { IsTermIn (store_in I.meaning self.now) ((I.meaning self.now.interner).ty ty.now) }
+        requires ty_in { InContext (store_in I.meaning self.now) ((I.meaning self.now.interner).ty ty.now) }
         ensures sure { IsTrue (known ((I.meaning self.now.interner).ty result)) }
         ensures reads { let m = I.meaning self.now.interner in
             IsReadAs (store_in I.meaning self.now) (m.ty ty.now) (m.ty result) }

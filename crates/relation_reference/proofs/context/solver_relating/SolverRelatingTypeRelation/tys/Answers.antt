@@ -8,6 +8,7 @@ use Rattle.type_relations.specs.Parts.{IsFormed}
 use Rattle.type_relations.specs.Lawful.{Stepped}
 use Rattle.type_relations.proofs.Going.{goes_within}
 use Rattle.type_relations.proofs.Passing.{as_err}
+use Rattle.type_relations.proofs.Standing.{term_context}
 use Rattle.type_relations.proofs.StructuralConsts.{itself_related}
 use Rattle.relation_reference.specs.Tables.{store_of}
 use Rattle.relation_reference.specs.Answers.{IsShallow}
@@ -34,6 +35,18 @@ returns-then-eq g c =
     (itself_related solver_manner (solving r.infcx.ghost_name m r.infcx.now.inner r.ambient_variance r.param_env)
     r.ambient_variance m.ty
     (m.ty c.args.a.now) (m.ty c.args.b.now) c.args.a.now same refl k.left_known)
+
+pub shallow_resolve-left-requires-clause-ty_in : goal.shallow_resolve-left-requires-clause-ty_in
+shallow_resolve-left-requires-clause-ty_in g c =
+    let r = c.args.self.now in
+    let m = g.I.Interner.meaning r.infcx.now.interner in
+    term_context (store_of m r.infcx.now.inner) (m.ty c.args.a.now) c.requires.asked.left_in
+
+pub shallow_resolve-right-requires-clause-ty_in : goal.shallow_resolve-right-requires-clause-ty_in
+shallow_resolve-right-requires-clause-ty_in g c =
+    let r = c.args.self.now in
+    let m = g.I.Interner.meaning r.infcx.now.interner in
+    term_context (store_of m r.infcx.now.inner) (m.ty c.args.b.now) c.requires.asked.right_in
 
 pub equate_ty_vids_raw-requires-clause-a_made : goal.equate_ty_vids_raw-requires-clause-a_made
 equate_ty_vids_raw-requires-clause-a_made g c =

@@ -7,7 +7,7 @@ use Rattle.relation_terms.proofs.Stays.{knows_as, extends_on, stays_same}
 use Rattle.relation_terms.proofs.Sorted.{Sorted}
 use Rattle.relation_terms.proofs.Members.{if_ok}
 use Rattle.relation_terms.proofs.Parts.{sort_known, stays_part}
-use Rattle.type_relations.specs.Stores.{weight, resolved, IsTermIn}
+use Rattle.type_relations.specs.Stores.{weight, resolved, InContext}
 use Rattle.relation_reference.specs.Tables.{store_of, IsLawful}
 use Rattle.relation_reference.specs.Remembering.{ComesTo}
 use Rattle.relation_reference.proofs.Remembering.{key_eq, came, remembers_on, on_ok}
@@ -73,9 +73,9 @@ resolve_inside-resolve_part-requires g t' c κs within =
     let lawful : IsLawful n y = lawful_now inv.grown x y c.requires.lawful inv.inner in
     let remembers = inv.remembers in
     let sure : IsTrue (known (part_tree n z)) = c.part-next.ensures.sure in
-    let is_in : IsTermIn (store_of n y) (part_tree n z) =
+    let is_in : InContext (store_of n y) (part_tree n z) =
     part_in inv.grown x y c.requires.lawful inv.inner (part_tree m p) (part_tree n p) (part_tree n z) i e below means
-    c.requires.term_in in
+    c.parts_count-i-end.ensures.is_list c.requires.term_in in
     search rules
 
 pub resolve_inside-returns-in_err-resolved-clause-inner : goal.resolve_inside-returns-in_err-resolved-clause-inner

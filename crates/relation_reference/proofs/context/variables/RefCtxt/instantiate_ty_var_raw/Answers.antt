@@ -5,6 +5,7 @@ use Rattle.relation_terms.specs.Meaning.{Extends}
 use Rattle.relation_terms.specs.declared.terms.enums.Variance.TheVariants.{Invariant}
 use Rattle.type_relations.specs.Steps.{RefusesToInstantiate}
 use Rattle.type_relations.specs.Stores.{resolved, universe_of}
+use Rattle.type_relations.proofs.Standing.{term_context}
 use Rattle.relation_reference.specs.declared.context.inner.InferCtxtInner.{InferCtxtInner}
 use Rattle.relation_reference.specs.Tables.{store_of, IsLawful}
 use Rattle.type_relations.specs.Covered.{IsCovered}
@@ -13,6 +14,11 @@ use Rattle.relation_reference.proofs.Outside.{outside_occurs}
 use Rattle.relation_reference.proofs.Grows.{store_grows, lawful_grows}
 use Rattle.relation_reference.proofs.Binding.{memory_instantiated, memory_steps, nothing_changed, cycle_refuses, target_bound, target_lawful, target_steps}
 use Rattle.relation_reference.proofs.context.variables.RefCtxt.instantiate_ty_var_raw.Goals as goal
+
+pub resolve_vars_if_possible-requires-clause-ty_in : goal.resolve_vars_if_possible-requires-clause-ty_in
+resolve_vars_if_possible-requires-clause-ty_in g c =
+    let m = g.I.Interner.meaning c.args.self.now.interner in
+    term_context (store_of m c.args.self.now.inner) (m.ty c.args.source.now) c.requires.source_in
 
 pub returns-in_err-bound-clause-lawful : goal.returns-in_err-bound-clause-lawful
 returns-in_err-bound-clause-lawful g c =

@@ -1,9 +1,10 @@
 use Rattle.std.proofs.Common.{subst}
-use Rattle.type_relations.specs.Stores.{IsTermIn}
+use Rattle.type_relations.specs.Stores.{InContext}
 use Rattle.relation_terms.specs.Parts.{part_tree}
 use Rattle.relation_terms.proofs.Sorted.{Sorted}
 use Rattle.relation_terms.proofs.Parts.{sort_known}
 use Rattle.relation_reference.specs.Tables.{store_of}
+use Rattle.relation_reference.proofs.Reading.{context_read}
 use Rattle.relation_reference.proofs.Resolving.{other_by_parts, shallow_by_parts}
 use Rattle.relation_reference.proofs.context.variables.RefCtxt.shallow_part.Goals as goal
 
@@ -28,8 +29,9 @@ returns-in_default-clause-by_parts g c =
 pub returns-clause-is_in : goal.returns-clause-is_in
 returns-clause-is_in g c =
     let m = g.I.Interner.meaning c.args.self.now.interner in
-    c.shallow_resolve.ensures.resolves.is_in
-    (subst (λ p. IsTermIn (store_of m c.args.self.now.inner) (part_tree m p)) c.in-Ty.is c.requires.term_in)
+    context_read (store_of m c.args.self.now.inner) c.requires.lawful.sound (m.ty c.in-Ty.ty) (m.ty c.shallow_resolve.result)
+    c.shallow_resolve.ensures.reads
+    (subst (λ p. InContext (store_of m c.args.self.now.inner) (part_tree m p)) c.in-Ty.is c.requires.term_in)
 
 pub returns-clause-by_parts : goal.returns-clause-by_parts
 returns-clause-by_parts g c =

@@ -6,13 +6,13 @@ use Rattle.type_relations.specs.Covered.{IsCovered}
 use Rattle.relation_terms.specs.Meaning.{kind_tree}
 use Rattle.relation_reference.specs.Answers.{IsShallow}
 use Rattle.relation_reference.proofs.Grows.{known_bound, known_of_term}
-use Rattle.relation_reference.proofs.Reading.{kind_shallow, other_free, key_of, made_of_key, root_read, bound_read, root_shallow, bound_shallow, bound_covered, root_known}
+use Rattle.relation_reference.proofs.Reading.{kind_shallow, other_free, key_of, made_in_context, root_read, bound_read, root_shallow, bound_shallow, bound_covered, root_known}
 use Rattle.relation_reference.proofs.context.variables.RefCtxt.shallow_resolve.Goals as goal
 
 pub root_ty_var-root-requires-clause-made : goal.root_ty_var-root-requires-clause-made
 root_ty_var-root-requires-clause-made g c =
     let m = g.I.Interner.meaning c.args.self.now.interner in
-    made_of_key m c.args.self.now.inner c.requires.lawful (m.ty c.args.ty.now) _ (c.ty_kind.ensures ∙ ap (kind_tree m) c.in-Some.ensures.is) c.requires.ty_in
+    made_in_context m c.args.self.now.inner c.requires.lawful (m.ty c.args.ty.now) _ (c.ty_kind.ensures ∙ ap (kind_tree m) c.in-Some.ensures.is) c.requires.ty_in
 
 pub returns-in-Known-clause-sure : goal.returns-in-Known-clause-sure
 returns-in-Known-clause-sure g c =

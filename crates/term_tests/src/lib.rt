@@ -1,0 +1,18 @@
+//! Tests of terms, interning, visits and folds, for what no question can ask. They stand in a crate of their own: a
+//! crate with tests is proved twice, and here is little to prove.
+#![tactic(auto)]
+
+#[cfg(test)]
+mod counting;
+#[cfg(test)]
+mod errors;
+#[cfg(test)]
+mod folding;
+#[cfg(test)]
+mod interning;
+#[cfg(test)]
+mod items;
+#[cfg(test)]
+mod kinds;
+#[cfg(test)]
+mod visiting;
