@@ -1,7 +1,9 @@
 //! Keys are read back as what they were made of, and what is made twice has one key.
-use reference_interner::{ItemId, RefInterner};
+use reference_interner::{ItemId, RefInterner, SymbolId};
+use relation_terms::predicate::ExistentialPredicate;
 use relation_terms::terms::{
-    CoroutineId, GenericArgKind, Interner, OutOfMemory, RegionKind, TyKind,
+    Binder, BoundVariableKind, CoroutineId, GenericArgKind, Interner, OutOfMemory, RegionKind,
+    TraitId, TyKind,
 };
 use std::test::Fail;
 
@@ -17,6 +19,24 @@ fn witness_reads_back<I: Interner>(cx: &mut I, def: I::Id) -> Result<bool, OutOf
     Ok(cx.ty_kind(&witness) == form && cx.args(&args) == list.as_slice())
 }
 
+// Whether the variables of a binder read back.
+fn variables_read_back<I: Interner>(cx: &mut I, name: I::Name) -> Result<bool, OutOfMemory> {
+    let mut list = Vec::new(cx.alloc());
+    list.push(BoundVariableKind::Region(name))?;
+    list.push(BoundVariableKind::Ty(name))?;
+    let key = cx.mk_bound_vars(&list)?;
+    Ok(cx.bound_vars(&key) == list.as_slice())
+}
+
+// Whether the predicates of a trait object, one under a binder of no variables, read back.
+fn predicates_read_back<I: Interner>(cx: &mut I, def: I::Id) -> Result<bool, OutOfMemory> {
+    let bound_vars = cx.mk_bound_vars(&[])?;
+    let mut list = Vec::new(cx.alloc());
+    list.push(Binder { value: ExistentialPredicate::AutoTrait(TraitId(def)), bound_vars })?;
+    let key = cx.mk_existential_predicates(&list)?;
+    Ok(cx.existential_predicates(&key) == list.as_slice())
+}
+
 // Whether a type that is made twice has one key, and another type another.
 fn one_key_each<I: Interner>(cx: &mut I) -> Result<bool, OutOfMemory> {
     let first = cx.mk_ty(TyKind::Bool)?;
@@ -29,6 +49,8 @@ fn one_key_each<I: Interner>(cx: &mut I) -> Result<bool, OutOfMemory> {
 fn reads_back_what_it_made(rt: HostRuntime) -> Result<(), Fail> {
     let mut cx = RefInterner::new(rt.alloc());
     assert!(rt; witness_reads_back(&mut cx, ItemId(0))?);
+    assert!(rt; variables_read_back(&mut cx, SymbolId(0))?);
+    assert!(rt; predicates_read_back(&mut cx, ItemId(0))?);
     Ok(())
 }
 
