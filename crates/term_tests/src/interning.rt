@@ -30,7 +30,8 @@ fn variables_read_back<I: Interner>(cx: &mut I, name: I::Name) -> Result<bool, O
 
 // Whether the predicates of a trait object, one under a binder of no variables, read back.
 fn predicates_read_back<I: Interner>(cx: &mut I, def: I::Id) -> Result<bool, OutOfMemory> {
-    let bound_vars = cx.mk_bound_vars(&[])?;
+    let variables = Vec::new(cx.alloc());
+    let bound_vars = cx.mk_bound_vars(&variables)?;
     let mut list = Vec::new(cx.alloc());
     list.push(Binder { value: ExistentialPredicate::AutoTrait(TraitId(def)), bound_vars })?;
     let key = cx.mk_existential_predicates(&list)?;
