@@ -58,7 +58,12 @@ impl<'a, I: Interner> TypeFolder<I> for Puts<'a, I::Key> {
     ghost replaces = { λ m f d t. tree_put m f.puts.now t };
 
     #[tactic(auto, using(relation_terms::proofs::Stays::stays_same))]
-    fn fold_ty(&mut self, cx: &mut I, ty: &Ty<I>, _depth: u128) -> Result<Fold<Ty<I>>, OutOfMemory> {
+    fn fold_ty(
+        &mut self,
+        cx: &mut I,
+        ty: &Ty<I>,
+        _depth: u128,
+    ) -> Result<Fold<Ty<I>>, OutOfMemory> {
         match put_for(cx, self.puts, GenericArgKind::Ty(*ty)) {
             Some(GenericArgKind::Ty(by)) => Ok(Fold::Replace(by)),
             Some(GenericArgKind::Lifetime(_)) => Ok(Fold::Descend),

@@ -33,7 +33,10 @@ fn predicates_read_back<I: Interner>(cx: &mut I, def: I::Id) -> Result<bool, Out
     let variables = Vec::new(cx.alloc());
     let bound_vars = cx.mk_bound_vars(&variables)?;
     let mut list = Vec::new(cx.alloc());
-    list.push(Binder { value: ExistentialPredicate::AutoTrait(TraitId(def)), bound_vars })?;
+    list.push(Binder {
+        value: ExistentialPredicate::AutoTrait(TraitId(def)),
+        bound_vars,
+    })?;
     let key = cx.mk_existential_predicates(&list)?;
     Ok(cx.existential_predicates(&key) == list.as_slice())
 }
