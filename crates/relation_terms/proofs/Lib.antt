@@ -5,4 +5,5 @@ pub mod Lists
 pub mod Binders
 pub mod Members
 pub mod Parts
+pub mod Orders
 pub mod Same

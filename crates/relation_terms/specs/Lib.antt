@@ -5,3 +5,4 @@ pub mod Meaning
 pub mod Interning
 pub mod Erasure
 pub mod Parts
+pub mod Orders

@@ -10,11 +10,34 @@ use Rattle.relation_terms.specs.Heads.{type_var, int_var, float_var, const_var, 
 use Rattle.relation_terms.specs.Heads.{Leaf, variable, bound, placeholder, atom, unknown}
 use Rattle.relation_terms.specs.Trees.{Tree, leaf, node, bind, nil, cons}
 use Rattle.relation_terms.specs.Parts.{parts_of}
+use Rattle.relation_terms.specs.Orders.{Order, in_turn, first_last, behind, in_order, order_of}
 use Rattle.relation_tools.specs.declared.visit.Visit.TheVariants.{Enter, Skip, Stop}
 use Rattle.relation_tools.specs.Visits.{is_visited, deeper, is_near, Flow, Walks, entered, skipped, stopped}
 use Rattle.relation_tools.specs.Visits.{passed_leaf, passed, in_binder, no_part, last_part, next_part}
 use Rattle.relation_tools.specs.Visits.{has_leaf, found_here, is_non_region_infer, is_escaping}
 use Rattle.relation_tools.specs.declared.visit.Visit.{Visit}
+
+-- A list in any order has the same leaves.
+or_behind : (a b c : Bool) → b || (a || c) ≡ a || (b || c)
+or_behind true true c = refl
+or_behind true false c = refl
+or_behind false b c = refl
+
+leaf_behind : (p : ℕ → Leaf → Bool) (d : ℕ) (t us : Tree) → has_leaf p d (behind t us) ≡ has_leaf p d (cons t us)
+leaf_behind p d t (cons u us) = ap (λ x. has_leaf p d u || x) (leaf_behind p d t us)
+    ∙ or_behind (has_leaf p d t) (has_leaf p d u) (has_leaf p d us)
+leaf_behind p d t (leaf l) = refl
+leaf_behind p d t (node h ts) = refl
+leaf_behind p d t (bind ks u) = refl
+leaf_behind p d t nil = refl
+
+in_any_order : (p : ℕ → Leaf → Bool) (d : ℕ) (o : Order) (ts : Tree) → has_leaf p d (in_order o ts) ≡ has_leaf p d ts
+in_any_order p d first_last (cons t ts) = leaf_behind p d t ts
+in_any_order p d first_last (leaf l) = refl
+in_any_order p d first_last (node h ts) = refl
+in_any_order p d first_last (bind ks u) = refl
+in_any_order p d first_last nil = refl
+in_any_order p d in_turn ts = refl
 
 -- Stopped where something was found.
 abbrev pub flow : Bool → Flow
@@ -114,7 +137,9 @@ module _ {V : Type 0} (visits : V → ℕ → Tree → V → Visit → Type 0) (
   searched f d b h v w t r (stopped i e) =
       ap flow (sym (stands_here b t (stopped_at (found_here p b t) (answers_at d b h v w t Stop e))))
   searched f d b h v w (leaf l) r (passed_leaf i) = ap flow (sym (f b l i))
-  searched f d b h v w (node g ts) r (passed i o) = searched f d b h v w ts r o
+  searched f d b h v w (node g ts) r (passed i o) =
+      let o' = order_of (node g ts) in
+      searched f d b h v w (in_order o' ts) r o ∙ ap flow (in_any_order p b o' ts)
   searched f d b h v w (bind ks t) r (in_binder o) = searched f (deeper d) (suc b) (told_deeper d b h) v w t r o
   searched f d b h v w nil r no_part = refl
   searched f d b h v w (cons t ts) r (last_part o) =

@@ -4,6 +4,8 @@ use Rattle.std.specs.declared.ops.ControlFlow.TheVariants.{Continue, Break}
 use Rattle.relation_terms.specs.Heads.{Sort, no_sort}
 use Rattle.relation_terms.specs.Trees.{Tree, leaf, node, bind, nil, cons, count, nth, IsList}
 use Rattle.relation_terms.specs.Parts.{parts_of, tree_sort, part_sort}
+use Rattle.relation_terms.specs.Orders.{in_order, order_of, in_turn}
+use Rattle.relation_terms.specs.Heads.{existential_projection}
 use Rattle.relation_terms.specs.declared.terms.part_kind.Part.{Part}
 use Rattle.relation_terms.specs.declared.terms.part_kind.Part.TheVariants.{Region, Ty, Const, ValTree, Pat, ValueType}
 use Rattle.relation_terms.specs.declared.terms.part_kind.Part.TheVariants.{Binder, Signature, Inputs, Existential}
@@ -22,6 +24,15 @@ visited_as (node h ts) s e = ap visited_sort e
 visited_as (bind ks t) s e = ap visited_sort e
 visited_as nil s e = ap visited_sort e
 visited_as (cons t ts) s e = ap visited_sort e
+
+-- The parts of what a visitor is asked about come one after another.
+pub visited_turn : (t : Tree) → is_visited t ≡ true → order_of t ≡ in_turn
+visited_turn (node (existential_projection d) ts) i = absurd (cc)
+visited_turn (node h ts) i = refl
+visited_turn (leaf l) i = refl
+visited_turn (bind ks t) i = refl
+visited_turn nil i = refl
+visited_turn (cons t ts) i = refl
 
 -- Each part is a term of a sort.
 pub has_sort : {Key Id : Type 0} (p : Part Key Id) → part_sort p ≡ no_sort → ⊥
@@ -80,7 +91,7 @@ module _ {V : Type 0} (visits : V → ℕ → Tree → V → Visit → Type 0) w
 module _ {V : Type 0} (visits : V → ℕ → Tree → V → Visit → Type 0) (d : ℕ) where
   -- A term that no visitor is asked about.
   pass : (v w : V) (t : Tree) (r : Flow) → (tree_sort t ≡ no_sort → ⊥) → is_visited t ≡ false →
-      Walks visits (told_inside t d) v (parts_of t) w r → Walks visits d v t w r
+      Walks visits (told_inside t d) v (in_order (order_of t) (parts_of t)) w r → Walks visits d v t w r
   pass v w (leaf l) r n i p =
       let o = over_nil visits d v w r p in
       subst₂ (λ x s. Walks visits d v (leaf l) x s) o.0 (sym o.1) (passed_leaf i)
@@ -91,13 +102,13 @@ module _ {V : Type 0} (visits : V → ℕ → Tree → V → Visit → Type 0) (
 
   -- What comes of each answer.
   pub when_entered : (b : Bool) (v w x : V) (t : Tree) (a : Visit) (r : Flow) → (tree_sort t ≡ no_sort → ⊥) →
-      is_visited t ≡ b → Asks visits b d v t w a → a ≡ Enter → Walks visits (told_inside t d) w (parts_of t) x r →
-      Walks visits d v t x r
+      is_visited t ≡ b → Asks visits b d v t w a → a ≡ Enter →
+      Walks visits (told_inside t d) w (in_order (order_of t) (parts_of t)) x r → Walks visits d v t x r
   when_entered true v w x t Enter r n i h e p =
-      entered i h (subst (λ k. Walks visits k w (parts_of t) x r) (visited_told t d i) p)
+      entered i h (subst₂ (λ k o. Walks visits k w (in_order o (parts_of t)) x r) (visited_told t d i) (visited_turn t i) p)
   when_entered true v w x t a r n i h e p = absurd (cc)
   when_entered false v w x t a r n i h e p =
-      pass v x t r n i (subst (λ u. Walks visits (told_inside t d) u (parts_of t) x r) h.0 p)
+      pass v x t r n i (subst (λ u. Walks visits (told_inside t d) u (in_order (order_of t) (parts_of t)) x r) h.0 p)
 
   pub when_skipped : (b : Bool) (v w : V) (t : Tree) (a : Visit) → is_visited t ≡ b → Asks visits b d v t w a →
       a ≡ Skip → Walks visits d v t w (Continue tt)

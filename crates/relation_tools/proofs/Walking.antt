@@ -3,6 +3,7 @@ use Rattle.std.proofs.Common.{◌≡◌, ℕ, refl, subst}
 use Rattle.std.specs.declared.ops.ControlFlow.TheVariants.{Continue, Break}
 use Rattle.relation_terms.specs.Trees.{Tree, leaf, node, bind, nil, cons}
 use Rattle.relation_terms.specs.Parts.{parts_of}
+use Rattle.relation_terms.specs.Orders.{in_order, order_of}
 use Rattle.relation_tools.specs.declared.visit.Visit.{Visit}
 use Rattle.relation_tools.specs.declared.visit.Visit.TheVariants.{Enter, Skip, Stop}
 use Rattle.relation_tools.specs.Visits.{Flow, Walks, deeper, entered, skipped, stopped}
@@ -31,7 +32,8 @@ module _ {V : Type 0} (visits : V → ℕ → Tree → V → Visit → Type 0)
       let same = one_answer d v w x t Stop Skip e f in absurd (cc)
   walks_once d v w x t q r (stopped i e) (stopped j f) = (one_visitor d v w x t Stop Stop e f, refl)
   walks_once d v w x t q r (passed_leaf i) (passed_leaf j) = (refl, refl)
-  walks_once d v w x (node h ts) q r (passed i o) (passed j n) = walks_once d v w x ts q r o n
+  walks_once d v w x (node h ts) q r (passed i o) (passed j n) =
+      walks_once d v w x (in_order (order_of (node h ts)) ts) q r o n
   walks_once d v w x (bind ks t) q r (in_binder o) (in_binder n) = walks_once (deeper d) v w x t q r o n
   walks_once d v w x t q r no_part no_part = (refl, refl)
   walks_once d v w x (cons t ts) q r (last_part o) (last_part n) = walks_once d v w x t (Break tt) (Break tt) o n

@@ -8,6 +8,7 @@ use Rattle.relation_terms.specs.Heads.{Atom, type_param, type_error, fresh_type,
 use Rattle.relation_terms.specs.Heads.{Leaf, variable, bound, atom}
 use Rattle.relation_terms.specs.Trees.{Tree, leaf, node, bind, nil, cons}
 use Rattle.relation_terms.specs.Parts.{parts_of}
+use Rattle.relation_terms.specs.Orders.{in_order, order_of}
 use Rattle.relation_terms.specs.declared.terms.part_kind.Part.{Part}
 use Rattle.relation_terms.specs.declared.terms.part_kind.Part.TheVariants.{Binder}
 use Rattle.relation_tools.specs.declared.visit.Visit.{Visit}
@@ -49,8 +50,8 @@ told_inside_part (Binder vs b) d = deeper d
 told_inside_part p d = d
 
 -- From one visitor, over a tree with `d` binders around it, to another: the visitor is asked about each type, region
--- and constant before its parts, and what it enters it goes over part by part, in order, until it stops. It is told how
--- many binders stand around what it is asked about, as far as there are numbers.
+-- and constant before its parts, and what it enters it goes over part by part, in the form's order, until it stops. It
+-- is told how many binders stand around what it is asked about, as far as there are numbers.
 pub data Walks {V : Type 0} (visits : V → ℕ → Tree → V → Visit → Type 0) : ℕ → V → Tree → V → Flow → Type 0 where
   -- a term whose parts are gone over, one whose parts are not, and one that is the last
   entered : {d : ℕ} {v w x : V} {t : Tree} {r : Flow} → is_visited t ≡ true → visits v d t w Enter →
@@ -61,7 +62,7 @@ pub data Walks {V : Type 0} (visits : V → ℕ → Tree → V → Visit → Typ
   -- what stands between a term and its parts, which no visitor is asked about
   passed_leaf : {d : ℕ} {v : V} {l : Leaf} → is_visited (leaf l) ≡ false → Walks visits d v (leaf l) v (Continue tt)
   passed : {d : ℕ} {v w : V} {h : Head} {ts : Tree} {r : Flow} → is_visited (node h ts) ≡ false →
-      Walks visits d v ts w r → Walks visits d v (node h ts) w r
+      Walks visits d v (in_order (order_of (node h ts)) ts) w r → Walks visits d v (node h ts) w r
   -- what stands under a binder, one binder deeper
   in_binder : {d : ℕ} {v w : V} {ks : List BoundKind} {t : Tree} {r : Flow} → Walks visits (deeper d) v t w r →
       Walks visits d v (bind ks t) w r

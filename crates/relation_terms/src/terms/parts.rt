@@ -6,6 +6,7 @@
 mod forms;
 mod keys;
 mod members;
+mod orders;
 mod same;
 mod whole;
 
@@ -14,5 +15,6 @@ pub use keys::{
     the_region, the_ty, the_tys, the_valtree,
 };
 pub use members::{make_parts, member, member_count};
+pub use orders::visited_place;
 pub use same::is_same;
 pub use whole::{part, parts_count, parts_of, with_parts};

@@ -4,11 +4,12 @@
 //! The part of a binder stands one binder deeper, and all others as deep as the term that they are parts of.
 ghost use Rattle.std.specs.Prelude.{◌≡◌, IsTrue};
 ghost use Rattle.relation_terms.specs.Trees.{known};
+ghost use Rattle.relation_terms.specs.Orders.{in_order, list_order};
 ghost use Rattle.relation_terms.specs.Parts.{part_tree, parts_tree, part_sort};
 ghost use Rattle.relation_tools.specs.Visits.{Walks, Asks, visited_sort, told_inside_part};
 
 use crate::visit::{TypeVisitor, Visit};
-use relation_terms::terms::parts::{member, member_count, parts_of};
+use relation_terms::terms::parts::{member, member_count, parts_of, visited_place};
 use relation_terms::terms::{Interner, Part, PartOf, PartsOf};
 use std::ops::ControlFlow;
 
@@ -63,7 +64,7 @@ pub fn visit_part<I: Interner, V: TypeVisitor<I>>(
     }
 }
 
-// Goes over the members of a list, in order.
+// Goes over the members of a list, in the list's order.
 #[cycle(walk)]
 pub fn visit_list<I: Interner, V: TypeVisitor<I>>(
     cx: &I,
@@ -73,10 +74,12 @@ pub fn visit_list<I: Interner, V: TypeVisitor<I>>(
 ) -> ControlFlow<()>
     requires { IsTrue (known (parts_tree (I.meaning cx.now) parts.now)) }
     ensures { Walks (V.visits cx.now) depth visitor.old
-        (parts_tree (I.meaning cx.now) parts.now) visitor.new result }
+        (in_order (list_order parts.now) (parts_tree (I.meaning cx.now) parts.now)) visitor.new result }
 {
-    for i in 0..member_count(cx, parts) {
-        visit_part(cx, &member(cx, parts, i), depth, visitor)?;
+    let count = member_count(cx, parts);
+    for step in 0..count {
+        let part = member(cx, parts, visited_place(parts, count, step));
+        visit_part(cx, &part, depth, visitor)?;
     }
     ControlFlow::Continue(())
 }

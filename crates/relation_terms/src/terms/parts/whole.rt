@@ -5,6 +5,7 @@ ghost use Rattle.relation_terms.specs.Meaning.{Extends, signature_tree, existent
 ghost use Rattle.relation_terms.specs.declared.terms.part_kind.Part.TheVariants.{Binder as BinderPart, Signature as SignaturePart};
 ghost use Rattle.relation_terms.specs.declared.terms.part_kind.Part.TheVariants.{Inputs as InputsPart, Object as ObjectPart};
 ghost use Rattle.relation_terms.specs.declared.terms.part_kind.Part.TheVariants.{Existential as ExistentialPart};
+ghost use Rattle.relation_terms.specs.Orders.{list_order, order_of};
 ghost use Rattle.relation_terms.specs.Parts.{part_tree, parts_tree, part_sort, Fit, over};
 ghost use Rattle.relation_terms.specs.Parts.{parts_of as list_of_parts};
 
@@ -26,6 +27,7 @@ pub fn parts_of<I: Interner>(cx: &I, term: &PartOf<I>) -> PartsOf<I>
     requires { IsTrue (known (part_tree (I.meaning cx.now) term.now)) }
     ensures sure { IsTrue (known (parts_tree (I.meaning cx.now) result)) }
     ensures means { parts_tree (I.meaning cx.now) result ≡ list_of_parts (part_tree (I.meaning cx.now) term.now) }
+    ensures order { list_order result ≡ order_of (part_tree (I.meaning cx.now) term.now) }
 {
     match term {
         Part::Region(_) => Parts::Empty,

@@ -1,6 +1,8 @@
 use Rattle.std.proofs.Common.{◌∙◌, ◌≡◌, IsTrue, sym, ap, subst}
 use Rattle.relation_terms.specs.Trees.{known}
 use Rattle.relation_terms.specs.Parts.{part_tree, parts_tree, parts_of}
+use Rattle.relation_terms.specs.Orders.{order_of}
+use Rattle.relation_terms.proofs.Orders.{ty_order}
 use Rattle.relation_terms.proofs.Stays.{knows_as}
 use Rattle.relation_terms.proofs.Parts.{ty_seen, known_parts}
 use Rattle.relation_terms.proofs.terms.parts.whole.parts_of.Goals as goal
@@ -15,4 +17,6 @@ returns-in-Ty g c =
     record {
       sure = knows_as (parts_of t) (parts_tree m v) seen (known_parts t k);
       means = seen ∙ ap (λ p. parts_of (part_tree m p)) (sym c.in-Ty.is);
+      order = ty_order m v t c.ty_kind.result c.ty_kind.ensures c.ty_parts.ensures
+          ∙ ap (λ p. order_of (part_tree m p)) (sym c.in-Ty.is);
     }
