@@ -11,6 +11,7 @@ use Rattle.relation_asking.specs.Meets.{answer_at, Meets, AllKnown, Asks}
 use Rattle.relation_asking.proofs.PutLemmas.{Compares, answer_means}
 use Rattle.relation_tools.specs.declared.visit.Visit.{Visit}
 use Rattle.relation_terms.specs.Parts.{parts_of}
+use Rattle.relation_terms.specs.Orders.{in_order, order_of}
 use Rattle.relation_tools.specs.Visits.{Flow, Walks, deeper, entered, skipped, stopped}
 use Rattle.relation_tools.specs.Visits.{passed_leaf, passed, in_binder, no_part, last_part, next_part}
 
@@ -31,7 +32,8 @@ module _ {V W : Type 0} (f : V → W) (A : V → ℕ → Tree → V → Visit �
       let one = step v w d t _ e p in (one.0, λ k. let s = one.1 k in (s.0, stopped i s.1))
   walks_as d v w (leaf l) r (passed_leaf i) p = (p, λ k. (k, passed_leaf i))
   walks_as d v w (node h ts) r (passed i o) p =
-      let more = walks_as d v w ts r o p in (more.0, λ k. let q = more.1 k in (q.0, passed i q.1))
+      let more = walks_as d v w (in_order (order_of (node h ts)) ts) r o p in
+      (more.0, λ k. let q = more.1 k in (q.0, passed i q.1))
   walks_as d v w (bind ks t) r (in_binder o) p =
       let more = walks_as (deeper d) v w t r o p in (more.0, λ k. let q = more.1 k in (q.0, in_binder q.1))
   walks_as d v w nil r no_part p = (p, λ k. (k, no_part))

@@ -154,7 +154,8 @@ pub(super) fn fold<I: Interner>(
     ensures grown { Extends (I.meaning cx.old) (I.meaning cx.new) }
     ensures sure { IfOk result (λ key. IsTrue (known (arg_tree (I.meaning cx.new) key))) }
     ensures made { let m = I.meaning cx.old in
-        IfOk result (λ key. arg_tree (I.meaning cx.new) key ≡ folded (λ d. tree_put m puts.now) 0 (arg_tree m term.now)) }
+        IfOk result (λ key. arg_tree (I.meaning cx.new) key ≡
+        folded (λ d. tree_put m puts.now) 0 (arg_tree m term.now)) }
 {
     term.fold_with(cx, &mut Puts { puts })
 }

@@ -89,7 +89,8 @@ impl<'a, I: Interner> TypeVisitor<I> for Collects<'a, I::Key> {
 // Goes over a term, and answers whether the visitor stopped.
 fn walk<I: Interner>(cx: &I, term: &GenericArg<I>, visitor: &mut Collects<I::Key>) -> bool
     requires { IsTrue (known (arg_tree (I.meaning cx.now) term.now)) }
-    ensures { Walks (Asks (I.meaning cx.now)) 0 visitor.old (arg_tree (I.meaning cx.now) term.now) visitor.new (flow result) }
+    ensures { Walks (Asks (I.meaning cx.now)) 0 visitor.old
+        (arg_tree (I.meaning cx.now) term.now) visitor.new (flow result) }
 {
     match term.visit_with(cx, visitor) {
         ControlFlow::Break(()) => true,

@@ -78,6 +78,7 @@ order_nth first_last (cons t ts) k h = decided (nat_lt (suc k) (suc (count ts)))
   where
     placed : Bool → Tree
     placed b = nth (cond b (suc k) 0) (cons t ts)
+
     decided : (b : Bool) → nat_lt (suc k) (suc (count ts)) ≡ b →
         nth k (behind t ts) ≡ placed (nat_lt (suc k) (suc (count ts)))
     decided true i =

@@ -2,10 +2,11 @@
 ghost use Rattle.std.specs.Prelude.{IsTrue};
 ghost use Rattle.relation_terms.specs.Trees.{known};
 
-use reference_interner::{RefInterner, SymbolId};
+use reference_interner::{ItemId, RefInterner, SymbolId};
+use relation_terms::predicate::ExistentialProjection;
 use relation_terms::terms::{
-    Const, ConstKind, GenericArgKind, Interner, OutOfMemory, ParamConst, Region, TermKind, Ty,
-    TyKind, ValTreeKind,
+    Const, ConstKind, GenericArgKind, Interner, OutOfMemory, ParamConst, Region, TermKind,
+    TraitAssocTermId, Ty, TyKind, ValTreeKind,
 };
 use relation_tools::error::{ExpectedFound, TypeError, TypeErrorOf};
 use relation_tools::visit::{TypeSuperVisitable, TypeVisitable, TypeVisitor, Visit};
@@ -24,6 +25,29 @@ impl<I: Interner> TypeVisitor<I> for Stops {
 
     fn visit_region(&mut self, _cx: &I, _region: &Region<I>, _depth: u128) -> Visit {
         Visit::Stop
+    }
+
+    fn visit_const(&mut self, _cx: &I, _constant: &Const<I>, _depth: u128) -> Visit {
+        Visit::Stop
+    }
+}
+
+// Counts the types before the first constant.
+#[derive(Clone, Copy)]
+struct CountsTypes {
+    types: usize,
+}
+
+impl<I: Interner> TypeVisitor<I> for CountsTypes {
+    ghost visits = { λ cx v d t w a. Unit {0} };
+
+    fn visit_ty(&mut self, _cx: &I, _ty: &Ty<I>, _depth: u128) -> Visit {
+        self.types = self.types.saturating_add(1);
+        Visit::Enter
+    }
+
+    fn visit_region(&mut self, _cx: &I, _region: &Region<I>, _depth: u128) -> Visit {
+        Visit::Enter
     }
 
     fn visit_const(&mut self, _cx: &I, _constant: &Const<I>, _depth: u128) -> Visit {
@@ -77,6 +101,27 @@ fn wholes_are_left_out<I: Interner>(cx: &mut I, name: &I::Name) -> Result<bool, 
     Ok(!in_ty && !in_const)
 }
 
+// Whether the arguments of a projection are visited before its term.
+#[tactic(auto, using(relation_terms::proofs::Stays::knows_ty, relation_terms::proofs::Stays::knows_const))]
+fn arguments_come_before_a_term<I: Interner>(
+    cx: &mut I,
+    def: I::Id,
+    name: I::Name,
+) -> Result<bool, OutOfMemory> {
+    let ty = cx.mk_ty(TyKind::Bool)?;
+    let constant = cx.mk_const(ConstKind::Param(ParamConst { index: 0, name }))?;
+    let mut args = Vec::new(cx.alloc());
+    args.push(GenericArgKind::Ty(ty))?;
+    let projection = ExistentialProjection {
+        def_id: TraitAssocTermId(def),
+        args: cx.mk_args(&args)?,
+        term: TermKind::Const(constant),
+    };
+    let mut visitor = CountsTypes { types: 0 };
+    let _ = projection.visit_with(cx, &mut visitor);
+    Ok(visitor.types == 1)
+}
+
 #[test]
 fn lists_pairs_and_parts_ask(rt: HostRuntime) -> Result<(), Fail> {
     let mut cx = RefInterner::new(rt.alloc());
@@ -84,5 +129,6 @@ fn lists_pairs_and_parts_ask(rt: HostRuntime) -> Result<(), Fail> {
     assert!(rt; nothing_asks(&mut cx)?);
     assert!(rt; pairs_ask(&mut cx)?);
     assert!(rt; wholes_are_left_out(&mut cx, &SymbolId(0))?);
+    assert!(rt; arguments_come_before_a_term(&mut cx, ItemId(0), SymbolId(0))?);
     Ok(())
 }
