@@ -7,3 +7,5 @@ pub mod Searching
 pub mod Walking
 pub mod Folding
 pub mod Members
+pub mod Clashing
+pub mod Outlining

@@ -1,3 +1,5 @@
 pub mod Faults
 pub mod Visits
 pub mod Folds
+pub mod Clashes
+pub mod Outlines
