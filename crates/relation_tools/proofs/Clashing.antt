@@ -359,6 +359,7 @@ values_decide l r d x y v w o h =
     last : Clash l r d v w ⊎ Clash l r d nil nil → Clash l r d v w
     last (inl c) = c
     last (inr c) = absurd (nil_left c)
+
     only : Clash l r d (node value_type x) (node value_type y) ⊎ Clash l r d (cons v nil) (cons w nil) → Clash l r d v w
     only (inl c) = absurd (quiet_clash c refl)
     only (inr c) = last (cons_clash c)

@@ -9,3 +9,4 @@ pub mod Folding
 pub mod Members
 pub mod Clashing
 pub mod Outlining
+pub mod Keying

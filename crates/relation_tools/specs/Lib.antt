@@ -3,3 +3,4 @@ pub mod Visits
 pub mod Folds
 pub mod Clashes
 pub mod Outlines
+pub mod HeadKeys

@@ -49,9 +49,11 @@ impl<I: Interner> DeepRejectCtxt<I, false, true> {
     }
 }
 
-impl<I: Interner, const INSTANTIATE_LHS_WITH_INFER: bool, const INSTANTIATE_RHS_WITH_INFER: bool>
-    DeepRejectCtxt<I, INSTANTIATE_LHS_WITH_INFER, INSTANTIATE_RHS_WITH_INFER>
-{
+impl<
+    I: Interner,
+    const INSTANTIATE_LHS_WITH_INFER: bool,
+    const INSTANTIATE_RHS_WITH_INFER: bool,
+> DeepRejectCtxt<I, INSTANTIATE_LHS_WITH_INFER, INSTANTIATE_RHS_WITH_INFER> {
     /// Whether two lists of arguments may unify, pair by pair, as far as the shorter one goes. The interner has to know
     /// both.
     pub fn args_may_unify(

@@ -306,13 +306,7 @@ pub fn may_stand_for<I: Interner>(
     match kind {
         TyKind::Infer(var) => Some(var_and_ty_may_unify(cx, var, other)),
         TyKind::Alias(_) | TyKind::Bound(..) | TyKind::Error(_) => Some(true),
-        TyKind::Param(_) => {
-            if params {
-                Some(true)
-            } else {
-                None
-            }
-        }
+        TyKind::Param(_) => { if params { Some(true) } else { None } }
         TyKind::Bool
         | TyKind::Char
         | TyKind::Int(_)

@@ -183,7 +183,13 @@ pub fn parts_may_unify<I: Interner>(
 {
     let count = member_count(cx, left).min(member_count(cx, right));
     for i in 0..count {
-        if !part_may_unify(cx, sides, &member(cx, left, i), &member(cx, right, i), depth) {
+        if !part_may_unify(
+            cx,
+            sides,
+            &member(cx, left, i),
+            &member(cx, right, i),
+            depth,
+        ) {
             return false;
         }
     }

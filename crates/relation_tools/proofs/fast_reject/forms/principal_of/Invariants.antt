@@ -9,5 +9,5 @@ abbrev pub invariant-loop-predicate : goal.invariant-loop-predicate
 invariant-loop-predicate g l = record {
   sure : IsTrue (known (list_tree (object_predicate_tree (g.I.Interner.meaning l.cx)) (drop l.predicate-index l.predicate-items)));
   same : principal (list_tree (object_predicate_tree (g.I.Interner.meaning l.cx)) (drop l.predicate-index l.predicate-items))
-      ≡ principal ((g.I.Interner.meaning l.cx).existential_predicates l.predicates)
+      ≡ principal ((g.I.Interner.meaning l.cx).existential_predicates l.predicates);
 }

@@ -30,5 +30,5 @@ invariant-parts_may_unify-loop-i g l = record {
   back : Clash l.sides.left l.sides.right l.depth (rest l.i (parts_tree (g.I.Interner.meaning l.cx) l.left))
       (rest l.i (parts_tree (g.I.Interner.meaning l.cx) l.right)) →
       Clash l.sides.left l.sides.right l.depth (parts_tree (g.I.Interner.meaning l.cx) l.left)
-      (parts_tree (g.I.Interner.meaning l.cx) l.right)
+      (parts_tree (g.I.Interner.meaning l.cx) l.right);
 }
