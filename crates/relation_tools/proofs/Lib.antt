@@ -7,3 +7,6 @@ pub mod Searching
 pub mod Walking
 pub mod Folding
 pub mod Members
+pub mod Clashing
+pub mod Outlining
+pub mod Keying

@@ -54,7 +54,7 @@ rest zero t = t
 rest (suc i) (cons t ts) = rest i ts
 rest (suc i) t = nil
 
-rest_next : (i : ℕ) (ts : Tree) → i < count ts → rest i ts ≡ cons (nth i ts) (rest (suc i) ts)
+pub rest_next : (i : ℕ) (ts : Tree) → i < count ts → rest i ts ≡ cons (nth i ts) (rest (suc i) ts)
 rest_next zero (cons t ts) h = refl
 rest_next (suc i) (cons t ts) h = rest_next i ts (omega arith)
 rest_next i (leaf l) h = absurd (omega arith)
@@ -62,7 +62,7 @@ rest_next i (node g ts) h = absurd (omega arith)
 rest_next i (bind ks t) h = absurd (omega arith)
 rest_next i nil h = absurd (omega arith)
 
-rest_end : (i : ℕ) (ts : Tree) → IsList ts → i ≡ count ts → rest i ts ≡ nil
+pub rest_end : (i : ℕ) (ts : Tree) → IsList ts → i ≡ count ts → rest i ts ≡ nil
 rest_end zero nil l e = refl
 rest_end (suc i) nil l e = refl
 rest_end zero (cons t ts) l e = absurd (omega arith)
@@ -70,6 +70,14 @@ rest_end (suc i) (cons t ts) l e = rest_end i ts l (omega arith)
 rest_end i (leaf x) l e = absurd l
 rest_end i (node g ts) l e = absurd l
 rest_end i (bind ks t) l e = absurd l
+
+pub rest_list : (i : ℕ) (ts : Tree) → IsList ts → IsList (rest i ts)
+rest_list zero ts l = l
+rest_list (suc i) (cons t ts) l = rest_list i ts l
+rest_list (suc i) (leaf x) l = tt
+rest_list (suc i) (node g ts) l = tt
+rest_list (suc i) (bind ks t) l = tt
+rest_list (suc i) nil l = tt
 
 module _ {V : Type 0} (visits : V → ℕ → Tree → V → Visit → Type 0) where
   over_nil : (d : ℕ) (v w : V) (r : Flow) → Walks visits d v nil w r → (v ≡ w) × (r ≡ Continue tt)

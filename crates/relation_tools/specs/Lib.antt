@@ -1,3 +1,6 @@
 pub mod Faults
 pub mod Visits
 pub mod Folds
+pub mod Clashes
+pub mod Outlines
+pub mod HeadKeys

@@ -2,6 +2,7 @@
 #![tactic(auto)]
 
 pub mod error;
+pub mod fast_reject;
 pub mod fold;
 pub mod tree;
 pub mod visit;

@@ -1,0 +1,205 @@
+-- The outlines of forms, and which forms are alike.
+use Rattle.std.proofs.Common.{◌≡◌, ◌↔◌, ℕ, Bool, true, false, ◌&&◌, IsTrue, Option, Some, None, cond, refl, sym, ap, ◌∙◌, subst, List, [], ◌∷◌}
+use Rattle.std.proofs.lemmas.Bool.{and_parts, false≢true}
+use Rattle.std.specs.Cmp.Derive.{both_true}
+use Rattle.relation_terms.specs.Heads.{Head, adt, fn_def, closure, coroutine_closure, coroutine, coroutine_witness, array}
+use Rattle.relation_terms.specs.Heads.{slice, pattern_type, tuple, unsafe_binder, dynamic, fn_ptr, raw_ptr, ref, value}
+use Rattle.relation_terms.specs.Heads.{value_branch}
+use Rattle.relation_terms.specs.declared.terms.enums.Mutability.{Mutability}
+use Rattle.relation_terms.specs.declared.terms.enums.Mutability.TheVariants.{Not, Mut}
+use Rattle.relation_terms.specs.declared.terms.fn_sig.FnHeader.{FnHeader}
+use Rattle.relation_terms.specs.Trees.{Tree, leaf, node, bind, nil, cons, known, count, list_tree}
+use Rattle.relation_terms.specs.Meaning.{Meaning, const_tree, valtree_tree, object_predicate_tree, existential_tree, under}
+use Rattle.relation_terms.proofs.Binders.{under_known}
+use Rattle.relation_terms.specs.declared.terms.keys.TyKey.{TyKey}
+use Rattle.relation_terms.specs.declared.terms.keys.ValTreeKey.{ValTreeKey}
+use Rattle.relation_terms.specs.declared.terms.keys.BranchesKey.{BranchesKey}
+use Rattle.relation_terms.specs.declared.terms.binder.Binder.{Binder}
+use Rattle.relation_terms.specs.Heads.{BoundKind}
+use Rattle.relation_terms.specs.declared.predicate.ExistentialPredicate.{ExistentialPredicate}
+use Rattle.relation_terms.specs.declared.predicate.ExistentialPredicate.TheVariants.{Trait, Projection, AutoTrait}
+use Rattle.relation_terms.specs.declared.terms.const_kind.ConstKind.{ConstKind}
+use Rattle.relation_terms.specs.declared.terms.const_kind.ConstKind.TheVariants.{Param, Placeholder, Infer, Bound}
+use Rattle.relation_terms.specs.declared.terms.const_kind.ConstKind.TheVariants.{Unevaluated, Value, Error, Expr}
+use Rattle.relation_terms.specs.declared.terms.const_kind.InferConst.TheVariants.{Var, Fresh}
+use Rattle.relation_terms.specs.declared.terms.const_kind.ValTreeKind.{ValTreeKind}
+use Rattle.relation_terms.specs.declared.terms.const_kind.ValTreeKind.TheVariants.{Leaf as LeafTree, Branch as BranchTree}
+use Rattle.relation_tools.specs.declared.fast_reject.forms.Form.{Form}
+use Rattle.relation_tools.specs.declared.fast_reject.forms.Form.TheVariants.{Leaf, Branch}
+use Rattle.relation_tools.specs.declared.fast_reject.forms.Outline.{Outline}
+use Rattle.relation_tools.specs.Clashes.{flexible, may_stand, outline, Alike, principal, counted, pointer_form}
+use Rattle.relation_tools.specs.Clashes.{reference_form}
+use Rattle.relation_tools.specs.Outlines.{named, named_outline, tree_outline, stands, trait_in, trait_in_predicate}
+
+pointer_no_leaf : (m : Mutability) → pointer_form m ≡ Leaf → ⊥
+pointer_no_leaf Not e = cc
+pointer_no_leaf Mut e = cc
+
+reference_no_leaf : (m : Mutability) → reference_form m ≡ Leaf → ⊥
+reference_no_leaf Not e = cc
+reference_no_leaf Mut e = cc
+
+-- No form over parts is a leaf.
+node_form : (h : Head) (ts : Tree) → (outline h ts).form ≡ Leaf → ⊥
+node_form (adt d) ts e = cc
+node_form (fn_def d) ts e = cc
+node_form (closure d) ts e = cc
+node_form (coroutine_closure d) ts e = cc
+node_form (coroutine d) ts e = cc
+node_form (coroutine_witness d) ts e = cc
+node_form array ts e = cc
+node_form slice ts e = cc
+node_form pattern_type ts e = cc
+node_form (raw_ptr m) ts e = pointer_no_leaf m e
+node_form (ref m) ts e = reference_no_leaf m e
+node_form h ts e = cc
+
+leaf_unlike : (a b : Tree) → (a ≡ b → ⊥) → (tree_outline a).form ≡ Leaf → Alike a b → ⊥
+leaf_unlike (node h ts) b n e k = node_form h ts e
+leaf_unlike (leaf l) b n e k = n k
+leaf_unlike (bind ks t) b n e k = n k
+leaf_unlike nil b n e k = n k
+leaf_unlike (cons t ts) b n e k = n k
+
+alike_outlines : (a b : Tree) → (a ≡ b → ⊥) → Alike a b → tree_outline a ≡ tree_outline b
+alike_outlines (node h ts) (node g us) n k = k
+alike_outlines (node h ts) (leaf l) n k = absurd (n k)
+alike_outlines (node h ts) (bind ks t) n k = absurd (n k)
+alike_outlines (node h ts) nil n k = absurd (n k)
+alike_outlines (node h ts) (cons u us) n k = absurd (n k)
+alike_outlines (leaf l) b n k = absurd (n k)
+alike_outlines (bind ks t) b n k = absurd (n k)
+alike_outlines nil b n k = absurd (n k)
+alike_outlines (cons t ts) b n k = absurd (n k)
+
+outlines_alike : (a b : Tree) → ((tree_outline a).form ≡ Leaf → ⊥) → tree_outline a ≡ tree_outline b → Alike a b
+outlines_alike (node h ts) (node g us) f e = e
+outlines_alike (node h ts) (leaf l) f e = absurd (f (ap (λ o. o.form) e))
+outlines_alike (node h ts) (bind ks t) f e = absurd (f (ap (λ o. o.form) e))
+outlines_alike (node h ts) nil f e = absurd (f (ap (λ o. o.form) e))
+outlines_alike (node h ts) (cons u us) f e = absurd (f (ap (λ o. o.form) e))
+outlines_alike (leaf l) b f e = absurd (f refl)
+outlines_alike (bind ks t) b f e = absurd (f refl)
+outlines_alike nil b f e = absurd (f refl)
+outlines_alike (cons t ts) b f e = absurd (f refl)
+
+-- What a test of two outlines answers, step by step.
+module _ {D : Type 0} (number : D → ℕ) (x y : Outline D) (a b : Tree) (p : named_outline number x ≡ tree_outline a)
+    (q : named_outline number y ≡ tree_outline b) (n : a ≡ b → ⊥) where
+  one_outline : Alike a b → named_outline number x ≡ named_outline number y
+  one_outline k = p ∙ alike_outlines a b n k ∙ sym q
+
+  pub unlike_leaf : x.form ≡ Leaf → Alike a b → ⊥
+  unlike_leaf e k = leaf_unlike a b n (sym (ap (λ o. o.form) p) ∙ e) k
+
+  pub one_form : Alike a b → x.form ≡ y.form
+  one_form k = ap (λ o. o.form) (one_outline k)
+
+  pub one_count : Alike a b → x.parts ≡ y.parts
+  one_count k = ap (λ o. o.parts) (one_outline k)
+
+  pub one_header : Alike a b → x.header ≡ y.header
+  one_header k = ap (λ o. o.header) (one_outline k)
+
+  pub one_item : Alike a b → named number x.item ≡ named number y.item
+  one_item k = ap (λ o. o.item) (one_outline k)
+
+  pub all_alike : (x.form ≡ Leaf → ⊥) → x.form ≡ y.form → x.parts ≡ y.parts → x.header ≡ y.header →
+      named number x.item ≡ named number y.item → Alike a b
+  all_alike f e o h i = outlines_alike a b (λ z. f (ap (λ w. w.form) p ∙ z)) (sym p ∙ same ∙ q)
+    where
+      same : named_outline number x ≡ named_outline number y
+      same = cc
+
+-- What is told of one that may stand for others, and of one that may not.
+some_cond : (f x w : Bool) → cond f (Some x) None ≡ Some w → (f ≡ true) × (w ≡ x)
+some_cond true x w e = (refl, let q : x ≡ w = cc in sym q)
+some_cond false x w e = absurd (cc)
+
+pub some_stands : (p : Bool) (a b : Tree) (w : Bool) → stands p a b ≡ Some w → (flexible p a ≡ true) × (w ≡ may_stand a b)
+some_stands p a b w e = some_cond (flexible p a) (may_stand a b) w e
+
+none_cond : (f x : Bool) (o : Option Bool) → o ≡ cond f (Some x) None → ((w : Bool) → o ≡ Some w → ⊥) → f ≡ false
+none_cond true x o e n = absurd (n x e)
+none_cond false x o e n = refl
+
+pub none_stands : (p : Bool) (a b : Tree) (o : Option Bool) → o ≡ stands p a b → ((w : Bool) → o ≡ Some w → ⊥) →
+    flexible p a ≡ false
+none_stands p a b o e n = none_cond (flexible p a) (may_stand a b) o e n
+
+module _ {Key Id Name : Type 0} (m : Meaning Key Id Name) where
+  -- A constant that is no value and stands for itself is like itself alone, and a value is like values alone.
+  pub const_unlike : (p : Bool) (k : ConstKind Key Id Name) (b : Tree) → flexible p (const_tree m k) ≡ false →
+      ((t : TyKey Key) (v : ValTreeKey Key) → k ≡ Value t v → ⊥) → Alike (const_tree m k) b → const_tree m k ≡ b
+  const_unlike p (Param x) b f n e = e
+  const_unlike p (Placeholder x) b f n e = e
+  const_unlike p (Infer (Var v)) b f n e = e
+  const_unlike p (Infer (Fresh v)) b f n e = e
+  const_unlike p (Bound d x) b f n e = e
+  const_unlike p (Error x) b f n e = e
+  const_unlike p (Unevaluated u) b f n e = absurd (cc)
+  const_unlike p (Expr o x) b f n e = absurd (cc)
+  const_unlike p (Value t v) b f n e = absurd (n t v refl)
+
+  pub value_unlike : (p : Bool) (k : ConstKind Key Id Name) (ts : Tree) → flexible p (const_tree m k) ≡ false →
+      ((t : TyKey Key) (v : ValTreeKey Key) → k ≡ Value t v → ⊥) → Alike (node value ts) (const_tree m k) → ⊥
+  value_unlike p (Param x) ts f n e = cc
+  value_unlike p (Placeholder x) ts f n e = cc
+  value_unlike p (Infer (Var v)) ts f n e = cc
+  value_unlike p (Infer (Fresh v)) ts f n e = cc
+  value_unlike p (Bound d x) ts f n e = cc
+  value_unlike p (Error x) ts f n e = cc
+  value_unlike p (Unevaluated u) ts f n e = cc
+  value_unlike p (Expr o x) ts f n e = cc
+  value_unlike p (Value t v) ts f n e = n t v refl
+
+  -- Value trees stand for themselves; a leaf is like itself alone, branches like branches alone.
+  pub valtree_rigid : (p : Bool) (k : ValTreeKind Key) → flexible p (valtree_tree m k) ≡ false
+  valtree_rigid p (LeafTree x s) = refl
+  valtree_rigid p (BranchTree x) = refl
+
+  pub valtree_unlike : (k : ValTreeKind Key) (b : Tree) → ((x : BranchesKey Key) → k ≡ BranchTree x → ⊥) →
+      Alike (valtree_tree m k) b → valtree_tree m k ≡ b
+  valtree_unlike (LeafTree x s) b n e = e
+  valtree_unlike (BranchTree x) b n e = absurd (n x refl)
+
+  pub branch_unlike : (k : ValTreeKind Key) (ts : Tree) → ((x : BranchesKey Key) → k ≡ BranchTree x → ⊥) →
+      Alike (node value_branch ts) (valtree_tree m k) → ⊥
+  branch_unlike (LeafTree x s) ts n e = cc
+  branch_unlike (BranchTree x) ts n e = n x refl
+
+  -- The principal, by the first predicate of a list that is a trait.
+  step_under : (o : Option (List BoundKind)) (p : ExistentialPredicate Key Id) (ts : Tree) (d : Id) →
+      IsTrue (known (under o (existential_tree m p))) → trait_in_predicate p ≡ Some d →
+      principal (cons (under o (existential_tree m p)) ts) ≡ Some (m.id d)
+  step_under (Some ks) (Trait t) ts d k e = let q : (t.def_id).0 ≡ d = cc in ap (λ x. Some (m.id x)) q
+  step_under (Some ks) (Projection t) ts d k e = absurd (cc)
+  step_under (Some ks) (AutoTrait t) ts d k e = absurd (cc)
+  step_under None p ts d k e = absurd (false≢true k)
+
+  pass_under : (o : Option (List BoundKind)) (p : ExistentialPredicate Key Id) (ts : Tree) →
+      IsTrue (known (under o (existential_tree m p))) → ((d : Id) → trait_in_predicate p ≡ Some d → ⊥) →
+      principal (cons (under o (existential_tree m p)) ts) ≡ principal ts
+  pass_under (Some ks) (Trait t) ts k n = absurd (n ((t.def_id).0) refl)
+  pass_under (Some ks) (Projection t) ts k n = refl
+  pass_under (Some ks) (AutoTrait t) ts k n = refl
+  pass_under None p ts k n = absurd (false≢true k)
+
+  pub principal_here : (b : Binder Key (ExistentialPredicate Key Id)) (ts : Tree) (d : Id) →
+      IsTrue (known (object_predicate_tree m b)) → trait_in b ≡ Some d →
+      principal (cons (object_predicate_tree m b) ts) ≡ Some (m.id d)
+  principal_here b ts d k e = step_under (m.bound_vars b.bound_vars) b.value ts d k e
+
+  pub principal_further : (b : Binder Key (ExistentialPredicate Key Id)) (ts : Tree) →
+      IsTrue (known (object_predicate_tree m b)) → ((d : Id) → trait_in b ≡ Some d → ⊥) →
+      principal (cons (object_predicate_tree m b) ts) ≡ principal ts
+  principal_further b ts k n = pass_under (m.bound_vars b.bound_vars) b.value ts k n
+
+pub branch_counts : (x y : Tree) → Alike (node value_branch x) (node value_branch y) → count x ≡ count y
+branch_counts x y e = ap (λ o. o.parts) e
+
+pub branch_alike : (x y : Tree) → count x ≡ count y → Alike (node value_branch x) (node value_branch y)
+branch_alike x y e = ap (λ n. counted {D = ℕ} Branch n) e
+
+pub value_known : (x v : Tree) → IsTrue (known (node value (cons x (cons v nil)))) → IsTrue (known v)
+value_known x v k = (and_parts (known v) true ((and_parts (known x) (known v && true) k).1)).0

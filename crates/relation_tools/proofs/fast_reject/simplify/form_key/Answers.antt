@@ -1,0 +1,19 @@
+use Rattle.std.proofs.Common.{◌≡◌, sym, ap, ◌∙◌}
+use Rattle.relation_terms.specs.Meaning.{kind_tree}
+use Rattle.relation_tools.specs.Visits.{non_region_infer_stands}
+use Rattle.relation_tools.specs.HeadKeys.{form_key, numbered_key, alias_key}
+use Rattle.relation_tools.proofs.Keying.{alias_numbered}
+use Rattle.relation_tools.proofs.fast_reject.simplify.form_key.Goals as goal
+
+pub returns-in-Alias : goal.returns-in-Alias
+returns-in-Alias g c =
+    let m = g.I.Interner.meaning c.args.cx.now in
+    let autos = g.T.KeyTables.auto_traits c.args.tables.now in
+    let solver = g.T.KeyTables.next_solver c.args.tables.now in
+    let treat = c.args.treat_params in
+    let t = m.ty c.args.ty.now in
+    let is = ap (kind_tree m) c.in-Alias.is in
+    ap (numbered_key (λ d. m.id d.0)) c.alias_key.ensures
+    ∙ alias_numbered (λ d. m.id d.0) treat solver (non_region_infer_stands t)
+    ∙ ap (λ x. alias_key treat solver (non_region_infer_stands x)) (c.requires.kind_is ∙ is)
+    ∙ sym (ap (form_key autos solver treat) is)

@@ -1,0 +1,9 @@
+//! Quick tests, which relate nothing: whether two types may unify at all, and the keys by which tables of methods and
+//! impls find what may be for a type.
+mod deep;
+mod forms;
+mod simplify;
+mod walk;
+
+pub use deep::DeepRejectCtxt;
+pub use simplify::{KeyTables, SimplifiedType, TreatParams, simplify_type};
