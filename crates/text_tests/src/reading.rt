@@ -74,6 +74,9 @@ fn form_name(form: Form) -> &'static str {
         Form::Range => "range",
         Form::Or => "or",
         Form::NotNull => "not-null",
+        Form::Bound => "bound",
+        Form::FnPtr(_) => "fn-ptr",
+        Form::UnsafeBinder => "unsafe-binder",
     }
 }
 
