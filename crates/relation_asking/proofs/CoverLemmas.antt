@@ -104,6 +104,11 @@ module _ (items names parts : List ℕ) where
   term_covered ts ns h (term.Range a b) k r = absurd (false≢true r)
   term_covered ts ns h (term.Or q) k r = absurd (false≢true r)
   term_covered ts ns h term.NotNull k r = absurd (false≢true r)
+  term_covered ts ns h (term.TyBound d v n) k r = absurd (false≢true r)
+  term_covered ts ns h (term.RegionBound d v n) k r = absurd (false≢true r)
+  term_covered ts ns h (term.ConstBound d v n) k r = absurd (false≢true r)
+  term_covered ts ns h (term.FnPtr g v p) k r = absurd (false≢true r)
+  term_covered ts ns h (term.UnsafeBinder v t) k r = absurd (false≢true r)
 
   missing_covered : IsCoveredBy no_needs (leaf unknown)
   missing_covered k r = absurd (false≢true k)

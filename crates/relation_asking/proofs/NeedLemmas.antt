@@ -1,6 +1,6 @@
 -- What terms need, and contexts that have it.
 use Rattle.std.proofs.Common.{◌≡◌, ℕ, zero, suc, ◌<◌, ◌≤◌, max, IsTrue, refl, sym, ap, ◌∙◌, subst, arith, List, [], ◌∷◌, ◌++◌}
-use Rattle.std.proofs.Common.{Bool, true, false, ◌&&◌, Option, Some, None, length, get_or, slice_get, slice_range}
+use Rattle.std.proofs.Common.{Bool, true, false, cond, ◌&&◌, Option, Some, None, length, get_or, slice_get, slice_range}
 use Rattle.std.proofs.Common.{take, drop, ◌+◌, ◌-◌, ◌⊎◌, inl, inr}
 use native.Mathlib.Decide.{dec_lt}
 use Rattle.std.proofs.lemmas.List.{take_more, length-drop, get_or-drop, take_all}
@@ -8,9 +8,11 @@ use Rattle.std.proofs.lemmas.Option.{slice_get_within, get_or_from_slice_get, sl
 use Rattle.std.proofs.lemmas.Bool.{and_parts, false≢true}
 use Rattle.relation_terms.specs.declared.terms.enums.Variance.{Variance}
 use Rattle.relation_terms.specs.declared.terms.enums.Variance.TheVariants.{Covariant, Contravariant, Invariant, Bivariant}
-use Rattle.relation_terms.specs.Heads.{Leaf, type_var, region_var, int_var, float_var, const_var}
+use Rattle.relation_terms.specs.Heads.{Leaf, BoundKind, type_var, region_var, int_var, float_var, const_var}
 use Rattle.relation_terms.specs.Heads.{variable, bound, placeholder, atom, unknown}
-use Rattle.relation_terms.specs.Trees.{Tree, leaf, node, bind, nil, cons, Leaves, known, list_tree}
+use Rattle.relation_terms.specs.Trees.{Tree, leaf, node, bind, nil, cons, Leaves, known, list_tree, front, last}
+use Rattle.relation_terms.specs.Meaning.{under}
+use Rattle.relation_terms.specs.declared.terms.fn_sig.FnHeader.{FnHeader}
 use Rattle.type_relations.specs.Relation.{StaysWithin}
 use Rattle.type_relations.specs.Stores.{Store, IsTermIn, InContext, IsMadeLeaf, IsMade, IsNamable}
 use Rattle.type_relations.specs.Taken.{IsTaken, IsTakenLeaf, IsFixedLeaf}
@@ -21,6 +23,7 @@ use Rattle.relation_text.specs.declared.reading.tree.ItemSort.TheVariants as sor
 use Rattle.relation_text.specs.declared.naming.program.Term.{Term}
 use Rattle.relation_text.specs.declared.naming.program.Term.TheVariants as term
 use Rattle.relation_text.specs.Terms.{at, parts_tree, leaf_of, item_tree, term_tree, trees_from, trees_of}
+use Rattle.relation_text.specs.Terms.{variables_of, fn_ptr_tree}
 use Rattle.relation_asking.specs.Needs.{larger, both_needs, no_needs, universe_need, without_rules, need_at, needs_with}
 use Rattle.relation_asking.specs.Needs.{parts_need, term_need, needs_from, needs_of, Reaches, IsEnough, Allows, AreEnough}
 
@@ -58,7 +61,7 @@ enough_left a b (variable region_var i) h = reaches_left a.regions b.regions i h
 enough_left a b (variable int_var i) h = false_left a.has_rules b.has_rules h
 enough_left a b (variable float_var i) h = false_left a.has_rules b.has_rules h
 enough_left a b (variable const_var i) h = false_left a.has_rules b.has_rules h
-enough_left a b (bound k d i) h = h
+enough_left a b (bound k d i) h = false_left a.has_rules b.has_rules h
 enough_left a b (placeholder k u i) h = max_left a.universe b.universe u h
 enough_left a b (atom x) h = h
 enough_left a b unknown h = tt
@@ -69,7 +72,7 @@ enough_right a b (variable region_var i) h = reaches_right a.regions b.regions i
 enough_right a b (variable int_var i) h = false_right a.has_rules b.has_rules h
 enough_right a b (variable float_var i) h = false_right a.has_rules b.has_rules h
 enough_right a b (variable const_var i) h = false_right a.has_rules b.has_rules h
-enough_right a b (bound k d i) h = h
+enough_right a b (bound k d i) h = false_right a.has_rules b.has_rules h
 enough_right a b (placeholder k u i) h = max_right a.universe b.universe u h
 enough_right a b (atom x) h = h
 enough_right a b unknown h = tt
@@ -80,7 +83,7 @@ enough_without n (variable region_var i) h = h
 enough_without n (variable int_var i) h = refl
 enough_without n (variable float_var i) h = refl
 enough_without n (variable const_var i) h = refl
-enough_without n (bound k d i) h = h
+enough_without n (bound k d i) h = refl
 enough_without n (placeholder k u i) h = h
 enough_without n (atom x) h = h
 enough_without n unknown h = tt
@@ -135,6 +138,41 @@ two_without a b t u h k = (
   allows_without (both_needs a b) t (allows_left a b t h),
   (allows_without (both_needs a b) u (allows_right a b u k), tt),
 )
+
+-- Of inputs and of an output, and of what stands under a binder.
+cond_allowed : (n : Needs) (b : Bool) → Allows n (cond b nil (leaf unknown))
+cond_allowed n true = tt
+cond_allowed n false = tt
+
+front_allowed : (n : Needs) (ts : Tree) → Allows n ts → Allows n (front ts)
+front_allowed n (cons t nil) h = cond_allowed n (known t)
+front_allowed n (cons t (cons u us)) h = (h.0, front_allowed n (cons u us) h.1)
+front_allowed n (cons t (leaf l)) h = (h.0, tt)
+front_allowed n (cons t (node g us)) h = (h.0, tt)
+front_allowed n (cons t (bind ks u)) h = (h.0, tt)
+front_allowed n nil h = tt
+front_allowed n (leaf l) h = tt
+front_allowed n (node g us) h = tt
+front_allowed n (bind ks u) h = tt
+
+last_allowed : (n : Needs) (ts : Tree) → Allows n ts → Allows n (last ts)
+last_allowed n (cons t nil) h = h.0
+last_allowed n (cons t (cons u us)) h = last_allowed n (cons u us) h.1
+last_allowed n (cons t (leaf l)) h = tt
+last_allowed n (cons t (node g us)) h = tt
+last_allowed n (cons t (bind ks u)) h = tt
+last_allowed n nil h = tt
+last_allowed n (leaf l) h = tt
+last_allowed n (node g us) h = tt
+last_allowed n (bind ks u) h = tt
+
+under_allowed : (n : Needs) (o : Option (List BoundKind)) (t : Tree) → Allows n t → Allows n (under o t)
+under_allowed n (Some ks) t h = h
+under_allowed n None t h = tt
+
+fn_ptr_allowed : (n : Needs) (g : FnHeader) (o : Option (List BoundKind)) (ts : Tree) → Allows n ts →
+    Allows n (fn_ptr_tree g o ts)
+fn_ptr_allowed n g o ts h = (under_allowed n o _ (front_allowed n ts h, (last_allowed n ts h, tt)), tt)
 
 same_number : (n : ℕ) → n ≤ n
 same_number n = omega arith
@@ -236,6 +274,18 @@ module _ (items names parts : List ℕ) where
   term_enough ts ns e (term.Or p) =
       allows_without (parts_need parts ns p) (parts_tree parts ts p) (list_enough ts ns e no_needs _)
 
+  term_enough ts ns e (term.TyBound d v n) = leaf_enough (without_rules no_needs) _ (λ x. refl) (slice_get names n)
+  term_enough ts ns e (term.RegionBound d v n) = leaf_enough (without_rules no_needs) _ (λ x. refl) (slice_get names n)
+  term_enough ts ns e (term.ConstBound d v n) = leaf_enough (without_rules no_needs) _ (λ x. refl) (slice_get names n)
+  term_enough ts ns e (term.FnPtr h v p) =
+      fn_ptr_allowed (without_rules (parts_need parts ns p)) h (variables_of (parts_tree parts ts v)) (parts_tree parts ts p)
+      (allows_without (parts_need parts ns p) (parts_tree parts ts p) (list_enough ts ns e no_needs _))
+  term_enough ts ns e (term.UnsafeBinder v t) = (
+    under_allowed (without_rules (need_at ns t)) (variables_of (parts_tree parts ts v)) (at ts t)
+        (allows_without (need_at ns t) (at ts t) (e t)),
+    tt,
+  )
+
   -- What all terms of a program need is enough for them.
   pub all_enough : (xs : List Term) → AreEnough (trees_of items names parts xs) (needs_of parts xs)
   all_enough xs = all_hold items names parts Allows tt term_enough xs
@@ -285,7 +335,7 @@ module _ (st : Store) (n : Needs) (types : (i : ℕ) → Reaches n.types i → I
 
   leaf_stays : (depth : ℕ) (l : Leaf) → IsEnough n l → StaysWithin depth (leaf l)
   leaf_stays depth (variable c i) h = tt
-  leaf_stays depth (bound c d i) h = absurd h
+  leaf_stays depth (bound c d i) h = absurd (false≢true (sym h ∙ rules))
   leaf_stays depth (placeholder c u i) h = tt
   leaf_stays depth (atom x) h = tt
   leaf_stays depth unknown h = tt

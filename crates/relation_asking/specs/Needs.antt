@@ -80,6 +80,11 @@ module _ (parts : List ℕ) where
   term_need ns (term.Pat t p) = without_rules (both_needs (need_at ns t) (need_at ns p))
   term_need ns (term.Range s e) = without_rules (both_needs (need_at ns s) (need_at ns e))
   term_need ns (term.Or p) = without_rules (parts_need parts ns p)
+  term_need ns (term.TyBound d v n) = without_rules no_needs
+  term_need ns (term.RegionBound d v n) = without_rules no_needs
+  term_need ns (term.ConstBound d v n) = without_rules no_needs
+  term_need ns (term.FnPtr h v p) = without_rules (parts_need parts ns p)
+  term_need ns (term.UnsafeBinder v t) = without_rules (need_at ns t)
   term_need ns t = no_needs
 
   -- What terms need that stand behind those of these needs; what all need.
@@ -96,13 +101,12 @@ Reaches None i = ⊥
 Reaches (Some n) i = i ≤ n
 
 -- What is needed is enough for a leaf: a type or a region variable up to the largest, a placeholder that the universe
--- names. Another variable stands only in a term with a form that has no rules, and nothing that a binder binds stands in
--- any.
+-- names. Another variable stands only in a term with a form that has no rules, and so does what a binder binds.
 abbrev pub IsEnough : Needs → Leaf → Type 0
 IsEnough n (variable type_var i) = Reaches n.types i
 IsEnough n (variable region_var i) = Reaches n.regions i
 IsEnough n (variable k i) = n.has_rules ≡ false
-IsEnough n (bound k d i) = ⊥
+IsEnough n (bound k d i) = n.has_rules ≡ false
 IsEnough n (placeholder k u i) = u ≤ n.universe
 IsEnough n (atom x) = IsValueAtom x
 IsEnough n unknown = Unit {0}

@@ -136,6 +136,9 @@ fn term_need(numbers: &[usize], before: &[Needs], term: Term) -> Needs
             without_rules(both(need_at(before, start), need_at(before, end)))
         }
         Term::Or(parts) => without_rules(parts_need(numbers, before, parts)),
+        Term::TyBound(..) | Term::RegionBound(..) | Term::ConstBound(..) => without_rules(NONE),
+        Term::FnPtr(_, _, types) => without_rules(parts_need(numbers, before, types)),
+        Term::UnsafeBinder(_, body) => without_rules(need_at(before, body)),
         _ => NONE,
     }
 }

@@ -1,13 +1,20 @@
 -- Keys of terms, and the trees that they mean.
-use Rattle.std.proofs.Common.{◌≡◌, ℕ, zero, ◌+◌, ◌<◌, ◌&&◌, Bool, true, IsTrue, IfSome, List, [], ◌∷◌, ◌++◌, Option, Some, None, unwrap_or, ◌⊎◌, inl, inr, length, map, get_or, take, suc, refl, sym, ◌∙◌, ap, ap₂, subst, arith, length-append, slice_get}
+use Rattle.std.proofs.Common.{◌≡◌, ◌≢◌, cond, IsSome, ℕ, zero, ◌+◌, ◌<◌, ◌&&◌, Bool, true, IsTrue, IfSome, List, [], ◌∷◌, ◌++◌, Option, Some, None, unwrap_or, ◌⊎◌, inl, inr, length, map, get_or, take, suc, refl, sym, ◌∙◌, ap, ap₂, subst, arith, length-append, slice_get}
 use Rattle.std.proofs.lemmas.List.{get_or_append_left, take_more, length-take-le}
 use Rattle.std.proofs.lemmas.Option.{slice_get_within, slice_get-map}
 use Rattle.std.specs.Option.{option_map}
 use Rattle.std.proofs.Math.Seq.{get_or-append_seam}
 use Rattle.std.proofs.Math.Path.{fun_ext}
-use Rattle.relation_terms.specs.Trees.{Tree, leaf, nil, cons, known, list_tree}
-use Rattle.relation_terms.specs.Heads.{Leaf, unknown}
-use Rattle.relation_terms.specs.Meaning.{Meaning, Extends, arg_tree}
+use Rattle.relation_terms.specs.Trees.{Tree, leaf, nil, cons, known, list_tree, front, last}
+use Rattle.relation_terms.specs.Heads.{Leaf, unknown, BoundKind, bound_kind, type_kind, region_kind, const_kind}
+use Rattle.relation_terms.specs.declared.terms.fn_sig.FnHeader.{FnHeader}
+use Rattle.relation_terms.proofs.Binders.{last_known}
+use Rattle.std.proofs.lemmas.Bool.{and_parts}
+use Rattle.relation_terms.specs.Meaning.{Meaning, Extends, arg_tree, bound_kind_of, bound_kinds}
+use Rattle.relation_terms.specs.declared.terms.binder.BoundVariableKind.{BoundVariableKind}
+use Rattle.relation_terms.specs.declared.terms.binder.BoundVariableKind.TheVariants.{Ty as TyVariable}
+use Rattle.relation_terms.specs.declared.terms.binder.BoundVariableKind.TheVariants.{Region as RegionVariable}
+use Rattle.relation_terms.specs.declared.terms.binder.BoundVariableKind.TheVariants.{Const as ConstVariable}
 use Rattle.relation_terms.specs.declared.terms.generic_arg.GenericArgKind.{GenericArgKind}
 use Rattle.relation_terms.specs.declared.terms.generic_arg.GenericArgKind.TheVariants.{Ty, Const}
 use Rattle.relation_terms.specs.declared.terms.keys.TyKey.{TyKey}
@@ -16,6 +23,7 @@ use Rattle.relation_terms.specs.declared.terms.keys.PatKey.{PatKey}
 use Rattle.relation_text.specs.declared.reading.tree.ItemSort.{ItemSort}
 use Rattle.relation_text.specs.declared.naming.program.Term.{Term}
 use Rattle.relation_text.specs.Terms.{at, leaf_of, item_tree, term_tree, trees_from, trees_of}
+use Rattle.relation_text.specs.Terms.{with_variable, variable_of, variables_of, fn_ptr_tree}
 use Rattle.relation_text.specs.Built.{EachKnown, EachBuilt, AreBuilt, ArePatsBuilt, Makes, MakesOf, MakesTree}
 
 -- what stands in a list with one more at its end
@@ -219,3 +227,50 @@ module _ {Key Id Name : Type 0} {m p : Meaning Key Id Name} (e : Extends m p) (i
         subst (EachBuilt g (trees_of items texts parts (take (i + 1) xs))) (sym el)
             (built_step f g ks o items texts parts xs i d h same stays sure built (step_is g keys pats o ids names parts (trees_of items texts parts (take i xs)) x e b q over)),
       )
+
+-- What a binder binds, one more at its end.
+with_split : (o : Option BoundKind) (p : Option (List BoundKind)) (ks : List BoundKind) → with_variable o p ≡ Some ks →
+    (k : BoundKind) × (ls : List BoundKind) × (o ≡ Some k) × (p ≡ Some ls) × (k ∷ ls ≡ ks)
+with_split (Some k) (Some ls) ks h = let e : k ∷ ls ≡ ks = cc in (k, ls, refl, refl, e)
+with_split (Some k) None ks h = absurd cc
+with_split None p ks h = absurd cc
+
+pub variables_more : (f : ℕ → Tree) (ns : List ℕ) (n : ℕ) (ks : List BoundKind) (k : BoundKind) → variables_of (list_tree f ns) ≡ Some ks →
+    variable_of (f n) ≡ Some k → variables_of (list_tree f (ns ++ n ∷ [])) ≡ Some (ks ++ k ∷ [])
+variables_more f [] n ks k h e =
+    let none : [] ≡ ks = cc in
+    ap (λ o. with_variable o (Some [])) e ∙ ap (λ z. Some (z ++ k ∷ [])) none
+variables_more f (m ∷ ns) n ks k h e =
+    let s = with_split (variable_of (f m)) (variables_of (list_tree f ns)) ks h in
+    ap₂ with_variable s.1.1.0 (variables_more f ns n s.1.0 k s.1.1.1.0 e) ∙ ap (λ z. Some (z ++ k ∷ [])) s.1.1.1.1
+
+-- The inputs of a known list that is not empty, which is all of it but its last member.
+pub inputs_known : {A : Type 0} (f : A → Tree) (xs : List A) → xs ≢ [] → IsTrue (known (list_tree f xs)) →
+    IsTrue (known (front (list_tree f xs)))
+inputs_known f [] h k = absurd (h refl)
+inputs_known f (x ∷ []) h k =
+    let p : IsTrue (known (f x)) = (and_parts (known (f x)) true k).0 in
+    subst (λ b. IsTrue (known (cond b nil (leaf unknown)))) (sym p) refl
+inputs_known f (x ∷ y ∷ ys) h k =
+    let p = and_parts (known (f x)) (known (list_tree f (y ∷ ys))) k in
+    both_true (known (f x)) (known (front (list_tree f (y ∷ ys)))) p.0 (inputs_known f (y ∷ ys) (λ e. absurd cc) p.1)
+
+-- What a binder binds stays as the interner grows.
+kind_stays : {Key Id Name : Type 0} {m n : Meaning Key Id Name} → Extends m n → (v : BoundVariableKind Name) →
+    bound_kind_of n v ≡ bound_kind_of m v
+kind_stays e (TyVariable x) = ap (bound_kind type_kind) (e.name x)
+kind_stays e (RegionVariable x) = ap (bound_kind region_kind) (e.name x)
+kind_stays e (ConstVariable x) = ap (bound_kind const_kind) (e.name x)
+
+pub kinds_stay : {Key Id Name : Type 0} {m n : Meaning Key Id Name} → Extends m n → (vs : List (BoundVariableKind Name)) →
+    bound_kinds n vs ≡ bound_kinds m vs
+kinds_stay e [] = refl
+kinds_stay e (v ∷ vs) = ap₂ (λ k ks. k ∷ ks) (kind_stays e v) (kinds_stay e vs)
+
+-- A known signature under a known binder.
+pub signature_known : (o : Option (List BoundKind)) (h : FnHeader) (ts : Tree) → IsSome o → IsTrue (known (front ts)) →
+    IsTrue (known (fn_ptr_tree h o ts))
+signature_known (Some ks) h ts i k =
+    let types = both_true (known (front ts)) (known (cons (last ts) nil)) k (one_known (last ts) (last_known ts k)) in
+    both_true (known (front ts) && known (cons (last ts) nil)) true types refl
+signature_known None h ts i k = absurd cc

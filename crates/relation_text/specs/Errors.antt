@@ -30,6 +30,8 @@ expected_text expected.Name = codes "a name"
 expected_text expected.Number = codes "a number"
 expected_text expected.Variable = codes "a variable"
 expected_text expected.Parameter = codes "a parameter"
+expected_text expected.Bound = codes "a variable of a binder"
+expected_text expected.BoundConst = codes "a constant of a binder"
 expected_text expected.Relation = codes "`<:`, `:>` or `==`"
 expected_text (expected.Sign s) = codes "`" ++ (spelling s ++ codes "`")
 expected_text (expected.CommaOr s) = codes "`,` or `" ++ (spelling s ++ codes "`")

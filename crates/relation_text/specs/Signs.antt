@@ -1,9 +1,13 @@
 -- What signs say, and how they are written.
-use Rattle.std.specs.Prelude.{◌≡◌, ◌↔◌, ℕ, List, [], ◌∷◌, codes, suc}
+use Rattle.std.specs.Prelude.{◌≡◌, ◌↔◌, ◌⊎◌, ℕ, List, [], ◌∷◌, codes, suc}
 use Rattle.relation_terms.specs.declared.terms.enums.Variance.{Variance}
 use Rattle.relation_terms.specs.declared.terms.enums.Variance.TheVariants.{Covariant, Invariant, Contravariant, Bivariant}
 use Rattle.relation_terms.specs.declared.terms.enums.Mutability.{Mutability}
 use Rattle.relation_terms.specs.declared.terms.enums.Mutability.TheVariants as mutability
+use Rattle.relation_terms.specs.declared.terms.enums.Safety.{Safety}
+use Rattle.relation_terms.specs.declared.terms.enums.Safety.TheVariants as safety
+use Rattle.relation_terms.specs.declared.terms.enums.ExternAbi.{ExternAbi}
+use Rattle.relation_terms.specs.declared.terms.enums.ExternAbi.TheVariants as abi
 use Rattle.relation_text.specs.declared.reading.signs.Sign.{Sign}
 use Rattle.relation_text.specs.declared.reading.signs.Sign.TheVariants as sign
 use Rattle.relation_text.specs.declared.reading.tree.ItemSort.{ItemSort}
@@ -38,6 +42,10 @@ spelling sign.Minus = codes "-"
 spelling sign.Bang = codes "!"
 spelling sign.Bar = codes "|"
 spelling sign.UpTo = codes "..="
+spelling sign.Arrow = codes "->"
+spelling sign.Dots = codes ".."
+spelling sign.AbiC = codes "\"C\""
+spelling sign.AbiSystem = codes "\"system\""
 spelling sign.Budget = codes "budget"
 spelling sign.Closure = codes "closure"
 spelling sign.Const = codes "const"
@@ -48,6 +56,7 @@ spelling sign.Expr = codes "expr"
 spelling sign.Extern = codes "extern"
 spelling sign.Fn = codes "fn"
 spelling sign.Fold = codes "fold"
+spelling sign.For = codes "for"
 spelling sign.In = codes "in"
 spelling sign.Infers = codes "infers"
 spelling sign.Is = codes "is"
@@ -62,6 +71,7 @@ spelling sign.Stop = codes "stop"
 spelling sign.Struct = codes "struct"
 spelling sign.Then = codes "then"
 spelling sign.Type = codes "type"
+spelling sign.Unsafe = codes "unsafe"
 spelling sign.Variables = codes "variables"
 spelling sign.Visit = codes "visit"
 spelling sign.With = codes "with"
@@ -77,6 +87,16 @@ relation_sign Bivariant = sign.Equal
 abbrev pub pointer_sign : Mutability → Sign
 pointer_sign mutability.Not = sign.Const
 pointer_sign mutability.Mut = sign.Mut
+
+-- what stands before the inputs of a function pointer, behind its binder
+abbrev pub abi_signs : ExternAbi → List Sign
+abi_signs abi.Rust = sign.Fn ∷ sign.LeftParen ∷ []
+abi_signs abi.C = sign.Extern ∷ sign.AbiC ∷ sign.Fn ∷ sign.LeftParen ∷ []
+abi_signs abi.System = sign.Extern ∷ sign.AbiSystem ∷ sign.Fn ∷ sign.LeftParen ∷ []
+
+abbrev pub header_signs : Safety → ExternAbi → List Sign
+header_signs safety.Safe a = abi_signs a
+header_signs safety.Unsafe a = sign.Unsafe ∷ abi_signs a
 
 -- what declares an item of a sort
 abbrev pub sort_signs : ItemSort → List Sign
@@ -100,6 +120,7 @@ IsMutability ws k m = (m ≡ mutability.Mut) ↔ StandsAt ws k sign.Mut
 abbrev pub BeginsPointer : List Word → ℕ → Form → Type 0
 BeginsPointer ws k (form.RawPtr m) = StandFrom ws k (sign.Star ∷ pointer_sign m ∷ [])
 BeginsPointer ws k (form.Ref m) = StandsAt ws k sign.Ampersand × IsMutability ws (suc (suc k)) m
+BeginsPointer ws k form.UnsafeBinder = StandFrom ws k (sign.Unsafe ∷ sign.Less ∷ [])
 BeginsPointer ws k f = ⊥
 
 -- the type that a reference leads to is still to be read, behind the word of its region, which has that number
@@ -125,10 +146,17 @@ InBraces ws k (rest.Nothing form.Error) = StandFrom ws k (sign.Error ∷ sign.Ri
 InBraces ws k (rest.List form.Branch s) = s ≡ sign.RightBrace
 InBraces ws k r = ⊥
 
+-- what stands behind `unsafe`, whose first word has that number: a binder over a type, or a function pointer
+abbrev pub BehindUnsafe : List Word → ℕ → Rest → Type 0
+BehindUnsafe ws k (rest.Pointee form.UnsafeBinder) = StandsAt ws k sign.Less
+BehindUnsafe ws k (rest.Inputs safety.Unsafe a) = StandFrom ws k (abi_signs a)
+BehindUnsafe ws k r = ⊥
+
 -- what a term begins with of which that is still to be read, whose first word has that number
 abbrev pub Begins : List Word → ℕ → Rest → Type 0
 Begins ws k (rest.Nothing f) = IsWhole ws k f
 Begins ws k (rest.Pointee f) = BeginsPointer ws k f
 Begins ws k (rest.List f s) = BeginsList ws k f s
+Begins ws k (rest.Inputs s a) = StandsAt ws k sign.For ⊎ StandFrom ws k (header_signs s a)
 Begins ws k rest.Brackets = StandsAt ws k sign.LeftBracket
 Begins ws k rest.Parens = StandsAt ws k sign.LeftParen

@@ -7,7 +7,10 @@ use Rattle.relation_terms.specs.Heads.{const_param, value_leaf, adt, fn_def, clo
 use Rattle.relation_terms.specs.Heads.{array, slice, tuple, raw_ptr, ref, expression, value, value_type, value_branch}
 use Rattle.relation_terms.specs.Heads.{region_kind, int_var, float_var, const_var, type_error, const_error}
 use Rattle.relation_terms.specs.Heads.{pattern_type, range_pattern, or_pattern, not_null_pattern}
-use Rattle.relation_terms.specs.Trees.{Tree, leaf, node, nil, cons, list_tree}
+use Rattle.relation_terms.specs.Heads.{BoundKind, bound, fn_ptr, unsafe_binder, signature, inputs}
+use Rattle.relation_terms.specs.Trees.{Tree, leaf, node, nil, cons, list_tree, front, last}
+use Rattle.relation_terms.specs.Meaning.{under}
+use Rattle.relation_terms.specs.declared.terms.fn_sig.FnHeader.{FnHeader}
 use Rattle.relation_text.specs.declared.reading.tree.ItemSort.{ItemSort}
 use Rattle.relation_text.specs.declared.reading.tree.ItemSort.TheVariants as sort
 use Rattle.relation_text.specs.declared.naming.program.Parts.{Parts}
@@ -40,6 +43,29 @@ item_tree sort.Foreign (Some d) ts = leaf (atom (foreign d))
 -- A value of a type.
 abbrev pub value_tree : Tree → Tree → Tree
 value_tree t v = node value (cons (node value_type (cons t nil)) (cons v nil))
+
+-- The kind of a bound variable; those of a list of such, if each is one.
+abbrev pub variable_of : Tree → Option BoundKind
+variable_of (leaf (bound k d i)) = Some k
+variable_of t = None
+
+abbrev pub with_variable : Option BoundKind → Option (List BoundKind) → Option (List BoundKind)
+with_variable (Some k) (Some ks) = Some (k ∷ ks)
+with_variable (Some k) None = None
+with_variable None ks = None
+
+abbrev pub variables_of : Tree → Option (List BoundKind)
+variables_of (cons t ts) = with_variable (variable_of t) (variables_of ts)
+variables_of t = Some []
+
+-- A function pointer of a header: under its binder the inputs, and the output, which is the last of the list.
+abbrev pub fn_ptr_tree : FnHeader → Option (List BoundKind) → Tree → Tree
+fn_ptr_tree h ks ts = node fn_ptr (cons (under ks (node (signature h.c_variadic h.safety h.abi)
+    (cons (node inputs (front ts)) (cons (last ts) nil)))) nil)
+
+-- A type under a binder.
+abbrev pub unsafe_binder_tree : Option (List BoundKind) → Tree → Tree
+unsafe_binder_tree ks t = node unsafe_binder (cons (under ks t) nil)
 
 -- Over the numbers of the items and of the names, and the numbers of all parts.
 module _ (items names parts : List ℕ) where
@@ -81,6 +107,11 @@ module _ (items names parts : List ℕ) where
   term_tree ts (term.Range s e) = node range_pattern (cons (at ts s) (cons (at ts e) nil))
   term_tree ts (term.Or p) = node or_pattern (parts_tree parts ts p)
   term_tree ts term.NotNull = leaf (atom not_null_pattern)
+  term_tree ts (term.TyBound d v n) = leaf_of (λ x. bound (bound_kind type_kind x) d v) (slice_get names n)
+  term_tree ts (term.RegionBound d v n) = leaf_of (λ x. bound (bound_kind region_kind x) d v) (slice_get names n)
+  term_tree ts (term.ConstBound d v n) = leaf_of (λ x. bound (bound_kind const_kind x) d v) (slice_get names n)
+  term_tree ts (term.FnPtr h v p) = fn_ptr_tree h (variables_of (parts_tree parts ts v)) (parts_tree parts ts p)
+  term_tree ts (term.UnsafeBinder v t) = unsafe_binder_tree (variables_of (parts_tree parts ts v)) (at ts t)
 
   -- The trees of terms that stand behind those of these trees.
   abbrev pub trees_from : List Tree → List Term → List Tree

@@ -4,6 +4,7 @@ ghost use Rattle.relation_terms.specs.Meaning.{Extends};
 ghost use Rattle.relation_text.specs.Terms.{trees_of};
 ghost use Rattle.relation_text.specs.Built.{AreKnown, AreBuilt};
 
+mod binders;
 mod lists;
 mod making;
 mod patterns;

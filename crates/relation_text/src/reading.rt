@@ -1,6 +1,7 @@
 //! A text becomes words, and the words a tree of names with places.
 
 mod error;
+mod headers;
 mod place;
 mod questions;
 mod reader;

@@ -149,6 +149,34 @@ fn wrong_names_are_told(rt: HostRuntime) -> Result<(), Fail> {
             "then visit u8;",
             "1:1: expected a question before this, found none",
         ),
+        (
+            "visit ^0;",
+            "1:7: expected a name that is known, found `^0`",
+        ),
+        (
+            "visit for<'a, 'a> fn();",
+            "1:15: expected a new name, found `'a`",
+        ),
+        (
+            "visit for<'static> fn();",
+            "1:11: expected a new name, found `'static`",
+        ),
+        (
+            "visit for<'a> fn('a);",
+            "1:18: expected a type, found a region",
+        ),
+        (
+            "visit for<^0> fn([u8; ^0]);",
+            "1:23: expected a constant, found a type",
+        ),
+        (
+            "visit (for<'a> fn(&'a u8), &'a u8);",
+            "1:29: expected a name that is known, found `'a`",
+        ),
+        (
+            "visit unsafe<'a> 2;",
+            "1:18: expected a type, found a constant",
+        ),
     ] {
         let all = shown(rt.alloc(), text)?;
         assert_eq!(rt; all.as_str(), why, "{text}");

@@ -74,6 +74,9 @@ fn form_name(form: Form) -> &'static str {
         Form::Range => "range",
         Form::Or => "or",
         Form::NotNull => "not-null",
+        Form::Bound => "bound",
+        Form::FnPtr(_) => "fn-ptr",
+        Form::UnsafeBinder => "unsafe-binder",
     }
 }
 
@@ -155,6 +158,24 @@ fn patterns_are_read(rt: HostRuntime) -> Result<(), Fail> {
 }
 
 #[test]
+fn binders_are_read(rt: HostRuntime) -> Result<(), Fail> {
+    let text = "visit for<'a, ^1, const ^c2> unsafe extern \"C\" fn(&'a ^1, ..) -> T;";
+    let all = shown(rt.alloc(), text)?;
+    assert_eq!(rt;
+        all.as_str(),
+        "file(visit(fn-ptr(bound('a ^1 ^c2) ref('a ^1) T) terms() terms()))"
+    );
+    let text = "fn f; fn() == unsafe<'a,> fn(T,); extern \"system\" fn(..) <: T; extern type F;";
+    let all = shown(rt.alloc(), text)?;
+    assert_eq!(rt;
+        all.as_str(),
+        "file(item(f) question(fn-ptr(bound() tuple()) unsafe-binder(bound('a) fn-ptr(bound() T tuple()))) \
+         question(fn-ptr(bound() tuple()) T) item(F))"
+    );
+    Ok(())
+}
+
+#[test]
 fn wrong_texts_are_refused(rt: HostRuntime) -> Result<(), Fail> {
     for (text, why) in [
         ("", "file()"),
@@ -183,6 +204,28 @@ fn wrong_texts_are_refused(rt: HostRuntime) -> Result<(), Fail> {
         ),
         ("visit '!1;", "1:8: no word begins here"),
         ("visit ?i;", "1:9: no word begins here"),
+        ("visit ^x;", "1:8: no word begins here"),
+        ("struct for;", "1:8: expected a name, found `for`"),
+        (
+            "visit for<T> fn();",
+            "1:11: expected a variable of a binder, found `T`",
+        ),
+        (
+            "visit for<const 'a> fn();",
+            "1:17: expected a constant of a binder, found `'a`",
+        ),
+        ("visit for<'a> T;", "1:15: expected `fn`, found `T`"),
+        ("visit unsafe T;", "1:14: expected `fn`, found `T`"),
+        (
+            "visit extern fn();",
+            "1:14: expected `\"C\"` or `\"system\"`, found `fn`",
+        ),
+        (
+            "visit extern \"Rust\" fn();",
+            "1:14: no word begins here",
+        ),
+        ("visit fn(.., u8);", "1:12: expected `)`, found `,`"),
+        ("visit fn() -> ;", "1:15: expected a term, found `;`"),
     ] {
         let all = shown(rt.alloc(), text)?;
         assert_eq!(rt; all.as_str(), why);

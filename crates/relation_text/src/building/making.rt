@@ -7,13 +7,14 @@ ghost use Rattle.relation_text.specs.Terms.{item_tree, value_tree, term_tree};
 ghost use Rattle.relation_text.specs.Built.{AreKnown, ArePatsKnown, Makes, MakesOf, MakesTree, IsFormOf};
 ghost use Rattle.relation_text.specs.Built.{IsRegionOf, IsConstOf};
 
+use crate::building::binders::make_binder;
 use crate::building::lists::{const_at, consts_of, keys_at, region_at, ty_at, tys_of};
 use crate::building::patterns::{make_pattern, make_pattern_type};
 use crate::naming::Term;
 use crate::reading::ItemSort;
 use relation_terms::terms::{
     AdtId, BoundConst, BoundRegion, BoundTy, BoundVar, ClosureId, ConstForm, ConstKind, ConstVid,
-    CoroutineClosureId, CoroutineId, EarlyParamRegion, ErrorGuaranteed, ExprKind, FloatVid,
+    CoroutineClosureId, CoroutineId, DebruijnIndex, EarlyParamRegion, ErrorGuaranteed, ExprKind, FloatVid,
     ForeignId, FunctionId, GenericArg, GenericArgKind, InferConst, InferTy, IntVid, Interner,
     ParamConst, ParamTy, Pat, Placeholder, RegionForm, RegionKind, RegionVid, Ty, TyForm, TyKind,
     TyVid, UniverseIndex, ValTreeForm, ValTreeKind,
@@ -77,6 +78,11 @@ fn ty_leaf<I: Interner>(names: &[I::Name], term: Term) -> Option<TyForm<I>>
         Term::IntVar(number) => Some(TyKind::Infer(InferTy::IntVar(IntVid(number)))),
         Term::FloatVar(number) => Some(TyKind::Infer(InferTy::FloatVar(FloatVid(number)))),
         Term::TyError => Some(TyKind::Error(ErrorGuaranteed)),
+        Term::TyBound(depth, place, name) => {
+            let name = name_at(names, name)?;
+            let var = BoundVar(place);
+            Some(TyKind::Bound(DebruijnIndex(depth), BoundTy { var, name }))
+        }
         Term::TyParam(index, name) => {
             let name = name_at(names, name)?;
             Some(TyKind::Param(ParamTy { index, name }))
@@ -99,6 +105,12 @@ fn region_form<I: Interner>(names: &[I::Name], term: Term) -> Option<RegionForm<
     match term {
         Term::Static => Some(RegionKind::ReStatic),
         Term::RegionVar(number) => Some(RegionKind::ReVar(RegionVid(number))),
+        Term::RegionBound(depth, place, name) => {
+            let name = name_at(names, name)?;
+            let var = BoundVar(place);
+            let bound = BoundRegion { var, name };
+            Some(RegionKind::ReBound(DebruijnIndex(depth), bound))
+        }
         Term::RegionParam(index, name) => {
             let name = name_at(names, name)?;
             Some(RegionKind::ReEarlyParam(EarlyParamRegion { index, name }))
@@ -119,6 +131,12 @@ fn const_leaf<I: Interner>(names: &[I::Name], term: Term) -> Option<ConstForm<I>
     ensures { IfSome result (IsConstOf I.Key I.Id names.now term) }
 {
     match term {
+        Term::ConstBound(depth, place, name) => {
+            let name = name_at(names, name)?;
+            let var = BoundVar(place);
+            let bound = BoundConst { var, name };
+            Some(ConstKind::Bound(DebruijnIndex(depth), bound))
+        }
         Term::ConstParam(index, name) => {
             let name = name_at(names, name)?;
             Some(ConstKind::Param(ParamConst { index, name }))
@@ -346,6 +364,7 @@ fn make_term<I: Interner>(
             make_listed(cx, ids, numbers, built, term)
         }
         Term::Pat(..) => make_pattern_type(cx, built, pats, term),
+        Term::FnPtr(..) | Term::UnsafeBinder(..) => make_binder(cx, numbers, built, term),
         _ => make_leaf(cx, names, term),
     }
 }

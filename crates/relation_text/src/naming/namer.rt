@@ -1,5 +1,6 @@
 //! What the names of a text mean so far, and the program that was made so far.
 
+use crate::naming::binders::scopes_of;
 use crate::naming::error::{NameError, Wrong, error_at};
 use crate::naming::plain::PLAIN;
 use crate::naming::program::{Program, Sort, Term};
@@ -36,6 +37,10 @@ pub(super) struct Namer<'a> {
     pub names: HashMap<&'a str, usize>,
     // The terms that nodes were made to.
     pub made: Vec<Option<Made>>,
+    // The binder that each node stands in, if it stands in one: the nearest, by the node of what it binds.
+    pub scopes: Vec<Option<usize>>,
+    // The places of what binders bind, by the binder and the name.
+    pub bound: HashMap<(usize, &'a str), usize>,
     // The index of the next parameter, while there is one.
     pub next_index: Option<u32>,
     pub budget: Option<usize>,
@@ -54,6 +59,8 @@ impl<'a> Namer<'a> {
             meanings: HashMap::new(alloc),
             names: HashMap::new(alloc),
             made: Vec::new(alloc),
+            scopes: scopes_of(alloc, tree)?,
+            bound: HashMap::new(alloc),
             next_index: Some(0),
             budget: None,
             type_variables: 0,

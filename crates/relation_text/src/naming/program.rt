@@ -2,7 +2,7 @@
 ghost use Rattle.std.specs.Prelude.{◌≡◌};
 
 use crate::reading::ItemSort;
-use relation_terms::terms::{FloatTy, IntTy, Mutability, UintTy, Variance};
+use relation_terms::terms::{FloatTy, FnHeader, IntTy, Mutability, UintTy, Variance};
 use std::alloc::AllocError;
 
 /// What a term stands for.
@@ -100,6 +100,17 @@ pub enum Term {
     Or(Parts),
     /// The pattern of all but null.
     NotNull,
+    /// A type that a binder binds: how many binders stand between the two, its place in the binder's list, and its name.
+    TyBound(u64, usize, usize),
+    /// A region that a binder binds.
+    RegionBound(u64, usize, usize),
+    /// A constant that a binder binds.
+    ConstBound(u64, usize, usize),
+    /// A function pointer: its header, what its binder binds, each as it stands right under the binder, and its inputs
+    /// and its output.
+    FnPtr(FnHeader, Parts, Parts),
+    /// A type under a binder: what the binder binds, and the type.
+    UnsafeBinder(Parts, usize),
 }
 
 // A derived copy matches over all forms, and takes its check as many seconds.

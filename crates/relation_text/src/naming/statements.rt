@@ -153,6 +153,7 @@ impl<'a> Namer<'a> {
                 let name = self.node(node, *name)?;
                 self.declare(&name, Meaning::Term(made))
             }
+            (Form::Bound, _) => self.declare_bound(node, parts),
             (Form::File | Form::Declared(_) | Form::DeclaredConst(_) | Form::Parameters, _) => {
                 Ok(())
             }

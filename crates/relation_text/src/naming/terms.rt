@@ -6,7 +6,7 @@ use crate::naming::plain::{USIZE, number_size};
 use crate::naming::program::{ParamSort, Parts, Sort, Term};
 use crate::naming::statements::MOST_VARIABLES;
 use crate::reading::{Form, ItemSort, Leaf, Node, NodeKind};
-use relation_terms::terms::Mutability;
+use relation_terms::terms::{FnHeader, Mutability};
 
 // What the members of a list are to be: of any sort, of one, or what an item declares.
 #[derive(Clone, Copy)]
@@ -201,10 +201,32 @@ impl<'a> Namer<'a> {
         self.add(node, Term::TyError, Sort::Type, 0)
     }
 
-    // The term of a leaf.
-    fn leaf(&mut self, node: &Node, leaf: Leaf, expected: Option<Sort>) -> Result<Made, NameError> {
+    // What a name means that a binder may give.
+    fn named_or_bound(
+        &mut self,
+        node: &Node,
+        number: usize,
+        leaf: Leaf,
+    ) -> Result<Made, NameError> {
+        match self.bound_leaf(node, number, leaf)? {
+            Some(made) => Ok(made),
+            None => self.named(node),
+        }
+    }
+
+    // The term of a leaf, the node of that number.
+    fn leaf(
+        &mut self,
+        node: &Node,
+        place: usize,
+        leaf: Leaf,
+        expected: Option<Sort>,
+    ) -> Result<Made, NameError> {
         match leaf {
-            Leaf::Name | Leaf::Lifetime => self.named(node),
+            Leaf::Name => self.named(node),
+            Leaf::Lifetime | Leaf::BoundTy | Leaf::BoundConst => {
+                self.named_or_bound(node, place, leaf)
+            }
             Leaf::Number { value, behind } => self.number(node, value, behind),
             Leaf::TyVar(number) => self.variable(node, number, Term::TyVar(number), Sort::Type),
             Leaf::IntVar(number) => self.variable(node, number, Term::IntVar(number), Sort::Type),
@@ -235,7 +257,7 @@ impl<'a> Namer<'a> {
     ) -> Result<Made, NameError> {
         let node = self.node(whole, number)?;
         let made = match node.kind {
-            NodeKind::Leaf(leaf) => self.leaf(&node, leaf, expected)?,
+            NodeKind::Leaf(leaf) => self.leaf(&node, number, leaf, expected)?,
             NodeKind::Form(Form::Error) => self.error(&node, expected)?,
             NodeKind::Form(_) => match self.made.get(number) {
                 Some(Some(made)) => *made,
@@ -356,6 +378,33 @@ impl<'a> Namer<'a> {
         self.add(node, Term::Or(list.parts), Sort::Pattern, list.levels)
     }
 
+    // A function pointer.
+    fn fn_ptr(
+        &mut self,
+        node: &Node,
+        header: FnHeader,
+        variables: usize,
+        types: &[usize],
+    ) -> Result<Made, NameError> {
+        let variables = self.variables(node, variables)?;
+        let types = self.list(node, types, Wanted::Each(Sort::Type))?;
+        let term = Term::FnPtr(header, variables, types.parts);
+        self.add(node, term, Sort::Type, types.levels)
+    }
+
+    // A type under a binder.
+    fn unsafe_binder(
+        &mut self,
+        node: &Node,
+        variables: usize,
+        body: usize,
+    ) -> Result<Made, NameError> {
+        let variables = self.variables(node, variables)?;
+        let body = self.term(node, body, Some(Sort::Type))?;
+        let term = Term::UnsafeBinder(variables, body.number);
+        self.add(node, term, Sort::Type, body.levels)
+    }
+
     // The term of a form, if that is one.
     pub fn form(
         &mut self,
@@ -382,6 +431,12 @@ impl<'a> Namer<'a> {
             (Form::Range, [start, end]) => self.range(node, *start, *end)?,
             (Form::Or, pats) => self.alternatives(node, pats)?,
             (Form::NotNull, []) => self.add(node, Term::NotNull, Sort::Pattern, 0)?,
+            (Form::FnPtr(header), [variables, types @ ..]) => {
+                self.fn_ptr(node, header, *variables, types)?
+            }
+            (Form::UnsafeBinder, [variables, body]) => {
+                self.unsafe_binder(node, *variables, *body)?
+            }
             _ => return Ok(None),
         };
         Ok(Some(made))

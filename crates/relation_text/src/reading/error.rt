@@ -18,6 +18,9 @@ pub enum Expected {
     Number,
     Variable,
     Parameter,
+    /// What a binder may bind, and a constant of a binder.
+    Bound,
+    BoundConst,
     Relation,
     Sign(Sign),
     /// A comma, or the end of a list.
@@ -99,6 +102,8 @@ fn write_expected<W: Write>(expected: Expected, out: &mut W) -> fmt::Result
         Expected::Number => out.write_str("a number"),
         Expected::Variable => out.write_str("a variable"),
         Expected::Parameter => out.write_str("a parameter"),
+        Expected::Bound => out.write_str("a variable of a binder"),
+        Expected::BoundConst => out.write_str("a constant of a binder"),
         Expected::Relation => out.write_str("`<:`, `:>` or `==`"),
         Expected::Sign(sign) => write!(out, "`{}`", sign.spelling()),
         Expected::CommaOr(sign) => write!(out, "`,` or `{}`", sign.spelling()),

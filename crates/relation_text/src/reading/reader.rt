@@ -35,6 +35,10 @@ fn admits(expected: Expected, leaf: Leaf) -> bool {
         (Expected::Variable, Leaf::RegionVar(_)) => true,
         (Expected::Parameter, Leaf::Name) => true,
         (Expected::Parameter, Leaf::Lifetime) => true,
+        (Expected::Bound, Leaf::Lifetime) => true,
+        (Expected::Bound, Leaf::BoundTy) => true,
+        (Expected::Bound, Leaf::BoundConst) => true,
+        (Expected::BoundConst, Leaf::BoundConst) => true,
         _ => false,
     }
 }
@@ -43,7 +47,10 @@ fn admits(expected: Expected, leaf: Leaf) -> bool {
 fn is_sign(word: &Word, sign: Sign) -> bool
     ensures { IsTrue result ↔ (word.now.kind ≡ WordKind.Sign sign) }
 {
-    word.kind == WordKind::Sign(sign)
+    match word.kind {
+        WordKind::Sign(found) => found == sign,
+        WordKind::Leaf(_) => false,
+    }
 }
 
 impl Reader {
@@ -72,6 +79,14 @@ impl Reader {
     // What the next word is.
     pub fn peek(&self) -> Option<WordKind> {
         match self.next() {
+            Some(word) => Some(word.kind),
+            None => None,
+        }
+    }
+
+    // What the word behind the next is.
+    pub fn peek_behind(&self) -> Option<WordKind> {
+        match self.word(self.at.saturating_add(1)) {
             Some(word) => Some(word.kind),
             None => None,
         }

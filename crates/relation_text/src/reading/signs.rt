@@ -26,6 +26,10 @@ pub enum Sign {
     Bang,
     Bar,
     UpTo,
+    Arrow,
+    Dots,
+    AbiC,
+    AbiSystem,
     Budget,
     Closure,
     Const,
@@ -36,6 +40,7 @@ pub enum Sign {
     Extern,
     Fn,
     Fold,
+    For,
     In,
     Infers,
     Is,
@@ -50,6 +55,7 @@ pub enum Sign {
     Struct,
     Then,
     Type,
+    Unsafe,
     Variables,
     Visit,
     With,
@@ -82,6 +88,10 @@ impl Sign {
             Sign::Bang => "!",
             Sign::Bar => "|",
             Sign::UpTo => "..=",
+            Sign::Arrow => "->",
+            Sign::Dots => "..",
+            Sign::AbiC => "\"C\"",
+            Sign::AbiSystem => "\"system\"",
             Sign::Budget => "budget",
             Sign::Closure => "closure",
             Sign::Const => "const",
@@ -92,6 +102,7 @@ impl Sign {
             Sign::Extern => "extern",
             Sign::Fn => "fn",
             Sign::Fold => "fold",
+            Sign::For => "for",
             Sign::In => "in",
             Sign::Infers => "infers",
             Sign::Is => "is",
@@ -106,6 +117,7 @@ impl Sign {
             Sign::Struct => "struct",
             Sign::Then => "then",
             Sign::Type => "type",
+            Sign::Unsafe => "unsafe",
             Sign::Variables => "variables",
             Sign::Visit => "visit",
             Sign::With => "with",
@@ -114,7 +126,7 @@ impl Sign {
 }
 
 // The words of the language, each of which is written as a name would be.
-const RESERVED: [Sign; 27] = [
+const RESERVED: [Sign; 29] = [
     Sign::Budget,
     Sign::Closure,
     Sign::Const,
@@ -125,6 +137,7 @@ const RESERVED: [Sign; 27] = [
     Sign::Extern,
     Sign::Fn,
     Sign::Fold,
+    Sign::For,
     Sign::In,
     Sign::Infers,
     Sign::Is,
@@ -139,6 +152,7 @@ const RESERVED: [Sign; 27] = [
     Sign::Struct,
     Sign::Then,
     Sign::Type,
+    Sign::Unsafe,
     Sign::Variables,
     Sign::Visit,
     Sign::With,
@@ -151,6 +165,18 @@ pub(super) fn reserved_word(name: &[u8]) -> Option<Sign>
     for sign in &RESERVED {
         if sign.spelling().as_bytes() == name {
             return Some(*sign);
+        }
+    }
+    None
+}
+
+// The calling convention that is written so, with its quotes.
+pub(super) fn convention(word: &[u8]) -> Option<Sign>
+    ensures { IfSome result (λ s. spelling s ≡ word.now) }
+{
+    for convention in &[Sign::AbiC, Sign::AbiSystem] {
+        if word == convention.spelling().as_bytes() {
+            return Some(*convention);
         }
     }
     None
@@ -174,6 +200,8 @@ pub(super) fn mark_of_two(first: u8, second: u8) -> Option<Sign>
         (b'<', b':') => Some(Sign::Subtype),
         (b':', b'>') => Some(Sign::Supertype),
         (b'=', b'=') => Some(Sign::Equal),
+        (b'-', b'>') => Some(Sign::Arrow),
+        (b'.', b'.') => Some(Sign::Dots),
         _ => None,
     }
 }

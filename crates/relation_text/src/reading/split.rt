@@ -4,7 +4,7 @@ ghost use Rattle.relation_text.specs.Words.{skip, AreWordsOf, EachLies};
 ghost use Rattle.relation_text.specs.Errors.{LiesIn};
 
 use crate::reading::error::ReadError;
-use crate::reading::signs::{mark_of_one, mark_of_three, mark_of_two, reserved_word};
+use crate::reading::signs::{convention, mark_of_one, mark_of_three, mark_of_two, reserved_word};
 use crate::reading::words::{Leaf, Word, WordKind};
 use std::alloc::Global;
 
@@ -196,6 +196,38 @@ fn variable_at(text: &[u8], at: usize) -> Result<(WordKind, usize), ReadError>
     Ok((WordKind::Leaf(Leaf::TyVar(number)), end))
 }
 
+// A type that a binder binds, or a constant, whose number stands behind a `c`.
+fn bound_at(text: &[u8], at: usize) -> Result<(WordKind, usize), ReadError>
+    requires { at < length text.now }
+    ensures behind { IfOk result (λ w. at < w.1) }
+    ensures within { IfOk result (λ w. w.1 ≤ length text.now) }
+    ensures wrong { IfErr result (LiesIn (length text.now)) }
+{
+    let next = at + 1;
+    if next < text.len() && text[next] == b'c' {
+        let (_, end) = index_at(text, next + 1)?;
+        return Ok((WordKind::Leaf(Leaf::BoundConst), end));
+    }
+    let (_, end) = index_at(text, next)?;
+    Ok((WordKind::Leaf(Leaf::BoundTy), end))
+}
+
+// A calling convention in quotes.
+fn quoted_at(text: &[u8], at: usize) -> Result<(WordKind, usize), ReadError>
+    requires { at < length text.now }
+    ensures behind { IfOk result (λ w. at < w.1) }
+    ensures within { IfOk result (λ w. w.1 ≤ length text.now) }
+    ensures wrong { IfErr result (LiesIn (length text.now)) }
+{
+    let quote = name_end(text, at + 1);
+    if quote < text.len() {
+        if let Some(sign) = convention(&text[at..quote + 1]) {
+            return Ok((WordKind::Sign(sign), quote + 1));
+        }
+    }
+    Err(ReadError::NoWord { at })
+}
+
 // A mark.
 fn mark_at(text: &[u8], at: usize) -> Result<(WordKind, usize), ReadError>
     requires { at < length text.now }
@@ -243,6 +275,12 @@ fn word_at(text: &[u8], at: usize) -> Result<(WordKind, usize), ReadError>
     }
     if byte == b'!' && at + 1 < text.len() && text[at + 1].is_ascii_digit() {
         return placeholder_at(text, at);
+    }
+    if byte == b'^' {
+        return bound_at(text, at);
+    }
+    if byte == b'"' {
+        return quoted_at(text, at);
     }
     mark_at(text, at)
 }

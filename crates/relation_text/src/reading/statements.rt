@@ -7,6 +7,7 @@ ghost use Rattle.relation_text.specs.Reads.{GoesOn, AddsRoots, Makes, IsReadFrom
 ghost use Rattle.relation_text.specs.declared.reading.error.ReadError.TheVariants.{TooLong};
 
 use crate::reading::error::{Expected, ReadError};
+use crate::reading::headers::is_pointer_next;
 use crate::reading::questions::read_question;
 use crate::reading::reader::Reader;
 use crate::reading::signs::Sign;
@@ -197,6 +198,9 @@ fn read_statement(reader: &mut Reader) -> Result<usize, ReadError>
     ensures wrong { IfErr result (LiesIn reader.old.tree.text_len) }
 {
     let start = reader.place();
+    if is_pointer_next(reader) {
+        return read_question(reader, start);
+    }
     if let Some(sort) = read_sort(reader)? {
         return read_item(reader, start, sort);
     }

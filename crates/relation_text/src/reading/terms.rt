@@ -3,15 +3,16 @@ ghost use Rattle.std.specs.Prelude.{◌≡◌, ◌≤◌, ◌↔◌, IfOk, IfErr
 ghost use Rattle.relation_text.specs.Errors.{LiesIn};
 ghost use Rattle.relation_text.specs.Trees.{EachBelow};
 ghost use Rattle.relation_text.specs.Words.{StandsAt};
-ghost use Rattle.relation_text.specs.Signs.{pointer_sign, IsMutability, IsReference, InBraces, Begins};
+ghost use Rattle.relation_text.specs.Signs.{pointer_sign, IsMutability, IsReference, InBraces, BehindUnsafe, Begins};
 ghost use Rattle.relation_text.specs.Reads.{GoesOn, Makes, Collects, CollectsMore};
 
 use crate::reading::error::{Expected, ReadError};
+use crate::reading::headers::{is_abi_next, read_abi, read_safety, read_variables};
 use crate::reading::reader::Reader;
 use crate::reading::signs::Sign;
 use crate::reading::tree::Form;
 use crate::reading::words::{Leaf, WordKind};
-use relation_terms::terms::Mutability;
+use relation_terms::terms::{ExternAbi, FnHeader, Mutability, Safety};
 
 /// How many levels a term may have.
 pub(super) const LEVELS: usize = 1000;
@@ -25,6 +26,8 @@ enum Rest {
     Pointee(Form),
     // A list up to that sign, the further parts of that form.
     List(Form, Sign),
+    // The inputs of a function pointer that is called so, and its output.
+    Inputs(Safety, ExternAbi),
     // What stands in brackets.
     Brackets,
     // What stands in parentheses.
@@ -105,6 +108,54 @@ fn open_braces(reader: &mut Reader) -> Result<Rest, ReadError>
     Ok(Rest::List(Form::Branch, Sign::RightBrace))
 }
 
+// Reads the beginning of a term that begins with `unsafe`, behind it: a binder, or the binder that is left out.
+fn open_unsafe(reader: &mut Reader, parts: &mut Vec<usize>) -> Result<Rest, ReadError>
+    requires { EachBelow parts.old.items (length reader.old.tree.nodes.items) }
+    ensures begins { IfOk result (BehindUnsafe reader.old.words.items reader.old.at) }
+    ensures goes { GoesOn reader.old reader.new }
+    ensures parts { OnOk result (Collects reader.old reader.new parts.old.items parts.new.items) }
+    ensures wrong { IfErr result (LiesIn reader.old.tree.text_len) }
+{
+    if reader.peek() == Some(WordKind::Sign(Sign::Less)) {
+        let variables = read_variables(reader)?;
+        parts.push(variables)?;
+        return Ok(Rest::Pointee(Form::UnsafeBinder));
+    }
+    let start = reader.place();
+    let none = reader.make(Form::Bound, start, &[])?;
+    parts.push(none)?;
+    let abi = read_abi(reader)?;
+    Ok(Rest::Inputs(Safety::Unsafe, abi))
+}
+
+// Reads the beginning of a term that begins with a binder, or with a function pointer whose binder is left out.
+fn open_binder(reader: &mut Reader, parts: &mut Vec<usize>) -> Result<Rest, ReadError>
+    requires { EachBelow parts.old.items (length reader.old.tree.nodes.items) }
+    ensures begins { IfOk result (Begins reader.old.words.items reader.old.at) }
+    ensures goes { GoesOn reader.old reader.new }
+    ensures parts { OnOk result (Collects reader.old reader.new parts.old.items parts.new.items) }
+    ensures wrong { IfErr result (LiesIn reader.old.tree.text_len) }
+{
+    if reader.accept(Sign::For) {
+        let variables = read_variables(reader)?;
+        parts.push(variables)?;
+        let safety = read_safety(reader);
+        let abi = read_abi(reader)?;
+        return Ok(Rest::Inputs(safety, abi));
+    }
+    if reader.accept(Sign::Unsafe) {
+        return open_unsafe(reader, parts);
+    }
+    if !is_abi_next(reader) {
+        return Err(reader.unexpected(Expected::Term));
+    }
+    let start = reader.place();
+    let none = reader.make(Form::Bound, start, &[])?;
+    parts.push(none)?;
+    let abi = read_abi(reader)?;
+    Ok(Rest::Inputs(Safety::Safe, abi))
+}
+
 // Reads the beginning of a term that begins with a sign, with the parts that stand there.
 fn open(reader: &mut Reader, parts: &mut Vec<usize>) -> Result<Rest, ReadError>
     requires { EachBelow parts.old.items (length reader.old.tree.nodes.items) }
@@ -135,7 +186,7 @@ fn open(reader: &mut Reader, parts: &mut Vec<usize>) -> Result<Rest, ReadError>
     if reader.accept(Sign::Expr) {
         return open_expression(reader, parts);
     }
-    Err(reader.unexpected(Expected::Term))
+    open_binder(reader, parts)
 }
 
 // Reads a list of terms, and the sign behind it. Answers whether it ended in a comma or was empty.
@@ -180,6 +231,64 @@ fn read_applied(reader: &mut Reader, leaf: Leaf, levels: usize) -> Result<usize,
     parts.push(number)?;
     let _ = read_list(reader, &mut parts, Sign::Greater, levels)?;
     reader.make(Form::Applied, start, &parts)
+}
+
+// Reads the inputs of a function pointer, and the bracket behind them. Answers whether more may follow.
+#[cycle(terms)]
+fn read_inputs(
+    reader: &mut Reader,
+    parts: &mut Vec<usize>,
+    levels: usize,
+) -> Result<bool, ReadError>
+    requires { EachBelow parts.old.items (length reader.old.tree.nodes.items) }
+    ensures goes { GoesOn reader.old reader.new }
+    ensures parts { OnOk result (Collects reader.old reader.new parts.old.items parts.new.items) }
+    ensures wrong { IfErr result (LiesIn reader.old.tree.text_len) }
+{
+    'list: while !reader.accept(Sign::RightParen) {
+        if reader.accept(Sign::Dots) {
+            reader.expect(Sign::RightParen)?;
+            return Ok(true);
+        }
+        let input = read_term(reader, levels)?;
+        parts.push(input)?;
+        if reader.accept(Sign::RightParen) {
+            return Ok(false);
+        }
+        if !reader.accept(Sign::Comma) {
+            return Err(reader.unexpected(Expected::CommaOr(Sign::RightParen)));
+        }
+    }
+    Ok(false)
+}
+
+// Reads the inputs of a function pointer that is called so, and its output, which is `()` where it is left out.
+#[cycle(terms)]
+fn read_signature(
+    reader: &mut Reader,
+    parts: &mut Vec<usize>,
+    safety: Safety,
+    abi: ExternAbi,
+    levels: usize,
+) -> Result<Form, ReadError>
+    requires { EachBelow parts.old.items (length reader.old.tree.nodes.items) }
+    ensures goes { GoesOn reader.old reader.new }
+    ensures parts { OnOk result (Collects reader.old reader.new parts.old.items parts.new.items) }
+    ensures wrong { IfErr result (LiesIn reader.old.tree.text_len) }
+{
+    let c_variadic = read_inputs(reader, parts, levels)?;
+    let output = if reader.accept(Sign::Arrow) {
+        read_term(reader, levels)?
+    } else {
+        let start = reader.place();
+        reader.make(Form::Tuple, start, &[])?
+    };
+    parts.push(output)?;
+    Ok(Form::FnPtr(FnHeader {
+        c_variadic,
+        safety,
+        abi,
+    }))
 }
 
 // Reads what stands in brackets.
@@ -230,6 +339,9 @@ fn read_rest(
             let _ = read_list(reader, parts, close, levels)?;
             Ok(Some(form))
         }
+        Rest::Inputs(safety, abi) => Ok(Some(read_signature(
+            reader, parts, safety, abi, levels,
+        )?)),
         Rest::Brackets => Ok(Some(read_brackets(reader, parts, levels)?)),
         Rest::Parens => {
             let tuple = read_list(reader, parts, Sign::RightParen, levels)?;

@@ -3,7 +3,7 @@ ghost use Rattle.std.specs.Prelude.{◌≡◌, ◌+◌, ◌≤◌, ◌++◌, [],
 ghost use Rattle.relation_text.specs.Trees.{IsFounded, EachStands, EachBelow, node_words, kind_words};
 
 use crate::reading::words::Leaf;
-use relation_terms::terms::{Mutability, Variance};
+use relation_terms::terms::{FnHeader, Mutability, Variance};
 use std::alloc::{AllocError, Global};
 
 /// What an item is.
@@ -84,6 +84,12 @@ pub enum Form {
     Or,
     /// A pattern: all but null.
     NotNull,
+    /// The variables of a binder: the name of each.
+    Bound,
+    /// A function pointer: the `Bound` of its binder, its inputs, and its output.
+    FnPtr(FnHeader),
+    /// A type under a binder: the `Bound` of the binder, and the type.
+    UnsafeBinder,
 }
 
 /// What a node is: a word of the text, or a form over further nodes.

@@ -7,6 +7,9 @@ pub enum Leaf {
     Name,
     /// A lifetime, with its `'`.
     Lifetime,
+    /// A type that a binder binds, by the name that the binder gives it, and a constant.
+    BoundTy,
+    BoundConst,
     /// A number. The type that it is of is named behind its digits, if at all.
     Number { value: u128, behind: usize },
     /// A type variable, by its number.

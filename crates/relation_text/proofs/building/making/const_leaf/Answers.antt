@@ -1,5 +1,5 @@
 use Rattle.std.proofs.Common.{map, refl, sym, ap, ◌∙◌}
-use Rattle.relation_terms.specs.Heads.{atom, placeholder, const_param, bound_kind, const_kind}
+use Rattle.relation_terms.specs.Heads.{atom, bound, placeholder, const_param, bound_kind, const_kind}
 use Rattle.relation_text.specs.Terms.{term_tree}
 use Rattle.relation_text.proofs.BuildingLemmas.{leaf_is}
 use Rattle.relation_text.proofs.building.making.const_leaf.Goals as goal
@@ -30,4 +30,12 @@ pub returns-in-ConstError : goal.returns-in-ConstError
 returns-in-ConstError g c m = (
   refl,
   λ items parts ts. sym (ap (term_tree items (map m.name c.args.names.now) parts ts) c.in-ConstError.is),
+)
+
+pub returns-in_ok-name-in-ConstBound : goal.returns-in_ok-name-in-ConstBound
+returns-in_ok-name-in-ConstBound g c m = (
+  refl,
+  λ items parts ts.
+      leaf_is (λ x. bound (bound_kind const_kind x) c.in-ConstBound.depth c.in-ConstBound.place) m.name c.args.names.now c.in-ConstBound.name c.in_ok-name-in-ConstBound.name c.in_ok-name-in-ConstBound.ensures
+      ∙ sym (ap (term_tree items (map m.name c.args.names.now) parts ts) c.in-ConstBound.is),
 )

@@ -33,3 +33,11 @@ returns-in_default g c =
       made = leaf_makes m c.args.built.now c.args.pats.now (λ ts. term_tree items (map m.name c.args.names.now) c.args.numbers.now ts c.args.term) (g.I.Interner.meaning c.make_leaf.new.cx) c.make_leaf.result
           (c.make_leaf.ensures.made items c.args.numbers.now);
     }
+
+pub returns-in-FnPtr-clause-made : goal.returns-in-FnPtr-clause-made
+returns-in-FnPtr-clause-made g c =
+    let m = g.I.Interner.meaning c.args.cx.now in
+    let items = map m.id c.args.ids.now in
+    let names = map m.name c.args.names.now in
+    makes_of m c.args.built.now c.args.pats.now (λ ts. term_tree items names c.args.numbers.now ts c.args.term) (g.I.Interner.meaning c.make_binder.new.cx) c.make_binder.result
+    (c.make_binder.ensures.made items names)

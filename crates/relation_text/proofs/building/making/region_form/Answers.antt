@@ -1,5 +1,5 @@
 use Rattle.std.proofs.Common.{map, sym, ap, ◌∙◌}
-use Rattle.relation_terms.specs.Heads.{atom, early_region, placeholder, bound_kind, region_kind}
+use Rattle.relation_terms.specs.Heads.{atom, early_region, placeholder, bound, bound_kind, region_kind}
 use Rattle.relation_text.specs.Terms.{term_tree}
 use Rattle.relation_text.proofs.BuildingLemmas.{leaf_is}
 use Rattle.relation_text.proofs.building.making.region_form.Goals as goal
@@ -19,3 +19,8 @@ pub returns-in_ok-name-in-RegionPlaceholder : goal.returns-in_ok-name-in-RegionP
 returns-in_ok-name-in-RegionPlaceholder g c m items parts ts =
     leaf_is (λ x. placeholder (bound_kind region_kind x) c.in-RegionPlaceholder.universe c.in-RegionPlaceholder.place) m.name c.args.names.now c.in-RegionPlaceholder.name c.in_ok-name-in-RegionPlaceholder.name c.in_ok-name-in-RegionPlaceholder.ensures
     ∙ sym (ap (term_tree items (map m.name c.args.names.now) parts ts) c.in-RegionPlaceholder.is)
+
+pub returns-in_ok-name-in-RegionBound : goal.returns-in_ok-name-in-RegionBound
+returns-in_ok-name-in-RegionBound g c m items parts ts =
+    leaf_is (λ x. bound (bound_kind region_kind x) c.in-RegionBound.depth c.in-RegionBound.place) m.name c.args.names.now c.in-RegionBound.name c.in_ok-name-in-RegionBound.name c.in_ok-name-in-RegionBound.ensures
+    ∙ sym (ap (term_tree items (map m.name c.args.names.now) parts ts) c.in-RegionBound.is)

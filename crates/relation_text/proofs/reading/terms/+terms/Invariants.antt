@@ -28,7 +28,13 @@ abbrev pub decreases-read_applied : goal.decreases-read_applied
 decreases-read_applied l = 8 * l.levels + 6
 
 abbrev pub decreases-read_rest : goal.decreases-read_rest
-decreases-read_rest l = 8 * l.levels + 6
+decreases-read_rest l = 8 * l.levels + 7
+
+abbrev pub decreases-read_inputs : goal.decreases-read_inputs
+decreases-read_inputs l = 8 * l.levels + 5
+
+abbrev pub decreases-read_signature : goal.decreases-read_signature
+decreases-read_signature l = 8 * l.levels + 6
 
 -- what was read so far is in the list
 abbrev pub invariant-read_list-list : goal.invariant-read_list-list
@@ -39,6 +45,16 @@ invariant-read_list-list l =
 -- each turn reads at least one word
 abbrev pub decreases-read_list-list : goal.decreases-read_list-list
 decreases-read_list-list l = length l.reader.words.items - l.reader.at
+
+-- the inputs so far are in the list
+abbrev pub invariant-read_inputs-list : goal.invariant-read_inputs-list
+invariant-read_inputs-list l =
+    GoesOn l.fn.reader l.reader × EachBelow l.parts.items (length l.reader.tree.nodes.items)
+    × Gathers 0 l.fn.reader l.reader l.fn.parts.items l.parts.items
+
+-- each turn reads at least one word
+abbrev pub decreases-read_inputs-list : goal.decreases-read_inputs-list
+decreases-read_inputs-list l = length l.reader.words.items - l.reader.at
 
 -- the alternatives so far are in the list
 abbrev pub invariant-read_pattern-list : goal.invariant-read_pattern-list
