@@ -1,14 +1,14 @@
 -- Which clashes there are between two terms, by their sorts.
-use Rattle.std.proofs.Common.{◌≡◌, ◌≢◌, ◌⊎◌, ◌↔◌, ℕ, zero, suc, ◌<◌, ◌≤◌, Bool, true, false, not, ◌||◌, refl, sym, ap, ◌∙◌, subst, subst₂, inl, inr, arith}
-use Rattle.relation_terms.specs.Heads.{Sort, region_sort, type_sort, const_sort, argument_sort, term_sort}
+use Rattle.std.proofs.Common.{◌≡◌, ◌⊎◌, ◌↔◌, ℕ, zero, suc, ◌<◌, ◌≤◌, Bool, true, false, not, ◌||◌, refl, sym, ap, ◌∙◌, subst, subst₂, inl, inr, arith}
+use Rattle.relation_terms.specs.Heads.{Sort, region_sort, type_sort, const_sort}
 use Rattle.relation_terms.specs.Heads.{signature_sort, inputs_sort, value_sort, value_type_sort, pattern_sort}
-use Rattle.relation_terms.specs.Heads.{arguments_sort, existential_sort, object_sort, trait_ref_sort, alias_term_sort}
-use Rattle.relation_terms.specs.Heads.{clause_sort, predicate_sort, environment_sort, no_sort, binder_sort}
+use Rattle.relation_terms.specs.Heads.{existential_sort, object_sort}
+use Rattle.relation_terms.specs.Heads.{no_sort, binder_sort}
 use Rattle.relation_terms.specs.Heads.{type_var, int_var, float_var, const_var, region_var}
-use Rattle.relation_terms.specs.Heads.{Head, unsafe_binder, alias, unevaluated, expression, value, value_type, Atom, atom_sort}
+use Rattle.relation_terms.specs.Heads.{unsafe_binder, alias, unevaluated, expression, value, value_type, Atom, atom_sort}
 use Rattle.relation_terms.specs.Heads.{type_param, type_error, fresh_type, fresh_int, fresh_float, const_param, early_region}
 use Rattle.relation_terms.specs.Heads.{const_error, fresh_const}
-use Rattle.relation_terms.specs.Heads.{Leaf, variable, bound, placeholder, atom, unknown}
+use Rattle.relation_terms.specs.Heads.{variable, bound, placeholder, atom, unknown}
 use Rattle.relation_terms.specs.Trees.{Tree, leaf, node, bind, nil, cons, IsList, count, nth}
 use Rattle.relation_terms.specs.Parts.{parts_of, tree_sort, part_sort}
 use Rattle.relation_terms.specs.declared.terms.part_kind.Part.{Part}
@@ -18,8 +18,8 @@ use Rattle.relation_terms.specs.declared.terms.keys.ConstKey.{ConstKey}
 use Rattle.relation_terms.specs.declared.terms.keys.ValTreeKey.{ValTreeKey}
 use Rattle.relation_tools.specs.Visits.{is_rigid, rigid_atom}
 use Rattle.relation_tools.proofs.Visiting.{rest, rest_next, rest_end, rest_list}
-use Rattle.relation_tools.specs.Clashes.{flexible, flexible_atom, may_stand, is_integral, is_floating_point, outline}
-use Rattle.relation_tools.specs.Clashes.{Alike, AreRigid, AreOf, is_const_sort, is_between, depth_inside}
+use Rattle.relation_tools.specs.Clashes.{flexible, flexible_atom, may_stand, is_integral, is_floating_point}
+use Rattle.relation_tools.specs.Clashes.{Alike, AreRigid, is_const_sort, is_between, depth_inside}
 use Rattle.relation_tools.specs.Clashes.{Clash, unlike_types, left_number, right_number, unlike_consts, in_types}
 use Rattle.relation_tools.specs.Clashes.{in_consts, between, here, further}
 

@@ -1,16 +1,13 @@
 -- The outlines of forms, and which forms are alike.
-use Rattle.std.proofs.Common.{◌≡◌, ◌↔◌, ℕ, Bool, true, false, ◌&&◌, IsTrue, Option, Some, None, cond, refl, sym, ap, ◌∙◌, subst, List, [], ◌∷◌}
+use Rattle.std.proofs.Common.{◌≡◌, ℕ, Bool, true, false, ◌&&◌, IsTrue, Option, Some, None, cond, refl, sym, ap, ◌∙◌, List}
 use Rattle.std.proofs.lemmas.Bool.{and_parts, false≢true}
-use Rattle.std.specs.Cmp.Derive.{both_true}
 use Rattle.relation_terms.specs.Heads.{Head, adt, fn_def, closure, coroutine_closure, coroutine, coroutine_witness, array}
-use Rattle.relation_terms.specs.Heads.{slice, pattern_type, tuple, unsafe_binder, dynamic, fn_ptr, raw_ptr, ref, value}
+use Rattle.relation_terms.specs.Heads.{slice, pattern_type, raw_ptr, ref, value}
 use Rattle.relation_terms.specs.Heads.{value_branch}
 use Rattle.relation_terms.specs.declared.terms.enums.Mutability.{Mutability}
 use Rattle.relation_terms.specs.declared.terms.enums.Mutability.TheVariants.{Not, Mut}
-use Rattle.relation_terms.specs.declared.terms.fn_sig.FnHeader.{FnHeader}
-use Rattle.relation_terms.specs.Trees.{Tree, leaf, node, bind, nil, cons, known, count, list_tree}
+use Rattle.relation_terms.specs.Trees.{Tree, leaf, node, bind, nil, cons, known, count}
 use Rattle.relation_terms.specs.Meaning.{Meaning, const_tree, valtree_tree, object_predicate_tree, existential_tree, under}
-use Rattle.relation_terms.proofs.Binders.{under_known}
 use Rattle.relation_terms.specs.declared.terms.keys.TyKey.{TyKey}
 use Rattle.relation_terms.specs.declared.terms.keys.ValTreeKey.{ValTreeKey}
 use Rattle.relation_terms.specs.declared.terms.keys.BranchesKey.{BranchesKey}
@@ -24,7 +21,6 @@ use Rattle.relation_terms.specs.declared.terms.const_kind.ConstKind.TheVariants.
 use Rattle.relation_terms.specs.declared.terms.const_kind.InferConst.TheVariants.{Var, Fresh}
 use Rattle.relation_terms.specs.declared.terms.const_kind.ValTreeKind.{ValTreeKind}
 use Rattle.relation_terms.specs.declared.terms.const_kind.ValTreeKind.TheVariants.{Leaf as LeafTree, Branch as BranchTree}
-use Rattle.relation_tools.specs.declared.fast_reject.forms.Form.{Form}
 use Rattle.relation_tools.specs.declared.fast_reject.forms.Form.TheVariants.{Leaf, Branch}
 use Rattle.relation_tools.specs.declared.fast_reject.forms.Outline.{Outline}
 use Rattle.relation_tools.specs.Clashes.{flexible, may_stand, outline, Alike, principal, counted, pointer_form}

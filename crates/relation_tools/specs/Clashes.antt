@@ -10,12 +10,12 @@ use Rattle.relation_terms.specs.Heads.{Head, adt, fn_def, closure, coroutine_clo
 use Rattle.relation_terms.specs.Heads.{array, slice, pattern_type, tuple, unsafe_binder, dynamic, fn_ptr, raw_ptr, ref}
 use Rattle.relation_terms.specs.Heads.{alias, signature, inputs, unevaluated, expression, value, value_branch, object}
 use Rattle.relation_terms.specs.Heads.{existential_trait, int_var, float_var}
-use Rattle.relation_terms.specs.Heads.{Leaf, variable, bound, placeholder, atom}
-use Rattle.relation_terms.specs.Trees.{Tree, leaf, node, bind, nil, cons, count}
+use Rattle.relation_terms.specs.Heads.{variable, bound, atom}
+use Rattle.relation_terms.specs.Trees.{Tree, leaf, node, bind, cons, count}
 use Rattle.relation_terms.specs.Parts.{parts_of, tree_sort}
 use Rattle.relation_tools.specs.Visits.{is_rigid}
 use Rattle.relation_tools.specs.declared.fast_reject.forms.Form.{Form}
-use Rattle.relation_tools.specs.declared.fast_reject.forms.Form.TheVariants.{Leaf as LeafForm, Adt, FnDef, Closure}
+use Rattle.relation_tools.specs.declared.fast_reject.forms.Form.TheVariants.{Adt, FnDef, Closure}
 use Rattle.relation_tools.specs.declared.fast_reject.forms.Form.TheVariants.{CoroutineClosure, Coroutine}
 use Rattle.relation_tools.specs.declared.fast_reject.forms.Form.TheVariants.{CoroutineWitness, Array, Slice, Pat}
 use Rattle.relation_tools.specs.declared.fast_reject.forms.Form.TheVariants.{ConstPtr, MutPtr, SharedRef, MutRef}
@@ -161,7 +161,8 @@ depth_inside t d = d
 pub data Clash (l r : Bool) : ℕ → Tree → Tree → Type 0 where
   -- two types of unlike forms of which neither may stand for others, with depth left
   unlike_types : {d : ℕ} {a b : Tree} → AreOf type_sort a b → AreRigid l r a b → (Alike a b → ⊥) → Clash l r (suc d) a b
-  -- an integer or a float variable and a type known to be no such number: on the left with depth left, on the right always
+  -- an integer or a float variable and a type known to be no such number: on the left with depth left, on the right
+  -- always
   left_number : {d : ℕ} {a b : Tree} → AreOf type_sort a b → may_stand a b ≡ false → Clash l r (suc d) a b
   right_number : {d : ℕ} {a b : Tree} → AreOf type_sort a b → may_stand b a ≡ false → Clash l r d a b
   -- two constants, or what they are made of, of unlike forms

@@ -1,5 +1,5 @@
 -- The keys of types: what the outermost form of a type tells.
-use Rattle.std.specs.Prelude.{ℕ, Bool, true, false, not, ◌||◌, cond, Option, Some, None}
+use Rattle.std.specs.Prelude.{ℕ, Bool, not, ◌||◌, cond, Option, Some, None}
 use Rattle.relation_terms.specs.Heads.{Atom, bool_type, char_type, str_type, never_type, type_error, int_type, uint_type}
 use Rattle.relation_terms.specs.Heads.{float_type, foreign, type_param}
 use Rattle.relation_terms.specs.Heads.{adt, fn_def, closure, coroutine_closure, coroutine, coroutine_witness}
@@ -64,7 +64,8 @@ abbrev pub param_key : {D : Type 0} → TreatParams → Option (SimplifiedType D
 param_key AsRigid = Some Placeholder
 param_key InstantiateWithInfer = None
 
--- An alias has that of a parameter, if nothing in it can be inferred any more (`stands` is false) or the solver says so.
+-- An alias has that of a parameter, if nothing in it can be inferred any more (`stands` is false) or the solver says
+-- so.
 abbrev pub alias_key : {D : Type 0} → TreatParams → Bool → Bool → Option (SimplifiedType D)
 alias_key treat solver stands = cond (not stands || solver) (param_key treat) None
 

@@ -1,6 +1,6 @@
 -- What the depth test reads of two types before it goes on to their parts.
 use Rattle.std.specs.Prelude.{ℕ, Bool, cond, Option, Some, None}
-use Rattle.relation_terms.specs.Trees.{Tree, leaf, node}
+use Rattle.relation_terms.specs.Trees.{Tree, node}
 use Rattle.relation_tools.specs.Clashes.{flexible, may_stand, plain, outline}
 use Rattle.relation_tools.specs.declared.fast_reject.forms.Form.TheVariants.{Leaf}
 use Rattle.relation_tools.specs.declared.fast_reject.forms.Outline.{Outline}

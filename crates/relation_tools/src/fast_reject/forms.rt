@@ -114,10 +114,10 @@ fn trait_of<X, D: Copy>(predicate: &Binder<X, ExistentialPredicate<X, D>>) -> Op
     }
 }
 
-/// The principal of a trait object: the first trait among its predicates, which is neither a projection nor an auto trait.
+/// The principal of a trait object: the first trait among its predicates, neither a projection nor an auto trait.
 pub fn principal_of<I: Interner>(cx: &I, predicates: &ExistentialPredicates<I>) -> Option<I::Id>
     requires { IsTrue (known ((I.meaning cx.now).existential_predicates predicates.now)) }
-    ensures { named (I.meaning cx.now).id result ≡ principal ((I.meaning cx.now).existential_predicates predicates.now) }
+    ensures { let m = I.meaning cx.now in named m.id result ≡ principal (m.existential_predicates predicates.now) }
 {
     for predicate in cx.existential_predicates(predicates) {
         if let Some(id) = trait_of(predicate) {
@@ -277,8 +277,8 @@ fn is_floating_point_ty<I: Interner>(cx: &I, ty: &Ty<I>) -> bool
     }
 }
 
-// Whether a type variable may stand for a type: one of integers or floats only for a type of its sort of numbers, or for
-// one of which it is not known what it is.
+// Whether a type variable may stand for a type: one of integers or floats only for a type of its sort of numbers, or
+// for one of which it is not known what it is.
 fn var_and_ty_may_unify<I: Interner>(cx: &I, var: &InferTy, ty: &Ty<I>) -> bool
     requires { IsTrue (known ((I.meaning cx.now).ty ty.now)) }
     ensures { result ≡ may_stand (infer_tree var.now) ((I.meaning cx.now).ty ty.now) }

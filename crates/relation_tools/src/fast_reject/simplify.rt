@@ -238,9 +238,9 @@ fn form_key<I: Interner, T: KeyTables<I>>(
 /// The key of a type, or `None` where anything may be put for the type, so that it may come to have any key. The
 /// interner has to know the type.
 ///
-/// A pattern type has its base type's key, a function item and a closure `Closure`, and an error `Error`, though an error
-/// is related with every type. An alias has the key of a placeholder, with parameters as types of their own, if the next
-/// solver is on or no inference variable but those of regions stands in it.
+/// A pattern type has its base type's key, a function item and a closure `Closure`, and an error `Error`, though an
+/// error is related with every type. An alias has the key of a placeholder, with parameters as types of their own, if
+/// the next solver is on or no inference variable but those of regions stands in it.
 pub fn simplify_type<I: Interner, T: KeyTables<I>>(
     cx: &I,
     tables: &T,

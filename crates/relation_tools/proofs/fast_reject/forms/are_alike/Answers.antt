@@ -1,6 +1,4 @@
-use Rattle.std.proofs.Common.{rules, ◌≡◌, ◌&&◌, IsTrue, true, false, sym, ap, ◌∙◌, arith}
-use Rattle.std.proofs.lemmas.Bool.{and_parts, false≢true}
-use Rattle.std.specs.Cmp.Derive.{both_true}
+use Rattle.std.proofs.Common.{rules, ◌≡◌, IsTrue}
 use Rattle.relation_terms.specs.Meaning.{kind_tree}
 use Rattle.relation_tools.specs.declared.fast_reject.forms.Form.TheVariants.{Leaf}
 use Rattle.relation_tools.proofs.Outlining.{unlike_leaf, one_form, one_count, one_header, one_item, all_alike}

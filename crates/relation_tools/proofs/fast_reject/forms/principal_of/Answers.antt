@@ -1,4 +1,4 @@
-use Rattle.std.proofs.Common.{◌≡◌, ◌<◌, ◌+◌, IsTrue, Some, sym, ap, ap₂, suc, ◌∙◌, subst, drop, drop-cons, List, ◌∷◌, arith, get_or}
+use Rattle.std.proofs.Common.{◌≡◌, ◌+◌, IsTrue, sym, ap, ap₂, suc, ◌∙◌, subst, drop, drop-cons, ◌∷◌, arith}
 use Rattle.std.proofs.lemmas.Bool.{and_parts}
 use Rattle.relation_terms.specs.Trees.{known, list_tree}
 use Rattle.relation_terms.specs.Meaning.{object_predicate_tree}

@@ -1,4 +1,4 @@
-use Rattle.std.proofs.Common.{◌≡◌, sym, ap, ◌∙◌}
+use Rattle.std.proofs.Common.{sym, ap, ◌∙◌}
 use Rattle.relation_terms.specs.Meaning.{kind_tree}
 use Rattle.relation_tools.specs.Visits.{non_region_infer_stands}
 use Rattle.relation_tools.specs.HeadKeys.{form_key, numbered_key, alias_key}

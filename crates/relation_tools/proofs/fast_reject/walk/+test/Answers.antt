@@ -1,14 +1,13 @@
-use Rattle.std.proofs.Common.{rules, ◌≡◌, ◌≢◌, ◌↔◌, ◌<◌, ◌+◌, ◌*◌, ◌-◌, ℕ, suc, Bool, true, false, IsTrue, IsFalse, sym, ap, ◌∙◌, subst, subst₂, refl, arith, inl, inr, ◌⊎◌}
-use Rattle.relation_terms.specs.Heads.{const_sort, value_sort, type_sort, value, value_type, value_branch}
-use Rattle.relation_terms.specs.Trees.{Tree, node, nil, cons, known, size, count, nth}
-use Rattle.relation_terms.specs.Meaning.{kind_tree, const_tree, valtree_tree}
-use Rattle.relation_terms.specs.Parts.{part_tree, parts_tree, parts_of, tree_sort, part_sort}
+use Rattle.std.proofs.Common.{rules, ◌≡◌, ◌<◌, ◌+◌, ◌*◌, ◌-◌, suc, true, false, IsTrue, sym, ap, ◌∙◌, subst, subst₂, refl, arith}
+use Rattle.relation_terms.specs.Heads.{const_sort, value_sort, value, value_type, value_branch}
+use Rattle.relation_terms.specs.Trees.{node, nil, cons, known, size, count, nth}
+use Rattle.relation_terms.specs.Meaning.{const_tree, valtree_tree}
+use Rattle.relation_terms.specs.Parts.{part_tree, parts_tree, parts_of, part_sort}
 use Rattle.relation_terms.proofs.Sorted.{Sorted}
 use Rattle.relation_terms.proofs.Parts.{sort_known}
 use Rattle.relation_terms.proofs.Members.{type_term, const_term, value_term, member_small, parts_small}
-use Rattle.relation_tools.specs.Clashes.{Clash, Alike, flexible, may_stand, depth_inside, is_between}
+use Rattle.relation_tools.specs.Clashes.{Clash, Alike, flexible, depth_inside, is_between}
 use Rattle.relation_tools.specs.Outlines.{stands}
-use Rattle.relation_tools.proofs.Visiting.{rest}
 use Rattle.relation_tools.proofs.Clashing.{no_clash, right_decides, no_depth, left_decides, forms_clash, parts_decide}
 use Rattle.relation_tools.proofs.Clashing.{other_ty, other_const, other_valtree, type_pair, const_pair, is_quiet}
 use Rattle.relation_tools.proofs.Clashing.{quiet_clash, between_decides}
