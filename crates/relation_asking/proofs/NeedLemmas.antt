@@ -273,7 +273,6 @@ module _ (items names parts : List ℕ) where
   term_enough ts ns e (term.Range a b) = two_without (need_at ns a) (need_at ns b) (at ts a) (at ts b) (e a) (e b)
   term_enough ts ns e (term.Or p) =
       allows_without (parts_need parts ns p) (parts_tree parts ts p) (list_enough ts ns e no_needs _)
-
   term_enough ts ns e (term.TyBound d v n) = leaf_enough (without_rules no_needs) _ (λ x. refl) (slice_get names n)
   term_enough ts ns e (term.RegionBound d v n) = leaf_enough (without_rules no_needs) _ (λ x. refl) (slice_get names n)
   term_enough ts ns e (term.ConstBound d v n) = leaf_enough (without_rules no_needs) _ (λ x. refl) (slice_get names n)

@@ -242,7 +242,7 @@ variables_more f [] n ks k h e =
     ap (λ o. with_variable o (Some [])) e ∙ ap (λ z. Some (z ++ k ∷ [])) none
 variables_more f (m ∷ ns) n ks k h e =
     let s = with_split (variable_of (f m)) (variables_of (list_tree f ns)) ks h in
-    ap₂ with_variable s.1.1.0 (variables_more f ns n s.1.0 k s.1.1.1.0 e) ∙ ap (λ z. Some (z ++ k ∷ [])) s.1.1.1.1
+    ap₂ with_variable s.2 (variables_more f ns n s.1 k s.3 e) ∙ ap (λ z. Some (z ++ k ∷ [])) s.4
 
 -- The inputs of a known list that is not empty, which is all of it but its last member.
 pub inputs_known : {A : Type 0} (f : A → Tree) (xs : List A) → xs ≢ [] → IsTrue (known (list_tree f xs)) →

@@ -220,10 +220,7 @@ fn wrong_texts_are_refused(rt: HostRuntime) -> Result<(), Fail> {
             "visit extern fn();",
             "1:14: expected `\"C\"` or `\"system\"`, found `fn`",
         ),
-        (
-            "visit extern \"Rust\" fn();",
-            "1:14: no word begins here",
-        ),
+        ("visit extern \"Rust\" fn();", "1:14: no word begins here"),
         ("visit fn(.., u8);", "1:12: expected `)`, found `,`"),
         ("visit fn() -> ;", "1:15: expected a term, found `;`"),
     ] {

@@ -14,10 +14,10 @@ use crate::naming::Term;
 use crate::reading::ItemSort;
 use relation_terms::terms::{
     AdtId, BoundConst, BoundRegion, BoundTy, BoundVar, ClosureId, ConstForm, ConstKind, ConstVid,
-    CoroutineClosureId, CoroutineId, DebruijnIndex, EarlyParamRegion, ErrorGuaranteed, ExprKind, FloatVid,
-    ForeignId, FunctionId, GenericArg, GenericArgKind, InferConst, InferTy, IntVid, Interner,
-    ParamConst, ParamTy, Pat, Placeholder, RegionForm, RegionKind, RegionVid, Ty, TyForm, TyKind,
-    TyVid, UniverseIndex, ValTreeForm, ValTreeKind,
+    CoroutineClosureId, CoroutineId, DebruijnIndex, EarlyParamRegion, ErrorGuaranteed, ExprKind,
+    FloatVid, ForeignId, FunctionId, GenericArg, GenericArgKind, InferConst, InferTy, IntVid,
+    Interner, ParamConst, ParamTy, Pat, Placeholder, RegionForm, RegionKind, RegionVid, Ty, TyForm,
+    TyKind, TyVid, UniverseIndex, ValTreeForm, ValTreeKind,
 };
 
 // The type of a form.

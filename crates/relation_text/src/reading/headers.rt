@@ -49,10 +49,7 @@ pub(super) fn read_variables(reader: &mut Reader) -> Result<usize, ReadError>
 
 // Whether a function pointer without a binder and without `unsafe` begins next.
 pub(super) fn is_abi_next(reader: &Reader) -> bool {
-    matches!(
-        reader.peek(),
-        Some(WordKind::Sign(Sign::Fn | Sign::Extern))
-    )
+    matches!(reader.peek(), Some(WordKind::Sign(Sign::Fn | Sign::Extern)))
 }
 
 // Whether such a one begins next where an item may be declared: behind `fn` stands a bracket then, behind `extern` a
@@ -60,10 +57,8 @@ pub(super) fn is_abi_next(reader: &Reader) -> bool {
 pub(super) fn is_pointer_next(reader: &Reader) -> bool {
     match (reader.peek(), reader.peek_behind()) {
         (Some(WordKind::Sign(Sign::Fn)), Some(WordKind::Sign(Sign::LeftParen))) => true,
-        (
-            Some(WordKind::Sign(Sign::Extern)),
-            Some(WordKind::Sign(Sign::AbiC | Sign::AbiSystem)),
-        ) => true,
+        (Some(WordKind::Sign(Sign::Extern)), Some(WordKind::Sign(Sign::AbiC | Sign::AbiSystem))) =>
+            true,
         _ => false,
     }
 }

@@ -339,9 +339,7 @@ fn read_rest(
             let _ = read_list(reader, parts, close, levels)?;
             Ok(Some(form))
         }
-        Rest::Inputs(safety, abi) => Ok(Some(read_signature(
-            reader, parts, safety, abi, levels,
-        )?)),
+        Rest::Inputs(safety, abi) => Ok(Some(read_signature(reader, parts, safety, abi, levels)?)),
         Rest::Brackets => Ok(Some(read_brackets(reader, parts, levels)?)),
         Rest::Parens => {
             let tuple = read_list(reader, parts, Sign::RightParen, levels)?;

@@ -9,4 +9,4 @@ use Rattle.relation_text.proofs.building.binders.variables_at.Given as goal
 abbrev pub invariant-loop-number : goal.invariant-loop-number
 invariant-loop-number g l =
     let m = g.I.Interner.meaning l.cx in (ts : List Tree) → AreBuilt m ts l.built →
-        variables_of (list_tree (at ts) (take l.number-index l.places)) ≡ Some (bound_kinds m l.variables.items)
+    variables_of (list_tree (at ts) (take l.number-index l.places)) ≡ Some (bound_kinds m l.variables.items)

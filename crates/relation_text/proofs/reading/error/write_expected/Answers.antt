@@ -9,3 +9,9 @@ returns-in-Parameter g c = rw c.in-Parameter.is (text_written g.W.Write.write_st
 
 pub returns-in-Relation : goal.returns-in-Relation
 returns-in-Relation g c = rw c.in-Relation.is (text_written g.W.Write.write_str_gives _ _ _ _ c.write_str-in-Relation.ensures.ok)
+
+pub returns-in-Bound : goal.returns-in-Bound
+returns-in-Bound g c = rw c.in-Bound.is (text_written g.W.Write.write_str_gives _ _ _ _ c.write_str-in-Bound.ensures.ok)
+
+pub returns-in-BoundConst : goal.returns-in-BoundConst
+returns-in-BoundConst g c = rw c.in-BoundConst.is (text_written g.W.Write.write_str_gives _ _ _ _ c.write_str-in-BoundConst.ensures.ok)
