@@ -100,7 +100,7 @@ pub enum Term {
     Or(Parts),
     /// The pattern of all but null.
     NotNull,
-    /// A type that a binder binds: how many binders stand between the two, its place in the binder's list, and its name.
+    /// A type that a binder binds: how many binders stand between, its place in the binder's list, and its name.
     TyBound(u64, usize, usize),
     /// A region that a binder binds.
     RegionBound(u64, usize, usize),
