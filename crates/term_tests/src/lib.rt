@@ -7,6 +7,8 @@ mod counting;
 #[cfg(test)]
 mod errors;
 #[cfg(test)]
+mod fast_reject;
+#[cfg(test)]
 mod folding;
 #[cfg(test)]
 mod interning;

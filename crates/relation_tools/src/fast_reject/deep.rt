@@ -14,6 +14,7 @@ use std::marker::PhantomData;
 ///
 /// A coherence checker or a solver drops a candidate by it before it relates anything. Parameters on the left stand for
 /// any type if `INSTANTIATE_LHS_WITH_INFER`, those on the right if `INSTANTIATE_RHS_WITH_INFER`; else each for itself.
+#[derive(Drop)]
 pub struct DeepRejectCtxt<
     I,
     const INSTANTIATE_LHS_WITH_INFER: bool,
