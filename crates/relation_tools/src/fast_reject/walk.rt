@@ -18,7 +18,7 @@ pub struct Sides {
 }
 
 /// Whether two types may unify: true at a depth of 0, if nothing tells otherwise.
-#[cycle(test)]
+#[cycle(clashes)]
 pub fn types_may_unify<I: Interner>(
     cx: &I,
     sides: Sides,
@@ -55,7 +55,7 @@ pub fn types_may_unify<I: Interner>(
 }
 
 // Whether two constants may unify. They take nothing from the depth.
-#[cycle(test)]
+#[cycle(clashes)]
 fn consts_may_unify<I: Interner>(
     cx: &I,
     sides: Sides,
@@ -89,7 +89,7 @@ fn consts_may_unify<I: Interner>(
 }
 
 // Whether two value trees may unify: the same bits, or as many branches that may, pair by pair.
-#[cycle(test)]
+#[cycle(clashes)]
 fn valtrees_may_unify<I: Interner>(
     cx: &I,
     sides: Sides,
@@ -122,7 +122,7 @@ fn valtrees_may_unify<I: Interner>(
 }
 
 // Whether two parts may unify: types, constants, and what stands between a type and its types. All else may.
-#[cycle(test)]
+#[cycle(clashes)]
 fn part_may_unify<I: Interner>(
     cx: &I,
     sides: Sides,
@@ -168,7 +168,7 @@ fn part_may_unify<I: Interner>(
 }
 
 /// Whether the members of two lists may unify, pair by pair, as far as the shorter one goes.
-#[cycle(test)]
+#[cycle(clashes)]
 pub fn parts_may_unify<I: Interner>(
     cx: &I,
     sides: Sides,

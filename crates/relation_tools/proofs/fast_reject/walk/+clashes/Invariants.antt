@@ -3,7 +3,7 @@ use Rattle.relation_terms.specs.Trees.{size}
 use Rattle.relation_terms.specs.Parts.{part_tree, parts_tree}
 use Rattle.relation_tools.specs.Clashes.{Clash}
 use Rattle.relation_tools.proofs.Visiting.{rest}
-use Rattle.relation_tools.proofs.fast_reject.walk.+test.Given as goal
+use Rattle.relation_tools.proofs.fast_reject.walk.+clashes.Given as goal
 
 abbrev pub decreases-types_may_unify : goal.decreases-types_may_unify
 decreases-types_may_unify g l = 3 * size ((g.I.Interner.meaning l.cx.now).ty l.lhs.now) + 1

@@ -15,7 +15,7 @@ use Rattle.relation_tools.proofs.Clashing.{passes, fails, flexible_right, flexib
 use Rattle.relation_tools.proofs.Clashing.{const_parts_decide, values_decide, rest_here, rest_further, rest_on, rest_none}
 use Rattle.relation_tools.proofs.Outlining.{some_stands, none_stands, const_unlike, value_unlike, valtree_rigid}
 use Rattle.relation_tools.proofs.Outlining.{valtree_unlike, branch_unlike, branch_counts, branch_alike, value_known}
-use Rattle.relation_tools.proofs.fast_reject.walk.+test.Goals as goal
+use Rattle.relation_tools.proofs.fast_reject.walk.+clashes.Goals as goal
 
 -- Types.
 pub types_may_unify-returns-then-eq : goal.types_may_unify-returns-then-eq
