@@ -4,3 +4,4 @@ pub mod Folds
 pub mod Clashes
 pub mod Outlines
 pub mod HeadKeys
+pub mod Shifts

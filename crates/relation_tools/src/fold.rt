@@ -7,17 +7,21 @@ ghost use Rattle.relation_tools.specs.Folds.{Steps, folded, answered, KnownAnswe
 use crate::tree::HasTree;
 use relation_terms::terms::{Const, Interner, OutOfMemory, Region, Ty};
 
+mod bound;
 mod foldable;
 mod forms;
 mod keyed;
 mod memory;
+mod shift;
 mod walk;
 
+pub use bound::instantiate_bound_vars;
 pub use keyed::{
     fold_alternatives_with, fold_arg_with, fold_args_with, fold_branches_with, fold_const_with,
     fold_pat_with, fold_predicates_with, fold_region_with, fold_ty_with, fold_tys_with,
     fold_valtree_with, super_fold_const, super_fold_ty,
 };
+pub use shift::shift_vars;
 
 /// What a folder answers at a type, a region or a constant.
 #[derive(Clone, Copy)]
