@@ -10,3 +10,4 @@ pub mod Members
 pub mod Clashing
 pub mod Outlining
 pub mod Keying
+pub mod Shifting

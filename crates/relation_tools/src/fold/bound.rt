@@ -2,12 +2,12 @@
 ghost use Rattle.std.specs.Prelude.{◌≡◌, IsTrue, IfOk, map};
 ghost use Rattle.relation_terms.specs.Trees.{known, list_tree};
 ghost use Rattle.relation_terms.specs.Meaning.{Extends, arg_tree};
-ghost use Rattle.relation_tools.specs.Shifts.{opened};
+ghost use Rattle.relation_tools.specs.Shifts.{opened, arg_for, the_ty, the_region, the_const};
 
 use crate::fold::{Fold, TypeFoldable, TypeFolder, shift_vars};
 use relation_terms::terms::{
-    Const, ConstKind, DebruijnIndex, GenericArg, GenericArgKind, Interner, OutOfMemory, Region,
-    RegionKind, Ty, TyKind,
+    BoundVar, Const, ConstKey, ConstKind, DebruijnIndex, GenericArg, GenericArgKind, Interner,
+    OutOfMemory, Region, RegionKey, RegionKind, Ty, TyKey, TyKind,
 };
 
 /// The body of a binder with the arguments put for the binder's variables, each for the variable at its place of the
@@ -31,6 +31,63 @@ pub fn instantiate_bound_vars<I: Interner, T: TypeFoldable<I>>(
     body.fold_with(cx, &mut BoundVarReplacer { args })
 }
 
+// The argument for a variable that the binder around the whole binds; and as a type, a region, a constant.
+fn arg_for<X: Copy>(
+    args: &[GenericArgKind<X>],
+    index: &DebruijnIndex,
+    var: &BoundVar,
+    depth: u128,
+) -> Option<GenericArgKind<X>>
+    ensures { result ≡ arg_for args.now (index.now).0 (var.now).0 depth }
+{
+    if u128::from(index.0) != depth {
+        return None;
+    }
+    args.get(var.0).copied()
+}
+
+fn ty_for<X: Copy>(
+    args: &[GenericArgKind<X>],
+    index: &DebruijnIndex,
+    var: &BoundVar,
+    depth: u128,
+) -> Option<TyKey<X>>
+    ensures { result ≡ the_ty (arg_for args.now (index.now).0 (var.now).0 depth) }
+{
+    match arg_for(args, index, var, depth)? {
+        GenericArgKind::Ty(ty) => Some(ty),
+        GenericArgKind::Lifetime(_) | GenericArgKind::Const(_) => None,
+    }
+}
+
+fn region_for<X: Copy>(
+    args: &[GenericArgKind<X>],
+    index: &DebruijnIndex,
+    var: &BoundVar,
+    depth: u128,
+) -> Option<RegionKey<X>>
+    ensures { result ≡ the_region (arg_for args.now (index.now).0 (var.now).0 depth) }
+{
+    match arg_for(args, index, var, depth)? {
+        GenericArgKind::Lifetime(region) => Some(region),
+        GenericArgKind::Ty(_) | GenericArgKind::Const(_) => None,
+    }
+}
+
+fn const_for<X: Copy>(
+    args: &[GenericArgKind<X>],
+    index: &DebruijnIndex,
+    var: &BoundVar,
+    depth: u128,
+) -> Option<ConstKey<X>>
+    ensures { result ≡ the_const (arg_for args.now (index.now).0 (var.now).0 depth) }
+{
+    match arg_for(args, index, var, depth)? {
+        GenericArgKind::Const(constant) => Some(constant),
+        GenericArgKind::Lifetime(_) | GenericArgKind::Ty(_) => None,
+    }
+}
+
 // Puts arguments for the variables of the binder around the whole.
 #[derive(Clone, Copy)]
 struct BoundVarReplacer<'a, X> {
@@ -48,12 +105,9 @@ impl<'a, I: Interner> TypeFolder<I> for BoundVarReplacer<'a, I::Key> {
         let TyKind::Bound(index, bound) = cx.ty_kind(ty) else {
             return Ok(Fold::Descend);
         };
-        if u128::from(index.0) != depth {
-            return Ok(Fold::Descend);
-        }
-        match self.args.get(bound.var.0) {
-            Some(GenericArgKind::Ty(by)) => Ok(Fold::Replace(shift_vars(cx, by, depth)?)),
-            _ => Ok(Fold::Descend),
+        match ty_for(self.args, &index, &bound.var, depth) {
+            Some(by) => Ok(Fold::Replace(shift_vars(cx, &by, depth)?)),
+            None => Ok(Fold::Descend),
         }
     }
 
@@ -66,12 +120,9 @@ impl<'a, I: Interner> TypeFolder<I> for BoundVarReplacer<'a, I::Key> {
         let RegionKind::ReBound(index, bound) = cx.region_kind(region) else {
             return Ok(Fold::Descend);
         };
-        if u128::from(index.0) != depth {
-            return Ok(Fold::Descend);
-        }
-        match self.args.get(bound.var.0) {
-            Some(GenericArgKind::Lifetime(by)) => Ok(Fold::Replace(shift_vars(cx, by, depth)?)),
-            _ => Ok(Fold::Descend),
+        match region_for(self.args, &index, &bound.var, depth) {
+            Some(by) => Ok(Fold::Replace(shift_vars(cx, &by, depth)?)),
+            None => Ok(Fold::Descend),
         }
     }
 
@@ -84,12 +135,9 @@ impl<'a, I: Interner> TypeFolder<I> for BoundVarReplacer<'a, I::Key> {
         let ConstKind::Bound(index, bound) = cx.const_kind(constant) else {
             return Ok(Fold::Descend);
         };
-        if u128::from(index.0) != depth {
-            return Ok(Fold::Descend);
-        }
-        match self.args.get(bound.var.0) {
-            Some(GenericArgKind::Const(by)) => Ok(Fold::Replace(shift_vars(cx, by, depth)?)),
-            _ => Ok(Fold::Descend),
+        match const_for(self.args, &index, &bound.var, depth) {
+            Some(by) => Ok(Fold::Replace(shift_vars(cx, &by, depth)?)),
+            None => Ok(Fold::Descend),
         }
     }
 
