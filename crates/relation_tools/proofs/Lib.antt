@@ -9,4 +9,7 @@ pub mod Folding
 pub mod Members
 pub mod Clashing
 pub mod Outlining
+pub mod Instancing
+pub mod Rejecting
+pub mod KeysApart
 pub mod Keying
