@@ -17,7 +17,7 @@ use Rattle.relation_tools.specs.declared.fast_reject.simplify.SimplifiedType.{Si
 use Rattle.relation_tools.specs.declared.fast_reject.simplify.SimplifiedType.TheVariants.{Placeholder, Tuple, Function}
 use Rattle.relation_tools.specs.Instances.{Instance, put, kept_leaf, kept_node, kept_bind, kept_nil, kept_cons}
 use Rattle.relation_tools.specs.Instances.{flexible_but_aliases, IsNoError}
-use Rattle.relation_tools.specs.RejectionLaws.{are_instantiated, DifferentKeysAreApart}
+use Rattle.relation_tools.specs.KeyLaws.{are_instantiated, DifferentKeysAreApart}
 use Rattle.relation_tools.proofs.Instancing.{within_all, erased_count, erased_inputs, erased_object, count_kept}
 use Rattle.relation_tools.proofs.Instancing.{inputs_kept, object_kept}
 

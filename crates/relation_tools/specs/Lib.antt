@@ -5,4 +5,4 @@ pub mod Clashes
 pub mod Outlines
 pub mod Instances
 pub mod HeadKeys
-pub mod RejectionLaws
+pub mod KeyLaws

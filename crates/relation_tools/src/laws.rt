@@ -1,10 +1,9 @@
 //! Laws of the definitions that this crate's contracts are said in. Each function does nothing, and its contract is
 //! the law.
 
-ghost use Rattle.relation_tools.specs.RejectionLaws.{ClashesAreApart, DifferentKeysAreApart};
+ghost use Rattle.relation_tools.specs.KeyLaws.{DifferentKeysAreApart};
 
-/// What quick tests tell apart has no common instance.
-pub fn rejecting()
-    ensures clashes { ClashesAreApart }
-    ensures keys { DifferentKeysAreApart }
+/// Types of different keys.
+pub fn keys()
+    ensures apart { DifferentKeysAreApart }
 {}

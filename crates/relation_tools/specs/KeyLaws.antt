@@ -1,16 +1,11 @@
--- Laws of quick tests.
+-- Laws of the keys of types.
 use Rattle.std.specs.Prelude.{◌≡◌, ◌≢◌, ℕ, Bool, true, false, Some}
 use Rattle.relation_terms.specs.Trees.{Tree, Leaves}
-use Rattle.relation_tools.specs.Clashes.{Clash}
 use Rattle.relation_tools.specs.HeadKeys.{head_key}
-use Rattle.relation_tools.specs.Instances.{CommonInstance, NoCommonInstance, flexible_but_aliases, IsNoError}
+use Rattle.relation_tools.specs.Instances.{CommonInstance, flexible_but_aliases, IsNoError}
 use Rattle.relation_tools.specs.declared.fast_reject.simplify.TreatParams.{TreatParams}
 use Rattle.relation_tools.specs.declared.fast_reject.simplify.TreatParams.TheVariants.{AsRigid, InstantiateWithInfer}
 use Rattle.relation_tools.specs.declared.fast_reject.simplify.SimplifiedType.{SimplifiedType}
-
--- Terms that clash, within any depth, have no common instance.
-abbrev pub ClashesAreApart : Type 0
-ClashesAreApart = (l r : Bool) (d : ℕ) (a b : Tree) → Clash l r d a b → NoCommonInstance l r a b
 
 -- Parameters may stand for others where they have no key.
 abbrev pub are_instantiated : TreatParams → Bool
