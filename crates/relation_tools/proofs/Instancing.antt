@@ -1,25 +1,22 @@
 -- What an instance keeps of a term, and an erasure.
-use Rattle.std.proofs.Common.{◌≡◌, ◌≢◌, ℕ, suc, Bool, true, false, List, Option, Some, None, refl, sym, ap, ap₂, ◌∙◌}
-use Rattle.relation_terms.specs.declared.terms.fn_sig.FnHeader.{FnHeader}
+use Rattle.std.proofs.Common.{◌≡◌, ℕ, suc, Bool, true, false, List, None, refl, sym, ap, ap₂, ◌∙◌}
 use Rattle.relation_terms.specs.Heads.{Sort, region_sort, type_sort, const_sort, binder_sort, Admits, leaf_sort, atom_sort}
-use Rattle.relation_terms.specs.Heads.{head_sort, value_type_sort, Kind, region_kind, type_kind, const_kind}
+use Rattle.relation_terms.specs.Heads.{Kind, region_kind, type_kind, const_kind}
 use Rattle.relation_terms.specs.Heads.{BoundKind, bound_kind, VarKind, type_var, int_var, float_var, const_var}
 use Rattle.relation_terms.specs.Heads.{region_var, Atom, type_param, type_error, early_region, const_error}
-use Rattle.relation_terms.specs.Heads.{const_param, fresh_type, fresh_int, fresh_float, fresh_const, static_region}
+use Rattle.relation_terms.specs.Heads.{const_param, fresh_type, fresh_int, fresh_float, fresh_const}
 use Rattle.relation_terms.specs.Heads.{Head, alias, unevaluated, expression, tuple, fn_ptr, dynamic, value_branch}
-use Rattle.relation_terms.specs.Heads.{signature, inputs, object, existential_trait, value_type, Leaf, variable, bound}
+use Rattle.relation_terms.specs.Heads.{signature, inputs, object, existential_trait, Leaf, variable, bound}
 use Rattle.relation_terms.specs.Heads.{placeholder, atom, unknown}
 use Rattle.relation_terms.specs.declared.terms.enums.Safety.{Safety}
 use Rattle.relation_terms.specs.declared.terms.enums.ExternAbi.{ExternAbi}
 use Rattle.relation_terms.specs.Trees.{Tree, leaf, node, bind, nil, cons, IsTerm, count}
-use Rattle.relation_terms.specs.Erasure.{erase, erase_leaf, erase_atom, kept_parts}
+use Rattle.relation_terms.specs.Erasure.{erase, erase_leaf, erase_atom}
 use Rattle.relation_terms.specs.Parts.{tree_sort}
 use Rattle.relation_tools.specs.Clashes.{flexible, outline, header_of, inputs_count, object_principal, principal}
-use Rattle.relation_tools.specs.Clashes.{is_integral, is_floating_point, counted}
+use Rattle.relation_tools.specs.Clashes.{counted}
 use Rattle.relation_tools.specs.declared.fast_reject.forms.Form.TheVariants.{Tuple, FnPtr, Dynamic, Branch}
-use Rattle.relation_tools.specs.Instances.{Instance, put, kept_leaf, kept_node, kept_bind, kept_nil, kept_cons, is_fit}
-use Rattle.relation_tools.specs.Instances.{IsNamed}
-use Rattle.relation_tools.proofs.Clashing.{both}
+use Rattle.relation_tools.specs.Instances.{Instance, put, kept_leaf, kept_node, kept_bind, kept_nil, kept_cons}
 
 -- The sorts of places.
 abbrev pub is_place_sort : Sort → Bool

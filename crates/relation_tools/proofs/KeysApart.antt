@@ -1,16 +1,16 @@
 -- Types of different keys have no common instance.
-use Rattle.std.proofs.Common.{◌≡◌, ◌≢◌, ℕ, Bool, true, false, not, ◌||◌, cond, Option, Some, None, refl, sym, ap, ◌∙◌}
-use Rattle.relation_terms.specs.Heads.{Kind, region_kind, bound_kind, VarKind, region_var, Atom, bool_type, char_type}
+use Rattle.std.proofs.Common.{◌≡◌, ℕ, Bool, true, false, not, ◌||◌, cond, Option, Some, None, refl, sym, ap, ◌∙◌}
+use Rattle.relation_terms.specs.Heads.{region_kind, bound_kind, Atom, bool_type, char_type}
 use Rattle.relation_terms.specs.Heads.{str_type, never_type, type_error, int_type, uint_type, float_type, foreign}
-use Rattle.relation_terms.specs.Heads.{type_param, const_param, early_region, static_region, Head, adt, fn_def, closure}
-use Rattle.relation_terms.specs.Heads.{coroutine_closure, coroutine, coroutine_witness, array, slice, pattern_type}
-use Rattle.relation_terms.specs.Heads.{tuple, unsafe_binder, dynamic, fn_ptr, alias, unevaluated, expression, Leaf, variable}
+use Rattle.relation_terms.specs.Heads.{type_param, early_region, static_region}
+use Rattle.relation_terms.specs.Heads.{pattern_type}
+use Rattle.relation_terms.specs.Heads.{tuple, dynamic, fn_ptr, alias, unevaluated, expression, Leaf, variable}
 use Rattle.relation_terms.specs.Heads.{bound, placeholder, atom, unknown}
-use Rattle.relation_terms.specs.Trees.{Tree, leaf, node, bind, nil, cons, Leaves, count}
-use Rattle.relation_terms.specs.Erasure.{erase, erase_leaf, erase_atom, kept_parts}
+use Rattle.relation_terms.specs.Trees.{Tree, leaf, node, bind, nil, cons, Leaves}
+use Rattle.relation_terms.specs.Erasure.{erase, erase_leaf}
 use Rattle.relation_tools.specs.Visits.{non_region_infer_stands}
-use Rattle.relation_tools.specs.Clashes.{flexible, inputs_count, object_principal}
-use Rattle.relation_tools.specs.HeadKeys.{param_key, alias_key, object_key, atom_key, form_key, head_key}
+use Rattle.relation_tools.specs.Clashes.{flexible}
+use Rattle.relation_tools.specs.HeadKeys.{param_key, object_key, atom_key, form_key, head_key}
 use Rattle.relation_tools.specs.declared.fast_reject.simplify.TreatParams.{TreatParams}
 use Rattle.relation_tools.specs.declared.fast_reject.simplify.TreatParams.TheVariants.{AsRigid, InstantiateWithInfer}
 use Rattle.relation_tools.specs.declared.fast_reject.simplify.SimplifiedType.{SimplifiedType}

@@ -1,19 +1,18 @@
 -- Terms that clash have no common instance.
-use Rattle.std.proofs.Common.{◌≡◌, ◌≢◌, ℕ, suc, Bool, true, false, not, ◌||◌, List, refl, sym, ap, ap₂, subst, ◌∙◌}
+use Rattle.std.proofs.Common.{◌≡◌, ℕ, Bool, true, false, not, ◌||◌, List, refl, sym, ap, ap₂, subst, ◌∙◌}
 use Rattle.relation_terms.specs.Heads.{Sort, region_sort, type_sort, const_sort, value_sort, value_type_sort}
-use Rattle.relation_terms.specs.Heads.{binder_sort, leaf_sort, head_sort, atom_sort, Kind, region_kind, bound_kind, BoundKind}
-use Rattle.relation_terms.specs.Heads.{VarKind, int_var, float_var, region_var, Atom, type_param, const_param, signature, inputs}
-use Rattle.relation_terms.specs.Heads.{early_region, static_region, Head, tuple, fn_ptr, dynamic, value_branch, value_type}
+use Rattle.relation_terms.specs.Heads.{leaf_sort, head_sort, atom_sort, region_kind, bound_kind, BoundKind}
+use Rattle.relation_terms.specs.Heads.{int_var, float_var, region_var, Atom, type_param, const_param}
+use Rattle.relation_terms.specs.Heads.{early_region, Head, value_type}
 use Rattle.relation_terms.specs.Heads.{Leaf, variable, bound, placeholder, atom, unknown}
 use Rattle.relation_terms.specs.Trees.{Tree, leaf, node, bind, nil, cons, Leaves}
-use Rattle.relation_terms.specs.Erasure.{erase, erase_leaf, erase_atom, erase_kinded, kept_parts}
+use Rattle.relation_terms.specs.Erasure.{erase, erase_leaf, erase_atom, kept_parts}
 use Rattle.relation_terms.specs.Parts.{tree_sort, parts_of}
 use Rattle.relation_tools.specs.Visits.{is_rigid}
 use Rattle.relation_tools.specs.Clashes.{flexible, may_stand, is_integral, is_floating_point, outline, Alike}
-use Rattle.relation_tools.specs.Clashes.{is_const_sort, is_between, counted}
+use Rattle.relation_tools.specs.Clashes.{is_const_sort, is_between}
 use Rattle.relation_tools.specs.Clashes.{Clash, unlike_types, left_number, right_number, unlike_consts, in_types}
 use Rattle.relation_tools.specs.Clashes.{in_consts, between, here, further}
-use Rattle.relation_tools.specs.declared.fast_reject.forms.Form.TheVariants.{Tuple, FnPtr, Dynamic, Branch}
 use Rattle.relation_tools.specs.Instances.{Instance, put, kept_leaf, kept_node, kept_bind, kept_nil, kept_cons, is_fit}
 use Rattle.relation_tools.specs.Instances.{IsNamed, NoCommonInstance}
 use Rattle.relation_tools.proofs.Clashing.{both, number_rigid, number_flexible, rigid_alone}

@@ -1,6 +1,6 @@
 -- The instances of a term, and which terms have a common one.
 use Rattle.std.specs.Prelude.{◌≡◌, ℕ, List, Bool, true, false}
-use Rattle.relation_terms.specs.Heads.{Head, alias, Atom, type_param, const_param, type_error, const_error}
+use Rattle.relation_terms.specs.Heads.{Head, alias, type_param, const_param, type_error, const_error}
 use Rattle.relation_terms.specs.Heads.{BoundKind, Leaf, variable, atom, int_var, float_var}
 use Rattle.relation_terms.specs.Trees.{Tree, leaf, node, bind, nil, cons, IsTerm, Leaves}
 use Rattle.relation_terms.specs.Erasure.{erase}
