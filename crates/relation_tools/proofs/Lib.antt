@@ -12,4 +12,5 @@ pub mod Outlining
 pub mod Instancing
 pub mod Rejecting
 pub mod KeysApart
+pub mod Themselves
 pub mod Keying

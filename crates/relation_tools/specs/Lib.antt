@@ -6,3 +6,4 @@ pub mod Outlines
 pub mod Instances
 pub mod HeadKeys
 pub mod KeyLaws
+pub mod InstanceLaws
