@@ -333,7 +333,7 @@ module _ {l r : Bool} (types consts : ℕ → ℕ) where
       let t = one_sort (within_all l) (within_all r) i j e in
       let f = between_no_place (tree_sort a) h in
       let z = parts_meet (within_all l) (within_all r) i j (no_place l a f) (no_place r b (sym (ap is_place_sort t) ∙ f))
-          (between_no_value_type (tree_sort a) h) e in
+      (between_no_value_type (tree_sort a) h) e in
       apart c z.of_left z.of_right (parts_leaves (IsNamed types consts) a p) (parts_leaves (IsNamed types consts) b q) z.same
   apart (here c) i j p q e =
       let z = lists_meet (within_all l) (within_all r) i j e in apart c z.first_left z.first_right p.0 q.0 z.first_same

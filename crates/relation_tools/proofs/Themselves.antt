@@ -1,10 +1,8 @@
 -- Terms without variables are instances of themselves.
-use Rattle.std.proofs.Common.{◌≡◌, Bool, true, false, List, [], ◌∷◌, Option, Some, None, refl}
-use Rattle.relation_terms.specs.Heads.{Sort, region_sort, type_sort, const_sort, argument_sort, term_sort}
-use Rattle.relation_terms.specs.Heads.{signature_sort, inputs_sort, value_sort, value_type_sort, pattern_sort}
-use Rattle.relation_terms.specs.Heads.{arguments_sort, existential_sort, object_sort, trait_ref_sort, alias_term_sort}
-use Rattle.relation_terms.specs.Heads.{clause_sort, predicate_sort, environment_sort, no_sort, binder_sort, Admits}
-use Rattle.relation_terms.specs.Heads.{Shape, one, row, Part, term_of, binder_of, leaf_sort, head_sort, head_parts}
+use Rattle.std.proofs.Common.{◌≡◌, Bool, true, false, [], ◌∷◌, Some, None, refl}
+use Rattle.relation_terms.specs.Heads.{Sort, region_sort, type_sort, argument_sort, term_sort}
+use Rattle.relation_terms.specs.Heads.{no_sort, binder_sort, Admits}
+use Rattle.relation_terms.specs.Heads.{Shape, one, row, term_of, binder_of, leaf_sort, head_sort, head_parts}
 use Rattle.relation_terms.specs.Heads.{Head, Leaf, variable, bound, placeholder, atom, unknown}
 use Rattle.relation_terms.specs.Trees.{Tree, leaf, node, bind, nil, cons, IsTerm, Fits, Leaves}
 use Rattle.relation_tools.specs.Instances.{Instance, put, kept_leaf, kept_node, kept_bind, kept_nil, kept_cons}

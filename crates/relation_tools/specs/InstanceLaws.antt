@@ -1,5 +1,5 @@
 -- Laws of instances.
-use Rattle.std.specs.Prelude.{◌≡◌, ℕ, Bool}
+use Rattle.std.specs.Prelude.{ℕ, Bool}
 use Rattle.relation_terms.specs.Heads.{Sort, type_sort, AliasKind, alias}
 use Rattle.relation_terms.specs.Trees.{Tree, node, IsTerm, Leaves}
 use Rattle.relation_tools.specs.Clashes.{flexible}
