@@ -46,7 +46,7 @@ stands_itself (bind ks t) = refl
 stands_itself nil = refl
 stands_itself (cons t ts) = refl
 
-both : {b : Bool} → b ≡ true → b ≡ false → ⊥
+pub both : {b : Bool} → b ≡ true → b ≡ false → ⊥
 both e f = cc
 
 rigid_or : (b c : Bool) → not b || c ≡ false → b ≡ true
@@ -54,7 +54,7 @@ rigid_or true c e = refl
 rigid_or false c e = absurd (cc)
 
 -- What no number may be is known not to be one, and so stands for itself alone.
-number_rigid : (a b : Tree) → may_stand a b ≡ false → is_rigid b ≡ true
+pub number_rigid : (a b : Tree) → may_stand a b ≡ false → is_rigid b ≡ true
 number_rigid (leaf (variable int_var n)) b e = rigid_or (is_rigid b) (is_integral b) e
 number_rigid (leaf (variable float_var n)) b e = rigid_or (is_rigid b) (is_floating_point b) e
 number_rigid (leaf (variable type_var n)) b e = absurd (cc)
@@ -69,7 +69,7 @@ number_rigid (bind ks t) b e = absurd (cc)
 number_rigid nil b e = absurd (cc)
 number_rigid (cons t ts) b e = absurd (cc)
 
-number_flexible : (p : Bool) (a b : Tree) → may_stand a b ≡ false → flexible p a ≡ true
+pub number_flexible : (p : Bool) (a b : Tree) → may_stand a b ≡ false → flexible p a ≡ true
 number_flexible p (leaf (variable k n)) b e = refl
 number_flexible p (leaf (bound k d i)) b e = absurd (cc)
 number_flexible p (leaf (placeholder k u n)) b e = absurd (cc)
@@ -258,7 +258,7 @@ rigid_atom_alone p const_error t h = absurd (cc)
 rigid_atom_alone p (fresh_const n) t h = absurd (cc)
 rigid_atom_alone p x t h = refl
 
-rigid_alone : (p : Bool) (b : Tree) → tree_sort b ≡ type_sort → is_rigid b ≡ true → flexible p b ≡ false
+pub rigid_alone : (p : Bool) (b : Tree) → tree_sort b ≡ type_sort → is_rigid b ≡ true → flexible p b ≡ false
 rigid_alone p (leaf (variable k n)) t h = absurd (cc)
 rigid_alone p (leaf (bound k d i)) t h = absurd (cc)
 rigid_alone p (leaf (atom x)) t h = rigid_atom_alone p x t h

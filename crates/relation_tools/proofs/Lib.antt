@@ -9,5 +9,9 @@ pub mod Folding
 pub mod Members
 pub mod Clashing
 pub mod Outlining
+pub mod Instancing
+pub mod Rejecting
+pub mod KeysApart
+pub mod Themselves
 pub mod Keying
 pub mod Shifting

@@ -95,7 +95,7 @@ header_of (cons (bind ks (node (signature v s a) us)) vs) = Some (record { c_var
 header_of ts = None
 
 abbrev pub inputs_count : Tree → ℕ
-inputs_count (cons (bind ks (node h (cons (node inputs is) us))) vs) = count is
+inputs_count (cons (bind ks (node (signature v s a) (cons (node inputs is) us))) vs) = count is
 inputs_count ts = 0
 
 -- The principal of a trait object.

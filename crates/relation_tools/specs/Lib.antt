@@ -3,5 +3,8 @@ pub mod Visits
 pub mod Folds
 pub mod Clashes
 pub mod Outlines
+pub mod Instances
 pub mod HeadKeys
 pub mod Shifts
+pub mod KeyLaws
+pub mod InstanceLaws

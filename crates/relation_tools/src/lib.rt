@@ -4,5 +4,6 @@
 pub mod error;
 pub mod fast_reject;
 pub mod fold;
+pub mod laws;
 pub mod tree;
 pub mod visit;

@@ -42,3 +42,4 @@ pub mod DiagInfo
 pub mod Making
 pub mod Answering
 pub mod Unifying
+pub mod Rejected

@@ -11,6 +11,7 @@ pub mod StepLaws
 pub mod ErasureLaws
 pub mod StoreLaws
 pub mod RegionTerms
+pub mod RejectionLaws
 pub mod Covered
 pub mod Measures
 pub mod Decided

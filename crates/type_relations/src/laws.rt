@@ -6,6 +6,7 @@ ghost use Rattle.type_relations.specs.StepLaws.{AssigningTwice, InstantiatingAss
 ghost use Rattle.type_relations.specs.ErasureLaws.{ErasureAssigns, FormsUnifyByParts, TypesOfValuesUnify, ListsUnifyByItems, UnlikeFormsDoNotUnify, ErasedOccursCheck, InvariantTermsAreAlike};
 ghost use Rattle.type_relations.specs.StoreLaws.{EquatingStaysSound, EquatingIsExact, BindingStaysSound, BindingIsExact, BindingInstantiates, CyclesRefuse, NumbersStaySound, NumbersAreExact, MakingStaysSound, MadeIsUnconstrained, ConstrainingIsExact, NothingIsSeen, ResolvedResolves, MakingOneMakes};
 ghost use Rattle.type_relations.specs.Stores.{BindingsAreMet};
+ghost use Rattle.type_relations.specs.RejectionLaws.{ClashesDoNotUnify, ClashesAreNotRelated};
 ghost use Rattle.type_relations.specs.RegionTerms.{RelatedTermsAgree, RelatedIffAgree};
 
 /// What holds of all terms, and of errors, parameters and constants.
@@ -113,6 +114,12 @@ pub fn stores()
     ensures constraining { ConstrainingIsExact }
     ensures nothing { NothingIsSeen }
     ensures resolving { ResolvedResolves }
+{}
+
+/// First-order terms that a quick test tells apart, parameters standing for themselves.
+pub fn rejecting()
+    ensures unifying { ClashesDoNotUnify }
+    ensures relating { ClashesAreNotRelated }
 {}
 
 /// Terms that are first-order but for binders of regions, where all regions outlive each other.

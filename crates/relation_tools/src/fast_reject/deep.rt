@@ -2,6 +2,7 @@
 ghost use Rattle.std.specs.Prelude.{◌↔◌, ◌≤◌, ℕ, IsTrue, IsFalse};
 ghost use Rattle.relation_terms.specs.Trees.{known};
 ghost use Rattle.relation_tools.specs.Clashes.{Clash};
+ghost use Rattle.relation_tools.specs.Instances.{NoCommonInstance};
 
 use crate::fast_reject::forms::STARTING_DEPTH;
 use crate::fast_reject::walk::{Sides, parts_may_unify, types_may_unify};
@@ -10,7 +11,8 @@ use std::alloc::AllocError;
 use std::marker::PhantomData;
 
 /// A quick test of whether two types, or two lists of arguments, may unify. Where it answers false no instances of the
-/// two are equal; a true says nothing.
+/// two are equal, even with all regions, variables of binders and types of values taken as alike, if parameters of one
+/// index have one name; a true says nothing.
 ///
 /// A coherence checker or a solver drops a candidate by it before it relates anything. Parameters on the left stand for
 /// any type if `INSTANTIATE_LHS_WITH_INFER`, those on the right if `INSTANTIATE_RHS_WITH_INFER`; else each for itself.
@@ -67,6 +69,8 @@ impl<
         requires right_known { IsTrue (known ((I.meaning cx.now).args impl_args.now)) }
         ensures exact { IsFalse result ↔ Clash INSTANTIATE_LHS_WITH_INFER INSTANTIATE_RHS_WITH_INFER 8
             ((I.meaning cx.now).args obligation_args.now) ((I.meaning cx.now).args impl_args.now) }
+        ensures apart { IsFalse result → NoCommonInstance INSTANTIATE_LHS_WITH_INFER INSTANTIATE_RHS_WITH_INFER
+            ((I.meaning cx.now).args obligation_args.now) ((I.meaning cx.now).args impl_args.now) }
     {
         let sides = Sides {
             left: INSTANTIATE_LHS_WITH_INFER,
@@ -82,6 +86,8 @@ impl<
         requires lhs_known { IsTrue (known ((I.meaning cx.now).ty lhs.now)) }
         requires rhs_known { IsTrue (known ((I.meaning cx.now).ty rhs.now)) }
         ensures exact { IsFalse result ↔ Clash INSTANTIATE_LHS_WITH_INFER INSTANTIATE_RHS_WITH_INFER 8
+            ((I.meaning cx.now).ty lhs.now) ((I.meaning cx.now).ty rhs.now) }
+        ensures apart { IsFalse result → NoCommonInstance INSTANTIATE_LHS_WITH_INFER INSTANTIATE_RHS_WITH_INFER
             ((I.meaning cx.now).ty lhs.now) ((I.meaning cx.now).ty rhs.now) }
     {
         self.types_may_unify_with_depth(cx, lhs, rhs, STARTING_DEPTH)
@@ -99,6 +105,8 @@ impl<
         requires lhs_known { IsTrue (known ((I.meaning cx.now).ty lhs.now)) }
         requires rhs_known { IsTrue (known ((I.meaning cx.now).ty rhs.now)) }
         ensures exact { IsFalse result ↔ Clash INSTANTIATE_LHS_WITH_INFER INSTANTIATE_RHS_WITH_INFER depth_limit
+            ((I.meaning cx.now).ty lhs.now) ((I.meaning cx.now).ty rhs.now) }
+        ensures apart { IsFalse result → NoCommonInstance INSTANTIATE_LHS_WITH_INFER INSTANTIATE_RHS_WITH_INFER
             ((I.meaning cx.now).ty lhs.now) ((I.meaning cx.now).ty rhs.now) }
         ensures deeper { IsFalse result → (e : ℕ) → depth_limit ≤ e →
             Clash INSTANTIATE_LHS_WITH_INFER INSTANTIATE_RHS_WITH_INFER e

@@ -1,0 +1,16 @@
+//! Laws of the definitions that this crate's contracts are said in. Each function does nothing, and its contract is
+//! the law.
+
+ghost use Rattle.relation_tools.specs.InstanceLaws.{TermsAreInstances, AliasesMeetTypes};
+ghost use Rattle.relation_tools.specs.KeyLaws.{DifferentKeysAreApart};
+
+/// Instances that there are.
+pub fn instances()
+    ensures themselves { TermsAreInstances }
+    ensures aliases { AliasesMeetTypes }
+{}
+
+/// Types of different keys.
+pub fn keys()
+    ensures apart { DifferentKeysAreApart }
+{}
