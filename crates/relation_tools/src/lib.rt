@@ -6,3 +6,4 @@ pub mod fast_reject;
 pub mod fold;
 pub mod tree;
 pub mod visit;
+pub mod walk;
