@@ -122,7 +122,9 @@ impl<'a, I: Interner> TypeWalker<'a, I> {
         if self.failed {
             return Some(Err(OutOfMemory));
         }
-        let arg = pop_unseen(&mut self.stack, &self.visited)?;
+        let Some(arg) = pop_unseen(&mut self.stack, &self.visited) else {
+            return None;
+        };
         self.last_subtree = self.stack.len();
         match enter(self.cx, arg, &mut self.stack, &mut self.visited) {
             Ok(()) => Some(Ok(arg)),
