@@ -1,12 +1,12 @@
 -- The arguments that stand under a part, and what is put on a stack of them.
-use Rattle.std.proofs.Common.{◌≡◌, ◌<◌, ◌≤◌, ◌+◌, ◌-◌, ℕ, zero, suc, Bool, true, false, cond, ◌&&◌, IsTrue, refl, sym, ap}
-use Rattle.std.proofs.Common.{ap₂, ◌∙◌, subst, arith, List, [], ◌∷◌, ◌++◌, map, Option, Some, None, append-nil}
+use Rattle.std.proofs.Common.{◌≡◌, ◌<◌, ◌≤◌, ◌+◌, ◌-◌, ℕ, suc, Bool, true, false, cond, IsTrue, refl, sym, ap}
+use Rattle.std.proofs.Common.{ap₂, ◌∙◌, subst, arith, List, [], ◌∷◌, ◌++◌, Option, Some, None, append-nil}
 use Rattle.std.specs.Cmp.Derive.{both_true}
 use Rattle.std.proofs.lemmas.Bool.{and_parts}
 use Rattle.std.proofs.lemmas.List.{map-append, append_assoc}
 use Rattle.std.proofs.lemmas.List.Sums.{sum_by-cons, sum_by-append}
 use Rattle.std.specs.List.{sum_by}
-use Rattle.relation_terms.specs.Heads.{Sort, value_sort, leaf_sort, head_sort, BoundKind, range_pattern}
+use Rattle.relation_terms.specs.Heads.{value_sort, leaf_sort, head_sort, BoundKind, range_pattern}
 use Rattle.relation_terms.specs.Trees.{Tree, leaf, node, bind, nil, cons, known, count, nth, IsList, size}
 use Rattle.relation_terms.specs.Meaning.{Meaning, under, arg_tree}
 use Rattle.relation_terms.specs.Parts.{parts_of, part_tree, tree_sort, part_sort, body_tree}
@@ -86,9 +86,11 @@ module _ {Key Id Name : Type 0} (m : Meaning Key Id Name) where
 
   pub pushes_more : (s0 s1 s2 : List (GenericArgKind Key)) (us ts : List Tree) → Pushes m us s0 s1 →
       Pushes m ts s1 s2 → Pushes m (ts ++ us) s0 s2
-  pushes_more s0 s1 s2 us ts p o =
-      (o.0 ++ p.0, o.1 ∙ ap (λ z. o.0 ++ z) p.1 ∙ sym (append_assoc o.0 p.0 s0),
-      map-append (arg_tree m) o.0 p.0 ∙ ap₂ (λ x y. x ++ y) o.2 p.2)
+  pushes_more s0 s1 s2 us ts p o = (
+    o.0 ++ p.0,
+    o.1 ∙ ap (λ z. o.0 ++ z) p.1 ∙ sym (append_assoc o.0 p.0 s0),
+    map-append (arg_tree m) o.0 p.0 ∙ ap₂ (λ x y. x ++ y) o.2 p.2,
+  )
 
   pub pushes_as : (s0 s1 : List (GenericArgKind Key)) (ts us : List Tree) → ts ≡ us → Pushes m ts s0 s1 →
       Pushes m us s0 s1

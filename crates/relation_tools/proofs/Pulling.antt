@@ -1,7 +1,6 @@
 -- What calls on a walk do to it.
-use Rattle.std.proofs.Common.{◌≡◌, ◌+◌, ◌-◌, ℕ, zero, suc, Bool, true, false, cond, ◌&&◌, IsTrue, refl, sym, ap, ap₂, ◌∙◌, subst}
-use Rattle.std.proofs.Common.{arith, List, [], ◌∷◌, ◌++◌, map, length, take, drop, Option, Some, None, Ok, Err}
-use Rattle.std.specs.Cmp.Derive.{both_true}
+use Rattle.std.proofs.Common.{◌≡◌, ◌-◌, ℕ, zero, suc, Bool, true, false, cond, IsTrue, refl, sym, ap, ap₂, ◌∙◌, subst}
+use Rattle.std.proofs.Common.{arith, List, [], ◌∷◌, ◌++◌, map, length, take, drop, Option, Some, None, Ok}
 use Rattle.std.specs.List.{list_any}
 use Rattle.std.specs.Option.{unwrap_or}
 use Rattle.std.proofs.lemmas.Bool.{and_parts}
@@ -49,7 +48,7 @@ drop_none (x ∷ xs) n e = absurd (cc)
 
 abbrev walk_with : {I Arg : Type 0} → I → List Arg → List Arg → List Arg → Bool → Walk I Arg
 walk_with cx inside after visited failed =
-    record { cx = cx; inside = inside; after = after; visited = visited; failed = failed; }
+    record { cx = cx; inside = inside; after = after; visited = visited; failed = failed }
 
 -- A walk of which nothing is left, and one whose last subtree was skipped.
 walk_ended : {I Arg : Type 0} (cx : I) (t : List Arg) (b : ℕ) (vs : List Arg) (f : Bool) → t ≡ [] →
@@ -89,10 +88,15 @@ module _ {Key Id Name : Type 0} (m : Meaning Key Id Name) (eq : GenericArgKind K
       let taken : take (length t - c) t ≡ p.0 =
       ap (take (length t - c)) p.1 ∙ take_at p.0 rest (length t - c) cut in
       let dropped : drop (length t - c) t ≡ rest =
-      ap (drop (length t - c)) p.1 ∙ drop_at p.0 rest (length t - c) cut in
-      (held, held, refl, k,
-      ap (first_unseen (λ q. list_any (eq q) vs)) (todo_is s b) ∙ n ∙ ap (λ z. Some (x, z)) (sym dropped),
-      ap (map (arg_tree m)) taken ∙ p.2, a)
+      ap (drop (length t - c)) p.1 ∙ drop_at p.0 rest (length t - c) cut in (
+        held,
+        held,
+        refl,
+        k,
+        ap (first_unseen (λ q. list_any (eq q) vs)) (todo_is s b) ∙ n ∙ ap (λ z. Some (x, z)) (sym dropped),
+        ap (map (arg_tree m)) taken ∙ p.2,
+        a,
+      )
 
   pub known_after : IsTrue (all_known (map (arg_tree m) s)) → Pushes m (places_under (arg_tree m x)) rest t →
       IsTrue (all_known (map (arg_tree m) t))

@@ -1,10 +1,9 @@
-use Rattle.std.proofs.Common.{rules, sym, subst, IsTrue, map, ◌≡◌, ◌∙◌, true, false, refl}
+use Rattle.std.proofs.Common.{rules, sym, IsTrue, ◌≡◌, ◌∙◌, true, false, refl}
 use Rattle.std.specs.List.{list_any}
 use Rattle.relation_terms.specs.Trees.{known}
 use Rattle.relation_terms.specs.Meaning.{arg_tree}
 use Rattle.relation_terms.specs.declared.terms.interner.OutOfMemory.{OutOfMemory}
 use Rattle.relation_terms.specs.contracts.terms.generic_arg.GenericArgKindPartialEq.TheImpl.{ghosts}
-use Rattle.relation_tools.specs.Places.{all_known}
 use Rattle.relation_tools.proofs.Pulling.{pulled_none, pulled_one, known_after, unseen_known}
 use Rattle.relation_tools.proofs.walk.TypeWalker.pull.Goals as goal
 
