@@ -7,6 +7,9 @@ pub mod Searching
 pub mod Walking
 pub mod Folding
 pub mod Members
+mod Stacks
+pub mod Placing
+mod Pulling
 pub mod Clashing
 pub mod Outlining
 pub mod Instancing

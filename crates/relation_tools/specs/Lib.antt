@@ -1,6 +1,9 @@
 pub mod Faults
 pub mod Visits
 pub mod Folds
+pub mod Stacks
+pub mod Places
+pub mod Walking
 pub mod Clashes
 pub mod Outlines
 pub mod Instances

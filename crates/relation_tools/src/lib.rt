@@ -7,3 +7,4 @@ pub mod fold;
 pub mod laws;
 pub mod tree;
 pub mod visit;
+pub mod walk;

@@ -1,0 +1,60 @@
+use Rattle.std.proofs.Common.{rules, sym, IsTrue, ◌≡◌, ◌∙◌, true, false, refl}
+use Rattle.std.specs.List.{list_any}
+use Rattle.relation_terms.specs.Trees.{known}
+use Rattle.relation_terms.specs.Meaning.{arg_tree}
+use Rattle.relation_terms.specs.declared.terms.interner.OutOfMemory.{OutOfMemory}
+use Rattle.relation_terms.specs.contracts.terms.generic_arg.GenericArgKindPartialEq.TheImpl.{ghosts}
+use Rattle.relation_tools.proofs.Pulling.{pulled_none, pulled_one, known_after, unseen_known}
+use Rattle.relation_tools.proofs.walk.TypeWalker.pull.Goals as goal
+
+pub enter-requires : goal.enter-requires
+enter-requires g c =
+    let m = g.I.Interner.meaning c.self.inside.cx.now in
+    let eq = (ghosts g.row.I-Key g.I.Key.PartialEq g.I.Key.PartialEq-dict).eq in
+    let s = c.self.inside.stack in
+    let vs = c.self.inside.visited.keys in
+    let rest = c.pop_unseen.new.stack in
+    let k : IsTrue (known (arg_tree m c.in-Some.arg)) =
+    (unseen_known (arg_tree m) (λ q. list_any (eq q) vs) s c.in-Some.arg rest c.in-Some.ensures
+    (c.self.invariant c.if-self.false)).0 in
+    search rules
+
+pub returns-in_default : goal.returns-in_default
+returns-in_default g c =
+    let m = g.I.Interner.meaning c.self.inside.cx.now in
+    let eq = (ghosts g.row.I-Key g.I.Key.PartialEq g.I.Key.PartialEq-dict).eq in
+    let s = c.self.inside.stack in
+    let vs = c.self.inside.visited.keys in
+    let rest = c.pop_unseen.new.stack in
+    rw (← c.self.view_is)
+    (pulled_none eq c.self.inside.cx.now s rest vs c.self.inside.failed c.self.inside.last_subtree c.if-self.false
+    c.in_default.ensures.0 c.in_default.ensures.1)
+
+pub returns-in-Ok : goal.returns-in-Ok
+returns-in-Ok g c =
+    let m = g.I.Interner.meaning c.self.inside.cx.now in
+    let eq = (ghosts g.row.I-Key g.I.Key.PartialEq g.I.Key.PartialEq-dict).eq in
+    let s = c.self.inside.stack in
+    let vs = c.self.inside.visited.keys in
+    let rest = c.pop_unseen.new.stack in
+    let held = c.if-self.false in
+    let k = (unseen_known (arg_tree m) (λ q. list_any (eq q) vs) s c.in-Some.arg rest c.in-Some.ensures
+    (c.self.invariant held)).0 in
+    rw (← c.self.view_is)
+    (pulled_one m eq s c.enter.new.stack vs c.in-Some.arg rest c.in-Some.ensures OutOfMemory c.self.inside.cx.now
+    c.enter.new.visited.keys c.self.inside.failed c.self.inside.last_subtree c.len-self-inside.result held k
+    c.len-self-inside.ensures c.in-Ok.ensures.pushes c.in-Ok.ensures.keeps)
+
+pub returns-in-Err : goal.returns-in-Err
+returns-in-Err g c =
+    rw (← c.self.view_is) (refl, refl, λ h. absurd (let z : true ≡ false = sym h ∙ c.if-self.false in cc))
+
+pub invariant_of-self-in-Ok : goal.invariant_of-self-in-Ok
+invariant_of-self-in-Ok g c = λ h.
+    let m = g.I.Interner.meaning c.self.inside.cx.now in
+    let eq = (ghosts g.row.I-Key g.I.Key.PartialEq g.I.Key.PartialEq-dict).eq in
+    let s = c.self.inside.stack in
+    let vs = c.self.inside.visited.keys in
+    let rest = c.pop_unseen.new.stack in
+    known_after m eq s c.enter.new.stack vs c.in-Some.arg rest c.in-Some.ensures (c.self.invariant c.if-self.false)
+    c.in-Ok.ensures.pushes
