@@ -1,12 +1,12 @@
 -- First-order terms that clash do not unify.
-use Rattle.std.proofs.Common.{◌≡◌, ℕ, true, false, refl, ap}
+use Rattle.std.proofs.Common.{◌≡◌, ℕ, false, refl, ap}
 use Rattle.relation_terms.specs.Heads.{VarKind, type_var, int_var, float_var, const_var, region_var, Atom, type_error}
 use Rattle.relation_terms.specs.Heads.{const_error, fresh_type, fresh_int, fresh_float, fresh_const, int_type, uint_type}
 use Rattle.relation_terms.specs.Heads.{float_type, Head, alias, unevaluated, expression, Leaf, variable, bound}
 use Rattle.relation_terms.specs.Heads.{placeholder, atom, unknown}
 use Rattle.relation_terms.specs.Trees.{Tree, leaf, node, bind, nil, cons, Assign, apply, Leaves}
 use Rattle.relation_terms.specs.Erasure.{erase}
-use Rattle.relation_tools.specs.Clashes.{flexible, Clash}
+use Rattle.relation_tools.specs.Clashes.{flexible}
 use Rattle.relation_tools.specs.Instances.{Instance, put, kept_leaf, kept_node, kept_nil, kept_cons}
 use Rattle.relation_tools.specs.Instances.{IsNoVariable}
 use Rattle.relation_tools.proofs.Rejecting.{clashes_are_apart}
