@@ -1,5 +1,5 @@
-//! Tests of terms, interning, visits, folds and walks, for what no question can ask. They stand in a crate of their own:
-//! a crate with tests is proved twice, and here is little to prove.
+//! Tests of terms, interning, visits and folds, for what no question can ask. They stand in a crate of their own: a
+//! crate with tests is proved twice, and here is little to prove.
 #![tactic(auto)]
 
 #[cfg(test)]
@@ -20,5 +20,3 @@ mod items;
 mod kinds;
 #[cfg(test)]
 mod visiting;
-#[cfg(test)]
-mod walking;
