@@ -7,3 +7,4 @@ pub mod Members
 pub mod Parts
 pub mod Orders
 pub mod Same
+pub mod Predicates

@@ -2,6 +2,7 @@ pub mod Heads
 pub mod Trees
 pub mod Variances
 pub mod Meaning
+pub mod Predicates
 pub mod Interning
 pub mod Erasure
 pub mod Parts
