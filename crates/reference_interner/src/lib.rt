@@ -19,10 +19,11 @@ use node::copied;
 use relation_terms::predicate::{ClauseForm, ObjectPredicate, PredicateForm, PredicateKind};
 use relation_terms::terms::{
     Alternatives, AlternativesKey, ArgsKey, Binder, BoundVariable, BoundVars, BoundVarsKey,
-    Branches, BranchesKey, Clause, ClauseKey, Clauses, ClausesKey, Const, ConstForm, ConstKey, ExistentialPredicates, ExistentialPredicatesKey,
-    GenericArg, GenericArgs, Interner, ItemOf, Keys, OutOfMemory, ParamEnv, ParamEnvKey, Pat,
-    PatKey, PatternForm, Predicate, PredicateKey, Region, RegionForm, RegionKey, Span, Ty, TyForm, TyKey, Tys, TysKey,
-    ValTree, ValTreeForm, ValTreeKey, Variance,
+    Branches, BranchesKey, Clause, ClauseKey, Clauses, ClausesKey, Const, ConstForm, ConstKey,
+    ExistentialPredicates, ExistentialPredicatesKey, GenericArg, GenericArgs, Interner, ItemOf,
+    Keys, OutOfMemory, ParamEnv, ParamEnvKey, Pat, PatKey, PatternForm, Predicate, PredicateKey,
+    Region, RegionForm, RegionKey, Span, Ty, TyForm, TyKey, Tys, TysKey, ValTree, ValTreeForm,
+    ValTreeKey, Variance,
 };
 use std::alloc::Global;
 use std::collections::HashMap;

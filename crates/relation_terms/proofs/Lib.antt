@@ -8,3 +8,4 @@ pub mod Parts
 pub mod Orders
 pub mod Same
 pub mod Predicates
+pub mod Clauses

@@ -2,6 +2,7 @@
 
 mod alias_term;
 mod kinds;
+mod trait_clause;
 mod trait_ref;
 
 use crate::terms::{

@@ -17,4 +17,6 @@ mod items;
 #[cfg(test)]
 mod kinds;
 #[cfg(test)]
+mod predicates;
+#[cfg(test)]
 mod visiting;

@@ -28,7 +28,7 @@ returns-clause-made c =
     let i = (c.in_ok-number.number).0 in
     env_reads more ms i ∙
     ap (node environment) (made more ms clauses_node (read c.new.result.items) i c.in_ok-number.ensures.number ∙
-    ap read c.new.ensures)
+    ap read c.new.ensures.items)
 
 pub returns-clause-sure : goal.returns-clause-sure
 returns-clause-sure c = subst (λ t. IsTrue (known t)) (sym (returns-clause-made c)) refl
@@ -40,7 +40,7 @@ returns-clause-there c =
     let more = c.add.new.self.items.items in
     let ms = c.add.new.self.nodes.items in
     let read = list_tree (table_meaning items ns).clause in
-    let same : read c.new.result.items ≡ nil = ap read c.new.ensures in
+    let same : read c.new.result.items ≡ nil = ap read c.new.ensures.items in
     let sure : IsTrue (known (read c.new.result.items)) = subst (λ t. IsTrue (known t)) (sym same) refl in
     λ k e.
     let at = env_stands items ns (k.0).0 (read c.new.result.items) sure (e ∙ ap (node environment) (sym same)) in (
@@ -54,7 +54,7 @@ returns-in_err-number-clause-there c =
     let items = c.args.self.now.items.items in
     let ns = c.args.self.now.nodes.items in
     let read = list_tree (table_meaning items ns).clause in
-    let same : read c.new.result.items ≡ nil = ap read c.new.ensures in
+    let same : read c.new.result.items ≡ nil = ap read c.new.ensures.items in
     let sure : IsTrue (known (read c.new.result.items)) = subst (λ t. IsTrue (known t)) (sym same) refl in
     λ k e.
     let at = env_stands items ns (k.0).0 (read c.new.result.items) sure (e ∙ ap (node environment) (sym same)) in
