@@ -3,7 +3,6 @@
 
 ghost use Rattle.std.specs.Prelude.{◌≡◌, ◌≤◌, suc, IsTrue, IfOk, OnErr};
 ghost use Rattle.std.specs.HashMap.{get};
-ghost use Rattle.reference_interner.specs.Empty.{KnowsNone};
 ghost use Rattle.reference_interner.specs.Nodes.{AllKnown, AllDistinct};
 ghost use Rattle.reference_interner.specs.Finding.{Finds};
 
@@ -21,9 +20,9 @@ use relation_terms::terms::{
     Alternatives, AlternativesKey, ArgsKey, Binder, BoundVariable, BoundVars, BoundVarsKey,
     Branches, BranchesKey, Clause, ClauseKey, Clauses, ClausesKey, Const, ConstForm, ConstKey,
     ExistentialPredicates, ExistentialPredicatesKey, GenericArg, GenericArgs, Interner, ItemOf,
-    Keys, OutOfMemory, ParamEnv, ParamEnvKey, Pat, PatKey, PatternForm, Predicate, PredicateKey,
-    Region, RegionForm, RegionKey, Span, Ty, TyForm, TyKey, Tys, TysKey, ValTree, ValTreeForm,
-    ValTreeKey, Variance,
+    OutOfMemory, ParamEnv, ParamEnvKey, Pat, PatKey, PatternForm, Predicate, PredicateKey, Region,
+    RegionForm, RegionKey, Span, Ty, TyForm, TyKey, Tys, TysKey, ValTree, ValTreeForm, ValTreeKey,
+    Variance,
 };
 use std::alloc::Global;
 use std::collections::HashMap;
@@ -42,34 +41,6 @@ pub struct RefInterner {
     ghost known_all: { AllKnown nodes.items },
     ghost distinct: { AllDistinct nodes.items },
     ghost finds: { Finds nodes.items (get ⟦<Node as PartialEq>⟧.eq places) },
-}
-
-impl RefInterner {
-    ghost use Rattle.reference_interner.specs.Adding.{item_count, node_count};
-
-    /// An interner that knows no key and has no item. This takes no memory.
-    pub fn new(alloc: Global) -> RefInterner
-        ensures knows_none { KnowsNone (⟦<RefInterner as Interner>⟧.meaning result) }
-        ensures no_items { item_count result ≡ 0 }
-        ensures no_nodes { node_count result ≡ 0 }
-    {
-        RefInterner {
-            alloc,
-            nodes: Vec::new(alloc),
-            places: HashMap::new(alloc),
-            items: Vec::new(alloc),
-        }
-    }
-}
-
-impl Keys for RefInterner {
-    type Key = NodeKey;
-
-    type Id = ItemId;
-
-    type Name = SymbolId;
-
-    type Span = NoSpan;
 }
 
 impl Interner for RefInterner {
