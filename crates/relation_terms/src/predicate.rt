@@ -12,6 +12,7 @@ pub use alias_term::{AliasTerm, AliasTermKind, NormalizesTo, ProjectionPredicate
 pub use kinds::{
     ClauseForm, ClauseKind, CoercePredicate, PredicateForm, PredicateKind, SubtypePredicate,
 };
+pub use trait_clause::as_trait_clause;
 pub use trait_ref::{HostEffectPredicate, TraitPredicate, TraitRef};
 
 /// The first outlives the second.

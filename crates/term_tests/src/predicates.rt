@@ -29,10 +29,12 @@ fn clause_reads_back<I: Interner>(cx: &mut I, def: I::Id) -> Result<bool, OutOfM
     };
     let clause = cx.mk_clause(form)?;
     let predicate = cx.clause_as_predicate(&clause);
-    Ok(cx.clause_kind(&clause) == form
-        && as_trait_clause(cx, &clause) == Some(Binder { value, bound_vars })
-        && cx.predicate_as_clause(&predicate) == Some(clause)
-        && cx.predicate_kind(&predicate).value == PredicateKind::Clause(form.value))
+    Ok(
+        cx.clause_kind(&clause) == form
+            && as_trait_clause(cx, &clause) == Some(Binder { value, bound_vars })
+            && cx.predicate_as_clause(&predicate) == Some(clause)
+            && cx.predicate_kind(&predicate).value == PredicateKind::Clause(form.value),
+    )
 }
 
 // Whether a predicate that is no clause is read back, and as no clause.
@@ -67,9 +69,7 @@ fn environment_reads_back<I: Interner>(cx: &mut I, name: I::Name) -> Result<bool
     let environment = cx.mk_param_env(clauses)?;
     let empty = cx.empty_param_env()?;
     let bounds = cx.caller_bounds(&environment);
-    Ok(environment != empty
-        && bounds == clauses
-        && cx.clauses(&bounds) == list.as_slice())
+    Ok(environment != empty && bounds == clauses && cx.clauses(&bounds) == list.as_slice())
 }
 
 #[test]
