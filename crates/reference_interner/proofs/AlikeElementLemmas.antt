@@ -30,7 +30,7 @@ use Rattle.reference_interner.proofs.AlikeFormLemmas.{one_number, two_numbers, t
 abbrev pub variable_eq : BoundVariableKind SymbolId → BoundVariableKind SymbolId → Bool
 variable_eq = (variable_impl.ghosts symbol.the_row symbol_impl.ghosts symbol_impl.dict).eq
 
-abbrev term_eq : TermKind NodeKey → TermKind NodeKey → Bool
+abbrev pub term_eq : TermKind NodeKey → TermKind NodeKey → Bool
 term_eq = (term_impl.ghosts key.the_row key_impl.ghosts key_impl.dict).eq
 
 abbrev predicate_eq : ExistentialPredicate NodeKey ItemId → ExistentialPredicate NodeKey ItemId → Bool
@@ -55,13 +55,13 @@ variable_self (TyVariable n) = eqb_self n.0
 variable_self (RegionVariable n) = eqb_self n.0
 variable_self (ConstVariable n) = eqb_self n.0
 
-term_same : (x y : TermKind NodeKey) → IsTrue (term_eq x y) → x ≡ y
+pub term_same : (x y : TermKind NodeKey) → IsTrue (term_eq x y) → x ≡ y
 term_same (TyTerm t) (TyTerm u) h = one_number (λ x. TyTerm (record { 0 = record { 0 = x } })) (t.0).0 (u.0).0 h
 term_same (ConstTerm c) (ConstTerm d) h =
     one_number (λ x. ConstTerm (record { 0 = record { 0 = x } })) (c.0).0 (d.0).0 h
 term_same _ _ h = absurd (false≢true h)
 
-term_self : (x : TermKind NodeKey) → IsTrue (term_eq x x)
+pub term_self : (x : TermKind NodeKey) → IsTrue (term_eq x x)
 term_self (TyTerm t) = eqb_self (t.0).0
 term_self (ConstTerm c) = eqb_self (c.0).0
 

@@ -4,6 +4,8 @@ use Rattle.std.proofs.lemmas.Bool.{false≢true, and_parts, and_from}
 use Rattle.relation_terms.specs.declared.terms.keys.TyKey.{TyKey}
 use Rattle.relation_terms.specs.declared.terms.keys.ConstKey.{ConstKey}
 use Rattle.relation_terms.specs.declared.terms.keys.PatKey.{PatKey}
+use Rattle.relation_terms.specs.declared.terms.keys.ClauseKey.{ClauseKey}
+use Rattle.relation_terms.specs.declared.predicate.kinds.PredicateKind.{PredicateKind}
 use Rattle.relation_terms.specs.declared.terms.ty_kind.TyKind.{TyKind}
 use Rattle.relation_terms.specs.declared.terms.const_kind.ConstKind.{ConstKind}
 use Rattle.relation_terms.specs.declared.terms.const_kind.ValTreeKind.{ValTreeKind}
@@ -18,10 +20,11 @@ use Rattle.reference_interner.specs.declared.keys.ItemId.{ItemId}
 use Rattle.reference_interner.specs.declared.keys.SymbolId.{SymbolId}
 use Rattle.reference_interner.specs.declared.node.Node.{Node}
 use Rattle.reference_interner.specs.declared.node.Node.TheVariants.{Ty, Region, Const, ValTree, Args, Tys}
-use Rattle.reference_interner.specs.declared.node.Node.TheVariants.{Branches, ParamEnv, Pat, Alternatives}
+use Rattle.reference_interner.specs.declared.node.Node.TheVariants.{Branches, Pat, Alternatives, Predicate, Clauses}
 use Rattle.reference_interner.specs.declared.node.Node.TheVariants.{ExistentialPredicates, BoundVars}
 use Rattle.reference_interner.specs.Forms.{Form, ty_form, region_form, const_form, valtree_form, args_form, tys_form}
 use Rattle.reference_interner.specs.Forms.{branches_form, pattern_form, alternatives_form, form_of}
+use Rattle.reference_interner.specs.Forms.{predicate_form, clauses_form}
 use Rattle.reference_interner.specs.Forms.{predicates_form, bound_vars_form}
 use lib.Pointwise.{pointwise}
 use Rattle.reference_interner.proofs.AlikeFormLemmas.{node_eq, arg_eq, ty_eq, const_eq, pat_eq, eqb_self}
@@ -29,6 +32,7 @@ use Rattle.reference_interner.proofs.AlikeFormLemmas.{kind_same, kind_self, cons
 use Rattle.reference_interner.proofs.AlikeFormLemmas.{valtree_self, pattern_same, pattern_self, region_same}
 use Rattle.reference_interner.proofs.AlikeFormLemmas.{region_self, arg_same, arg_self, ty_same, const_key_same}
 use Rattle.reference_interner.proofs.AlikeFormLemmas.{pat_same}
+use Rattle.reference_interner.proofs.AlikePredicateLemmas.{whole_same, whole_self, clause_key_eq, clause_key_same}
 use Rattle.reference_interner.proofs.AlikeElementLemmas.{object_eq, object_same, object_self}
 use Rattle.reference_interner.proofs.AlikeElementLemmas.{variable_eq, variable_same, variable_self}
 
@@ -61,7 +65,9 @@ node_same (ExistentialPredicates v) (ExistentialPredicates w) h =
     ap (λ x. predicates_form x) (list_same object_eq object_same v.items w.items h)
 node_same (BoundVars v) (BoundVars w) h =
     ap (λ x. bound_vars_form x) (list_same variable_eq variable_same v.items w.items h)
-node_same ParamEnv ParamEnv h = refl
+node_same (Predicate f) (Predicate g) h = ap (λ x. predicate_form x) (whole_same f g h)
+node_same (Clauses v) (Clauses w) h =
+    ap (λ x. clauses_form x) (list_same clause_key_eq clause_key_same v.items w.items h)
 node_same _ _ h = absurd (false≢true h)
 
 abbrev kind_in : TyKind NodeKey ItemId SymbolId → Form → TyKind NodeKey ItemId SymbolId
@@ -109,6 +115,15 @@ abbrev variables_in : List (BoundVariableKind SymbolId) → Form → List (Bound
 variables_in d (bound_vars_form f) = f
 variables_in d _ = d
 
+abbrev predicate_in : Binder NodeKey (PredicateKind NodeKey ItemId SymbolId) → Form →
+    Binder NodeKey (PredicateKind NodeKey ItemId SymbolId)
+predicate_in d (predicate_form f) = f
+predicate_in d _ = d
+
+abbrev clauses_in : List (ClauseKey NodeKey) → Form → List (ClauseKey NodeKey)
+clauses_in d (clauses_form f) = f
+clauses_in d _ = d
+
 node_self : (a b : Node) → form_of a ≡ form_of b → IsTrue (node_eq a b)
 node_self (Ty f) (Ty g) e = subst (λ x. IsTrue (node_eq (Ty f) (Ty x))) (ap (kind_in f) e) (kind_self f)
 node_self (Region f) (Region g) e =
@@ -134,7 +149,11 @@ node_self (ExistentialPredicates v) (ExistentialPredicates w) e =
 node_self (BoundVars v) (BoundVars w) e =
     subst (λ x. IsTrue (pointwise variable_eq v.items x)) (ap (variables_in v.items) e)
     (list_self variable_eq variable_self v.items)
-node_self ParamEnv ParamEnv e = refl
+node_self (Predicate f) (Predicate g) e =
+    subst (λ x. IsTrue (node_eq (Predicate f) (Predicate x))) (ap (predicate_in f) e) (whole_self f)
+node_self (Clauses v) (Clauses w) e =
+    subst (λ x. IsTrue (pointwise clause_key_eq v.items x)) (ap (clauses_in v.items) e)
+    (list_self clause_key_eq (λ x. eqb_self (x.0).0) v.items)
 node_self _ _ e = absurd (cc)
 
 pub node_alike : (a b : Node) → (IsTrue (node_eq a b) ↔ (form_of a ≡ form_of b))

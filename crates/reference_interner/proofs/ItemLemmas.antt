@@ -5,7 +5,19 @@ use Rattle.std.proofs.lemmas.Bool.{cases_lt}
 use Rattle.std.proofs.lemmas.List.{get_or-map, length-map, map-append, get_or_append_left, get_or_past}
 use Rattle.std.proofs.Math.Seq.{get_or-append_seam}
 use Rattle.relation_terms.proofs.Lists.{last_place}
-use Rattle.relation_terms.specs.Heads.{existential_projection}
+use Rattle.relation_terms.specs.Heads.{existential_projection, projection, well_formed, normalizes_to, alias_relate}
+use Rattle.relation_terms.specs.Predicates.{alias_term_tree, clause_kind_tree, predicate_kind_tree, predicate_tree}
+use Rattle.relation_terms.specs.declared.predicate.kinds.ClauseKind.{ClauseKind}
+use Rattle.relation_terms.specs.declared.predicate.kinds.ClauseKind.TheVariants.{Trait as TraitClause}
+use Rattle.relation_terms.specs.declared.predicate.kinds.ClauseKind.TheVariants.{RegionOutlives, TypeOutlives}
+use Rattle.relation_terms.specs.declared.predicate.kinds.ClauseKind.TheVariants.{Projection as ProjectionClause}
+use Rattle.relation_terms.specs.declared.predicate.kinds.ClauseKind.TheVariants.{ConstArgHasType, WellFormed}
+use Rattle.relation_terms.specs.declared.predicate.kinds.ClauseKind.TheVariants.{ConstEvaluatable, HostEffect}
+use Rattle.relation_terms.specs.declared.predicate.kinds.ClauseKind.TheVariants.{UnstableFeature}
+use Rattle.relation_terms.specs.declared.predicate.kinds.PredicateKind.{PredicateKind}
+use Rattle.relation_terms.specs.declared.predicate.kinds.PredicateKind.TheVariants.{Clause, Subtype, Coerce}
+use Rattle.relation_terms.specs.declared.predicate.kinds.PredicateKind.TheVariants.{NormalizesTo, AliasRelate}
+use Rattle.relation_terms.specs.declared.predicate.kinds.PredicateKind.TheVariants.{Ambiguous}
 use Rattle.relation_terms.specs.Trees.{Tree, list_tree, node, bind, nil, cons}
 use Rattle.relation_terms.specs.Meaning.{existential_tree, term_tree, object_predicate_tree, bound_kind_of, bound_kinds}
 use Rattle.relation_terms.specs.Meaning.{under}
@@ -52,7 +64,7 @@ use Rattle.reference_interner.specs.declared.keys.SymbolId.{SymbolId}
 use Rattle.reference_interner.specs.declared.items.Item.{Item}
 use Rattle.reference_interner.specs.declared.node.Node.{Node}
 use Rattle.reference_interner.specs.Forms.{Form, ty_form, region_form, const_form, valtree_form, args_form, tys_form}
-use Rattle.reference_interner.specs.Forms.{branches_form, environment_form, pattern_form, alternatives_form, form_of}
+use Rattle.reference_interner.specs.Forms.{branches_form, pattern_form, alternatives_form, form_of, predicate_form, clauses_form}
 use Rattle.reference_interner.specs.Adding.{SameTerms, OthersStand, HasNoGenerics}
 use Rattle.reference_interner.specs.Items.{variances_at, alias_variances_of, alias_variances_at}
 use Rattle.reference_interner.specs.Forms.{predicates_form, bound_vars_form}
@@ -157,6 +169,39 @@ module _ (as_before more : List Item) (es : List Entry) where
   same_predicate b =
       ap (λ x. under ((meaning_of more es).bound_vars b.bound_vars) x) (same_existential b.value)
 
+  same_clause_kind : (c : ClauseKind NodeKey ItemId SymbolId) →
+      clause_kind_tree (meaning_of as_before es) c ≡ clause_kind_tree (meaning_of more es) c
+  unfolding meaning_of
+  same_clause_kind (TraitClause p) = refl
+  same_clause_kind (RegionOutlives p) = refl
+  same_clause_kind (TypeOutlives p) = refl
+  same_clause_kind (ProjectionClause p) =
+      ap (λ x. node projection (cons (alias_term_tree (meaning_of more es) p.projection_term) (cons x nil)))
+      (same_term p.term)
+  same_clause_kind (ConstArgHasType c t) = refl
+  same_clause_kind (WellFormed a) = ap (λ x. node well_formed (cons x nil)) (same_term a)
+  same_clause_kind (ConstEvaluatable c) = refl
+  same_clause_kind (HostEffect p) = refl
+  same_clause_kind (UnstableFeature n) = refl
+
+  same_predicate_kind : (p : PredicateKind NodeKey ItemId SymbolId) →
+      predicate_kind_tree (meaning_of as_before es) p ≡ predicate_kind_tree (meaning_of more es) p
+  unfolding meaning_of
+  same_predicate_kind (Clause c) = same_clause_kind c
+  same_predicate_kind (Subtype p) = refl
+  same_predicate_kind (Coerce p) = refl
+  same_predicate_kind (NormalizesTo p) =
+      ap (λ x. node normalizes_to (cons (alias_term_tree (meaning_of more es) p.alias) (cons x nil)))
+      (same_term p.term)
+  same_predicate_kind (AliasRelate a b d) =
+      ap₂ (λ x y. node (alias_relate d) (cons x (cons y nil))) (same_term a) (same_term b)
+  same_predicate_kind Ambiguous = refl
+
+  same_whole : (b : Binder NodeKey (PredicateKind NodeKey ItemId SymbolId)) →
+      predicate_tree (meaning_of as_before es) b ≡ predicate_tree (meaning_of more es) b
+  unfolding meaning_of
+  same_whole b = ap (λ x. under ((meaning_of more es).bound_vars b.bound_vars) x) (same_predicate_kind b.value)
+
   same_variable : (x : BoundVariableKind SymbolId) →
       bound_kind_of (meaning_of as_before es) x ≡ bound_kind_of (meaning_of more es) x
   unfolding meaning_of
@@ -185,7 +230,8 @@ module _ (as_before more : List Item) (es : List Entry) where
       same_list (object_predicate_tree (meaning_of as_before es)) (object_predicate_tree (meaning_of more es))
       same_predicate ps
   same_form (bound_vars_form xs) = ap (λ ks. bind ks nil) (same_kinds xs)
-  same_form environment_form = refl
+  same_form (predicate_form f) = same_whole f
+  same_form (clauses_form cs) = refl
 
 -- A node's entry is one whatever the items are.
 pub same_entry : (items more : List Item) (ns : List Node) (n : Node) →
@@ -268,6 +314,7 @@ same_terms items more ns = record {
   bound_vars = λ k. refl;
   predicate = λ k. refl;
   clause = λ k. refl;
+  clauses = λ k. refl;
   param_env = λ k. refl;
   id = λ d. refl;
   name = λ s. refl;

@@ -2,6 +2,8 @@ pub mod ItemLemmas
 pub mod TableLemmas
 pub mod AlikeFormLemmas
 pub mod AlikeElementLemmas
+pub mod AlikePredicateLemmas
 pub mod AlikeLemmas
 pub mod OnceLemmas
 pub mod FindingLemmas
+pub mod ClauseLemmas

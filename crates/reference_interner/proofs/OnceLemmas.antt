@@ -10,48 +10,54 @@ use Rattle.relation_terms.proofs.Stays.{stays_same}
 use Rattle.relation_terms.proofs.Sorted.{Sorted}
 use Rattle.relation_terms.proofs.Once.{Injective, kind_once, region_once, const_once, valtree_once, arg_once}
 use Rattle.relation_terms.proofs.Once.{pattern_once, list_once, object_predicate_once, bound_kinds_once}
+use Rattle.relation_terms.proofs.Predicates.{predicate_once}
+use Rattle.relation_terms.specs.declared.terms.keys.ClauseKey.{ClauseKey}
 use Rattle.reference_interner.specs.declared.keys.NodeKey.{NodeKey}
 use Rattle.reference_interner.specs.declared.keys.ItemId.{ItemId}
 use Rattle.reference_interner.specs.declared.keys.SymbolId.{SymbolId}
 use Rattle.reference_interner.specs.declared.items.Item.{Item}
 use Rattle.reference_interner.specs.declared.node.Node.{Node}
 use Rattle.reference_interner.specs.Forms.{Form, ty_form, region_form, const_form, valtree_form, args_form, tys_form}
-use Rattle.reference_interner.specs.Forms.{branches_form, environment_form, pattern_form, alternatives_form, form_of}
+use Rattle.reference_interner.specs.Forms.{branches_form, pattern_form, alternatives_form, form_of, predicate_form, clauses_form}
 use Rattle.reference_interner.specs.Nodes.{NodeSort, Entry, no_entry, entry, tree_as, meaning_of, entry_at}
 use Rattle.reference_interner.specs.Nodes.{entry_of, entries, table_meaning, known_entry, AllKnown, AllDistinct}
 use Rattle.reference_interner.specs.Nodes.{StandsAt, shown}
 use Rattle.reference_interner.specs.Forms.{predicates_form, bound_vars_form}
 use Rattle.reference_interner.specs.Empty.{KnowsNone}
 use Rattle.reference_interner.specs.Places.{length_entries, known_in, of_sort, reads_as_shown, tree_of_key, key_reads}
-use Rattle.reference_interner.specs.Laws.{injective, all_sorted}
+use Rattle.reference_interner.specs.Laws.{injective, all_sorted, once_clause}
 use Rattle.reference_interner.proofs.ItemLemmas.{same_entry}
 use Rattle.reference_interner.proofs.TableLemmas.{tree_in, entries_snoc, extends_node, at_now}
 
 -- Forms of one entry are one form.
-form_once : (m : Meaning NodeKey ItemId SymbolId) → Injective m → Sorted m → (f g : Form) →
+form_once : (m : Meaning NodeKey ItemId SymbolId) → Injective m → Sorted m →
+    ((k l : ClauseKey NodeKey) → IsTrue (known (m.clause k)) → m.clause k ≡ m.clause l → k ≡ l) → (f g : Form) →
     IsTrue (known_entry (entry_at m f)) → entry_at m f ≡ entry_at m g → f ≡ g
-form_once m j s (ty_form f) (ty_form g) k e = ap (λ x. ty_form x) (kind_once m j f g k (ap tree_in e))
-form_once m j s (region_form f) (region_form g) k e = ap (λ x. region_form x) (region_once m j f g (ap tree_in e))
-form_once m j s (const_form f) (const_form g) k e = ap (λ x. const_form x) (const_once m j f g k (ap tree_in e))
-form_once m j s (valtree_form f) (valtree_form g) k e =
+form_once m j s c (ty_form f) (ty_form g) k e = ap (λ x. ty_form x) (kind_once m j f g k (ap tree_in e))
+form_once m j s c (region_form f) (region_form g) k e = ap (λ x. region_form x) (region_once m j f g (ap tree_in e))
+form_once m j s c (const_form f) (const_form g) k e = ap (λ x. const_form x) (const_once m j f g k (ap tree_in e))
+form_once m j s c (valtree_form f) (valtree_form g) k e =
     ap (λ x. valtree_form x) (valtree_once m j f g k (ap tree_in e))
-form_once m j s (pattern_form f) (pattern_form g) k e =
+form_once m j s c (pattern_form f) (pattern_form g) k e =
     ap (λ x. pattern_form x) (pattern_once m j f g k (ap tree_in e))
-form_once m j s (args_form xs) (args_form ys) k e =
+form_once m j s c (args_form xs) (args_form ys) k e =
     ap (λ x. args_form x) (list_once (arg_tree m) (arg_once m j s) xs ys k (ap tree_in e))
-form_once m j s (tys_form xs) (tys_form ys) k e = ap (λ x. tys_form x) (list_once m.ty j.ty xs ys k (ap tree_in e))
-form_once m j s (branches_form xs) (branches_form ys) k e =
+form_once m j s c (tys_form xs) (tys_form ys) k e = ap (λ x. tys_form x) (list_once m.ty j.ty xs ys k (ap tree_in e))
+form_once m j s c (branches_form xs) (branches_form ys) k e =
     ap (λ x. branches_form x) (list_once m.const_ j.const_ xs ys k (ap tree_in e))
-form_once m j s (alternatives_form xs) (alternatives_form ys) k e =
+form_once m j s c (alternatives_form xs) (alternatives_form ys) k e =
     ap (λ x. alternatives_form x) (list_once m.pat j.pat xs ys k (ap tree_in e))
-form_once m j s (predicates_form xs) (predicates_form ys) k e =
+form_once m j s c (predicates_form xs) (predicates_form ys) k e =
     ap (λ x. predicates_form x)
     (list_once (object_predicate_tree m) (object_predicate_once m j s) xs ys k (ap tree_in e))
-form_once m j s (bound_vars_form xs) (bound_vars_form ys) k e =
+form_once m j s c (bound_vars_form xs) (bound_vars_form ys) k e =
     let kinds : bound_kinds m xs ≡ bound_kinds m ys = cc in
     ap (λ x. bound_vars_form x) (bound_kinds_once m j xs ys kinds)
-form_once m j s environment_form environment_form k e = refl
-form_once m j s f g k e = absurd (cc)
+form_once m j s c (predicate_form f) (predicate_form g) k e =
+    ap (λ x. predicate_form x) (predicate_once m j s f g k (ap tree_in e))
+form_once m j s c (clauses_form xs) (clauses_form ys) k e =
+    ap (λ x. clauses_form x) (list_once m.clause c xs ys k (ap tree_in e))
+form_once m j s c f g k e = absurd (cc)
 
 module _ (ns : List Node) (n : Node) where
   keeps_entry : (i : ℕ) → i < length ns → get_or (entries (ns ++ n ∷ [])) i no_entry ≡ get_or (entries ns) i no_entry
@@ -99,7 +105,9 @@ module _ (ns : List Node) (n : Node) where
       let l : i < length ns = known_in ns i h in
       let a = at_now ns i n l h in
       let m = table_meaning [] ns in
-      u i n l (form_once m (injective [] ns d) (all_sorted [] ns) (form_of (get_or ns i n)) (form_of n)
+      let clauses : (k l : ClauseKey NodeKey) → IsTrue (known (m.clause k)) → m.clause k ≡ m.clause l → k ≡ l =
+      λ k l h e. ap (λ n. record { 0 = record { 0 = n } }) (once_clause [] ns d k l h e) in
+      u i n l (form_once m (injective [] ns d) (all_sorted [] ns) clauses (form_of (get_or ns i n)) (form_of n)
       (subst (λ x. IsTrue (known_entry x)) a h) (sym a ∙ e))
 
   pub all_distinct : AllDistinct ns → IsTrue (known_entry (entry_of (table_meaning [] ns) n)) →
@@ -166,6 +174,7 @@ none_known items ns p e = subst (λ m. KnowsNone m) (sym (ap₂ table_meaning p 
   bound_vars = λ k. refl;
   predicate = λ k. refl;
   clause = λ k. refl;
+  clauses = λ k. refl;
   param_env = λ k. refl;
   generics = λ d. refl;
   variances = λ d. refl;

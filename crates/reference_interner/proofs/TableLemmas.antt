@@ -4,18 +4,19 @@ use Rattle.std.proofs.Common.{refl, ap, ap₂, sym, ◌∙◌, subst, arith, len
 use Rattle.std.proofs.lemmas.Bool.{false≢true, cases_lt}
 use Rattle.std.proofs.lemmas.List.{get_or_append_left, get_or_past}
 use Rattle.std.proofs.Math.Seq.{get_or-append_seam}
-use Rattle.relation_terms.specs.Heads.{BoundKind, bound_kind, type_kind, region_kind, const_kind}
-use Rattle.relation_terms.specs.Trees.{Tree, bind, nil, known}
+use Rattle.relation_terms.specs.Heads.{BoundKind, bound_kind, type_kind, region_kind, const_kind, environment}
+use Rattle.relation_terms.specs.Trees.{Tree, node, bind, nil, known}
 use Rattle.relation_terms.specs.Meaning.{Meaning, Extends, arg_tree, object_predicate_tree, bound_kind_of, bound_kinds}
 use Rattle.relation_terms.specs.Meaning.{under}
 use Rattle.relation_terms.proofs.Stays.{stays_same, extends_on, stays_kind, stays_region, stays_const, stays_valtree}
 use Rattle.relation_terms.proofs.Stays.{stays_pattern, stays_list, stays_arg, stays_object_predicate}
+use Rattle.relation_terms.proofs.Predicates.{stays_predicate}
 use Rattle.reference_interner.specs.declared.keys.NodeKey.{NodeKey}
 use Rattle.reference_interner.specs.declared.keys.ItemId.{ItemId}
 use Rattle.reference_interner.specs.declared.keys.SymbolId.{SymbolId}
 use Rattle.reference_interner.specs.declared.items.Item.{Item}
 use Rattle.reference_interner.specs.declared.node.Node.TheVariants.{Ty, Region, Const, ValTree, Args, Tys}
-use Rattle.reference_interner.specs.declared.node.Node.TheVariants.{Branches, Pat, Alternatives}
+use Rattle.reference_interner.specs.declared.node.Node.TheVariants.{Branches, Pat, Alternatives, Predicate, Clauses}
 use Rattle.reference_interner.specs.declared.node.Node.TheVariants.{ExistentialPredicates, BoundVars}
 use Rattle.relation_terms.specs.declared.predicate.ExistentialPredicate.{ExistentialPredicate}
 use Rattle.relation_terms.specs.declared.terms.binder.Binder.{Binder}
@@ -26,6 +27,8 @@ use Rattle.relation_terms.specs.declared.terms.binder.BoundVariableKind.TheVaria
 use Rattle.relation_terms.specs.declared.terms.keys.TyKey.{TyKey}
 use Rattle.relation_terms.specs.declared.terms.keys.ConstKey.{ConstKey}
 use Rattle.relation_terms.specs.declared.terms.keys.PatKey.{PatKey}
+use Rattle.relation_terms.specs.declared.terms.keys.ClauseKey.{ClauseKey}
+use Rattle.relation_terms.specs.declared.predicate.kinds.PredicateKind.{PredicateKind}
 use Rattle.relation_terms.specs.declared.terms.ty_kind.TyKind.{TyKind}
 use Rattle.relation_terms.specs.declared.terms.region_kind.RegionKind.{RegionKind}
 use Rattle.relation_terms.specs.declared.terms.const_kind.ConstKind.{ConstKind}
@@ -36,18 +39,19 @@ use Rattle.std.specs.declared.vec.Vec.{Vec}
 use Rattle.std.specs.declared.alloc.Global.{Global}
 use Rattle.reference_interner.specs.declared.node.Node.{Node}
 use Rattle.reference_interner.specs.Forms.{Form, ty_form, region_form, const_form, valtree_form, args_form, tys_form}
-use Rattle.reference_interner.specs.Forms.{branches_form, environment_form, pattern_form, alternatives_form, form_of}
+use Rattle.reference_interner.specs.Forms.{branches_form, pattern_form, alternatives_form, form_of, predicate_form, clauses_form}
 use Rattle.reference_interner.specs.Nodes.{NodeSort, ty_node, region_node, const_node, valtree_node, args_node}
-use Rattle.reference_interner.specs.Nodes.{tys_node, branches_node, environment_node, pat_node, alternatives_node}
+use Rattle.reference_interner.specs.Nodes.{tys_node, branches_node, pat_node, alternatives_node, predicate_node, clauses_node}
 use Rattle.reference_interner.specs.Forms.{predicates_form, bound_vars_form}
-use Rattle.reference_interner.specs.Nodes.{predicates_node, bound_vars_node, kinds_in}
+use Rattle.reference_interner.specs.Nodes.{predicates_node, bound_vars_node, kinds_in, as_clause}
+use Rattle.reference_interner.specs.Laws.{clause_same}
 use Rattle.reference_interner.specs.Nodes.{Entry, no_entry, entry, tree_as, meaning_of, form_sort, form_tree, entry_at}
 use Rattle.reference_interner.specs.Nodes.{entry_of, entries_from, entries, table_meaning, known_entry, AllKnown}
 use Rattle.reference_interner.specs.Places.{known_in, of_sort, reads_as_shown, sure_of, tree_of_key, HasKey, key_reads}
 use Rattle.reference_interner.proofs.ItemLemmas.{same_entry}
 
 abbrev pub sort_in : Entry → NodeSort
-sort_in no_entry = environment_node
+sort_in no_entry = clauses_node
 sort_in (entry s t) = s
 
 abbrev pub tree_in : Entry → Tree
@@ -71,6 +75,14 @@ keeps_list es fs i k = elim (cases_lt i (length es)) [
       absurd (false≢true (subst (λ e. IsSome (kinds_in (tree_as bound_vars_node e))) (get_or_past es i no_entry h) k))
 ]
 
+keeps_clause : (es fs : List Entry) (i : ℕ) →
+    IsTrue (known (as_clause (tree_as predicate_node (get_or es i no_entry)))) →
+    as_clause (tree_as predicate_node (get_or (es ++ fs) i no_entry)) ≡
+    as_clause (tree_as predicate_node (get_or es i no_entry))
+keeps_clause es fs i k =
+    let t = tree_as predicate_node (get_or es i no_entry) in
+    ap as_clause (keeps predicate_node es fs i (subst (λ u. IsTrue (known u)) (clause_same t k) k))
+
 pub extends_append : (items : List Item) (es fs : List Entry) →
     Extends (meaning_of items es) (meaning_of items (es ++ fs))
 unfolding meaning_of
@@ -86,9 +98,10 @@ extends_append items es fs = record {
   alternatives = λ k h. keeps alternatives_node es fs (k.0).0 h;
   existential_predicates = λ k h. keeps predicates_node es fs (k.0).0 h;
   bound_vars = λ k h. keeps_list es fs (k.0).0 h;
-  predicate = λ k h. refl;
-  clause = λ k h. refl;
-  param_env = λ k h. keeps environment_node es fs (k.0).0 h;
+  predicate = λ k h. keeps predicate_node es fs (k.0).0 h;
+  clause = λ k h. keeps_clause es fs (k.0).0 h;
+  clauses = λ k h. keeps clauses_node es fs (k.0).0 h;
+  param_env = λ k h. ap (node environment) (keeps clauses_node es fs (k.0).0 h);
   id = λ d. refl;
   name = λ s. refl;
   generics = refl;
@@ -170,7 +183,8 @@ stays_form {m} {n} e (alternatives_form ps) k = stays_list m.pat n.pat ps e.pat 
 stays_form {m} {n} e (predicates_form ps) k =
     stays_list (object_predicate_tree m) (object_predicate_tree n) ps (stays_object_predicate e) k
 stays_form {m} {n} e (bound_vars_form xs) k = ap (λ ks. bind ks nil) (stays_kinds e xs)
-stays_form e environment_form k = refl
+stays_form e (predicate_form f) k = stays_predicate e f k
+stays_form {m} {n} e (clauses_form cs) k = stays_list m.clause n.clause cs e.clause k
 
 -- An entry is that of the node as its keys are read now.
 pub at_now : (ns : List Node) (i : ℕ) (d : Node) → i < length ns →
@@ -284,3 +298,14 @@ pub not_bound_vars : (n : Node) → ((v : Vec (BoundVariableKind SymbolId) Globa
     bound_vars_node ≡ form_sort (form_of n) → ⊥
 not_bound_vars (BoundVars v) u e = u v refl
 not_bound_vars n u e = absurd (cc)
+
+pub not_predicate : (n : Node) →
+    ((f : Binder NodeKey (PredicateKind NodeKey ItemId SymbolId)) → n ≡ Predicate f → ⊥) →
+    predicate_node ≡ form_sort (form_of n) → ⊥
+not_predicate (Predicate f) u e = u f refl
+not_predicate n u e = absurd (cc)
+
+pub not_clauses : (n : Node) → ((v : Vec (ClauseKey NodeKey) Global) → n ≡ Clauses v → ⊥) →
+    clauses_node ≡ form_sort (form_of n) → ⊥
+not_clauses (Clauses v) u e = u v refl
+not_clauses n u e = absurd (cc)

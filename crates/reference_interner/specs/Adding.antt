@@ -14,6 +14,7 @@ use Rattle.relation_terms.specs.declared.terms.keys.ExistentialPredicatesKey.{Ex
 use Rattle.relation_terms.specs.declared.terms.keys.BoundVarsKey.{BoundVarsKey}
 use Rattle.relation_terms.specs.declared.terms.keys.PredicateKey.{PredicateKey}
 use Rattle.relation_terms.specs.declared.terms.keys.ClauseKey.{ClauseKey}
+use Rattle.relation_terms.specs.declared.terms.keys.ClausesKey.{ClausesKey}
 use Rattle.relation_terms.specs.declared.terms.keys.ParamEnvKey.{ParamEnvKey}
 use Rattle.reference_interner.specs.declared.keys.NodeKey.{NodeKey}
 use Rattle.reference_interner.specs.declared.keys.ItemId.{ItemId}
@@ -55,6 +56,7 @@ module _ {Key Id Name : Type 0} (m n : Meaning Key Id Name) where
     pub bound_vars : (k : BoundVarsKey Key) → n.bound_vars k ≡ m.bound_vars k
     pub predicate : (k : PredicateKey Key) → n.predicate k ≡ m.predicate k
     pub clause : (k : ClauseKey Key) → n.clause k ≡ m.clause k
+    pub clauses : (k : ClausesKey Key) → n.clauses k ≡ m.clauses k
     pub param_env : (k : ParamEnvKey Key) → n.param_env k ≡ m.param_env k
     pub id : (d : Id) → n.id d ≡ m.id d
     pub name : (s : Name) → n.name s ≡ m.name s

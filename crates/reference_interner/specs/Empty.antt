@@ -15,6 +15,7 @@ use Rattle.relation_terms.specs.declared.terms.keys.ExistentialPredicatesKey.{Ex
 use Rattle.relation_terms.specs.declared.terms.keys.BoundVarsKey.{BoundVarsKey}
 use Rattle.relation_terms.specs.declared.terms.keys.PredicateKey.{PredicateKey}
 use Rattle.relation_terms.specs.declared.terms.keys.ClauseKey.{ClauseKey}
+use Rattle.relation_terms.specs.declared.terms.keys.ClausesKey.{ClausesKey}
 use Rattle.relation_terms.specs.declared.terms.keys.ParamEnvKey.{ParamEnvKey}
 
 -- No key of any sort is known, and no item has generic parameters.
@@ -32,6 +33,7 @@ pub record KnowsNone {Key Id Name : Type 0} (m : Meaning Key Id Name) : Type 0 w
   pub bound_vars : (k : BoundVarsKey Key) → IsNone (m.bound_vars k)
   pub predicate : (k : PredicateKey Key) → IsFalse (known (m.predicate k))
   pub clause : (k : ClauseKey Key) → IsFalse (known (m.clause k))
+  pub clauses : (k : ClausesKey Key) → IsFalse (known (m.clauses k))
   pub param_env : (k : ParamEnvKey Key) → IsFalse (known (m.param_env k))
   pub generics : (n : ℕ) → m.generics n ≡ 0
   pub variances : (n : ℕ) → m.variances n ≡ []

@@ -3,6 +3,7 @@ use Rattle.std.specs.Prelude.{List}
 use Rattle.relation_terms.specs.declared.terms.keys.TyKey.{TyKey}
 use Rattle.relation_terms.specs.declared.terms.keys.ConstKey.{ConstKey}
 use Rattle.relation_terms.specs.declared.terms.keys.PatKey.{PatKey}
+use Rattle.relation_terms.specs.declared.terms.keys.ClauseKey.{ClauseKey}
 use Rattle.relation_terms.specs.declared.terms.ty_kind.TyKind.{TyKind}
 use Rattle.relation_terms.specs.declared.terms.region_kind.RegionKind.{RegionKind}
 use Rattle.relation_terms.specs.declared.terms.const_kind.ConstKind.{ConstKind}
@@ -10,6 +11,7 @@ use Rattle.relation_terms.specs.declared.terms.const_kind.ValTreeKind.{ValTreeKi
 use Rattle.relation_terms.specs.declared.terms.pattern_kind.PatternKind.{PatternKind}
 use Rattle.relation_terms.specs.declared.terms.generic_arg.GenericArgKind.{GenericArgKind}
 use Rattle.relation_terms.specs.declared.predicate.ExistentialPredicate.{ExistentialPredicate}
+use Rattle.relation_terms.specs.declared.predicate.kinds.PredicateKind.{PredicateKind}
 use Rattle.relation_terms.specs.declared.terms.binder.Binder.{Binder}
 use Rattle.relation_terms.specs.declared.terms.binder.BoundVariableKind.{BoundVariableKind}
 use Rattle.reference_interner.specs.declared.keys.NodeKey.{NodeKey}
@@ -17,7 +19,7 @@ use Rattle.reference_interner.specs.declared.keys.ItemId.{ItemId}
 use Rattle.reference_interner.specs.declared.keys.SymbolId.{SymbolId}
 use Rattle.reference_interner.specs.declared.node.Node.{Node}
 use Rattle.reference_interner.specs.declared.node.Node.TheVariants.{Ty, Region, Const, ValTree, Args, Tys}
-use Rattle.reference_interner.specs.declared.node.Node.TheVariants.{Branches, ParamEnv, Pat, Alternatives}
+use Rattle.reference_interner.specs.declared.node.Node.TheVariants.{Branches, Pat, Alternatives, Predicate, Clauses}
 use Rattle.reference_interner.specs.declared.node.Node.TheVariants.{ExistentialPredicates, BoundVars}
 
 -- A node's form, whose lists are plain.
@@ -33,7 +35,8 @@ pub data Form : Type 0 where
   alternatives_form : List (PatKey NodeKey) → Form
   predicates_form : List (Binder NodeKey (ExistentialPredicate NodeKey ItemId)) → Form
   bound_vars_form : List (BoundVariableKind SymbolId) → Form
-  environment_form : Form
+  predicate_form : Binder NodeKey (PredicateKind NodeKey ItemId SymbolId) → Form
+  clauses_form : List (ClauseKey NodeKey) → Form
 
 -- The form of a node.
 abbrev pub form_of : Node → Form
@@ -48,4 +51,5 @@ form_of (Branches v) = branches_form v.items
 form_of (Alternatives v) = alternatives_form v.items
 form_of (ExistentialPredicates v) = predicates_form v.items
 form_of (BoundVars v) = bound_vars_form v.items
-form_of ParamEnv = environment_form
+form_of (Predicate f) = predicate_form f
+form_of (Clauses v) = clauses_form v.items

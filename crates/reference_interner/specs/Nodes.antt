@@ -1,24 +1,25 @@
 -- What the numbers of a table's nodes mean.
 use Rattle.std.specs.Prelude.{ℕ, ◌≡◌, ◌<◌, Bool, true, false, IsTrue, cond, length, List, [], ◌∷◌, ◌++◌}
 use Rattle.std.specs.Prelude.{slice_index_or, Option, Some, None}
-use Rattle.relation_terms.specs.Heads.{environment, unknown, BoundKind}
+use Rattle.relation_terms.specs.Heads.{environment, unknown, BoundKind, Sort, clause_sort, head_sort, leaf_sort}
 use Rattle.relation_terms.specs.Trees.{Tree, leaf, node, bind, nil, known, list_tree}
 use Rattle.relation_terms.specs.Meaning.{Meaning, kind_tree, region_tree, const_tree, valtree_tree, arg_tree}
 use Rattle.relation_terms.specs.Meaning.{pattern_tree, object_predicate_tree, bound_kinds, under}
+use Rattle.relation_terms.specs.Predicates.{predicate_tree}
 use Rattle.reference_interner.specs.declared.keys.NodeKey.{NodeKey}
 use Rattle.reference_interner.specs.declared.keys.ItemId.{ItemId}
 use Rattle.reference_interner.specs.declared.keys.SymbolId.{SymbolId}
 use Rattle.reference_interner.specs.declared.node.Node.{Node}
 use Rattle.reference_interner.specs.declared.items.Item.{Item}
 use Rattle.reference_interner.specs.Forms.{Form, ty_form, region_form, const_form, valtree_form, args_form, tys_form}
-use Rattle.reference_interner.specs.Forms.{branches_form, environment_form, pattern_form, alternatives_form, form_of}
+use Rattle.reference_interner.specs.Forms.{branches_form, pattern_form, alternatives_form, form_of, predicate_form, clauses_form}
 use Rattle.reference_interner.specs.Forms.{predicates_form, bound_vars_form}
 use Rattle.reference_interner.specs.Items.{variances_at, alias_variances_at}
 
 -- What a key may stand for.
 pub data NodeSort : Type 0 where
   ty_node region_node const_node valtree_node pat_node args_node tys_node branches_node alternatives_node : NodeSort
-  predicates_node bound_vars_node environment_node : NodeSort
+  predicates_node bound_vars_node predicate_node clauses_node : NodeSort
 
 -- Whether the sorts are one.
 abbrev pub same_sort : NodeSort → NodeSort → Bool
@@ -33,7 +34,8 @@ same_sort branches_node branches_node = true
 same_sort alternatives_node alternatives_node = true
 same_sort predicates_node predicates_node = true
 same_sort bound_vars_node bound_vars_node = true
-same_sort environment_node environment_node = true
+same_sort predicate_node predicate_node = true
+same_sort clauses_node clauses_node = true
 same_sort s r = false
 
 -- The list that a binder over nothing has.
@@ -56,7 +58,18 @@ abbrev pub tree_as : NodeSort → Entry → Tree
 tree_as s no_entry = leaf unknown
 tree_as s (entry r t) = cond (same_sort s r) (shown s t) (leaf unknown)
 
--- What keys and ids mean, by their numbers. No node is of another sort than these.
+-- What a predicate's tree is as a clause's: nothing is known of it where the predicate is no clause.
+abbrev pub is_clause_sort : Sort → Bool
+is_clause_sort clause_sort = true
+is_clause_sort s = false
+
+abbrev pub as_clause : Tree → Tree
+as_clause (bind ks (node h ts)) = cond (is_clause_sort (head_sort h)) (bind ks (node h ts)) (leaf unknown)
+as_clause (bind ks (leaf l)) = cond (is_clause_sort (leaf_sort l)) (bind ks (leaf l)) (leaf unknown)
+as_clause t = leaf unknown
+
+-- What keys and ids mean, by their numbers. No node is of another sort than these. A clause is the predicate of its
+-- number, an environment the list of clauses of its.
 unfoldable pub meaning_of : List Item → List Entry → Meaning NodeKey ItemId SymbolId
 meaning_of items es = record {
   ty = λ k. tree_as ty_node (slice_index_or es (k.0).0 no_entry);
@@ -70,9 +83,10 @@ meaning_of items es = record {
   alternatives = λ k. tree_as alternatives_node (slice_index_or es (k.0).0 no_entry);
   existential_predicates = λ k. tree_as predicates_node (slice_index_or es (k.0).0 no_entry);
   bound_vars = λ k. kinds_in (tree_as bound_vars_node (slice_index_or es (k.0).0 no_entry));
-  predicate = λ k. leaf unknown;
-  clause = λ k. leaf unknown;
-  param_env = λ k. tree_as environment_node (slice_index_or es (k.0).0 no_entry);
+  predicate = λ k. tree_as predicate_node (slice_index_or es (k.0).0 no_entry);
+  clause = λ k. as_clause (tree_as predicate_node (slice_index_or es (k.0).0 no_entry));
+  clauses = λ k. tree_as clauses_node (slice_index_or es (k.0).0 no_entry);
+  param_env = λ k. node environment (tree_as clauses_node (slice_index_or es (k.0).0 no_entry));
   id = λ d. d.0;
   name = λ s. s.0;
   generics = λ n. length (variances_at items n);
@@ -93,7 +107,8 @@ form_sort (branches_form cs) = branches_node
 form_sort (alternatives_form ps) = alternatives_node
 form_sort (predicates_form ps) = predicates_node
 form_sort (bound_vars_form xs) = bound_vars_node
-form_sort environment_form = environment_node
+form_sort (predicate_form f) = predicate_node
+form_sort (clauses_form cs) = clauses_node
 
 -- The tree of a form.
 abbrev pub form_tree : Meaning NodeKey ItemId SymbolId → Form → Tree
@@ -108,7 +123,8 @@ form_tree m (branches_form cs) = list_tree m.const_ cs
 form_tree m (alternatives_form ps) = list_tree m.pat ps
 form_tree m (predicates_form ps) = list_tree (object_predicate_tree m) ps
 form_tree m (bound_vars_form xs) = bind (bound_kinds m xs) nil
-form_tree m environment_form = node environment nil
+form_tree m (predicate_form f) = predicate_tree m f
+form_tree m (clauses_form cs) = list_tree m.clause cs
 
 -- The entry of a form.
 abbrev pub entry_at : Meaning NodeKey ItemId SymbolId → Form → Entry

@@ -12,7 +12,7 @@ use Rattle.reference_interner.specs.declared.keys.SymbolId.{SymbolId}
 use Rattle.reference_interner.specs.declared.items.Item.{Item}
 use Rattle.reference_interner.specs.declared.node.Node.{Node}
 use Rattle.reference_interner.specs.Nodes.{NodeSort, ty_node, region_node, const_node, valtree_node, args_node}
-use Rattle.reference_interner.specs.Nodes.{tys_node, branches_node, environment_node, pat_node, alternatives_node}
+use Rattle.reference_interner.specs.Nodes.{tys_node, branches_node, pat_node, alternatives_node, predicate_node, clauses_node}
 use Rattle.reference_interner.specs.Nodes.{predicates_node, bound_vars_node, same_sort, shown, kinds_in}
 use Rattle.reference_interner.specs.Nodes.{Entry, no_entry, entry, tree_as, meaning_of, entry_of}
 use Rattle.reference_interner.specs.Nodes.{entries_from, entries, known_entry}
@@ -45,7 +45,8 @@ sort_itself branches_node = refl
 sort_itself alternatives_node = refl
 sort_itself predicates_node = refl
 sort_itself bound_vars_node = refl
-sort_itself environment_node = refl
+sort_itself predicate_node = refl
+sort_itself clauses_node = refl
 
 -- An entry that reads as known, at a sort, is one of that sort.
 pub of_sort : (s : NodeSort) (e : Entry) → IsTrue (known (tree_as s e)) → e ≡ entry s (tree_as s e)
@@ -60,7 +61,8 @@ of_sort branches_node (entry branches_node t) k = refl
 of_sort alternatives_node (entry alternatives_node t) k = refl
 of_sort predicates_node (entry predicates_node t) k = refl
 of_sort bound_vars_node (entry bound_vars_node (bind ks nil)) k = refl
-of_sort environment_node (entry environment_node t) k = refl
+of_sort predicate_node (entry predicate_node t) k = refl
+of_sort clauses_node (entry clauses_node t) k = refl
 of_sort s e k = absurd (false≢true k)
 
 -- A tree reads as one of its entry's sort.
@@ -98,7 +100,8 @@ tree_of_key branches_node m i = m.branches (record { 0 = record { 0 = i } })
 tree_of_key alternatives_node m i = m.alternatives (record { 0 = record { 0 = i } })
 tree_of_key predicates_node m i = m.existential_predicates (record { 0 = record { 0 = i } })
 tree_of_key bound_vars_node m i = under (m.bound_vars (record { 0 = record { 0 = i } })) nil
-tree_of_key environment_node m i = m.param_env (record { 0 = record { 0 = i } })
+tree_of_key predicate_node m i = m.predicate (record { 0 = record { 0 = i } })
+tree_of_key clauses_node m i = m.clauses (record { 0 = record { 0 = i } })
 
 -- A key of the number, of some sort, is known.
 abbrev pub HasKey : Meaning NodeKey ItemId SymbolId → ℕ → Type 0
@@ -119,4 +122,5 @@ key_reads items es branches_node i = refl
 key_reads items es alternatives_node i = refl
 key_reads items es predicates_node i = refl
 key_reads items es bound_vars_node i = list_as (get_or es i no_entry)
-key_reads items es environment_node i = refl
+key_reads items es predicate_node i = refl
+key_reads items es clauses_node i = refl

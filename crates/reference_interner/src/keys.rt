@@ -1,4 +1,6 @@
 //! The representations of the reference interner: all are numbers.
+use crate::RefInterner;
+use relation_terms::terms::Keys;
 
 /// The number of a node.
 #[derive(Clone, Copy, PartialEq, Eq, Hash, Debug)]
@@ -15,3 +17,13 @@ pub struct SymbolId(pub usize);
 /// The place of what has none.
 #[derive(Clone, Copy, PartialEq, Eq, Hash)]
 pub struct NoSpan;
+
+impl Keys for RefInterner {
+    type Key = NodeKey;
+
+    type Id = ItemId;
+
+    type Name = SymbolId;
+
+    type Span = NoSpan;
+}

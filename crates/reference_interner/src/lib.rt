@@ -3,7 +3,6 @@
 
 ghost use Rattle.std.specs.Prelude.{◌≡◌, ◌≤◌, suc, IsTrue, IfOk, OnErr};
 ghost use Rattle.std.specs.HashMap.{get};
-ghost use Rattle.reference_interner.specs.Empty.{KnowsNone};
 ghost use Rattle.reference_interner.specs.Nodes.{AllKnown, AllDistinct};
 ghost use Rattle.reference_interner.specs.Finding.{Finds};
 
@@ -16,13 +15,14 @@ pub use items::{DefKind, GenericParam, GenericParamKind, Item, ItemKind};
 pub use keys::{ItemId, NoSpan, NodeKey, SymbolId};
 pub use node::Node;
 use node::copied;
-use relation_terms::predicate::ObjectPredicate;
+use relation_terms::predicate::{ClauseForm, ObjectPredicate, PredicateForm, PredicateKind};
 use relation_terms::terms::{
-    Alternatives, AlternativesKey, ArgsKey, BoundVariable, BoundVars, BoundVarsKey, Branches,
-    BranchesKey, Const, ConstForm, ConstKey, ExistentialPredicates, ExistentialPredicatesKey,
-    GenericArg, GenericArgs, Interner, ItemOf, Keys, OutOfMemory, ParamEnv, ParamEnvKey, Pat,
-    PatKey, PatternForm, Region, RegionForm, RegionKey, Span, Ty, TyForm, TyKey, Tys, TysKey,
-    ValTree, ValTreeForm, ValTreeKey, Variance,
+    Alternatives, AlternativesKey, ArgsKey, Binder, BoundVariable, BoundVars, BoundVarsKey,
+    Branches, BranchesKey, Clause, ClauseKey, Clauses, ClausesKey, Const, ConstForm, ConstKey,
+    ExistentialPredicates, ExistentialPredicatesKey, GenericArg, GenericArgs, Interner, ItemOf,
+    OutOfMemory, ParamEnv, ParamEnvKey, Pat, PatKey, PatternForm, Predicate, PredicateKey, Region,
+    RegionForm, RegionKey, Span, Ty, TyForm, TyKey, Tys, TysKey, ValTree, ValTreeForm, ValTreeKey,
+    Variance,
 };
 use std::alloc::Global;
 use std::collections::HashMap;
@@ -43,49 +43,25 @@ pub struct RefInterner {
     ghost finds: { Finds nodes.items (get ⟦<Node as PartialEq>⟧.eq places) },
 }
 
-impl RefInterner {
-    ghost use Rattle.reference_interner.specs.Adding.{item_count, node_count};
-
-    /// An interner that knows no key and has no item. This takes no memory.
-    pub fn new(alloc: Global) -> RefInterner
-        ensures knows_none { KnowsNone (⟦<RefInterner as Interner>⟧.meaning result) }
-        ensures no_items { item_count result ≡ 0 }
-        ensures no_nodes { node_count result ≡ 0 }
-    {
-        RefInterner {
-            alloc,
-            nodes: Vec::new(alloc),
-            places: HashMap::new(alloc),
-            items: Vec::new(alloc),
-        }
-    }
-}
-
-impl Keys for RefInterner {
-    type Key = NodeKey;
-
-    type Id = ItemId;
-
-    type Name = SymbolId;
-
-    type Span = NoSpan;
-}
-
 impl Interner for RefInterner {
     ghost use Rattle.relation_terms.specs.Heads.{environment};
     ghost use Rattle.relation_terms.specs.Trees.{known, list_tree, node, nil};
     ghost use Rattle.relation_terms.specs.Meaning.{Extends, kind_tree, region_tree, const_tree, valtree_tree, arg_tree};
     ghost use Rattle.relation_terms.specs.Meaning.{pattern_tree, object_predicate_tree};
+    ghost use Rattle.relation_terms.specs.Predicates.{predicate_tree, clause_tree};
+    ghost use Rattle.relation_terms.specs.Interning.{RemakesPredicate, RemakesClause, MakesClauses, KeepsClauses};
+    ghost use Rattle.relation_terms.specs.Interning.{RemakesEnv};
     ghost use Rattle.relation_terms.specs.Interning.{RemakesTy, RemakesRegion, RemakesConst, RemakesValTree};
     ghost use Rattle.relation_terms.specs.Interning.{RemakesEmptyEnv, MakesTys, MakesArgs, MakesBranches};
     ghost use Rattle.relation_terms.specs.Interning.{KeepsTys, KeepsArgs, KeepsBranches};
     ghost use Rattle.relation_terms.specs.Interning.{RemakesPat, MakesAlternatives, KeepsAlternatives};
     ghost use Rattle.relation_terms.specs.Interning.{MakesPredicates, KeepsPredicates, MakesBoundVars, KeepsBoundVars};
     ghost use Rattle.reference_interner.specs.Nodes.{ty_node, region_node, const_node, valtree_node, args_node};
-    ghost use Rattle.reference_interner.specs.Nodes.{tys_node, branches_node, environment_node};
+    ghost use Rattle.reference_interner.specs.Nodes.{tys_node, branches_node, clauses_node, predicate_node};
     ghost use Rattle.reference_interner.specs.Nodes.{pat_node, alternatives_node, predicates_node};
     ghost use Rattle.reference_interner.specs.Adding.{meaning_in, node_count};
     ghost use Rattle.reference_interner.specs.Laws.{sort_law, same_law, same_kinds_law, same_name_law, same_id_law};
+    ghost use Rattle.reference_interner.specs.Laws.{same_clause_law, same_env_law, clause_law, env_law};
 
     ghost meaning = { λ s. meaning_in s };
 
@@ -175,6 +151,43 @@ impl Interner for RefInterner {
             Node::BoundVars(list) => list.as_slice(),
             _ => unreachable!(),
         }
+    }
+
+    fn predicate_kind(&self, predicate: &Predicate<Self>) -> PredicateForm<Self> {
+        match &self.nodes[predicate.0.0] {
+            Node::Predicate(kind) => *kind,
+            _ => unreachable!(),
+        }
+    }
+
+    fn clause_kind(&self, clause: &Clause<Self>) -> ClauseForm<Self> {
+        let Binder { value, bound_vars } = self.predicate_kind(&PredicateKey(clause.0));
+        match value {
+            PredicateKind::Clause(value) => Binder { value, bound_vars },
+            _ => unreachable!(),
+        }
+    }
+
+    fn clause_as_predicate(&self, clause: &Clause<Self>) -> Predicate<Self> {
+        PredicateKey(clause.0)
+    }
+
+    fn predicate_as_clause(&self, predicate: &Predicate<Self>) -> Option<Clause<Self>> {
+        match self.predicate_kind(predicate).value {
+            PredicateKind::Clause(_) => Some(ClauseKey(predicate.0)),
+            _ => None,
+        }
+    }
+
+    fn clauses(&self, clauses: &Clauses<Self>) -> &[Clause<Self>] {
+        match &self.nodes[clauses.0.0] {
+            Node::Clauses(list) => list.as_slice(),
+            _ => unreachable!(),
+        }
+    }
+
+    fn caller_bounds(&self, param_env: &ParamEnv<Self>) -> Clauses<Self> {
+        ClausesKey(param_env.0)
     }
 
     fn generics_count(&self, def_id: &ItemOf<Self>) -> usize {
@@ -343,6 +356,62 @@ impl Interner for RefInterner {
         Ok(BoundVarsKey(number))
     }
 
+    fn mk_predicate(&mut self, kind: PredicateForm<Self>) -> Result<Predicate<Self>, OutOfMemory>
+        requires { IsTrue (known (predicate_tree (meaning_in self.old) kind)) }
+        ensures grown { Extends (meaning_in self.old) (meaning_in self.new) }
+        ensures sure { IfOk result (λ k. IsTrue (known ((meaning_in self.new).predicate k))) }
+        ensures made { IfOk result (λ k. (meaning_in self.new).predicate k ≡ predicate_tree (meaning_in self.old) kind) }
+        ensures refused { OnErr result (meaning_in self.new ≡ meaning_in self.old) }
+        ensures there { RemakesPredicate (meaning_in self.old) (meaning_in self.new) kind result }
+        ensures one_more { node_count self.new ≤ suc (node_count self.old) }
+    {
+        let number = self.add(Node::Predicate(kind))?;
+        Ok(PredicateKey(number))
+    }
+
+    fn mk_clause(&mut self, kind: ClauseForm<Self>) -> Result<Clause<Self>, OutOfMemory>
+        requires { IsTrue (known (clause_tree (meaning_in self.old) kind)) }
+        ensures grown { Extends (meaning_in self.old) (meaning_in self.new) }
+        ensures sure { IfOk result (λ k. IsTrue (known ((meaning_in self.new).clause k))) }
+        ensures made { IfOk result (λ k. (meaning_in self.new).clause k ≡ clause_tree (meaning_in self.old) kind) }
+        ensures refused { OnErr result (meaning_in self.new ≡ meaning_in self.old) }
+        ensures there { RemakesClause (meaning_in self.old) (meaning_in self.new) kind result }
+        ensures one_more { node_count self.new ≤ suc (node_count self.old) }
+    {
+        let number = self.add(Node::Predicate(Binder {
+            value: PredicateKind::Clause(kind.value),
+            bound_vars: kind.bound_vars,
+        }))?;
+        Ok(ClauseKey(number))
+    }
+
+    fn mk_clauses(&mut self, clauses: &[Clause<Self>]) -> Result<Clauses<Self>, OutOfMemory>
+        requires { IsTrue (known (list_tree (meaning_in self.old).clause clauses.now)) }
+        ensures grown { Extends (meaning_in self.old) (meaning_in self.new) }
+        ensures sure { IfOk result (λ k. IsTrue (known ((meaning_in self.new).clauses k))) }
+        ensures made { MakesClauses (meaning_in self.old) (meaning_in self.new) clauses.now result }
+        ensures refused { OnErr result (meaning_in self.new ≡ meaning_in self.old) }
+        ensures there { KeepsClauses (meaning_in self.old) (meaning_in self.new) clauses.now }
+        ensures one_more { node_count self.new ≤ suc (node_count self.old) }
+    {
+        let list = copied(self.alloc, clauses)?;
+        let number = self.add(Node::Clauses(list))?;
+        Ok(ClausesKey(number))
+    }
+
+    fn mk_param_env(&mut self, clauses: Clauses<Self>) -> Result<ParamEnv<Self>, OutOfMemory>
+        requires { IsTrue (known ((meaning_in self.old).clauses clauses)) }
+        ensures grown { Extends (meaning_in self.old) (meaning_in self.new) }
+        ensures sure { IfOk result (λ k. IsTrue (known ((meaning_in self.new).param_env k))) }
+        ensures made { let list = (meaning_in self.old).clauses clauses in
+            IfOk result (λ k. (meaning_in self.new).param_env k ≡ node environment list) }
+        ensures refused { OnErr result (meaning_in self.new ≡ meaning_in self.old) }
+        ensures there { RemakesEnv (meaning_in self.old) (meaning_in self.new) clauses result }
+        ensures no_more { node_count self.new ≡ node_count self.old }
+    {
+        Ok(ParamEnvKey(clauses.0))
+    }
+
     fn empty_param_env(&mut self) -> Result<ParamEnv<Self>, OutOfMemory>
         ensures grown { Extends (meaning_in self.old) (meaning_in self.new) }
         ensures sure { IfOk result (λ k. IsTrue (known ((meaning_in self.new).param_env k))) }
@@ -351,7 +420,7 @@ impl Interner for RefInterner {
         ensures there { RemakesEmptyEnv (meaning_in self.old) (meaning_in self.new) result }
         ensures one_more { node_count self.new ≤ suc (node_count self.old) }
     {
-        let number = self.add(Node::ParamEnv)?;
+        let number = self.add(Node::Clauses(Vec::new(self.alloc)))?;
         Ok(ParamEnvKey(number))
     }
 
@@ -379,8 +448,13 @@ impl Interner for RefInterner {
 
     ghost same_bound_vars = { λ a k l. same_kinds_law a.items.items a.nodes.items a.distinct (k.0).0 (l.0).0 };
 
-    ghost same_param_env = { λ a k l.
-        same_law a.items.items a.nodes.items a.distinct environment_node (k.0).0 (l.0).0 };
+    ghost same_predicate = { λ a k l. same_law a.items.items a.nodes.items a.distinct predicate_node (k.0).0 (l.0).0 };
+
+    ghost same_clause = { λ a k l. same_clause_law a.items.items a.nodes.items a.distinct (k.0).0 (l.0).0 };
+
+    ghost same_clauses = { λ a k l. same_law a.items.items a.nodes.items a.distinct clauses_node (k.0).0 (l.0).0 };
+
+    ghost same_param_env = { λ a k l. same_env_law a.items.items a.nodes.items a.distinct (k.0).0 (l.0).0 };
 
     ghost same_name = { λ a. same_name_law a.items.items a.nodes.items };
 
@@ -406,5 +480,11 @@ impl Interner for RefInterner {
 
     ghost are_existential_predicates = { λ a k. sort_law a.items.items a.nodes.items predicates_node (k.0).0 };
 
-    ghost is_param_env = { λ a k. sort_law a.items.items a.nodes.items environment_node (k.0).0 };
+    ghost is_predicate = { λ a k. sort_law a.items.items a.nodes.items predicate_node (k.0).0 };
+
+    ghost is_clause = { λ a k. clause_law a.items.items a.nodes.items (k.0).0 };
+
+    ghost are_clauses = { λ a k. sort_law a.items.items a.nodes.items clauses_node (k.0).0 };
+
+    ghost is_param_env = { λ a k. env_law a.items.items a.nodes.items (k.0).0 };
 }

@@ -3,9 +3,9 @@ ghost use Rattle.std.specs.Prelude.{◌≡◌, IfOk};
 ghost use Rattle.reference_interner.specs.Forms.{form_of};
 
 use crate::{ItemId, NodeKey, SymbolId};
-use relation_terms::predicate::ExistentialPredicate;
+use relation_terms::predicate::{ExistentialPredicate, PredicateKind};
 use relation_terms::terms::{
-    Binder, BoundVariableKind, ConstKey, ConstKind, GenericArgKind, OutOfMemory, PatKey,
+    Binder, BoundVariableKind, ClauseKey, ConstKey, ConstKind, GenericArgKind, OutOfMemory, PatKey,
     PatternKind, RegionKind, TyKey, TyKind, ValTreeKind,
 };
 use std::alloc::Global;
@@ -35,8 +35,10 @@ pub enum Node {
     ExistentialPredicates(Vec<Binder<NodeKey, ExistentialPredicate<NodeKey, ItemId>>>),
     /// A list of a binder's variables.
     BoundVars(Vec<BoundVariableKind<SymbolId>>),
-    /// The environment without clauses.
-    ParamEnv,
+    /// A predicate under its binder. A clause is a predicate.
+    Predicate(Binder<NodeKey, PredicateKind<NodeKey, ItemId, SymbolId>>),
+    /// A list of clauses, or the environment of these.
+    Clauses(Vec<ClauseKey<NodeKey>>),
 }
 
 // The same values, in memory of their own.
@@ -69,6 +71,7 @@ pub fn copied_node(alloc: Global, node: &Node) -> Result<Node, OutOfMemory>
             list.as_slice(),
         )?)),
         Node::BoundVars(list) => Ok(Node::BoundVars(copied(alloc, list.as_slice())?)),
-        Node::ParamEnv => Ok(Node::ParamEnv),
+        Node::Predicate(kind) => Ok(Node::Predicate(*kind)),
+        Node::Clauses(list) => Ok(Node::Clauses(copied(alloc, list.as_slice())?)),
     }
 }

@@ -1,17 +1,34 @@
-//! The table of nodes: how one is found by its form, and how one is added.
+//! The table of nodes: an empty one, how a node is found by its form, and how one is added.
 ghost use Rattle.std.specs.Prelude.{◌≡◌, ◌<◌, ◌≤◌, ◌↔◌, ◌⊎◌, ℕ, suc, [], ◌∷◌, ◌++◌, MatchOption};
 ghost use Rattle.std.specs.Prelude.{IsTrue, IfOk, IsOk, OnOk, OnErr};
 ghost use Rattle.relation_terms.specs.Trees.{known};
 ghost use Rattle.reference_interner.specs.Nodes.{entry_of, known_entry, table_meaning, StandsAt};
 ghost use Rattle.reference_interner.specs.Finding.{Lacks, HasAt};
 ghost use Rattle.reference_interner.specs.Places.{HasKey};
-ghost use Rattle.reference_interner.specs.Adding.{meaning_in, node_count};
+ghost use Rattle.reference_interner.specs.Adding.{meaning_in, node_count, item_count};
+ghost use Rattle.reference_interner.specs.Empty.{KnowsNone};
 
 use crate::node::copied_node;
 use crate::{Node, NodeKey, RefInterner};
-use relation_terms::terms::OutOfMemory;
+use relation_terms::terms::{Interner, OutOfMemory};
+use std::alloc::Global;
+use std::collections::HashMap;
 
 impl RefInterner {
+    /// An interner that knows no key and has no item. This takes no memory.
+    pub fn new(alloc: Global) -> RefInterner
+        ensures knows_none { KnowsNone (⟦<RefInterner as Interner>⟧.meaning result) }
+        ensures no_items { item_count result ≡ 0 }
+        ensures no_nodes { node_count result ≡ 0 }
+    {
+        RefInterner {
+            alloc,
+            nodes: Vec::new(alloc),
+            places: HashMap::new(alloc),
+            items: Vec::new(alloc),
+        }
+    }
+
     /// How many nodes there are, of all sorts: types, regions, constants, value trees, patterns, lists and
     /// environments. They are numbered from zero, and each is one key's. This takes no memory.
     pub fn nodes(&self) -> usize

@@ -7,3 +7,5 @@ pub mod Members
 pub mod Parts
 pub mod Orders
 pub mod Same
+pub mod Predicates
+pub mod Clauses

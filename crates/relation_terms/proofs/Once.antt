@@ -316,7 +316,7 @@ module _ {Key Id Name : Type 0} (m : Meaning Key Id Name) (j : Injective m) wher
       (ap₂ (λ x y. (x, y)) safety abi) in
       ap₂ (λ t x. record { inputs_and_output = t; header = x }) types header
 
-  term_once : Sorted m → (a b : TermKind Key) → IsTrue (known (term_tree m a)) → term_tree m a ≡ term_tree m b → a ≡ b
+  pub term_once : Sorted m → (a b : TermKind Key) → IsTrue (known (term_tree m a)) → term_tree m a ≡ term_tree m b → a ≡ b
   term_once s (TyTerm t) (TyTerm u) k e = ap (λ x. TyTerm x) (j.ty t u k e)
   term_once s (ConstTerm c) (ConstTerm d) k e = ap (λ x. ConstTerm x) (j.const_ c d k e)
   term_once s (TyTerm t) (ConstTerm c) k e =

@@ -79,7 +79,7 @@ list_sorted s f h (x ∷ xs) k =
     (h x p.0, list_sorted s f h xs p.1)
 
 -- A region, a type or a constant is an argument.
-widen : (s u : Sort) → ((x : Sort) → Admits s x → Admits u x) → (t : Tree) → IsTerm s t → IsTerm u t
+pub widen : (s u : Sort) → ((x : Sort) → Admits s x → Admits u x) → (t : Tree) → IsTerm s t → IsTerm u t
 widen s u f (leaf l) h = f (leaf_sort l) h
 widen s u f (node x ts) h = (f (head_sort x) h.0, h.1)
 widen s u f t h = absurd h

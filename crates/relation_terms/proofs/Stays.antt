@@ -17,6 +17,9 @@ use Rattle.relation_terms.specs.declared.terms.keys.ConstKey.{ConstKey}
 use Rattle.relation_terms.specs.declared.terms.keys.ArgsKey.{ArgsKey}
 use Rattle.relation_terms.specs.declared.terms.keys.ValTreeKey.{ValTreeKey}
 use Rattle.relation_terms.specs.declared.terms.keys.BranchesKey.{BranchesKey}
+use Rattle.relation_terms.specs.declared.terms.keys.PredicateKey.{PredicateKey}
+use Rattle.relation_terms.specs.declared.terms.keys.ClauseKey.{ClauseKey}
+use Rattle.relation_terms.specs.declared.terms.keys.ClausesKey.{ClausesKey}
 use Rattle.relation_terms.specs.declared.terms.keys.ParamEnvKey.{ParamEnvKey}
 use Rattle.relation_terms.specs.declared.terms.keys.PatKey.{PatKey}
 use Rattle.relation_terms.specs.declared.terms.keys.AlternativesKey.{AlternativesKey}
@@ -76,6 +79,7 @@ stays_same m = record {
   bound_vars = λ k h. refl;
   predicate = λ k h. refl;
   clause = λ k h. refl;
+  clauses = λ k h. refl;
   param_env = λ k h. refl;
   id = λ k. refl;
   name = λ k. refl;
@@ -107,6 +111,7 @@ module _ {Key Id Name : Type 0} {m n o : Meaning Key Id Name} where
     bound_vars = λ k h. f.bound_vars k (subst (λ x. IsSome x) (sym (e.bound_vars k h)) h) ∙ e.bound_vars k h;
     predicate = λ k. on m.predicate n.predicate o.predicate k (e.predicate k) (f.predicate k);
     clause = λ k. on m.clause n.clause o.clause k (e.clause k) (f.clause k);
+    clauses = λ k. on m.clauses n.clauses o.clauses k (e.clauses k) (f.clauses k);
     param_env = λ k. on m.param_env n.param_env o.param_env k (e.param_env k) (f.param_env k);
     id = λ d. f.id d ∙ e.id d;
     name = λ s. f.name s ∙ e.name s;
@@ -144,6 +149,15 @@ module _ {Key Id Name : Type 0} {m n : Meaning Key Id Name} (e : Extends m n) wh
   pub knows_alternatives : (k : AlternativesKey Key) → IsTrue (known (m.alternatives k)) →
       IsTrue (known (n.alternatives k))
   knows_alternatives k h = knows_as (m.alternatives k) (n.alternatives k) (e.alternatives k h) h
+
+  pub knows_predicate : (k : PredicateKey Key) → IsTrue (known (m.predicate k)) → IsTrue (known (n.predicate k))
+  knows_predicate k h = knows_as (m.predicate k) (n.predicate k) (e.predicate k h) h
+
+  pub knows_clause : (k : ClauseKey Key) → IsTrue (known (m.clause k)) → IsTrue (known (n.clause k))
+  knows_clause k h = knows_as (m.clause k) (n.clause k) (e.clause k h) h
+
+  pub knows_clauses : (k : ClausesKey Key) → IsTrue (known (m.clauses k)) → IsTrue (known (n.clauses k))
+  knows_clauses k h = knows_as (m.clauses k) (n.clauses k) (e.clauses k h) h
 
   pub knows_param_env : (k : ParamEnvKey Key) → IsTrue (known (m.param_env k)) → IsTrue (known (n.param_env k))
   knows_param_env k h = knows_as (m.param_env k) (n.param_env k) (e.param_env k h) h

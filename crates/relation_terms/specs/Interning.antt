@@ -1,10 +1,13 @@
 -- What making and reading keys promise, sort by sort.
-use Rattle.std.specs.Prelude.{◌≡◌, ◌↔◌, Bool, IsTrue, IsOk, IfOk, Result, List, [], ℕ, Option, Some, IsSome}
-use Rattle.relation_terms.specs.Trees.{Tree, node, nil, known, list_tree, Fits, IsTerm, AreTerms}
-use Rattle.relation_terms.specs.Heads.{Sort, environment, BoundKind, row, binder_of}
+use Rattle.std.specs.Prelude.{◌≡◌, ◌↔◌, Bool, IsTrue, IsOk, IfOk, Result, List, [], ℕ, Option, Some, IsSome, MatchOption}
+use Rattle.relation_terms.specs.Trees.{Tree, node, nil, known, list_tree, Fits, IsTerm, AreTerms, IsBinder}
+use Rattle.relation_terms.specs.Heads.{Sort, clause_sort, environment, BoundKind, row, binder_of}
 use Rattle.relation_terms.specs.Meaning.{Meaning, kind_tree, region_tree, const_tree, valtree_tree, arg_tree}
 use Rattle.relation_terms.specs.Meaning.{pattern_tree, object_predicate_tree, bound_kinds}
+use Rattle.relation_terms.specs.Predicates.{predicate_tree, clause_tree}
 use Rattle.relation_terms.specs.declared.predicate.ExistentialPredicate.{ExistentialPredicate}
+use Rattle.relation_terms.specs.declared.predicate.kinds.ClauseKind.{ClauseKind}
+use Rattle.relation_terms.specs.declared.predicate.kinds.PredicateKind.{PredicateKind}
 use Rattle.relation_terms.specs.declared.terms.binder.Binder.{Binder}
 use Rattle.relation_terms.specs.declared.terms.binder.BoundVariableKind.{BoundVariableKind}
 use Rattle.relation_terms.specs.declared.terms.keys.ExistentialPredicatesKey.{ExistentialPredicatesKey}
@@ -18,6 +21,9 @@ use Rattle.relation_terms.specs.declared.terms.keys.ValTreeKey.{ValTreeKey}
 use Rattle.relation_terms.specs.declared.terms.keys.BranchesKey.{BranchesKey}
 use Rattle.relation_terms.specs.declared.terms.keys.PatKey.{PatKey}
 use Rattle.relation_terms.specs.declared.terms.keys.AlternativesKey.{AlternativesKey}
+use Rattle.relation_terms.specs.declared.terms.keys.PredicateKey.{PredicateKey}
+use Rattle.relation_terms.specs.declared.terms.keys.ClauseKey.{ClauseKey}
+use Rattle.relation_terms.specs.declared.terms.keys.ClausesKey.{ClausesKey}
 use Rattle.relation_terms.specs.declared.terms.keys.ParamEnvKey.{ParamEnvKey}
 use Rattle.relation_terms.specs.declared.terms.pattern_kind.PatternKind.{PatternKind}
 use Rattle.relation_terms.specs.declared.terms.ty_kind.TyKind.{TyKind}
@@ -43,6 +49,10 @@ IsOfSort {K} tree sort = (k : K) → IsTrue (known (tree k)) → IsTerm sort (tr
 abbrev pub AreOfSort : {K : Type 0} → (K → Tree) → Sort → Type 0
 AreOfSort {K} tree sort = (k : K) → IsTrue (known (tree k)) → AreTerms sort (tree k)
 
+-- The tree of a known key is a binder over a term of a sort.
+abbrev pub IsBinderOf : {K : Type 0} → (K → Tree) → Sort → Type 0
+IsBinderOf {K} tree sort = (k : K) → IsTrue (known (tree k)) → IsBinder sort (tree k)
+
 -- The list of a known key is one of binders over terms of a sort.
 abbrev pub AreBindersOf : {K : Type 0} → (K → Tree) → Sort → Type 0
 AreBindersOf {K} tree sort = (k : K) → IsTrue (known (tree k)) → Fits (row [] (Some (binder_of sort))) (tree k)
@@ -50,6 +60,11 @@ AreBindersOf {K} tree sort = (k : K) → IsTrue (known (tree k)) → Fits (row [
 -- Ids and names are equal exactly where their numbers are.
 abbrev pub AreEqualAsNumbers : {N : Type 0} → (N → ℕ) → (N → N → Bool) → Type 0
 AreEqualAsNumbers {N} number eq = (x y : N) → (IsTrue (eq x y) ↔ (number x ≡ number y))
+
+-- What is found of a predicate is the clause that it is, and nothing where it is none.
+abbrev pub FindsClause : {Key Id Name : Type 0} → Meaning Key Id Name → PredicateKey Key → Option (ClauseKey Key) →
+    Type 0
+FindsClause m p found = MatchOption found (IsBinder clause_sort (m.predicate p) → ⊥) (λ c. m.clause c ≡ m.predicate p)
 
 -- Where a key of a tree is there already, it is made again, without growth and without fail.
 abbrev pub IsMadeAgain : {Key Id Name K X E : Type 0} → Meaning Key Id Name → Meaning Key Id Name → (K → Tree) → Tree →
@@ -78,6 +93,16 @@ module _ {Key Id Name E : Type 0} (before after : Meaning Key Id Name) where
   abbrev pub RemakesPat : PatternKind Key → Result (PatKey Key) E → Type 0
   RemakesPat form result = IsMadeAgain before after before.pat (pattern_tree before form) result
 
+  -- The same of predicates and clauses, by their forms, and of an environment by the list of its clauses.
+  abbrev pub RemakesPredicate : Binder Key (PredicateKind Key Id Name) → Result (PredicateKey Key) E → Type 0
+  RemakesPredicate form result = IsMadeAgain before after before.predicate (predicate_tree before form) result
+
+  abbrev pub RemakesClause : Binder Key (ClauseKind Key Id Name) → Result (ClauseKey Key) E → Type 0
+  RemakesClause form result = IsMadeAgain before after before.clause (clause_tree before form) result
+
+  abbrev pub RemakesEnv : ClausesKey Key → Result (ParamEnvKey Key) E → Type 0
+  RemakesEnv list result = IsMadeAgain before after before.param_env (node environment (before.clauses list)) result
+
   -- The same of the environment without clauses.
   abbrev pub RemakesEmptyEnv : Result (ParamEnvKey Key) E → Type 0
   RemakesEmptyEnv result = IsMadeAgain before after before.param_env (node environment nil) result
@@ -100,6 +125,9 @@ module _ {Key Id Name E : Type 0} (before after : Meaning Key Id Name) where
   MakesPredicates list result =
       IfOk result (λ k. after.existential_predicates k ≡ list_tree (object_predicate_tree before) list)
 
+  abbrev pub MakesClauses : List (ClauseKey Key) → Result (ClausesKey Key) E → Type 0
+  MakesClauses list result = IfOk result (λ k. after.clauses k ≡ list_tree before.clause list)
+
   abbrev pub MakesBoundVars : List (BoundVariableKind Name) → Result (BoundVarsKey Key) E → Type 0
   MakesBoundVars list result = IfOk result (λ k. after.bound_vars k ≡ Some (bound_kinds before list))
 
@@ -120,6 +148,9 @@ module _ {Key Id Name : Type 0} (before after : Meaning Key Id Name) where
   abbrev pub KeepsPredicates : List (Binder Key (ExistentialPredicate Key Id)) → Type 0
   KeepsPredicates list =
       IsNotMadeAgain before after before.existential_predicates (list_tree (object_predicate_tree before) list)
+
+  abbrev pub KeepsClauses : List (ClauseKey Key) → Type 0
+  KeepsClauses list = IsNotMadeAgain before after before.clauses (list_tree before.clause list)
 
   abbrev pub KeepsBoundVars : List (BoundVariableKind Name) → Type 0
   KeepsBoundVars list = (k : BoundVarsKey Key) → before.bound_vars k ≡ Some (bound_kinds before list) → after ≡ before

@@ -2,6 +2,8 @@ pub mod Heads
 pub mod Trees
 pub mod Variances
 pub mod Meaning
+pub mod Predicates
+pub mod Clauses
 pub mod Interning
 pub mod Erasure
 pub mod Parts

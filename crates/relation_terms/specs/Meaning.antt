@@ -27,6 +27,7 @@ use Rattle.relation_terms.specs.declared.terms.keys.ExistentialPredicatesKey.{Ex
 use Rattle.relation_terms.specs.declared.terms.keys.BoundVarsKey.{BoundVarsKey}
 use Rattle.relation_terms.specs.declared.terms.keys.PredicateKey.{PredicateKey}
 use Rattle.relation_terms.specs.declared.terms.keys.ClauseKey.{ClauseKey}
+use Rattle.relation_terms.specs.declared.terms.keys.ClausesKey.{ClausesKey}
 use Rattle.relation_terms.specs.declared.terms.keys.ParamEnvKey.{ParamEnvKey}
 use Rattle.relation_terms.specs.declared.terms.placeholder.Placeholder.{Placeholder}
 use Rattle.relation_terms.specs.declared.terms.numbers.DebruijnIndex.{DebruijnIndex}
@@ -95,6 +96,7 @@ pub record Meaning (Key Id Name : Type 0) : Type 0 where
   pub bound_vars : BoundVarsKey Key → Option (List BoundKind)
   pub predicate : PredicateKey Key → Tree
   pub clause : ClauseKey Key → Tree
+  pub clauses : ClausesKey Key → Tree
   pub param_env : ParamEnvKey Key → Tree
   pub id : Id → ℕ
   pub name : Name → ℕ
@@ -118,6 +120,7 @@ pub record Extends {Key Id Name : Type 0} (m n : Meaning Key Id Name) : Type 0 w
   pub bound_vars : (k : BoundVarsKey Key) → IsSome (m.bound_vars k) → n.bound_vars k ≡ m.bound_vars k
   pub predicate : (k : PredicateKey Key) → IsTrue (known (m.predicate k)) → n.predicate k ≡ m.predicate k
   pub clause : (k : ClauseKey Key) → IsTrue (known (m.clause k)) → n.clause k ≡ m.clause k
+  pub clauses : (k : ClausesKey Key) → IsTrue (known (m.clauses k)) → n.clauses k ≡ m.clauses k
   pub param_env : (k : ParamEnvKey Key) → IsTrue (known (m.param_env k)) → n.param_env k ≡ m.param_env k
   pub id : (d : Id) → n.id d ≡ m.id d
   pub name : (s : Name) → n.name s ≡ m.name s

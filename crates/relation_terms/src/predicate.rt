@@ -1,7 +1,19 @@
 //! Predicates.
+
+mod alias_term;
+mod kinds;
+mod trait_clause;
+mod trait_ref;
+
 use crate::terms::{
     ArgsKey, Binder, GenericArgKind, Keys, RegionKey, TermKind, TraitAssocTermId, TraitId,
 };
+pub use alias_term::{AliasTerm, AliasTermKind, NormalizesTo, ProjectionPredicate};
+pub use kinds::{
+    ClauseForm, ClauseKind, CoercePredicate, PredicateForm, PredicateKind, SubtypePredicate,
+};
+pub use trait_clause::as_trait_clause;
+pub use trait_ref::{HostEffectPredicate, TraitPredicate, TraitRef};
 
 /// The first outlives the second.
 #[derive(Clone, Copy, PartialEq, Eq, Hash)]

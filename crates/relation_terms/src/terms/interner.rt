@@ -2,7 +2,7 @@
 ghost use Rattle.std.specs.Prelude.{◌≡◌, IsTrue, IfOk, OnErr, Some, IsSome};
 ghost use Rattle.relation_terms.specs.Heads.{type_sort, region_sort, const_sort, value_sort, argument_sort};
 ghost use Rattle.relation_terms.specs.Heads.{pattern_sort, existential_sort};
-ghost use Rattle.relation_terms.specs.Heads.{environment, environment_sort};
+ghost use Rattle.relation_terms.specs.Heads.{environment, environment_sort, predicate_sort, clause_sort};
 ghost use Rattle.relation_terms.specs.Trees.{known, list_tree, node, nil};
 ghost use Rattle.relation_terms.specs.Meaning.{Meaning, Extends, kind_tree, region_tree, const_tree, valtree_tree};
 ghost use Rattle.relation_terms.specs.Meaning.{arg_tree, pattern_tree, object_predicate_tree, bound_kinds};
@@ -12,12 +12,15 @@ ghost use Rattle.relation_terms.specs.Interning.{RemakesPat, MakesAlternatives, 
 ghost use Rattle.relation_terms.specs.Interning.{MakesTys, MakesArgs, MakesBranches, KeepsTys, KeepsArgs};
 ghost use Rattle.relation_terms.specs.Interning.{KeepsBranches, MakesPredicates, KeepsPredicates, MakesBoundVars};
 ghost use Rattle.relation_terms.specs.Interning.{KeepsBoundVars, AreEqualAsKinds, AreBindersOf};
+ghost use Rattle.relation_terms.specs.Predicates.{predicate_tree, clause_tree};
+ghost use Rattle.relation_terms.specs.Interning.{FindsClause, RemakesPredicate, RemakesClause, MakesClauses};
+ghost use Rattle.relation_terms.specs.Interning.{KeepsClauses, RemakesEnv, IsBinderOf};
 
-use crate::predicate::ObjectPredicate;
+use crate::predicate::{ClauseForm, ObjectPredicate, PredicateForm};
 use crate::terms::{
-    Alternatives, BoundVariable, BoundVars, Branches, Const, ConstForm, ExistentialPredicates,
-    GenericArg, GenericArgs, ItemOf, Keys, ParamEnv, Pat, PatternForm, Region, RegionForm, Span,
-    Ty, TyForm, Tys, ValTree, ValTreeForm, Variance,
+    Alternatives, BoundVariable, BoundVars, Branches, Clause, Clauses, Const, ConstForm,
+    ExistentialPredicates, GenericArg, GenericArgs, ItemOf, Keys, ParamEnv, Pat, PatternForm,
+    Predicate, Region, RegionForm, Span, Ty, TyForm, Tys, ValTree, ValTreeForm, Variance,
 };
 use std::alloc::{AllocError, AllocFailed, Global};
 
@@ -109,6 +112,37 @@ pub trait Interner: Keys {
     fn bound_vars(&self, bound_vars: &BoundVars<Self>) -> &[BoundVariable<Self>]
         requires { IsSome ((meaning self.now).bound_vars bound_vars.now) }
         ensures { (meaning self.now).bound_vars bound_vars.now ≡ Some (bound_kinds (meaning self.now) result.now) };
+
+    /// The outermost form of a predicate, under its binder.
+    fn predicate_kind(&self, predicate: &Predicate<Self>) -> PredicateForm<Self>
+        requires { IsTrue (known ((meaning self.now).predicate predicate.now)) }
+        ensures { (meaning self.now).predicate predicate.now ≡ predicate_tree (meaning self.now) result };
+
+    /// The outermost form of a clause, under its binder.
+    fn clause_kind(&self, clause: &Clause<Self>) -> ClauseForm<Self>
+        requires { IsTrue (known ((meaning self.now).clause clause.now)) }
+        ensures { (meaning self.now).clause clause.now ≡ clause_tree (meaning self.now) result };
+
+    /// The predicate that a clause is.
+    fn clause_as_predicate(&self, clause: &Clause<Self>) -> Predicate<Self>
+        requires { IsTrue (known ((meaning self.now).clause clause.now)) }
+        ensures { (meaning self.now).predicate result ≡ (meaning self.now).clause clause.now };
+
+    /// The clause that a predicate is, and `None` exactly where it is none.
+    fn predicate_as_clause(&self, predicate: &Predicate<Self>) -> Option<Clause<Self>>
+        requires { IsTrue (known ((meaning self.now).predicate predicate.now)) }
+        ensures { FindsClause (meaning self.now) predicate.now result };
+
+    /// The clauses of a list.
+    fn clauses(&self, clauses: &Clauses<Self>) -> &[Clause<Self>]
+        requires { IsTrue (known ((meaning self.now).clauses clauses.now)) }
+        ensures { (meaning self.now).clauses clauses.now ≡ list_tree (meaning self.now).clause result.now };
+
+    /// The list of an environment's clauses.
+    fn caller_bounds(&self, param_env: &ParamEnv<Self>) -> Clauses<Self>
+        requires { IsTrue (known ((meaning self.now).param_env param_env.now)) }
+        ensures { let list = (meaning self.now).clauses result in
+            (meaning self.now).param_env param_env.now ≡ node environment list };
 
     /// How many generic parameters an item has.
     fn generics_count(&self, def_id: &ItemOf<Self>) -> usize
@@ -223,6 +257,43 @@ pub trait Interner: Keys {
         ensures refused { OnErr result (meaning self.new ≡ meaning self.old) }
         ensures there { KeepsBoundVars (meaning self.old) (meaning self.new) bound_vars.now };
 
+    /// The predicate of an outermost form under a binder.
+    fn mk_predicate(&mut self, kind: PredicateForm<Self>) -> Result<Predicate<Self>, OutOfMemory>
+        requires { IsTrue (known (predicate_tree (meaning self.old) kind)) }
+        ensures grown { Extends (meaning self.old) (meaning self.new) }
+        ensures sure { IfOk result (λ k. IsTrue (known ((meaning self.new).predicate k))) }
+        ensures made { IfOk result (λ k. (meaning self.new).predicate k ≡ predicate_tree (meaning self.old) kind) }
+        ensures refused { OnErr result (meaning self.new ≡ meaning self.old) }
+        ensures there { RemakesPredicate (meaning self.old) (meaning self.new) kind result };
+
+    /// The clause of an outermost form under a binder.
+    fn mk_clause(&mut self, kind: ClauseForm<Self>) -> Result<Clause<Self>, OutOfMemory>
+        requires { IsTrue (known (clause_tree (meaning self.old) kind)) }
+        ensures grown { Extends (meaning self.old) (meaning self.new) }
+        ensures sure { IfOk result (λ k. IsTrue (known ((meaning self.new).clause k))) }
+        ensures made { IfOk result (λ k. (meaning self.new).clause k ≡ clause_tree (meaning self.old) kind) }
+        ensures refused { OnErr result (meaning self.new ≡ meaning self.old) }
+        ensures there { RemakesClause (meaning self.old) (meaning self.new) kind result };
+
+    /// The list of clauses.
+    fn mk_clauses(&mut self, clauses: &[Clause<Self>]) -> Result<Clauses<Self>, OutOfMemory>
+        requires { IsTrue (known (list_tree (meaning self.old).clause clauses.now)) }
+        ensures grown { Extends (meaning self.old) (meaning self.new) }
+        ensures sure { IfOk result (λ k. IsTrue (known ((meaning self.new).clauses k))) }
+        ensures made { MakesClauses (meaning self.old) (meaning self.new) clauses.now result }
+        ensures refused { OnErr result (meaning self.new ≡ meaning self.old) }
+        ensures there { KeepsClauses (meaning self.old) (meaning self.new) clauses.now };
+
+    /// The environment of a list of clauses.
+    fn mk_param_env(&mut self, clauses: Clauses<Self>) -> Result<ParamEnv<Self>, OutOfMemory>
+        requires { IsTrue (known ((meaning self.old).clauses clauses)) }
+        ensures grown { Extends (meaning self.old) (meaning self.new) }
+        ensures sure { IfOk result (λ k. IsTrue (known ((meaning self.new).param_env k))) }
+        ensures made { let list = (meaning self.old).clauses clauses in
+            IfOk result (λ k. (meaning self.new).param_env k ≡ node environment list) }
+        ensures refused { OnErr result (meaning self.new ≡ meaning self.old) }
+        ensures there { RemakesEnv (meaning self.old) (meaning self.new) clauses result };
+
     /// The environment without clauses.
     fn empty_param_env(&mut self) -> Result<ParamEnv<Self>, OutOfMemory>
         ensures grown { Extends (meaning self.old) (meaning self.new) }
@@ -255,6 +326,12 @@ pub trait Interner: Keys {
 
     ghost same_bound_vars: { (a : Self) → AreEqualAsKinds (meaning a).bound_vars (λ k l. Self.Key.eq k.0 l.0) };
 
+    ghost same_predicate: { (a : Self) → AreEqualAsTrees (meaning a).predicate (λ k l. Self.Key.eq k.0 l.0) };
+
+    ghost same_clause: { (a : Self) → AreEqualAsTrees (meaning a).clause (λ k l. Self.Key.eq k.0 l.0) };
+
+    ghost same_clauses: { (a : Self) → AreEqualAsTrees (meaning a).clauses (λ k l. Self.Key.eq k.0 l.0) };
+
     ghost same_param_env: { (a : Self) → AreEqualAsTrees (meaning a).param_env (λ k l. Self.Key.eq k.0 l.0) };
 
     // Names are equal exactly where their numbers are.
@@ -283,6 +360,12 @@ pub trait Interner: Keys {
     ghost are_alternatives: { (a : Self) → AreOfSort (meaning a).alternatives pattern_sort };
 
     ghost are_existential_predicates: { (a : Self) → AreBindersOf (meaning a).existential_predicates existential_sort };
+
+    ghost is_predicate: { (a : Self) → IsBinderOf (meaning a).predicate predicate_sort };
+
+    ghost is_clause: { (a : Self) → IsBinderOf (meaning a).clause clause_sort };
+
+    ghost are_clauses: { (a : Self) → AreBindersOf (meaning a).clauses clause_sort };
 
     ghost is_param_env: { (a : Self) → IsOfSort (meaning a).param_env environment_sort };
 }

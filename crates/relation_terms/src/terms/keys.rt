@@ -71,6 +71,10 @@ pub struct PredicateKey<X>(pub X);
 #[derive(Clone, Copy, PartialEq, Eq, Hash)]
 pub struct ClauseKey<X>(pub X);
 
+/// The key of a list of clauses.
+#[derive(Clone, Copy, PartialEq, Eq, Hash)]
+pub struct ClausesKey<X>(pub X);
+
 /// The key of an environment, the list of clauses that are taken to hold.
 #[derive(Clone, Copy, PartialEq, Eq, Hash)]
 pub struct ParamEnvKey<X>(pub X);
@@ -110,6 +114,12 @@ pub type BoundVars<I> = BoundVarsKey<<I as Keys>::Key>;
 
 /// A predicate of an interner.
 pub type Predicate<I> = PredicateKey<<I as Keys>::Key>;
+
+/// A clause of an interner.
+pub type Clause<I> = ClauseKey<<I as Keys>::Key>;
+
+/// A list of clauses of an interner.
+pub type Clauses<I> = ClausesKey<<I as Keys>::Key>;
 
 /// An environment of an interner.
 pub type ParamEnv<I> = ParamEnvKey<<I as Keys>::Key>;

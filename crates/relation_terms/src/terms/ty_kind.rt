@@ -66,6 +66,21 @@ pub enum InferTy {
     FreshFloatTy(u32),
 }
 
+/// What is known of a variable for an integer type.
+#[derive(Clone, Copy, PartialEq, Eq, Hash)]
+pub enum IntVarValue {
+    Unknown,
+    IntType(IntTy),
+    UintType(UintTy),
+}
+
+/// What is known of a variable for a float type.
+#[derive(Clone, Copy, PartialEq, Eq, Hash)]
+pub enum FloatVarValue {
+    Unknown,
+    Known(FloatTy),
+}
+
 /// The outermost form of an interner's type.
 pub type TyForm<I> = TyKind<<I as Keys>::Key, <I as Keys>::Id, <I as Keys>::Name>;
 

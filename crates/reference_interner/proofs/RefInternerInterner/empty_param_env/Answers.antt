@@ -1,10 +1,12 @@
-use Rattle.std.proofs.Common.{ap, subst, sym, refl, IsTrue}
+use Rattle.std.proofs.Common.{◌≡◌, ◌∙◌, ap, subst, sym, refl, IsTrue}
 use Rattle.std.proofs.lemmas.Bool.{false≢true}
 use Rattle.relation_terms.specs.Heads.{environment}
-use Rattle.relation_terms.specs.Trees.{known, node, nil}
-use Rattle.reference_interner.specs.Nodes.{environment_node}
-use Rattle.reference_interner.specs.declared.node.Node.TheVariants.{ParamEnv}
-use Rattle.reference_interner.proofs.OnceLemmas.{grows, made, stands, same_meaning}
+use Rattle.relation_terms.specs.Trees.{known, node, nil, list_tree}
+use Rattle.reference_interner.specs.Nodes.{clauses_node, table_meaning}
+use Rattle.reference_interner.specs.Laws.{env_reads}
+use Rattle.reference_interner.specs.declared.node.Node.TheVariants.{Clauses}
+use Rattle.reference_interner.proofs.ClauseLemmas.{env_stands}
+use Rattle.reference_interner.proofs.OnceLemmas.{grows, made, same_meaning}
 use Rattle.reference_interner.proofs.RefInternerInterner.empty_param_env.Goals as goal
 
 pub returns-clause-grown : goal.returns-clause-grown
@@ -13,15 +15,20 @@ returns-clause-grown c =
     let ns = c.args.self.now.nodes.items in
     let more = c.add.new.self.items.items in
     let ms = c.add.new.self.nodes.items in
-    grows items ns more ms ParamEnv
+    grows items ns more ms (Clauses c.new.result)
     (ap (λ v. v.items) c.in_ok-number.ensures.items) c.in_ok-number.ensures.added
 
 pub returns-clause-made : goal.returns-clause-made
 returns-clause-made c =
+    let items = c.args.self.now.items.items in
+    let ns = c.args.self.now.nodes.items in
     let more = c.add.new.self.items.items in
     let ms = c.add.new.self.nodes.items in
-    made more ms environment_node (node environment nil)
-    (c.in_ok-number.number).0 c.in_ok-number.ensures.number
+    let read = list_tree (table_meaning items ns).clause in
+    let i = (c.in_ok-number.number).0 in
+    env_reads more ms i ∙
+    ap (node environment) (made more ms clauses_node (read c.new.result.items) i c.in_ok-number.ensures.number ∙
+    ap read c.new.ensures.items)
 
 pub returns-clause-sure : goal.returns-clause-sure
 returns-clause-sure c = subst (λ t. IsTrue (known t)) (sym (returns-clause-made c)) refl
@@ -32,9 +39,11 @@ returns-clause-there c =
     let ns = c.args.self.now.nodes.items in
     let more = c.add.new.self.items.items in
     let ms = c.add.new.self.nodes.items in
+    let read = list_tree (table_meaning items ns).clause in
+    let same : read c.new.result.items ≡ nil = ap read c.new.ensures.items in
+    let sure : IsTrue (known (read c.new.result.items)) = subst (λ t. IsTrue (known t)) (sym same) refl in
     λ k e.
-    let at = stands items ns environment_node (node environment nil)
-    (k.0).0 refl e in (
+    let at = env_stands items ns (k.0).0 (read c.new.result.items) sure (e ∙ ap (node environment) (sym same)) in (
       refl,
       same_meaning items ns more ms (ap (λ v. v.items) c.in_ok-number.ensures.items)
           (c.in_ok-number.ensures.there (k.0).0 at).1,
@@ -44,7 +53,9 @@ pub returns-in_err-number-clause-there : goal.returns-in_err-number-clause-there
 returns-in_err-number-clause-there c =
     let items = c.args.self.now.items.items in
     let ns = c.args.self.now.nodes.items in
+    let read = list_tree (table_meaning items ns).clause in
+    let same : read c.new.result.items ≡ nil = ap read c.new.ensures.items in
+    let sure : IsTrue (known (read c.new.result.items)) = subst (λ t. IsTrue (known t)) (sym same) refl in
     λ k e.
-    let at = stands items ns environment_node (node environment nil)
-    (k.0).0 refl e in
+    let at = env_stands items ns (k.0).0 (read c.new.result.items) sure (e ∙ ap (node environment) (sym same)) in
     absurd (false≢true (c.in_err-number.ensures.there (k.0).0 at).0)

@@ -1,0 +1,52 @@
+use Rattle.std.proofs.Common.{ap, subst, sym, refl, IsTrue}
+use Rattle.std.proofs.lemmas.Bool.{false≢true}
+use Rattle.relation_terms.specs.Trees.{known}
+use Rattle.relation_terms.specs.Predicates.{predicate_tree}
+use Rattle.reference_interner.specs.Nodes.{predicate_node, table_meaning}
+use Rattle.reference_interner.specs.declared.node.Node.TheVariants.{Predicate}
+use Rattle.reference_interner.proofs.OnceLemmas.{grows, made, stands, same_meaning}
+use Rattle.reference_interner.proofs.RefInternerInterner.mk_predicate.Goals as goal
+
+pub returns-clause-grown : goal.returns-clause-grown
+returns-clause-grown c =
+    let items = c.args.self.now.items.items in
+    let ns = c.args.self.now.nodes.items in
+    let more = c.add.new.self.items.items in
+    let ms = c.add.new.self.nodes.items in
+    grows items ns more ms (Predicate c.args.kind)
+    (ap (λ v. v.items) c.in_ok-number.ensures.items) c.in_ok-number.ensures.added
+
+pub returns-clause-made : goal.returns-clause-made
+returns-clause-made c =
+    let items = c.args.self.now.items.items in
+    let ns = c.args.self.now.nodes.items in
+    let more = c.add.new.self.items.items in
+    let ms = c.add.new.self.nodes.items in
+    made more ms predicate_node (predicate_tree (table_meaning items ns) c.args.kind)
+    (c.in_ok-number.number).0 c.in_ok-number.ensures.number
+
+pub returns-clause-sure : goal.returns-clause-sure
+returns-clause-sure c = subst (λ t. IsTrue (known t)) (sym (returns-clause-made c)) c.requires
+
+pub returns-clause-there : goal.returns-clause-there
+returns-clause-there c =
+    let items = c.args.self.now.items.items in
+    let ns = c.args.self.now.nodes.items in
+    let more = c.add.new.self.items.items in
+    let ms = c.add.new.self.nodes.items in
+    λ k e.
+    let at = stands items ns predicate_node (predicate_tree (table_meaning items ns) c.args.kind)
+    (k.0).0 c.requires e in (
+      refl,
+      same_meaning items ns more ms (ap (λ v. v.items) c.in_ok-number.ensures.items)
+          (c.in_ok-number.ensures.there (k.0).0 at).1,
+    )
+
+pub returns-in_err-number-clause-there : goal.returns-in_err-number-clause-there
+returns-in_err-number-clause-there c =
+    let items = c.args.self.now.items.items in
+    let ns = c.args.self.now.nodes.items in
+    λ k e.
+    let at = stands items ns predicate_node (predicate_tree (table_meaning items ns) c.args.kind)
+    (k.0).0 c.requires e in
+    absurd (false≢true (c.in_err-number.ensures.there (k.0).0 at).0)
