@@ -150,9 +150,18 @@ fn wrong_names_are_told(rt: HostRuntime) -> Result<(), Fail> {
             "1:1: expected a question before this, found none",
         ),
         (
-            "visit ^0;",
-            "1:7: expected a name that is known, found `^0`",
+            "visit fn(^0);",
+            "1:10: expected a name that is known, found `^0`",
         ),
+        (
+            "visit fn(^18446744073709551615.0);",
+            "1:10: the number is too large",
+        ),
+        (
+            "visit [u8; ^1.0];",
+            "1:12: expected a constant, found a type",
+        ),
+        ("rigid '^0;", "1:7: expected a type, found a region"),
         (
             "visit for<'a, 'a> fn();",
             "1:15: expected a new name, found `'a`",

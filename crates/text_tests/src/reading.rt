@@ -165,6 +165,11 @@ fn binders_are_read(rt: HostRuntime) -> Result<(), Fail> {
         all.as_str(),
         "file(visit(fn-ptr(bound('a ^1 ^c2) ref('a ^1) T) terms() terms()))"
     );
+    let all = shown(rt.alloc(), "visit &'^0 mut (^1.0, [^2; ^c3.4], '^5.6);")?;
+    assert_eq!(rt;
+        all.as_str(),
+        "file(visit(ref('^0 tuple(^1.0 array(^2 ^c3.4) '^5.6)) terms() terms()))"
+    );
     let text = "fn f; fn() == unsafe<'a,> fn(T,); extern \"system\" fn(..) <: T; extern type F;";
     let all = shown(rt.alloc(), text)?;
     assert_eq!(rt;
@@ -205,6 +210,13 @@ fn wrong_texts_are_refused(rt: HostRuntime) -> Result<(), Fail> {
         ("visit '!1;", "1:8: no word begins here"),
         ("visit ?i;", "1:9: no word begins here"),
         ("visit ^x;", "1:8: no word begins here"),
+        ("visit ^1.;", "1:9: no word begins here"),
+        ("visit '^;", "1:9: no word begins here"),
+        ("visit &^0 T;", "1:8: expected a region, found `^0`"),
+        (
+            "visit for<^0.0> fn();",
+            "1:11: expected a variable of a binder, found `^0.0`",
+        ),
         ("struct for;", "1:8: expected a name, found `for`"),
         (
             "visit for<T> fn();",

@@ -57,38 +57,83 @@ impl<'a> Namer<'a> {
         Ok(())
     }
 
+    // The binder that the node of that number stands in, if it stands in one.
+    fn scope_of(&self, number: usize) -> Option<usize> {
+        self.scopes.get(number).copied().unwrap_or(None)
+    }
+
     // What binds the name of that node, the nearest binder first: how many binders stand between, and the place.
     fn binder_of(&self, number: usize, name: &'a str) -> Option<(u64, usize)> {
-        let mut scope = *self.scopes.get(number)?;
+        let mut scope = self.scope_of(number);
         for depth in 0..self.scopes.len() {
             let binder = scope?;
             if let Some(place) = self.bound.get(&(binder, name)) {
                 return Some((depth as u64, *place));
             }
-            scope = *self.scopes.get(binder)?;
+            scope = self.scope_of(binder);
         }
         None
     }
 
-    // What a binder binds, with so many binders between.
+    // What a binder binds under that name, with so many binders between.
     fn bound_at(
         &mut self,
         node: &Node,
         leaf: Leaf,
         depth: u64,
         place: usize,
+        name: &'a str,
     ) -> Result<Made, NameError> {
-        let text = self.text_of(node)?;
-        let name = self.name(text)?;
+        let name = self.name(name)?;
         let (term, sort) = match leaf {
-            Leaf::Lifetime => (Term::RegionBound(depth, place, name), Sort::Region),
-            Leaf::BoundConst => (Term::ConstBound(depth, place, name), Sort::Const),
+            Leaf::Lifetime | Leaf::OuterRegion { .. } => {
+                (Term::RegionBound(depth, place, name), Sort::Region)
+            }
+            Leaf::BoundConst | Leaf::OuterConst { .. } => {
+                (Term::ConstBound(depth, place, name), Sort::Const)
+            }
             _ => (Term::TyBound(depth, place, name), Sort::Type),
         };
         self.add(node, term, sort, 0)
     }
 
-    // What a name stands for that a binder gives, if one does.
+    // How many binders the node of that number stands in.
+    fn binders_around(&self, number: usize) -> u64 {
+        let mut scope = self.scope_of(number);
+        for count in 0..self.scopes.len() {
+            match scope {
+                None => return count as u64,
+                Some(binder) => scope = self.scope_of(binder),
+            }
+        }
+        self.scopes.len() as u64
+    }
+
+    // What a binder outside the term binds, with so many binders between that and the term's outermost. Its place
+    // stands from `behind` on, and names it.
+    pub fn outer(
+        &mut self,
+        node: &Node,
+        number: usize,
+        leaf: Leaf,
+        depth: usize,
+        behind: usize,
+    ) -> Result<Made, NameError> {
+        let text = self.text;
+        let Some(digits) = text.get(behind..node.end) else {
+            return Err(error_at(node, Wrong::NotRead));
+        };
+        let (Ok(place), Some(depth)) = (
+            digits.parse::<usize>(),
+            self.binders_around(number).checked_add(depth as u64),
+        ) else {
+            return Err(error_at(node, Wrong::TooLarge));
+        };
+        self.bound_at(node, leaf, depth, place, digits)
+    }
+
+    // What a name stands for that a binder gives, if one does; a type or a constant in no binder stands for the one of
+    // its place that the nearest binder outside the term binds.
     pub fn bound_leaf(
         &mut self,
         node: &Node,
@@ -96,10 +141,18 @@ impl<'a> Namer<'a> {
         leaf: Leaf,
     ) -> Result<Option<Made>, NameError> {
         let name = self.text_of(node)?;
-        match self.binder_of(number, name) {
-            None => Ok(None),
-            Some((depth, place)) => Ok(Some(self.bound_at(node, leaf, depth, place)?)),
+        if let Some((depth, place)) = self.binder_of(number, name) {
+            return Ok(Some(self.bound_at(node, leaf, depth, place, name)?));
         }
+        let behind = match leaf {
+            Leaf::BoundTy => node.start.saturating_add(1),
+            Leaf::BoundConst => node.start.saturating_add(2),
+            _ => return Ok(None),
+        };
+        if self.scope_of(number).is_some() {
+            return Ok(None);
+        }
+        Ok(Some(self.outer(node, number, leaf, 0, behind)?))
     }
 
     // What a binder binds, each as it stands right under the binder, as a list of parts.
@@ -112,7 +165,8 @@ impl<'a> Namer<'a> {
             let NodeKind::Leaf(leaf) = name.kind else {
                 return Err(error_at(&name, Wrong::NotRead));
             };
-            let made = self.bound_at(&name, leaf, 0, place)?;
+            let text = self.text_of(&name)?;
+            let made = self.bound_at(&name, leaf, 0, place, text)?;
             self.program.parts.push(made.number)?;
         }
         let behind = self.program.parts.len();

@@ -227,6 +227,9 @@ impl<'a> Namer<'a> {
             Leaf::Lifetime | Leaf::BoundTy | Leaf::BoundConst => {
                 self.named_or_bound(node, place, leaf)
             }
+            Leaf::OuterTy { depth, behind }
+            | Leaf::OuterConst { depth, behind }
+            | Leaf::OuterRegion { depth, behind } => self.outer(node, place, leaf, depth, behind),
             Leaf::Number { value, behind } => self.number(node, value, behind),
             Leaf::TyVar(number) => self.variable(node, number, Term::TyVar(number), Sort::Type),
             Leaf::IntVar(number) => self.variable(node, number, Term::IntVar(number), Sort::Type),

@@ -31,6 +31,7 @@ fn admits(expected: Expected, leaf: Leaf) -> bool {
         (Expected::Region, Leaf::Lifetime) => true,
         (Expected::Region, Leaf::RegionVar(_)) => true,
         (Expected::Region, Leaf::RegionPlaceholder { .. }) => true,
+        (Expected::Region, Leaf::OuterRegion { .. }) => true,
         (Expected::Variable, Leaf::TyVar(_)) => true,
         (Expected::Variable, Leaf::RegionVar(_)) => true,
         (Expected::Parameter, Leaf::Name) => true,

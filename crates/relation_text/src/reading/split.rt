@@ -1,5 +1,5 @@
 //! How a text is split into words.
-ghost use Rattle.std.specs.Prelude.{◌≡◌, ◌<◌, ◌≤◌, true, false, IfOk, IfErr, length, drop};
+ghost use Rattle.std.specs.Prelude.{◌≡◌, ◌<◌, ◌≤◌, true, false, IfSome, IfOk, IfErr, length, drop};
 ghost use Rattle.relation_text.specs.Words.{skip, AreWordsOf, EachLies};
 ghost use Rattle.relation_text.specs.Errors.{LiesIn};
 
@@ -130,7 +130,36 @@ fn universe_at(text: &[u8], at: usize) -> Result<(usize, usize, usize), ReadErro
     Ok((universe, behind, end))
 }
 
-// A lifetime, or a region that is a variable or a placeholder.
+// The place behind a `.`, if digits stand behind one: where they begin, and where they end.
+fn place_at(text: &[u8], at: usize) -> Result<Option<(usize, usize)>, ReadError>
+    requires { at ≤ length text.now }
+    ensures behind { IfOk result (λ o. IfSome o (λ p. at < p.1)) }
+    ensures within { IfOk result (λ o. IfSome o (λ p. p.1 ≤ length text.now)) }
+    ensures wrong { IfErr result (LiesIn (length text.now)) }
+{
+    if at + 1 >= text.len() || text[at] != b'.' || !text[at + 1].is_ascii_digit() {
+        return Ok(None);
+    }
+    let (_, end) = index_at(text, at + 1)?;
+    Ok(Some((at + 1, end)))
+}
+
+// A region that a binder outside the term binds, whose `^` is at `at`.
+fn outer_region_at(text: &[u8], at: usize) -> Result<(WordKind, usize), ReadError>
+    requires { at < length text.now }
+    ensures behind { IfOk result (λ w. at < w.1) }
+    ensures within { IfOk result (λ w. w.1 ≤ length text.now) }
+    ensures wrong { IfErr result (LiesIn (length text.now)) }
+{
+    let (number, end) = index_at(text, at + 1)?;
+    let (depth, behind, end) = match place_at(text, end)? {
+        Some((place, end)) => (number, place, end),
+        None => (0, at + 1, end),
+    };
+    Ok((WordKind::Leaf(Leaf::OuterRegion { depth, behind }), end))
+}
+
+// A lifetime, or a region that is a variable, a placeholder, or bound outside the term.
 fn region_at(text: &[u8], at: usize) -> Result<(WordKind, usize), ReadError>
     requires { at < length text.now }
     ensures behind { IfOk result (λ w. at < w.1) }
@@ -146,6 +175,9 @@ fn region_at(text: &[u8], at: usize) -> Result<(WordKind, usize), ReadError>
         let (universe, behind, end) = universe_at(text, next)?;
         let leaf = Leaf::RegionPlaceholder { universe, behind };
         return Ok((WordKind::Leaf(leaf), end));
+    }
+    if next < text.len() && text[next] == b'^' {
+        return outer_region_at(text, next);
     }
     let end = name_end(text, next);
     if end == next {
@@ -196,7 +228,8 @@ fn variable_at(text: &[u8], at: usize) -> Result<(WordKind, usize), ReadError>
     Ok((WordKind::Leaf(Leaf::TyVar(number)), end))
 }
 
-// A type that a binder binds, or a constant, whose number stands behind a `c`.
+// A type that a binder binds, or a constant, whose number stands behind a `c`: by the name that the binder gives it, or
+// by how many binders stand between and its place.
 fn bound_at(text: &[u8], at: usize) -> Result<(WordKind, usize), ReadError>
     requires { at < length text.now }
     ensures behind { IfOk result (λ w. at < w.1) }
@@ -204,12 +237,15 @@ fn bound_at(text: &[u8], at: usize) -> Result<(WordKind, usize), ReadError>
     ensures wrong { IfErr result (LiesIn (length text.now)) }
 {
     let next = at + 1;
-    if next < text.len() && text[next] == b'c' {
-        let (_, end) = index_at(text, next + 1)?;
-        return Ok((WordKind::Leaf(Leaf::BoundConst), end));
-    }
-    let (_, end) = index_at(text, next)?;
-    Ok((WordKind::Leaf(Leaf::BoundTy), end))
+    let constant = next < text.len() && text[next] == b'c';
+    let (depth, end) = index_at(text, if constant { next + 1 } else { next })?;
+    let (leaf, end) = match place_at(text, end)? {
+        Some((behind, end)) if constant => (Leaf::OuterConst { depth, behind }, end),
+        Some((behind, end)) => (Leaf::OuterTy { depth, behind }, end),
+        None if constant => (Leaf::BoundConst, end),
+        None => (Leaf::BoundTy, end),
+    };
+    Ok((WordKind::Leaf(leaf), end))
 }
 
 // A calling convention in quotes.

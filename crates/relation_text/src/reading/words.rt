@@ -10,6 +10,11 @@ pub enum Leaf {
     /// A type that a binder binds, by the name that the binder gives it, and a constant.
     BoundTy,
     BoundConst,
+    /// What a binder outside the term binds: a type, a constant or a region, by how many binders stand between. Its place
+    /// in the binder's list stands from `behind` on.
+    OuterTy { depth: usize, behind: usize },
+    OuterConst { depth: usize, behind: usize },
+    OuterRegion { depth: usize, behind: usize },
     /// A number. The type that it is of is named behind its digits, if at all.
     Number { value: u128, behind: usize },
     /// A type variable, by its number.
