@@ -10,8 +10,8 @@ pub enum Leaf {
     /// A type that a binder binds, by the name that the binder gives it, and a constant.
     BoundTy,
     BoundConst,
-    /// What a binder outside the term binds: a type, a constant or a region, by how many binders stand between. Its place
-    /// in the binder's list stands from `behind` on.
+    /// What a binder outside the term binds: a type, a constant or a region, by how many binders stand between. Its
+    /// place in the binder's list stands from `behind` on.
     OuterTy { depth: usize, behind: usize },
     OuterConst { depth: usize, behind: usize },
     OuterRegion { depth: usize, behind: usize },
