@@ -7,3 +7,4 @@ pub mod AlikeLemmas
 pub mod OnceLemmas
 pub mod FindingLemmas
 pub mod ClauseLemmas
+pub mod FlagLemmas

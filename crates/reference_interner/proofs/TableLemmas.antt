@@ -206,7 +206,7 @@ list_under None ks e = absurd (cc)
 -- What a known key reads.
 module _ (items : List Item) (ns : List Node) (s : NodeSort) (i : ℕ)
     (h : IsTrue (known (tree_of_key s (table_meaning items ns) i))) where
-  known_here : IsTrue (known (tree_as s (get_or (entries ns) i no_entry)))
+  pub known_here : IsTrue (known (tree_as s (get_or (entries ns) i no_entry)))
   known_here = subst (λ t. IsTrue (known t)) (key_reads items (entries ns) s i) h
 
   pub key_in : i < length ns

@@ -6,3 +6,4 @@ pub mod Empty
 pub mod Places
 pub mod Laws
 pub mod Adding
+pub mod Flags

@@ -5,7 +5,9 @@ ghost use Rattle.std.specs.Prelude.{◌≡◌, ◌≤◌, suc, IsTrue, IfOk, OnE
 ghost use Rattle.std.specs.HashMap.{get};
 ghost use Rattle.reference_interner.specs.Nodes.{AllKnown, AllDistinct};
 ghost use Rattle.reference_interner.specs.Finding.{Finds};
+ghost use Rattle.reference_interner.specs.Flags.{AreFlags};
 
+mod flags;
 mod items;
 mod keys;
 mod node;
@@ -21,8 +23,8 @@ use relation_terms::terms::{
     Branches, BranchesKey, Clause, ClauseKey, Clauses, ClausesKey, Const, ConstForm, ConstKey,
     ExistentialPredicates, ExistentialPredicatesKey, GenericArg, GenericArgs, Interner, ItemOf,
     OutOfMemory, ParamEnv, ParamEnvKey, Pat, PatKey, PatternForm, Predicate, PredicateKey, Region,
-    RegionForm, RegionKey, Span, Ty, TyForm, TyKey, Tys, TysKey, ValTree, ValTreeForm, ValTreeKey,
-    Variance,
+    RegionForm, RegionKey, Span, Ty, TyForm, TyKey, TypeFlags, Tys, TysKey, ValTree, ValTreeForm,
+    ValTreeKey, Variance,
 };
 use std::alloc::Global;
 use std::collections::HashMap;
@@ -38,9 +40,12 @@ pub struct RefInterner {
     places: HashMap<Node, usize>,
     // What the ids stand for, by their numbers.
     items: Vec<Item>,
+    // What is asked of the nodes' terms as a whole, by the nodes' numbers.
+    flags: Vec<TypeFlags>,
     ghost known_all: { AllKnown nodes.items },
     ghost distinct: { AllDistinct nodes.items },
     ghost finds: { Finds nodes.items (get ⟦<Node as PartialEq>⟧.eq places) },
+    ghost flagged: { AreFlags nodes.items flags.items },
 }
 
 impl Interner for RefInterner {
@@ -99,6 +104,18 @@ impl Interner for RefInterner {
             Node::Const(kind) => *kind,
             _ => unreachable!(),
         }
+    }
+
+    fn ty_flags(&self, ty: &Ty<Self>) -> TypeFlags {
+        self.kept_flags(&ty.0)
+    }
+
+    fn const_flags(&self, constant: &Const<Self>) -> TypeFlags {
+        self.kept_flags(&constant.0)
+    }
+
+    fn pat_flags(&self, pat: &Pat<Self>) -> TypeFlags {
+        self.kept_flags(&pat.0)
     }
 
     fn valtree_kind(&self, valtree: &ValTree<Self>) -> ValTreeForm<Self> {

@@ -26,6 +26,7 @@ impl RefInterner {
             nodes: Vec::new(alloc),
             places: HashMap::new(alloc),
             items: Vec::new(alloc),
+            flags: Vec::new(alloc),
         }
     }
 
@@ -65,7 +66,7 @@ impl RefInterner {
         }
     }
 
-    // The key of a node of a new form, which is put at the end. Both growths come before anything is written.
+    // The key of a node of a new form, which is put at the end. All growths come before anything is written.
     fn put(&mut self, node: Node) -> Result<NodeKey, OutOfMemory>
         requires known { let m = table_meaning self.old.items.items self.old.nodes.items in
             IsTrue (known_entry (entry_of m node)) }
@@ -77,10 +78,13 @@ impl RefInterner {
         ensures items { self.new.items ≡ self.old.items }
     {
         let number = self.nodes.len();
+        let flags = self.node_flags(&node);
         let known = copied_node(self.alloc, &node)?;
         self.nodes.reserve(1)?;
+        self.flags.reserve(1)?;
         self.places.insert(known, number)?;
         self.nodes.push_reserved(node);
+        self.flags.push_reserved(flags);
         Ok(NodeKey(number))
     }
 }

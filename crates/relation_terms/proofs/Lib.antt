@@ -9,3 +9,4 @@ pub mod Orders
 pub mod Same
 pub mod Predicates
 pub mod Clauses
+pub mod Flags

@@ -8,3 +8,4 @@ pub mod Interning
 pub mod Erasure
 pub mod Parts
 pub mod Orders
+pub mod Flags

@@ -18,3 +18,5 @@ pub mod KeysApart
 pub mod Themselves
 pub mod Keying
 pub mod Shifting
+pub mod Positioning
+pub mod Arguments

@@ -4,6 +4,7 @@ pub mod Folds
 pub mod Stacks
 pub mod Places
 pub mod Walking
+pub mod Positions
 pub mod Clashes
 pub mod Outlines
 pub mod Instances

@@ -7,6 +7,7 @@ use Rattle.relation_terms.specs.Heads.{BoundKind}
 use Rattle.relation_terms.specs.Heads.{Atom, type_param, type_error, fresh_type, fresh_int, fresh_float, Head, alias}
 use Rattle.relation_terms.specs.Heads.{Leaf, variable, bound, atom}
 use Rattle.relation_terms.specs.Trees.{Tree, leaf, node, bind, nil, cons}
+use Rattle.relation_terms.specs.Flags.{outer_exclusive_binder, has_non_region_infer}
 use Rattle.relation_terms.specs.Parts.{parts_of}
 use Rattle.relation_terms.specs.Orders.{in_order, order_of}
 use Rattle.relation_terms.specs.declared.terms.part_kind.Part.{Part}
@@ -100,23 +101,16 @@ bound_var_escapes t = has_leaf is_escaping 0 t
 abbrev pub non_region_infer_stands : Tree → Bool
 non_region_infer_stands t = has_leaf is_non_region_infer 0 t
 
--- The tree, with `depth` binders around it, is itself such a leaf.
-abbrev pub found_here : (ℕ → Leaf → Bool) → ℕ → Tree → Bool
-found_here p depth (leaf l) = p depth l
-found_here p depth t = false
+-- A visitor that stops at a tree in which a variable stands that is bound by none of the binders around it, and skips
+-- all else. How many binders the tree needs is a number that there is.
+abbrev pub StopsAtEscaping : {V : Type 0} → V → ℕ → Tree → V → Visit → Type 0
+StopsAtEscaping v depth t w a =
+    (a ≡ cond (nat_lt depth (outer_exclusive_binder t)) Stop Skip) ×
+    IsTrue (nat_lt (outer_exclusive_binder t) 340282366920938463463374607431768211456)
 
--- A visitor that stops at such a leaf and enters all else.
-abbrev pub Searches : {V : Type 0} → (ℕ → Leaf → Bool) → V → ℕ → Tree → V → Visit → Type 0
-Searches p v depth t w a = a ≡ cond (found_here p depth t) Stop Enter
-
--- Where the tree is a bound variable, its index is one that there is a number for.
-abbrev pub is_near : Tree → Bool
-is_near (leaf (bound k d i)) = nat_lt d 18446744073709551616
-is_near t = true
-
--- The same, of a visitor that reads this of each tree that it is asked about.
-abbrev pub SearchesNear : {V : Type 0} → (ℕ → Leaf → Bool) → V → ℕ → Tree → V → Visit → Type 0
-SearchesNear p v depth t w a = (a ≡ cond (found_here p depth t) Stop Enter) × IsTrue (is_near t)
+-- A visitor that stops at a tree in which an inference variable of any kind but region stands, and skips all else.
+abbrev pub StopsAtInfer : {V : Type 0} → V → ℕ → Tree → V → Visit → Type 0
+StopsAtInfer v depth t w a = a ≡ cond (has_non_region_infer t) Stop Skip
 
 -- A form without parts that no instantiation changes into another, and no error.
 abbrev pub rigid_atom : Atom → Bool

@@ -16,6 +16,10 @@ pub record Walk (I Arg : Type 0) : Type 0 where
   pub visited : List Arg
   pub failed : Bool
 
+-- The walk that begins at an argument.
+abbrev pub begun : {I Arg : Type 0} → I → Arg → Walk I Arg
+begun cx root = record { cx = cx; inside = []; after = root ∷ []; visited = []; failed = false }
+
 -- The walk whose stack has these elements, `below` of them below what stands under the argument that was yielded last.
 abbrev pub walk_of : {I Arg : Type 0} → I → List Arg → ℕ → List Arg → Bool → Walk I Arg
 walk_of cx stack below visited failed = record {

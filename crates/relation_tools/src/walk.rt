@@ -8,7 +8,8 @@ ghost use Rattle.relation_terms.specs.Trees.{known};
 ghost use Rattle.relation_terms.specs.Meaning.{arg_tree};
 ghost use Rattle.relation_terms.specs.Parts.{part_of_arg};
 ghost use Rattle.relation_tools.specs.Places.{places_under, all_known, Pushes};
-ghost use Rattle.relation_tools.specs.Walking.{Walk, Pull, first_unseen, Adds};
+ghost use Rattle.relation_tools.specs.Walking.{Walk, Pull, first_unseen, Adds, begun};
+ghost use Rattle.relation_tools.specs.Positions.{ByPlaces};
 
 mod places;
 mod stack;
@@ -95,7 +96,9 @@ impl<'a, I: Interner> TypeWalker<'a, I> {
     /// A walk that begins at an argument, which the interner has to know. It takes no memory.
     pub fn new(cx: &'a I, root: GenericArg<I>) -> Self
         requires { IsTrue (known (arg_tree (I.meaning cx.now) root)) }
-        ensures { result ≡ record { cx = cx.now; inside = []; after = root ∷ []; visited = []; failed = false } }
+        ensures begins { result ≡ begun cx.now root }
+        ensures by_places { ByPlaces (I.meaning cx.now) ⟦<GenericArgKind<I::Key> as PartialEq>⟧.eq result
+            (arg_tree (I.meaning cx.now) root) }
     {
         TypeWalker {
             cx,

@@ -3,6 +3,7 @@ ghost use Rattle.std.specs.Prelude.{◌≡◌, IsTrue, IfOk, OnErr, Some, IsSome
 ghost use Rattle.relation_terms.specs.Heads.{type_sort, region_sort, const_sort, value_sort, argument_sort};
 ghost use Rattle.relation_terms.specs.Heads.{pattern_sort, existential_sort};
 ghost use Rattle.relation_terms.specs.Heads.{environment, environment_sort, predicate_sort, clause_sort};
+ghost use Rattle.relation_terms.specs.Flags.{flags_of};
 ghost use Rattle.relation_terms.specs.Trees.{known, list_tree, node, nil};
 ghost use Rattle.relation_terms.specs.Meaning.{Meaning, Extends, kind_tree, region_tree, const_tree, valtree_tree};
 ghost use Rattle.relation_terms.specs.Meaning.{arg_tree, pattern_tree, object_predicate_tree, bound_kinds};
@@ -20,7 +21,8 @@ use crate::predicate::{ClauseForm, ObjectPredicate, PredicateForm};
 use crate::terms::{
     Alternatives, BoundVariable, BoundVars, Branches, Clause, Clauses, Const, ConstForm,
     ExistentialPredicates, GenericArg, GenericArgs, ItemOf, Keys, ParamEnv, Pat, PatternForm,
-    Predicate, Region, RegionForm, Span, Ty, TyForm, Tys, ValTree, ValTreeForm, Variance,
+    Predicate, Region, RegionForm, Span, Ty, TyForm, TypeFlags, Tys, ValTree, ValTreeForm,
+    Variance,
 };
 use std::alloc::{AllocError, AllocFailed, Global};
 
@@ -73,6 +75,21 @@ pub trait Interner: Keys {
     fn const_kind(&self, constant: &Const<Self>) -> ConstForm<Self>
         requires { IsTrue (known ((meaning self.now).const_ constant.now)) }
         ensures { (meaning self.now).const_ constant.now ≡ const_tree (meaning self.now) result };
+
+    /// What is asked of a type as a whole.
+    fn ty_flags(&self, ty: &Ty<Self>) -> TypeFlags
+        requires { IsTrue (known ((meaning self.now).ty ty.now)) }
+        ensures { result ≡ flags_of ((meaning self.now).ty ty.now) };
+
+    /// What is asked of a constant as a whole.
+    fn const_flags(&self, constant: &Const<Self>) -> TypeFlags
+        requires { IsTrue (known ((meaning self.now).const_ constant.now)) }
+        ensures { result ≡ flags_of ((meaning self.now).const_ constant.now) };
+
+    /// What is asked of a pattern as a whole.
+    fn pat_flags(&self, pat: &Pat<Self>) -> TypeFlags
+        requires { IsTrue (known ((meaning self.now).pat pat.now)) }
+        ensures { result ≡ flags_of ((meaning self.now).pat pat.now) };
 
     /// The outermost form of a value tree.
     fn valtree_kind(&self, valtree: &ValTree<Self>) -> ValTreeForm<Self>

@@ -10,6 +10,7 @@ mod orders;
 mod same;
 mod whole;
 
+pub use forms::{const_parts, existential_parts, pattern_parts, ty_parts, valtree_parts};
 pub use keys::{
     the_alternatives, the_args, the_branches, the_const, the_input_types, the_pat, the_predicates,
     the_region, the_ty, the_tys, the_valtree,

@@ -1,88 +1,77 @@
 //! What is asked about terms as a whole.
-ghost use Rattle.std.specs.Prelude.{◌≡◌, IsTrue, cond, not, nat_lt};
+ghost use Rattle.std.specs.Prelude.{◌≡◌, IsTrue, cond, nat_lt};
 ghost use Rattle.relation_terms.specs.Trees.{known};
 ghost use Rattle.relation_tools.specs.Visits.{bound_var_escapes, non_region_infer_stands, is_rigid};
-ghost use Rattle.relation_tools.specs.declared.visit.Visit.TheVariants.{Enter as VisitEnter, Stop as VisitStop};
+ghost use Rattle.relation_tools.specs.declared.visit.Visit.TheVariants.{Skip as VisitSkip, Stop as VisitStop};
 
 use crate::visit::{TypeVisitable, TypeVisitor, Visit};
-use relation_terms::terms::{
-    Const, ConstKind, DebruijnIndex, InferConst, InferTy, Interner, Region, RegionKind, Ty, TyKind,
-};
+use relation_terms::terms::{Const, Interner, Region, Ty, TyKind, TypeFlags, region_flags};
 
-// Stops at an inference variable that is no region.
+// Stops at a term that an inference variable stands in that is no region, and enters none.
 #[derive(Clone, Copy)]
 struct FindsNonRegionInfer;
 
-impl<I: Interner> TypeVisitor<I> for FindsNonRegionInfer {
-    ghost use Rattle.relation_tools.specs.Visits.{Searches, is_non_region_infer};
+// Whether the visit stops at a term of these flags.
+fn stop_at_infer(flags: &TypeFlags) -> Visit
+    ensures { result ≡ cond (flags.now).has_non_region_infer VisitStop VisitSkip }
+{
+    if flags.has_non_region_infer {
+        Visit::Stop
+    } else {
+        Visit::Skip
+    }
+}
 
-    ghost visits = { λ cx v d t w a. Searches is_non_region_infer v d t w a };
+impl<I: Interner> TypeVisitor<I> for FindsNonRegionInfer {
+    ghost use Rattle.relation_tools.specs.Visits.{StopsAtInfer};
+
+    ghost visits = { λ cx v d t w a. StopsAtInfer v d t w a };
 
     fn visit_ty(&mut self, cx: &I, ty: &Ty<I>, _depth: u128) -> Visit {
-        let kind = cx.ty_kind(ty);
-        match &kind {
-            TyKind::Infer(InferTy::TyVar(_) | InferTy::IntVar(_) | InferTy::FloatVar(_)) =>
-                Visit::Stop,
-            _ => Visit::Enter,
-        }
+        stop_at_infer(&cx.ty_flags(ty))
     }
 
-    fn visit_region(&mut self, _cx: &I, _region: &Region<I>, _depth: u128) -> Visit {
-        Visit::Enter
+    fn visit_region(&mut self, cx: &I, region: &Region<I>, _depth: u128) -> Visit {
+        stop_at_infer(&region_flags(cx, region))
     }
 
     fn visit_const(&mut self, cx: &I, constant: &Const<I>, _depth: u128) -> Visit {
-        let kind = cx.const_kind(constant);
-        match &kind {
-            ConstKind::Infer(InferConst::Var(_)) => Visit::Stop,
-            _ => Visit::Enter,
-        }
+        stop_at_infer(&cx.const_flags(constant))
     }
 }
 
-// Stops where a variable is bound further out than there are binders around it.
-fn stop_at_escaping(index: &DebruijnIndex, depth: u128) -> Visit
-    ensures told { result ≡ cond (not (nat_lt (index.now).0 depth)) VisitStop VisitEnter }
-    ensures near { IsTrue (nat_lt (index.now).0 18446744073709551616) }
-{
-    if u128::from(index.0) < depth {
-        Visit::Enter
-    } else {
-        Visit::Stop
-    }
-}
-
-// Stops at a variable that a binder outside the term binds.
+// Stops at a term in which a variable stands that a binder outside binds, and enters none.
 #[derive(Clone, Copy)]
 struct FindsEscaping;
 
-impl<I: Interner> TypeVisitor<I> for FindsEscaping {
-    ghost use Rattle.relation_tools.specs.Visits.{SearchesNear, is_escaping};
+// Whether the visit stops at a term of these flags under so many binders.
+fn stop_at_escaping(flags: &TypeFlags, depth: u128) -> Visit
+    ensures told { result ≡ cond (nat_lt depth (flags.now).outer_exclusive_binder) VisitStop VisitSkip }
+    ensures near { let binder = (flags.now).outer_exclusive_binder in
+        IsTrue (nat_lt binder 340282366920938463463374607431768211456) }
+{
+    if depth < flags.outer_exclusive_binder {
+        Visit::Stop
+    } else {
+        Visit::Skip
+    }
+}
 
-    ghost visits = { λ cx v d t w a. SearchesNear is_escaping v d t w a };
+impl<I: Interner> TypeVisitor<I> for FindsEscaping {
+    ghost use Rattle.relation_tools.specs.Visits.{StopsAtEscaping};
+
+    ghost visits = { λ cx v d t w a. StopsAtEscaping v d t w a };
 
     fn visit_ty(&mut self, cx: &I, ty: &Ty<I>, depth: u128) -> Visit {
-        let kind = cx.ty_kind(ty);
-        match &kind {
-            TyKind::Bound(index, _) => stop_at_escaping(index, depth),
-            _ => Visit::Enter,
-        }
+        stop_at_escaping(&cx.ty_flags(ty), depth)
     }
 
     fn visit_region(&mut self, cx: &I, region: &Region<I>, depth: u128) -> Visit {
-        let kind = cx.region_kind(region);
-        match &kind {
-            RegionKind::ReBound(index, _) => stop_at_escaping(index, depth),
-            _ => Visit::Enter,
-        }
+        stop_at_escaping(&region_flags(cx, region), depth)
     }
 
     fn visit_const(&mut self, cx: &I, constant: &Const<I>, depth: u128) -> Visit {
-        let kind = cx.const_kind(constant);
-        match &kind {
-            ConstKind::Bound(index, _) => stop_at_escaping(index, depth),
-            _ => Visit::Enter,
-        }
+        stop_at_escaping(&cx.const_flags(constant), depth)
     }
 }
 

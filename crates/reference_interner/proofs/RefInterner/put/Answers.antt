@@ -1,4 +1,4 @@
-use Rattle.std.proofs.Common.{ℕ, ◌≡◌, Option, Some, cond, length, subst, sym, ◌∙◌, ap, ◌++◌, ◌∷◌, []}
+use Rattle.std.proofs.Common.{ℕ, ◌≡◌, Option, Some, cond, length, subst, subst₂, sym, ◌∙◌, ap, ◌++◌, ◌∷◌, []}
 use Rattle.std.specs.HashMap.{get}
 use Rattle.reference_interner.specs.declared.node.Node.{Node}
 use Rattle.reference_interner.specs.Nodes.{AllKnown, AllDistinct}
@@ -7,6 +7,8 @@ use Rattle.reference_interner.proofs.AlikeFormLemmas.{node_eq}
 use Rattle.reference_interner.proofs.ItemLemmas.{same_entry}
 use Rattle.reference_interner.proofs.OnceLemmas.{known_alone, all_known, all_distinct, new_at}
 use Rattle.reference_interner.proofs.FindingLemmas.{finds_more}
+use Rattle.reference_interner.specs.Flags.{AreFlags}
+use Rattle.reference_interner.proofs.FlagLemmas.{flags_more}
 use Rattle.reference_interner.proofs.RefInterner.put.Goals as goal
 
 pub invariant_of-self-2 : goal.invariant_of-self-2
@@ -18,6 +20,10 @@ invariant_of-self-2 c =
     let k = known_alone ns n c.args.self.now.items.items c.requires.known in
     let e : c.push_reserved.new.self.items ≡ ns ++ n ∷ [] =
     c.push_reserved.ensures.items ∙ ap (λ xs. xs ++ n ∷ []) c.reserve.ensures.items in
+    let fs = c.args.self.now.flags.items in
+    let f = c.node_flags-flags.result in
+    let flags : c.push_reserved-2.new.self.items ≡ fs ++ f ∷ [] =
+    c.push_reserved-2.ensures.items ∙ ap (λ xs. xs ++ f ∷ []) c.reserve-2.ensures.items in
     let l : c.len-number.result ≡ length ns = c.len-number.ensures ∙ c.args.self.now.nodes.ok.0 in
     let put : (q : Node) → more q ≡ cond (node_eq c.in_ok-known.known q) (Some (length ns)) (find q) =
     λ q. c.in_ok-insert.ensures.updates.0 q ∙ ap (λ i. cond (node_eq c.in_ok-known.known q) (Some i) (find q)) l in
@@ -27,6 +33,10 @@ invariant_of-self-2 c =
       finds =
           subst (λ xs. Finds xs more) (sym e)
           (finds_more ns n c.in_ok-known.known c.in_ok-known.ensures find more put c.args.self.now.finds);
+      flagged =
+          subst₂ AreFlags (sym e) (sym flags)
+          (flags_more c.args.self.now.items.items ns n c.args.self.now.flags.items c.node_flags-flags.result
+          c.args.self.now.flagged c.node_flags-flags.ensures);
     }
 
 pub returns-clause-number : goal.returns-clause-number

@@ -19,7 +19,7 @@ use crate::terms::{
     UnevaluatedConst, ValTreeKind,
 };
 
-// The parts of a type.
+/// The parts of a type, by its form.
 pub fn ty_parts<X: Copy, D: Copy, N>(kind: &TyKind<X, D, N>) -> Parts<X, D>
     ensures { result ≡ ty_view kind.now }
 {
@@ -58,7 +58,7 @@ pub fn ty_parts<X: Copy, D: Copy, N>(kind: &TyKind<X, D, N>) -> Parts<X, D>
     }
 }
 
-// The parts of a constant.
+/// The parts of a constant, by its form.
 pub fn const_parts<X: Copy, D: Copy, N>(kind: &ConstKind<X, D, N>) -> Parts<X, D>
     ensures { result ≡ const_view kind.now }
 {
@@ -74,7 +74,7 @@ pub fn const_parts<X: Copy, D: Copy, N>(kind: &ConstKind<X, D, N>) -> Parts<X, D
     }
 }
 
-// The parts of a value tree.
+/// The parts of a value tree, by its form.
 pub fn valtree_parts<X: Copy, D: Copy>(kind: &ValTreeKind<X>) -> Parts<X, D>
     ensures { result ≡ valtree_view kind.now }
 {
@@ -84,7 +84,7 @@ pub fn valtree_parts<X: Copy, D: Copy>(kind: &ValTreeKind<X>) -> Parts<X, D>
     }
 }
 
-// The parts of a pattern.
+/// The parts of a pattern, by its form.
 pub fn pattern_parts<X: Copy, D: Copy>(kind: &PatternKind<X>) -> Parts<X, D>
     ensures { result ≡ pattern_view kind.now }
 {
@@ -95,7 +95,7 @@ pub fn pattern_parts<X: Copy, D: Copy>(kind: &PatternKind<X>) -> Parts<X, D>
     }
 }
 
-// The parts of a trait object's predicate.
+/// The parts of a trait object's predicate, by its form.
 pub fn existential_parts<X: Copy, D: Copy>(predicate: &ExistentialPredicate<X, D>) -> Parts<X, D>
     ensures { result ≡ existential_view predicate.now }
 {
