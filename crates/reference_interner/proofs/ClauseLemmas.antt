@@ -16,13 +16,13 @@ use Rattle.relation_terms.specs.declared.predicate.kinds.PredicateKind.TheVarian
 use Rattle.reference_interner.specs.declared.keys.NodeKey.{NodeKey}
 use Rattle.reference_interner.specs.declared.keys.ItemId.{ItemId}
 use Rattle.reference_interner.specs.declared.keys.SymbolId.{SymbolId}
-use Rattle.reference_interner.specs.declared.items.Item.{Item}
 use Rattle.reference_interner.specs.declared.node.Node.{Node}
 use Rattle.reference_interner.specs.Nodes.{predicate_node, clauses_node, as_clause, tree_as, entry, no_entry, entries}
 use Rattle.reference_interner.specs.Nodes.{table_meaning, StandsAt}
 use Rattle.reference_interner.specs.Places.{of_sort, key_reads}
 use Rattle.reference_interner.specs.Laws.{clause_same, clause_reads, clause_law, env_reads, parts_in}
 use Rattle.reference_interner.proofs.OnceLemmas.{stands}
+use Rattle.reference_interner.specs.Items.{Items}
 
 abbrev Means : Type 0
 Means = Meaning NodeKey ItemId SymbolId
@@ -57,7 +57,7 @@ pub no_clause : (m : Means) (b : Binder NodeKey (PredicateKind NodeKey ItemId Sy
     ((c : ClauseKind NodeKey ItemId SymbolId) → b.value ≡ Clause c → ⊥) → IsBinder clause_sort (predicate_tree m b) → ⊥
 no_clause m b u h = no_clause_under m (m.bound_vars b.bound_vars) b.value u h
 
-module _ (items : List Item) (ns : List Node) (i : ℕ) where
+module _ (items : Items) (ns : List Node) (i : ℕ) where
   -- A known clause is the predicate of its number.
   pub clause_predicate : IsTrue (known ((table_meaning items ns).clause (record { 0 = record { 0 = i } }))) →
       (table_meaning items ns).predicate (record { 0 = record { 0 = i } }) ≡

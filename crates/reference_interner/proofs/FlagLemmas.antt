@@ -16,7 +16,6 @@ use Rattle.relation_terms.specs.Parts.{parts_of}
 use Rattle.relation_terms.proofs.Flags.{term_flags}
 use Rattle.relation_terms.proofs.Parts.{known_parts}
 use Rattle.relation_terms.specs.declared.terms.flags.TypeFlags.{TypeFlags}
-use Rattle.reference_interner.specs.declared.items.Item.{Item}
 use Rattle.reference_interner.specs.declared.node.Node.{Node}
 use Rattle.reference_interner.specs.Forms.{form_of}
 use Rattle.reference_interner.specs.Nodes.{NodeSort, no_entry, tree_as, form_tree, entry_of, entries, table_meaning}
@@ -24,12 +23,13 @@ use Rattle.reference_interner.specs.Flags.{entry_flags, AreFlags}
 use Rattle.reference_interner.specs.Places.{entries_there, of_sort, tree_of_key, key_reads}
 use Rattle.reference_interner.proofs.ItemLemmas.{same_entry}
 use Rattle.reference_interner.proofs.TableLemmas.{entries_snoc, key_in, known_here}
+use Rattle.reference_interner.specs.Items.{Items, no_items}
 
 pub flags_there : (ns : List Node) (fs : List TypeFlags) → AreFlags ns fs → length fs ≡ length ns
 flags_there ns fs e = ap length e ∙ length-map (entries ns) entry_flags ∙ entries_there ns
 
 -- What is kept of a known key's number is what is asked of its tree.
-pub flags_read : (items : List Item) (ns : List Node) (fs : List TypeFlags) → AreFlags ns fs → (s : NodeSort) (i : ℕ)
+pub flags_read : (items : Items) (ns : List Node) (fs : List TypeFlags) → AreFlags ns fs → (s : NodeSort) (i : ℕ)
     (d : TypeFlags) → IsTrue (known (tree_of_key s (table_meaning items ns) i)) →
     get_or fs i d ≡ flags_of (tree_of_key s (table_meaning items ns) i)
 flags_read items ns fs a s i d k =
@@ -41,11 +41,11 @@ flags_read items ns fs a s i d k =
     ap flags_of (sym (key_reads items (entries ns) s i))
 
 -- The flags of one more node, behind those of the others.
-pub flags_more : (items : List Item) (ns : List Node) (n : Node) (fs : List TypeFlags) (f : TypeFlags) → AreFlags ns fs →
+pub flags_more : (items : Items) (ns : List Node) (n : Node) (fs : List TypeFlags) (f : TypeFlags) → AreFlags ns fs →
     f ≡ flags_of (form_tree (table_meaning items ns) (form_of n)) → AreFlags (ns ++ n ∷ []) (fs ++ f ∷ [])
 flags_more items ns n fs f a e =
-    let x = entry_of (table_meaning [] ns) n in
-    let same : f ≡ entry_flags x = e ∙ ap entry_flags (same_entry items [] ns n) in
+    let x = entry_of (table_meaning no_items ns) n in
+    let same : f ≡ entry_flags x = e ∙ ap entry_flags (same_entry items no_items ns n) in
     ap (λ y. y ++ f ∷ []) a ∙ ap (λ y. map entry_flags (entries ns) ++ y ∷ []) same ∙
     sym (map-append entry_flags (entries ns) (x ∷ [])) ∙ ap (map entry_flags) (sym (entries_snoc [] ns n))
 

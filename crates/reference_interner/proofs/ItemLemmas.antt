@@ -66,16 +66,22 @@ use Rattle.reference_interner.specs.declared.node.Node.{Node}
 use Rattle.reference_interner.specs.Forms.{Form, ty_form, region_form, const_form, valtree_form, args_form, tys_form}
 use Rattle.reference_interner.specs.Forms.{branches_form, pattern_form, alternatives_form, form_of, predicate_form, clauses_form}
 use Rattle.reference_interner.specs.Adding.{SameTerms, OthersStand, HasNoGenerics}
-use Rattle.reference_interner.specs.Items.{variances_at, alias_variances_of, alias_variances_at}
+use Rattle.reference_interner.specs.Items.{read_at, alias_variances_of, alias_variances_at, parent_of, alias_kind_of}
+use Rattle.reference_interner.specs.Items.{is_lang, tables_of}
+use Rattle.relation_terms.specs.Heads.{AliasTermKind}
+use Rattle.relation_terms.specs.declared.terms.enums.SolverTraitLangItem.{SolverTraitLangItem}
+use Rattle.relation_terms.specs.declared.terms.enums.SolverTraitLangItem.TheVariants.{Sized}
+use Rattle.std.specs.Prelude.{Bool as Bool_, false}
 use Rattle.reference_interner.specs.Forms.{predicates_form, bound_vars_form}
 use Rattle.reference_interner.specs.Nodes.{Entry, entry, meaning_of, form_sort, form_tree, entry_of, entries}
 use Rattle.reference_interner.specs.Nodes.{table_meaning}
+use Rattle.reference_interner.specs.Items.{Items}
 
 same_list : {A : Type 0} (f g : A → Tree) → ((x : A) → f x ≡ g x) → (xs : List A) → list_tree f xs ≡ list_tree g xs
 same_list f g h [] = refl
 same_list f g h (x ∷ xs) = ap₂ (λ y z. cons y z) (h x) (same_list f g h xs)
 
-module _ (as_before more : List Item) (es : List Entry) where
+module _ (as_before more : Items) (es : List Entry) where
   same_kind : (f : TyKind NodeKey ItemId SymbolId) →
       kind_tree (meaning_of as_before es) f ≡ kind_tree (meaning_of more es) f
   unfolding meaning_of
@@ -234,40 +240,44 @@ module _ (as_before more : List Item) (es : List Entry) where
   same_form (clauses_form cs) = refl
 
 -- A node's entry is one whatever the items are.
-pub same_entry : (items more : List Item) (ns : List Node) (n : Node) →
+pub same_entry : (items more : Items) (ns : List Node) (n : Node) →
     entry_of (table_meaning items ns) n ≡ entry_of (table_meaning more ns) n
 same_entry items more ns n = ap (entry (form_sort (form_of n))) (same_form items more (entries ns) (form_of n))
 
--- The variances of an item that is there, and of none.
-pub variances_there : (items : List Item) (i : ℕ) (d : Item) → i < length items →
-    variances_at items i ≡ ((get_or items i d).variances).items
-variances_there items i d h = get_or-map (λ x. (x.variances).items) items i d [] h
+-- What is read of an item that is there, and of none.
+pub read_there : {A : Type 0} (reads : Item → A) (none : A) (items : Items) (i : ℕ) (d : Item) → i < length items.list →
+    read_at reads none items i ≡ reads (get_or items.list i d)
+read_there reads none items i d h = get_or-map reads items.list i d none h
 
--- What an item declares of its parameters, and of an alias type of it.
+pub read_past : {A : Type 0} (reads : Item → A) (none : A) (items : Items) (i : ℕ) → length items.list ≤ i →
+    read_at reads none items i ≡ none
+read_past reads none items i h =
+    get_or_past (map reads items.list) i none (subst (λ n. n ≤ i) (sym (length-map items.list reads)) h)
+
+-- What an item declares of its parameters, and of an alias type of it, which trait declares it, and which alias it is.
 abbrev declared : Item → List Variance
 declared y = (y.variances).items
 
 abbrev alias_declared : Item → Option (List Variance)
 alias_declared y = alias_variances_of (y.kind).def (y.variances).items
 
-pub variances_past : (items : List Item) (i : ℕ) → length items ≤ i → variances_at items i ≡ []
-variances_past items i h =
-    get_or_past (map (λ x. (x.variances).items) items) i []
-    (subst (λ n. n ≤ i) (sym (length-map items (λ x. (x.variances).items))) h)
+abbrev declaring : Item → Option ℕ
+declaring y = parent_of (y.kind).def
 
-alias_variances_past : (items : List Item) (i : ℕ) → length items ≤ i → alias_variances_at items i ≡ None
-alias_variances_past items i h =
-    get_or_past (map alias_declared items) i None
-    (subst (λ n. n ≤ i) (sym (length-map items alias_declared)) h)
+abbrev alias_kind_declared : Item → Option AliasTermKind
+alias_kind_declared y = alias_kind_of (y.kind).def
+
+abbrev auto_declared : Item → Bool_
+auto_declared y = y.is_auto
 
 -- An id that no item has.
-pub no_generics : (items : List Item) (ns : List Node) (d : ℕ) → length items ≤ d →
+pub no_generics : (items : Items) (ns : List Node) (d : ℕ) → length items.list ≤ d →
     HasNoGenerics (table_meaning items ns) d
 unfolding meaning_of
 no_generics items ns d h = record {
-  generics = ap length (variances_past items d h);
-  variances = variances_past items d h;
-  alias_variances = alias_variances_past items d h;
+  generics = ap length (read_past declared [] items d h);
+  variances = read_past declared [] items d h;
+  alias_variances = read_past alias_declared None items d h;
 }
 
 -- A list and one more element, read elsewhere than at its end.
@@ -298,7 +308,7 @@ module _ {A : Type 0} (reads : Item → A) (items : List Item) (x : Item) (none 
       elsewhere (map reads items) (reads x) none e (λ p. n (p ∙ length-map items reads))
 
 -- The terms are the same with any items.
-pub same_terms : (items more : List Item) (ns : List Node) → SameTerms (table_meaning items ns) (table_meaning more ns)
+pub same_terms : (items more : Items) (ns : List Node) → SameTerms (table_meaning items ns) (table_meaning more ns)
 unfolding meaning_of
 same_terms items more ns = record {
   ty = λ k. refl;
@@ -321,34 +331,68 @@ same_terms items more ns = record {
 }
 
 -- What an item that was added leaves.
-module _ (items more : List Item) (x : Item) (ns : List Node) (d : ℕ) (added : more ≡ items ++ x ∷ [])
-    (number : d ≡ length items) where
+module _ (items more : Items) (x : Item) (ns : List Node) (d : ℕ) (added : more.list ≡ items.list ++ x ∷ [])
+    (number : d ≡ length items.list) (solver : more.next_solver ≡ items.next_solver) where
+  new_read : {A : Type 0} (reads : Item → A) (none : A) → read_at reads none more d ≡ reads x
+  new_read reads none = ap₂ (λ ys e. get_or (map reads ys) e none) added number ∙ read_new reads items.list x none
+
+  other_read : {A : Type 0} (reads : Item → A) (none : A) (e : ℕ) → e ≢ d →
+      read_at reads none more e ≡ read_at reads none items e
+  other_read reads none e n =
+      ap (λ ys. get_or (map reads ys) e none) added ∙
+      read_other reads items.list x none e (λ p. n (p ∙ sym number))
+
   pub new_variances : (table_meaning more ns).variances d ≡ (x.variances).items
   unfolding meaning_of
-  new_variances = ap₂ (λ ys e. variances_at ys e) added number ∙ read_new declared items x []
+  new_variances = new_read declared []
 
   pub new_alias_variances : (table_meaning more ns).alias_variances d ≡ alias_declared x
   unfolding meaning_of
-  new_alias_variances = ap₂ (λ ys e. alias_variances_at ys e) added number ∙ read_new alias_declared items x None
+  new_alias_variances = new_read alias_declared None
 
   pub new_generics : (table_meaning more ns).generics d ≡ length (x.variances).items
   unfolding meaning_of
   new_generics = ap length new_variances
 
-  other_variances : (e : ℕ) → e ≢ d → variances_at more e ≡ variances_at items e
-  other_variances e n =
-      ap (λ ys. variances_at ys e) added ∙
-      read_other declared items x [] e (λ p. n (p ∙ sym number))
+  pub new_parent : ((table_meaning more ns).tables).parent d ≡ declaring x
+  unfolding meaning_of
+  new_parent = new_read declaring None
 
-  other_alias_variances : (e : ℕ) → e ≢ d → alias_variances_at more e ≡ alias_variances_at items e
-  other_alias_variances e n =
-      ap (λ ys. alias_variances_at ys e) added ∙
-      read_other alias_declared items x None e (λ p. n (p ∙ sym number))
+  pub new_alias_kind : ((table_meaning more ns).tables).alias_kind d ≡ alias_kind_declared x
+  unfolding meaning_of
+  new_alias_kind = new_read alias_kind_declared None
+
+  pub new_auto : ((table_meaning more ns).tables).is_auto d ≡ x.is_auto
+  unfolding meaning_of
+  new_auto = new_read auto_declared false
+
+  pub new_lang : (i : SolverTraitLangItem) → ((table_meaning more ns).tables).is_lang_item d i ≡ is_lang i x
+  unfolding meaning_of
+  new_lang i = new_read (is_lang i) false
 
   pub others_stand : OthersStand (table_meaning items ns) (table_meaning more ns) d
   unfolding meaning_of
   others_stand = record {
-    generics = λ e n. ap length (other_variances e n);
-    variances = λ e n. other_variances e n;
-    alias_variances = λ e n. other_alias_variances e n;
+    generics = λ e n. ap length (other_read declared [] e n);
+    variances = λ e n. other_read declared [] e n;
+    alias_variances = λ e n. other_read alias_declared None e n;
+    parent = λ e n. other_read declaring None e n;
+    is_auto = λ e n. other_read auto_declared false e n;
+    is_lang_item = λ e n i. other_read (is_lang i) false e n;
+    alias_kind = λ e n. other_read alias_kind_declared None e n;
+    next_solver = solver;
   }
+
+-- What is read of the tables of an interner.
+pub tables_read : (items : Items) (ns : List Node) → (table_meaning items ns).tables ≡ tables_of items
+unfolding meaning_of
+tables_read items ns = refl
+
+pub alias_variances_read : (items : Items) (ns : List Node) (n : ℕ) →
+    (table_meaning items ns).alias_variances n ≡ alias_variances_at items n
+unfolding meaning_of
+alias_variances_read items ns n = refl
+
+-- An item that is not said to be `Sized` is none that the language knows.
+pub no_lang : (i : SolverTraitLangItem) (x : Item) → x.is_sized ≡ false → is_lang i x ≡ false
+no_lang Sized x e = e

@@ -15,7 +15,6 @@ use Rattle.relation_terms.specs.declared.terms.keys.ClauseKey.{ClauseKey}
 use Rattle.reference_interner.specs.declared.keys.NodeKey.{NodeKey}
 use Rattle.reference_interner.specs.declared.keys.ItemId.{ItemId}
 use Rattle.reference_interner.specs.declared.keys.SymbolId.{SymbolId}
-use Rattle.reference_interner.specs.declared.items.Item.{Item}
 use Rattle.reference_interner.specs.declared.node.Node.{Node}
 use Rattle.reference_interner.specs.Forms.{Form, ty_form, region_form, const_form, valtree_form, args_form, tys_form}
 use Rattle.reference_interner.specs.Forms.{branches_form, pattern_form, alternatives_form, form_of, predicate_form, clauses_form}
@@ -28,6 +27,7 @@ use Rattle.reference_interner.specs.Places.{length_entries, known_in, of_sort, r
 use Rattle.reference_interner.specs.Laws.{injective, all_sorted, once_clause}
 use Rattle.reference_interner.proofs.ItemLemmas.{same_entry}
 use Rattle.reference_interner.proofs.TableLemmas.{tree_in, entries_snoc, extends_node, at_now}
+use Rattle.reference_interner.specs.Items.{Items, no_items}
 
 -- Forms of one entry are one form.
 form_once : (m : Meaning NodeKey ItemId SymbolId) → Injective m → Sorted m →
@@ -63,17 +63,17 @@ module _ (ns : List Node) (n : Node) where
   keeps_entry : (i : ℕ) → i < length ns → get_or (entries (ns ++ n ∷ [])) i no_entry ≡ get_or (entries ns) i no_entry
   keeps_entry i h =
       let l = length_entries [] ns in
-      let e = entry_of (table_meaning [] ns) n in
+      let e = entry_of (table_meaning no_items ns) n in
       rw (entries_snoc [] ns n) (get_or_append_left (entries ns) (e ∷ []) no_entry i (omega (arith, l)))
 
-  new_entry : get_or (entries (ns ++ n ∷ [])) (length ns) no_entry ≡ entry_of (table_meaning [] ns) n
+  new_entry : get_or (entries (ns ++ n ∷ [])) (length ns) no_entry ≡ entry_of (table_meaning no_items ns) n
   new_entry =
       let l = length_entries [] ns in
       let z : length ns ≡ length (entries ns) = omega (arith, l) in
-      rw (entries_snoc [] ns n, z) (get_or-append_seam (entries ns) (entry_of (table_meaning [] ns) n) [] no_entry)
+      rw (entries_snoc [] ns n, z) (get_or-append_seam (entries ns) (entry_of (table_meaning no_items ns) n) [] no_entry)
 
   pub new_at : (ms : List Node) (k : ℕ) → ms ≡ ns ++ n ∷ [] → k ≡ length ns →
-      get_or (entries ms) k no_entry ≡ entry_of (table_meaning [] ns) n
+      get_or (entries ms) k no_entry ≡ entry_of (table_meaning no_items ns) n
   new_at ms k e l = rw (e, l) new_entry
 
   -- The last place or an earlier one.
@@ -83,7 +83,7 @@ module _ (ns : List Node) (n : Node) where
     | inr p ↦ inr (let l = length-append ns (n ∷ []) in omega (arith, l))
   ]
 
-  pub all_known : AllKnown ns → IsTrue (known_entry (entry_of (table_meaning [] ns) n)) → AllKnown (ns ++ n ∷ [])
+  pub all_known : AllKnown ns → IsTrue (known_entry (entry_of (table_meaning no_items ns) n)) → AllKnown (ns ++ n ∷ [])
   all_known a k = λ i h. elim (last_or i h) [
     | inl p ↦ subst (λ x. IsTrue (known_entry x)) (sym (keeps_entry i p)) (a i p)
     | inr p ↦
@@ -92,25 +92,25 @@ module _ (ns : List Node) (n : Node) where
   ]
 
   -- The node's entry is known whatever the items are.
-  pub known_alone : (items : List Item) → IsTrue (known_entry (entry_of (table_meaning items ns) n)) →
-      IsTrue (known_entry (entry_of (table_meaning [] ns) n))
-  known_alone items k = subst (λ x. IsTrue (known_entry x)) (same_entry items [] ns n) k
+  pub known_alone : (items : Items) → IsTrue (known_entry (entry_of (table_meaning items ns) n)) →
+      IsTrue (known_entry (entry_of (table_meaning no_items ns) n))
+  known_alone items k = subst (λ x. IsTrue (known_entry x)) (same_entry items no_items ns n) k
 
   -- A node of a form that none has is at no place.
-  pub fresh : AllDistinct ns → IsTrue (known_entry (entry_of (table_meaning [] ns) n)) →
+  pub fresh : AllDistinct ns → IsTrue (known_entry (entry_of (table_meaning no_items ns) n)) →
       ((k : ℕ) (d : Node) → k < length ns → form_of (get_or ns k d) ≡ form_of n → ⊥) →
-      (i : ℕ) → get_or (entries ns) i no_entry ≡ entry_of (table_meaning [] ns) n → ⊥
+      (i : ℕ) → get_or (entries ns) i no_entry ≡ entry_of (table_meaning no_items ns) n → ⊥
   fresh d k u i e =
       let h : IsTrue (known_entry (get_or (entries ns) i no_entry)) = subst (λ x. IsTrue (known_entry x)) (sym e) k in
       let l : i < length ns = known_in ns i h in
       let a = at_now ns i n l h in
-      let m = table_meaning [] ns in
+      let m = table_meaning no_items ns in
       let clauses : (k l : ClauseKey NodeKey) → IsTrue (known (m.clause k)) → m.clause k ≡ m.clause l → k ≡ l =
-      λ k l h e. ap (λ n. record { 0 = record { 0 = n } }) (once_clause [] ns d k l h e) in
-      u i n l (form_once m (injective [] ns d) (all_sorted [] ns) clauses (form_of (get_or ns i n)) (form_of n)
+      λ k l h e. ap (λ n. record { 0 = record { 0 = n } }) (once_clause no_items ns d k l h e) in
+      u i n l (form_once m (injective no_items ns d) (all_sorted no_items ns) clauses (form_of (get_or ns i n)) (form_of n)
       (subst (λ x. IsTrue (known_entry x)) a h) (sym a ∙ e))
 
-  pub all_distinct : AllDistinct ns → IsTrue (known_entry (entry_of (table_meaning [] ns) n)) →
+  pub all_distinct : AllDistinct ns → IsTrue (known_entry (entry_of (table_meaning no_items ns) n)) →
       ((k : ℕ) (d : Node) → k < length ns → form_of (get_or ns k d) ≡ form_of n → ⊥) → AllDistinct (ns ++ n ∷ [])
   all_distinct d k u = λ i j h l e.
       let at : ℕ → Entry = λ x. get_or (entries (ns ++ n ∷ [])) x no_entry in
@@ -127,12 +127,12 @@ module _ (ns : List Node) (n : Node) where
 
   -- The entry at which a node of the form stands.
   pub found : AllKnown ns → (i : ℕ) → i < length ns → ((d : Node) → form_of (get_or ns i d) ≡ form_of n) →
-      get_or (entries ns) i no_entry ≡ entry_of (table_meaning [] ns) n
-  found a i h s = at_now ns i n h (a i h) ∙ ap (entry_at (table_meaning [] ns)) (s n)
+      get_or (entries ns) i no_entry ≡ entry_of (table_meaning no_items ns) n
+  found a i h s = at_now ns i n h (a i h) ∙ ap (entry_at (table_meaning no_items ns)) (s n)
 
 -- What a making leaves.
-module _ (items : List Item) (ns : List Node) where
-  pub grows : (more : List Item) (ms : List Node) (n : Node) → more ≡ items → (ms ≡ ns) ⊎ (ms ≡ ns ++ n ∷ []) →
+module _ (items : Items) (ns : List Node) where
+  pub grows : (more : Items) (ms : List Node) (n : Node) → more ≡ items → (ms ≡ ns) ⊎ (ms ≡ ns ++ n ∷ []) →
       Extends (table_meaning items ns) (table_meaning more ms)
   grows more ms n e (inl p) =
       subst (λ m. Extends (table_meaning items ns) m) (ap₂ table_meaning (sym e) (sym p))
@@ -140,7 +140,7 @@ module _ (items : List Item) (ns : List Node) where
   grows more ms n e (inr p) =
       subst (λ m. Extends (table_meaning items ns) m) (ap₂ table_meaning (sym e) (sym p)) (extends_node items ns n)
 
-  pub same_meaning : (more : List Item) (ms : List Node) → more ≡ items → ms ≡ ns →
+  pub same_meaning : (more : Items) (ms : List Node) → more ≡ items → ms ≡ ns →
       table_meaning more ms ≡ table_meaning items ns
   same_meaning more ms e p = ap₂ table_meaning e p
 
@@ -158,7 +158,7 @@ module _ (items : List Item) (ns : List Node) where
       of_sort s x (subst (λ y. IsTrue (known y)) (sym p) k) ∙ ap (entry s) p
 
 -- A table without nodes and items knows nothing.
-pub none_known : (items : List Item) (ns : List Node) → items ≡ [] → ns ≡ [] → KnowsNone (table_meaning items ns)
+pub none_known : (items : Items) (ns : List Node) → items ≡ no_items → ns ≡ [] → KnowsNone (table_meaning items ns)
 unfolding meaning_of
 none_known items ns p e = subst (λ m. KnowsNone m) (sym (ap₂ table_meaning p e)) (record {
   ty = λ k. refl;
@@ -179,4 +179,9 @@ none_known items ns p e = subst (λ m. KnowsNone m) (sym (ap₂ table_meaning p 
   generics = λ d. refl;
   variances = λ d. refl;
   alias_variances = λ d. refl;
+  parent = λ d. refl;
+  is_auto = λ d. refl;
+  is_lang_item = λ d i. refl;
+  alias_kind = λ d. refl;
+  next_solver = refl;
 })

@@ -14,7 +14,6 @@ use Rattle.relation_terms.proofs.Predicates.{stays_predicate}
 use Rattle.reference_interner.specs.declared.keys.NodeKey.{NodeKey}
 use Rattle.reference_interner.specs.declared.keys.ItemId.{ItemId}
 use Rattle.reference_interner.specs.declared.keys.SymbolId.{SymbolId}
-use Rattle.reference_interner.specs.declared.items.Item.{Item}
 use Rattle.reference_interner.specs.declared.node.Node.TheVariants.{Ty, Region, Const, ValTree, Args, Tys}
 use Rattle.reference_interner.specs.declared.node.Node.TheVariants.{Branches, Pat, Alternatives, Predicate, Clauses}
 use Rattle.reference_interner.specs.declared.node.Node.TheVariants.{ExistentialPredicates, BoundVars}
@@ -49,6 +48,7 @@ use Rattle.reference_interner.specs.Nodes.{Entry, no_entry, entry, tree_as, mean
 use Rattle.reference_interner.specs.Nodes.{entry_of, entries_from, entries, table_meaning, known_entry, AllKnown}
 use Rattle.reference_interner.specs.Places.{known_in, of_sort, reads_as_shown, sure_of, tree_of_key, HasKey, key_reads}
 use Rattle.reference_interner.proofs.ItemLemmas.{same_entry}
+use Rattle.reference_interner.specs.Items.{Items, no_items}
 
 abbrev pub sort_in : Entry → NodeSort
 sort_in no_entry = clauses_node
@@ -83,7 +83,7 @@ keeps_clause es fs i k =
     let t = tree_as predicate_node (get_or es i no_entry) in
     ap as_clause (keeps predicate_node es fs i (subst (λ u. IsTrue (known u)) (clause_same t k) k))
 
-pub extends_append : (items : List Item) (es fs : List Entry) →
+pub extends_append : (items : Items) (es fs : List Entry) →
     Extends (meaning_of items es) (meaning_of items (es ++ fs))
 unfolding meaning_of
 extends_append items es fs = record {
@@ -107,42 +107,43 @@ extends_append items es fs = record {
   generics = refl;
   variances = refl;
   alias_variances = refl;
+  tables = refl;
 }
 
 pub entries_snoc : (es : List Entry) (ns : List Node) (n : Node) →
-    entries_from es (ns ++ n ∷ []) ≡ entries_from es ns ++ entry_of (meaning_of [] (entries_from es ns)) n ∷ []
+    entries_from es (ns ++ n ∷ []) ≡ entries_from es ns ++ entry_of (meaning_of no_items (entries_from es ns)) n ∷ []
 entries_snoc es [] n = refl
-entries_snoc es (m ∷ ns) n = entries_snoc (es ++ entry_of (meaning_of [] es) m ∷ []) ns n
+entries_snoc es (m ∷ ns) n = entries_snoc (es ++ entry_of (meaning_of no_items es) m ∷ []) ns n
 
-extends_from : (es : List Entry) (ns : List Node) → Extends (meaning_of [] es) (meaning_of [] (entries_from es ns))
-extends_from es [] = stays_same (meaning_of [] es)
+extends_from : (es : List Entry) (ns : List Node) → Extends (meaning_of no_items es) (meaning_of no_items (entries_from es ns))
+extends_from es [] = stays_same (meaning_of no_items es)
 extends_from es (n ∷ ns) =
-    let e = entry_of (meaning_of [] es) n in
-    extends_on (extends_append [] es (e ∷ [])) (extends_from (es ++ e ∷ []) ns)
+    let e = entry_of (meaning_of no_items es) n in
+    extends_on (extends_append no_items es (e ∷ [])) (extends_from (es ++ e ∷ []) ns)
 
-pub extends_node : (items : List Item) (ns : List Node) (n : Node) →
+pub extends_node : (items : Items) (ns : List Node) (n : Node) →
     Extends (table_meaning items ns) (table_meaning items (ns ++ n ∷ []))
 extends_node items ns n =
-    rw (entries_snoc [] ns n) (extends_append items (entries ns) (entry_of (table_meaning [] ns) n ∷ []))
+    rw (entries_snoc [] ns n) (extends_append items (entries ns) (entry_of (table_meaning no_items ns) n ∷ []))
 
 keep_from : (es : List Entry) (ns : List Node) (j : ℕ) → j < length es →
     get_or (entries_from es ns) j no_entry ≡ get_or es j no_entry
 keep_from es [] j h = refl
 keep_from es (n ∷ ns) j h =
-    let e = entry_of (meaning_of [] es) n in
+    let e = entry_of (meaning_of no_items es) n in
     let l = length-append es (e ∷ []) in
     keep_from (es ++ e ∷ []) ns j (omega (arith, l)) ∙ get_or_append_left es (e ∷ []) no_entry j h
 
 -- The entries that a node's entry was made from.
 record At (es : List Entry) (ns : List Node) (i : ℕ) (d : Node) : Type 0 where
   before : List Entry
-  older : Extends (meaning_of [] before) (meaning_of [] (entries_from es ns))
-  stands : get_or (entries_from es ns) (length es + i) no_entry ≡ entry_of (meaning_of [] before) (get_or ns i d)
+  older : Extends (meaning_of no_items before) (meaning_of no_items (entries_from es ns))
+  stands : get_or (entries_from es ns) (length es + i) no_entry ≡ entry_of (meaning_of no_items before) (get_or ns i d)
 
 node_at : (es : List Entry) (ns : List Node) (i : ℕ) (d : Node) → i < length ns → At es ns i d
 node_at es [] i d h = absurd (omega arith)
 node_at es (n ∷ ns) zero d h =
-    let e = entry_of (meaning_of [] es) n in
+    let e = entry_of (meaning_of no_items es) n in
     let l = length-append es (e ∷ []) in
     let z : length es + 0 ≡ length es = omega arith in
     record {
@@ -151,7 +152,7 @@ node_at es (n ∷ ns) zero d h =
       stands = rw z (keep_from (es ++ e ∷ []) ns (length es) (omega (arith, l)) ∙ get_or-append_seam es e [] no_entry);
     }
 node_at es (n ∷ ns) (suc i) d h =
-    let e = entry_of (meaning_of [] es) n in
+    let e = entry_of (meaning_of no_items es) n in
     let l = length-append es (e ∷ []) in
     let r = node_at (es ++ e ∷ []) ns i d (omega arith) in
     let z : length es + suc i ≡ length (es ++ e ∷ []) + i = omega (arith, l) in
@@ -189,13 +190,13 @@ stays_form {m} {n} e (clauses_form cs) k = stays_list m.clause n.clause cs e.cla
 -- An entry is that of the node as its keys are read now.
 pub at_now : (ns : List Node) (i : ℕ) (d : Node) → i < length ns →
     IsTrue (known_entry (get_or (entries ns) i no_entry)) →
-    get_or (entries ns) i no_entry ≡ entry_of (table_meaning [] ns) (get_or ns i d)
+    get_or (entries ns) i no_entry ≡ entry_of (table_meaning no_items ns) (get_or ns i d)
 at_now ns i d h k =
     let a = node_at [] ns i d h in
     let f = form_of (get_or ns i d) in
     let z : 0 + i ≡ i = omega arith in
-    let p : get_or (entries ns) i no_entry ≡ entry_at (meaning_of [] a.before) f =
-    subst (λ j. get_or (entries ns) j no_entry ≡ entry_at (meaning_of [] a.before) f) z a.stands in
+    let p : get_or (entries ns) i no_entry ≡ entry_at (meaning_of no_items a.before) f =
+    subst (λ j. get_or (entries ns) j no_entry ≡ entry_at (meaning_of no_items a.before) f) z a.stands in
     p ∙ ap (entry (form_sort f)) (sym (stays_form a.older f (subst (λ e. IsTrue (known_entry e)) p k)))
 
 -- The list of a binder over nothing.
@@ -204,7 +205,7 @@ list_under (Some ls) ks e = cc
 list_under None ks e = absurd (cc)
 
 -- What a known key reads.
-module _ (items : List Item) (ns : List Node) (s : NodeSort) (i : ℕ)
+module _ (items : Items) (ns : List Node) (s : NodeSort) (i : ℕ)
     (h : IsTrue (known (tree_of_key s (table_meaning items ns) i))) where
   pub known_here : IsTrue (known (tree_as s (get_or (entries ns) i no_entry)))
   known_here = subst (λ t. IsTrue (known t)) (key_reads items (entries ns) s i) h
@@ -217,7 +218,7 @@ module _ (items : List Item) (ns : List Node) (s : NodeSort) (i : ℕ)
   key_now d =
       let e = get_or (entries ns) i no_entry in
       ap (entry s) (key_reads items (entries ns) s i) ∙ sym (of_sort s e known_here) ∙
-      at_now ns i d key_in (sure_of s e known_here) ∙ same_entry [] items ns (get_or ns i d)
+      at_now ns i d key_in (sure_of s e known_here) ∙ same_entry no_items items ns (get_or ns i d)
 
   -- The node at a key's number is of the key's sort.
   pub key_sort : (n : Node) → n ≡ get_or ns i n → s ≡ form_sort (form_of n)
@@ -231,7 +232,7 @@ module _ (items : List Item) (ns : List Node) (s : NodeSort) (i : ℕ)
       ap (form_tree (table_meaning items ns)) p
 
 -- A key of each node's number is known.
-entry_key : (items : List Item) (ns : List Node) (i : ℕ) (e : Entry) → get_or (entries ns) i no_entry ≡ e →
+entry_key : (items : Items) (ns : List Node) (i : ℕ) (e : Entry) → get_or (entries ns) i no_entry ≡ e →
     IsTrue (known_entry e) → HasKey (table_meaning items ns) i
 entry_key items ns i no_entry p k = absurd (false≢true k)
 entry_key items ns i (entry s t) p k =
@@ -239,7 +240,7 @@ entry_key items ns i (entry s t) p k =
     (s, subst (λ x. IsTrue (known x)) (sym reads) k)
 
 -- The numbers of known keys are those of nodes.
-pub numbered : (items : List Item) (ns : List Node) → AllKnown ns → (i : ℕ) →
+pub numbered : (items : Items) (ns : List Node) → AllKnown ns → (i : ℕ) →
     (i < length ns ↔ HasKey (table_meaning items ns) i)
 numbered items ns a i = (
   λ h. entry_key items ns i (get_or (entries ns) i no_entry) refl (a i h),

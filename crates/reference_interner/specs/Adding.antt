@@ -1,6 +1,8 @@
 -- What adding an item changes.
 use Rattle.std.specs.Prelude.{◌≡◌, ◌≢◌, ℕ, List, [], None, length}
 use Rattle.relation_terms.specs.Meaning.{Meaning}
+use Rattle.relation_terms.specs.Tables.{Tables}
+use Rattle.relation_terms.specs.declared.terms.enums.SolverTraitLangItem.{SolverTraitLangItem}
 use Rattle.relation_terms.specs.declared.terms.keys.TyKey.{TyKey}
 use Rattle.relation_terms.specs.declared.terms.keys.RegionKey.{RegionKey}
 use Rattle.relation_terms.specs.declared.terms.keys.ConstKey.{ConstKey}
@@ -21,11 +23,16 @@ use Rattle.reference_interner.specs.declared.keys.ItemId.{ItemId}
 use Rattle.reference_interner.specs.declared.keys.SymbolId.{SymbolId}
 use Rattle.reference_interner.specs.declared.items.Item.{Item}
 use Rattle.reference_interner.specs.declared.RefInterner.{RefInterner}
+use Rattle.reference_interner.specs.Items.{Items}
 use Rattle.reference_interner.specs.Nodes.{table_meaning}
+
+-- The items that were added, and which solver is on.
+abbrev pub items_in : RefInterner → Items
+items_in s = record { list = s.items.items; next_solver = s.next_solver }
 
 -- What the keys and ids of an interner mean.
 abbrev pub meaning_in : RefInterner → Meaning NodeKey ItemId SymbolId
-meaning_in s = table_meaning s.items.items s.nodes.items
+meaning_in s = table_meaning (items_in s) s.nodes.items
 
 -- The items that were added, in order.
 abbrev pub items_of : RefInterner → List Item
@@ -61,11 +68,17 @@ module _ {Key Id Name : Type 0} (m n : Meaning Key Id Name) where
     pub id : (d : Id) → n.id d ≡ m.id d
     pub name : (s : Name) → n.name s ≡ m.name s
 
-  -- The items of all numbers but one have the generic parameters that they had.
+  -- The items of all numbers but one have the generic parameters that they had, and what the tables say of them.
   pub record OthersStand (d : ℕ) : Type 0 where
     pub generics : (e : ℕ) → e ≢ d → n.generics e ≡ m.generics e
     pub variances : (e : ℕ) → e ≢ d → n.variances e ≡ m.variances e
     pub alias_variances : (e : ℕ) → e ≢ d → n.alias_variances e ≡ m.alias_variances e
+    pub parent : (e : ℕ) → e ≢ d → (n.tables).parent e ≡ (m.tables).parent e
+    pub is_auto : (e : ℕ) → e ≢ d → (n.tables).is_auto e ≡ (m.tables).is_auto e
+    pub is_lang_item : (e : ℕ) → e ≢ d → (i : SolverTraitLangItem) →
+        (n.tables).is_lang_item e i ≡ (m.tables).is_lang_item e i
+    pub alias_kind : (e : ℕ) → e ≢ d → (n.tables).alias_kind e ≡ (m.tables).alias_kind e
+    pub next_solver : (n.tables).next_solver ≡ (m.tables).next_solver
 
 -- The item of a number has no generic parameters.
 pub record HasNoGenerics {Key Id Name : Type 0} (m : Meaning Key Id Name) (d : ℕ) : Type 0 where

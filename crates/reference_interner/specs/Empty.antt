@@ -2,6 +2,8 @@
 use Rattle.std.specs.Prelude.{◌≡◌, ℕ, IsFalse, IsNone, None, []}
 use Rattle.relation_terms.specs.Trees.{known}
 use Rattle.relation_terms.specs.Meaning.{Meaning}
+use Rattle.relation_terms.specs.Tables.{Tables}
+use Rattle.relation_terms.specs.declared.terms.enums.SolverTraitLangItem.{SolverTraitLangItem}
 use Rattle.relation_terms.specs.declared.terms.keys.TyKey.{TyKey}
 use Rattle.relation_terms.specs.declared.terms.keys.RegionKey.{RegionKey}
 use Rattle.relation_terms.specs.declared.terms.keys.ConstKey.{ConstKey}
@@ -18,7 +20,7 @@ use Rattle.relation_terms.specs.declared.terms.keys.ClauseKey.{ClauseKey}
 use Rattle.relation_terms.specs.declared.terms.keys.ClausesKey.{ClausesKey}
 use Rattle.relation_terms.specs.declared.terms.keys.ParamEnvKey.{ParamEnvKey}
 
--- No key of any sort is known, and no item has generic parameters.
+-- No key of any sort is known, no item has generic parameters, the tables say nothing, and the next solver is off.
 pub record KnowsNone {Key Id Name : Type 0} (m : Meaning Key Id Name) : Type 0 where
   pub ty : (k : TyKey Key) → IsFalse (known (m.ty k))
   pub region : (k : RegionKey Key) → IsFalse (known (m.region k))
@@ -38,3 +40,8 @@ pub record KnowsNone {Key Id Name : Type 0} (m : Meaning Key Id Name) : Type 0 w
   pub generics : (n : ℕ) → m.generics n ≡ 0
   pub variances : (n : ℕ) → m.variances n ≡ []
   pub alias_variances : (n : ℕ) → m.alias_variances n ≡ None
+  pub parent : (n : ℕ) → (m.tables).parent n ≡ None
+  pub is_auto : (n : ℕ) → IsFalse ((m.tables).is_auto n)
+  pub is_lang_item : (n : ℕ) → (i : SolverTraitLangItem) → IsFalse ((m.tables).is_lang_item n i)
+  pub alias_kind : (n : ℕ) → (m.tables).alias_kind n ≡ None
+  pub next_solver : IsFalse ((m.tables).next_solver)

@@ -21,7 +21,6 @@ use Rattle.relation_terms.proofs.Lists.{last_place}
 use Rattle.reference_interner.specs.declared.keys.NodeKey.{NodeKey}
 use Rattle.reference_interner.specs.declared.keys.ItemId.{ItemId}
 use Rattle.reference_interner.specs.declared.keys.SymbolId.{SymbolId}
-use Rattle.reference_interner.specs.declared.items.Item.{Item}
 use Rattle.reference_interner.specs.declared.node.Node.{Node}
 use Rattle.reference_interner.specs.Forms.{Form, ty_form, region_form, const_form, valtree_form, args_form, tys_form}
 use Rattle.reference_interner.specs.Forms.{branches_form, pattern_form, alternatives_form, form_of, predicate_form, clauses_form}
@@ -33,6 +32,7 @@ use Rattle.reference_interner.specs.Nodes.{predicates_node, bound_vars_node}
 use Rattle.reference_interner.specs.Nodes.{Entry, no_entry, entry, tree_as, meaning_of, form_sort, form_tree, entry_of}
 use Rattle.reference_interner.specs.Nodes.{entries_from, entries, table_meaning, known_entry, AllDistinct}
 use Rattle.reference_interner.specs.Places.{known_in, of_sort, shown_as, tree_of_key, key_reads}
+use Rattle.reference_interner.specs.Items.{Items, no_items}
 
 -- The tree is a term, or a list of terms or of binders over terms, as a node of the sort has. Of a list of variables
 -- nothing is asked.
@@ -64,13 +64,13 @@ sorted_as : (s : NodeSort) (e : Entry) → IsSorted e → IsTrue (known (tree_as
 sorted_as s e h k = subst IsSorted (of_sort s e k) h k
 
 -- What a key reads is of its sort.
-key_sorted : (items : List Item) (es : List Entry) → AllSorted es → (s : NodeSort) (i : ℕ) →
+key_sorted : (items : Items) (es : List Entry) → AllSorted es → (s : NodeSort) (i : ℕ) →
     IsTrue (known (tree_of_key s (meaning_of items es) i)) → IsOfSort s (tree_of_key s (meaning_of items es) i)
 key_sorted items es h s i k =
     let e = key_reads items es s i in
     subst (IsOfSort s) (sym e) (sorted_as s (get_or es i no_entry) (h i) (subst (λ t. IsTrue (known t)) e k))
 
-sorted : (items : List Item) (es : List Entry) → AllSorted es → Sorted (meaning_of items es)
+sorted : (items : Items) (es : List Entry) → AllSorted es → Sorted (meaning_of items es)
 sorted items es h = record {
   ty = λ k. key_sorted items es h ty_node (k.0).0;
   region = λ k. key_sorted items es h region_node (k.0).0;
@@ -116,12 +116,12 @@ as_clause_sorted t h k =
     subst (λ u. IsBinder clause_sort u) (sym e) (clause_sorted t (h (subst (λ u. IsTrue (known u)) e k)) k)
 
 -- The tree of a clause's key is that of the predicate of its number, as a clause's.
-pub clause_reads : (items : List Item) (es : List Entry) (i : ℕ) →
+pub clause_reads : (items : Items) (es : List Entry) (i : ℕ) →
     (meaning_of items es).clause (record { 0 = record { 0 = i } }) ≡ as_clause (tree_as predicate_node (get_or es i no_entry))
 unfolding meaning_of
 clause_reads items es i = refl
 
-key_clause_sorted : (items : List Item) (es : List Entry) → AllSorted es → (k : ClauseKey NodeKey) →
+key_clause_sorted : (items : Items) (es : List Entry) → AllSorted es → (k : ClauseKey NodeKey) →
     IsTrue (known ((meaning_of items es).clause k)) → IsBinder clause_sort ((meaning_of items es).clause k)
 key_clause_sorted items es h k s =
     let e = clause_reads items es (k.0).0 in
@@ -162,14 +162,14 @@ one_more es e s h = λ i. elim (cases_lt i (length (es ++ e ∷ []))) [
 sorted_from : (es : List Entry) (ns : List Node) → AllSorted es → AllSorted (entries_from es ns)
 sorted_from es [] s = s
 sorted_from es (n ∷ ns) s =
-    let m = meaning_of [] es in
+    let m = meaning_of no_items es in
     sorted_from (es ++ entry_of m n ∷ []) ns
-    (one_more es (entry_of m n) s (form_sorted m (sorted [] es s) (key_clause_sorted [] es s) (form_of n)))
+    (one_more es (entry_of m n) s (form_sorted m (sorted no_items es s) (key_clause_sorted no_items es s) (form_of n)))
 
-pub all_sorted : (items : List Item) (ns : List Node) → Sorted (table_meaning items ns)
+pub all_sorted : (items : Items) (ns : List Node) → Sorted (table_meaning items ns)
 all_sorted items ns = sorted items (entries ns) (sorted_from [] ns (λ i. tt))
 
-module _ (items : List Item) (ns : List Node) where
+module _ (items : Items) (ns : List Node) where
   -- The tree of a known key is a term of its sort.
   pub sort_law : (s : NodeSort) (i : ℕ) → IsTrue (known (tree_of_key s (table_meaning items ns) i)) →
       IsOfSort s (tree_of_key s (table_meaning items ns) i)
@@ -215,7 +215,7 @@ same_place ns d i j e k p q =
     d i j (known_in ns i (subst (λ x. IsTrue (known_entry x)) (sym p) k))
     (known_in ns j (subst (λ x. IsTrue (known_entry x)) (sym q) k)) (p ∙ sym q)
 
-module _ (items : List Item) (ns : List Node) (d : AllDistinct ns) where
+module _ (items : Items) (ns : List Node) (d : AllDistinct ns) where
   -- Known keys of one tree are one, at any sort.
   once : (s : NodeSort) (i j : ℕ) → IsTrue (known (tree_of_key s (table_meaning items ns) i)) →
       tree_of_key s (table_meaning items ns) i ≡ tree_of_key s (table_meaning items ns) j → i ≡ j

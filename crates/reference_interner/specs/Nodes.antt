@@ -10,11 +10,10 @@ use Rattle.reference_interner.specs.declared.keys.NodeKey.{NodeKey}
 use Rattle.reference_interner.specs.declared.keys.ItemId.{ItemId}
 use Rattle.reference_interner.specs.declared.keys.SymbolId.{SymbolId}
 use Rattle.reference_interner.specs.declared.node.Node.{Node}
-use Rattle.reference_interner.specs.declared.items.Item.{Item}
 use Rattle.reference_interner.specs.Forms.{Form, ty_form, region_form, const_form, valtree_form, args_form, tys_form}
 use Rattle.reference_interner.specs.Forms.{branches_form, pattern_form, alternatives_form, form_of, predicate_form, clauses_form}
 use Rattle.reference_interner.specs.Forms.{predicates_form, bound_vars_form}
-use Rattle.reference_interner.specs.Items.{variances_at, alias_variances_at}
+use Rattle.reference_interner.specs.Items.{Items, no_items, variances_at, alias_variances_at, tables_of}
 
 -- What a key may stand for.
 pub data NodeSort : Type 0 where
@@ -70,7 +69,7 @@ as_clause t = leaf unknown
 
 -- What keys and ids mean, by their numbers. No node is of another sort than these. A clause is the predicate of its
 -- number, an environment the list of clauses of its.
-unfoldable pub meaning_of : List Item → List Entry → Meaning NodeKey ItemId SymbolId
+unfoldable pub meaning_of : Items → List Entry → Meaning NodeKey ItemId SymbolId
 meaning_of items es = record {
   ty = λ k. tree_as ty_node (slice_index_or es (k.0).0 no_entry);
   region = λ k. tree_as region_node (slice_index_or es (k.0).0 no_entry);
@@ -92,6 +91,7 @@ meaning_of items es = record {
   generics = λ n. length (variances_at items n);
   variances = λ n. variances_at items n;
   alias_variances = λ n. alias_variances_at items n;
+  tables = tables_of items;
 }
 
 -- The sort of a form.
@@ -137,14 +137,14 @@ entry_of m n = entry_at m (form_of n)
 -- Each node speaks of the nodes before it alone, and of no item but by its number.
 abbrev pub entries_from : List Entry → List Node → List Entry
 entries_from es [] = es
-entries_from es (n ∷ ns) = entries_from (es ++ entry_of (meaning_of [] es) n ∷ []) ns
+entries_from es (n ∷ ns) = entries_from (es ++ entry_of (meaning_of no_items es) n ∷ []) ns
 
 -- The entries of a table, in the order of its nodes.
 abbrev pub entries : List Node → List Entry
 entries ns = entries_from [] ns
 
 -- What the numbers of a table's items and nodes mean.
-abbrev pub table_meaning : List Item → List Node → Meaning NodeKey ItemId SymbolId
+abbrev pub table_meaning : Items → List Node → Meaning NodeKey ItemId SymbolId
 table_meaning items ns = meaning_of items (entries ns)
 
 -- No part of what the entry shows is unknown.

@@ -9,18 +9,18 @@ use Rattle.relation_terms.proofs.Lists.{length_after}
 use Rattle.reference_interner.specs.declared.keys.NodeKey.{NodeKey}
 use Rattle.reference_interner.specs.declared.keys.ItemId.{ItemId}
 use Rattle.reference_interner.specs.declared.keys.SymbolId.{SymbolId}
-use Rattle.reference_interner.specs.declared.items.Item.{Item}
 use Rattle.reference_interner.specs.declared.node.Node.{Node}
 use Rattle.reference_interner.specs.Nodes.{NodeSort, ty_node, region_node, const_node, valtree_node, args_node}
 use Rattle.reference_interner.specs.Nodes.{tys_node, branches_node, pat_node, alternatives_node, predicate_node, clauses_node}
 use Rattle.reference_interner.specs.Nodes.{predicates_node, bound_vars_node, same_sort, shown, kinds_in}
 use Rattle.reference_interner.specs.Nodes.{Entry, no_entry, entry, tree_as, meaning_of, entry_of}
 use Rattle.reference_interner.specs.Nodes.{entries_from, entries, known_entry}
+use Rattle.reference_interner.specs.Items.{Items, no_items}
 
 pub length_entries : (es : List Entry) (ns : List Node) → length (entries_from es ns) ≡ length es + length ns
 length_entries es [] = sym (add-zero (length es))
 length_entries es (n ∷ ns) =
-    let e = entry_of (meaning_of [] es) n in
+    let e = entry_of (meaning_of no_items es) n in
     length_after es e (length ns) (length (entries_from (es ++ e ∷ []) ns)) (length_entries (es ++ e ∷ []) ns)
 
 pub entries_there : (ns : List Node) → length (entries ns) ≡ length ns
@@ -108,7 +108,7 @@ abbrev pub HasKey : Meaning NodeKey ItemId SymbolId → ℕ → Type 0
 HasKey m i = (s : NodeSort) × IsTrue (known (tree_of_key s m i))
 
 -- A key's tree is that of the entry at its number.
-pub key_reads : (items : List Item) (es : List Entry) (s : NodeSort) (i : ℕ) →
+pub key_reads : (items : Items) (es : List Entry) (s : NodeSort) (i : ℕ) →
     tree_of_key s (meaning_of items es) i ≡ tree_as s (get_or es i no_entry)
 unfolding meaning_of
 key_reads items es ty_node i = refl

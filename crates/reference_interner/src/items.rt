@@ -1,8 +1,12 @@
 //! Items, and how one is added.
-ghost use Rattle.std.specs.Prelude.{◌≡◌, ◌++◌, ◌∷◌, [], suc, IfOk, OnErr, length};
+ghost use Rattle.std.specs.Prelude.{◌≡◌, ◌++◌, ◌∷◌, [], suc, IfOk, IsFalse, OnErr, length};
 
 use crate::{ItemId, RefInterner, SymbolId};
-use relation_terms::terms::{Interner, OutOfMemory, TraitId, Variance};
+use relation_terms::predicate::AliasTermKind;
+use relation_terms::terms::{
+    FreeConstAliasId, FreeTyAliasId, InherentAssocConstId, InherentAssocTyId, Interner, OpaqueTyId,
+    OutOfMemory, TraitAssocConstId, TraitAssocTyId, TraitId, UnevaluatedConstId, Variance,
+};
 
 /// Which kind of item an item is.
 #[derive(Clone, Copy, PartialEq, Eq)]
@@ -34,6 +38,51 @@ pub enum DefKind {
     AnonConst,
 }
 
+impl DefKind {
+    ghost use Rattle.std.specs.Option.{option_map};
+    ghost use Rattle.relation_terms.specs.Predicates.{alias_of};
+    ghost use Rattle.reference_interner.specs.Items.{alias_kind_of};
+
+    // The alias that an item of this kind is.
+    pub(super) fn alias_term_kind(&self, id: ItemId) -> Option<AliasTermKind<ItemId>>
+        ensures { result ≡ option_map (alias_of id) (alias_kind_of self.now) }
+    {
+        match self {
+            DefKind::AssocTy(_) => Some(AliasTermKind::ProjectionTy {
+                def_id: TraitAssocTyId(id),
+            }),
+            DefKind::AssocConst(_) => Some(AliasTermKind::ProjectionConst {
+                def_id: TraitAssocConstId(id),
+            }),
+            DefKind::InherentAssocTy => Some(AliasTermKind::InherentTy {
+                def_id: InherentAssocTyId(id),
+            }),
+            DefKind::InherentAssocConst => Some(AliasTermKind::InherentConst {
+                def_id: InherentAssocConstId(id),
+            }),
+            DefKind::OpaqueTy => Some(AliasTermKind::OpaqueTy {
+                def_id: OpaqueTyId(id),
+            }),
+            DefKind::FreeTyAlias => Some(AliasTermKind::FreeTy {
+                def_id: FreeTyAliasId(id),
+            }),
+            DefKind::FreeConstAlias => Some(AliasTermKind::FreeConst {
+                def_id: FreeConstAliasId(id),
+            }),
+            DefKind::AnonConst => Some(AliasTermKind::UnevaluatedConst {
+                def_id: UnevaluatedConstId(id),
+            }),
+            DefKind::Adt
+            | DefKind::Fn
+            | DefKind::Closure
+            | DefKind::CoroutineClosure
+            | DefKind::Coroutine
+            | DefKind::Foreign
+            | DefKind::Trait => None,
+        }
+    }
+}
+
 /// What a generic parameter stands for.
 #[derive(Clone, Copy)]
 pub enum GenericParamKind {
@@ -63,12 +112,18 @@ pub struct Item {
     pub name: SymbolId,
     /// How the item varies with each of its generic parameters.
     pub variances: Vec<Variance>,
+    /// Whether the item is an auto trait.
+    pub is_auto: bool,
+    /// Whether the item is the trait `Sized`.
+    pub is_sized: bool,
 }
 
 impl RefInterner {
     ghost use Rattle.reference_interner.specs.Adding.{items_of, item_count, meaning_in, SameTerms, OthersStand};
     ghost use Rattle.reference_interner.specs.Adding.{HasNoGenerics};
-    ghost use Rattle.reference_interner.specs.Items.{alias_variances_of};
+    ghost use Rattle.reference_interner.specs.Items.{alias_variances_of, parent_of, alias_kind_of, new_item};
+    ghost use Rattle.reference_interner.specs.Items.{changed_at, said_auto, said_sized};
+    ghost use Rattle.relation_terms.specs.declared.terms.enums.SolverTraitLangItem.{SolverTraitLangItem};
 
     /// How many items were added.
     pub fn item_count(&self) -> usize
@@ -90,7 +145,7 @@ impl RefInterner {
     ) -> Result<ItemId, OutOfMemory>
         ensures number { IfOk result (λ d. d.0 ≡ item_count self.old) }
         ensures recorded { IfOk result (λ d. items_of self.new ≡ items_of self.old ++
-            record { kind = kind; name = name; variances = variances } ∷ []) }
+            new_item kind name variances ∷ []) }
         ensures one_more { IfOk result (λ d. item_count self.new ≡ suc (item_count self.old)) }
         ensures fresh { IfOk result (λ d. HasNoGenerics (meaning_in self.old) d.0) }
         ensures terms { SameTerms (meaning_in self.old) (meaning_in self.new) }
@@ -98,6 +153,11 @@ impl RefInterner {
         ensures variances { IfOk result (λ d. (meaning_in self.new).variances d.0 ≡ variances.items) }
         ensures alias_variances { let is = alias_variances_of kind.def variances.items in
             IfOk result (λ d. (meaning_in self.new).alias_variances d.0 ≡ is) }
+        ensures parent { IfOk result (λ d. ((meaning_in self.new).tables).parent d.0 ≡ parent_of kind.def) }
+        ensures alias_kind { IfOk result (λ d. ((meaning_in self.new).tables).alias_kind d.0 ≡ alias_kind_of kind.def) }
+        ensures no_auto { IfOk result (λ d. IsFalse (((meaning_in self.new).tables).is_auto d.0)) }
+        ensures no_lang_item { (i : SolverTraitLangItem) →
+            IfOk result (λ d. IsFalse (((meaning_in self.new).tables).is_lang_item d.0 i)) }
         ensures others { IfOk result (λ d. OthersStand (meaning_in self.old) (meaning_in self.new) d.0) }
         ensures refused { OnErr result (meaning_in self.new ≡ meaning_in self.old) }
         ensures none_recorded { OnErr result (items_of self.new ≡ items_of self.old) }
@@ -107,7 +167,42 @@ impl RefInterner {
             kind,
             name,
             variances,
+            is_auto: false,
+            is_sized: false,
         })?;
         Ok(ItemId(number))
+    }
+
+    /// Says that a trait is an auto trait. Nothing changes where no item has the id.
+    pub fn set_auto(&mut self, trait_id: TraitId<ItemId>)
+        ensures recorded { items_of self.new ≡ changed_at said_auto (items_of self.old) (trait_id.0).0 }
+        ensures terms { SameTerms (meaning_in self.old) (meaning_in self.new) }
+        ensures solver { ((meaning_in self.new).tables).next_solver ≡ ((meaning_in self.old).tables).next_solver }
+    {
+        let number = trait_id.0.0;
+        if number < self.items.len() {
+            self.items[number].is_auto = true;
+        }
+    }
+
+    /// Says that a trait is the one that the language knows as `Sized`. Nothing changes where no item has the id.
+    pub fn set_sized(&mut self, trait_id: TraitId<ItemId>)
+        ensures recorded { items_of self.new ≡ changed_at said_sized (items_of self.old) (trait_id.0).0 }
+        ensures terms { SameTerms (meaning_in self.old) (meaning_in self.new) }
+        ensures solver { ((meaning_in self.new).tables).next_solver ≡ ((meaning_in self.old).tables).next_solver }
+    {
+        let number = trait_id.0.0;
+        if number < self.items.len() {
+            self.items[number].is_sized = true;
+        }
+    }
+
+    /// Says whether the next solver is on everywhere.
+    pub fn set_solver_globally(&mut self, is_on: bool)
+        ensures recorded { ((meaning_in self.new).tables).next_solver ≡ is_on }
+        ensures items { items_of self.new ≡ items_of self.old }
+        ensures terms { SameTerms (meaning_in self.old) (meaning_in self.new) }
+    {
+        self.next_solver = is_on;
     }
 }

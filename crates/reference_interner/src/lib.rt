@@ -17,14 +17,16 @@ pub use items::{DefKind, GenericParam, GenericParamKind, Item, ItemKind};
 pub use keys::{ItemId, NoSpan, NodeKey, SymbolId};
 pub use node::Node;
 use node::copied;
-use relation_terms::predicate::{ClauseForm, ObjectPredicate, PredicateForm, PredicateKind};
+use relation_terms::predicate::{
+    AliasTermKind, ClauseForm, ObjectPredicate, PredicateForm, PredicateKind,
+};
 use relation_terms::terms::{
     Alternatives, AlternativesKey, ArgsKey, Binder, BoundVariable, BoundVars, BoundVarsKey,
     Branches, BranchesKey, Clause, ClauseKey, Clauses, ClausesKey, Const, ConstForm, ConstKey,
     ExistentialPredicates, ExistentialPredicatesKey, GenericArg, GenericArgs, Interner, ItemOf,
     OutOfMemory, ParamEnv, ParamEnvKey, Pat, PatKey, PatternForm, Predicate, PredicateKey, Region,
-    RegionForm, RegionKey, Span, Ty, TyForm, TyKey, TypeFlags, Tys, TysKey, ValTree, ValTreeForm,
-    ValTreeKey, Variance,
+    RegionForm, RegionKey, SolverTraitLangItem, Span, TraitAssocTermId, TraitId, Ty, TyForm, TyKey,
+    TypeFlags, Tys, TysKey, ValTree, ValTreeForm, ValTreeKey, Variance,
 };
 use std::alloc::Global;
 use std::collections::HashMap;
@@ -42,6 +44,8 @@ pub struct RefInterner {
     items: Vec<Item>,
     // What is asked of the nodes' terms as a whole, by the nodes' numbers.
     flags: Vec<TypeFlags>,
+    // Whether the next solver is on everywhere.
+    next_solver: bool,
     ghost known_all: { AllKnown nodes.items },
     ghost distinct: { AllDistinct nodes.items },
     ghost finds: { Finds nodes.items (get ⟦<Node as PartialEq>⟧.eq places) },
@@ -64,7 +68,7 @@ impl Interner for RefInterner {
     ghost use Rattle.reference_interner.specs.Nodes.{ty_node, region_node, const_node, valtree_node, args_node};
     ghost use Rattle.reference_interner.specs.Nodes.{tys_node, branches_node, clauses_node, predicate_node};
     ghost use Rattle.reference_interner.specs.Nodes.{pat_node, alternatives_node, predicates_node};
-    ghost use Rattle.reference_interner.specs.Adding.{meaning_in, node_count};
+    ghost use Rattle.reference_interner.specs.Adding.{meaning_in, items_in, node_count};
     ghost use Rattle.reference_interner.specs.Laws.{sort_law, same_law, same_kinds_law, same_name_law, same_id_law};
     ghost use Rattle.reference_interner.specs.Laws.{same_clause_law, same_env_law, clause_law, env_law};
 
@@ -216,6 +220,51 @@ impl Interner for RefInterner {
             Some(item) => &item.variances,
             None => &[],
         }
+    }
+
+    fn opt_alias_variances(&self, def_id: &ItemOf<Self>) -> Option<&[Variance]> {
+        let item = self.items.get(def_id.0.0)?;
+        match item.kind.def {
+            DefKind::OpaqueTy => Some(&item.variances),
+            _ => None,
+        }
+    }
+
+    fn projection_parent(&self, def_id: &TraitAssocTermId<ItemId>) -> Option<TraitId<ItemId>> {
+        match self.items.get(def_id.0.0)?.kind.def {
+            DefKind::AssocTy(parent) | DefKind::AssocConst(parent) => Some(parent),
+            _ => None,
+        }
+    }
+
+    fn trait_is_auto(&self, trait_id: &TraitId<ItemId>) -> bool {
+        match self.items.get(trait_id.0.0) {
+            Some(item) => item.is_auto,
+            None => false,
+        }
+    }
+
+    fn is_trait_lang_item(
+        &self,
+        trait_id: &TraitId<ItemId>,
+        lang_item: SolverTraitLangItem,
+    ) -> bool {
+        match (self.items.get(trait_id.0.0), lang_item) {
+            (Some(item), SolverTraitLangItem::Sized) => item.is_sized,
+            (None, _) => false,
+        }
+    }
+
+    fn alias_term_kind_from_def_id(&self, def_id: &ItemOf<Self>) -> Option<AliasTermKind<ItemId>> {
+        self.items
+            .get(def_id.0.0)?
+            .kind
+            .def
+            .alias_term_kind(def_id.0)
+    }
+
+    fn next_trait_solver_globally(&self) -> bool {
+        self.next_solver
     }
 
     fn mk_ty(&mut self, kind: TyForm<Self>) -> Result<Ty<Self>, OutOfMemory>
@@ -441,67 +490,67 @@ impl Interner for RefInterner {
         Ok(ParamEnvKey(number))
     }
 
-    ghost same_ty = { λ a k l. same_law a.items.items a.nodes.items a.distinct ty_node (k.0).0 (l.0).0 };
+    ghost same_ty = { λ a k l. same_law (items_in a) a.nodes.items a.distinct ty_node (k.0).0 (l.0).0 };
 
-    ghost same_region = { λ a k l. same_law a.items.items a.nodes.items a.distinct region_node (k.0).0 (l.0).0 };
+    ghost same_region = { λ a k l. same_law (items_in a) a.nodes.items a.distinct region_node (k.0).0 (l.0).0 };
 
-    ghost same_tys = { λ a k l. same_law a.items.items a.nodes.items a.distinct tys_node (k.0).0 (l.0).0 };
+    ghost same_tys = { λ a k l. same_law (items_in a) a.nodes.items a.distinct tys_node (k.0).0 (l.0).0 };
 
-    ghost same_const = { λ a k l. same_law a.items.items a.nodes.items a.distinct const_node (k.0).0 (l.0).0 };
+    ghost same_const = { λ a k l. same_law (items_in a) a.nodes.items a.distinct const_node (k.0).0 (l.0).0 };
 
-    ghost same_args = { λ a k l. same_law a.items.items a.nodes.items a.distinct args_node (k.0).0 (l.0).0 };
+    ghost same_args = { λ a k l. same_law (items_in a) a.nodes.items a.distinct args_node (k.0).0 (l.0).0 };
 
-    ghost same_valtree = { λ a k l. same_law a.items.items a.nodes.items a.distinct valtree_node (k.0).0 (l.0).0 };
+    ghost same_valtree = { λ a k l. same_law (items_in a) a.nodes.items a.distinct valtree_node (k.0).0 (l.0).0 };
 
-    ghost same_branches = { λ a k l. same_law a.items.items a.nodes.items a.distinct branches_node (k.0).0 (l.0).0 };
+    ghost same_branches = { λ a k l. same_law (items_in a) a.nodes.items a.distinct branches_node (k.0).0 (l.0).0 };
 
-    ghost same_pat = { λ a k l. same_law a.items.items a.nodes.items a.distinct pat_node (k.0).0 (l.0).0 };
+    ghost same_pat = { λ a k l. same_law (items_in a) a.nodes.items a.distinct pat_node (k.0).0 (l.0).0 };
 
     ghost same_alternatives = { λ a k l.
-        same_law a.items.items a.nodes.items a.distinct alternatives_node (k.0).0 (l.0).0 };
+        same_law (items_in a) a.nodes.items a.distinct alternatives_node (k.0).0 (l.0).0 };
 
     ghost same_existential_predicates = { λ a k l.
-        same_law a.items.items a.nodes.items a.distinct predicates_node (k.0).0 (l.0).0 };
+        same_law (items_in a) a.nodes.items a.distinct predicates_node (k.0).0 (l.0).0 };
 
-    ghost same_bound_vars = { λ a k l. same_kinds_law a.items.items a.nodes.items a.distinct (k.0).0 (l.0).0 };
+    ghost same_bound_vars = { λ a k l. same_kinds_law (items_in a) a.nodes.items a.distinct (k.0).0 (l.0).0 };
 
-    ghost same_predicate = { λ a k l. same_law a.items.items a.nodes.items a.distinct predicate_node (k.0).0 (l.0).0 };
+    ghost same_predicate = { λ a k l. same_law (items_in a) a.nodes.items a.distinct predicate_node (k.0).0 (l.0).0 };
 
-    ghost same_clause = { λ a k l. same_clause_law a.items.items a.nodes.items a.distinct (k.0).0 (l.0).0 };
+    ghost same_clause = { λ a k l. same_clause_law (items_in a) a.nodes.items a.distinct (k.0).0 (l.0).0 };
 
-    ghost same_clauses = { λ a k l. same_law a.items.items a.nodes.items a.distinct clauses_node (k.0).0 (l.0).0 };
+    ghost same_clauses = { λ a k l. same_law (items_in a) a.nodes.items a.distinct clauses_node (k.0).0 (l.0).0 };
 
-    ghost same_param_env = { λ a k l. same_env_law a.items.items a.nodes.items a.distinct (k.0).0 (l.0).0 };
+    ghost same_param_env = { λ a k l. same_env_law (items_in a) a.nodes.items a.distinct (k.0).0 (l.0).0 };
 
-    ghost same_name = { λ a. same_name_law a.items.items a.nodes.items };
+    ghost same_name = { λ a. same_name_law (items_in a) a.nodes.items };
 
-    ghost same_id = { λ a. same_id_law a.items.items a.nodes.items };
+    ghost same_id = { λ a. same_id_law (items_in a) a.nodes.items };
 
-    ghost is_ty = { λ a k. sort_law a.items.items a.nodes.items ty_node (k.0).0 };
+    ghost is_ty = { λ a k. sort_law (items_in a) a.nodes.items ty_node (k.0).0 };
 
-    ghost is_region = { λ a k. sort_law a.items.items a.nodes.items region_node (k.0).0 };
+    ghost is_region = { λ a k. sort_law (items_in a) a.nodes.items region_node (k.0).0 };
 
-    ghost are_tys = { λ a k. sort_law a.items.items a.nodes.items tys_node (k.0).0 };
+    ghost are_tys = { λ a k. sort_law (items_in a) a.nodes.items tys_node (k.0).0 };
 
-    ghost is_const = { λ a k. sort_law a.items.items a.nodes.items const_node (k.0).0 };
+    ghost is_const = { λ a k. sort_law (items_in a) a.nodes.items const_node (k.0).0 };
 
-    ghost is_valtree = { λ a k. sort_law a.items.items a.nodes.items valtree_node (k.0).0 };
+    ghost is_valtree = { λ a k. sort_law (items_in a) a.nodes.items valtree_node (k.0).0 };
 
-    ghost are_args = { λ a k. sort_law a.items.items a.nodes.items args_node (k.0).0 };
+    ghost are_args = { λ a k. sort_law (items_in a) a.nodes.items args_node (k.0).0 };
 
-    ghost are_branches = { λ a k. sort_law a.items.items a.nodes.items branches_node (k.0).0 };
+    ghost are_branches = { λ a k. sort_law (items_in a) a.nodes.items branches_node (k.0).0 };
 
-    ghost is_pat = { λ a k. sort_law a.items.items a.nodes.items pat_node (k.0).0 };
+    ghost is_pat = { λ a k. sort_law (items_in a) a.nodes.items pat_node (k.0).0 };
 
-    ghost are_alternatives = { λ a k. sort_law a.items.items a.nodes.items alternatives_node (k.0).0 };
+    ghost are_alternatives = { λ a k. sort_law (items_in a) a.nodes.items alternatives_node (k.0).0 };
 
-    ghost are_existential_predicates = { λ a k. sort_law a.items.items a.nodes.items predicates_node (k.0).0 };
+    ghost are_existential_predicates = { λ a k. sort_law (items_in a) a.nodes.items predicates_node (k.0).0 };
 
-    ghost is_predicate = { λ a k. sort_law a.items.items a.nodes.items predicate_node (k.0).0 };
+    ghost is_predicate = { λ a k. sort_law (items_in a) a.nodes.items predicate_node (k.0).0 };
 
-    ghost is_clause = { λ a k. clause_law a.items.items a.nodes.items (k.0).0 };
+    ghost is_clause = { λ a k. clause_law (items_in a) a.nodes.items (k.0).0 };
 
-    ghost are_clauses = { λ a k. sort_law a.items.items a.nodes.items clauses_node (k.0).0 };
+    ghost are_clauses = { λ a k. sort_law (items_in a) a.nodes.items clauses_node (k.0).0 };
 
-    ghost is_param_env = { λ a k. env_law a.items.items a.nodes.items (k.0).0 };
+    ghost is_param_env = { λ a k. env_law (items_in a) a.nodes.items (k.0).0 };
 }

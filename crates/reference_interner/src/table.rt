@@ -5,7 +5,7 @@ ghost use Rattle.relation_terms.specs.Trees.{known};
 ghost use Rattle.reference_interner.specs.Nodes.{entry_of, known_entry, table_meaning, StandsAt};
 ghost use Rattle.reference_interner.specs.Finding.{Lacks, HasAt};
 ghost use Rattle.reference_interner.specs.Places.{HasKey};
-ghost use Rattle.reference_interner.specs.Adding.{meaning_in, node_count, item_count};
+ghost use Rattle.reference_interner.specs.Adding.{meaning_in, items_in, node_count, item_count};
 ghost use Rattle.reference_interner.specs.Empty.{KnowsNone};
 
 use crate::node::copied_node;
@@ -27,6 +27,7 @@ impl RefInterner {
             places: HashMap::new(alloc),
             items: Vec::new(alloc),
             flags: Vec::new(alloc),
+            next_solver: false,
         }
     }
 
@@ -48,16 +49,16 @@ impl RefInterner {
 
     // The key of the node, which is put at the end where it is new.
     pub(super) fn add(&mut self, node: Node) -> Result<NodeKey, OutOfMemory>
-        requires { IsTrue (known_entry (entry_of (table_meaning self.old.items.items self.old.nodes.items) node)) }
-        ensures number { let m = table_meaning self.old.items.items self.old.nodes.items in
+        requires { IsTrue (known_entry (entry_of (table_meaning (items_in self.old) self.old.nodes.items) node)) }
+        ensures number { let m = table_meaning (items_in self.old) self.old.nodes.items in
             IfOk result (λ k. StandsAt self.new.nodes.items k.0 (entry_of m node)) }
         ensures added { (self.new.nodes.items ≡ self.old.nodes.items) ⊎
             (self.new.nodes.items ≡ self.old.nodes.items ++ node ∷ []) }
         ensures refused { OnErr result (self.new.nodes.items ≡ self.old.nodes.items) }
-        ensures there { let m = table_meaning self.old.items.items self.old.nodes.items in
+        ensures there { let m = table_meaning (items_in self.old) self.old.nodes.items in
             (k : ℕ) → StandsAt self.old.nodes.items k (entry_of m node) →
             IsOk result × (self.new.nodes.items ≡ self.old.nodes.items) }
-        ensures items { self.new.items ≡ self.old.items }
+        ensures items { items_in self.new ≡ items_in self.old }
         ensures one_more { node_count self.new ≤ suc (node_count self.old) }
     {
         match self.place(&node) {
@@ -68,14 +69,14 @@ impl RefInterner {
 
     // The key of a node of a new form, which is put at the end. All growths come before anything is written.
     fn put(&mut self, node: Node) -> Result<NodeKey, OutOfMemory>
-        requires known { let m = table_meaning self.old.items.items self.old.nodes.items in
+        requires known { let m = table_meaning (items_in self.old) self.old.nodes.items in
             IsTrue (known_entry (entry_of m node)) }
         requires new { Lacks self.old.nodes.items node }
-        ensures number { let m = table_meaning self.old.items.items self.old.nodes.items in
+        ensures number { let m = table_meaning (items_in self.old) self.old.nodes.items in
             IfOk result (λ k. StandsAt self.new.nodes.items k.0 (entry_of m node)) }
         ensures added { OnOk result (self.new.nodes.items ≡ self.old.nodes.items ++ node ∷ []) }
         ensures refused { OnErr result (self.new.nodes.items ≡ self.old.nodes.items) }
-        ensures items { self.new.items ≡ self.old.items }
+        ensures items { items_in self.new ≡ items_in self.old }
     {
         let number = self.nodes.len();
         let flags = self.node_flags(&node);

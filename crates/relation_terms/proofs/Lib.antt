@@ -8,5 +8,7 @@ pub mod Parts
 pub mod Orders
 pub mod Same
 pub mod Predicates
+pub mod Fields
 pub mod Clauses
 pub mod Flags
+mod Closures

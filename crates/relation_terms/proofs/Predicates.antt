@@ -49,16 +49,16 @@ two_parts h t u v w e f = ap₂ (λ x y. node h (cons x (cons y nil))) e f
 
 -- What is known stays.
 module _ {Key Id Name : Type 0} {m n : Meaning Key Id Name} (e : Extends m n) where
-  stays_trait_ref : (t : TraitRef Key Id) → IsTrue (known (trait_ref_tree m t)) →
+  pub stays_trait_ref : (t : TraitRef Key Id) → IsTrue (known (trait_ref_tree m t)) →
       trait_ref_tree n t ≡ trait_ref_tree m t
   stays_trait_ref t k = ap₂ (λ x y. node (trait_ref x) y) (e.id (t.def_id).0) (e.args t.args k)
 
-  stays_alias_term : (a : AliasTerm Key Id) → IsTrue (known (alias_term_tree m a)) →
+  pub stays_alias_term : (a : AliasTerm Key Id) → IsTrue (known (alias_term_tree m a)) →
       alias_term_tree n a ≡ alias_term_tree m a
   stays_alias_term a k =
       ap₂ (λ x y. node (alias_term (alias_term_kind a.kind) x) y) (e.id (alias_term_id a.kind)) (e.args a.args k)
 
-  stays_clause_kind : (c : ClauseKind Key Id Name) → IsTrue (known (clause_kind_tree m c)) →
+  pub stays_clause_kind : (c : ClauseKind Key Id Name) → IsTrue (known (clause_kind_tree m c)) →
       clause_kind_tree n c ≡ clause_kind_tree m c
   stays_clause_kind (Trait p) k =
       let t = trait_ref_tree m p.trait_ref in
@@ -87,7 +87,7 @@ module _ {Key Id Name : Type 0} {m n : Meaning Key Id Name} (e : Extends m n) wh
       one_part (host_effect p.constness) t (trait_ref_tree n p.trait_ref) (stays_trait_ref p.trait_ref (one_known t k))
   stays_clause_kind (UnstableFeature s) k = ap (λ x. leaf (atom (unstable_feature x))) (e.name s)
 
-  stays_predicate_kind : (p : PredicateKind Key Id Name) → IsTrue (known (predicate_kind_tree m p)) →
+  pub stays_predicate_kind : (p : PredicateKind Key Id Name) → IsTrue (known (predicate_kind_tree m p)) →
       predicate_kind_tree n p ≡ predicate_kind_tree m p
   stays_predicate_kind (Clause c) k = stays_clause_kind c k
   stays_predicate_kind (Subtype p) k =

@@ -86,6 +86,7 @@ stays_same m = record {
   generics = refl;
   variances = refl;
   alias_variances = refl;
+  tables = refl;
 }
 
 -- A step and the steps after it, at one key.
@@ -118,6 +119,7 @@ module _ {Key Id Name : Type 0} {m n o : Meaning Key Id Name} where
     generics = f.generics ∙ e.generics;
     variances = f.variances ∙ e.variances;
     alias_variances = f.alias_variances ∙ e.alias_variances;
+    tables = f.tables ∙ e.tables;
   }
 
 -- What is known stays known.

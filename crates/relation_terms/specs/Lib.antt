@@ -1,11 +1,14 @@
 pub mod Heads
 pub mod Trees
 pub mod Variances
+pub mod Tables
 pub mod Meaning
 pub mod Predicates
 pub mod Clauses
 pub mod Interning
 pub mod Erasure
 pub mod Parts
+pub mod Fields
 pub mod Orders
 pub mod Flags
+pub mod Closures

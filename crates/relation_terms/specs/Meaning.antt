@@ -13,6 +13,7 @@ use Rattle.relation_terms.specs.Heads.{fn_ptr, unsafe_binder, dynamic, signature
 use Rattle.relation_terms.specs.Heads.{existential_projection, existential_auto}
 use Rattle.relation_terms.specs.Heads.{variable, bound, placeholder, atom, unknown}
 use Rattle.relation_terms.specs.Trees.{Tree, leaf, node, bind, nil, cons, known, list_tree, front, last}
+use Rattle.relation_terms.specs.Tables.{Tables}
 use Rattle.relation_terms.specs.declared.terms.enums.Variance.{Variance}
 use Rattle.relation_terms.specs.declared.terms.keys.TyKey.{TyKey}
 use Rattle.relation_terms.specs.declared.terms.keys.RegionKey.{RegionKey}
@@ -79,9 +80,9 @@ use Rattle.relation_terms.specs.declared.terms.generic_arg.TermKind.{TermKind}
 use Rattle.relation_terms.specs.declared.terms.generic_arg.TermKind.TheVariants.{Ty as TyTerm, Const as ConstTerm}
 
 -- The tree of each key, the list of lists' trees, the number of each id and name, and of the item of a number how
--- many generic parameters it has, the variances that are declared of them, and the variances at which an alias type of
--- the item is related, where it has any. What an interner does not know has a tree with the leaf `unknown`, and of a
--- binder's variables none.
+-- many generic parameters it has, the variances that are declared of them, the variances at which an alias type of the
+-- item is related, where it has any, and what the tables say of it. What an interner does not know has a tree with the
+-- leaf `unknown`, and of a binder's variables none.
 pub record Meaning (Key Id Name : Type 0) : Type 0 where
   pub ty : TyKey Key → Tree
   pub region : RegionKey Key → Tree
@@ -103,6 +104,7 @@ pub record Meaning (Key Id Name : Type 0) : Type 0 where
   pub generics : ℕ → ℕ
   pub variances : ℕ → List Variance
   pub alias_variances : ℕ → Option (List Variance)
+  pub tables : Tables
 
 -- The second has all that the first knows, and by the same trees.
 pub record Extends {Key Id Name : Type 0} (m n : Meaning Key Id Name) : Type 0 where
@@ -127,6 +129,7 @@ pub record Extends {Key Id Name : Type 0} (m n : Meaning Key Id Name) : Type 0 w
   pub generics : n.generics ≡ m.generics
   pub variances : n.variances ≡ m.variances
   pub alias_variances : n.alias_variances ≡ m.alias_variances
+  pub tables : n.tables ≡ m.tables
 
 -- Which kind of alias a type is, and its id.
 abbrev pub alias_kind : {Id : Type 0} → AliasTyKind Id → AliasKind

@@ -45,6 +45,17 @@ alias_term_id (ProjectionConst d) = d.0
 alias_term_id (FreeConst d) = d.0
 alias_term_id (InherentConst d) = d.0
 
+-- The alias of a kind that an item is.
+abbrev pub alias_of : {Id : Type 0} → Id → AliasTermKind → TermKindOf Id
+alias_of d (type_alias projection_alias) = ProjectionTy (record { 0 = d })
+alias_of d (type_alias inherent_alias) = InherentTy (record { 0 = d })
+alias_of d (type_alias opaque_alias) = OpaqueTy (record { 0 = d })
+alias_of d (type_alias free_alias) = FreeTy (record { 0 = d })
+alias_of d unevaluated_const = UnevaluatedConst (record { 0 = d })
+alias_of d projection_const = ProjectionConst (record { 0 = d })
+alias_of d free_const = FreeConst (record { 0 = d })
+alias_of d inherent_const = InherentConst (record { 0 = d })
+
 module _ {Key Id Name : Type 0} (m : Meaning Key Id Name) where
   -- The tree of a trait with its arguments, and of an alias with its own.
   abbrev pub trait_ref_tree : TraitRef Key Id → Tree

@@ -2,6 +2,7 @@
 
 mod alias;
 mod binder;
+mod closure;
 mod const_kind;
 mod enums;
 mod flags;
@@ -26,6 +27,9 @@ pub use alias::UnevaluatedConst;
 pub use binder::Binder;
 pub use binder::BoundVariable;
 pub use binder::BoundVariableKind;
+pub use closure::closure_upvars;
+pub use closure::coroutine_resume_ty;
+pub use closure::coroutine_upvars;
 pub use const_kind::ConstForm;
 pub use const_kind::ConstKind;
 pub use const_kind::ExprKind;
@@ -41,6 +45,7 @@ pub use enums::IntTy;
 pub use enums::Mutability;
 pub use enums::PredicatePolarity;
 pub use enums::Safety;
+pub use enums::SolverTraitLangItem;
 pub use enums::UintTy;
 pub use enums::Variance;
 pub use flags::TypeFlags;

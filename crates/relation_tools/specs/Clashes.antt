@@ -64,12 +64,16 @@ may_stand (leaf (variable int_var n)) t = not (is_rigid t) || is_integral t
 may_stand (leaf (variable float_var n)) t = not (is_rigid t) || is_floating_point t
 may_stand v t = true
 
--- The outline of a form: of one alone, of one over an item, of one with so many parts.
+-- The outline of a form: of one alone, of one over an item, of a trait object by its principal, of one with so many
+-- parts.
 abbrev pub plain : {D : Type 0} → Form → Outline D
 plain f = record { form = f; item = None; header = None; parts = 0 }
 
 abbrev pub of_item : {D : Type 0} → Form → D → Outline D
 of_item f d = record { form = f; item = Some d; header = None; parts = 0 }
+
+abbrev pub of_object : {D : Type 0} → Option D → Outline D
+of_object p = record { form = Dynamic; item = p; header = None; parts = 0 }
 
 abbrev pub counted : {D : Type 0} → Form → ℕ → Outline D
 counted f n = record { form = f; item = None; header = None; parts = n }
@@ -120,7 +124,7 @@ outline (ref m) ts = plain (reference_form m)
 outline tuple ts = counted Tuple (count ts)
 outline fn_ptr ts = record { form = FnPtr; item = None; header = header_of ts; parts = inputs_count ts }
 outline unsafe_binder ts = plain UnsafeBinder
-outline dynamic ts = record { form = Dynamic; item = object_principal ts; header = None; parts = 0 }
+outline dynamic ts = of_object (object_principal ts)
 outline value ts = plain Value
 outline value_branch ts = counted Branch (count ts)
 outline h ts = plain Alias

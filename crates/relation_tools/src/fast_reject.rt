@@ -6,4 +6,4 @@ mod simplify;
 mod walk;
 
 pub use deep::DeepRejectCtxt;
-pub use simplify::{KeyTables, SimplifiedType, TreatParams, simplify_type};
+pub use simplify::{SimplifiedType, TreatParams, simplify_type};

@@ -1,35 +1,17 @@
 //! Quick tests: which types may unify, and the keys of types.
-ghost use Rattle.std.specs.Prelude.{IsTrue, IfOk, false};
+ghost use Rattle.std.specs.Prelude.{IsTrue, IfOk};
 ghost use Rattle.relation_terms.specs.Trees.{known};
 ghost use Rattle.relation_terms.specs.Meaning.{Extends};
 
 use reference_interner::{ItemId, RefInterner, SymbolId};
+use relation_terms::predicate::{ExistentialPredicate, ExistentialTraitRef};
 use relation_terms::terms::{
-    ErrorGuaranteed, FunctionId, GenericArgKind, InferTy, IntVid, Interner, OutOfMemory, ParamTy,
-    TraitId, Ty, TyKind, UintTy,
+    Binder, ErrorGuaranteed, FunctionId, GenericArgKind, InferTy, IntVid, Interner, OutOfMemory,
+    ParamTy, TraitId, Ty, TyKind, UintTy,
 };
-use relation_tools::fast_reject::{
-    DeepRejectCtxt, KeyTables, SimplifiedType, TreatParams, simplify_type,
-};
+use relation_tools::fast_reject::{DeepRejectCtxt, SimplifiedType, TreatParams, simplify_type};
+use relation_tools::trait_object::principal_def_id;
 use std::test::Fail;
-
-// No trait is an auto trait, and the next solver is off.
-#[derive(Clone, Copy)]
-struct NoTables;
-
-impl<I: Interner> KeyTables<I> for NoTables {
-    ghost auto_traits = { λ tables d. false };
-
-    ghost next_solver = { λ tables. false };
-
-    fn trait_is_auto(&self, _cx: &I, _trait_id: &TraitId<I::Id>) -> bool {
-        false
-    }
-
-    fn next_trait_solver_globally(&self) -> bool {
-        false
-    }
-}
 
 // Whether unlike types are told apart where depth is left, and not where none is.
 #[tactic(auto, using(relation_terms::proofs::Stays::knows_ty))]
@@ -103,8 +85,8 @@ fn unify_under_slices<I: Interner>(cx: &mut I, levels: usize) -> Result<bool, Ou
 // Whether a parameter has the key of a placeholder, and none where it is a variable.
 fn parameters_have_keys<I: Interner>(cx: &mut I, name: I::Name) -> Result<bool, OutOfMemory> {
     let ty = cx.mk_ty(TyKind::Param(ParamTy { index: 0, name }))?;
-    let rigid = simplify_type(cx, &NoTables, &ty, TreatParams::AsRigid);
-    let infer = simplify_type(cx, &NoTables, &ty, TreatParams::InstantiateWithInfer);
+    let rigid = simplify_type(cx, &ty, TreatParams::AsRigid);
+    let infer = simplify_type(cx, &ty, TreatParams::InstantiateWithInfer);
     Ok(matches!(rigid, Some(SimplifiedType::Placeholder)) && infer.is_none())
 }
 
@@ -113,7 +95,7 @@ fn parameters_have_keys<I: Interner>(cx: &mut I, name: I::Name) -> Result<bool, 
 fn functions_have_keys<I: Interner>(cx: &mut I, def: I::Id) -> Result<bool, OutOfMemory> {
     let args = cx.mk_args(&Vec::new(cx.alloc()))?;
     let ty = cx.mk_ty(TyKind::FnDef(FunctionId(def), args))?;
-    let key = simplify_type(cx, &NoTables, &ty, TreatParams::AsRigid);
+    let key = simplify_type(cx, &ty, TreatParams::AsRigid);
     let Some(SimplifiedType::Closure(of)) = key else {
         return Ok(false);
     };
@@ -126,12 +108,37 @@ fn tuples_have_keys<I: Interner>(cx: &mut I) -> Result<bool, OutOfMemory> {
     let members = cx.mk_type_list(&Vec::new(cx.alloc()))?;
     let unit = cx.mk_ty(TyKind::Tuple(members))?;
     let error = cx.mk_ty(TyKind::Error(ErrorGuaranteed))?;
-    let unit = simplify_type(cx, &NoTables, &unit, TreatParams::AsRigid);
-    let error = simplify_type(cx, &NoTables, &error, TreatParams::AsRigid);
+    let unit = simplify_type(cx, &unit, TreatParams::AsRigid);
+    let error = simplify_type(cx, &error, TreatParams::AsRigid);
     Ok(
         matches!(unit, Some(SimplifiedType::Tuple(0)))
             && matches!(error, Some(SimplifiedType::Error)),
     )
+}
+
+// Whether the principal of a trait object is its trait, and not the auto trait before it.
+#[tactic(auto, using(relation_terms::proofs::Stays::knows_args))]
+fn principal_is_the_trait<I: Interner>(
+    cx: &mut I,
+    auto: I::Id,
+    def: I::Id,
+) -> Result<bool, OutOfMemory> {
+    let args = cx.mk_args(&Vec::new(cx.alloc()))?;
+    let bound_vars = cx.mk_bound_vars(&Vec::new(cx.alloc()))?;
+    let mut list = Vec::new(cx.alloc());
+    list.push(Binder {
+        value: ExistentialPredicate::AutoTrait(TraitId(auto)),
+        bound_vars,
+    })?;
+    list.push(Binder {
+        value: ExistentialPredicate::Trait(ExistentialTraitRef {
+            def_id: TraitId(def),
+            args,
+        }),
+        bound_vars,
+    })?;
+    let key = cx.mk_existential_predicates(&list)?;
+    Ok(principal_def_id(cx, &key) == Some(TraitId(def)))
 }
 
 #[test]
@@ -152,5 +159,6 @@ fn types_have_keys(rt: HostRuntime) -> Result<(), Fail> {
     assert!(rt; parameters_have_keys(&mut cx, SymbolId(0))?);
     assert!(rt; functions_have_keys(&mut cx, ItemId(0))?);
     assert!(rt; tuples_have_keys(&mut cx)?);
+    assert!(rt; principal_is_the_trait(&mut cx, ItemId(0), ItemId(1))?);
     Ok(())
 }

@@ -2,7 +2,11 @@
 use reference_interner::{
     DefKind, GenericParam, GenericParamKind, ItemId, ItemKind, RefInterner, SymbolId,
 };
-use relation_terms::terms::{DefId, Interner, OutOfMemory, Variance};
+use relation_terms::predicate::AliasTermKind;
+use relation_terms::terms::{
+    DefId, Interner, OutOfMemory, SolverTraitLangItem, TraitAssocTermId, TraitAssocTyId, TraitId,
+    Variance,
+};
 use std::alloc::Global;
 use std::test::Fail;
 
@@ -24,11 +28,15 @@ fn add_struct(cx: &mut RefInterner, alloc: Global) -> Result<ItemId, OutOfMemory
     cx.add_item(ItemKind { def, params }, SymbolId(0), variances)
 }
 
-// A function without parameters.
-fn add_fn(cx: &mut RefInterner, alloc: Global) -> Result<ItemId, OutOfMemory> {
-    let def = DefKind::Fn;
+// An item of a kind, without parameters.
+fn add_plain(cx: &mut RefInterner, alloc: Global, def: DefKind) -> Result<ItemId, OutOfMemory> {
     let params = Vec::new(alloc);
     cx.add_item(ItemKind { def, params }, SymbolId(3), Vec::new(alloc))
+}
+
+// A function without parameters.
+fn add_fn(cx: &mut RefInterner, alloc: Global) -> Result<ItemId, OutOfMemory> {
+    add_plain(cx, alloc, DefKind::Fn)
 }
 
 #[test]
@@ -52,5 +60,41 @@ fn reads_the_variances_of_what_it_added(rt: HostRuntime) -> Result<(), Fail> {
     assert!(rt; cx.generics_count(&DefId(function)) == 0);
     assert!(rt; cx.generics_count(&DefId(ItemId(2))) == 0);
     assert!(rt; cx.variances_of(&DefId(ItemId(2))).is_empty());
+    Ok(())
+}
+
+#[test]
+fn says_which_trait_declares_an_item_and_which_alias_it_is(rt: HostRuntime) -> Result<(), Fail> {
+    let mut cx = RefInterner::new(rt.alloc());
+    let parent = TraitId(add_plain(&mut cx, rt.alloc(), DefKind::Trait)?);
+    let assoc = add_plain(&mut cx, rt.alloc(), DefKind::AssocTy(parent))?;
+    let opaque = add_plain(&mut cx, rt.alloc(), DefKind::OpaqueTy)?;
+    assert!(rt; cx.projection_parent(&TraitAssocTermId(assoc)) == Some(parent));
+    assert!(rt; cx.projection_parent(&TraitAssocTermId(opaque)).is_none());
+    let kind = cx.alias_term_kind_from_def_id(&DefId(assoc));
+    assert!(rt;
+        kind == Some(AliasTermKind::ProjectionTy {
+            def_id: TraitAssocTyId(assoc)
+        })
+    );
+    assert!(rt; cx.alias_term_kind_from_def_id(&DefId(parent.0)).is_none());
+    assert!(rt; cx.opt_alias_variances(&DefId(opaque)).is_some());
+    assert!(rt; cx.opt_alias_variances(&DefId(assoc)).is_none());
+    Ok(())
+}
+
+#[test]
+fn says_what_is_set_of_a_trait_and_of_the_solver(rt: HostRuntime) -> Result<(), Fail> {
+    let mut cx = RefInterner::new(rt.alloc());
+    let first = TraitId(add_plain(&mut cx, rt.alloc(), DefKind::Trait)?);
+    let second = TraitId(add_plain(&mut cx, rt.alloc(), DefKind::Trait)?);
+    cx.set_auto(first);
+    cx.set_sized(second);
+    assert!(rt; cx.trait_is_auto(&first) && !cx.trait_is_auto(&second));
+    assert!(rt; cx.is_trait_lang_item(&second, SolverTraitLangItem::Sized));
+    assert!(rt; !cx.is_trait_lang_item(&first, SolverTraitLangItem::Sized));
+    assert!(rt; !cx.next_trait_solver_globally());
+    cx.set_solver_globally(true);
+    assert!(rt; cx.next_trait_solver_globally());
     Ok(())
 }

@@ -108,3 +108,9 @@ pub enum AliasRelationDirection {
     Equate,
     Subtype,
 }
+
+/// A trait that the language itself knows, as far as what stands here asks for it.
+#[derive(Clone, Copy, PartialEq, Eq, Hash)]
+pub enum SolverTraitLangItem {
+    Sized,
+}

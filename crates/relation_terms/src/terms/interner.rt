@@ -1,5 +1,6 @@
 //! What makes and reads keys.
 ghost use Rattle.std.specs.Prelude.{◌≡◌, IsTrue, IfOk, OnErr, Some, IsSome};
+ghost use Rattle.std.specs.Option.{option_map};
 ghost use Rattle.relation_terms.specs.Heads.{type_sort, region_sort, const_sort, value_sort, argument_sort};
 ghost use Rattle.relation_terms.specs.Heads.{pattern_sort, existential_sort};
 ghost use Rattle.relation_terms.specs.Heads.{environment, environment_sort, predicate_sort, clause_sort};
@@ -13,16 +14,16 @@ ghost use Rattle.relation_terms.specs.Interning.{RemakesPat, MakesAlternatives, 
 ghost use Rattle.relation_terms.specs.Interning.{MakesTys, MakesArgs, MakesBranches, KeepsTys, KeepsArgs};
 ghost use Rattle.relation_terms.specs.Interning.{KeepsBranches, MakesPredicates, KeepsPredicates, MakesBoundVars};
 ghost use Rattle.relation_terms.specs.Interning.{KeepsBoundVars, AreEqualAsKinds, AreBindersOf};
-ghost use Rattle.relation_terms.specs.Predicates.{predicate_tree, clause_tree};
+ghost use Rattle.relation_terms.specs.Predicates.{predicate_tree, clause_tree, alias_of};
 ghost use Rattle.relation_terms.specs.Interning.{FindsClause, RemakesPredicate, RemakesClause, MakesClauses};
 ghost use Rattle.relation_terms.specs.Interning.{KeepsClauses, RemakesEnv, IsBinderOf};
 
-use crate::predicate::{ClauseForm, ObjectPredicate, PredicateForm};
+use crate::predicate::{AliasTermKind, ClauseForm, ObjectPredicate, PredicateForm};
 use crate::terms::{
     Alternatives, BoundVariable, BoundVars, Branches, Clause, Clauses, Const, ConstForm,
     ExistentialPredicates, GenericArg, GenericArgs, ItemOf, Keys, ParamEnv, Pat, PatternForm,
-    Predicate, Region, RegionForm, Span, Ty, TyForm, TypeFlags, Tys, ValTree, ValTreeForm,
-    Variance,
+    Predicate, Region, RegionForm, SolverTraitLangItem, Span, TraitAssocTermId, TraitId, Ty,
+    TyForm, TypeFlags, Tys, ValTree, ValTreeForm, Variance,
 };
 use std::alloc::{AllocError, AllocFailed, Global};
 
@@ -168,6 +169,39 @@ pub trait Interner: Keys {
     /// The variances that are declared of an item's generic parameters.
     fn variances_of(&self, def_id: &ItemOf<Self>) -> &[Variance]
         ensures { result.now ≡ (meaning self.now).variances ((meaning self.now).id (def_id.now).0) };
+
+    /// The variances at which an alias type of an item is related, and `None` where it has none of its own.
+    fn opt_alias_variances(&self, def_id: &ItemOf<Self>) -> Option<&[Variance]>
+        ensures { let n = (meaning self.now).id (def_id.now).0 in
+            option_map (λ list. list.now) result ≡ (meaning self.now).alias_variances n };
+
+    /// The trait that declares an associated type or constant, and `None` where no trait declares the item.
+    fn projection_parent(&self, def_id: &TraitAssocTermId<Self::Id>) -> Option<TraitId<Self::Id>>
+        ensures { let n = (meaning self.now).id (def_id.now).0 in
+            option_map (λ t. (meaning self.now).id t.0) result ≡ ((meaning self.now).tables).parent n };
+
+    /// Whether a trait is an auto trait.
+    fn trait_is_auto(&self, trait_id: &TraitId<Self::Id>) -> bool
+        ensures { let n = (meaning self.now).id (trait_id.now).0 in
+            result ≡ ((meaning self.now).tables).is_auto n };
+
+    /// Whether a trait is the one that the language knows as this.
+    fn is_trait_lang_item(
+        &self,
+        trait_id: &TraitId<Self::Id>,
+        lang_item: SolverTraitLangItem,
+    ) -> bool
+        ensures { let n = (meaning self.now).id (trait_id.now).0 in
+            result ≡ ((meaning self.now).tables).is_lang_item n lang_item };
+
+    /// Which kind of alias an item is, and `None` where it is none.
+    fn alias_term_kind_from_def_id(&self, def_id: &ItemOf<Self>) -> Option<AliasTermKind<Self::Id>>
+        ensures { let n = (meaning self.now).id (def_id.now).0 in
+            result ≡ option_map (alias_of (def_id.now).0) (((meaning self.now).tables).alias_kind n) };
+
+    /// Whether the next solver is on everywhere.
+    fn next_trait_solver_globally(&self) -> bool
+        ensures { result ≡ ((meaning self.now).tables).next_solver };
 
     /// The type of an outermost form.
     fn mk_ty(&mut self, kind: TyForm<Self>) -> Result<Ty<Self>, OutOfMemory>

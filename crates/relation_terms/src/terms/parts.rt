@@ -2,11 +2,12 @@
 //!
 //! What goes through terms, as a fold or a visit, goes over parts, whatever the forms are. `parts_count`, `part` and
 //! `with_parts` speak of a term; `member_count`, `member` and `make_parts` of a list of parts: that of a term,
-//! `parts_of`, or one that stands by itself.
+//! `parts_of`, or one that stands by itself. Clauses and predicates stand apart: their parts are fields.
 mod forms;
 mod keys;
 mod members;
 mod orders;
+mod predicates;
 mod same;
 mod whole;
 
@@ -17,5 +18,9 @@ pub use keys::{
 };
 pub use members::{make_parts, member, member_count};
 pub use orders::visited_place;
+pub use predicates::{
+    Field, Fields, FieldsOf, clause_fields, clause_over, clause_with_fields, fields_of_clause,
+    fields_of_predicate, predicate_fields, predicate_over, predicate_with_fields,
+};
 pub use same::is_same;
 pub use whole::{part, parts_count, parts_of, with_parts};

@@ -4,13 +4,13 @@ ghost use Rattle.relation_terms.specs.Trees.{known};
 ghost use Rattle.relation_terms.specs.Meaning.{kind_tree, infer_tree, const_tree};
 ghost use Rattle.relation_tools.specs.Clashes.{may_stand, is_integral, is_floating_point, principal, Alike};
 ghost use Rattle.relation_tools.specs.Clashes.{flexible, depth_inside};
-ghost use Rattle.relation_tools.specs.Clashes.{plain, of_item, counted, pointer_form as form_of_pointer};
+ghost use Rattle.relation_tools.specs.Clashes.{plain, of_item, of_object, counted, pointer_form as form_of_pointer};
 ghost use Rattle.relation_tools.specs.Clashes.{reference_form as form_of_reference};
-ghost use Rattle.relation_tools.specs.Outlines.{named, named_outline, tree_outline, stands, trait_in};
+ghost use Rattle.relation_tools.specs.Outlines.{named, named_outline, tree_outline, stands};
 ghost use Rattle.relation_terms.specs.declared.terms.ty_kind.TyKind.TheVariants.{FnPtr};
 
+use crate::trait_object::principal_def_id;
 use crate::visit::is_known_rigid;
-use relation_terms::predicate::ExistentialPredicate;
 use relation_terms::terms::parts::member_count;
 use relation_terms::terms::{
     Binder, ConstForm, ConstKind, ExistentialPredicates, FnHeader, FnSigTys, InferConst, InferTy,
@@ -104,27 +104,22 @@ fn reference_form(mutability: Mutability) -> Form
     }
 }
 
-// The trait that a predicate of a trait object says is implemented: a projection or an auto trait is none such.
-fn trait_of<X, D: Copy>(predicate: &Binder<X, ExistentialPredicate<X, D>>) -> Option<D>
-    ensures { result ≡ trait_in predicate.now }
-{
-    match &predicate.value {
-        ExistentialPredicate::Trait(of) => Some(of.def_id.0),
-        ExistentialPredicate::Projection(_) | ExistentialPredicate::AutoTrait(_) => None,
-    }
-}
-
-/// The principal of a trait object: the first trait among its predicates, neither a projection nor an auto trait.
-pub fn principal_of<I: Interner>(cx: &I, predicates: &ExistentialPredicates<I>) -> Option<I::Id>
+// What is compared of a trait object: its principal alone.
+fn object_outline<I: Interner>(cx: &I, predicates: &ExistentialPredicates<I>) -> Outline<I::Id>
     requires { IsTrue (known ((I.meaning cx.now).existential_predicates predicates.now)) }
-    ensures { let m = I.meaning cx.now in named m.id result ≡ principal (m.existential_predicates predicates.now) }
+    ensures { let m = I.meaning cx.now in
+        named_outline m.id result ≡ of_object (principal (m.existential_predicates predicates.now)) }
 {
-    for predicate in cx.existential_predicates(predicates) {
-        if let Some(id) = trait_of(predicate) {
-            return Some(id);
-        }
+    let item = match principal_def_id(cx, predicates) {
+        Some(id) => Some(id.0),
+        None => None,
+    };
+    Outline {
+        form: Form::Dynamic,
+        item,
+        header: None,
+        parts: 0,
     }
-    None
 }
 
 // What is compared of a function pointer besides its types.
@@ -167,12 +162,7 @@ fn outline_of<I: Interner>(cx: &I, kind: &TyForm<I>) -> Outline<I::Id>
         }
         TyKind::FnPtr(types, header) => fn_ptr_outline(cx, types, header),
         TyKind::UnsafeBinder(_) => plain_outline(Form::UnsafeBinder),
-        TyKind::Dynamic(predicates, _) => Outline {
-            form: Form::Dynamic,
-            item: principal_of(cx, predicates),
-            header: None,
-            parts: 0,
-        },
+        TyKind::Dynamic(predicates, _) => object_outline(cx, predicates),
         TyKind::Alias(_) => plain_outline(Form::Alias),
         TyKind::Bool
         | TyKind::Char

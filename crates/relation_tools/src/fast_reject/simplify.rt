@@ -1,5 +1,5 @@
 //! The keys of types: what the outermost form of a type tells.
-ghost use Rattle.std.specs.Prelude.{◌≡◌, IsTrue, ℕ, Bool, Some, None};
+ghost use Rattle.std.specs.Prelude.{◌≡◌, IsTrue, Some, None};
 ghost use Rattle.relation_terms.specs.Trees.{known};
 ghost use Rattle.relation_terms.specs.Meaning.{kind_tree};
 ghost use Rattle.relation_terms.specs.declared.terms.ty_kind.TyKind.TheVariants.{FnPtr};
@@ -11,12 +11,12 @@ ghost use Rattle.relation_tools.specs.declared.fast_reject.simplify.SimplifiedTy
 ghost use Rattle.relation_tools.specs.HeadKeys.{alias_key as key_of_alias, form_key as key_of_form, head_key};
 ghost use Rattle.relation_tools.specs.Visits.{non_region_infer_stands};
 
-use crate::fast_reject::forms::principal_of;
+use crate::trait_object::principal_def_id;
 use crate::visit::has_non_region_infer;
 use relation_terms::terms::parts::member_count;
 use relation_terms::terms::{
     Binder, DefId, ExistentialPredicates, FloatTy, FnHeader, FnSigTys, IntTy, Interner, ItemOf,
-    Mutability, Parts, TraitId, Ty, TyForm, TyKind, UintTy,
+    Mutability, Parts, Ty, TyForm, TyKind, UintTy,
 };
 use std::alloc::AllocError;
 
@@ -110,25 +110,6 @@ pub enum TreatParams {
     AsRigid,
 }
 
-/// What the key of a type asks beside its form: of traits, and of the solver that is used.
-///
-/// Upstream these are calls of the interner.
-pub trait KeyTables<I: Interner> {
-    // Which traits are auto traits, by the numbers of their ids.
-    ghost auto_traits: { Self → ℕ → Bool };
-
-    // Whether the next solver is on.
-    ghost next_solver: { Self → Bool };
-
-    /// Whether a trait is an auto trait.
-    fn trait_is_auto(&self, cx: &I, trait_id: &TraitId<I::Id>) -> bool
-        ensures { result ≡ auto_traits self.now ((I.meaning cx.now).id (trait_id.now).0) };
-
-    /// Whether the next solver is on everywhere.
-    fn next_trait_solver_globally(&self) -> bool
-        ensures { result ≡ next_solver self.now };
-}
-
 fn param_key<D>(treat_params: TreatParams) -> Option<SimplifiedType<D>>
     ensures { result ≡ key_of_param treat_params }
 {
@@ -138,38 +119,36 @@ fn param_key<D>(treat_params: TreatParams) -> Option<SimplifiedType<D>>
     }
 }
 
-fn alias_key<I: Interner, T: KeyTables<I>>(
+fn alias_key<I: Interner>(
     cx: &I,
-    tables: &T,
     ty: &Ty<I>,
     treat_params: TreatParams,
 ) -> Option<SimplifiedType<ItemOf<I>>>
     requires { IsTrue (known ((I.meaning cx.now).ty ty.now)) }
-    ensures { result ≡
-        key_of_alias treat_params (T.next_solver tables.now) (non_region_infer_stands ((I.meaning cx.now).ty ty.now)) }
+    ensures { let m = I.meaning cx.now in
+        result ≡ key_of_alias treat_params (m.tables).next_solver (non_region_infer_stands (m.ty ty.now)) }
 {
-    if !has_non_region_infer(cx, ty) || tables.next_trait_solver_globally() {
+    if !has_non_region_infer(cx, ty) || cx.next_trait_solver_globally() {
         param_key(treat_params)
     } else {
         None
     }
 }
 
-fn object_key<I: Interner, T: KeyTables<I>>(
+fn object_key<I: Interner>(
     cx: &I,
-    tables: &T,
     predicates: &ExistentialPredicates<I>,
 ) -> SimplifiedType<ItemOf<I>>
     requires { IsTrue (known ((I.meaning cx.now).existential_predicates predicates.now)) }
-    ensures { numbered (λ d. (I.meaning cx.now).id d.0) result ≡ key_of_object (T.auto_traits tables.now)
-        (principal ((I.meaning cx.now).existential_predicates predicates.now)) }
+    ensures { let m = I.meaning cx.now in numbered (λ d. m.id d.0) result ≡
+        key_of_object (m.tables).is_auto (principal (m.existential_predicates predicates.now)) }
 {
-    match principal_of(cx, predicates) {
+    match principal_def_id(cx, predicates) {
         Some(id) => {
-            if tables.trait_is_auto(cx, &TraitId(id)) {
+            if cx.trait_is_auto(&id) {
                 SimplifiedType::MarkerTraitObject
             } else {
-                SimplifiedType::Trait(DefId(id))
+                SimplifiedType::Trait(DefId(id.0))
             }
         }
         None => SimplifiedType::MarkerTraitObject,
@@ -189,17 +168,16 @@ fn fn_ptr_key<I: Interner>(
 }
 
 // The key of a type but for a pattern type, by its outermost form.
-fn form_key<I: Interner, T: KeyTables<I>>(
+fn form_key<I: Interner>(
     cx: &I,
-    tables: &T,
     ty: &Ty<I>,
     kind: &TyForm<I>,
     treat_params: TreatParams,
 ) -> Option<SimplifiedType<ItemOf<I>>>
     requires ty_known { IsTrue (known ((I.meaning cx.now).ty ty.now)) }
     requires kind_is { (I.meaning cx.now).ty ty.now ≡ kind_tree (I.meaning cx.now) kind.now }
-    ensures { numbered_key (λ d. (I.meaning cx.now).id d.0) result ≡ key_of_form (T.auto_traits tables.now)
-        (T.next_solver tables.now) treat_params (kind_tree (I.meaning cx.now) kind.now) }
+    ensures { let m = I.meaning cx.now in numbered_key (λ d. m.id d.0) result ≡
+        key_of_form (m.tables).is_auto (m.tables).next_solver treat_params (kind_tree m kind.now) }
 {
     match kind {
         TyKind::Bool => Some(SimplifiedType::Bool),
@@ -224,12 +202,12 @@ fn form_key<I: Interner, T: KeyTables<I>>(
             cx,
             &Parts::Tys(*members),
         ))),
-        TyKind::Dynamic(predicates, _) => Some(object_key(cx, tables, predicates)),
+        TyKind::Dynamic(predicates, _) => Some(object_key(cx, predicates)),
         TyKind::FnPtr(types, header) => Some(fn_ptr_key(cx, types, header)),
         TyKind::UnsafeBinder(_) => Some(SimplifiedType::UnsafeBinder),
         TyKind::Placeholder(_) => Some(SimplifiedType::Placeholder),
         TyKind::Param(_) => param_key(treat_params),
-        TyKind::Alias(_) => alias_key(cx, tables, ty, treat_params),
+        TyKind::Alias(_) => alias_key(cx, ty, treat_params),
         TyKind::Error(_) => Some(SimplifiedType::Error),
         TyKind::Pat(..) | TyKind::Bound(..) | TyKind::Infer(_) => None,
     }
@@ -241,19 +219,18 @@ fn form_key<I: Interner, T: KeyTables<I>>(
 /// A pattern type has its base type's key, a function item and a closure `Closure`, and an error `Error`, though an
 /// error is related with every type. An alias has the key of a placeholder, with parameters as types of their own, if
 /// the next solver is on or no inference variable but those of regions stands in it.
-pub fn simplify_type<I: Interner, T: KeyTables<I>>(
+pub fn simplify_type<I: Interner>(
     cx: &I,
-    tables: &T,
     ty: &Ty<I>,
     treat_params: TreatParams,
 ) -> Option<SimplifiedType<ItemOf<I>>>
     requires { IsTrue (known ((I.meaning cx.now).ty ty.now)) }
-    ensures { numbered_key (λ d. (I.meaning cx.now).id d.0) result ≡ head_key (T.auto_traits tables.now)
-        (T.next_solver tables.now) treat_params ((I.meaning cx.now).ty ty.now) }
+    ensures { let m = I.meaning cx.now in numbered_key (λ d. m.id d.0) result ≡
+        head_key (m.tables).is_auto (m.tables).next_solver treat_params (m.ty ty.now) }
 {
     let kind = cx.ty_kind(ty);
     if let TyKind::Pat(base, _) = &kind {
-        return simplify_type(cx, tables, base, treat_params);
+        return simplify_type(cx, base, treat_params);
     }
-    form_key(cx, tables, ty, &kind, treat_params)
+    form_key(cx, ty, &kind, treat_params)
 }

@@ -9,6 +9,8 @@ use Rattle.reference_interner.proofs.OnceLemmas.{known_alone, all_known, all_dis
 use Rattle.reference_interner.proofs.FindingLemmas.{finds_more}
 use Rattle.reference_interner.specs.Flags.{AreFlags}
 use Rattle.reference_interner.proofs.FlagLemmas.{flags_more}
+use Rattle.reference_interner.specs.Adding.{items_in}
+use Rattle.reference_interner.specs.Items.{no_items}
 use Rattle.reference_interner.proofs.RefInterner.put.Goals as goal
 
 pub invariant_of-self-2 : goal.invariant_of-self-2
@@ -17,7 +19,7 @@ invariant_of-self-2 c =
     let n = c.args.node in
     let find : Node → Option ℕ = get node_eq c.args.self.now.places in
     let more : Node → Option ℕ = get node_eq c.insert.new.self in
-    let k = known_alone ns n c.args.self.now.items.items c.requires.known in
+    let k = known_alone ns n (items_in c.args.self.now) c.requires.known in
     let e : c.push_reserved.new.self.items ≡ ns ++ n ∷ [] =
     c.push_reserved.ensures.items ∙ ap (λ xs. xs ++ n ∷ []) c.reserve.ensures.items in
     let fs = c.args.self.now.flags.items in
@@ -35,7 +37,7 @@ invariant_of-self-2 c =
           (finds_more ns n c.in_ok-known.known c.in_ok-known.ensures find more put c.args.self.now.finds);
       flagged =
           subst₂ AreFlags (sym e) (sym flags)
-          (flags_more c.args.self.now.items.items ns n c.args.self.now.flags.items c.node_flags-flags.result
+          (flags_more (items_in c.args.self.now) ns n c.args.self.now.flags.items c.node_flags-flags.result
           c.args.self.now.flagged c.node_flags-flags.ensures);
     }
 
@@ -45,4 +47,4 @@ returns-clause-number c =
     let n = c.args.node in
     new_at ns n c.push_reserved.new.self.items c.len-number.result
     (c.push_reserved.ensures.items ∙ ap (λ xs. xs ++ n ∷ []) c.reserve.ensures.items)
-    (c.len-number.ensures ∙ c.args.self.now.nodes.ok.0) ∙ same_entry [] c.args.self.now.items.items ns n
+    (c.len-number.ensures ∙ c.args.self.now.nodes.ok.0) ∙ same_entry no_items (items_in c.args.self.now) ns n

@@ -4,25 +4,26 @@ use Rattle.relation_terms.specs.Trees.{list_tree}
 use Rattle.reference_interner.specs.Forms.{args_form, form_of}
 use Rattle.reference_interner.specs.Nodes.{args_node, table_meaning}
 use Rattle.reference_interner.proofs.TableLemmas.{key_in, key_sort, key_read, not_args}
+use Rattle.reference_interner.specs.Adding.{items_in}
 use Rattle.reference_interner.proofs.RefInternerInterner.args.Goals as goal
 
 pub index-requires : goal.index-requires
 index-requires c =
-    let items = c.args.self.now.items.items in
+    let items = items_in c.args.self.now in
     let ns = c.args.self.now.nodes.items in
     subst (λ n. (c.args.args.now.0).0 < n) (sym c.args.self.now.nodes.ok.0)
     (key_in items ns args_node (c.args.args.now.0).0 c.requires)
 
 pub unreachable-requires : goal.unreachable-requires
 unreachable-requires c =
-    let items = c.args.self.now.items.items in
+    let items = items_in c.args.self.now in
     let ns = c.args.self.now.nodes.items in
     not_args c.index.result.now c.in_default.not-Args
     (key_sort items ns args_node (c.args.args.now.0).0 c.requires c.index.result.now c.index.ensures)
 
 pub returns : goal.returns
 returns c =
-    let items = c.args.self.now.items.items in
+    let items = items_in c.args.self.now in
     let ns = c.args.self.now.nodes.items in
     key_read items ns args_node (c.args.args.now.0).0 c.requires c.index.result.now c.index.ensures
     (args_form c.in-Args.list.items) (ap form_of c.in-Args.is) ∙

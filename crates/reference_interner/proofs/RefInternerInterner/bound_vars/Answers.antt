@@ -5,11 +5,12 @@ use Rattle.relation_terms.proofs.Binders.{known_under}
 use Rattle.reference_interner.specs.Forms.{bound_vars_form, form_of}
 use Rattle.reference_interner.specs.Nodes.{bound_vars_node, table_meaning}
 use Rattle.reference_interner.proofs.TableLemmas.{key_in, key_sort, key_read, not_bound_vars, list_under}
+use Rattle.reference_interner.specs.Adding.{items_in}
 use Rattle.reference_interner.proofs.RefInternerInterner.bound_vars.Goals as goal
 
 pub index-requires : goal.index-requires
 index-requires c =
-    let items = c.args.self.now.items.items in
+    let items = items_in c.args.self.now in
     let ns = c.args.self.now.nodes.items in
     let o = (table_meaning items ns).bound_vars c.args.bound_vars.now in
     let k : IsTrue (known (under o nil)) = known_under o nil c.requires refl in
@@ -18,7 +19,7 @@ index-requires c =
 
 pub unreachable-requires : goal.unreachable-requires
 unreachable-requires c =
-    let items = c.args.self.now.items.items in
+    let items = items_in c.args.self.now in
     let ns = c.args.self.now.nodes.items in
     let o = (table_meaning items ns).bound_vars c.args.bound_vars.now in
     let k : IsTrue (known (under o nil)) = known_under o nil c.requires refl in
@@ -27,7 +28,7 @@ unreachable-requires c =
 
 pub returns : goal.returns
 returns c =
-    let items = c.args.self.now.items.items in
+    let items = items_in c.args.self.now in
     let ns = c.args.self.now.nodes.items in
     let m = table_meaning items ns in
     let o = m.bound_vars c.args.bound_vars.now in

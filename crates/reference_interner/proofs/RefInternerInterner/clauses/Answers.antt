@@ -3,25 +3,26 @@ use Rattle.relation_terms.specs.Trees.{list_tree}
 use Rattle.reference_interner.specs.Forms.{clauses_form, form_of}
 use Rattle.reference_interner.specs.Nodes.{clauses_node, table_meaning}
 use Rattle.reference_interner.proofs.TableLemmas.{key_in, key_sort, key_read, not_clauses}
+use Rattle.reference_interner.specs.Adding.{items_in}
 use Rattle.reference_interner.proofs.RefInternerInterner.clauses.Goals as goal
 
 pub index-requires : goal.index-requires
 index-requires c =
-    let items = c.args.self.now.items.items in
+    let items = items_in c.args.self.now in
     let ns = c.args.self.now.nodes.items in
     subst (λ n. (c.args.clauses.now.0).0 < n) (sym c.args.self.now.nodes.ok.0)
     (key_in items ns clauses_node (c.args.clauses.now.0).0 c.requires)
 
 pub unreachable-requires : goal.unreachable-requires
 unreachable-requires c =
-    let items = c.args.self.now.items.items in
+    let items = items_in c.args.self.now in
     let ns = c.args.self.now.nodes.items in
     not_clauses c.index.result.now c.in_default.not-Clauses
     (key_sort items ns clauses_node (c.args.clauses.now.0).0 c.requires c.index.result.now c.index.ensures)
 
 pub returns : goal.returns
 returns c =
-    let items = c.args.self.now.items.items in
+    let items = items_in c.args.self.now in
     let ns = c.args.self.now.nodes.items in
     key_read items ns clauses_node (c.args.clauses.now.0).0 c.requires c.index.result.now c.index.ensures
     (clauses_form c.in-Clauses.list.items) (ap form_of c.in-Clauses.is) ∙

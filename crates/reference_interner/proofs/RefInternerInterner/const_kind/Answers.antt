@@ -3,25 +3,26 @@ use Rattle.relation_terms.specs.Meaning.{const_tree}
 use Rattle.reference_interner.specs.Forms.{const_form, form_of}
 use Rattle.reference_interner.specs.Nodes.{const_node, table_meaning}
 use Rattle.reference_interner.proofs.TableLemmas.{key_in, key_sort, key_read, not_const}
+use Rattle.reference_interner.specs.Adding.{items_in}
 use Rattle.reference_interner.proofs.RefInternerInterner.const_kind.Goals as goal
 
 pub index-requires : goal.index-requires
 index-requires c =
-    let items = c.args.self.now.items.items in
+    let items = items_in c.args.self.now in
     let ns = c.args.self.now.nodes.items in
     subst (λ n. (c.args.constant.now.0).0 < n) (sym c.args.self.now.nodes.ok.0)
     (key_in items ns const_node (c.args.constant.now.0).0 c.requires)
 
 pub unreachable-requires : goal.unreachable-requires
 unreachable-requires c =
-    let items = c.args.self.now.items.items in
+    let items = items_in c.args.self.now in
     let ns = c.args.self.now.nodes.items in
     not_const c.index.result.now c.in_default.not-Const
     (key_sort items ns const_node (c.args.constant.now.0).0 c.requires c.index.result.now c.index.ensures)
 
 pub returns : goal.returns
 returns c =
-    let items = c.args.self.now.items.items in
+    let items = items_in c.args.self.now in
     let ns = c.args.self.now.nodes.items in
     key_read items ns const_node (c.args.constant.now.0).0 c.requires c.index.result.now c.index.ensures
     (const_form c.in-Const.kind) (ap form_of c.in-Const.is) ∙

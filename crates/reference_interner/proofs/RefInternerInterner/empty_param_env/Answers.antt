@@ -7,22 +7,23 @@ use Rattle.reference_interner.specs.Laws.{env_reads}
 use Rattle.reference_interner.specs.declared.node.Node.TheVariants.{Clauses}
 use Rattle.reference_interner.proofs.ClauseLemmas.{env_stands}
 use Rattle.reference_interner.proofs.OnceLemmas.{grows, made, same_meaning}
+use Rattle.reference_interner.specs.Adding.{items_in}
 use Rattle.reference_interner.proofs.RefInternerInterner.empty_param_env.Goals as goal
 
 pub returns-clause-grown : goal.returns-clause-grown
 returns-clause-grown c =
-    let items = c.args.self.now.items.items in
+    let items = items_in c.args.self.now in
     let ns = c.args.self.now.nodes.items in
-    let more = c.add.new.self.items.items in
+    let more = items_in c.add.new.self in
     let ms = c.add.new.self.nodes.items in
     grows items ns more ms (Clauses c.new.result)
-    (ap (λ v. v.items) c.in_ok-number.ensures.items) c.in_ok-number.ensures.added
+    c.in_ok-number.ensures.items c.in_ok-number.ensures.added
 
 pub returns-clause-made : goal.returns-clause-made
 returns-clause-made c =
-    let items = c.args.self.now.items.items in
+    let items = items_in c.args.self.now in
     let ns = c.args.self.now.nodes.items in
-    let more = c.add.new.self.items.items in
+    let more = items_in c.add.new.self in
     let ms = c.add.new.self.nodes.items in
     let read = list_tree (table_meaning items ns).clause in
     let i = (c.in_ok-number.number).0 in
@@ -35,9 +36,9 @@ returns-clause-sure c = subst (λ t. IsTrue (known t)) (sym (returns-clause-made
 
 pub returns-clause-there : goal.returns-clause-there
 returns-clause-there c =
-    let items = c.args.self.now.items.items in
+    let items = items_in c.args.self.now in
     let ns = c.args.self.now.nodes.items in
-    let more = c.add.new.self.items.items in
+    let more = items_in c.add.new.self in
     let ms = c.add.new.self.nodes.items in
     let read = list_tree (table_meaning items ns).clause in
     let same : read c.new.result.items ≡ nil = ap read c.new.ensures.items in
@@ -45,13 +46,13 @@ returns-clause-there c =
     λ k e.
     let at = env_stands items ns (k.0).0 (read c.new.result.items) sure (e ∙ ap (node environment) (sym same)) in (
       refl,
-      same_meaning items ns more ms (ap (λ v. v.items) c.in_ok-number.ensures.items)
+      same_meaning items ns more ms c.in_ok-number.ensures.items
           (c.in_ok-number.ensures.there (k.0).0 at).1,
     )
 
 pub returns-in_err-number-clause-there : goal.returns-in_err-number-clause-there
 returns-in_err-number-clause-there c =
-    let items = c.args.self.now.items.items in
+    let items = items_in c.args.self.now in
     let ns = c.args.self.now.nodes.items in
     let read = list_tree (table_meaning items ns).clause in
     let same : read c.new.result.items ≡ nil = ap read c.new.ensures.items in

@@ -3,22 +3,23 @@ use Rattle.relation_terms.specs.Trees.{known, list_tree}
 use Rattle.reference_interner.specs.Nodes.{alternatives_node, table_meaning}
 use Rattle.reference_interner.specs.declared.node.Node.TheVariants.{Alternatives}
 use Rattle.reference_interner.proofs.OnceLemmas.{grows, made, stands, same_meaning}
+use Rattle.reference_interner.specs.Adding.{items_in}
 use Rattle.reference_interner.proofs.RefInternerInterner.mk_alternatives.Goals as goal
 
 pub returns-clause-grown : goal.returns-clause-grown
 returns-clause-grown c =
-    let items = c.args.self.now.items.items in
+    let items = items_in c.args.self.now in
     let ns = c.args.self.now.nodes.items in
-    let more = c.add.new.self.items.items in
+    let more = items_in c.add.new.self in
     let ms = c.add.new.self.nodes.items in
     grows items ns more ms (Alternatives c.in_ok-list.list)
-    (ap (λ v. v.items) c.in_ok-number.ensures.items) c.in_ok-number.ensures.added
+    c.in_ok-number.ensures.items c.in_ok-number.ensures.added
 
 pub returns-clause-made : goal.returns-clause-made
 returns-clause-made c =
-    let items = c.args.self.now.items.items in
+    let items = items_in c.args.self.now in
     let ns = c.args.self.now.nodes.items in
-    let more = c.add.new.self.items.items in
+    let more = items_in c.add.new.self in
     let ms = c.add.new.self.nodes.items in
     let read = (table_meaning items ns).pat in
     made more ms alternatives_node (list_tree read c.in_ok-list.list.items) (c.in_ok-number.number).0
@@ -29,9 +30,9 @@ returns-clause-sure c = subst (λ t. IsTrue (known t)) (sym (returns-clause-made
 
 pub returns-clause-there : goal.returns-clause-there
 returns-clause-there c =
-    let items = c.args.self.now.items.items in
+    let items = items_in c.args.self.now in
     let ns = c.args.self.now.nodes.items in
-    let more = c.add.new.self.items.items in
+    let more = items_in c.add.new.self in
     let ms = c.add.new.self.nodes.items in
     let read = (table_meaning items ns).pat in
     let v = c.in_ok-list.list.items in
@@ -40,5 +41,5 @@ returns-clause-there c =
     let sure : IsTrue (known (list_tree read v)) = subst (λ t. IsTrue (known t)) (sym same) c.requires in
     λ k e.
     let at = stands items ns alternatives_node (list_tree read v) (k.0).0 sure (e ∙ sym same) in
-    same_meaning items ns more ms (ap (λ v. v.items) c.in_ok-number.ensures.items)
+    same_meaning items ns more ms c.in_ok-number.ensures.items
     (c.in_ok-number.ensures.there (k.0).0 at).1

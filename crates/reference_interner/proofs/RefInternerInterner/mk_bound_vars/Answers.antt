@@ -5,22 +5,23 @@ use Rattle.reference_interner.specs.Nodes.{bound_vars_node, table_meaning}
 use Rattle.reference_interner.specs.declared.node.Node.TheVariants.{BoundVars}
 use Rattle.reference_interner.proofs.TableLemmas.{list_under}
 use Rattle.reference_interner.proofs.OnceLemmas.{grows, made, stands, same_meaning}
+use Rattle.reference_interner.specs.Adding.{items_in}
 use Rattle.reference_interner.proofs.RefInternerInterner.mk_bound_vars.Goals as goal
 
 pub returns-clause-grown : goal.returns-clause-grown
 returns-clause-grown c =
-    let items = c.args.self.now.items.items in
+    let items = items_in c.args.self.now in
     let ns = c.args.self.now.nodes.items in
-    let more = c.add.new.self.items.items in
+    let more = items_in c.add.new.self in
     let ms = c.add.new.self.nodes.items in
     grows items ns more ms (BoundVars c.in_ok-list.list)
-    (ap (λ v. v.items) c.in_ok-number.ensures.items) c.in_ok-number.ensures.added
+    c.in_ok-number.ensures.items c.in_ok-number.ensures.added
 
 pub returns-clause-made : goal.returns-clause-made
 returns-clause-made c =
-    let items = c.args.self.now.items.items in
+    let items = items_in c.args.self.now in
     let ns = c.args.self.now.nodes.items in
-    let more = c.add.new.self.items.items in
+    let more = items_in c.add.new.self in
     let ms = c.add.new.self.nodes.items in
     let m = table_meaning items ns in
     let ks = bound_kinds m c.in_ok-list.list.items in
@@ -30,9 +31,9 @@ returns-clause-made c =
 
 pub returns-clause-there : goal.returns-clause-there
 returns-clause-there c =
-    let items = c.args.self.now.items.items in
+    let items = items_in c.args.self.now in
     let ns = c.args.self.now.nodes.items in
-    let more = c.add.new.self.items.items in
+    let more = items_in c.add.new.self in
     let ms = c.add.new.self.nodes.items in
     let m = table_meaning items ns in
     let ks = bound_kinds m c.in_ok-list.list.items in
@@ -40,5 +41,5 @@ returns-clause-there c =
     ap (λ xs. Some (bound_kinds m xs)) (sym c.in_ok-list.ensures) in
     λ k e.
     let at = stands items ns bound_vars_node (bind ks nil) (k.0).0 refl (ap (λ o. under o nil) (e ∙ same)) in
-    same_meaning items ns more ms (ap (λ v. v.items) c.in_ok-number.ensures.items)
+    same_meaning items ns more ms c.in_ok-number.ensures.items
     (c.in_ok-number.ensures.there (k.0).0 at).1

@@ -7,23 +7,24 @@ use Rattle.reference_interner.specs.Nodes.{table_meaning}
 use Rattle.reference_interner.specs.declared.node.Node.TheVariants.{Predicate}
 use Rattle.reference_interner.proofs.ClauseLemmas.{clause_made, clause_stands}
 use Rattle.reference_interner.proofs.OnceLemmas.{grows, same_meaning}
+use Rattle.reference_interner.specs.Adding.{items_in}
 use Rattle.reference_interner.proofs.RefInternerInterner.mk_clause.Goals as goal
 
 pub returns-clause-grown : goal.returns-clause-grown
 returns-clause-grown c =
-    let items = c.args.self.now.items.items in
+    let items = items_in c.args.self.now in
     let ns = c.args.self.now.nodes.items in
-    let more = c.add.new.self.items.items in
+    let more = items_in c.add.new.self in
     let ms = c.add.new.self.nodes.items in
     grows items ns more ms
     (Predicate (record { value = Clause c.args.kind.value; bound_vars = c.args.kind.bound_vars }))
-    (ap (λ v. v.items) c.in_ok-number.ensures.items) c.in_ok-number.ensures.added
+    c.in_ok-number.ensures.items c.in_ok-number.ensures.added
 
 pub returns-clause-made : goal.returns-clause-made
 returns-clause-made c =
-    let items = c.args.self.now.items.items in
+    let items = items_in c.args.self.now in
     let ns = c.args.self.now.nodes.items in
-    let more = c.add.new.self.items.items in
+    let more = items_in c.add.new.self in
     let ms = c.add.new.self.nodes.items in
     clause_made more ms (c.in_ok-number.number).0 (table_meaning items ns) c.args.kind c.in_ok-number.ensures.number
 
@@ -32,20 +33,20 @@ returns-clause-sure c = subst (λ t. IsTrue (known t)) (sym (returns-clause-made
 
 pub returns-clause-there : goal.returns-clause-there
 returns-clause-there c =
-    let items = c.args.self.now.items.items in
+    let items = items_in c.args.self.now in
     let ns = c.args.self.now.nodes.items in
-    let more = c.add.new.self.items.items in
+    let more = items_in c.add.new.self in
     let ms = c.add.new.self.nodes.items in
     λ k e.
     let at = clause_stands items ns (k.0).0 (clause_tree (table_meaning items ns) c.args.kind) c.requires e in (
       refl,
-      same_meaning items ns more ms (ap (λ v. v.items) c.in_ok-number.ensures.items)
+      same_meaning items ns more ms c.in_ok-number.ensures.items
           (c.in_ok-number.ensures.there (k.0).0 at).1,
     )
 
 pub returns-in_err-number-clause-there : goal.returns-in_err-number-clause-there
 returns-in_err-number-clause-there c =
-    let items = c.args.self.now.items.items in
+    let items = items_in c.args.self.now in
     let ns = c.args.self.now.nodes.items in
     λ k e.
     let at = clause_stands items ns (k.0).0 (clause_tree (table_meaning items ns) c.args.kind) c.requires e in

@@ -5,22 +5,23 @@ use Rattle.relation_terms.specs.Predicates.{predicate_tree}
 use Rattle.reference_interner.specs.Nodes.{predicate_node, table_meaning}
 use Rattle.reference_interner.specs.declared.node.Node.TheVariants.{Predicate}
 use Rattle.reference_interner.proofs.OnceLemmas.{grows, made, stands, same_meaning}
+use Rattle.reference_interner.specs.Adding.{items_in}
 use Rattle.reference_interner.proofs.RefInternerInterner.mk_predicate.Goals as goal
 
 pub returns-clause-grown : goal.returns-clause-grown
 returns-clause-grown c =
-    let items = c.args.self.now.items.items in
+    let items = items_in c.args.self.now in
     let ns = c.args.self.now.nodes.items in
-    let more = c.add.new.self.items.items in
+    let more = items_in c.add.new.self in
     let ms = c.add.new.self.nodes.items in
     grows items ns more ms (Predicate c.args.kind)
-    (ap (λ v. v.items) c.in_ok-number.ensures.items) c.in_ok-number.ensures.added
+    c.in_ok-number.ensures.items c.in_ok-number.ensures.added
 
 pub returns-clause-made : goal.returns-clause-made
 returns-clause-made c =
-    let items = c.args.self.now.items.items in
+    let items = items_in c.args.self.now in
     let ns = c.args.self.now.nodes.items in
-    let more = c.add.new.self.items.items in
+    let more = items_in c.add.new.self in
     let ms = c.add.new.self.nodes.items in
     made more ms predicate_node (predicate_tree (table_meaning items ns) c.args.kind)
     (c.in_ok-number.number).0 c.in_ok-number.ensures.number
@@ -30,21 +31,21 @@ returns-clause-sure c = subst (λ t. IsTrue (known t)) (sym (returns-clause-made
 
 pub returns-clause-there : goal.returns-clause-there
 returns-clause-there c =
-    let items = c.args.self.now.items.items in
+    let items = items_in c.args.self.now in
     let ns = c.args.self.now.nodes.items in
-    let more = c.add.new.self.items.items in
+    let more = items_in c.add.new.self in
     let ms = c.add.new.self.nodes.items in
     λ k e.
     let at = stands items ns predicate_node (predicate_tree (table_meaning items ns) c.args.kind)
     (k.0).0 c.requires e in (
       refl,
-      same_meaning items ns more ms (ap (λ v. v.items) c.in_ok-number.ensures.items)
+      same_meaning items ns more ms c.in_ok-number.ensures.items
           (c.in_ok-number.ensures.there (k.0).0 at).1,
     )
 
 pub returns-in_err-number-clause-there : goal.returns-in_err-number-clause-there
 returns-in_err-number-clause-there c =
-    let items = c.args.self.now.items.items in
+    let items = items_in c.args.self.now in
     let ns = c.args.self.now.nodes.items in
     λ k e.
     let at = stands items ns predicate_node (predicate_tree (table_meaning items ns) c.args.kind)

@@ -3,25 +3,26 @@ use Rattle.relation_terms.specs.Meaning.{region_tree}
 use Rattle.reference_interner.specs.Forms.{region_form, form_of}
 use Rattle.reference_interner.specs.Nodes.{region_node, table_meaning}
 use Rattle.reference_interner.proofs.TableLemmas.{key_in, key_sort, key_read, not_region}
+use Rattle.reference_interner.specs.Adding.{items_in}
 use Rattle.reference_interner.proofs.RefInternerInterner.region_kind.Goals as goal
 
 pub index-requires : goal.index-requires
 index-requires c =
-    let items = c.args.self.now.items.items in
+    let items = items_in c.args.self.now in
     let ns = c.args.self.now.nodes.items in
     subst (λ n. (c.args.region.now.0).0 < n) (sym c.args.self.now.nodes.ok.0)
     (key_in items ns region_node (c.args.region.now.0).0 c.requires)
 
 pub unreachable-requires : goal.unreachable-requires
 unreachable-requires c =
-    let items = c.args.self.now.items.items in
+    let items = items_in c.args.self.now in
     let ns = c.args.self.now.nodes.items in
     not_region c.index.result.now c.in_default.not-Region
     (key_sort items ns region_node (c.args.region.now.0).0 c.requires c.index.result.now c.index.ensures)
 
 pub returns : goal.returns
 returns c =
-    let items = c.args.self.now.items.items in
+    let items = items_in c.args.self.now in
     let ns = c.args.self.now.nodes.items in
     key_read items ns region_node (c.args.region.now.0).0 c.requires c.index.result.now c.index.ensures
     (region_form c.in-Region.kind) (ap form_of c.in-Region.is) ∙

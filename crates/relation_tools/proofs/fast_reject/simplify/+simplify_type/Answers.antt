@@ -23,16 +23,16 @@ simplify_type-requires g t c κs within =
 pub returns-in-Pat : goal.returns-in-Pat
 returns-in-Pat g t c =
     let m = g.I.Interner.meaning c.args.cx.now in
-    let autos = g.T.KeyTables.auto_traits c.args.tables.now in
-    let solver = g.T.KeyTables.next_solver c.args.tables.now in
+    let autos = (m.tables).is_auto in
+    let solver = (m.tables).next_solver in
     c.simplify_type.ensures
     ∙ sym (ap (head_key autos solver c.args.treat_params) (c.ty_kind-kind.ensures ∙ ap (kind_tree m) c.in-Pat.is))
 
 pub returns : goal.returns
 returns g t c =
     let m = g.I.Interner.meaning c.args.cx.now in
-    let autos = g.T.KeyTables.auto_traits c.args.tables.now in
-    let solver = g.T.KeyTables.next_solver c.args.tables.now in
+    let autos = (m.tables).is_auto in
+    let solver = (m.tables).next_solver in
     c.form_key.ensures
     ∙ sym (form_keyed m autos solver c.args.treat_params c.ty_kind-kind.result c.in_default.not-Pat)
     ∙ ap (head_key autos solver c.args.treat_params) (sym c.ty_kind-kind.ensures)

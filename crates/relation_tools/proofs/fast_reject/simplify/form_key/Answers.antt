@@ -8,8 +8,8 @@ use Rattle.relation_tools.proofs.fast_reject.simplify.form_key.Goals as goal
 pub returns-in-Alias : goal.returns-in-Alias
 returns-in-Alias g c =
     let m = g.I.Interner.meaning c.args.cx.now in
-    let autos = g.T.KeyTables.auto_traits c.args.tables.now in
-    let solver = g.T.KeyTables.next_solver c.args.tables.now in
+    let autos = (m.tables).is_auto in
+    let solver = (m.tables).next_solver in
     let treat = c.args.treat_params in
     let t = m.ty c.args.ty.now in
     let is = ap (kind_tree m) c.in-Alias.is in

@@ -4,7 +4,7 @@ use Rattle.relation_terms.specs.Trees.{known, list_tree}
 use Rattle.relation_terms.specs.Meaning.{object_predicate_tree}
 use Rattle.relation_tools.specs.Clashes.{principal}
 use Rattle.relation_tools.proofs.Outlining.{principal_here, principal_further}
-use Rattle.relation_tools.proofs.fast_reject.forms.principal_of.Goals as goal
+use Rattle.relation_tools.proofs.trait_object.principal_def_id.Goals as goal
 
 pub returns-in-Some : goal.returns-in-Some
 returns-in-Some g c =
