@@ -1,6 +1,6 @@
 -- The variances of a table's items, and that the trees of its nodes do not depend on them.
 use Rattle.std.proofs.Common.{ℕ, ◌≡◌, ◌≢◌, ◌<◌, ◌≤◌, List, [], ◌∷◌, ◌++◌, refl, ap, ap₂, sym, ◌∙◌, subst, length, map}
-use Rattle.std.proofs.Common.{get_or, inl, inr, Option, None}
+use Rattle.std.proofs.Common.{get_or, inl, inr, Option, None, zero, suc, slice_set, arith}
 use Rattle.std.proofs.lemmas.Bool.{cases_lt}
 use Rattle.std.proofs.lemmas.List.{get_or-map, length-map, map-append, get_or_append_left, get_or_past}
 use Rattle.std.proofs.Math.Seq.{get_or-append_seam}
@@ -67,7 +67,7 @@ use Rattle.reference_interner.specs.Forms.{Form, ty_form, region_form, const_for
 use Rattle.reference_interner.specs.Forms.{branches_form, pattern_form, alternatives_form, form_of, predicate_form, clauses_form}
 use Rattle.reference_interner.specs.Adding.{SameTerms, OthersStand, HasNoGenerics}
 use Rattle.reference_interner.specs.Items.{read_at, alias_variances_of, alias_variances_at, parent_of, alias_kind_of}
-use Rattle.reference_interner.specs.Items.{is_lang, tables_of}
+use Rattle.reference_interner.specs.Items.{is_lang, tables_of, changed_at}
 use Rattle.relation_terms.specs.Heads.{AliasTermKind}
 use Rattle.relation_terms.specs.declared.terms.enums.SolverTraitLangItem.{SolverTraitLangItem}
 use Rattle.relation_terms.specs.declared.terms.enums.SolverTraitLangItem.TheVariants.{Sized}
@@ -396,3 +396,16 @@ alias_variances_read items ns n = refl
 -- An item that is not said to be `Sized` is none that the language knows.
 pub no_lang : (i : SolverTraitLangItem) (x : Item) → x.is_sized ≡ false → is_lang i x ≡ false
 no_lang Sized x e = e
+
+-- Writing the changed item of a number changes that item.
+pub changed_set : (f : Item → Item) (xs : List Item) (n : ℕ) (y : Item) → y ≡ get_or xs n y →
+    slice_set xs n (f y) ≡ changed_at f xs n
+changed_set f [] n y e = refl
+changed_set f (x ∷ xs) zero y e = ap (λ z. f z ∷ xs) e
+changed_set f (x ∷ xs) (suc n) y e = ap (λ zs. x ∷ zs) (changed_set f xs n y e)
+
+-- No item changes where none has the number.
+pub changed_past : (f : Item → Item) (xs : List Item) (n : ℕ) → length xs ≤ n → changed_at f xs n ≡ xs
+changed_past f [] n h = refl
+changed_past f (x ∷ xs) zero h = absurd (omega arith)
+changed_past f (x ∷ xs) (suc n) h = ap (λ zs. x ∷ zs) (changed_past f xs n (omega arith))

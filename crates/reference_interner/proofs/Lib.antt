@@ -1,3 +1,4 @@
+pub mod DefKindLemmas
 pub mod ItemLemmas
 pub mod TableLemmas
 pub mod AlikeFormLemmas
