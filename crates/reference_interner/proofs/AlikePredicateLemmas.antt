@@ -1,5 +1,5 @@
 -- `==` takes predicates and clauses for one exactly where they are one.
-use Rattle.std.proofs.Common.{ℕ, ◌≡◌, IsTrue, Bool, true, false, ◌&&◌, eqb, refl, ap, ap₂, ◌∙◌}
+use Rattle.std.proofs.Common.{◌≡◌, IsTrue, Bool, true, false, ◌&&◌, eqb, refl, ap, ap₂, ◌∙◌}
 use Rattle.std.proofs.lemmas.Bool.{false≢true, eqb-true, and_parts, and_from}
 use Rattle.std.proofs.Math.Bool.{beq}
 use Rattle.relation_terms.specs.declared.terms.enums.PredicatePolarity.{PredicatePolarity}

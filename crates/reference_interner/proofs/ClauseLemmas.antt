@@ -19,7 +19,7 @@ use Rattle.reference_interner.specs.declared.keys.SymbolId.{SymbolId}
 use Rattle.reference_interner.specs.declared.node.Node.{Node}
 use Rattle.reference_interner.specs.Nodes.{predicate_node, clauses_node, as_clause, tree_as, entry, no_entry, entries}
 use Rattle.reference_interner.specs.Nodes.{table_meaning, StandsAt}
-use Rattle.reference_interner.specs.Places.{of_sort, key_reads}
+use Rattle.reference_interner.specs.Places.{key_reads}
 use Rattle.reference_interner.specs.Laws.{clause_same, clause_reads, clause_law, env_reads, parts_in}
 use Rattle.reference_interner.proofs.OnceLemmas.{stands}
 use Rattle.reference_interner.specs.Items.{Items}

@@ -1,5 +1,5 @@
 -- What is said of an item by how its kind was made.
-use Rattle.std.proofs.Common.{◌≡◌, ◌⊎◌, inl, inr, List, Option, Some, None, refl, ap}
+use Rattle.std.proofs.Common.{◌≡◌, ◌⊎◌, inl, inr, List, Some, None, refl, ap}
 use Rattle.relation_terms.specs.declared.terms.enums.Variance.{Variance}
 use Rattle.relation_terms.specs.declared.terms.enums.SolverTraitLangItem.{SolverTraitLangItem}
 use Rattle.relation_terms.specs.declared.terms.enums.SolverTraitLangItem.TheVariants.{Sized}

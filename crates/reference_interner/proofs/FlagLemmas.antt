@@ -18,7 +18,7 @@ use Rattle.relation_terms.proofs.Parts.{known_parts}
 use Rattle.relation_terms.specs.declared.terms.flags.TypeFlags.{TypeFlags}
 use Rattle.reference_interner.specs.declared.node.Node.{Node}
 use Rattle.reference_interner.specs.Forms.{form_of}
-use Rattle.reference_interner.specs.Nodes.{NodeSort, no_entry, tree_as, form_tree, entry_of, entries, table_meaning}
+use Rattle.reference_interner.specs.Nodes.{NodeSort, no_entry, form_tree, entry_of, entries, table_meaning}
 use Rattle.reference_interner.specs.Flags.{entry_flags, AreFlags}
 use Rattle.reference_interner.specs.Places.{entries_there, of_sort, tree_of_key, key_reads}
 use Rattle.reference_interner.proofs.ItemLemmas.{same_entry}

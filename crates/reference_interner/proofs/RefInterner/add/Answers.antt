@@ -1,4 +1,4 @@
-use Rattle.std.proofs.Common.{[], ◌∙◌}
+use Rattle.std.proofs.Common.{◌∙◌}
 use Rattle.reference_interner.proofs.ItemLemmas.{same_entry}
 use Rattle.reference_interner.proofs.OnceLemmas.{known_alone, found, fresh}
 use Rattle.reference_interner.specs.Adding.{items_in}

@@ -1,6 +1,5 @@
 use Rattle.std.proofs.Common.{ap}
 use Rattle.std.specs.Prelude.{false}
-use Rattle.reference_interner.specs.Items.{Items}
 use Rattle.reference_interner.proofs.OnceLemmas.{none_known}
 use Rattle.reference_interner.proofs.RefInterner.new.Goals as goal
 

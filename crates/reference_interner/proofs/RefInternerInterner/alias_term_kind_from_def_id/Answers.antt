@@ -1,5 +1,5 @@
-use Rattle.std.proofs.Common.{◌<◌, ◌≤◌, ap, sym, ◌∙◌, subst, length, get_or, []}
-use Rattle.std.specs.Prelude.{Some, None, false}
+use Rattle.std.proofs.Common.{◌<◌, ◌≤◌, ap, sym, ◌∙◌, subst, length, get_or}
+use Rattle.std.specs.Prelude.{None}
 use Rattle.reference_interner.specs.Nodes.{meaning_of}
 use Rattle.reference_interner.specs.Adding.{items_in}
 use Rattle.reference_interner.proofs.ItemLemmas.{read_there, read_past}

@@ -1,4 +1,4 @@
-use Rattle.std.proofs.Common.{ap, subst, sym, refl, IsTrue}
+use Rattle.std.proofs.Common.{subst, sym, refl, IsTrue}
 use Rattle.std.proofs.lemmas.Bool.{false≢true}
 use Rattle.relation_terms.specs.Trees.{known}
 use Rattle.relation_terms.specs.Meaning.{kind_tree}

@@ -1,4 +1,4 @@
-use Rattle.std.proofs.Common.{sym, subst}
+use Rattle.std.proofs.Common.{subst}
 use Rattle.relation_terms.specs.Heads.{clause_sort}
 use Rattle.relation_terms.specs.Trees.{IsBinder}
 use Rattle.reference_interner.specs.Nodes.{table_meaning}
