@@ -87,6 +87,7 @@ fn args_of<I: Interner>(
 }
 
 // Whether two lists of arguments may unify.
+#[tactic(auto, using(relation_terms::proofs::Stays::knows_args, relation_terms::proofs::Stays::extends_on, crate::proofs::AskingLemmas::ready_stays))]
 pub(super) fn ask_args_may_unify<I: Interner>(
     ctx: &mut RefCtxt<I>,
     terms: &Ready<I>,
