@@ -10,6 +10,7 @@ mod interner;
 pub mod needs;
 pub mod printing;
 mod question;
+mod quick;
 mod visiting;
 
 use interner::{Tables, make_interner, make_tables};

@@ -13,6 +13,7 @@ use crate::context::{NotAsked, have_variables, refusal, relate, renewed, write_n
 use crate::folding::{fold, puts_at};
 use crate::needs::{Needs, both, need_at};
 use crate::printing::write_answer;
+use crate::quick::{KeyOf, ask_args_may_unify, ask_key, ask_may_unify, write_key};
 use crate::visiting::{Met, visit, write_met};
 use relation_reference::context::RefCtxt;
 use relation_terms::terms::{GenericArg, GenericArgKind, Interner, Keys, Ty, Variance};
@@ -45,15 +46,16 @@ pub(super) enum Unasked {
 
 // What is answered to a question.
 #[derive(Drop)]
-pub(super) enum Answer<R, X> {
+pub(super) enum Answer<R, X, K> {
     Related(R),
     Met(Met<X>),
     Folded(GenericArgKind<X>),
     Is(bool),
+    Key(K),
 }
 
 // What is answered to a question over an interner.
-type AnswerOf<I> = Answer<RelateGoals<I>, <I as Keys>::Key>;
+type AnswerOf<I> = Answer<RelateGoals<I>, <I as Keys>::Key, KeyOf<I>>;
 
 // What came of a question.
 pub(super) type Outcome<I> = Result<AnswerOf<I>, Unasked>;
@@ -65,6 +67,7 @@ fn ran_out<I: Interner>(answer: &AnswerOf<I>) -> bool {
         Answer::Met(_) => false,
         Answer::Folded(_) => false,
         Answer::Is(_) => false,
+        Answer::Key(_) => false,
     }
 }
 
@@ -98,7 +101,7 @@ pub(super) fn context_for<I: Interner>(
 }
 
 // The type of that number, and what it needs.
-fn type_of<I: Interner>(terms: &Ready<I>, number: usize) -> Option<(Ty<I>, Needs)>
+pub(super) fn type_of<I: Interner>(terms: &Ready<I>, number: usize) -> Option<(Ty<I>, Needs)>
     ensures { (m : Meaning I.Key I.Id I.Name) → AreReady m terms.now.built.now terms.now.needs.now →
         IfSome result (λ p. IsReady p.1 (m.ty p.0)) }
 {
@@ -152,7 +155,7 @@ fn term_of<I: Interner>(terms: &Ready<I>, number: usize) -> Result<GenericArg<I>
 }
 
 // The terms of a list.
-fn terms_of<I: Interner>(
+pub(super) fn terms_of<I: Interner>(
     alloc: Global,
     terms: &Ready<I>,
     list: Parts,
@@ -283,6 +286,23 @@ fn ask<I: Interner>(ctx: &mut RefCtxt<I>, terms: &Ready<I>, question: &Question)
             let rigid = ask_rigid(&ctx.interner, terms, number)?;
             Ok(Answer::Is(rigid))
         }
+        QuestionKind::MayUnify {
+            params,
+            lhs,
+            rhs,
+            depth,
+        } => {
+            let may = ask_may_unify(&ctx.interner, terms, params, lhs, rhs, depth)?;
+            Ok(Answer::Is(may))
+        }
+        QuestionKind::ArgsMayUnify { params, lhs, rhs } => {
+            let may = ask_args_may_unify(ctx, terms, params, lhs, rhs)?;
+            Ok(Answer::Is(may))
+        }
+        QuestionKind::Key { params, ty } => {
+            let key = ask_key(&ctx.interner, terms, params, ty)?;
+            Ok(Answer::Key(key))
+        }
     }
 }
 
@@ -332,6 +352,7 @@ fn write_given<I: Interner, W: Write>(
         Answer::Met(met) => write_met(&ctx.interner, texts, met, out),
         Answer::Folded(term) => write_arg(&ctx.interner, texts, term, out),
         Answer::Is(holds) => write!(out, "{holds}"),
+        Answer::Key(key) => write_key::<I, W>(texts, key, out),
     }
 }
 

@@ -12,6 +12,8 @@ use Rattle.relation_text.specs.declared.reading.signs.Sign.{Sign}
 use Rattle.relation_text.specs.declared.reading.signs.Sign.TheVariants as sign
 use Rattle.relation_text.specs.declared.reading.tree.ItemSort.{ItemSort}
 use Rattle.relation_text.specs.declared.reading.tree.ItemSort.TheVariants as sort
+use Rattle.relation_text.specs.declared.reading.tree.SideParams.{SideParams}
+use Rattle.relation_text.specs.declared.reading.tree.SideParams.TheVariants as sides
 use Rattle.relation_text.specs.declared.reading.tree.Form.{Form}
 use Rattle.relation_text.specs.declared.reading.tree.Form.TheVariants as form
 use Rattle.relation_text.specs.declared.reading.terms.Rest.{Rest}
@@ -75,6 +77,12 @@ spelling sign.Unsafe = codes "unsafe"
 spelling sign.Variables = codes "variables"
 spelling sign.Visit = codes "visit"
 spelling sign.With = codes "with"
+spelling sign.Args = codes "args"
+spelling sign.At = codes "at"
+spelling sign.Infer = codes "infer"
+spelling sign.Key = codes "key"
+spelling sign.May = codes "may"
+spelling sign.Unify = codes "unify"
 
 -- how a question at a variance is written; none is asked at Bivariant
 abbrev pub relation_sign : Variance → Sign
@@ -97,6 +105,12 @@ abi_signs abi.System = sign.Extern ∷ sign.AbiSystem ∷ sign.Fn ∷ sign.LeftP
 abbrev pub header_signs : Safety → ExternAbi → List Sign
 header_signs safety.Safe a = abi_signs a
 header_signs safety.Unsafe a = sign.Unsafe ∷ abi_signs a
+
+-- how a quick test takes parameters
+abbrev pub side_signs : SideParams → List Sign
+side_signs sides.RigidRigid = sign.LeftBracket ∷ sign.Rigid ∷ sign.Comma ∷ sign.Rigid ∷ sign.RightBracket ∷ []
+side_signs sides.RigidInfer = sign.LeftBracket ∷ sign.Rigid ∷ sign.Comma ∷ sign.Infer ∷ sign.RightBracket ∷ []
+side_signs sides.InferInfer = sign.LeftBracket ∷ sign.Infer ∷ sign.Comma ∷ sign.Infer ∷ sign.RightBracket ∷ []
 
 -- what declares an item of a sort
 abbrev pub sort_signs : ItemSort → List Sign

@@ -6,6 +6,7 @@ mod namer;
 mod plain;
 mod program;
 mod questions;
+mod quick;
 mod statements;
 mod terms;
 

@@ -29,7 +29,18 @@ pub enum RowFault {
 }
 
 /// The rows, in the order of their numbers.
-pub const ROWS: [Row; 8] = [
+pub const ROWS: [Row; 14] = [
+    Row {
+        name: "r01",
+        questions: "may unify[rigid, rigid] bool, char at 0; may unify[rigid, rigid] bool, char at 1;",
+        stored: "true | false",
+    },
+    Row {
+        name: "r02",
+        questions: "may unify[rigid, rigid] bool, ?i0 at 0;
+            may unify[rigid, rigid] ?i0, bool at 0; may unify[rigid, rigid] ?i0, bool at 1;",
+        stored: "false | true | false",
+    },
     Row {
         name: "r07",
         questions: "(u8, u8) == (u8, u8, u8); () == (u8,);",
@@ -51,6 +62,15 @@ pub const ROWS: [Row; 8] = [
         stored: "budget; bound=[?0=u8]; left=0",
     },
     Row {
+        name: "r20",
+        questions: "param 'a;
+            may unify[rigid, rigid] &'a &'a &'a &'a &'a &'a &'a bool, &'a &'a &'a &'a &'a &'a &'a char;
+            may unify[rigid, rigid] &'a &'a &'a &'a &'a &'a &'a &'a bool, &'a &'a &'a &'a &'a &'a &'a &'a char;
+            may unify[rigid, rigid] &'a &'a &'a &'a &'a &'a &'a unsafe<> &'a &'a &'a &'a &'a &'a &'a bool,
+                &'a &'a &'a &'a &'a &'a &'a unsafe<> &'a &'a &'a &'a &'a &'a &'a char;",
+        stored: "false | true | false",
+    },
+    Row {
         name: "r22",
         questions: "[u8; 2] == [u8; 3];",
         stored: "err ArraySize(2, 3)",
@@ -60,6 +80,17 @@ pub const ROWS: [Row; 8] = [
         questions: "param 'a, 'b;
             &'a u8 <: &'b u8; &'a u8 :> &'b u8; &'a u8 == &'b u8;",
         stored: "ok; regions=['a: 'b] | ok; regions=['b: 'a] | ok; regions=['a == 'b]",
+    },
+    Row {
+        name: "r26",
+        questions: "fn f; param T;
+            key rigid T; key T; key f; key (); key {error};",
+        stored: "Placeholder | none | Closure(f) | Tuple(0) | Error",
+    },
+    Row {
+        name: "r28",
+        questions: "args may unify[rigid, rigid] [u8], [u8, bool];",
+        stored: "true",
     },
     Row {
         name: "r34",
@@ -73,6 +104,13 @@ pub const ROWS: [Row; 8] = [
         questions: "struct K<-T>; param 'a, 'b;
             K<&'a u8> <: K<&'b u8>; K<&'a u8> :> K<&'b u8>;",
         stored: "ok; regions=['b: 'a] | ok; regions=['a: 'b]",
+    },
+    Row {
+        name: "r59",
+        questions: "param T;
+            may unify[rigid, rigid] T, u8; may unify[infer, infer] T, u8; may unify[rigid, infer] T, u8;
+            may unify[rigid, infer] u8, T;",
+        stored: "false | true | false | true",
     },
 ];
 
@@ -142,14 +180,20 @@ pub fn print<O: io::Write, E: io::Write>(
 fn is_row(name: &str) -> bool
     ensures { IsTrue result ↔ IsRow name.now }
 {
-    name == "r07"
+    name == "r01"
+        || name == "r02"
+        || name == "r07"
         || name == "r08"
         || name == "r09"
         || name == "r17"
+        || name == "r20"
         || name == "r22"
         || name == "r23"
+        || name == "r26"
+        || name == "r28"
         || name == "r34"
         || name == "r35"
+        || name == "r59"
 }
 
 // Prints the row of a name, or all. The status is 1 if an answer is not the stored one, a row's text is wrong, or a

@@ -7,14 +7,20 @@ use std::alloc::{AllocError, Global};
 use std::io;
 use std::test::Fail;
 
-const ALL_ROWS: &str = "r07: err TupleSize(2, 3) | err Sorts((), (u8,))
+const ALL_ROWS: &str = "r01: true | false
+r02: false | true | false
+r07: err TupleSize(2, 3) | err Sorts((), (u8,))
 r08: err CyclicTy([?0])
 r09: err Sorts(u8, bool); bound=[?0=u8]
 r17: budget; bound=[?0=u8]; left=0
+r20: false | true | false
 r22: err ArraySize(2, 3)
 r23: ok; regions=['a: 'b] | ok; regions=['b: 'a] | ok; regions=['a == 'b]
+r26: Placeholder | none | Closure(f) | Tuple(0) | Error
+r28: true
 r34: ok; regions=['a: 'c, 'b == 'd] | err Mutability
 r35: ok; regions=['b: 'a] | ok; regions=['a: 'b]
+r59: false | true | false | true
 ";
 
 // The words of a run, its status, and what it writes.

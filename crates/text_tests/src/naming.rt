@@ -183,6 +183,18 @@ fn wrong_names_are_told(rt: HostRuntime) -> Result<(), Fail> {
             "1:29: expected a name that is known, found `'a`",
         ),
         (
+            "may unify[rigid, rigid] u8, u8 at 1u8;",
+            "1:35: expected a number alone, found `1u8`",
+        ),
+        (
+            "args may unify[rigid, rigid] [u8], [2];",
+            "1:37: expected a type, found a constant",
+        ),
+        (
+            "param 'a; key 'a;",
+            "1:15: expected a type, found a region",
+        ),
+        (
             "visit unsafe<'a> 2;",
             "1:18: expected a type, found a constant",
         ),

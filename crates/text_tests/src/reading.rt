@@ -56,6 +56,9 @@ fn form_name(form: Form) -> &'static str {
         Form::Escapes => "escapes",
         Form::Infers => "infers",
         Form::Rigid => "rigid",
+        Form::MayUnify(_) => "may-unify",
+        Form::ArgsMayUnify(_) => "args-may-unify",
+        Form::Key(_) => "key",
         Form::Terms => "terms",
         Form::Put => "put",
         Form::Then => "then",
@@ -181,6 +184,18 @@ fn binders_are_read(rt: HostRuntime) -> Result<(), Fail> {
 }
 
 #[test]
+fn quick_tests_are_read(rt: HostRuntime) -> Result<(), Fail> {
+    let text =
+        "may unify[rigid, infer] T, [U] at 3; args may unify[infer, infer] [T, 'a], []; key rigid T; key U;";
+    let all = shown(rt.alloc(), text)?;
+    assert_eq!(rt;
+        all.as_str(),
+        "file(may-unify(T slice(U) 3) args-may-unify(terms(T 'a) terms()) key(T) key(U))"
+    );
+    Ok(())
+}
+
+#[test]
 fn wrong_texts_are_refused(rt: HostRuntime) -> Result<(), Fail> {
     for (text, why) in [
         ("", "file()"),
@@ -233,6 +248,19 @@ fn wrong_texts_are_refused(rt: HostRuntime) -> Result<(), Fail> {
             "1:14: expected `\"C\"` or `\"system\"`, found `fn`",
         ),
         ("visit extern \"Rust\" fn();", "1:14: no word begins here"),
+        ("may T, U;", "1:5: expected `unify`, found `T`"),
+        (
+            "may unify[infer, rigid] T, U;",
+            "1:18: expected `infer`, found `rigid`",
+        ),
+        (
+            "may unify[rigid, T] T, U;",
+            "1:18: expected `rigid` or `infer`, found `T`",
+        ),
+        (
+            "may unify[rigid, rigid] T;",
+            "1:26: expected `,`, found `;`",
+        ),
         ("visit fn(.., u8);", "1:12: expected `)`, found `,`"),
         ("visit fn() -> ;", "1:15: expected a term, found `;`"),
     ] {

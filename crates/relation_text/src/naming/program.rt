@@ -1,7 +1,7 @@
 //! What a text says: its items, its terms and its questions.
 ghost use Rattle.std.specs.Prelude.{◌≡◌};
 
-use crate::reading::ItemSort;
+use crate::reading::{ItemSort, KeyParams, SideParams};
 use relation_terms::terms::{FloatTy, FnHeader, IntTy, Mutability, UintTy, Variance};
 use std::alloc::AllocError;
 
@@ -159,6 +159,24 @@ pub enum QuestionKind {
     Infers(usize),
     /// Whether a type's outermost form stays what it is.
     Rigid(usize),
+    /// Whether two types may unify, as far as a depth goes if one is given.
+    MayUnify {
+        params: SideParams,
+        lhs: usize,
+        rhs: usize,
+        depth: Option<usize>,
+    },
+    /// Whether two lists of arguments may unify.
+    ArgsMayUnify {
+        params: SideParams,
+        lhs: Parts,
+        rhs: Parts,
+    },
+    /// The key of a type.
+    Key {
+        params: KeyParams,
+        ty: usize,
+    },
 }
 
 /// A question, and how it is asked.

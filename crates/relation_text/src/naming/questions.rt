@@ -8,7 +8,7 @@ use relation_terms::terms::Variance;
 
 impl<'a> Namer<'a> {
     // Adds a question.
-    fn ask(&mut self, kind: QuestionKind) -> Result<(), NameError> {
+    pub fn ask(&mut self, kind: QuestionKind) -> Result<(), NameError> {
         self.program.questions.push(Question {
             kind,
             then: false,
@@ -143,6 +143,9 @@ impl<'a> Namer<'a> {
             (Form::Fold, _) => self.ask_fold(node, parts),
             (Form::Escapes | Form::Infers | Form::Rigid, [term]) => {
                 self.ask_about(node, form, *term)
+            }
+            (Form::MayUnify(_) | Form::ArgsMayUnify(_) | Form::Key(_), _) => {
+                self.ask_quickly(node, form, parts)
             }
             (Form::Then, [_]) => self.ask_then(node),
             (Form::Repeat, [times, _]) => self.ask_again(node, *times),

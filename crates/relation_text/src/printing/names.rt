@@ -87,8 +87,8 @@ pub(super) fn trait_text<'a, D: PartialEq>(
     None
 }
 
-// The name of a signed integer type.
-pub(super) fn int_name(width: IntTy) -> &'static str
+/// The name of a signed integer type.
+pub fn int_name(width: IntTy) -> &'static str
     ensures { result.now ≡ int_name width }
 {
     match width {
@@ -101,8 +101,8 @@ pub(super) fn int_name(width: IntTy) -> &'static str
     }
 }
 
-// The name of an unsigned integer type.
-pub(super) fn uint_name(width: UintTy) -> &'static str
+/// The name of an unsigned integer type.
+pub fn uint_name(width: UintTy) -> &'static str
     ensures { result.now ≡ uint_name width }
 {
     match width {
@@ -115,8 +115,8 @@ pub(super) fn uint_name(width: UintTy) -> &'static str
     }
 }
 
-// The name of a float type.
-pub(super) fn float_name(width: FloatTy) -> &'static str
+/// The name of a float type.
+pub fn float_name(width: FloatTy) -> &'static str
     ensures { result.now ≡ float_name width }
 {
     match width {

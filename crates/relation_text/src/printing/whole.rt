@@ -3,9 +3,9 @@ ghost use Rattle.std.specs.Prelude.{IsTrue};
 ghost use Rattle.relation_terms.specs.Trees.{known};
 ghost use Rattle.relation_terms.specs.Meaning.{arg_tree};
 
-use crate::printing::names::TextsOf;
+use crate::printing::names::{TextsOf, item_text};
 use crate::printing::{leaves, terms};
-use relation_terms::terms::{Const, GenericArg, Interner, Region, Ty};
+use relation_terms::terms::{Const, GenericArg, Interner, ItemOf, Region, Ty};
 use std::fmt::{self, Write};
 
 /// Writes a type. A parameter or an item that has no text is `_`, a region parameter `'_`.
@@ -69,4 +69,16 @@ pub fn write_arg<I: Interner, W: Write>(
     requires { IsTrue (known (arg_tree (I.meaning cx.now) arg.now)) }
 {
     terms::write_arg(cx, texts, &[], arg, out)
+}
+
+/// Writes an item's name. One that has no text is `_`.
+///
+/// # Errors
+/// `fmt::Error` where `out` refused to take the text.
+pub fn write_item_name<I: Interner, W: Write>(
+    texts: &TextsOf<I>,
+    item: &ItemOf<I>,
+    out: &mut W,
+) -> fmt::Result {
+    out.write_str(item_text(texts.items, &item.0))
 }

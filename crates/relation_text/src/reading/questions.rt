@@ -6,6 +6,7 @@ ghost use Rattle.relation_text.specs.Signs.{relation_sign};
 ghost use Rattle.relation_text.specs.Reads.{GoesOn, AddsRoots, Makes};
 
 use crate::reading::error::{Expected, ReadError};
+use crate::reading::quick::{read_args_test, read_key, read_may_unify};
 use crate::reading::reader::Reader;
 use crate::reading::signs::Sign;
 use crate::reading::terms::{LEVELS, read_term};
@@ -141,6 +142,15 @@ fn read_asked(reader: &mut Reader) -> Result<usize, ReadError>
     }
     if reader.accept(Sign::Rigid) {
         return read_about(reader, start, Form::Rigid);
+    }
+    if reader.accept(Sign::May) {
+        return read_may_unify(reader, start);
+    }
+    if reader.accept(Sign::Args) {
+        return read_args_test(reader, start);
+    }
+    if reader.accept(Sign::Key) {
+        return read_key(reader, start);
     }
     read_pair(reader)
 }

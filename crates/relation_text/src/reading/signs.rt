@@ -59,6 +59,12 @@ pub enum Sign {
     Variables,
     Visit,
     With,
+    Args,
+    At,
+    Infer,
+    Key,
+    May,
+    Unify,
 }
 
 impl Sign {
@@ -121,12 +127,18 @@ impl Sign {
             Sign::Variables => "variables",
             Sign::Visit => "visit",
             Sign::With => "with",
+            Sign::Args => "args",
+            Sign::At => "at",
+            Sign::Infer => "infer",
+            Sign::Key => "key",
+            Sign::May => "may",
+            Sign::Unify => "unify",
         }
     }
 }
 
 // The words of the language, each of which is written as a name would be.
-const RESERVED: [Sign; 29] = [
+const RESERVED: [Sign; 35] = [
     Sign::Budget,
     Sign::Closure,
     Sign::Const,
@@ -156,6 +168,12 @@ const RESERVED: [Sign; 29] = [
     Sign::Variables,
     Sign::Visit,
     Sign::With,
+    Sign::Args,
+    Sign::At,
+    Sign::Infer,
+    Sign::Key,
+    Sign::May,
+    Sign::Unify,
 ];
 
 // The word of the language that is written so.

@@ -191,7 +191,7 @@ fn open(reader: &mut Reader, parts: &mut Vec<usize>) -> Result<Rest, ReadError>
 
 // Reads a list of terms, and the sign behind it. Answers whether it ended in a comma or was empty.
 #[cycle(terms)]
-fn read_list(
+pub(super) fn read_list(
     reader: &mut Reader,
     parts: &mut Vec<usize>,
     close: Sign,

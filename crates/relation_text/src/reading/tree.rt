@@ -17,6 +17,21 @@ pub enum ItemSort {
     Foreign,
 }
 
+/// How a quick test takes the parameters on the left and those on the right: as types of their own, or as standing for any.
+#[derive(Clone, Copy, PartialEq, Eq, Debug)]
+pub enum SideParams {
+    RigidRigid,
+    RigidInfer,
+    InferInfer,
+}
+
+/// How a key takes parameters: as standing for any type, or as types of their own.
+#[derive(Clone, Copy, PartialEq, Eq, Debug)]
+pub enum KeyParams {
+    Infer,
+    Rigid,
+}
+
 /// What a node makes of its parts.
 #[derive(Clone, Copy, PartialEq, Eq)]
 pub enum Form {
@@ -52,6 +67,12 @@ pub enum Form {
     Infers,
     /// Whether a type's outermost form stays what it is.
     Rigid,
+    /// Whether two types may unify: the types, and the depth if that is given.
+    MayUnify(SideParams),
+    /// Whether two lists of arguments may unify: the `Terms` of each.
+    ArgsMayUnify(SideParams),
+    /// The key of a type.
+    Key(KeyParams),
     /// A list of terms.
     Terms,
     /// A term, and the one that is put for it.
