@@ -1,8 +1,10 @@
 //! Relating as a solver does: by what a context has recorded, and by recording more.
 ghost use Rattle.std.specs.Prelude.{◌≡◌, ◌≢◌, IsTrue};
+ghost use Rattle.relation_terms.specs.Heads.{arguments};
 ghost use Rattle.relation_terms.specs.Trees.{known};
 ghost use Rattle.relation_terms.specs.declared.terms.enums.Variance.TheVariants.{Bivariant};
 ghost use Rattle.type_relations.specs.Lawful.{Asked, Related};
+ghost use Rattle.type_relations.specs.Keyed.{AreAsMany, AskedLists, RelatedLists};
 ghost use Rattle.relation_reference.specs.Tables.{IsLawful};
 ghost use Rattle.relation_reference.specs.Solving.{solving, solving_in, solver_manner};
 
@@ -10,7 +12,7 @@ use crate::context::RefCtxt;
 use relation_terms::terms::{Const, GenericArgs, Interner, ItemOf, ParamEnv, Region, Ty, Variance};
 use relation_tools::error::RelateResult;
 use type_relations::relate::structural::tys;
-use type_relations::relate::{Step, TypeRelation};
+use type_relations::relate::{Step, TypeRelation, relate_args_invariantly};
 
 /// Relates the terms of a context, at an ambient variance and in an environment.
 ///
@@ -66,6 +68,35 @@ impl<'a, I: Interner> SolverRelating<'a, I> {
             Related solver_manner before after v (m.ty a.now) (m.ty b.now) n.ty result }
     {
         tys(self, a, b)
+    }
+
+    /// Relates two lists of as many arguments, each pair at `Invariant` seen from the ambient variance, and answers the
+    /// list of what they are related as. The interner knows both, and they are arguments of the context. What was recorded
+    /// is in the context, also after an error.
+    ///
+    /// # Errors
+    /// `Unrelated` where the arguments of a pair do not become one, `Budget` where no instantiation is left, `Memory`
+    /// where a growth was refused.
+    pub fn relate_args(
+        &mut self,
+        a: &GenericArgs<I>,
+        b: &GenericArgs<I>,
+    ) -> RelateResult<I, GenericArgs<I>>
+        requires lawful { IsLawful (I.meaning self.old.infcx.now.interner) self.old.infcx.now.inner }
+        requires env_known { IsTrue (known ((I.meaning self.old.infcx.now.interner).param_env self.old.param_env)) }
+        requires decides { self.old.ambient_variance ≢ Bivariant }
+        requires asked { let v = self.old.ambient_variance in
+            let before = solving_in I.meaning self.old.infcx.now v self.old.param_env in
+            AskedLists solver_manner before (λ m. arguments) a.now b.now }
+        requires as_many { let v = self.old.ambient_variance in
+            AreAsMany (solving_in I.meaning self.old.infcx.now v self.old.param_env) a.now b.now }
+        ensures same_reference { self.new.infcx.ghost_name ≡ self.old.infcx.ghost_name }
+        ensures related { let v = self.old.ambient_variance in
+            let before = solving_in I.meaning self.old.infcx.now v self.old.param_env in
+            let after = solving_in I.meaning self.new.infcx.now v self.old.param_env in
+            RelatedLists solver_manner before after (λ m. arguments) a.now b.now result }
+    {
+        relate_args_invariantly(self, a, b)
     }
 
     /// The context, with all that was recorded.
