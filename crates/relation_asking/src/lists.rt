@@ -12,10 +12,11 @@ ghost use Rattle.relation_asking.specs.Asking.{AreReady, IsReady};
 
 use crate::context::{NotAsked, have_variables, refusal};
 use crate::needs::{Needs, both, parts_need};
-use crate::question::{Ready, Unasked, terms_of};
+use crate::question::{Ready, Unasked};
 use relation_reference::context::{RefCtxt, SolverRelating};
 use relation_terms::terms::parts::member_count;
 use relation_terms::terms::{GenericArgs, Interner, ParamEnv, Parts as PartsOfTerm, Variance};
+use relation_text::building::keys_at;
 use relation_text::naming::{Parts, Question};
 use relation_tools::error::RelateResult;
 use type_relations::relate::solver_relating::RelateGoals;
@@ -32,7 +33,10 @@ pub(super) fn args_of<I: Interner>(
     ensures grown { Extends (I.meaning ctx.old.interner) (I.meaning ctx.new.interner) }
     ensures sure { IfOk result (λ p. IsReady p.1 ((I.meaning ctx.new.interner).args p.0)) }
 {
-    let keys = terms_of(ctx.interner.alloc(), terms, list)?;
+    let alloc = ctx.interner.alloc();
+    let Some(keys) = keys_at(alloc, terms.parts, terms.built, list) else {
+        return Err(Unasked::Memory);
+    };
     match ctx.interner.mk_args(&keys) {
         Ok(args) => Ok((args, parts_need(terms.parts, terms.needs, list))),
         Err(_) => Err(Unasked::Memory),

@@ -156,7 +156,7 @@ fn term_of<I: Interner>(terms: &Ready<I>, number: usize) -> Result<GenericArg<I>
 }
 
 // The terms of a list.
-pub(super) fn terms_of<I: Interner>(
+fn terms_of<I: Interner>(
     alloc: Global,
     terms: &Ready<I>,
     list: Parts,
