@@ -2,10 +2,12 @@
 use Rattle.std.proofs.Common.{◌≡◌, ◌≢◌, ℕ, ◌<◌, sym, subst, arith, List, [], ◌∷◌, Option, Some, map, slice_get, refl}
 use Rattle.std.proofs.Common.{IsTrue}
 use Rattle.std.proofs.lemmas.List.{length-map}
+use Rattle.std.proofs.lemmas.Bool.{and_parts}
 use Rattle.relation_terms.specs.declared.terms.enums.Variance.{Variance}
 use Rattle.relation_terms.specs.declared.terms.enums.Variance.TheVariants.{Covariant, Contravariant, Invariant, Bivariant}
 use Rattle.relation_terms.specs.declared.terms.generic_arg.GenericArgKind.{GenericArgKind}
-use Rattle.relation_terms.specs.Trees.{Tree, known, list_tree}
+use Rattle.relation_terms.specs.Heads.{arguments}
+use Rattle.relation_terms.specs.Trees.{Tree, node, known, list_tree}
 use Rattle.relation_terms.specs.Meaning.{Meaning, Extends, arg_tree}
 use Rattle.relation_terms.proofs.Stays.{stays_arg}
 use Rattle.type_relations.specs.Stores.{IsTermIn}
@@ -20,11 +22,12 @@ use Rattle.relation_text.specs.declared.naming.program.Put.{Put}
 use Rattle.relation_asking.specs.Meets.{AllKnown}
 use Rattle.relation_asking.specs.Puts.{AreMade, ArePuts}
 use Rattle.relation_asking.proofs.MeetLemmas.{and_both}
-use Rattle.relation_asking.specs.Needs.{Allows, both_needs, need_at, needs_of}
+use Rattle.relation_asking.specs.Needs.{Allows, both_needs, need_at, needs_with, needs_of}
 use Rattle.relation_asking.specs.Asking.{IsReady, AreReady, Has, MayBeAsked}
 use Rattle.type_relations.specs.Covered.{IsCovered}
-use Rattle.relation_asking.proofs.CoverLemmas.{all_covered}
+use Rattle.relation_asking.proofs.CoverLemmas.{all_covered, rules_before}
 use Rattle.relation_asking.proofs.NeedLemmas.{reaches_left, reaches_right, allowed_in, fixed_taken, all_taken, all_enough}
+use Rattle.relation_asking.proofs.NeedLemmas.{allows_right, allows_still}
 
 -- What is ready stays so.
 pub ready_stays : {Key Id Name : Type 0} {m n : Meaning Key Id Name} → Extends m n →
@@ -36,6 +39,10 @@ ready_stays {m = m} {n = n} e keys needs r = λ k key there.
 
 pub one_ready : (t u : Tree) (needs : Needs) → u ≡ t → IsReady needs t → IsReady needs u
 one_ready t u needs e h = subst (IsReady needs) (sym e) h
+
+-- A list of arguments, as the form over them.
+pub as_arguments : (needs : Needs) (t : Tree) → IsReady needs t → IsReady needs (node arguments t)
+as_arguments needs t h = (h.0, (h.1.0, λ rules. (tt, h.1.1 rules)))
 
 -- What has what is needed for both has it for each.
 module _ {Key : Type 0} (x : InferCtxtInner Key) (a b : Needs) (h : Has x (both_needs a b)) where
@@ -108,6 +115,35 @@ module _ {Key Id Name : Type 0} (m : Meaning Key Id Name) (keys : List (Option (
       let one : slice_get keys n ≡ Some (Some x) = cc in
       let more : map (slice_get keys) ns ≡ map (λ y. Some (Some y)) xs = cc in
       and_both (known (arg_tree m x)) (known (list_tree (arg_tree m) xs)) (r n x one).0 (keys_known ns xs more)
+
+  -- What a list of such terms needs is enough for it, and the list is covered where all forms in it have rules.
+  list_allowed : (ns : List ℕ) (xs : List (GenericArgKind Key)) (n : Needs) →
+      map (slice_get keys) ns ≡ map (λ x. Some (Some x)) xs → Allows (needs_with needs n ns) (list_tree (arg_tree m) xs)
+  list_allowed ns [] n e = tt
+  list_allowed [] (x ∷ xs) n e = absurd (cc)
+  list_allowed (k ∷ ns) (x ∷ xs) n e =
+      let one : slice_get keys k ≡ Some (Some x) = cc in
+      let more : map (slice_get keys) ns ≡ map (λ y. Some (Some y)) xs = cc in
+      let own = need_at needs k in (
+        allows_still needs (both_needs n own) ns (arg_tree m x) (allows_right n own (arg_tree m x) (r k x one).1.0),
+        list_allowed ns xs (both_needs n own) more,
+      )
+
+  list_covered : (ns : List ℕ) (xs : List (GenericArgKind Key)) (n : Needs) →
+      map (slice_get keys) ns ≡ map (λ x. Some (Some x)) xs → IsTrue (needs_with needs n ns).has_rules →
+      IsCovered (list_tree (arg_tree m) xs)
+  list_covered ns [] n e rules = tt
+  list_covered [] (x ∷ xs) n e rules = absurd (cc)
+  list_covered (k ∷ ns) (x ∷ xs) n e rules =
+      let one : slice_get keys k ≡ Some (Some x) = cc in
+      let more : map (slice_get keys) ns ≡ map (λ y. Some (Some y)) xs = cc in
+      let own = need_at needs k in
+      let both = rules_before needs (both_needs n own) ns rules in
+      ((r k x one).1.1 (and_parts n.has_rules own.has_rules both).1, list_covered ns xs (both_needs n own) more rules)
+
+  pub list_ready : (ns : List ℕ) (xs : List (GenericArgKind Key)) (n : Needs) →
+      map (slice_get keys) ns ≡ map (λ x. Some (Some x)) xs → IsReady (needs_with needs n ns) (list_tree (arg_tree m) xs)
+  list_ready ns xs n e = (keys_known ns xs e, (list_allowed ns xs n e, list_covered ns xs n e))
 
   pub puts_known : (ns : List (Put ℕ)) (ps : List (Put (GenericArgKind Key))) → AreMade keys ns ps → ArePuts m ps
   puts_known [] [] h = tt

@@ -19,7 +19,7 @@ abbrev pub IsCoveredBy : Needs → Tree → Type 0
 IsCoveredBy n t = IsTrue (known t) → IsTrue n.has_rules → IsCovered t
 
 -- Where a list has rules, all before it has.
-rules_before : (ns : List Needs) (n : Needs) (ks : List ℕ) → IsTrue (needs_with ns n ks).has_rules → IsTrue n.has_rules
+pub rules_before : (ns : List Needs) (n : Needs) (ks : List ℕ) → IsTrue (needs_with ns n ks).has_rules → IsTrue n.has_rules
 rules_before ns n [] r = r
 rules_before ns n (k ∷ ks) r =
     (and_parts n.has_rules (need_at ns k).has_rules (rules_before ns (both_needs n (need_at ns k)) ks r)).0

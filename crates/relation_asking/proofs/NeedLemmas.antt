@@ -98,14 +98,14 @@ each_leaf P Q f (cons t ts) h = (each_leaf P Q f t h.0, each_leaf P Q f ts h.1)
 allows_left : (a b : Needs) (t : Tree) → Allows a t → Allows (both_needs a b) t
 allows_left a b t h = each_leaf (IsEnough a) (IsEnough (both_needs a b)) (enough_left a b) t h
 
-allows_right : (a b : Needs) (t : Tree) → Allows b t → Allows (both_needs a b) t
+pub allows_right : (a b : Needs) (t : Tree) → Allows b t → Allows (both_needs a b) t
 allows_right a b t h = each_leaf (IsEnough b) (IsEnough (both_needs a b)) (enough_right a b) t h
 
 allows_without : (n : Needs) (t : Tree) → Allows n t → Allows (without_rules n) t
 allows_without n t h = each_leaf (IsEnough n) (IsEnough (without_rules n)) (enough_without n) t h
 
 -- Of lists.
-allows_still : (ns : List Needs) (n : Needs) (ks : List ℕ) (t : Tree) → Allows n t → Allows (needs_with ns n ks) t
+pub allows_still : (ns : List Needs) (n : Needs) (ks : List ℕ) (t : Tree) → Allows n t → Allows (needs_with ns n ks) t
 allows_still ns n [] t h = h
 allows_still ns n (k ∷ ks) t h =
     allows_still ns (both_needs n (need_at ns k)) ks t (allows_left n (need_at ns k) t h)

@@ -26,6 +26,8 @@ pub enum NotAsked {
     Universe,
     /// Nothing is asked at this variance.
     Variance,
+    /// Lists of arguments are related that have as many.
+    Lengths,
 }
 
 // A new context over the interner of another one.
@@ -153,5 +155,6 @@ pub(super) fn write_not_asked<W: Write>(why: NotAsked, out: &mut W) -> fmt::Resu
             out.write_str("the context's universe, 0, does not name the placeholder")
         }
         NotAsked::Variance => out.write_str("nothing is related at this variance"),
+        NotAsked::Lengths => out.write_str("one list has more arguments than the other"),
     }
 }

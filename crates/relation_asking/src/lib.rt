@@ -7,6 +7,7 @@ mod comparing;
 mod context;
 mod folding;
 mod interner;
+mod lists;
 pub mod needs;
 pub mod printing;
 mod question;

@@ -74,7 +74,7 @@ fn number_at(numbers: &[usize], place: usize) -> Option<usize>
 }
 
 // What all parts of a list need.
-fn parts_need(numbers: &[usize], before: &[Needs], parts: Parts) -> Needs
+pub(crate) fn parts_need(numbers: &[usize], before: &[Needs], parts: Parts) -> Needs
     ensures { result ≡ parts_need numbers.now before.now parts }
 {
     let mut needs = NONE;

@@ -11,6 +11,7 @@ ghost use Rattle.relation_asking.specs.Asking.{AreReady, IsReady, KnowsAnswer};
 use crate::BUDGET;
 use crate::context::{NotAsked, have_variables, refusal, relate, renewed, write_not_asked};
 use crate::folding::{fold, puts_at};
+use crate::lists::ask_args_related;
 use crate::needs::{Needs, both, need_at};
 use crate::printing::write_answer;
 use crate::quick::{KeyOf, ask_args_may_unify, ask_key, ask_may_unify, write_key};
@@ -155,7 +156,7 @@ fn term_of<I: Interner>(terms: &Ready<I>, number: usize) -> Result<GenericArg<I>
 }
 
 // The terms of a list.
-pub(super) fn terms_of<I: Interner>(
+fn terms_of<I: Interner>(
     alloc: Global,
     terms: &Ready<I>,
     list: Parts,
@@ -298,6 +299,10 @@ fn ask<I: Interner>(ctx: &mut RefCtxt<I>, terms: &Ready<I>, question: &Question)
         QuestionKind::ArgsMayUnify { params, lhs, rhs } => {
             let may = ask_args_may_unify(ctx, terms, params, lhs, rhs)?;
             Ok(Answer::Is(may))
+        }
+        QuestionKind::RelateArgs { lhs, rhs } => {
+            let related = ask_args_related(ctx, terms, question, lhs, rhs)?;
+            Ok(Answer::Related(related))
         }
         QuestionKind::Key { params, ty } => {
             let key = ask_key(&ctx.interner, terms, params, ty)?;

@@ -1,13 +1,14 @@
 //! Quick tests that are asked, and keys that are written.
-ghost use Rattle.std.specs.Prelude.{IsTrue, IfOk};
+ghost use Rattle.std.specs.Prelude.{IsTrue};
 ghost use Rattle.relation_terms.specs.Trees.{known};
 ghost use Rattle.relation_terms.specs.Meaning.{Extends};
 ghost use Rattle.relation_reference.specs.Tables.{IsLawful};
 ghost use Rattle.relation_asking.specs.Asking.{AreReady};
 
-use crate::question::{Ready, Unasked, terms_of, type_of};
+use crate::lists::args_of;
+use crate::question::{Ready, Unasked, type_of};
 use relation_reference::context::RefCtxt;
-use relation_terms::terms::{GenericArgs, Interner, ItemOf, Mutability, Ty};
+use relation_terms::terms::{Interner, ItemOf, Mutability, Ty};
 use relation_text::naming::Parts;
 use relation_text::printing::{TextsOf, float_name, int_name, uint_name, write_item_name};
 use relation_text::reading::{KeyParams, SideParams};
@@ -67,25 +68,6 @@ pub(super) fn ask_may_unify<I: Interner>(
     })
 }
 
-// The list of arguments of a list of terms.
-fn args_of<I: Interner>(
-    ctx: &mut RefCtxt<I>,
-    terms: &Ready<I>,
-    list: Parts,
-) -> Result<GenericArgs<I>, Unasked>
-    requires lawful { IsLawful (I.meaning ctx.old.interner) ctx.old.inner }
-    requires ready { AreReady (I.meaning ctx.old.interner) terms.now.built.now terms.now.needs.now }
-    ensures lawful { IsLawful (I.meaning ctx.new.interner) ctx.new.inner }
-    ensures grown { Extends (I.meaning ctx.old.interner) (I.meaning ctx.new.interner) }
-    ensures sure { IfOk result (λ args. IsTrue (known ((I.meaning ctx.new.interner).args args))) }
-{
-    let keys = terms_of(ctx.interner.alloc(), terms, list)?;
-    match ctx.interner.mk_args(&keys) {
-        Ok(args) => Ok(args),
-        Err(_) => Err(Unasked::Memory),
-    }
-}
-
 // Whether two lists of arguments may unify.
 #[tactic(auto, using(relation_terms::proofs::Stays::knows_args, relation_terms::proofs::Stays::extends_on, crate::proofs::AskingLemmas::ready_stays))]
 pub(super) fn ask_args_may_unify<I: Interner>(
@@ -100,8 +82,8 @@ pub(super) fn ask_args_may_unify<I: Interner>(
     ensures lawful { IsLawful (I.meaning ctx.new.interner) ctx.new.inner }
     ensures grown { Extends (I.meaning ctx.old.interner) (I.meaning ctx.new.interner) }
 {
-    let lhs = args_of(ctx, terms, lhs)?;
-    let rhs = args_of(ctx, terms, rhs)?;
+    let (lhs, _) = args_of(ctx, terms, lhs)?;
+    let (rhs, _) = args_of(ctx, terms, rhs)?;
     let cx = &ctx.interner;
     Ok(match params {
         SideParams::RigidRigid => {

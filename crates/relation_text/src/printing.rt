@@ -6,7 +6,5 @@ mod names;
 mod terms;
 mod whole;
 
-pub use names::{
-    ItemText, Parameter, Texts, TextsOf, TraitText, float_name, int_name, uint_name,
-};
+pub use names::{ItemText, Parameter, Texts, TextsOf, TraitText, float_name, int_name, uint_name};
 pub use whole::{write_arg, write_const, write_item_name, write_region, write_ty};

@@ -5,6 +5,6 @@ use Rattle.std.specs.Prelude.{◌≡◌, ◌⊎◌, ℕ, List, codes}
 abbrev pub IsRow : List ℕ → Type 0
 IsRow name =
     (name ≡ codes "r01") ⊎ ((name ≡ codes "r02") ⊎ ((name ≡ codes "r07") ⊎ ((name ≡ codes "r08") ⊎
-    ((name ≡ codes "r09") ⊎ ((name ≡ codes "r17") ⊎ ((name ≡ codes "r20") ⊎ ((name ≡ codes "r22") ⊎
-    ((name ≡ codes "r23") ⊎ ((name ≡ codes "r26") ⊎ ((name ≡ codes "r28") ⊎ ((name ≡ codes "r34") ⊎
-    ((name ≡ codes "r35") ⊎ (name ≡ codes "r59")))))))))))))
+    ((name ≡ codes "r09") ⊎ ((name ≡ codes "r17") ⊎ ((name ≡ codes "r19") ⊎ ((name ≡ codes "r20") ⊎
+    ((name ≡ codes "r22") ⊎ ((name ≡ codes "r23") ⊎ ((name ≡ codes "r26") ⊎ ((name ≡ codes "r28") ⊎
+    ((name ≡ codes "r34") ⊎ ((name ≡ codes "r35") ⊎ (name ≡ codes "r59"))))))))))))))

@@ -29,7 +29,7 @@ pub enum RowFault {
 }
 
 /// The rows, in the order of their numbers.
-pub const ROWS: [Row; 14] = [
+pub const ROWS: [Row; 15] = [
     Row {
         name: "r01",
         questions: "may unify[rigid, rigid] bool, char at 0; may unify[rigid, rigid] bool, char at 1;",
@@ -60,6 +60,12 @@ pub const ROWS: [Row; 14] = [
         name: "r17",
         questions: "budget 1; (?0, ?1) == (u8, bool);",
         stored: "budget; bound=[?0=u8]; left=0",
+    },
+    Row {
+        name: "r19",
+        questions: "param const N = 0, const M = 0;
+            args may unify[rigid, rigid] [N], [M]; args [N] == [M];",
+        stored: "false | ok",
     },
     Row {
         name: "r20",
@@ -186,6 +192,7 @@ fn is_row(name: &str) -> bool
         || name == "r08"
         || name == "r09"
         || name == "r17"
+        || name == "r19"
         || name == "r20"
         || name == "r22"
         || name == "r23"

@@ -13,6 +13,7 @@ r07: err TupleSize(2, 3) | err Sorts((), (u8,))
 r08: err CyclicTy([?0])
 r09: err Sorts(u8, bool); bound=[?0=u8]
 r17: budget; bound=[?0=u8]; left=0
+r19: false | ok
 r20: false | true | false
 r22: err ArraySize(2, 3)
 r23: ok; regions=['a: 'b] | ok; regions=['b: 'a] | ok; regions=['a == 'b]

@@ -190,10 +190,7 @@ fn wrong_names_are_told(rt: HostRuntime) -> Result<(), Fail> {
             "args may unify[rigid, rigid] [u8], [2];",
             "1:37: expected a type, found a constant",
         ),
-        (
-            "param 'a; key 'a;",
-            "1:15: expected a type, found a region",
-        ),
+        ("param 'a; key 'a;", "1:15: expected a type, found a region"),
         (
             "visit unsafe<'a> 2;",
             "1:18: expected a type, found a constant",

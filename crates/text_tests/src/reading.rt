@@ -58,6 +58,7 @@ fn form_name(form: Form) -> &'static str {
         Form::Rigid => "rigid",
         Form::MayUnify(_) => "may-unify",
         Form::ArgsMayUnify(_) => "args-may-unify",
+        Form::ArgsEqual => "args-equal",
         Form::Key(_) => "key",
         Form::Terms => "terms",
         Form::Put => "put",
@@ -192,6 +193,14 @@ fn quick_tests_are_read(rt: HostRuntime) -> Result<(), Fail> {
         all.as_str(),
         "file(may-unify(T slice(U) 3) args-may-unify(terms(T 'a) terms()) key(T) key(U))"
     );
+    let all = shown(
+        rt.alloc(),
+        "args [T, 2,] == ['a]; may unify[rigid, rigid] T, T;",
+    )?;
+    assert_eq!(rt;
+        all.as_str(),
+        "file(args-equal(terms(T 2) terms('a)) may-unify(T T))"
+    );
     Ok(())
 }
 
@@ -249,6 +258,8 @@ fn wrong_texts_are_refused(rt: HostRuntime) -> Result<(), Fail> {
         ),
         ("visit extern \"Rust\" fn();", "1:14: no word begins here"),
         ("may T, U;", "1:5: expected `unify`, found `T`"),
+        ("args T;", "1:6: expected `[`, found `T`"),
+        ("args [T];", "1:9: expected `==`, found `;`"),
         (
             "may unify[infer, rigid] T, U;",
             "1:18: expected `infer`, found `rigid`",

@@ -172,6 +172,11 @@ pub enum QuestionKind {
         lhs: Parts,
         rhs: Parts,
     },
+    /// Whether two lists of arguments are related at invariance.
+    RelateArgs {
+        lhs: Parts,
+        rhs: Parts,
+    },
     /// The key of a type.
     Key {
         params: KeyParams,

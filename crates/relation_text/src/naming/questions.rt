@@ -144,9 +144,8 @@ impl<'a> Namer<'a> {
             (Form::Escapes | Form::Infers | Form::Rigid, [term]) => {
                 self.ask_about(node, form, *term)
             }
-            (Form::MayUnify(_) | Form::ArgsMayUnify(_) | Form::Key(_), _) => {
-                self.ask_quickly(node, form, parts)
-            }
+            (Form::MayUnify(_) | Form::ArgsMayUnify(_) | Form::ArgsEqual | Form::Key(_), _) =>
+                self.ask_quickly(node, form, parts),
             (Form::Then, [_]) => self.ask_then(node),
             (Form::Repeat, [times, _]) => self.ask_again(node, *times),
             (Form::Terms | Form::Put | Form::Error, _) => Ok(()),

@@ -1,4 +1,4 @@
-//! Questions of quick tests, of the tree's nodes.
+//! Questions of quick tests, and others about lists of arguments, of the tree's nodes.
 
 use crate::naming::error::{NameError, Wrong, error_at};
 use crate::naming::namer::Namer;
@@ -49,12 +49,7 @@ impl<'a> Namer<'a> {
     }
 
     // The terms of two lists, each of the second of the sort of its partner in the first.
-    fn paired(
-        &mut self,
-        node: &Node,
-        lhs: usize,
-        rhs: usize,
-    ) -> Result<(Parts, Parts), NameError> {
+    fn paired(&mut self, node: &Node, lhs: usize, rhs: usize) -> Result<(Parts, Parts), NameError> {
         let (left, left_terms) = self.listing(node, lhs)?;
         let (right, right_terms) = self.listing(node, rhs)?;
         let lhs = self.terms(&left, left_terms)?;
@@ -80,13 +75,19 @@ impl<'a> Namer<'a> {
         self.ask(QuestionKind::ArgsMayUnify { params, lhs, rhs })
     }
 
+    // Whether two lists of arguments are related.
+    fn ask_args_related(&mut self, node: &Node, lhs: usize, rhs: usize) -> Result<(), NameError> {
+        let (lhs, rhs) = self.paired(node, lhs, rhs)?;
+        self.ask(QuestionKind::RelateArgs { lhs, rhs })
+    }
+
     // The key of a type.
     fn ask_key(&mut self, node: &Node, params: KeyParams, ty: usize) -> Result<(), NameError> {
         let ty = self.term(node, ty, Some(Sort::Type))?.number;
         self.ask(QuestionKind::Key { params, ty })
     }
 
-    // A question of a quick test.
+    // A question of a quick test, or about lists of arguments.
     pub fn ask_quickly(
         &mut self,
         node: &Node,
@@ -104,6 +105,7 @@ impl<'a> Namer<'a> {
             (Form::ArgsMayUnify(params), [lhs, rhs]) => {
                 self.ask_args_may_unify(node, params, *lhs, *rhs)
             }
+            (Form::ArgsEqual, [lhs, rhs]) => self.ask_args_related(node, *lhs, *rhs),
             (Form::Key(params), [ty]) => self.ask_key(node, params, *ty),
             _ => Err(error_at(node, Wrong::NotRead)),
         }

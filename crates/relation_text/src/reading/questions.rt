@@ -6,7 +6,7 @@ ghost use Rattle.relation_text.specs.Signs.{relation_sign};
 ghost use Rattle.relation_text.specs.Reads.{GoesOn, AddsRoots, Makes};
 
 use crate::reading::error::{Expected, ReadError};
-use crate::reading::quick::{read_args_test, read_key, read_may_unify};
+use crate::reading::quick::{read_key, read_lists, read_may_unify};
 use crate::reading::reader::Reader;
 use crate::reading::signs::Sign;
 use crate::reading::terms::{LEVELS, read_term};
@@ -147,7 +147,7 @@ fn read_asked(reader: &mut Reader) -> Result<usize, ReadError>
         return read_may_unify(reader, start);
     }
     if reader.accept(Sign::Args) {
-        return read_args_test(reader, start);
+        return read_lists(reader, start);
     }
     if reader.accept(Sign::Key) {
         return read_key(reader, start);

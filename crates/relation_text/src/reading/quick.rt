@@ -1,4 +1,4 @@
-//! How questions of quick tests are read.
+//! How questions of quick tests are read, and others about lists of arguments.
 ghost use Rattle.std.specs.Prelude.{◌≡◌, ◌≤◌, IfOk, IfErr};
 ghost use Rattle.relation_text.specs.Errors.{LiesIn};
 ghost use Rattle.relation_text.specs.Signs.{StandFrom, side_signs};
@@ -72,20 +72,35 @@ fn read_args(reader: &mut Reader) -> Result<usize, ReadError>
     reader.make(Form::Terms, start, &parts)
 }
 
-// Reads two lists of arguments that may unify or not, behind `args`.
-pub(super) fn read_args_test(reader: &mut Reader, start: usize) -> Result<usize, ReadError>
+// Reads two lists of arguments that may unify or not, behind `args may`.
+fn read_args_may_unify(reader: &mut Reader, start: usize) -> Result<usize, ReadError>
     requires { start ≤ reader.old.tree.text_len }
     ensures goes { GoesOn reader.old reader.new }
     ensures node { IfOk result (Makes reader.old reader.new) }
     ensures wrong { IfErr result (LiesIn reader.old.tree.text_len) }
 {
-    reader.expect(Sign::May)?;
     reader.expect(Sign::Unify)?;
     let params = read_sides(reader)?;
     let lhs = read_args(reader)?;
     reader.expect(Sign::Comma)?;
     let rhs = read_args(reader)?;
     reader.make(Form::ArgsMayUnify(params), start, &[lhs, rhs])
+}
+
+// Reads two lists of arguments that may unify or not, or are related or not, behind `args`.
+pub(super) fn read_lists(reader: &mut Reader, start: usize) -> Result<usize, ReadError>
+    requires { start ≤ reader.old.tree.text_len }
+    ensures goes { GoesOn reader.old reader.new }
+    ensures node { IfOk result (Makes reader.old reader.new) }
+    ensures wrong { IfErr result (LiesIn reader.old.tree.text_len) }
+{
+    if reader.accept(Sign::May) {
+        return read_args_may_unify(reader, start);
+    }
+    let lhs = read_args(reader)?;
+    reader.expect(Sign::Equal)?;
+    let rhs = read_args(reader)?;
+    reader.make(Form::ArgsEqual, start, &[lhs, rhs])
 }
 
 // Reads the type that has a key, behind `key`, and how it takes parameters.

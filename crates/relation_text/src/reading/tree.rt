@@ -71,6 +71,8 @@ pub enum Form {
     MayUnify(SideParams),
     /// Whether two lists of arguments may unify: the `Terms` of each.
     ArgsMayUnify(SideParams),
+    /// Whether two lists of arguments are related: the `Terms` of each.
+    ArgsEqual,
     /// The key of a type.
     Key(KeyParams),
     /// A list of terms.
