@@ -8,6 +8,7 @@ mod program;
 mod questions;
 mod statements;
 mod terms;
+mod walks;
 
 pub use error::{NameError, Wrong, write_name_error};
 pub use program::{

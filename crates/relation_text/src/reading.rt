@@ -10,6 +10,7 @@ mod split;
 mod statements;
 mod terms;
 mod tree;
+mod walks;
 mod words;
 
 pub(crate) use error::found_at;

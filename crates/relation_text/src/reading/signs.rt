@@ -30,6 +30,7 @@ pub enum Sign {
     Dots,
     AbiC,
     AbiSystem,
+    After,
     Budget,
     Closure,
     Const,
@@ -58,6 +59,7 @@ pub enum Sign {
     Unsafe,
     Variables,
     Visit,
+    Walk,
     With,
 }
 
@@ -92,6 +94,7 @@ impl Sign {
             Sign::Dots => "..",
             Sign::AbiC => "\"C\"",
             Sign::AbiSystem => "\"system\"",
+            Sign::After => "after",
             Sign::Budget => "budget",
             Sign::Closure => "closure",
             Sign::Const => "const",
@@ -120,13 +123,15 @@ impl Sign {
             Sign::Unsafe => "unsafe",
             Sign::Variables => "variables",
             Sign::Visit => "visit",
+            Sign::Walk => "walk",
             Sign::With => "with",
         }
     }
 }
 
 // The words of the language, each of which is written as a name would be.
-const RESERVED: [Sign; 29] = [
+const RESERVED: [Sign; 31] = [
+    Sign::After,
     Sign::Budget,
     Sign::Closure,
     Sign::Const,
@@ -155,6 +160,7 @@ const RESERVED: [Sign; 29] = [
     Sign::Unsafe,
     Sign::Variables,
     Sign::Visit,
+    Sign::Walk,
     Sign::With,
 ];
 
