@@ -13,17 +13,18 @@ pub mod printing;
 mod question;
 mod quick;
 mod visiting;
+pub mod walking;
 
 use interner::{Tables, make_interner, make_tables};
 use needs::needs_of;
 use question::{Ready, ask_often, context_for, is_memory, write_outcome};
 use relation_reference::context::RefCtxt;
-use relation_terms::terms::Interner;
 use relation_text::building::build;
 use relation_text::naming::Program;
 use relation_text::printing::{Texts, TextsOf};
 use std::alloc::Global;
 use std::fmt::{self, Write};
+use walking::Walks;
 
 /// How many instantiations a context may make where nothing is said of it.
 pub const BUDGET: usize = 100;
@@ -37,7 +38,7 @@ fn separate<W: Write>(any: bool, between: &str, out: &mut W) -> fmt::Result {
 }
 
 // Asks all questions over terms that are ready. After a refused growth the next question is asked in a new context.
-fn ask_ready<I: Interner + Drop, W: Write>(
+fn ask_ready<I: Walks + Drop, W: Write>(
     interner: I,
     texts: &TextsOf<I>,
     program: &Program,
@@ -78,7 +79,7 @@ fn refuse_all<W: Write>(program: &Program, between: &str, out: &mut W) -> fmt::R
 ///
 /// # Errors
 /// What the writer answers where an answer can't be written.
-pub fn ask_over<I: Interner + Drop, W: Write>(
+pub fn ask_over<I: Walks + Drop, W: Write>(
     interner: I,
     ids: &[I::Id],
     names: &[I::Name],
@@ -100,6 +101,7 @@ pub fn ask_over<I: Interner + Drop, W: Write>(
         needs: &needs,
         parts: &program.parts,
         puts: &program.puts,
+        skips: &program.skips,
     };
     ask_ready(interner, texts, program, &terms, between, out)
 }

@@ -16,6 +16,7 @@ use crate::needs::{Needs, both, need_at};
 use crate::printing::write_answer;
 use crate::quick::{KeyOf, ask_args_may_unify, ask_key, ask_may_unify, write_key};
 use crate::visiting::{Met, visit, write_met};
+use crate::walking::{Walks, numbers_at, write_walked};
 use relation_reference::context::RefCtxt;
 use relation_terms::terms::{GenericArg, GenericArgKind, Interner, Keys, Ty, Variance};
 use relation_text::building::{key_at, keys_at, ty_at};
@@ -35,6 +36,8 @@ pub(super) struct Ready<'a, I: Interner> {
     // The numbers of the terms in lists, and of those that are put for others.
     pub parts: &'a [usize],
     pub puts: &'a [Put<usize>],
+    // After how many pulls walks skip.
+    pub skips: &'a [usize],
 }
 
 // Why a question was not put.
@@ -50,6 +53,7 @@ pub(super) enum Unasked {
 pub(super) enum Answer<R, X, K> {
     Related(R),
     Met(Met<X>),
+    Walked(Vec<GenericArgKind<X>>),
     Folded(GenericArgKind<X>),
     Is(bool),
     Key(K),
@@ -66,6 +70,7 @@ fn ran_out<I: Interner>(answer: &AnswerOf<I>) -> bool {
     match answer {
         Answer::Related(related) => matches!(related, Err(RelateFault::Memory)),
         Answer::Met(_) => false,
+        Answer::Walked(_) => false,
         Answer::Folded(_) => false,
         Answer::Is(_) => false,
         Answer::Key(_) => false,
@@ -205,6 +210,24 @@ fn ask_visited<I: Interner>(
     }
 }
 
+// Walks a term.
+fn ask_walked<I: Walks>(
+    cx: &I,
+    terms: &Ready<I>,
+    term: usize,
+    skips: Parts,
+) -> Result<Vec<GenericArg<I>>, Unasked>
+    requires { AreReady (I.meaning cx.now) terms.now.built.now terms.now.needs.now }
+    ensures { IfOk result (λ yielded. AllKnown (I.meaning cx.now) yielded.items) }
+{
+    let term = term_of(terms, term)?;
+    let skips = numbers_at(terms.skips, skips);
+    match cx.walk(&term, skips) {
+        Ok(yielded) => Ok(yielded),
+        Err(_) => Err(Unasked::Memory),
+    }
+}
+
 // Folds a term.
 fn ask_folded<I: Interner>(
     ctx: &mut RefCtxt<I>,
@@ -254,7 +277,7 @@ fn ask_rigid<I: Interner>(cx: &I, terms: &Ready<I>, number: usize) -> Result<boo
 
 // Asks a question of a context.
 #[tactic(auto, using(relation_terms::proofs::Stays::stays_same))]
-fn ask<I: Interner>(ctx: &mut RefCtxt<I>, terms: &Ready<I>, question: &Question) -> Outcome<I>
+fn ask<I: Walks>(ctx: &mut RefCtxt<I>, terms: &Ready<I>, question: &Question) -> Outcome<I>
     requires lawful { IsLawful (I.meaning ctx.old.interner) ctx.old.inner }
     requires ready { AreReady (I.meaning ctx.old.interner) terms.now.built.now terms.now.needs.now }
     ensures lawful { IsLawful (I.meaning ctx.new.interner) ctx.new.inner }
@@ -270,6 +293,10 @@ fn ask<I: Interner>(ctx: &mut RefCtxt<I>, terms: &Ready<I>, question: &Question)
         QuestionKind::Visit { term, skip, stop } => {
             let met = ask_visited(&ctx.interner, terms, term, skip, stop)?;
             Ok(Answer::Met(met))
+        }
+        QuestionKind::Walk { term, skips } => {
+            let yielded = ask_walked(&ctx.interner, terms, term, skips)?;
+            Ok(Answer::Walked(yielded))
         }
         QuestionKind::Fold { term, puts } => {
             let folded = ask_folded(ctx, terms, term, puts)?;
@@ -312,7 +339,7 @@ fn ask<I: Interner>(ctx: &mut RefCtxt<I>, terms: &Ready<I>, question: &Question)
 }
 
 // Asks a question as often as it says, each time but the first in a new context, and answers the last one.
-pub(super) fn ask_often<I: Interner>(
+pub(super) fn ask_often<I: Walks>(
     ctx: RefCtxt<I>,
     terms: &Ready<I>,
     question: &Question,
@@ -355,6 +382,7 @@ fn write_given<I: Interner, W: Write>(
             Ok(())
         }
         Answer::Met(met) => write_met(&ctx.interner, texts, met, out),
+        Answer::Walked(yielded) => write_walked(&ctx.interner, texts, yielded, out),
         Answer::Folded(term) => write_arg(&ctx.interner, texts, term, out),
         Answer::Is(holds) => write!(out, "{holds}"),
         Answer::Key(key) => write_key::<I, W>(texts, key, out),

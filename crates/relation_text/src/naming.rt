@@ -9,6 +9,7 @@ mod questions;
 mod quick;
 mod statements;
 mod terms;
+mod walks;
 
 pub use error::{NameError, Wrong, write_name_error};
 pub use program::{

@@ -11,6 +11,7 @@ mod split;
 mod statements;
 mod terms;
 mod tree;
+mod walks;
 mod words;
 
 pub(crate) use error::found_at;

@@ -52,6 +52,7 @@ fn form_name(form: Form) -> &'static str {
         Form::Let => "let",
         Form::Question(_) => "question",
         Form::Visit => "visit",
+        Form::Walk => "walk",
         Form::Fold => "fold",
         Form::Escapes => "escapes",
         Form::Infers => "infers",

@@ -71,6 +71,7 @@ impl<'a> Namer<'a> {
                 terms: Vec::new(alloc),
                 parts: Vec::new(alloc),
                 puts: Vec::new(alloc),
+                skips: Vec::new(alloc),
                 questions: Vec::new(alloc),
             },
         };

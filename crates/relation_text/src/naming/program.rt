@@ -148,6 +148,12 @@ pub enum QuestionKind {
         skip: Parts,
         stop: Parts,
     },
+    /// What a walk of a term yields that skips what is under an argument after so many pulls, those of a range of the
+    /// program's list.
+    Walk {
+        term: usize,
+        skips: Parts,
+    },
     /// What comes of a term where others are put for its parts, those of a range of the program's list.
     Fold {
         term: usize,
@@ -210,5 +216,7 @@ pub struct Program<'a> {
     pub parts: Vec<usize>,
     /// The numbers of the terms that are put for others.
     pub puts: Vec<Put<usize>>,
+    /// After how many pulls walks skip.
+    pub skips: Vec<usize>,
     pub questions: Vec<Question>,
 }

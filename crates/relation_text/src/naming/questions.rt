@@ -8,7 +8,7 @@ use relation_terms::terms::Variance;
 
 impl<'a> Namer<'a> {
     // Adds a question.
-    pub fn ask(&mut self, kind: QuestionKind) -> Result<(), NameError> {
+    pub(super) fn ask(&mut self, kind: QuestionKind) -> Result<(), NameError> {
         self.program.questions.push(Question {
             kind,
             then: false,
@@ -140,6 +140,7 @@ impl<'a> Namer<'a> {
         match (form, parts) {
             (Form::Question(variance), [lhs, rhs]) => self.ask_related(node, variance, *lhs, *rhs),
             (Form::Visit, [term, skip, stop]) => self.ask_visit(node, *term, *skip, *stop),
+            (Form::Walk, _) => self.ask_walk(node, parts),
             (Form::Fold, _) => self.ask_fold(node, parts),
             (Form::Escapes | Form::Infers | Form::Rigid, [term]) => {
                 self.ask_about(node, form, *term)

@@ -11,6 +11,7 @@ use crate::reading::reader::Reader;
 use crate::reading::signs::Sign;
 use crate::reading::terms::{LEVELS, read_term};
 use crate::reading::tree::Form;
+use crate::reading::walks::read_walk;
 use relation_terms::terms::Variance;
 
 // The variance at which two terms are related.
@@ -130,6 +131,9 @@ fn read_asked(reader: &mut Reader) -> Result<usize, ReadError>
     let start = reader.place();
     if reader.accept(Sign::Visit) {
         return read_visit(reader, start);
+    }
+    if reader.accept(Sign::Walk) {
+        return read_walk(reader, start);
     }
     if reader.accept(Sign::Fold) {
         return read_fold(reader, start);

@@ -30,6 +30,7 @@ pub enum Sign {
     Dots,
     AbiC,
     AbiSystem,
+    After,
     Budget,
     Closure,
     Const,
@@ -58,6 +59,7 @@ pub enum Sign {
     Unsafe,
     Variables,
     Visit,
+    Walk,
     With,
     Args,
     At,
@@ -98,6 +100,7 @@ impl Sign {
             Sign::Dots => "..",
             Sign::AbiC => "\"C\"",
             Sign::AbiSystem => "\"system\"",
+            Sign::After => "after",
             Sign::Budget => "budget",
             Sign::Closure => "closure",
             Sign::Const => "const",
@@ -126,6 +129,7 @@ impl Sign {
             Sign::Unsafe => "unsafe",
             Sign::Variables => "variables",
             Sign::Visit => "visit",
+            Sign::Walk => "walk",
             Sign::With => "with",
             Sign::Args => "args",
             Sign::At => "at",
@@ -138,7 +142,8 @@ impl Sign {
 }
 
 // The words of the language, each of which is written as a name would be.
-const RESERVED: [Sign; 35] = [
+const RESERVED: [Sign; 37] = [
+    Sign::After,
     Sign::Budget,
     Sign::Closure,
     Sign::Const,
@@ -167,6 +172,7 @@ const RESERVED: [Sign; 35] = [
     Sign::Unsafe,
     Sign::Variables,
     Sign::Visit,
+    Sign::Walk,
     Sign::With,
     Sign::Args,
     Sign::At,

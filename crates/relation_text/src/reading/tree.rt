@@ -59,6 +59,8 @@ pub enum Form {
     Question(Variance),
     /// Which terms a visitor meets: the visited term, the `Terms` at which it skips, and those at which it stops.
     Visit,
+    /// What a walk of a term yields: the walked term, and after how many pulls what is under the last is skipped.
+    Walk,
     /// What comes of a term where others are put for its parts: the term, and a `Put` for each.
     Fold,
     /// Whether a variable stands in a term that a binder outside it binds.

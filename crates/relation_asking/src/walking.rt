@@ -1,0 +1,108 @@
+//! Walks that are asked for: what a walk yields that skips after some of its pulls.
+ghost use Rattle.std.specs.Prelude.{◌≡◌, IsTrue, IfOk, false, map, cond, []};
+ghost use Rattle.relation_terms.specs.Trees.{known};
+ghost use Rattle.relation_terms.specs.Meaning.{arg_tree};
+ghost use Rattle.relation_tools.specs.Walking.{Walk};
+ghost use Rattle.relation_tools.specs.Positions.{yields, ByPlaces};
+ghost use Rattle.relation_asking.specs.Codes.{same_tree};
+ghost use Rattle.relation_asking.specs.Meets.{AllKnown};
+ghost use Rattle.relation_asking.specs.Skips.{stands_in, skipped_in};
+
+use crate::visiting::write_terms;
+use reference_interner::RefInterner;
+use relation_terms::terms::{GenericArg, GenericArgKind, Interner, OutOfMemory};
+use relation_text::naming::Parts;
+use relation_text::printing::TextsOf;
+use relation_tools::walk::TypeWalker;
+use std::alloc::Global;
+use std::fmt::{self, Write};
+
+/// An interner whose terms can be walked. A walk keeps eight keys in place, and not every interner says that so many
+/// fit in memory.
+pub trait Walks: Interner {
+    /// What a walk over an argument yields, in order, if what is under the last yielded argument is skipped after the
+    /// pulls of these numbers, 0 before the first. A number may stand more than once, and may be behind the end.
+    ///
+    /// # Errors
+    /// `OutOfMemory` where a growth was refused.
+    fn walk(&self, root: &GenericArg<Self>, skips: &[usize]) -> Result<Vec<GenericArg<Self>>, OutOfMemory>
+        requires known { IsTrue (known (arg_tree (meaning self.now) root.now)) }
+        ensures sure { IfOk result (λ xs. AllKnown (meaning self.now) xs.items) }
+        ensures by_places { let tree = arg_tree (meaning self.now) in
+            IfOk result (λ xs. map tree xs.items ≡ yields same_tree (skipped_in skips.now) false [] (tree root.now)) };
+}
+
+impl Walks for RefInterner {
+    fn walk(&self, root: &GenericArg<Self>, skips: &[usize]) -> Result<Vec<GenericArg<Self>>, OutOfMemory> {
+        let mut walker = TypeWalker::new(self, *root);
+        walk_on(self.alloc(), &mut walker, root, skips)
+    }
+}
+
+// Skips what is under the last yielded argument, once for each time that a number of pulls stands among others.
+fn skip_after<I: Interner>(walker: &mut TypeWalker<'_, I>, skips: &[usize], pulls: usize)
+    ensures { walker.new ≡ cond (stands_in skips.now pulls) (record walker.old { inside = [] }) walker.old }
+{
+    for number in skips {
+        if *number == pulls {
+            walker.skip_current_subtree();
+        }
+    }
+}
+
+// The same for each number of pulls that is larger.
+fn skip_behind<I: Interner>(walker: &mut TypeWalker<'_, I>, skips: &[usize], pulls: usize)
+    ensures after { (walker.new).after ≡ (walker.old).after }
+    ensures inside { (walker.old).inside ≡ [] → (walker.new).inside ≡ [] }
+{
+    for number in skips {
+        if *number > pulls {
+            walker.skip_current_subtree();
+        }
+    }
+}
+
+// What a walk yields that begins at an argument. Behind its end it is pulled once more.
+fn walk_on<I: Interner>(
+    alloc: Global,
+    walker: &mut TypeWalker<'_, I>,
+    root: &GenericArg<I>,
+    skips: &[usize],
+) -> Result<Vec<GenericArg<I>>, OutOfMemory>
+    requires { ByPlaces (I.meaning (walker.old).cx) ⟦<GenericArgKind<I::Key> as PartialEq>⟧.eq walker.old
+        (arg_tree (I.meaning (walker.old).cx) root.now) }
+    ensures sure { IfOk result (λ xs. AllKnown (I.meaning (walker.old).cx) xs.items) }
+    ensures by_places { let tree = arg_tree (I.meaning (walker.old).cx) in
+        IfOk result (λ xs. map tree xs.items ≡ yields same_tree (skipped_in skips.now) false [] (tree root.now)) }
+{
+    let mut yielded = Vec::new(alloc);
+    skip_after(walker, skips, 0);
+    while let Some(arg) = walker.pull() {
+        yielded.push(arg?)?;
+        skip_after(walker, skips, yielded.len());
+    }
+    skip_behind(walker, skips, yielded.len());
+    if let Some(arg) = walker.pull() {
+        yielded.push(arg?)?;
+    }
+    Ok(yielded)
+}
+
+// The numbers of a range.
+pub(super) fn numbers_at(numbers: &[usize], range: Parts) -> &[usize] {
+    numbers.get(range.first..range.behind).unwrap_or(&[])
+}
+
+// Writes what a walk yielded.
+pub(super) fn write_walked<I: Interner, W: Write>(
+    cx: &I,
+    texts: &TextsOf<I>,
+    yielded: &[GenericArg<I>],
+    out: &mut W,
+) -> fmt::Result
+    requires { AllKnown (I.meaning cx.now) yielded.now }
+{
+    out.write_str("walked=[")?;
+    write_terms(cx, texts, yielded, out)?;
+    out.write_str("]")
+}
