@@ -48,6 +48,10 @@ item_covered sort.Closure (Some d) ts h k = (tt, h k)
 item_covered sort.Coroutine (Some d) ts h k = (tt, h k)
 item_covered sort.CoroutineClosure (Some d) ts h k = (tt, h k)
 item_covered sort.Foreign (Some d) ts h k = tt
+item_covered sort.Trait (Some d) ts h k = absurd (false≢true k)
+item_covered sort.AutoTrait (Some d) ts h k = absurd (false≢true k)
+item_covered sort.AssocTy (Some d) ts h k = absurd (false≢true k)
+item_covered sort.AssocConst (Some d) ts h k = absurd (false≢true k)
 
 module _ (items names parts : List ℕ) where
   term_covered : (ts : List Tree) (ns : List Needs) → HoldsOfEach IsCoveredBy ts ns → (x : Term) →
@@ -109,6 +113,10 @@ module _ (items names parts : List ℕ) where
   term_covered ts ns h (term.ConstBound d v n) k r = absurd (false≢true r)
   term_covered ts ns h (term.FnPtr g v p) k r = absurd (false≢true r)
   term_covered ts ns h (term.UnsafeBinder v t) k r = absurd (false≢true r)
+  term_covered ts ns h (term.Object p q) k r = absurd (false≢true r)
+  term_covered ts ns h (term.Implements v d p) k r = absurd (false≢true r)
+  term_covered ts ns h (term.Projects v d p t) k r = absurd (false≢true r)
+  term_covered ts ns h (term.IsAuto v d) k r = absurd (false≢true r)
 
   missing_covered : IsCoveredBy no_needs (leaf unknown)
   missing_covered k r = absurd (false≢true k)

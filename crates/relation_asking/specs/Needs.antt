@@ -85,6 +85,10 @@ module _ (parts : List ℕ) where
   term_need ns (term.ConstBound d v n) = without_rules no_needs
   term_need ns (term.FnPtr h v p) = without_rules (parts_need parts ns p)
   term_need ns (term.UnsafeBinder v t) = without_rules (need_at ns t)
+  term_need ns (term.Object p r) = without_rules (both_needs (parts_need parts ns p) (need_at ns r))
+  term_need ns (term.Implements v d p) = without_rules (parts_need parts ns p)
+  term_need ns (term.Projects v d p t) = without_rules (both_needs (need_at ns t) (parts_need parts ns p))
+  term_need ns (term.IsAuto v d) = without_rules no_needs
   term_need ns t = no_needs
 
   -- What terms need that stand behind those of these needs; what all need.

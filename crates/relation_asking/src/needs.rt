@@ -139,6 +139,14 @@ fn term_need(numbers: &[usize], before: &[Needs], term: Term) -> Needs
         Term::TyBound(..) | Term::RegionBound(..) | Term::ConstBound(..) => without_rules(NONE),
         Term::FnPtr(_, _, types) => without_rules(parts_need(numbers, before, types)),
         Term::UnsafeBinder(_, body) => without_rules(need_at(before, body)),
+        Term::Object(parts, region) => {
+            without_rules(both(parts_need(numbers, before, parts), need_at(before, region)))
+        }
+        Term::Implements(_, _, args) => without_rules(parts_need(numbers, before, args)),
+        Term::Projects(_, _, args, term) => {
+            without_rules(both(need_at(before, term), parts_need(numbers, before, args)))
+        }
+        Term::IsAuto(..) => without_rules(NONE),
         _ => NONE,
     }
 }

@@ -14,8 +14,8 @@ use Rattle.relation_text.specs.declared.reading.tree.ItemSort.{ItemSort}
 use Rattle.relation_text.specs.declared.reading.tree.ItemSort.TheVariants as sort
 use Rattle.relation_text.specs.declared.reading.tree.Form.{Form}
 use Rattle.relation_text.specs.declared.reading.tree.Form.TheVariants as form
-use Rattle.relation_text.specs.declared.reading.terms.Rest.{Rest}
-use Rattle.relation_text.specs.declared.reading.terms.Rest.TheVariants as rest
+use Rattle.relation_text.specs.declared.reading.openings.Rest.{Rest}
+use Rattle.relation_text.specs.declared.reading.openings.Rest.TheVariants as rest
 use Rattle.relation_text.specs.declared.reading.words.Word.{Word}
 use Rattle.relation_text.specs.Words.{StandsAt}
 
@@ -44,12 +44,15 @@ spelling sign.Bar = codes "|"
 spelling sign.UpTo = codes "..="
 spelling sign.Arrow = codes "->"
 spelling sign.Dots = codes ".."
+spelling sign.PathSep = codes "::"
 spelling sign.AbiC = codes "\"C\""
 spelling sign.AbiSystem = codes "\"system\""
+spelling sign.Auto = codes "auto"
 spelling sign.Budget = codes "budget"
 spelling sign.Closure = codes "closure"
 spelling sign.Const = codes "const"
 spelling sign.Coroutine = codes "coroutine"
+spelling sign.Dyn = codes "dyn"
 spelling sign.Error = codes "error"
 spelling sign.Escapes = codes "escapes"
 spelling sign.Expr = codes "expr"
@@ -70,6 +73,7 @@ spelling sign.Skip = codes "skip"
 spelling sign.Stop = codes "stop"
 spelling sign.Struct = codes "struct"
 spelling sign.Then = codes "then"
+spelling sign.Trait = codes "trait"
 spelling sign.Type = codes "type"
 spelling sign.Unsafe = codes "unsafe"
 spelling sign.Variables = codes "variables"
@@ -106,11 +110,20 @@ sort_signs sort.Closure = sign.Closure ∷ []
 sort_signs sort.Coroutine = sign.Coroutine ∷ []
 sort_signs sort.CoroutineClosure = sign.Coroutine ∷ sign.Closure ∷ []
 sort_signs sort.Foreign = sign.Extern ∷ sign.Type ∷ []
+sort_signs sort.Trait = sign.Trait ∷ []
+sort_signs sort.AutoTrait = sign.Auto ∷ sign.Trait ∷ []
+sort_signs sort.AssocTy = sign.Type ∷ []
+sort_signs sort.AssocConst = sign.Const ∷ []
 
 -- the words from that number on are these signs
 abbrev pub StandFrom : List Word → ℕ → List Sign → Type 0
 StandFrom ws k [] = Unit {0}
 StandFrom ws k (s ∷ ss) = StandsAt ws k s × StandFrom ws (suc k) ss
+
+-- no trait is declared by the word of that number, and nothing of a trait
+abbrev pub HasNoTraitSign : List Word → ℕ → Type 0
+HasNoTraitSign ws k =
+    (StandsAt ws k sign.Trait → ⊥) × (StandsAt ws k sign.Type → ⊥) × (StandsAt ws k sign.Const → ⊥)
 
 -- a reference's target may be changed exactly where `mut` stands
 abbrev pub IsMutability : List Word → ℕ → Mutability → Type 0
@@ -158,5 +171,6 @@ Begins ws k (rest.Nothing f) = IsWhole ws k f
 Begins ws k (rest.Pointee f) = BeginsPointer ws k f
 Begins ws k (rest.List f s) = BeginsList ws k f s
 Begins ws k (rest.Inputs s a) = StandsAt ws k sign.For ⊎ StandFrom ws k (header_signs s a)
+Begins ws k rest.Bounds = StandsAt ws k sign.Dyn
 Begins ws k rest.Brackets = StandsAt ws k sign.LeftBracket
 Begins ws k rest.Parens = StandsAt ws k sign.LeftParen

@@ -3,6 +3,7 @@
 mod binders;
 mod error;
 mod namer;
+mod objects;
 mod plain;
 mod program;
 mod questions;

@@ -2,6 +2,7 @@
 
 mod error;
 mod headers;
+mod openings;
 mod place;
 mod questions;
 mod reader;

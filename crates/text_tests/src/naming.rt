@@ -182,6 +182,33 @@ fn wrong_names_are_told(rt: HostRuntime) -> Result<(), Fail> {
             "visit (for<'a> fn(&'a u8), &'a u8);",
             "1:29: expected a name that is known, found `'a`",
         ),
+        ("trait A; visit A;", "1:16: expected no trait, found `A`"),
+        (
+            "struct A; param 'a; visit dyn A + 'a;",
+            "1:31: expected a trait, found `A`",
+        ),
+        ("type u8::A;", "1:6: expected a trait, found `u8`"),
+        ("auto trait A<T>;", "1:14: expected no parameter, found `T`"),
+        (
+            "trait A; type A::B; const A::B;",
+            "1:30: expected a new name, found `B`",
+        ),
+        (
+            "trait A<T>; visit dyn A + 'static;",
+            "1:23: expected 1 argument, found 0",
+        ),
+        (
+            "trait A; visit dyn A<B = u8> + 'static;",
+            "1:22: expected a name that is known, found `B`",
+        ),
+        (
+            "trait A; const A::L; visit dyn A<L = u8> + 'static;",
+            "1:38: expected a constant, found a type",
+        ),
+        (
+            "trait A; type A::B<T>; visit dyn A::B<u8> == 2 + 'static;",
+            "1:46: expected a type, found a constant",
+        ),
         (
             "visit unsafe<'a> 2;",
             "1:18: expected a type, found a constant",

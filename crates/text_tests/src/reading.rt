@@ -77,6 +77,11 @@ fn form_name(form: Form) -> &'static str {
         Form::Bound => "bound",
         Form::FnPtr(_) => "fn-ptr",
         Form::UnsafeBinder => "unsafe-binder",
+        Form::Object => "object",
+        Form::Implements => "implements",
+        Form::Projects => "projects",
+        Form::Named => "named",
+        Form::Assigned => "assigned",
     }
 }
 
@@ -181,6 +186,24 @@ fn binders_are_read(rt: HostRuntime) -> Result<(), Fail> {
 }
 
 #[test]
+fn trait_objects_are_read(rt: HostRuntime) -> Result<(), Fail> {
+    let text =
+        "trait A<T>; auto trait S; type A::B<'a>; const A::L; visit dyn A<u8, L = 2> + S + 'a;";
+    let all = shown(rt.alloc(), text)?;
+    assert_eq!(rt;
+        all.as_str(),
+        "file(item(A declared(T)) item(S) item(A B declared('a)) item(A L) \
+         visit(object(implements(bound() named(A u8 assigned(L 2))) implements(bound() named(S)) 'a) terms() terms()))"
+    );
+    let all = shown(rt.alloc(), "visit dyn for<'a> A<'a>::B<T,> == u8 + '^0;")?;
+    assert_eq!(rt;
+        all.as_str(),
+        "file(visit(object(projects(bound('a) named(A 'a) named(B T) u8) '^0) terms() terms()))"
+    );
+    Ok(())
+}
+
+#[test]
 fn wrong_texts_are_refused(rt: HostRuntime) -> Result<(), Fail> {
     for (text, why) in [
         ("", "file()"),
@@ -233,6 +256,15 @@ fn wrong_texts_are_refused(rt: HostRuntime) -> Result<(), Fail> {
             "1:14: expected `\"C\"` or `\"system\"`, found `fn`",
         ),
         ("visit extern \"Rust\" fn();", "1:14: no word begins here"),
+        ("visit dyn A;", "1:12: expected `+`, found `;`"),
+        ("visit dyn + 'a;", "1:11: expected a name, found `+`"),
+        ("visit dyn A::B + 'a;", "1:16: expected `==`, found `+`"),
+        (
+            "visit dyn A<B = C D> + 'a;",
+            "1:19: expected `,` or `>`, found `D`",
+        ),
+        ("type A;", "1:7: expected `::`, found `;`"),
+        ("auto fn f;", "1:6: expected `trait`, found `fn`"),
         ("visit fn(.., u8);", "1:12: expected `)`, found `,`"),
         ("visit fn() -> ;", "1:15: expected a term, found `;`"),
     ] {

@@ -2,6 +2,7 @@
 
 use crate::naming::error::{NameError, Wrong, error_at};
 use crate::naming::namer::{Made, Meaning, Namer};
+use crate::naming::objects::is_trait;
 use crate::naming::plain::{USIZE, number_size};
 use crate::naming::program::{ParamSort, Parts, Sort, Term};
 use crate::naming::statements::MOST_VARIABLES;
@@ -10,7 +11,7 @@ use relation_terms::terms::{FnHeader, Mutability};
 
 // What the members of a list are to be: of any sort, of one, or what an item declares.
 #[derive(Clone, Copy)]
-enum Wanted {
+pub(super) enum Wanted {
     Any,
     Each(Sort),
     Declared(usize),
@@ -27,9 +28,9 @@ fn given_to(param: ParamSort) -> Sort {
 
 // A list of parts, and how many levels the deepest has.
 #[derive(Clone, Copy)]
-struct List {
-    parts: Parts,
-    levels: usize,
+pub(super) struct List {
+    pub parts: Parts,
+    pub levels: usize,
 }
 
 impl<'a> Namer<'a> {
@@ -47,7 +48,12 @@ impl<'a> Namer<'a> {
     }
 
     // The terms of those nodes, as a list of parts.
-    fn list(&mut self, whole: &Node, nodes: &[usize], wanted: Wanted) -> Result<List, NameError> {
+    pub fn list(
+        &mut self,
+        whole: &Node,
+        nodes: &[usize],
+        wanted: Wanted,
+    ) -> Result<List, NameError> {
         let first = self.program.parts.len();
         let mut levels = 0;
         for (place, number) in nodes.iter().enumerate() {
@@ -68,7 +74,7 @@ impl<'a> Namer<'a> {
     }
 
     // The sort of an item that is given so many arguments. The node names the item, and the whole has the arguments.
-    fn item_sort(
+    pub fn item_sort(
         &self,
         whole: &Node,
         node: &Node,
@@ -85,9 +91,24 @@ impl<'a> Namer<'a> {
         Ok(item.sort)
     }
 
+    // The sort of an item that is given so many arguments, and is no trait.
+    fn type_sort(
+        &self,
+        whole: &Node,
+        node: &Node,
+        number: usize,
+        found: usize,
+    ) -> Result<ItemSort, NameError> {
+        let sort = self.item_sort(whole, node, number, found)?;
+        if is_trait(sort) {
+            return Err(error_at(node, Wrong::IsTrait));
+        }
+        Ok(sort)
+    }
+
     // An item that has no parameters.
     fn item_alone(&mut self, node: &Node, number: usize) -> Result<Made, NameError> {
-        let sort = self.item_sort(node, node, number, 0)?;
+        let sort = self.type_sort(node, node, number, 0)?;
         let first = self.program.parts.len();
         let parts = Parts {
             first,
@@ -97,7 +118,7 @@ impl<'a> Namer<'a> {
     }
 
     // What a name means.
-    fn meaning(&self, node: &Node) -> Result<Meaning, NameError> {
+    pub fn meaning(&self, node: &Node) -> Result<Meaning, NameError> {
         let name = self.text_of(node)?;
         match self.meanings.get(name) {
             Some(meaning) => Ok(*meaning),
@@ -285,7 +306,7 @@ impl<'a> Namer<'a> {
         let Meaning::Item(number) = self.meaning(&name)? else {
             return Err(error_at(&name, Wrong::NoItem));
         };
-        let sort = self.item_sort(node, &name, number, args.len())?;
+        let sort = self.type_sort(node, &name, number, args.len())?;
         let args = self.list(node, args, Wanted::Declared(number))?;
         let term = Term::Item(sort, number, args.parts);
         self.add(node, term, Sort::Type, args.levels)
@@ -440,6 +461,7 @@ impl<'a> Namer<'a> {
             (Form::UnsafeBinder, [variables, body]) => {
                 self.unsafe_binder(node, *variables, *body)?
             }
+            (Form::Object, _) => self.object(node, parts)?,
             _ => return Ok(None),
         };
         Ok(Some(made))

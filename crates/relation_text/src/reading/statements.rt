@@ -2,7 +2,7 @@
 ghost use Rattle.std.specs.Prelude.{◌≡◌, ◌+◌, ◌<◌, ◌≤◌, ◌↔◌, Err, Some, IfSome, IfNone, IfOk, IfErr, OnOk, length, suc};
 ghost use Rattle.relation_text.specs.Errors.{LiesIn};
 ghost use Rattle.relation_text.specs.Words.{StandsAt};
-ghost use Rattle.relation_text.specs.Signs.{sort_signs, StandFrom};
+ghost use Rattle.relation_text.specs.Signs.{sort_signs, StandFrom, HasNoTraitSign};
 ghost use Rattle.relation_text.specs.Reads.{GoesOn, AddsRoots, Makes, IsReadFrom};
 ghost use Rattle.relation_text.specs.declared.reading.error.ReadError.TheVariants.{TooLong};
 
@@ -19,6 +19,29 @@ use std::alloc::Global;
 
 /// How many bytes a text may have: 1 MiB.
 pub const LONGEST: usize = 1_048_576;
+
+// The sort of item that is declared next, if that is a trait or a trait's.
+fn read_trait_sort(reader: &mut Reader) -> Option<ItemSort>
+    ensures sort { IfSome result (λ s. StandFrom reader.old.words.items reader.old.at (sort_signs s)) }
+    ensures over { IfSome result (λ s. reader.new.at ≡ reader.old.at + length (sort_signs s)) }
+    ensures alone { result ≡ Some ItemSort.Coroutine → ⊥ }
+    ensures none { IfNone result (HasNoTraitSign reader.old.words.items reader.old.at) }
+    ensures stays { IfNone result (reader.new.at ≡ reader.old.at) }
+    ensures words { reader.new.words ≡ reader.old.words }
+    ensures tree { reader.new.tree ≡ reader.old.tree }
+    ensures later { reader.old.at ≤ reader.new.at }
+{
+    if reader.accept(Sign::Trait) {
+        return Some(ItemSort::Trait);
+    }
+    if reader.accept(Sign::Type) {
+        return Some(ItemSort::AssocTy);
+    }
+    if reader.accept(Sign::Const) {
+        return Some(ItemSort::AssocConst);
+    }
+    None
+}
 
 // The sort of item that is declared next.
 fn read_sort(reader: &mut Reader) -> Result<Option<ItemSort>, ReadError>
@@ -53,7 +76,11 @@ fn read_sort(reader: &mut Reader) -> Result<Option<ItemSort>, ReadError>
         reader.expect(Sign::Type)?;
         return Ok(Some(ItemSort::Foreign));
     }
-    Ok(None)
+    if reader.accept(Sign::Auto) {
+        reader.expect(Sign::Trait)?;
+        return Ok(Some(ItemSort::AutoTrait));
+    }
+    Ok(read_trait_sort(reader))
 }
 
 // How a parameter that an item declares varies.
@@ -104,6 +131,11 @@ fn read_item(reader: &mut Reader, start: usize, sort: ItemSort) -> Result<usize,
     let mut parts = Vec::new(reader.alloc);
     let name = reader.take(Expected::Name)?;
     parts.push(name)?;
+    if sort == ItemSort::AssocTy || sort == ItemSort::AssocConst {
+        reader.expect(Sign::PathSep)?;
+        let own = reader.take(Expected::Name)?;
+        parts.push(own)?;
+    }
     if reader.accept(Sign::Less) {
         'list: while !reader.accept(Sign::Greater) {
             let declared = read_declared(reader)?;

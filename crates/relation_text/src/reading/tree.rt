@@ -15,6 +15,12 @@ pub enum ItemSort {
     Coroutine,
     CoroutineClosure,
     Foreign,
+    Trait,
+    /// A trait that a type has unless it is said not to.
+    AutoTrait,
+    /// A type and a constant that a trait declares.
+    AssocTy,
+    AssocConst,
 }
 
 /// What a node makes of its parts.
@@ -22,7 +28,7 @@ pub enum ItemSort {
 pub enum Form {
     /// The statements of a text.
     File,
-    /// An item: its name, and the parameters that it declares.
+    /// An item: its name, behind that of its trait if it is a trait's, and the parameters that it declares.
     Item(ItemSort),
     /// A type or a lifetime that an item declares: its name.
     Declared(Variance),
@@ -90,6 +96,17 @@ pub enum Form {
     FnPtr(FnHeader),
     /// A type under a binder: the `Bound` of the binder, and the type.
     UnsafeBinder,
+    /// A trait object: an `Implements` or a `Projects` for each bound, and the region.
+    Object,
+    /// That a trait is implemented: the `Bound` of the binder, and the `Named` of the trait.
+    Implements,
+    /// What a trait's type or constant is: the `Bound` of the binder, the `Named` of the trait and of what it declares,
+    /// and the term.
+    Projects,
+    /// A trait, or what one declares: its name, its arguments, and an `Assigned` for each thing that a trait's is.
+    Named,
+    /// What a trait's type or constant is: its name, and the term.
+    Assigned,
 }
 
 /// What a node is: a word of the text, or a form over further nodes.
