@@ -25,7 +25,7 @@ use Rattle.relation_text.specs.declared.naming.program.Term.TheVariants as term
 use Rattle.relation_text.specs.Terms.{at, parts_tree, leaf_of, item_tree, term_tree, trees_from, trees_of}
 use Rattle.relation_text.specs.Terms.{variables_of, fn_ptr_tree, head_of, object_tree}
 use Rattle.relation_asking.specs.Needs.{larger, both_needs, no_needs, universe_need, without_rules, need_at, needs_with}
-use Rattle.relation_asking.specs.Needs.{parts_need, term_need, needs_from, needs_of, Reaches, IsEnough, Allows, AreEnough}
+use Rattle.relation_asking.specs.Needs.{item_need, parts_need, term_need, needs_from, needs_of, Reaches, IsEnough, Allows, AreEnough}
 
 some_is_there : {x : ℕ} → Some x ≡ None → ⊥
 some_is_there e = cc
@@ -122,7 +122,8 @@ leaf_enough : (n : Needs) (f : ℕ → Leaf) → ((x : ℕ) → IsEnough n (f x)
 leaf_enough n f h None = tt
 leaf_enough n f h (Some x) = h x
 
-item_enough : (n : Needs) (s : ItemSort) (o : Option ℕ) (ts : Tree) → Allows n ts → Allows n (item_tree s o ts)
+item_enough : (n : Needs) (s : ItemSort) (o : Option ℕ) (ts : Tree) → Allows n ts →
+    Allows (item_need s n) (item_tree s o ts)
 item_enough n s None ts h = tt
 item_enough n sort.Struct (Some d) ts h = h
 item_enough n sort.Fn (Some d) ts h = h
@@ -132,8 +133,13 @@ item_enough n sort.CoroutineClosure (Some d) ts h = h
 item_enough n sort.Foreign (Some d) ts h = tt
 item_enough n sort.Trait (Some d) ts h = tt
 item_enough n sort.AutoTrait (Some d) ts h = tt
-item_enough n sort.AssocTy (Some d) ts h = tt
-item_enough n sort.AssocConst (Some d) ts h = tt
+item_enough n sort.AssocTy (Some d) ts h = allows_without n ts h
+item_enough n sort.AssocConst (Some d) ts h = allows_without n ts h
+item_enough n sort.FreeTy (Some d) ts h = allows_without n ts h
+item_enough n sort.FreeConst (Some d) ts h = allows_without n ts h
+item_enough n sort.Opaque (Some d) ts h = allows_without n ts h
+item_enough n sort.InherentTy (Some d) ts h = allows_without n ts h
+item_enough n sort.InherentConst (Some d) ts h = allows_without n ts h
 
 -- Of what a trait object implements, and of a trait object.
 head_enough : (n : Needs) (f : ℕ → Head) (o : Option ℕ) (ts : Tree) → Allows n ts → Allows n (head_of f o ts)

@@ -29,6 +29,11 @@ fn def_kind(sort: ItemSort, of: ItemId) -> DefKind {
         ItemSort::Trait | ItemSort::AutoTrait => DefKind::Trait,
         ItemSort::AssocTy => DefKind::AssocTy(TraitId(of)),
         ItemSort::AssocConst => DefKind::AssocConst(TraitId(of)),
+        ItemSort::FreeTy => DefKind::FreeTyAlias,
+        ItemSort::FreeConst => DefKind::FreeConstAlias,
+        ItemSort::Opaque => DefKind::OpaqueTy,
+        ItemSort::InherentTy => DefKind::InherentAssocTy,
+        ItemSort::InherentConst => DefKind::InherentAssocConst,
     }
 }
 

@@ -10,10 +10,12 @@ use Rattle.relation_terms.specs.declared.terms.generic_arg.GenericArgKind.TheVar
 use Rattle.relation_terms.specs.declared.terms.generic_arg.TermKind.{TermKind}
 use Rattle.relation_terms.specs.declared.terms.generic_arg.TermKind.TheVariants.{Ty as TyTerm, Const as ConstTerm}
 use Rattle.relation_terms.specs.declared.terms.keys.PatKey.{PatKey}
+use Rattle.relation_terms.specs.declared.terms.keys.ArgsKey.{ArgsKey}
 use Rattle.relation_text.specs.declared.building.inner.Inner.{Inner}
 use Rattle.relation_text.specs.declared.building.inner.Inner.TheVariants as inner
 use Rattle.relation_text.specs.declared.naming.program.Term.{Term}
-use Rattle.relation_text.specs.Terms.{at, term_tree}
+use Rattle.relation_text.specs.declared.reading.tree.ItemSort.{ItemSort}
+use Rattle.relation_text.specs.Terms.{at, item_tree, term_tree}
 
 -- Each key that is there is known, and means the tree of its number: keys of one kind, by the trees that they mean.
 abbrev pub EachKnown : {K : Type 0} → (K → Tree) → List (Option K) → Type 0
@@ -89,3 +91,14 @@ module _ (Key Id : Type 0) {Name : Type 0} (names : List Name) (x : Term) where
   abbrev pub IsConstOf : ConstKind Key Id Name → Type 0
   IsConstOf form = (m : Meaning Key Id Name) → IsTrue (known (const_tree m form)) ×
       ((items parts : List ℕ) (ts : List Tree) → const_tree m form ≡ term_tree items (map m.name names) parts ts x)
+
+-- The form is that of an item of a sort over known arguments: a type, and a constant.
+module _ (Key Id Name : Type 0) (s : ItemSort) (d : Id) (a : ArgsKey Key) where
+  abbrev pub IsItemForm : TyKind Key Id Name → Type 0
+  IsItemForm form = (m : Meaning Key Id Name) → (IsTrue (known (m.args a)) → IsTrue (known (kind_tree m form))) ×
+      (kind_tree m form ≡ item_tree s (Some (m.id d)) (m.args a))
+
+  abbrev pub IsConstItemForm : ConstKind Key Id Name → Type 0
+  IsConstItemForm form = (m : Meaning Key Id Name) →
+      (IsTrue (known (m.args a)) → IsTrue (known (const_tree m form))) ×
+      (const_tree m form ≡ item_tree s (Some (m.id d)) (m.args a))

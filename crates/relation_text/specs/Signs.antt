@@ -47,6 +47,7 @@ spelling sign.Dots = codes ".."
 spelling sign.PathSep = codes "::"
 spelling sign.AbiC = codes "\"C\""
 spelling sign.AbiSystem = codes "\"system\""
+spelling sign.As = codes "as"
 spelling sign.Auto = codes "auto"
 spelling sign.Budget = codes "budget"
 spelling sign.Closure = codes "closure"
@@ -62,10 +63,12 @@ spelling sign.Fold = codes "fold"
 spelling sign.For = codes "for"
 spelling sign.In = codes "in"
 spelling sign.Infers = codes "infers"
+spelling sign.Inherent = codes "inherent"
 spelling sign.Is = codes "is"
 spelling sign.Let = codes "let"
 spelling sign.Mut = codes "mut"
 spelling sign.Null = codes "null"
+spelling sign.Opaque = codes "opaque"
 spelling sign.Param = codes "param"
 spelling sign.Repeat = codes "repeat"
 spelling sign.Rigid = codes "rigid"
@@ -114,16 +117,24 @@ sort_signs sort.Trait = sign.Trait ∷ []
 sort_signs sort.AutoTrait = sign.Auto ∷ sign.Trait ∷ []
 sort_signs sort.AssocTy = sign.Type ∷ []
 sort_signs sort.AssocConst = sign.Const ∷ []
+sort_signs sort.FreeTy = sign.Type ∷ []
+sort_signs sort.FreeConst = sign.Const ∷ []
+sort_signs sort.Opaque = sign.Opaque ∷ []
+sort_signs sort.InherentTy = sign.Inherent ∷ sign.Type ∷ []
+sort_signs sort.InherentConst = sign.Inherent ∷ sign.Const ∷ []
 
 -- the words from that number on are these signs
 abbrev pub StandFrom : List Word → ℕ → List Sign → Type 0
 StandFrom ws k [] = Unit {0}
 StandFrom ws k (s ∷ ss) = StandsAt ws k s × StandFrom ws (suc k) ss
 
--- no trait is declared by the word of that number, and nothing of a trait
+-- no alias is declared by the word of that number; and no trait
+abbrev pub HasNoAliasSign : List Word → ℕ → Type 0
+HasNoAliasSign ws k = (StandsAt ws k sign.Type → ⊥) × (StandsAt ws k sign.Const → ⊥)
+    × (StandsAt ws k sign.Opaque → ⊥) × (StandsAt ws k sign.Inherent → ⊥)
+
 abbrev pub HasNoTraitSign : List Word → ℕ → Type 0
-HasNoTraitSign ws k =
-    (StandsAt ws k sign.Trait → ⊥) × (StandsAt ws k sign.Type → ⊥) × (StandsAt ws k sign.Const → ⊥)
+HasNoTraitSign ws k = (StandsAt ws k sign.Trait → ⊥) × (StandsAt ws k sign.Auto → ⊥) × HasNoAliasSign ws k
 
 -- a reference's target may be changed exactly where `mut` stands
 abbrev pub IsMutability : List Word → ℕ → Mutability → Type 0
@@ -172,5 +183,6 @@ Begins ws k (rest.Pointee f) = BeginsPointer ws k f
 Begins ws k (rest.List f s) = BeginsList ws k f s
 Begins ws k (rest.Inputs s a) = StandsAt ws k sign.For ⊎ StandFrom ws k (header_signs s a)
 Begins ws k rest.Bounds = StandsAt ws k sign.Dyn
+Begins ws k rest.Associated = StandsAt ws k sign.Less
 Begins ws k rest.Brackets = StandsAt ws k sign.LeftBracket
 Begins ws k rest.Parens = StandsAt ws k sign.LeftParen

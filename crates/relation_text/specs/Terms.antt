@@ -9,6 +9,7 @@ use Rattle.relation_terms.specs.Heads.{region_kind, int_var, float_var, const_va
 use Rattle.relation_terms.specs.Heads.{pattern_type, range_pattern, or_pattern, not_null_pattern}
 use Rattle.relation_terms.specs.Heads.{BoundKind, bound, fn_ptr, unsafe_binder, signature, inputs, Head, dynamic, object}
 use Rattle.relation_terms.specs.Heads.{existential_trait, existential_projection, existential_auto}
+use Rattle.relation_terms.specs.Heads.{alias, unevaluated, projection_alias, inherent_alias, opaque_alias, free_alias}
 use Rattle.relation_terms.specs.Trees.{Tree, leaf, node, nil, cons, list_tree, front, last}
 use Rattle.relation_terms.specs.Meaning.{under}
 use Rattle.relation_terms.specs.declared.terms.fn_sig.FnHeader.{FnHeader}
@@ -31,7 +32,7 @@ abbrev pub leaf_of : (ℕ → Leaf) → Option ℕ → Tree
 leaf_of f None = leaf unknown
 leaf_of f (Some n) = leaf (f n)
 
--- An item of a sort over the list of its arguments; of an item that is missing, unknown.
+-- An item of a sort over the list of its arguments; of an item that is missing, and of a trait, unknown.
 abbrev pub item_tree : ItemSort → Option ℕ → Tree → Tree
 item_tree s None ts = leaf unknown
 item_tree sort.Struct (Some d) ts = node (adt d) ts
@@ -40,6 +41,13 @@ item_tree sort.Closure (Some d) ts = node (closure d) ts
 item_tree sort.Coroutine (Some d) ts = node (coroutine d) ts
 item_tree sort.CoroutineClosure (Some d) ts = node (coroutine_closure d) ts
 item_tree sort.Foreign (Some d) ts = leaf (atom (foreign d))
+item_tree sort.AssocTy (Some d) ts = node (alias projection_alias d) ts
+item_tree sort.InherentTy (Some d) ts = node (alias inherent_alias d) ts
+item_tree sort.Opaque (Some d) ts = node (alias opaque_alias d) ts
+item_tree sort.FreeTy (Some d) ts = node (alias free_alias d) ts
+item_tree sort.AssocConst (Some d) ts = node (unevaluated d) ts
+item_tree sort.FreeConst (Some d) ts = node (unevaluated d) ts
+item_tree sort.InherentConst (Some d) ts = node (unevaluated d) ts
 item_tree s (Some d) ts = leaf unknown
 
 -- A head of an item over a list; of an item that is missing, unknown.

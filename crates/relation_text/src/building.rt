@@ -6,6 +6,7 @@ ghost use Rattle.relation_text.specs.Built.{AreKnown, AreBuilt};
 
 mod binders;
 mod inner;
+mod items;
 mod lists;
 mod making;
 mod objects;

@@ -1,5 +1,6 @@
 //! Names are looked up: a tree of names becomes items, terms and questions.
 
+mod aliases;
 mod binders;
 mod error;
 mod namer;

@@ -206,6 +206,58 @@ fn wrong_names_are_told(rt: HostRuntime) -> Result<(), Fail> {
             "1:38: expected a constant, found a type",
         ),
         (
+            "trait A; type A::B; visit dyn A<B = u8>::B == u8 + 'static;",
+            "1:33: expected an argument, found `B = u8`",
+        ),
+        (
+            "trait A; type A::B; visit dyn A::B<B = u8> == u8 + 'static;",
+            "1:36: expected an argument, found `B = u8`",
+        ),
+        (
+            "trait A<T>; type A::B<T>; visit dyn A<u8, B = u8> + 'static;",
+            "1:43: expected 1 argument, found 0",
+        ),
+        (
+            "trait A<T>; type A::B; visit dyn A<u8>::B<u8> == u8 + 'static;",
+            "1:41: expected 0 arguments, found 1",
+        ),
+        (
+            "struct A; visit <u8 as A>::B;",
+            "1:24: expected a trait, found `A`",
+        ),
+        (
+            "trait A; visit <u8 as A>::B;",
+            "1:27: expected a name that is known, found `B`",
+        ),
+        (
+            "trait A<T>; type A::B; visit <u8 as A>::B;",
+            "1:37: expected 1 argument, found 0",
+        ),
+        (
+            "trait A; type A::B; visit <2 as A>::B;",
+            "1:28: expected a type, found a constant",
+        ),
+        (
+            "trait A; const A::B; visit [<u8 as A>::B];",
+            "1:29: expected a type, found a constant",
+        ),
+        (
+            "trait A; type A::B; visit <u8 as A<B = u8>>::B;",
+            "1:36: expected an argument, found `B = u8`",
+        ),
+        (
+            "opaque A<T>; visit A;",
+            "1:20: expected 1 argument, found 0",
+        ),
+        (
+            "const A; visit &'static A;",
+            "1:25: expected a type, found a constant",
+        ),
+        (
+            "trait A; type A::B; visit B;",
+            "1:27: expected a name that is known, found `B`",
+        ),
+        (
             "trait A; type A::B<T>; visit dyn A::B<u8> == 2 + 'static;",
             "1:46: expected a type, found a constant",
         ),

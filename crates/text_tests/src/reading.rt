@@ -82,6 +82,7 @@ fn form_name(form: Form) -> &'static str {
         Form::Projects => "projects",
         Form::Named => "named",
         Form::Assigned => "assigned",
+        Form::Associated => "associated",
     }
 }
 
@@ -204,6 +205,18 @@ fn trait_objects_are_read(rt: HostRuntime) -> Result<(), Fail> {
 }
 
 #[test]
+fn aliases_are_read(rt: HostRuntime) -> Result<(), Fail> {
+    let text = "opaque A<+T>; type B; inherent const C; visit <u8 as D<A, 'a>>::E<2>;";
+    let all = shown(rt.alloc(), text)?;
+    assert_eq!(rt;
+        all.as_str(),
+        "file(item(A declared(T)) item(B) item(C) \
+         visit(associated(u8 named(D A 'a) named(E 2)) terms() terms()))"
+    );
+    Ok(())
+}
+
+#[test]
 fn wrong_texts_are_refused(rt: HostRuntime) -> Result<(), Fail> {
     for (text, why) in [
         ("", "file()"),
@@ -263,7 +276,13 @@ fn wrong_texts_are_refused(rt: HostRuntime) -> Result<(), Fail> {
             "visit dyn A<B = C D> + 'a;",
             "1:19: expected `,` or `>`, found `D`",
         ),
-        ("type A;", "1:7: expected `::`, found `;`"),
+        ("type A::;", "1:9: expected a name, found `;`"),
+        ("opaque A::B;", "1:9: expected `;`, found `::`"),
+        ("inherent A;", "1:10: expected `type` or `const`, found `A`"),
+        ("visit <A;", "1:9: expected `as`, found `;`"),
+        ("visit <A as B;", "1:14: expected `>`, found `;`"),
+        ("visit <A as B>;", "1:15: expected `::`, found `;`"),
+        ("visit <A as &'a B>::C;", "1:13: expected a name, found `&`"),
         ("auto fn f;", "1:6: expected `trait`, found `fn`"),
         ("visit fn(.., u8);", "1:12: expected `)`, found `,`"),
         ("visit fn() -> ;", "1:15: expected a term, found `;`"),

@@ -3,23 +3,22 @@ ghost use Rattle.std.specs.Prelude.{◌≡◌, ℕ, List, Some, IsTrue, IfSome, 
 ghost use Rattle.relation_terms.specs.Heads.{tuple, expression, value_branch};
 ghost use Rattle.relation_terms.specs.Trees.{Tree, known, node, list_tree};
 ghost use Rattle.relation_terms.specs.Meaning.{Extends, arg_tree, kind_tree, region_tree, const_tree, valtree_tree};
-ghost use Rattle.relation_text.specs.Terms.{item_tree, value_tree, term_tree};
+ghost use Rattle.relation_text.specs.Terms.{value_tree, term_tree};
 ghost use Rattle.relation_text.specs.Built.{AreKnown, AreInnerKnown, Makes, MakesOf, MakesTree, IsFormOf};
 ghost use Rattle.relation_text.specs.Built.{IsRegionOf, IsConstOf, inner_tree};
 
 use crate::building::binders::make_binder;
 use crate::building::inner::InnerOf;
+use crate::building::items::make_item;
 use crate::building::lists::{const_at, consts_of, keys_at, region_at, ty_at, tys_of};
 use crate::building::objects::{make_object, make_predicate};
 use crate::building::patterns::{make_pattern, make_pattern_type};
 use crate::naming::Term;
-use crate::reading::ItemSort;
 use relation_terms::terms::{
-    AdtId, BoundConst, BoundRegion, BoundTy, BoundVar, ClosureId, ConstForm, ConstKind, ConstVid,
-    CoroutineClosureId, CoroutineId, DebruijnIndex, EarlyParamRegion, ErrorGuaranteed, ExprKind,
-    FloatVid, ForeignId, FunctionId, GenericArg, GenericArgKind, InferConst, InferTy, IntVid,
-    Interner, ParamConst, ParamTy, Placeholder, RegionForm, RegionKind, RegionVid, Ty, TyForm,
-    TyKind, TyVid, UniverseIndex, ValTreeForm, ValTreeKind,
+    BoundConst, BoundRegion, BoundTy, BoundVar, ConstForm, ConstKind, ConstVid, DebruijnIndex,
+    EarlyParamRegion, ErrorGuaranteed, ExprKind, FloatVid, GenericArg, GenericArgKind, InferConst,
+    InferTy, IntVid, Interner, ParamConst, ParamTy, Placeholder, RegionForm, RegionKind, RegionVid,
+    Ty, TyForm, TyKind, TyVid, UniverseIndex, ValTreeForm, ValTreeKind,
 };
 
 // The type of a form.
@@ -46,7 +45,7 @@ fn make_region<I: Interner>(cx: &mut I, form: RegionForm<I>) -> Option<GenericAr
 }
 
 // The constant of a form.
-fn make_const<I: Interner>(cx: &mut I, form: ConstForm<I>) -> Option<GenericArg<I>>
+pub(super) fn make_const<I: Interner>(cx: &mut I, form: ConstForm<I>) -> Option<GenericArg<I>>
     requires { IsTrue (known (const_tree (I.meaning cx.old) form)) }
     ensures grown { Extends (I.meaning cx.old) (I.meaning cx.new) }
     ensures made { MakesTree (I.meaning cx.new) (const_tree (I.meaning cx.old) form) result }
@@ -154,35 +153,6 @@ fn const_leaf<I: Interner>(names: &[I::Name], term: Term) -> Option<ConstForm<I>
         }
         _ => None,
     }
-}
-
-// An item over its arguments.
-fn make_item<I: Interner>(
-    cx: &mut I,
-    sort: ItemSort,
-    id: I::Id,
-    args: &[GenericArg<I>],
-) -> Option<GenericArg<I>>
-    requires { IsTrue (known (list_tree (arg_tree (I.meaning cx.old)) args.now)) }
-    ensures grown { Extends (I.meaning cx.old) (I.meaning cx.new) }
-    ensures made { let m = I.meaning cx.old in
-        MakesTree (I.meaning cx.new) (item_tree sort (Some (m.id id)) (list_tree (arg_tree m) args.now)) result }
-{
-    if sort == ItemSort::Foreign {
-        return make_ty(cx, TyKind::Foreign(ForeignId(id)));
-    }
-    let Ok(args) = cx.mk_args(args) else {
-        return None;
-    };
-    let form = match sort {
-        ItemSort::Struct => TyKind::Adt(AdtId(id), args),
-        ItemSort::Fn => TyKind::FnDef(FunctionId(id), args),
-        ItemSort::Closure => TyKind::Closure(ClosureId(id), args),
-        ItemSort::Coroutine => TyKind::Coroutine(CoroutineId(id), args),
-        ItemSort::CoroutineClosure => TyKind::CoroutineClosure(CoroutineClosureId(id), args),
-        _ => return None,
-    };
-    make_ty(cx, form)
 }
 
 // A tuple of those members.

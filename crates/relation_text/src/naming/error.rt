@@ -25,6 +25,8 @@ pub enum Wrong {
     /// The name is no trait's, and it is one's.
     NoTrait,
     IsTrait,
+    /// Something is assigned where only arguments stand.
+    Assigned,
     /// The item has another number of parameters than there are arguments.
     Count { expected: usize, found: usize },
     /// A type that is defined outside the language has no parameters.
@@ -141,6 +143,7 @@ fn write_wrong<W: Write>(found: &str, why: Wrong, out: &mut W) -> fmt::Result
         Wrong::NoItem => write_expected("an item", found, out),
         Wrong::NoTrait => write_expected("a trait", found, out),
         Wrong::IsTrait => write_expected("no trait", found, out),
+        Wrong::Assigned => write_expected("an argument", found, out),
         Wrong::Parameter => write_expected("no parameter", found, out),
         Wrong::NumberType => write_expected("a number of a type of numbers", found, out),
         Wrong::Counted => write_expected("a number alone", found, out),

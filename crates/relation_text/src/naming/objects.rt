@@ -1,15 +1,11 @@
 //! Trait objects, and what they implement.
 
+use crate::naming::aliases::{Given, sort_of};
 use crate::naming::error::{NameError, Wrong, error_at};
-use crate::naming::namer::{Made, Meaning, Namer};
+use crate::naming::namer::{Made, Namer};
 use crate::naming::program::{Parts, Sort, Term};
 use crate::naming::terms::Wanted;
 use crate::reading::{Form, ItemSort, Node, NodeKind};
-
-// Whether an item is a trait.
-pub(super) fn is_trait(sort: ItemSort) -> bool {
-    sort == ItemSort::Trait || sort == ItemSort::AutoTrait
-}
 
 // What is implemented of a trait, as the predicates so far: their numbers, and how many levels the deepest has.
 #[derive(Drop)]
@@ -18,60 +14,7 @@ struct Predicates {
     levels: usize,
 }
 
-// A name, its arguments, and what is assigned behind them.
-#[derive(Drop)]
-struct Given {
-    node: Node,
-    name: usize,
-    args: Vec<usize>,
-    assigned: Vec<usize>,
-}
-
 impl<'a> Namer<'a> {
-    // The number of the trait that a node names.
-    pub fn trait_of(&self, whole: &Node, number: usize) -> Result<usize, NameError> {
-        let name = self.node(whole, number)?;
-        let Meaning::Item(item) = self.meaning(&name)? else {
-            return Err(error_at(&name, Wrong::NoTrait));
-        };
-        match self.program.items.get(item) {
-            Some(found) if is_trait(found.sort) => Ok(item),
-            _ => Err(error_at(&name, Wrong::NoTrait)),
-        }
-    }
-
-    // The item that a trait declares under the name of a node.
-    fn associated_of(&self, whole: &Node, of: usize, number: usize) -> Result<usize, NameError> {
-        let name = self.node(whole, number)?;
-        match self.associated.get(&(of, self.text_of(&name)?)) {
-            Some(item) => Ok(*item),
-            None => Err(error_at(&name, Wrong::Unknown)),
-        }
-    }
-
-    // The name and the arguments that a node gives, and what it assigns.
-    fn given(&self, whole: &Node, number: usize) -> Result<Given, NameError> {
-        let node = self.node(whole, number)?;
-        let Some((name, rest)) = self.parts(&node)?.split_first() else {
-            return Err(error_at(&node, Wrong::NotRead));
-        };
-        let mut args = Vec::new(self.alloc);
-        let mut assigned = Vec::new(self.alloc);
-        for number in rest {
-            if self.node(&node, *number)?.kind == NodeKind::Form(Form::Assigned) {
-                assigned.push(*number)?;
-            } else {
-                args.push(*number)?;
-            }
-        }
-        Ok(Given {
-            node,
-            name: *name,
-            args,
-            assigned,
-        })
-    }
-
     // Adds one more predicate.
     fn add_predicate(
         &mut self,
@@ -96,13 +39,11 @@ impl<'a> Namer<'a> {
         term: usize,
         predicates: &mut Predicates,
     ) -> Result<(), NameError> {
-        let sort = self.item_sort(node, node, item, args.len())?;
-        let args = self.list(node, args, Wanted::Declared(item))?;
-        let wanted = if sort == ItemSort::AssocConst {
-            Sort::Const
-        } else {
-            Sort::Type
+        let wanted = match self.program.items.get(item) {
+            Some(item) => sort_of(item.sort),
+            None => return Err(error_at(node, Wrong::NotRead)),
         };
+        let args = self.list(node, args, Wanted::Declared(item))?;
         let term = self.term(node, term, Some(wanted))?;
         let projects = Term::Projects(variables, item, args.parts, term.number);
         let below = args.levels.max(term.levels);
@@ -123,7 +64,7 @@ impl<'a> Namer<'a> {
             let [name, term] = self.parts(&node)? else {
                 return Err(error_at(&node, Wrong::NotRead));
             };
-            let item = self.associated_of(&node, of, *name)?;
+            let item = self.associated_of(&node, of, *name, 0)?;
             self.projects(&node, variables, item, &given.args, *term, predicates)?;
         }
         Ok(())
@@ -162,14 +103,8 @@ impl<'a> Namer<'a> {
         predicates: &mut Predicates,
     ) -> Result<(), NameError> {
         let variables = self.variables(node, variables)?;
-        let given = self.given(node, of)?;
-        let item = self.trait_of(&given.node, given.name)?;
-        let _ = self.item_sort(&given.node, &given.node, item, given.args.len())?;
-        let last = self.given(node, own)?;
-        let own = self.associated_of(&last.node, item, last.name)?;
-        let mut args = given.args;
-        args.extend_from_slice(&last.args)?;
-        self.projects(node, variables, own, &args, term, predicates)
+        let own = self.own_of(node, of, own)?;
+        self.projects(node, variables, own.item, &own.args, term, predicates)
     }
 
     // Adds what a bound says.

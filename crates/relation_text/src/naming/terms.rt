@@ -1,20 +1,22 @@
 //! Terms of the tree's nodes.
 
+use crate::naming::aliases::is_trait;
 use crate::naming::error::{NameError, Wrong, error_at};
 use crate::naming::namer::{Made, Meaning, Namer};
-use crate::naming::objects::is_trait;
 use crate::naming::plain::{USIZE, number_size};
 use crate::naming::program::{ParamSort, Parts, Sort, Term};
 use crate::naming::statements::MOST_VARIABLES;
 use crate::reading::{Form, ItemSort, Leaf, Node, NodeKind};
 use relation_terms::terms::{FnHeader, Mutability};
 
-// What the members of a list are to be: of any sort, of one, or what an item declares.
+// What the members of a list are to be: of any sort, of one, what an item declares, or a type that implements a trait and
+// then what an item of the trait declares.
 #[derive(Clone, Copy)]
 pub(super) enum Wanted {
     Any,
     Each(Sort),
     Declared(usize),
+    Implemented(usize),
 }
 
 // What a parameter is given.
@@ -34,16 +36,23 @@ pub(super) struct List {
 }
 
 impl<'a> Namer<'a> {
+    // The sort of what an item declares at a place.
+    fn declared_at(&self, item: usize, place: usize) -> Option<Sort> {
+        let item = self.program.items.get(item)?;
+        let declared = item.declared.get(place)?;
+        Some(given_to(declared.sort))
+    }
+
     // The sort that is wanted at a place of a list.
     fn wanted_at(&self, wanted: Wanted, place: usize) -> Option<Sort> {
         match wanted {
             Wanted::Any => None,
             Wanted::Each(sort) => Some(sort),
-            Wanted::Declared(item) => {
-                let item = self.program.items.get(item)?;
-                let declared = item.declared.get(place)?;
-                Some(given_to(declared.sort))
-            }
+            Wanted::Declared(item) => self.declared_at(item, place),
+            Wanted::Implemented(item) => match place.checked_sub(1) {
+                None => Some(Sort::Type),
+                Some(place) => self.declared_at(item, place),
+            },
         }
     }
 
@@ -114,7 +123,7 @@ impl<'a> Namer<'a> {
             first,
             behind: first,
         };
-        self.add(node, Term::Item(sort, number, parts), Sort::Type, 0)
+        self.item_term(node, sort, number, parts, 0)
     }
 
     // What a name means.
@@ -308,8 +317,7 @@ impl<'a> Namer<'a> {
         };
         let sort = self.type_sort(node, &name, number, args.len())?;
         let args = self.list(node, args, Wanted::Declared(number))?;
-        let term = Term::Item(sort, number, args.parts);
-        self.add(node, term, Sort::Type, args.levels)
+        self.item_term(node, sort, number, args.parts, args.levels)
     }
 
     // A slice.
@@ -462,6 +470,7 @@ impl<'a> Namer<'a> {
                 self.unsafe_binder(node, *variables, *body)?
             }
             (Form::Object, _) => self.object(node, parts)?,
+            (Form::Associated, [ty, of, own]) => self.associated(node, *ty, *of, *own)?,
             _ => return Ok(None),
         };
         Ok(Some(made))

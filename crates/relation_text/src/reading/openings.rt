@@ -27,6 +27,8 @@ pub(super) enum Rest {
     Inputs(Safety, ExternAbi),
     // What a trait object implements, and its region.
     Bounds,
+    // A type, a trait that it implements, and what the trait declares.
+    Associated,
     // What stands in brackets.
     Brackets,
     // What stands in parentheses.
@@ -187,6 +189,9 @@ pub(super) fn open(reader: &mut Reader, parts: &mut Vec<usize>) -> Result<Rest, 
     }
     if reader.accept(Sign::Dyn) {
         return Ok(Rest::Bounds);
+    }
+    if reader.accept(Sign::Less) {
+        return Ok(Rest::Associated);
     }
     open_binder(reader, parts)
 }

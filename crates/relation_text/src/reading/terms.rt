@@ -226,6 +226,30 @@ fn read_bounds(
     Ok(Form::Object)
 }
 
+// Reads a type, a trait that it implements, and what the trait declares.
+#[cycle(terms)]
+fn read_associated(
+    reader: &mut Reader,
+    parts: &mut Vec<usize>,
+    levels: usize,
+) -> Result<Form, ReadError>
+    requires { EachBelow parts.old.items (length reader.old.tree.nodes.items) }
+    ensures goes { GoesOn reader.old reader.new }
+    ensures parts { OnOk result (Collects reader.old reader.new parts.old.items parts.new.items) }
+    ensures wrong { IfErr result (LiesIn reader.old.tree.text_len) }
+{
+    let ty = read_term(reader, levels)?;
+    parts.push(ty)?;
+    reader.expect(Sign::As)?;
+    let of = read_named(reader, levels)?;
+    parts.push(of)?;
+    reader.expect(Sign::Greater)?;
+    reader.expect(Sign::PathSep)?;
+    let own = read_named(reader, levels)?;
+    parts.push(own)?;
+    Ok(Form::Associated)
+}
+
 // Reads the rest of a term whose beginning was read, and answers its form; none where it is its only part.
 #[cycle(terms)]
 fn read_rest(
@@ -252,6 +276,7 @@ fn read_rest(
         }
         Rest::Inputs(safety, abi) => Ok(Some(read_signature(reader, parts, safety, abi, levels)?)),
         Rest::Bounds => Ok(Some(read_bounds(reader, parts, levels)?)),
+        Rest::Associated => Ok(Some(read_associated(reader, parts, levels)?)),
         Rest::Brackets => Ok(Some(read_brackets(reader, parts, levels)?)),
         Rest::Parens => {
             let tuple = read_list(reader, parts, Sign::RightParen, levels)?;

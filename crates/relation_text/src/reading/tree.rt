@@ -21,6 +21,14 @@ pub enum ItemSort {
     /// A type and a constant that a trait declares.
     AssocTy,
     AssocConst,
+    /// A type and a constant that stand for others, in no trait.
+    FreeTy,
+    FreeConst,
+    /// A type of which only the bounds are known.
+    Opaque,
+    /// A type and a constant of an `impl` without a trait.
+    InherentTy,
+    InherentConst,
 }
 
 /// What a node makes of its parts.
@@ -107,6 +115,9 @@ pub enum Form {
     Named,
     /// What a trait's type or constant is: its name, and the term.
     Assigned,
+    /// A trait's type or constant, of a type that implements the trait: the type, and the `Named` of the trait and of
+    /// what it declares.
+    Associated,
 }
 
 /// What a node is: a word of the text, or a form over further nodes.

@@ -45,6 +45,9 @@ decreases-read_named l = 16 * l.levels + 6
 abbrev pub decreases-read_bound : goal.decreases-read_bound
 decreases-read_bound l = 16 * l.levels + 7
 
+abbrev pub decreases-read_associated : goal.decreases-read_associated
+decreases-read_associated l = 16 * l.levels + 7
+
 abbrev pub decreases-read_bounds : goal.decreases-read_bounds
 decreases-read_bounds l = 16 * l.levels + 8
 
