@@ -11,7 +11,8 @@ use Rattle.relation_text.specs.declared.naming.program.Term.{Term}
 use Rattle.relation_text.specs.declared.naming.program.Term.TheVariants as term
 use Rattle.relation_text.specs.Terms.{at, parts_tree, leaf_of, item_tree, term_tree, trees_of}
 use Rattle.relation_asking.specs.declared.needs.Needs.{Needs}
-use Rattle.relation_asking.specs.Needs.{both_needs, no_needs, need_at, needs_with, parts_need, term_need, needs_of}
+use Rattle.relation_asking.specs.Needs.{both_needs, no_needs, item_need, need_at, needs_with}
+use Rattle.relation_asking.specs.Needs.{parts_need, term_need, needs_of}
 use Rattle.relation_asking.proofs.NeedLemmas.{HoldsOfEach, all_hold}
 
 -- A known tree is covered, where it is said that its forms have rules.
@@ -39,15 +40,25 @@ leaf_covered : (f : ℕ → Leaf) → ((x : ℕ) → IsCoveredLeaf (f x)) → (o
 leaf_covered f h None k = absurd (false≢true k)
 leaf_covered f h (Some x) k = h x
 
-item_covered : (s : ItemSort) (o : Option ℕ) (ts : Tree) → (IsTrue (known ts) → IsCovered ts) →
-    IsTrue (known (item_tree s o ts)) → IsCovered (item_tree s o ts)
-item_covered s None ts h k = absurd (false≢true k)
-item_covered sort.Struct (Some d) ts h k = (tt, h k)
-item_covered sort.Fn (Some d) ts h k = (tt, h k)
-item_covered sort.Closure (Some d) ts h k = (tt, h k)
-item_covered sort.Coroutine (Some d) ts h k = (tt, h k)
-item_covered sort.CoroutineClosure (Some d) ts h k = (tt, h k)
-item_covered sort.Foreign (Some d) ts h k = tt
+item_covered : (n : Needs) (s : ItemSort) (o : Option ℕ) (ts : Tree) →
+    (IsTrue (known ts) → IsTrue n.has_rules → IsCovered ts) →
+    IsTrue (known (item_tree s o ts)) → IsTrue (item_need s n).has_rules → IsCovered (item_tree s o ts)
+item_covered n s None ts h k r = absurd (false≢true k)
+item_covered n sort.Struct (Some d) ts h k r = (tt, h k r)
+item_covered n sort.Fn (Some d) ts h k r = (tt, h k r)
+item_covered n sort.Closure (Some d) ts h k r = (tt, h k r)
+item_covered n sort.Coroutine (Some d) ts h k r = (tt, h k r)
+item_covered n sort.CoroutineClosure (Some d) ts h k r = (tt, h k r)
+item_covered n sort.Foreign (Some d) ts h k r = tt
+item_covered n sort.Trait (Some d) ts h k r = absurd (false≢true k)
+item_covered n sort.AutoTrait (Some d) ts h k r = absurd (false≢true k)
+item_covered n sort.AssocTy (Some d) ts h k r = absurd (false≢true r)
+item_covered n sort.AssocConst (Some d) ts h k r = absurd (false≢true r)
+item_covered n sort.FreeTy (Some d) ts h k r = absurd (false≢true r)
+item_covered n sort.FreeConst (Some d) ts h k r = absurd (false≢true r)
+item_covered n sort.Opaque (Some d) ts h k r = absurd (false≢true r)
+item_covered n sort.InherentTy (Some d) ts h k r = absurd (false≢true r)
+item_covered n sort.InherentConst (Some d) ts h k r = absurd (false≢true r)
 
 module _ (items names parts : List ℕ) where
   term_covered : (ts : List Tree) (ns : List Needs) → HoldsOfEach IsCoveredBy ts ns → (x : Term) →
@@ -60,7 +71,7 @@ module _ (items names parts : List ℕ) where
   term_covered ts ns h (term.Uint w) k r = tt
   term_covered ts ns h (term.Float w) k r = tt
   term_covered ts ns h (term.Item s d p) k r =
-      item_covered s (slice_get items d) _ (λ l. list_covered ts ns h no_needs _ l r) k
+      item_covered (parts_need parts ns p) s (slice_get items d) _ (list_covered ts ns h no_needs _) k r
   term_covered ts ns h (term.Slice t) k r = (tt, (h t (and_parts (known (at ts t)) true k).0 r, tt))
   term_covered ts ns h (term.Array t c) k r =
       let p = and_parts (known (at ts t)) (known (at ts c) && true) k in
@@ -109,6 +120,10 @@ module _ (items names parts : List ℕ) where
   term_covered ts ns h (term.ConstBound d v n) k r = absurd (false≢true r)
   term_covered ts ns h (term.FnPtr g v p) k r = absurd (false≢true r)
   term_covered ts ns h (term.UnsafeBinder v t) k r = absurd (false≢true r)
+  term_covered ts ns h (term.Object p q) k r = absurd (false≢true r)
+  term_covered ts ns h (term.Implements v d p) k r = absurd (false≢true r)
+  term_covered ts ns h (term.Projects v d p t) k r = absurd (false≢true r)
+  term_covered ts ns h (term.IsAuto v d) k r = absurd (false≢true r)
 
   missing_covered : IsCoveredBy no_needs (leaf unknown)
   missing_covered k r = absurd (false≢true k)

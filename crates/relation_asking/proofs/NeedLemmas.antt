@@ -8,7 +8,7 @@ use Rattle.std.proofs.lemmas.Option.{slice_get_within, get_or_from_slice_get, sl
 use Rattle.std.proofs.lemmas.Bool.{and_parts, false≢true}
 use Rattle.relation_terms.specs.declared.terms.enums.Variance.{Variance}
 use Rattle.relation_terms.specs.declared.terms.enums.Variance.TheVariants.{Covariant, Contravariant, Invariant, Bivariant}
-use Rattle.relation_terms.specs.Heads.{Leaf, BoundKind, type_var, region_var, int_var, float_var, const_var}
+use Rattle.relation_terms.specs.Heads.{Head, existential_trait, existential_projection, Leaf, BoundKind, type_var, region_var, int_var, float_var, const_var}
 use Rattle.relation_terms.specs.Heads.{variable, bound, placeholder, atom, unknown}
 use Rattle.relation_terms.specs.Trees.{Tree, leaf, node, bind, nil, cons, Leaves, known, list_tree, front, last}
 use Rattle.relation_terms.specs.Meaning.{under}
@@ -23,9 +23,9 @@ use Rattle.relation_text.specs.declared.reading.tree.ItemSort.TheVariants as sor
 use Rattle.relation_text.specs.declared.naming.program.Term.{Term}
 use Rattle.relation_text.specs.declared.naming.program.Term.TheVariants as term
 use Rattle.relation_text.specs.Terms.{at, parts_tree, leaf_of, item_tree, term_tree, trees_from, trees_of}
-use Rattle.relation_text.specs.Terms.{variables_of, fn_ptr_tree}
+use Rattle.relation_text.specs.Terms.{variables_of, fn_ptr_tree, head_of, object_tree}
 use Rattle.relation_asking.specs.Needs.{larger, both_needs, no_needs, universe_need, without_rules, need_at, needs_with}
-use Rattle.relation_asking.specs.Needs.{parts_need, term_need, needs_from, needs_of, Reaches, IsEnough, Allows, AreEnough}
+use Rattle.relation_asking.specs.Needs.{item_need, parts_need, term_need, needs_from, needs_of, Reaches, IsEnough, Allows, AreEnough}
 
 some_is_there : {x : ℕ} → Some x ≡ None → ⊥
 some_is_there e = cc
@@ -122,7 +122,8 @@ leaf_enough : (n : Needs) (f : ℕ → Leaf) → ((x : ℕ) → IsEnough n (f x)
 leaf_enough n f h None = tt
 leaf_enough n f h (Some x) = h x
 
-item_enough : (n : Needs) (s : ItemSort) (o : Option ℕ) (ts : Tree) → Allows n ts → Allows n (item_tree s o ts)
+item_enough : (n : Needs) (s : ItemSort) (o : Option ℕ) (ts : Tree) → Allows n ts →
+    Allows (item_need s n) (item_tree s o ts)
 item_enough n s None ts h = tt
 item_enough n sort.Struct (Some d) ts h = h
 item_enough n sort.Fn (Some d) ts h = h
@@ -130,6 +131,27 @@ item_enough n sort.Closure (Some d) ts h = h
 item_enough n sort.Coroutine (Some d) ts h = h
 item_enough n sort.CoroutineClosure (Some d) ts h = h
 item_enough n sort.Foreign (Some d) ts h = tt
+item_enough n sort.Trait (Some d) ts h = tt
+item_enough n sort.AutoTrait (Some d) ts h = tt
+item_enough n sort.AssocTy (Some d) ts h = allows_without n ts h
+item_enough n sort.AssocConst (Some d) ts h = allows_without n ts h
+item_enough n sort.FreeTy (Some d) ts h = allows_without n ts h
+item_enough n sort.FreeConst (Some d) ts h = allows_without n ts h
+item_enough n sort.Opaque (Some d) ts h = allows_without n ts h
+item_enough n sort.InherentTy (Some d) ts h = allows_without n ts h
+item_enough n sort.InherentConst (Some d) ts h = allows_without n ts h
+
+-- Of what a trait object implements, and of a trait object.
+head_enough : (n : Needs) (f : ℕ → Head) (o : Option ℕ) (ts : Tree) → Allows n ts → Allows n (head_of f o ts)
+head_enough n f None ts h = tt
+head_enough n f (Some d) ts h = h
+
+object_enough : (a b : Needs) (ps r : Tree) → Allows a ps → Allows b r →
+    Allows (without_rules (both_needs a b)) (object_tree ps r)
+object_enough a b ps r h k = (
+  allows_without (both_needs a b) ps (allows_left a b ps h),
+  (allows_without (both_needs a b) r (allows_right a b r k), tt),
+)
 
 -- Of two parts of a form without rules.
 two_without : (a b : Needs) (t u : Tree) → Allows a t → Allows b u →
@@ -284,6 +306,25 @@ module _ (items names parts : List ℕ) where
         (allows_without (need_at ns t) (at ts t) (e t)),
     tt,
   )
+  term_enough ts ns e (term.Object p r) =
+      object_enough (parts_need parts ns p) (need_at ns r) (parts_tree parts ts p) (at ts r)
+      (list_enough ts ns e no_needs _) (e r)
+  term_enough ts ns e (term.Implements v d p) =
+      let n = without_rules (parts_need parts ns p) in
+      under_allowed n (variables_of (parts_tree parts ts v)) _ (head_enough n existential_trait (slice_get items d) _
+      (allows_without (parts_need parts ns p) (parts_tree parts ts p) (list_enough ts ns e no_needs _)))
+  term_enough ts ns e (term.Projects v d p t) =
+      let a = need_at ns t in
+      let b = parts_need parts ns p in
+      let n = without_rules (both_needs a b) in
+      under_allowed n (variables_of (parts_tree parts ts v)) _ (head_enough n existential_projection (slice_get items d) _ (
+        allows_without (both_needs a b) (at ts t) (allows_left a b (at ts t) (e t)),
+        allows_without (both_needs a b) (parts_tree parts ts p)
+            (allows_right a b (parts_tree parts ts p) (list_enough ts ns e no_needs _)),
+      ))
+  term_enough ts ns e (term.IsAuto v d) =
+      under_allowed (without_rules no_needs) (variables_of (parts_tree parts ts v)) _
+      (leaf_enough (without_rules no_needs) _ (λ x. tt) (slice_get items d))
 
   -- What all terms of a program need is enough for them.
   pub all_enough : (xs : List Term) → AreEnough (trees_of items names parts xs) (needs_of parts xs)

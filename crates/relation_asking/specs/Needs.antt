@@ -1,10 +1,12 @@
 -- What a context has to have for a term to be its own.
-use Rattle.std.specs.Prelude.{◌≡◌, ℕ, ◌≤◌, max, true, false, ◌&&◌, List, [], ◌∷◌, ◌++◌, Option, Some, None}
+use Rattle.std.specs.Prelude.{◌≡◌, ℕ, ◌≤◌, max, Bool, true, false, cond, ◌&&◌, List, [], ◌∷◌, ◌++◌, Option, Some, None}
 use Rattle.std.specs.Prelude.{slice_get, slice_range}
 use Rattle.relation_terms.specs.Heads.{Leaf, variable, bound, placeholder, atom, unknown, type_var, region_var}
 use Rattle.relation_terms.specs.Trees.{Tree, Leaves}
 use Rattle.type_relations.specs.Relation.{IsValueAtom}
 use Rattle.relation_asking.specs.declared.needs.Needs.{Needs}
+use Rattle.relation_text.specs.declared.reading.tree.ItemSort.{ItemSort}
+use Rattle.relation_text.specs.declared.reading.tree.ItemSort.TheVariants as sort
 use Rattle.relation_text.specs.declared.naming.program.Parts.{Parts}
 use Rattle.relation_text.specs.declared.naming.program.Term.{Term}
 use Rattle.relation_text.specs.declared.naming.program.Term.TheVariants as term
@@ -37,6 +39,21 @@ both_needs a b = record {
 abbrev pub without_rules : Needs → Needs
 without_rules n = record { types = n.types; regions = n.regions; universe = n.universe; has_rules = false }
 
+-- An item over arguments stands for a type or a constant that has to be found first; what such an item needs, and
+-- another, over arguments that need so much.
+abbrev pub is_alias : ItemSort → Bool
+is_alias sort.AssocTy = true
+is_alias sort.AssocConst = true
+is_alias sort.FreeTy = true
+is_alias sort.FreeConst = true
+is_alias sort.Opaque = true
+is_alias sort.InherentTy = true
+is_alias sort.InherentConst = true
+is_alias s = false
+
+abbrev pub item_need : ItemSort → Needs → Needs
+item_need s n = cond (is_alias s) (without_rules n) n
+
 -- What a term of that number needs.
 abbrev pub need_in : Option Needs → Needs
 need_in None = no_needs
@@ -68,7 +85,7 @@ module _ (parts : List ℕ) where
   term_need ns (term.Array t c) = both_needs (need_at ns t) (need_at ns c)
   term_need ns (term.Ref r t m) = both_needs (need_at ns r) (need_at ns t)
   term_need ns (term.Branch t p) = both_needs (need_at ns t) (parts_need parts ns p)
-  term_need ns (term.Item s d p) = parts_need parts ns p
+  term_need ns (term.Item s d p) = item_need s (parts_need parts ns p)
   term_need ns (term.Tuple p) = parts_need parts ns p
   term_need ns (term.Expr k p) = parts_need parts ns p
   term_need ns (term.IntVar n) = without_rules no_needs
@@ -85,6 +102,10 @@ module _ (parts : List ℕ) where
   term_need ns (term.ConstBound d v n) = without_rules no_needs
   term_need ns (term.FnPtr h v p) = without_rules (parts_need parts ns p)
   term_need ns (term.UnsafeBinder v t) = without_rules (need_at ns t)
+  term_need ns (term.Object p r) = without_rules (both_needs (parts_need parts ns p) (need_at ns r))
+  term_need ns (term.Implements v d p) = without_rules (parts_need parts ns p)
+  term_need ns (term.Projects v d p t) = without_rules (both_needs (need_at ns t) (parts_need parts ns p))
+  term_need ns (term.IsAuto v d) = without_rules no_needs
   term_need ns t = no_needs
 
   -- What terms need that stand behind those of these needs; what all need.

@@ -3,9 +3,9 @@
 use reference_interner::{
     DefKind, GenericParam, GenericParamKind, ItemId, ItemKind, RefInterner, SymbolId,
 };
-use relation_terms::terms::OutOfMemory;
+use relation_terms::terms::{OutOfMemory, TraitId, Variance};
 use relation_text::naming::{Declared, Item, ParamSort, Program};
-use relation_text::printing::{ItemText, Parameter};
+use relation_text::printing::{ItemText, Parameter, TraitText};
 use relation_text::reading::ItemSort;
 use std::alloc::{AllocError, Global};
 
@@ -17,8 +17,8 @@ pub(super) struct Tables<'a> {
     pub item_texts: Vec<ItemText<'a, ItemId>>,
 }
 
-// Which kind of item an item is.
-fn def_kind(sort: ItemSort) -> DefKind {
+// Which kind of item an item is. Only a trait's asks for the trait.
+fn def_kind(sort: ItemSort, of: ItemId) -> DefKind {
     match sort {
         ItemSort::Struct => DefKind::Adt,
         ItemSort::Fn => DefKind::Fn,
@@ -26,6 +26,14 @@ fn def_kind(sort: ItemSort) -> DefKind {
         ItemSort::Coroutine => DefKind::Coroutine,
         ItemSort::CoroutineClosure => DefKind::CoroutineClosure,
         ItemSort::Foreign => DefKind::Foreign,
+        ItemSort::Trait | ItemSort::AutoTrait => DefKind::Trait,
+        ItemSort::AssocTy => DefKind::AssocTy(TraitId(of)),
+        ItemSort::AssocConst => DefKind::AssocConst(TraitId(of)),
+        ItemSort::FreeTy => DefKind::FreeTyAlias,
+        ItemSort::FreeConst => DefKind::FreeConstAlias,
+        ItemSort::Opaque => DefKind::OpaqueTy,
+        ItemSort::InherentTy => DefKind::InherentAssocTy,
+        ItemSort::InherentConst => DefKind::InherentAssocConst,
     }
 }
 
@@ -38,21 +46,37 @@ fn param_kind(declared: &Declared) -> GenericParamKind {
     }
 }
 
-// Adds an item. No term is made of its own name and of its parameters' names, so they all are one name.
+// Whether a type that implements a trait is the first parameter, which is not written.
+fn has_self(sort: ItemSort) -> bool {
+    matches!(
+        sort,
+        ItemSort::Trait | ItemSort::AutoTrait | ItemSort::AssocTy | ItemSort::AssocConst
+    )
+}
+
+// Adds an item, behind those of these ids. No term is made of its own name and of its parameters' names, so they all are
+// one name.
 fn add_item(
     alloc: Global,
     cx: &mut RefInterner,
+    ids: &[ItemId],
     item: &Item,
     name: SymbolId,
 ) -> Result<ItemId, OutOfMemory> {
     let mut params = Vec::new(alloc);
     let mut variances = Vec::new(alloc);
+    if has_self(item.sort) {
+        let kind = GenericParamKind::Type;
+        params.push(GenericParam { kind, name })?;
+        variances.push(Variance::Invariant)?;
+    }
     for declared in &item.declared {
         let kind = param_kind(declared);
         params.push(GenericParam { kind, name })?;
         variances.push(declared.variance)?;
     }
-    let def = def_kind(item.sort);
+    let of = item.of.and_then(|of| ids.get(of).copied());
+    let def = def_kind(item.sort, of.unwrap_or(ItemId(0)));
     cx.add_item(ItemKind { def, params }, name, variances)
 }
 
@@ -65,10 +89,18 @@ pub(super) fn make_interner(
     let mut ids = Vec::new(alloc);
     let name = SymbolId(program.names.len());
     for item in &program.items {
-        let id = add_item(alloc, &mut cx, item, name)?;
+        let id = add_item(alloc, &mut cx, &ids, item, name)?;
         ids.push(id)?;
     }
     Ok((cx, ids))
+}
+
+// The text of a trait, and how many parameters it has, with the type that implements it.
+fn trait_text<'a>(item: &Item<'a>) -> TraitText<'a> {
+    TraitText {
+        text: item.text,
+        count: item.declared.len().saturating_add(1),
+    }
 }
 
 // The names of a program by their numbers, and all texts.
@@ -86,8 +118,12 @@ pub(super) fn make_tables<'a>(
         name_texts.push(Parameter { name, text: *text })?;
     }
     for (item, id) in program.items.iter().zip(ids) {
-        let text = item.text;
-        item_texts.push(ItemText::new(*id, text))?;
+        let of = item.of.and_then(|of| program.items.get(of));
+        item_texts.push(ItemText {
+            id: *id,
+            text: item.text,
+            of: of.map(trait_text),
+        })?;
     }
     Ok(Tables {
         names,

@@ -1,9 +1,11 @@
 //! What a context has to have for a term to be asked about in it.
 ghost use Rattle.std.specs.Prelude.{◌≡◌, IfOk, max, slice_get};
 ghost use Rattle.relation_asking.specs.Needs.{larger, both_needs, universe_need, without_rules};
+ghost use Rattle.relation_asking.specs.Needs.{is_alias, item_need};
 ghost use Rattle.relation_asking.specs.Needs.{need_at, parts_need, term_need, needs_of};
 
 use relation_text::naming::{Parts, Program, Term};
+use relation_text::reading::ItemSort;
 use std::alloc::{AllocError, Global};
 
 /// What a term needs of a context: variables up to these numbers, the largest that it names, if it names any; and a
@@ -104,6 +106,33 @@ fn without_rules(parts: Needs) -> Needs
     }
 }
 
+// Whether an item over arguments stands for a type or a constant that has to be found first.
+fn is_alias(sort: ItemSort) -> bool
+    ensures { result ≡ is_alias sort }
+{
+    match sort {
+        ItemSort::AssocTy => true,
+        ItemSort::AssocConst => true,
+        ItemSort::FreeTy => true,
+        ItemSort::FreeConst => true,
+        ItemSort::Opaque => true,
+        ItemSort::InherentTy => true,
+        ItemSort::InherentConst => true,
+        _ => false,
+    }
+}
+
+// What an item needs, over arguments that need so much.
+fn item_need(sort: ItemSort, args: Needs) -> Needs
+    ensures { result ≡ item_need sort args }
+{
+    if is_alias(sort) {
+        without_rules(args)
+    } else {
+        args
+    }
+}
+
 // What a term needs, by what the terms before it need.
 fn term_need(numbers: &[usize], before: &[Needs], term: Term) -> Needs
     ensures { result ≡ term_need numbers.now before.now term }
@@ -126,7 +155,7 @@ fn term_need(numbers: &[usize], before: &[Needs], term: Term) -> Needs
         Term::Array(element, length) => both(need_at(before, element), need_at(before, length)),
         Term::Ref(region, pointee, _) => both(need_at(before, region), need_at(before, pointee)),
         Term::Branch(ty, parts) => both(need_at(before, ty), parts_need(numbers, before, parts)),
-        Term::Item(_, _, parts) => parts_need(numbers, before, parts),
+        Term::Item(sort, _, parts) => item_need(sort, parts_need(numbers, before, parts)),
         Term::Tuple(parts) => parts_need(numbers, before, parts),
         Term::Expr(_, parts) => parts_need(numbers, before, parts),
         Term::IntVar(_) | Term::FloatVar(_) | Term::ConstVar(_) => without_rules(NONE),
@@ -139,6 +168,14 @@ fn term_need(numbers: &[usize], before: &[Needs], term: Term) -> Needs
         Term::TyBound(..) | Term::RegionBound(..) | Term::ConstBound(..) => without_rules(NONE),
         Term::FnPtr(_, _, types) => without_rules(parts_need(numbers, before, types)),
         Term::UnsafeBinder(_, body) => without_rules(need_at(before, body)),
+        Term::Object(parts, region) => {
+            without_rules(both(parts_need(numbers, before, parts), need_at(before, region)))
+        }
+        Term::Implements(_, _, args) => without_rules(parts_need(numbers, before, args)),
+        Term::Projects(_, _, args, term) => {
+            without_rules(both(need_at(before, term), parts_need(numbers, before, args)))
+        }
+        Term::IsAuto(..) => without_rules(NONE),
         _ => NONE,
     }
 }

@@ -5,12 +5,12 @@ use Rattle.std.proofs.lemmas.Option.{slice_get_within, slice_get-map}
 use Rattle.std.specs.Option.{option_map}
 use Rattle.std.proofs.Math.Seq.{get_or-append_seam}
 use Rattle.std.proofs.Math.Path.{fun_ext}
-use Rattle.relation_terms.specs.Trees.{Tree, leaf, nil, cons, known, list_tree, front, last}
-use Rattle.relation_terms.specs.Heads.{Leaf, unknown, BoundKind, bound_kind, type_kind, region_kind, const_kind}
+use Rattle.relation_terms.specs.Trees.{Tree, leaf, node, nil, cons, known, list_tree, front, last}
+use Rattle.relation_terms.specs.Heads.{Leaf, unknown, Head, BoundKind, bound_kind, type_kind, region_kind, const_kind}
 use Rattle.relation_terms.specs.declared.terms.fn_sig.FnHeader.{FnHeader}
 use Rattle.relation_terms.proofs.Binders.{last_known}
 use Rattle.std.proofs.lemmas.Bool.{and_parts}
-use Rattle.relation_terms.specs.Meaning.{Meaning, Extends, arg_tree, bound_kind_of, bound_kinds}
+use Rattle.relation_terms.specs.Meaning.{Meaning, Extends, arg_tree, term_tree as term_tree_of, object_predicate_tree, bound_kind_of, bound_kinds}
 use Rattle.relation_terms.specs.declared.terms.binder.BoundVariableKind.{BoundVariableKind}
 use Rattle.relation_terms.specs.declared.terms.binder.BoundVariableKind.TheVariants.{Ty as TyVariable}
 use Rattle.relation_terms.specs.declared.terms.binder.BoundVariableKind.TheVariants.{Region as RegionVariable}
@@ -20,11 +20,18 @@ use Rattle.relation_terms.specs.declared.terms.generic_arg.GenericArgKind.TheVar
 use Rattle.relation_terms.specs.declared.terms.keys.TyKey.{TyKey}
 use Rattle.relation_terms.specs.declared.terms.keys.ConstKey.{ConstKey}
 use Rattle.relation_terms.specs.declared.terms.keys.PatKey.{PatKey}
+use Rattle.relation_terms.specs.declared.terms.generic_arg.TermKind.{TermKind}
+use Rattle.relation_terms.specs.declared.terms.generic_arg.TermKind.TheVariants.{Ty as TyTerm, Const as ConstTerm}
+use Rattle.relation_terms.specs.declared.predicate.ExistentialPredicate.{ExistentialPredicate}
+use Rattle.relation_terms.specs.declared.terms.binder.Binder.{Binder}
+use Rattle.relation_terms.proofs.Stays.{stays_object_predicate}
+use Rattle.relation_text.specs.declared.building.inner.Inner.{Inner}
+use Rattle.relation_text.specs.declared.building.inner.Inner.TheVariants as inner
 use Rattle.relation_text.specs.declared.reading.tree.ItemSort.{ItemSort}
 use Rattle.relation_text.specs.declared.naming.program.Term.{Term}
-use Rattle.relation_text.specs.Terms.{at, leaf_of, item_tree, term_tree, trees_from, trees_of}
+use Rattle.relation_text.specs.Terms.{at, leaf_of, head_of, item_tree, term_tree, trees_from, trees_of}
 use Rattle.relation_text.specs.Terms.{with_variable, variable_of, variables_of, fn_ptr_tree}
-use Rattle.relation_text.specs.Built.{EachKnown, EachBuilt, AreBuilt, ArePatsBuilt, Makes, MakesOf, MakesTree}
+use Rattle.relation_text.specs.Built.{EachKnown, EachBuilt, AreBuilt, AreInnerBuilt, inner_tree, term_arg, Makes, MakesFrom, MakesOf, MakesTree, MakesInner}
 
 -- what stands in a list with one more at its end
 get_more : {X : Type 0} (xs : List X) (x y : X) (k : ℕ) → slice_get (xs ++ x ∷ []) k ≡ Some y → (slice_get xs k ≡ Some y) ⊎ ((k ≡ length xs) × (x ≡ y))
@@ -34,7 +41,7 @@ get_more (z ∷ zs) x y zero h = inl h
 get_more (z ∷ zs) x y (suc k) h =
     elim (get_more zs x y k h) [ inl e ↦ inl e | inr p ↦ inr (ap suc p.0, p.1) ]
 
-both_true : (a b : Bool) → IsTrue a → IsTrue b → IsTrue (a && b)
+pub both_true : (a b : Bool) → IsTrue a → IsTrue b → IsTrue (a && b)
 both_true a b h k = ap₂ (λ x y. x && y) h k
 
 rest : {A : Type 0} → List A → List A
@@ -96,6 +103,31 @@ pub consts_tree : {Key Id Name : Type 0} (m : Meaning Key Id Name) (cs : List (C
 consts_tree m [] = refl
 consts_tree m (c ∷ cs) = ap (cons (m.const_ c)) (consts_tree m cs)
 
+-- Lists of patterns and of predicates, as they are built.
+pub pats_tree : {Key Id Name : Type 0} (m : Meaning Key Id Name) (ps : List (PatKey Key)) → list_tree (inner_tree m) (map inner.Pat ps) ≡ list_tree m.pat ps
+pats_tree m [] = refl
+pats_tree m (p ∷ ps) = ap (cons (m.pat p)) (pats_tree m ps)
+
+pub predicates_tree : {Key Id Name : Type 0} (m : Meaning Key Id Name) (bs : List (Binder Key (ExistentialPredicate Key Id))) →
+    list_tree (inner_tree m) (map inner.Predicate bs) ≡ list_tree (object_predicate_tree m) bs
+predicates_tree m [] = refl
+predicates_tree m (b ∷ bs) = ap (cons (object_predicate_tree m b)) (predicates_tree m bs)
+
+-- A pattern and a predicate stay as the interner grows.
+pub inner_stays : {Key Id Name : Type 0} {m n : Meaning Key Id Name} → Extends m n → (i : Inner Key Id) → IsTrue (known (inner_tree m i)) → inner_tree n i ≡ inner_tree m i
+inner_stays e (inner.Pat p) k = e.pat p k
+inner_stays e (inner.Predicate b) k = stays_object_predicate e b k
+
+-- The tree of a term is that of the argument that it is.
+pub term_is : {Key Id Name : Type 0} (m : Meaning Key Id Name) (t : TermKind Key) → term_tree_of m t ≡ arg_tree m (term_arg t)
+term_is m (TyTerm t) = refl
+term_is m (ConstTerm c) = refl
+
+-- A head of an item that is there.
+pub head_is : {D : Type 0} (f : ℕ → Head) (h : D → ℕ) (ids : List D) (n : ℕ) (d : D) (ts us : Tree) → Some d ≡ slice_get ids n → ts ≡ us →
+    node (f (h d)) ts ≡ head_of f (slice_get (map h ids) n) us
+head_is f h ids n d ts us e p = ap₂ (head_of f) (ap (option_map h) e ∙ sym (slice_get-map h ids n)) p
+
 -- What is known stays as the interner grows.
 module _ {K : Type 0} (f g : K → Tree) (stays : (k : K) → IsTrue (known (f k)) → g k ≡ f k) (keys : List (Option K)) where
   pub known_stays : EachKnown f keys → EachKnown g keys
@@ -146,18 +178,32 @@ two_known t u h k = both_true (known t) (known (cons u nil)) h (one_known u k)
 pub tree_as : {Key Id Name : Type 0} (n : Meaning Key Id Name) (t u : Tree) (o : Option (GenericArgKind Key)) → t ≡ u → MakesTree n t o → MakesTree n u o
 tree_as n t u o e h = subst (λ z. MakesTree n z o) e h
 
+-- The same of a pattern or a predicate.
+pub inner_as : {Key Id Name : Type 0} (n : Meaning Key Id Name) (t u : Tree) (o : Option (Inner Key Id)) → t ≡ u → MakesInner n t o → MakesInner n u o
+inner_as n t u o e h = subst (λ z. MakesInner n z o) e h
+
 -- What is made of the trees that keys mean.
 pub makes : {Key Id Name : Type 0} (m n : Meaning Key Id Name) (keys : List (Option (GenericArgKind Key))) (tree : List Tree → Tree) (t : Tree) (o : Option (GenericArgKind Key)) →
     MakesTree n t o → ((trees : List Tree) → AreBuilt m trees keys → t ≡ tree trees) → Makes m n keys tree o
 makes m n keys tree t None h f = h
 makes m n keys tree t (Some k) h f = (h.0, λ trees b. h.1 ∙ f trees b)
 
+-- The same of anything that is made of keys.
+pub made_from : {Key Id Name K : Type 0} (m : Meaning Key Id Name) (keys : List (Option (GenericArgKind Key))) (tree : List Tree → Tree) (f : K → Tree) (t : Tree) (o : Option K) →
+    IfSome o (λ key. IsTrue (known (f key)) × (f key ≡ t)) → ((trees : List Tree) → AreBuilt m trees keys → t ≡ tree trees) → MakesFrom m f keys tree o
+made_from m keys tree f t None h e = h
+made_from m keys tree f t (Some k) h e = (h.0, λ trees b. h.1 ∙ e trees b)
+
 -- What is made of keys and patterns.
-module _ {Key Id Name : Type 0} (m : Meaning Key Id Name) (keys : List (Option (GenericArgKind Key))) (pats : List (Option (PatKey Key))) (tree : List Tree → Tree) where
+module _ {Key Id Name : Type 0} (m : Meaning Key Id Name) (keys : List (Option (GenericArgKind Key))) (pats : List (Option (Inner Key Id))) (tree : List Tree → Tree) where
   -- What is made of keys alone is made of them and of any patterns.
   pub makes_of : (n : Meaning Key Id Name) (o : Option (GenericArgKind Key)) → Makes m n keys tree o → MakesOf m (arg_tree n) keys pats tree o
   makes_of n None h = h
   makes_of n (Some k) h = (h.0, λ trees b p. h.1 trees b)
+
+  pub from_of : {K : Type 0} (f : K → Tree) (o : Option K) → MakesFrom m f keys tree o → MakesOf m f keys pats tree o
+  from_of f None h = h
+  from_of f (Some k) h = (h.0, λ trees b p. h.1 trees b)
 
   -- What has no parts is made of no tree.
   pub leaf_makes : (n : Meaning Key Id Name) (o : Option (GenericArgKind Key)) → ((ts : List Tree) → MakesTree n (tree ts) o) → MakesOf m (arg_tree n) keys pats tree o
@@ -166,7 +212,7 @@ module _ {Key Id Name : Type 0} (m : Meaning Key Id Name) (keys : List (Option (
 
   -- What is made means a tree that is made of those that keys and patterns mean.
   pub made_of : {K : Type 0} (f : K → Tree) (t : Tree) (o : Option K) → IfSome o (λ key. IsTrue (known (f key)) × (f key ≡ t)) →
-      ((trees : List Tree) → AreBuilt m trees keys → ArePatsBuilt m trees pats → t ≡ tree trees) → MakesOf m f keys pats tree o
+      ((trees : List Tree) → AreBuilt m trees keys → AreInnerBuilt m trees pats → t ≡ tree trees) → MakesOf m f keys pats tree o
   made_of f t None h e = h
   made_of f t (Some k) h e = (h.0, λ trees b p. h.1 ∙ e trees b p)
 
@@ -174,7 +220,7 @@ module _ {Key Id Name : Type 0} (m : Meaning Key Id Name) (keys : List (Option (
   made_known f None h = h
   made_known f (Some k) h = h.0
 
-  pub made_is : {K : Type 0} (f : K → Tree) (o : Option K) (trees : List Tree) → AreBuilt m trees keys → ArePatsBuilt m trees pats → MakesOf m f keys pats tree o → IfSome o (λ key. f key ≡ tree trees)
+  pub made_is : {K : Type 0} (f : K → Tree) (o : Option K) (trees : List Tree) → AreBuilt m trees keys → AreInnerBuilt m trees pats → MakesOf m f keys pats tree o → IfSome o (λ key. f key ≡ tree trees)
   made_is f None trees b p h = h
   made_is f (Some k) trees b p h = h.1 trees b p
 
@@ -186,8 +232,8 @@ pub none_built : {K : Type 0} (f : K → Tree) (trees : List Tree) (keys : List 
 none_built f trees keys e k key h = let p = subst (λ xs. slice_get xs k ≡ Some (Some key)) e h in absurd cc
 
 -- What is made of the next term means its tree, over ids and names as they were.
-pub step_is : {Key Id Name K : Type 0} {m p : Meaning Key Id Name} (f : K → Tree) (keys : List (Option (GenericArgKind Key))) (pats : List (Option (PatKey Key))) (o : Option K) (ids : List Id) (names : List Name) (parts : List ℕ)
-    (trees : List Tree) (x : Term) → Extends m p → AreBuilt p trees keys → ArePatsBuilt p trees pats →
+pub step_is : {Key Id Name K : Type 0} {m p : Meaning Key Id Name} (f : K → Tree) (keys : List (Option (GenericArgKind Key))) (pats : List (Option (Inner Key Id))) (o : Option K) (ids : List Id) (names : List Name) (parts : List ℕ)
+    (trees : List Tree) (x : Term) → Extends m p → AreBuilt p trees keys → AreInnerBuilt p trees pats →
     MakesOf p f keys pats (λ ts. term_tree (map p.id ids) (map p.name names) parts ts x) o → IfSome o (λ key. f key ≡ term_tree (map m.id ids) (map m.name names) parts trees x)
 step_is {m = m} {p = p} f keys pats o ids names parts trees x e b q made =
     let made_here = made_is p keys pats (λ ts. term_tree (map p.id ids) (map p.name names) parts ts x) f o trees b q made in
@@ -208,9 +254,9 @@ built_step f g keys o items names parts xs i d h same stays sure b made =
     (built_stays f g stays keys trees sure b) made)
 
 -- The keys of one kind, or the patterns, with that of the next term.
-module _ {Key Id Name : Type 0} {m p : Meaning Key Id Name} (e : Extends m p) (ids : List Id) (names : List Name) (parts : List ℕ) (keys : List (Option (GenericArgKind Key))) (pats : List (Option (PatKey Key)))
-    (xs : List Term) (i : ℕ) (d : Term) (h : i < length xs) (b : AreBuilt p (trees_of (map m.id ids) (map m.name names) parts (take i xs)) keys) (q : ArePatsBuilt p (trees_of (map m.id ids) (map m.name names) parts (take i xs)) pats) where
-  pub next_key : {K : Type 0} (f g : K → Tree) (ks ls : List (Option K)) (o : Option K) (keys_now : List (Option (GenericArgKind Key))) (pats_now : List (Option (PatKey Key))) (parts_now : List ℕ) →
+module _ {Key Id Name : Type 0} {m p : Meaning Key Id Name} (e : Extends m p) (ids : List Id) (names : List Name) (parts : List ℕ) (keys : List (Option (GenericArgKind Key))) (pats : List (Option (Inner Key Id)))
+    (xs : List Term) (i : ℕ) (d : Term) (h : i < length xs) (b : AreBuilt p (trees_of (map m.id ids) (map m.name names) parts (take i xs)) keys) (q : AreInnerBuilt p (trees_of (map m.id ids) (map m.name names) parts (take i xs)) pats) where
+  pub next_key : {K : Type 0} (f g : K → Tree) (ks ls : List (Option K)) (o : Option K) (keys_now : List (Option (GenericArgKind Key))) (pats_now : List (Option (Inner Key Id))) (parts_now : List ℕ) →
       length ks ≡ i → ((k : K) → IsTrue (known (f k)) → g k ≡ f k) → EachKnown f ks → EachBuilt f (trees_of (map m.id ids) (map m.name names) parts (take i xs)) ks →
       keys_now ≡ keys → pats_now ≡ pats → parts_now ≡ parts → ls ≡ ks ++ o ∷ [] →
       MakesOf p g keys_now pats_now (λ ts. term_tree (map p.id ids) (map p.name names) parts_now ts (get_or xs i d)) o →

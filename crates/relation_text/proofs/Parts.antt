@@ -1,7 +1,9 @@
 -- The parts of a list's tree.
 use Rattle.std.proofs.Common.{ℕ, zero, suc, ◌<◌, ◌≡◌, IsTrue, List, [], ◌∷◌, length, get_or, arith, sym, subst, subst₂}
-use Rattle.std.proofs.Common.{Option, Some, None, IsSome, refl, ◌+◌, ◌≤◌, ◌&&◌, true, false}
+use Rattle.std.proofs.Common.{Option, Some, None, IsSome, refl, ◌+◌, ◌≤◌, ◌&&◌, true, false, take, drop, slice_range}
+use Rattle.std.proofs.Common.{◌-◌}
 use Rattle.std.proofs.lemmas.Bool.{and_parts, false≢true}
+use Rattle.std.specs.Cmp.Derive.{both_true}
 use Rattle.relation_terms.specs.Heads.{BoundKind, Head}
 use Rattle.relation_terms.specs.Trees.{Tree, leaf, node, bind, nil, cons, known, size, list_tree, front, last}
 use Rattle.relation_terms.specs.Meaning.{under}
@@ -27,6 +29,40 @@ module _ {A : Type 0} (f : A → Tree) where
     subst (λ y. IsTrue (known (f y))) (sym e) (known_part xs i x h (subst (λ u. IsTrue (known u)) q k)),
     subst₂ (λ y u. size (f y) < size u) (sym e) (sym q) (size_part xs i x h),
   )
+
+  -- What stands between two places of a list that is known is known, and no larger than the list.
+  known_drop : (n : ℕ) (xs : List A) → IsTrue (known (list_tree f xs)) → IsTrue (known (list_tree f (drop n xs)))
+  known_drop zero xs k = k
+  known_drop (suc n) [] k = k
+  known_drop (suc n) (x ∷ xs) k = known_drop n xs (and_parts (known (f x)) (known (list_tree f xs)) k).1
+
+  known_take : (n : ℕ) (xs : List A) → IsTrue (known (list_tree f xs)) → IsTrue (known (list_tree f (take n xs)))
+  known_take zero xs k = refl
+  known_take (suc n) [] k = k
+  known_take (suc n) (x ∷ xs) k =
+      let h = and_parts (known (f x)) (known (list_tree f xs)) k in
+      both_true (known (f x)) (known (list_tree f (take n xs))) h.0 (known_take n xs h.1)
+
+  pub known_range : (xs : List A) (a b : ℕ) → IsTrue (known (list_tree f xs)) →
+      IsTrue (known (list_tree f (slice_range xs a b)))
+  known_range xs a b k = known_take (b - a) (drop a xs) (known_drop a xs k)
+
+  size_drop : (n : ℕ) (xs : List A) → size (list_tree f (drop n xs)) ≤ size (list_tree f xs)
+  size_drop zero xs = omega arith
+  size_drop (suc n) [] = omega arith
+  size_drop (suc n) (x ∷ xs) = let h = size_drop n xs in omega (arith, h)
+
+  size_take : (n : ℕ) (xs : List A) → size (list_tree f (take n xs)) ≤ size (list_tree f xs)
+  size_take zero [] = omega arith
+  size_take zero (x ∷ xs) = omega arith
+  size_take (suc n) [] = omega arith
+  size_take (suc n) (x ∷ xs) = let h = size_take n xs in omega (arith, h)
+
+  pub size_range : (xs : List A) (a b : ℕ) → size (list_tree f (slice_range xs a b)) ≤ size (list_tree f xs)
+  size_range xs a b =
+      let h = size_take (b - a) (drop a xs) in
+      let k = size_drop a xs in
+      omega (arith, h, k)
 
 -- A known binder is larger than its body.
 pub under_size : (o : Option (List BoundKind)) (t : Tree) → IsTrue (known (under o t)) → size t < size (under o t)

@@ -1,14 +1,21 @@
 -- What keys of terms mean.
 use Rattle.std.specs.Prelude.{◌≡◌, ℕ, List, Option, Some, IsTrue, IfSome, map, slice_get}
 use Rattle.relation_terms.specs.Trees.{Tree, known}
-use Rattle.relation_terms.specs.Meaning.{Meaning, arg_tree, kind_tree, region_tree, const_tree}
+use Rattle.relation_terms.specs.Meaning.{Meaning, arg_tree, kind_tree, region_tree, const_tree, object_predicate_tree}
 use Rattle.relation_terms.specs.declared.terms.ty_kind.TyKind.{TyKind}
 use Rattle.relation_terms.specs.declared.terms.region_kind.RegionKind.{RegionKind}
 use Rattle.relation_terms.specs.declared.terms.const_kind.ConstKind.{ConstKind}
 use Rattle.relation_terms.specs.declared.terms.generic_arg.GenericArgKind.{GenericArgKind}
+use Rattle.relation_terms.specs.declared.terms.generic_arg.GenericArgKind.TheVariants.{Ty, Const}
+use Rattle.relation_terms.specs.declared.terms.generic_arg.TermKind.{TermKind}
+use Rattle.relation_terms.specs.declared.terms.generic_arg.TermKind.TheVariants.{Ty as TyTerm, Const as ConstTerm}
 use Rattle.relation_terms.specs.declared.terms.keys.PatKey.{PatKey}
+use Rattle.relation_terms.specs.declared.terms.keys.ArgsKey.{ArgsKey}
+use Rattle.relation_text.specs.declared.building.inner.Inner.{Inner}
+use Rattle.relation_text.specs.declared.building.inner.Inner.TheVariants as inner
 use Rattle.relation_text.specs.declared.naming.program.Term.{Term}
-use Rattle.relation_text.specs.Terms.{at, term_tree}
+use Rattle.relation_text.specs.declared.reading.tree.ItemSort.{ItemSort}
+use Rattle.relation_text.specs.Terms.{at, item_tree, term_tree}
 
 -- Each key that is there is known, and means the tree of its number: keys of one kind, by the trees that they mean.
 abbrev pub EachKnown : {K : Type 0} → (K → Tree) → List (Option K) → Type 0
@@ -26,13 +33,23 @@ module _ {Key Id Name : Type 0} (m : Meaning Key Id Name) where
   abbrev pub AreBuilt : List Tree → List (Option (GenericArgKind Key)) → Type 0
   AreBuilt trees keys = EachBuilt (arg_tree m) trees keys
 
-  -- Each pattern that is there is known.
-  abbrev pub ArePatsKnown : List (Option (PatKey Key)) → Type 0
-  ArePatsKnown pats = EachKnown m.pat pats
+  -- The tree of a pattern, or of what a trait object implements.
+  abbrev pub inner_tree : Inner Key Id → Tree
+  inner_tree (inner.Pat p) = m.pat p
+  inner_tree (inner.Predicate b) = object_predicate_tree m b
 
-  -- Each pattern that is there means the tree of its number.
-  abbrev pub ArePatsBuilt : List Tree → List (Option (PatKey Key)) → Type 0
-  ArePatsBuilt trees pats = EachBuilt m.pat trees pats
+  -- Each of these that is there is known.
+  abbrev pub AreInnerKnown : List (Option (Inner Key Id)) → Type 0
+  AreInnerKnown inners = EachKnown inner_tree inners
+
+  -- Each of these that is there means the tree of its number.
+  abbrev pub AreInnerBuilt : List Tree → List (Option (Inner Key Id)) → Type 0
+  AreInnerBuilt trees inners = EachBuilt inner_tree trees inners
+
+-- A type or a constant as an argument.
+abbrev pub term_arg : {Key : Type 0} → TermKind Key → GenericArgKind Key
+term_arg (TyTerm t) = Ty t
+term_arg (ConstTerm c) = Const c
 
 -- What is made of keys, if anything is: a known key, which means what that is made of the trees that those keys mean.
 abbrev pub Makes : {Key Id Name : Type 0} → Meaning Key Id Name → Meaning Key Id Name → List (Option (GenericArgKind Key)) →
@@ -40,16 +57,22 @@ abbrev pub Makes : {Key Id Name : Type 0} → Meaning Key Id Name → Meaning Ke
 Makes m n keys tree result = IfSome result (λ key. IsTrue (known (arg_tree n key)) ×
     ((trees : List Tree) → AreBuilt m trees keys → arg_tree n key ≡ tree trees))
 
--- What is made of keys and patterns, if anything is: a known key of its kind, which means what that is made of the
--- trees that those keys and patterns mean.
-abbrev pub MakesOf : {Key Id Name K : Type 0} → Meaning Key Id Name → (K → Tree) → List (Option (GenericArgKind Key)) →
-    List (Option (PatKey Key)) → (List Tree → Tree) → Option K → Type 0
-MakesOf m key_tree keys pats tree result = IfSome result (λ key. IsTrue (known (key_tree key)) ×
-    ((trees : List Tree) → AreBuilt m trees keys → ArePatsBuilt m trees pats → key_tree key ≡ tree trees))
+-- The same of anything that is made of keys alone.
+abbrev pub MakesFrom : {Key Id Name K : Type 0} → Meaning Key Id Name → (K → Tree) → List (Option (GenericArgKind Key)) →
+    (List Tree → Tree) → Option K → Type 0
+MakesFrom m key_tree keys tree result = IfSome result (λ key. IsTrue (known (key_tree key)) ×
+    ((trees : List Tree) → AreBuilt m trees keys → key_tree key ≡ tree trees))
 
--- The pattern that is made, if one is: a known one that means that tree.
-abbrev pub MakesPattern : {Key Id Name : Type 0} → Meaning Key Id Name → Tree → Option (PatKey Key) → Type 0
-MakesPattern n tree result = IfSome result (λ pat. IsTrue (known (n.pat pat)) × (n.pat pat ≡ tree))
+-- What is made of keys, patterns and predicates, if anything is: a known one of its kind, which means what that is made
+-- of the trees that those mean.
+abbrev pub MakesOf : {Key Id Name K : Type 0} → Meaning Key Id Name → (K → Tree) → List (Option (GenericArgKind Key)) →
+    List (Option (Inner Key Id)) → (List Tree → Tree) → Option K → Type 0
+MakesOf m key_tree keys pats tree result = IfSome result (λ key. IsTrue (known (key_tree key)) ×
+    ((trees : List Tree) → AreBuilt m trees keys → AreInnerBuilt m trees pats → key_tree key ≡ tree trees))
+
+-- The pattern or the predicate that is made, if one is: a known one that means that tree.
+abbrev pub MakesInner : {Key Id Name : Type 0} → Meaning Key Id Name → Tree → Option (Inner Key Id) → Type 0
+MakesInner n tree result = IfSome result (λ i. IsTrue (known (inner_tree n i)) × (inner_tree n i ≡ tree))
 
 -- What is made, if anything is: a known key that means that tree.
 abbrev pub MakesTree : {Key Id Name : Type 0} → Meaning Key Id Name → Tree → Option (GenericArgKind Key) → Type 0
@@ -68,3 +91,14 @@ module _ (Key Id : Type 0) {Name : Type 0} (names : List Name) (x : Term) where
   abbrev pub IsConstOf : ConstKind Key Id Name → Type 0
   IsConstOf form = (m : Meaning Key Id Name) → IsTrue (known (const_tree m form)) ×
       ((items parts : List ℕ) (ts : List Tree) → const_tree m form ≡ term_tree items (map m.name names) parts ts x)
+
+-- The form is that of an item of a sort over known arguments: a type, and a constant.
+module _ (Key Id Name : Type 0) (s : ItemSort) (d : Id) (a : ArgsKey Key) where
+  abbrev pub IsItemForm : TyKind Key Id Name → Type 0
+  IsItemForm form = (m : Meaning Key Id Name) → (IsTrue (known (m.args a)) → IsTrue (known (kind_tree m form))) ×
+      (kind_tree m form ≡ item_tree s (Some (m.id d)) (m.args a))
+
+  abbrev pub IsConstItemForm : ConstKind Key Id Name → Type 0
+  IsConstItemForm form = (m : Meaning Key Id Name) →
+      (IsTrue (known (m.args a)) → IsTrue (known (const_tree m form))) ×
+      (const_tree m form ≡ item_tree s (Some (m.id d)) (m.args a))

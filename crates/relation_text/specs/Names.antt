@@ -24,6 +24,7 @@ sort_name sort.Region = codes "a region"
 sort_name sort.Type = codes "a type"
 sort_name sort.Const = codes "a constant"
 sort_name sort.Pattern = codes "a pattern"
+sort_name sort.Predicate = codes "a predicate"
 
 -- what was expected, where the text itself tells what was found
 abbrev pub expected_found : List ℕ → List ℕ → List ℕ
@@ -45,12 +46,15 @@ wrong_text found wrong.Unknown = expected_found (codes "a name that is known") f
 wrong_text found wrong.Again = expected_found (codes "a new name") found
 wrong_text found (wrong.Sort s t) = codes "expected " ++ (sort_name s ++ (codes ", found " ++ sort_name t))
 wrong_text found wrong.NoItem = expected_found (codes "an item") found
+wrong_text found wrong.NoTrait = expected_found (codes "a trait") found
+wrong_text found wrong.IsTrait = expected_found (codes "no trait") found
 wrong_text found (wrong.Count m n) = count_text m n
 wrong_text found wrong.Parameter = expected_found (codes "no parameter") found
 wrong_text found wrong.NumberType = expected_found (codes "a number of a type of numbers") found
 wrong_text found wrong.TooLarge = codes "the number is too large"
 wrong_text found wrong.TooManyVariables =
     codes "expected a variable below " ++ (decimal 10000 ++ (codes ", found `" ++ (found ++ codes "`")))
+wrong_text found wrong.Assigned = expected_found (codes "an argument") found
 wrong_text found wrong.Counted = expected_found (codes "a number alone") found
 wrong_text found wrong.Place = expected_found (codes "a place by its number") found
 wrong_text found wrong.NoTime = expected_found (codes "a number above 0") found

@@ -16,8 +16,8 @@ use Rattle.relation_text.specs.declared.reading.tree.SideParams.{SideParams}
 use Rattle.relation_text.specs.declared.reading.tree.SideParams.TheVariants as sides
 use Rattle.relation_text.specs.declared.reading.tree.Form.{Form}
 use Rattle.relation_text.specs.declared.reading.tree.Form.TheVariants as form
-use Rattle.relation_text.specs.declared.reading.terms.Rest.{Rest}
-use Rattle.relation_text.specs.declared.reading.terms.Rest.TheVariants as rest
+use Rattle.relation_text.specs.declared.reading.openings.Rest.{Rest}
+use Rattle.relation_text.specs.declared.reading.openings.Rest.TheVariants as rest
 use Rattle.relation_text.specs.declared.reading.words.Word.{Word}
 use Rattle.relation_text.specs.Words.{StandsAt}
 
@@ -46,13 +46,22 @@ spelling sign.Bar = codes "|"
 spelling sign.UpTo = codes "..="
 spelling sign.Arrow = codes "->"
 spelling sign.Dots = codes ".."
+spelling sign.Colon = codes ":"
+spelling sign.PathSep = codes "::"
 spelling sign.AbiC = codes "\"C\""
 spelling sign.AbiSystem = codes "\"system\""
 spelling sign.After = codes "after"
+spelling sign.Args = codes "args"
+spelling sign.As = codes "as"
+spelling sign.Assumptions = codes "assumptions"
+spelling sign.At = codes "at"
+spelling sign.Auto = codes "auto"
 spelling sign.Budget = codes "budget"
 spelling sign.Closure = codes "closure"
+spelling sign.Components = codes "components"
 spelling sign.Const = codes "const"
 spelling sign.Coroutine = codes "coroutine"
+spelling sign.Dyn = codes "dyn"
 spelling sign.Error = codes "error"
 spelling sign.Escapes = codes "escapes"
 spelling sign.Expr = codes "expr"
@@ -61,11 +70,16 @@ spelling sign.Fn = codes "fn"
 spelling sign.Fold = codes "fold"
 spelling sign.For = codes "for"
 spelling sign.In = codes "in"
+spelling sign.Infer = codes "infer"
 spelling sign.Infers = codes "infers"
+spelling sign.Inherent = codes "inherent"
 spelling sign.Is = codes "is"
+spelling sign.Key = codes "key"
 spelling sign.Let = codes "let"
+spelling sign.May = codes "may"
 spelling sign.Mut = codes "mut"
 spelling sign.Null = codes "null"
+spelling sign.Opaque = codes "opaque"
 spelling sign.Param = codes "param"
 spelling sign.Repeat = codes "repeat"
 spelling sign.Rigid = codes "rigid"
@@ -73,18 +87,14 @@ spelling sign.Skip = codes "skip"
 spelling sign.Stop = codes "stop"
 spelling sign.Struct = codes "struct"
 spelling sign.Then = codes "then"
+spelling sign.Trait = codes "trait"
 spelling sign.Type = codes "type"
+spelling sign.Unify = codes "unify"
 spelling sign.Unsafe = codes "unsafe"
 spelling sign.Variables = codes "variables"
 spelling sign.Visit = codes "visit"
 spelling sign.Walk = codes "walk"
 spelling sign.With = codes "with"
-spelling sign.Args = codes "args"
-spelling sign.At = codes "at"
-spelling sign.Infer = codes "infer"
-spelling sign.Key = codes "key"
-spelling sign.May = codes "may"
-spelling sign.Unify = codes "unify"
 
 -- how a question at a variance is written; none is asked at Bivariant
 abbrev pub relation_sign : Variance → Sign
@@ -122,11 +132,28 @@ sort_signs sort.Closure = sign.Closure ∷ []
 sort_signs sort.Coroutine = sign.Coroutine ∷ []
 sort_signs sort.CoroutineClosure = sign.Coroutine ∷ sign.Closure ∷ []
 sort_signs sort.Foreign = sign.Extern ∷ sign.Type ∷ []
+sort_signs sort.Trait = sign.Trait ∷ []
+sort_signs sort.AutoTrait = sign.Auto ∷ sign.Trait ∷ []
+sort_signs sort.AssocTy = sign.Type ∷ []
+sort_signs sort.AssocConst = sign.Const ∷ []
+sort_signs sort.FreeTy = sign.Type ∷ []
+sort_signs sort.FreeConst = sign.Const ∷ []
+sort_signs sort.Opaque = sign.Opaque ∷ []
+sort_signs sort.InherentTy = sign.Inherent ∷ sign.Type ∷ []
+sort_signs sort.InherentConst = sign.Inherent ∷ sign.Const ∷ []
 
 -- the words from that number on are these signs
 abbrev pub StandFrom : List Word → ℕ → List Sign → Type 0
 StandFrom ws k [] = Unit {0}
 StandFrom ws k (s ∷ ss) = StandsAt ws k s × StandFrom ws (suc k) ss
+
+-- no alias is declared by the word of that number; and no trait
+abbrev pub HasNoAliasSign : List Word → ℕ → Type 0
+HasNoAliasSign ws k = (StandsAt ws k sign.Type → ⊥) × (StandsAt ws k sign.Const → ⊥)
+    × (StandsAt ws k sign.Opaque → ⊥) × (StandsAt ws k sign.Inherent → ⊥)
+
+abbrev pub HasNoTraitSign : List Word → ℕ → Type 0
+HasNoTraitSign ws k = (StandsAt ws k sign.Trait → ⊥) × (StandsAt ws k sign.Auto → ⊥) × HasNoAliasSign ws k
 
 -- a reference's target may be changed exactly where `mut` stands
 abbrev pub IsMutability : List Word → ℕ → Mutability → Type 0
@@ -174,5 +201,7 @@ Begins ws k (rest.Nothing f) = IsWhole ws k f
 Begins ws k (rest.Pointee f) = BeginsPointer ws k f
 Begins ws k (rest.List f s) = BeginsList ws k f s
 Begins ws k (rest.Inputs s a) = StandsAt ws k sign.For ⊎ StandFrom ws k (header_signs s a)
+Begins ws k rest.Bounds = StandsAt ws k sign.Dyn
+Begins ws k rest.Associated = StandsAt ws k sign.Less
 Begins ws k rest.Brackets = StandsAt ws k sign.LeftBracket
 Begins ws k rest.Parens = StandsAt ws k sign.LeftParen

@@ -7,7 +7,9 @@ use Rattle.relation_terms.specs.Heads.{const_param, value_leaf, adt, fn_def, clo
 use Rattle.relation_terms.specs.Heads.{array, slice, tuple, raw_ptr, ref, expression, value, value_type, value_branch}
 use Rattle.relation_terms.specs.Heads.{region_kind, int_var, float_var, const_var, type_error, const_error}
 use Rattle.relation_terms.specs.Heads.{pattern_type, range_pattern, or_pattern, not_null_pattern}
-use Rattle.relation_terms.specs.Heads.{BoundKind, bound, fn_ptr, unsafe_binder, signature, inputs}
+use Rattle.relation_terms.specs.Heads.{BoundKind, bound, fn_ptr, unsafe_binder, signature, inputs, Head, dynamic, object}
+use Rattle.relation_terms.specs.Heads.{existential_trait, existential_projection, existential_auto}
+use Rattle.relation_terms.specs.Heads.{alias, unevaluated, projection_alias, inherent_alias, opaque_alias, free_alias}
 use Rattle.relation_terms.specs.Trees.{Tree, leaf, node, nil, cons, list_tree, front, last}
 use Rattle.relation_terms.specs.Meaning.{under}
 use Rattle.relation_terms.specs.declared.terms.fn_sig.FnHeader.{FnHeader}
@@ -30,7 +32,7 @@ abbrev pub leaf_of : (ℕ → Leaf) → Option ℕ → Tree
 leaf_of f None = leaf unknown
 leaf_of f (Some n) = leaf (f n)
 
--- An item of a sort over the list of its arguments; of an item that is missing, unknown.
+-- An item of a sort over the list of its arguments; of an item that is missing, and of a trait, unknown.
 abbrev pub item_tree : ItemSort → Option ℕ → Tree → Tree
 item_tree s None ts = leaf unknown
 item_tree sort.Struct (Some d) ts = node (adt d) ts
@@ -39,6 +41,23 @@ item_tree sort.Closure (Some d) ts = node (closure d) ts
 item_tree sort.Coroutine (Some d) ts = node (coroutine d) ts
 item_tree sort.CoroutineClosure (Some d) ts = node (coroutine_closure d) ts
 item_tree sort.Foreign (Some d) ts = leaf (atom (foreign d))
+item_tree sort.AssocTy (Some d) ts = node (alias projection_alias d) ts
+item_tree sort.InherentTy (Some d) ts = node (alias inherent_alias d) ts
+item_tree sort.Opaque (Some d) ts = node (alias opaque_alias d) ts
+item_tree sort.FreeTy (Some d) ts = node (alias free_alias d) ts
+item_tree sort.AssocConst (Some d) ts = node (unevaluated d) ts
+item_tree sort.FreeConst (Some d) ts = node (unevaluated d) ts
+item_tree sort.InherentConst (Some d) ts = node (unevaluated d) ts
+item_tree s (Some d) ts = leaf unknown
+
+-- A head of an item over a list; of an item that is missing, unknown.
+abbrev pub head_of : (ℕ → Head) → Option ℕ → Tree → Tree
+head_of f None ts = leaf unknown
+head_of f (Some d) ts = node (f d) ts
+
+-- A trait object over its predicates and its region.
+abbrev pub object_tree : Tree → Tree → Tree
+object_tree ps r = node dynamic (cons (node object ps) (cons r nil))
 
 -- A value of a type.
 abbrev pub value_tree : Tree → Tree → Tree
@@ -112,6 +131,13 @@ module _ (items names parts : List ℕ) where
   term_tree ts (term.ConstBound d v n) = leaf_of (λ x. bound (bound_kind const_kind x) d v) (slice_get names n)
   term_tree ts (term.FnPtr h v p) = fn_ptr_tree h (variables_of (parts_tree parts ts v)) (parts_tree parts ts p)
   term_tree ts (term.UnsafeBinder v t) = unsafe_binder_tree (variables_of (parts_tree parts ts v)) (at ts t)
+  term_tree ts (term.Object p r) = object_tree (parts_tree parts ts p) (at ts r)
+  term_tree ts (term.Implements v d p) =
+      under (variables_of (parts_tree parts ts v)) (head_of existential_trait (slice_get items d) (parts_tree parts ts p))
+  term_tree ts (term.Projects v d p t) = under (variables_of (parts_tree parts ts v))
+      (head_of existential_projection (slice_get items d) (cons (at ts t) (parts_tree parts ts p)))
+  term_tree ts (term.IsAuto v d) =
+      under (variables_of (parts_tree parts ts v)) (leaf_of (λ x. atom (existential_auto x)) (slice_get items d))
 
   -- The trees of terms that stand behind those of these trees.
   abbrev pub trees_from : List Tree → List Term → List Tree

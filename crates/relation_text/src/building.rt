@@ -5,8 +5,11 @@ ghost use Rattle.relation_text.specs.Terms.{trees_of};
 ghost use Rattle.relation_text.specs.Built.{AreKnown, AreBuilt};
 
 mod binders;
+mod inner;
+mod items;
 mod lists;
 mod making;
+mod objects;
 mod patterns;
 
 use crate::naming::Program;
@@ -14,8 +17,9 @@ pub use lists::{key_at, keys_at, ty_at};
 use making::make_either;
 use relation_terms::terms::{GenericArg, Interner, OutOfMemory};
 
-/// The keys of a program's terms, over ids of its items and names of an interner. There is none of a pattern, which is
-/// only built as a part; none of a term where a growth was refused, and none of a term over such a one.
+/// The keys of a program's terms, over ids of its items and names of an interner. There is none of a pattern and of a
+/// predicate, which are only built as parts; none of a term where a growth was refused, and none of a term over such a
+/// one.
 ///
 /// # Errors
 /// `OutOfMemory` where there is no room for the list of keys.
@@ -33,11 +37,11 @@ pub fn build<I: Interner>(
         IfOk result (λ keys. AreBuilt (I.meaning cx.new) trees keys.items) }
 {
     let mut built = Vec::with_capacity(cx.alloc(), program.terms.len())?;
-    let mut pats = Vec::with_capacity(cx.alloc(), program.terms.len())?;
+    let mut inners = Vec::with_capacity(cx.alloc(), program.terms.len())?;
     for term in &program.terms {
-        let (key, pat) = make_either(cx, ids, names, &program.parts, &built, &pats, *term);
+        let (key, inner) = make_either(cx, ids, names, &program.parts, &built, &inners, *term);
         built.push(key)?;
-        pats.push(pat)?;
+        inners.push(inner)?;
     }
     Ok(built)
 }

@@ -1,8 +1,11 @@
 //! Names are looked up: a tree of names becomes items, terms and questions.
 
+mod aliases;
 mod binders;
 mod error;
 mod namer;
+mod objects;
+mod outlives;
 mod plain;
 mod program;
 mod questions;

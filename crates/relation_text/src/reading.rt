@@ -2,6 +2,8 @@
 
 mod error;
 mod headers;
+mod openings;
+mod outlives;
 mod place;
 mod questions;
 mod quick;

@@ -182,6 +182,85 @@ fn wrong_names_are_told(rt: HostRuntime) -> Result<(), Fail> {
             "visit (for<'a> fn(&'a u8), &'a u8);",
             "1:29: expected a name that is known, found `'a`",
         ),
+        ("trait A; visit A;", "1:16: expected no trait, found `A`"),
+        (
+            "struct A; param 'a; visit dyn A + 'a;",
+            "1:31: expected a trait, found `A`",
+        ),
+        ("type u8::A;", "1:6: expected a trait, found `u8`"),
+        ("auto trait A<T>;", "1:14: expected no parameter, found `T`"),
+        (
+            "trait A; type A::B; const A::B;",
+            "1:30: expected a new name, found `B`",
+        ),
+        (
+            "trait A<T>; visit dyn A + 'static;",
+            "1:23: expected 1 argument, found 0",
+        ),
+        (
+            "trait A; visit dyn A<B = u8> + 'static;",
+            "1:22: expected a name that is known, found `B`",
+        ),
+        (
+            "trait A; const A::L; visit dyn A<L = u8> + 'static;",
+            "1:38: expected a constant, found a type",
+        ),
+        (
+            "trait A; type A::B; visit dyn A<B = u8>::B == u8 + 'static;",
+            "1:33: expected an argument, found `B = u8`",
+        ),
+        (
+            "trait A; type A::B; visit dyn A::B<B = u8> == u8 + 'static;",
+            "1:36: expected an argument, found `B = u8`",
+        ),
+        (
+            "trait A<T>; type A::B<T>; visit dyn A<u8, B = u8> + 'static;",
+            "1:43: expected 1 argument, found 0",
+        ),
+        (
+            "trait A<T>; type A::B; visit dyn A<u8>::B<u8> == u8 + 'static;",
+            "1:41: expected 0 arguments, found 1",
+        ),
+        (
+            "struct A; visit <u8 as A>::B;",
+            "1:24: expected a trait, found `A`",
+        ),
+        (
+            "trait A; visit <u8 as A>::B;",
+            "1:27: expected a name that is known, found `B`",
+        ),
+        (
+            "trait A<T>; type A::B; visit <u8 as A>::B;",
+            "1:37: expected 1 argument, found 0",
+        ),
+        (
+            "trait A; type A::B; visit <2 as A>::B;",
+            "1:28: expected a type, found a constant",
+        ),
+        (
+            "trait A; const A::B; visit [<u8 as A>::B];",
+            "1:29: expected a type, found a constant",
+        ),
+        (
+            "trait A; type A::B; visit <u8 as A<B = u8>>::B;",
+            "1:36: expected an argument, found `B = u8`",
+        ),
+        (
+            "opaque A<T>; visit A;",
+            "1:20: expected 1 argument, found 0",
+        ),
+        (
+            "const A; visit &'static A;",
+            "1:25: expected a type, found a constant",
+        ),
+        (
+            "trait A; type A::B; visit B;",
+            "1:27: expected a name that is known, found `B`",
+        ),
+        (
+            "trait A; type A::B<T>; visit dyn A::B<u8> == 2 + 'static;",
+            "1:46: expected a type, found a constant",
+        ),
         (
             "may unify[rigid, rigid] u8, u8 at 1u8;",
             "1:35: expected a number alone, found `1u8`",

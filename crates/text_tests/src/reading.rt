@@ -53,6 +53,9 @@ fn form_name(form: Form) -> &'static str {
         Form::Question(_) => "question",
         Form::Visit => "visit",
         Form::Walk => "walk",
+        Form::Components => "components",
+        Form::Assumptions => "assumptions",
+        Form::Outlives => "outlives",
         Form::Fold => "fold",
         Form::Escapes => "escapes",
         Form::Infers => "infers",
@@ -82,6 +85,12 @@ fn form_name(form: Form) -> &'static str {
         Form::Bound => "bound",
         Form::FnPtr(_) => "fn-ptr",
         Form::UnsafeBinder => "unsafe-binder",
+        Form::Object => "object",
+        Form::Implements => "implements",
+        Form::Projects => "projects",
+        Form::Named => "named",
+        Form::Assigned => "assigned",
+        Form::Associated => "associated",
     }
 }
 
@@ -206,6 +215,36 @@ fn quick_tests_are_read(rt: HostRuntime) -> Result<(), Fail> {
 }
 
 #[test]
+fn trait_objects_are_read(rt: HostRuntime) -> Result<(), Fail> {
+    let text =
+        "trait A<T>; auto trait S; type A::B<'a>; const A::L; visit dyn A<u8, L = 2> + S + 'a;";
+    let all = shown(rt.alloc(), text)?;
+    assert_eq!(rt;
+        all.as_str(),
+        "file(item(A declared(T)) item(S) item(A B declared('a)) item(A L) \
+         visit(object(implements(bound() named(A u8 assigned(L 2))) implements(bound() named(S)) 'a) terms() terms()))"
+    );
+    let all = shown(rt.alloc(), "visit dyn for<'a> A<'a>::B<T,> == u8 + '^0;")?;
+    assert_eq!(rt;
+        all.as_str(),
+        "file(visit(object(projects(bound('a) named(A 'a) named(B T) u8) '^0) terms() terms()))"
+    );
+    Ok(())
+}
+
+#[test]
+fn aliases_are_read(rt: HostRuntime) -> Result<(), Fail> {
+    let text = "opaque A<+T>; type B; inherent const C; visit <u8 as D<A, 'a>>::E<2>;";
+    let all = shown(rt.alloc(), text)?;
+    assert_eq!(rt;
+        all.as_str(),
+        "file(item(A declared(T)) item(B) item(C) \
+         visit(associated(u8 named(D A 'a) named(E 2)) terms() terms()))"
+    );
+    Ok(())
+}
+
+#[test]
 fn wrong_texts_are_refused(rt: HostRuntime) -> Result<(), Fail> {
     for (text, why) in [
         ("", "file()"),
@@ -273,6 +312,21 @@ fn wrong_texts_are_refused(rt: HostRuntime) -> Result<(), Fail> {
             "may unify[rigid, rigid] T;",
             "1:26: expected `,`, found `;`",
         ),
+        ("visit dyn A;", "1:12: expected `+`, found `;`"),
+        ("visit dyn + 'a;", "1:11: expected a name, found `+`"),
+        ("visit dyn A::B + 'a;", "1:16: expected `==`, found `+`"),
+        (
+            "visit dyn A<B = C D> + 'a;",
+            "1:19: expected `,` or `>`, found `D`",
+        ),
+        ("type A::;", "1:9: expected a name, found `;`"),
+        ("opaque A::B;", "1:9: expected `;`, found `::`"),
+        ("inherent A;", "1:10: expected `type` or `const`, found `A`"),
+        ("visit <A;", "1:9: expected `as`, found `;`"),
+        ("visit <A as B;", "1:14: expected `>`, found `;`"),
+        ("visit <A as B>;", "1:15: expected `::`, found `;`"),
+        ("visit <A as &'a B>::C;", "1:13: expected a name, found `&`"),
+        ("auto fn f;", "1:6: expected `trait`, found `fn`"),
         ("visit fn(.., u8);", "1:12: expected `)`, found `,`"),
         ("visit fn() -> ;", "1:15: expected a term, found `;`"),
     ] {

@@ -44,7 +44,7 @@ fn places_at(numbers: &[usize], parts: Parts) -> Option<&[usize]>
 }
 
 // What a binder binds, by the numbers of the terms that stand for it.
-fn variables_at<I: Interner>(
+pub(super) fn variables_at<I: Interner>(
     cx: &I,
     numbers: &[usize],
     built: &[Option<GenericArg<I>>],

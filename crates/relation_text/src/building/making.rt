@@ -3,21 +3,22 @@ ghost use Rattle.std.specs.Prelude.{◌≡◌, ℕ, List, Some, IsTrue, IfSome, 
 ghost use Rattle.relation_terms.specs.Heads.{tuple, expression, value_branch};
 ghost use Rattle.relation_terms.specs.Trees.{Tree, known, node, list_tree};
 ghost use Rattle.relation_terms.specs.Meaning.{Extends, arg_tree, kind_tree, region_tree, const_tree, valtree_tree};
-ghost use Rattle.relation_text.specs.Terms.{item_tree, value_tree, term_tree};
-ghost use Rattle.relation_text.specs.Built.{AreKnown, ArePatsKnown, Makes, MakesOf, MakesTree, IsFormOf};
-ghost use Rattle.relation_text.specs.Built.{IsRegionOf, IsConstOf};
+ghost use Rattle.relation_text.specs.Terms.{value_tree, term_tree};
+ghost use Rattle.relation_text.specs.Built.{AreKnown, AreInnerKnown, Makes, MakesOf, MakesTree, IsFormOf};
+ghost use Rattle.relation_text.specs.Built.{IsRegionOf, IsConstOf, inner_tree};
 
 use crate::building::binders::make_binder;
+use crate::building::inner::InnerOf;
+use crate::building::items::make_item;
 use crate::building::lists::{const_at, consts_of, keys_at, region_at, ty_at, tys_of};
+use crate::building::objects::{make_object, make_predicate};
 use crate::building::patterns::{make_pattern, make_pattern_type};
 use crate::naming::Term;
-use crate::reading::ItemSort;
 use relation_terms::terms::{
-    AdtId, BoundConst, BoundRegion, BoundTy, BoundVar, ClosureId, ConstForm, ConstKind, ConstVid,
-    CoroutineClosureId, CoroutineId, DebruijnIndex, EarlyParamRegion, ErrorGuaranteed, ExprKind,
-    FloatVid, ForeignId, FunctionId, GenericArg, GenericArgKind, InferConst, InferTy, IntVid,
-    Interner, ParamConst, ParamTy, Pat, Placeholder, RegionForm, RegionKind, RegionVid, Ty, TyForm,
-    TyKind, TyVid, UniverseIndex, ValTreeForm, ValTreeKind,
+    BoundConst, BoundRegion, BoundTy, BoundVar, ConstForm, ConstKind, ConstVid, DebruijnIndex,
+    EarlyParamRegion, ErrorGuaranteed, ExprKind, FloatVid, GenericArg, GenericArgKind, InferConst,
+    InferTy, IntVid, Interner, ParamConst, ParamTy, Placeholder, RegionForm, RegionKind, RegionVid,
+    Ty, TyForm, TyKind, TyVid, UniverseIndex, ValTreeForm, ValTreeKind,
 };
 
 // The type of a form.
@@ -44,7 +45,7 @@ fn make_region<I: Interner>(cx: &mut I, form: RegionForm<I>) -> Option<GenericAr
 }
 
 // The constant of a form.
-fn make_const<I: Interner>(cx: &mut I, form: ConstForm<I>) -> Option<GenericArg<I>>
+pub(super) fn make_const<I: Interner>(cx: &mut I, form: ConstForm<I>) -> Option<GenericArg<I>>
     requires { IsTrue (known (const_tree (I.meaning cx.old) form)) }
     ensures grown { Extends (I.meaning cx.old) (I.meaning cx.new) }
     ensures made { MakesTree (I.meaning cx.new) (const_tree (I.meaning cx.old) form) result }
@@ -56,7 +57,7 @@ fn make_const<I: Interner>(cx: &mut I, form: ConstForm<I>) -> Option<GenericArg<
 }
 
 // The name or the id of that number.
-fn name_at<N: Copy>(names: &[N], number: usize) -> Option<N>
+pub(super) fn name_at<N: Copy>(names: &[N], number: usize) -> Option<N>
     ensures { result ≡ slice_get names.now number }
 {
     names.get(number).copied()
@@ -152,35 +153,6 @@ fn const_leaf<I: Interner>(names: &[I::Name], term: Term) -> Option<ConstForm<I>
         }
         _ => None,
     }
-}
-
-// An item over its arguments.
-fn make_item<I: Interner>(
-    cx: &mut I,
-    sort: ItemSort,
-    id: I::Id,
-    args: &[GenericArg<I>],
-) -> Option<GenericArg<I>>
-    requires { IsTrue (known (list_tree (arg_tree (I.meaning cx.old)) args.now)) }
-    ensures grown { Extends (I.meaning cx.old) (I.meaning cx.new) }
-    ensures made { let m = I.meaning cx.old in
-        MakesTree (I.meaning cx.new) (item_tree sort (Some (m.id id)) (list_tree (arg_tree m) args.now)) result }
-{
-    if sort == ItemSort::Foreign {
-        return make_ty(cx, TyKind::Foreign(ForeignId(id)));
-    }
-    let Ok(args) = cx.mk_args(args) else {
-        return None;
-    };
-    let form = match sort {
-        ItemSort::Struct => TyKind::Adt(AdtId(id), args),
-        ItemSort::Fn => TyKind::FnDef(FunctionId(id), args),
-        ItemSort::Closure => TyKind::Closure(ClosureId(id), args),
-        ItemSort::Coroutine => TyKind::Coroutine(CoroutineId(id), args),
-        ItemSort::CoroutineClosure => TyKind::CoroutineClosure(CoroutineClosureId(id), args),
-        ItemSort::Foreign => TyKind::Foreign(ForeignId(id)),
-    };
-    make_ty(cx, form)
 }
 
 // A tuple of those members.
@@ -338,23 +310,24 @@ fn make_leaf<I: Interner>(cx: &mut I, names: &[I::Name], term: Term) -> Option<G
     make_const(cx, form)
 }
 
-// The key of a term that is no pattern. There is none where a growth was refused, or there is none of a part.
+// The key of a term that is no pattern and no predicate. There is none where a growth was refused, or there is none of
+// a part.
 fn make_term<I: Interner>(
     cx: &mut I,
     ids: &[I::Id],
     names: &[I::Name],
     numbers: &[usize],
     built: &[Option<GenericArg<I>>],
-    pats: &[Option<Pat<I>>],
+    inners: &[Option<InnerOf<I>>],
     term: Term,
 ) -> Option<GenericArg<I>>
     requires keys { AreKnown (I.meaning cx.old) built.now }
-    requires pats { ArePatsKnown (I.meaning cx.old) pats.now }
+    requires inners { AreInnerKnown (I.meaning cx.old) inners.now }
     ensures grown { Extends (I.meaning cx.old) (I.meaning cx.new) }
     ensures made { let m = I.meaning cx.old in let items = map m.id ids.now in
         let names = map m.name names.now in
         let tree = λ (ts : List Tree). term_tree items names numbers.now ts term in
-        MakesOf m (arg_tree (I.meaning cx.new)) built.now pats.now tree result }
+        MakesOf m (arg_tree (I.meaning cx.new)) built.now inners.now tree result }
 {
     match term {
         Term::Slice(_) | Term::Array(..) | Term::RawPtr(..) | Term::Ref(..) | Term::Number(..) => {
@@ -363,39 +336,46 @@ fn make_term<I: Interner>(
         Term::Item(..) | Term::Tuple(_) | Term::Branch(..) | Term::Expr(..) => {
             make_listed(cx, ids, numbers, built, term)
         }
-        Term::Pat(..) => make_pattern_type(cx, built, pats, term),
+        Term::Pat(..) => make_pattern_type(cx, built, inners, term),
+        Term::Object(..) => make_object(cx, numbers, built, inners, term),
         Term::FnPtr(..) | Term::UnsafeBinder(..) => make_binder(cx, numbers, built, term),
         _ => make_leaf(cx, names, term),
     }
 }
 
-// The key of a term, or the pattern that it is. There is neither where a growth was refused, or there is none of a
-// part.
+// The key of a term, or the pattern or the predicate that it is. There is none where a growth was refused, or there is
+// none of a part.
 pub(super) fn make_either<I: Interner>(
     cx: &mut I,
     ids: &[I::Id],
     names: &[I::Name],
     numbers: &[usize],
     built: &[Option<GenericArg<I>>],
-    pats: &[Option<Pat<I>>],
+    inners: &[Option<InnerOf<I>>],
     term: Term,
-) -> (Option<GenericArg<I>>, Option<Pat<I>>)
+) -> (Option<GenericArg<I>>, Option<InnerOf<I>>)
     requires keys { AreKnown (I.meaning cx.old) built.now }
-    requires pats { ArePatsKnown (I.meaning cx.old) pats.now }
+    requires inners { AreInnerKnown (I.meaning cx.old) inners.now }
     ensures grown { Extends (I.meaning cx.old) (I.meaning cx.new) }
     ensures key { let m = I.meaning cx.old in let items = map m.id ids.now in
         let names = map m.name names.now in
         let tree = λ (ts : List Tree). term_tree items names numbers.now ts term in
-        MakesOf m (arg_tree (I.meaning cx.new)) built.now pats.now tree result.0 }
-    ensures pattern { let m = I.meaning cx.old in let items = map m.id ids.now in
+        MakesOf m (arg_tree (I.meaning cx.new)) built.now inners.now tree result.0 }
+    ensures inner { let m = I.meaning cx.old in let items = map m.id ids.now in
         let names = map m.name names.now in
         let tree = λ (ts : List Tree). term_tree items names numbers.now ts term in
-        MakesOf m (I.meaning cx.new).pat built.now pats.now tree result.1 }
+        MakesOf m (inner_tree (I.meaning cx.new)) built.now inners.now tree result.1 }
 {
     match term {
         Term::Range(..) | Term::Or(_) | Term::NotNull => {
-            (None, make_pattern(cx, numbers, built, pats, term))
+            (None, make_pattern(cx, numbers, built, inners, term))
         }
-        _ => (make_term(cx, ids, names, numbers, built, pats, term), None),
+        Term::Implements(..) | Term::Projects(..) | Term::IsAuto(..) => {
+            (None, make_predicate(cx, ids, numbers, built, term))
+        }
+        _ => (
+            make_term(cx, ids, names, numbers, built, inners, term),
+            None,
+        ),
     }
 }

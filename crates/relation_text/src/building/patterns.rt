@@ -4,33 +4,35 @@ ghost use Rattle.relation_terms.specs.Heads.{or_pattern};
 ghost use Rattle.relation_terms.specs.Trees.{Tree, known, node, list_tree};
 ghost use Rattle.relation_terms.specs.Meaning.{Extends, arg_tree, pattern_tree};
 ghost use Rattle.relation_text.specs.Terms.{term_tree};
-ghost use Rattle.relation_text.specs.Built.{AreKnown, ArePatsKnown, MakesOf, MakesPattern};
+ghost use Rattle.relation_text.specs.Built.{AreKnown, AreInnerKnown, MakesOf, MakesInner, inner_tree};
 
+use crate::building::inner::{Inner, InnerOf, pats_of};
 use crate::building::lists::{const_at, key_at, keys_at, ty_at};
 use crate::building::making::make_ty;
 use crate::naming::Term;
-use relation_terms::terms::{GenericArg, Interner, Pat, PatternForm, PatternKind, TyKind};
+use relation_terms::terms::{GenericArg, Interner, PatternForm, PatternKind, TyKind};
 
 // The pattern of a form.
-fn make_pat<I: Interner>(cx: &mut I, form: PatternForm<I>) -> Option<Pat<I>>
+fn make_pat<I: Interner>(cx: &mut I, form: PatternForm<I>) -> Option<InnerOf<I>>
     requires { IsTrue (known (pattern_tree (I.meaning cx.old) form)) }
     ensures grown { Extends (I.meaning cx.old) (I.meaning cx.new) }
-    ensures made { MakesPattern (I.meaning cx.new) (pattern_tree (I.meaning cx.old) form) result }
+    ensures made { MakesInner (I.meaning cx.new) (pattern_tree (I.meaning cx.old) form) result }
 {
     match cx.mk_pat(form) {
-        Ok(pat) => Some(pat),
+        Ok(pat) => Some(Inner::Pat(pat)),
         Err(_) => None,
     }
 }
 
 // The pattern of alternatives.
-fn make_alternatives<I: Interner>(cx: &mut I, pats: &[Pat<I>]) -> Option<Pat<I>>
-    requires { IsTrue (known (list_tree (I.meaning cx.old).pat pats.now)) }
+fn make_alternatives<I: Interner>(cx: &mut I, inners: &[InnerOf<I>]) -> Option<InnerOf<I>>
+    requires { IsTrue (known (list_tree (inner_tree (I.meaning cx.old)) inners.now)) }
     ensures grown { Extends (I.meaning cx.old) (I.meaning cx.new) }
     ensures made { let m = I.meaning cx.old in
-        MakesPattern (I.meaning cx.new) (node or_pattern (list_tree m.pat pats.now)) result }
+        MakesInner (I.meaning cx.new) (node or_pattern (list_tree (inner_tree m) inners.now)) result }
 {
-    let Ok(alternatives) = cx.mk_alternatives(pats) else {
+    let pats = pats_of(cx.alloc(), inners)?;
+    let Ok(alternatives) = cx.mk_alternatives(&pats) else {
         return None;
     };
     make_pat(cx, PatternKind::Or(alternatives))
@@ -41,14 +43,14 @@ pub(super) fn make_pattern<I: Interner>(
     cx: &mut I,
     numbers: &[usize],
     built: &[Option<GenericArg<I>>],
-    pats: &[Option<Pat<I>>],
+    inners: &[Option<InnerOf<I>>],
     term: Term,
-) -> Option<Pat<I>>
+) -> Option<InnerOf<I>>
     requires keys { AreKnown (I.meaning cx.old) built.now }
-    requires pats { ArePatsKnown (I.meaning cx.old) pats.now }
+    requires inners { AreInnerKnown (I.meaning cx.old) inners.now }
     ensures grown { Extends (I.meaning cx.old) (I.meaning cx.new) }
     ensures made { (items names : List ℕ) → let tree = λ (ts : List Tree). term_tree items names numbers.now ts term in
-        MakesOf (I.meaning cx.old) (I.meaning cx.new).pat built.now pats.now tree result }
+        MakesOf (I.meaning cx.old) (inner_tree (I.meaning cx.new)) built.now inners.now tree result }
 {
     match term {
         Term::Range(start, end) => {
@@ -57,7 +59,7 @@ pub(super) fn make_pattern<I: Interner>(
             make_pat(cx, PatternKind::Range { start, end })
         }
         Term::Or(parts) => {
-            let list = keys_at(cx.alloc(), numbers, pats, parts)?;
+            let list = keys_at(cx.alloc(), numbers, inners, parts)?;
             make_alternatives(cx, &list)
         }
         Term::NotNull => make_pat(cx, PatternKind::NotNull),
@@ -69,19 +71,21 @@ pub(super) fn make_pattern<I: Interner>(
 pub(super) fn make_pattern_type<I: Interner>(
     cx: &mut I,
     built: &[Option<GenericArg<I>>],
-    pats: &[Option<Pat<I>>],
+    inners: &[Option<InnerOf<I>>],
     term: Term,
 ) -> Option<GenericArg<I>>
     requires keys { AreKnown (I.meaning cx.old) built.now }
-    requires pats { ArePatsKnown (I.meaning cx.old) pats.now }
+    requires inners { AreInnerKnown (I.meaning cx.old) inners.now }
     ensures grown { Extends (I.meaning cx.old) (I.meaning cx.new) }
     ensures made { (items names parts : List ℕ) → let tree = λ (ts : List Tree). term_tree items names parts ts term in
-        MakesOf (I.meaning cx.old) (arg_tree (I.meaning cx.new)) built.now pats.now tree result }
+        MakesOf (I.meaning cx.old) (arg_tree (I.meaning cx.new)) built.now inners.now tree result }
 {
     match term {
         Term::Pat(base, pat) => {
             let base = ty_at(built, base)?;
-            let pat = key_at(pats, pat)?;
+            let Inner::Pat(pat) = key_at(inners, pat)? else {
+                return None;
+            };
             make_ty(cx, TyKind::Pat(base, pat))
         }
         _ => None,

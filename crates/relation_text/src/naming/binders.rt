@@ -13,7 +13,7 @@ const STATIC: &str = "'static";
 fn is_binder(node: &Node) -> bool {
     matches!(
         node.kind,
-        NodeKind::Form(Form::FnPtr(_) | Form::UnsafeBinder)
+        NodeKind::Form(Form::FnPtr(_) | Form::UnsafeBinder | Form::Implements | Form::Projects)
     )
 }
 

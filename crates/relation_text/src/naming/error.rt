@@ -22,6 +22,11 @@ pub enum Wrong {
     Sort { expected: Sort, found: Sort },
     /// Arguments stand behind a name that is no item's.
     NoItem,
+    /// The name is no trait's, and it is one's.
+    NoTrait,
+    IsTrait,
+    /// Something is assigned where only arguments stand.
+    Assigned,
     /// The item has another number of parameters than there are arguments.
     Count { expected: usize, found: usize },
     /// A type that is defined outside the language has no parameters.
@@ -104,6 +109,7 @@ fn sort_name(sort: Sort) -> &'static str
         Sort::Type => "a type",
         Sort::Const => "a constant",
         Sort::Pattern => "a pattern",
+        Sort::Predicate => "a predicate",
     }
 }
 
@@ -135,6 +141,9 @@ fn write_wrong<W: Write>(found: &str, why: Wrong, out: &mut W) -> fmt::Result
         Wrong::Unknown => write_expected("a name that is known", found, out),
         Wrong::Again => write_expected("a new name", found, out),
         Wrong::NoItem => write_expected("an item", found, out),
+        Wrong::NoTrait => write_expected("a trait", found, out),
+        Wrong::IsTrait => write_expected("no trait", found, out),
+        Wrong::Assigned => write_expected("an argument", found, out),
         Wrong::Parameter => write_expected("no parameter", found, out),
         Wrong::NumberType => write_expected("a number of a type of numbers", found, out),
         Wrong::Counted => write_expected("a number alone", found, out),

@@ -33,6 +33,8 @@ pub(super) struct Namer<'a> {
     pub text: &'a str,
     pub tree: &'a Tree,
     pub meanings: HashMap<&'a str, Meaning>,
+    // What traits declare: the items, by the trait and the name.
+    pub associated: HashMap<(usize, &'a str), usize>,
     // The numbers of the program's names.
     pub names: HashMap<&'a str, usize>,
     // The terms that nodes were made to.
@@ -57,6 +59,7 @@ impl<'a> Namer<'a> {
             text,
             tree,
             meanings: HashMap::new(alloc),
+            associated: HashMap::new(alloc),
             names: HashMap::new(alloc),
             made: Vec::new(alloc),
             scopes: scopes_of(alloc, tree)?,

@@ -13,6 +13,8 @@ pub enum Sort {
     Const,
     /// A pattern, which stands in the types that it is of and nowhere else.
     Pattern,
+    /// What a trait object implements, which stands in it and nowhere else.
+    Predicate,
 }
 
 /// What a parameter that an item declares is given.
@@ -36,6 +38,9 @@ pub struct Declared<'a> {
 pub struct Item<'a> {
     pub sort: ItemSort,
     pub text: &'a str,
+    /// The trait that declares it, by its number, if a trait does.
+    pub of: Option<usize>,
+    /// A trait's own parameters stand without the type that implements it, and before those of what it declares.
     pub declared: Vec<Declared<'a>>,
 }
 
@@ -111,6 +116,15 @@ pub enum Term {
     FnPtr(FnHeader, Parts, Parts),
     /// A type under a binder: what the binder binds, and the type.
     UnsafeBinder(Parts, usize),
+    /// A trait object: what it implements, and its region.
+    Object(Parts, usize),
+    /// That a trait is implemented, under a binder: what the binder binds, the item, and its arguments.
+    Implements(Parts, usize, Parts),
+    /// What a trait's type or constant is, under a binder: what the binder binds, the item, its arguments, and the
+    /// term.
+    Projects(Parts, usize, Parts, usize),
+    /// That an auto trait is implemented, under a binder: what the binder binds, and the item.
+    IsAuto(Parts, usize),
 }
 
 // A derived copy matches over all forms, and takes its check as many seconds.
@@ -153,6 +167,13 @@ pub enum QuestionKind {
     Walk {
         term: usize,
         skips: Parts,
+    },
+    /// What has to outlive a region for a type to outlive it.
+    Components(usize),
+    /// What follows from terms that are assumed to outlive regions, each the one at its place in its list.
+    Assumptions {
+        terms: Parts,
+        regions: Parts,
     },
     /// What comes of a term where others are put for its parts, those of a range of the program's list.
     Fold {

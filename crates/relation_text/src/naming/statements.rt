@@ -51,7 +51,29 @@ impl<'a> Namer<'a> {
         ))
     }
 
-    // An item.
+    // The parameters that an item declares itself.
+    fn declared_all(
+        &self,
+        whole: &Node,
+        sort: ItemSort,
+        nodes: &[usize],
+    ) -> Result<Vec<Declared<'a>>, NameError> {
+        let mut declared = Vec::new(self.alloc);
+        let mut texts = HashSet::new(self.alloc);
+        for number in nodes {
+            let (leaf, parameter) = self.declared(whole, *number)?;
+            if sort == ItemSort::Foreign || sort == ItemSort::AutoTrait {
+                return Err(error_at(&leaf, Wrong::Parameter));
+            }
+            if !texts.insert(parameter.text)? {
+                return Err(error_at(&leaf, Wrong::Again));
+            }
+            declared.push(parameter)?;
+        }
+        Ok(declared)
+    }
+
+    // An item that no trait declares.
     fn declare_item(
         &mut self,
         node: &Node,
@@ -62,24 +84,47 @@ impl<'a> Namer<'a> {
             return Err(error_at(node, Wrong::NotRead));
         };
         let name = self.node(node, *first)?;
-        let mut declared = Vec::new(self.alloc);
-        let mut texts = HashSet::new(self.alloc);
-        for number in rest {
-            let (leaf, parameter) = self.declared(node, *number)?;
-            if sort == ItemSort::Foreign {
-                return Err(error_at(&leaf, Wrong::Parameter));
-            }
-            if !texts.insert(parameter.text)? {
-                return Err(error_at(&leaf, Wrong::Again));
-            }
-            declared.push(parameter)?;
-        }
+        let declared = self.declared_all(node, sort, rest)?;
         let number = self.program.items.len();
         self.declare(&name, Meaning::Item(number))?;
         let text = self.text_of(&name)?;
         self.program.items.push(Item {
             sort,
             text,
+            of: None,
+            declared,
+        })?;
+        Ok(())
+    }
+
+    // An item that a trait declares: the trait's parameters stand before its own.
+    fn declare_associated(
+        &mut self,
+        node: &Node,
+        sort: ItemSort,
+        parts: &[usize],
+    ) -> Result<(), NameError> {
+        let [of, own, rest @ ..] = parts else {
+            return Err(error_at(node, Wrong::NotRead));
+        };
+        let of = self.trait_of(node, *of)?;
+        let name = self.node(node, *own)?;
+        let text = self.text_of(&name)?;
+        let mut declared = Vec::new(self.alloc);
+        if let Some(item) = self.program.items.get(of) {
+            declared.extend_from_slice(&item.declared)?;
+        }
+        let own = self.declared_all(node, sort, rest)?;
+        declared.extend_from_slice(&own)?;
+        let number = self.program.items.len();
+        if self.associated.contains_key(&(of, text)) {
+            return Err(error_at(&name, Wrong::Again));
+        }
+        let _ = self.associated.insert((of, text), number)?;
+        self.program.items.push(Item {
+            sort,
+            text,
+            of: Some(of),
             declared,
         })?;
         Ok(())
@@ -140,6 +185,9 @@ impl<'a> Namer<'a> {
     // A statement, or a part of one.
     fn statement(&mut self, node: &Node, form: Form, parts: &[usize]) -> Result<(), NameError> {
         match (form, parts) {
+            (Form::Item(sort @ (ItemSort::AssocTy | ItemSort::AssocConst)), _) => {
+                self.declare_associated(node, sort, parts)
+            }
             (Form::Item(sort), _) => self.declare_item(node, sort, parts),
             (Form::Parameter, _) => self.declare_parameter(node, false, parts),
             (Form::ConstParameter, _) => self.declare_parameter(node, true, parts),
@@ -157,6 +205,7 @@ impl<'a> Namer<'a> {
             (Form::File | Form::Declared(_) | Form::DeclaredConst(_) | Form::Parameters, _) => {
                 Ok(())
             }
+            (Form::Implements | Form::Projects | Form::Named | Form::Assigned, _) => Ok(()),
             _ => self.question(node, form, parts),
         }
     }

@@ -1,5 +1,6 @@
 //! Terms of the tree's nodes.
 
+use crate::naming::aliases::is_trait;
 use crate::naming::error::{NameError, Wrong, error_at};
 use crate::naming::namer::{Made, Meaning, Namer};
 use crate::naming::plain::{USIZE, number_size};
@@ -8,12 +9,14 @@ use crate::naming::statements::MOST_VARIABLES;
 use crate::reading::{Form, ItemSort, Leaf, Node, NodeKind};
 use relation_terms::terms::{FnHeader, Mutability};
 
-// What the members of a list are to be: of any sort, of one, or what an item declares.
+// What the members of a list are to be: of any sort, of one, what an item declares, or a type that implements a trait and
+// then what an item of the trait declares.
 #[derive(Clone, Copy)]
-enum Wanted {
+pub(super) enum Wanted {
     Any,
     Each(Sort),
     Declared(usize),
+    Implemented(usize),
 }
 
 // What a parameter is given.
@@ -27,27 +30,39 @@ fn given_to(param: ParamSort) -> Sort {
 
 // A list of parts, and how many levels the deepest has.
 #[derive(Clone, Copy)]
-struct List {
-    parts: Parts,
-    levels: usize,
+pub(super) struct List {
+    pub parts: Parts,
+    pub levels: usize,
 }
 
 impl<'a> Namer<'a> {
+    // The sort of what an item declares at a place.
+    fn declared_at(&self, item: usize, place: usize) -> Option<Sort> {
+        let item = self.program.items.get(item)?;
+        let declared = item.declared.get(place)?;
+        Some(given_to(declared.sort))
+    }
+
     // The sort that is wanted at a place of a list.
     fn wanted_at(&self, wanted: Wanted, place: usize) -> Option<Sort> {
         match wanted {
             Wanted::Any => None,
             Wanted::Each(sort) => Some(sort),
-            Wanted::Declared(item) => {
-                let item = self.program.items.get(item)?;
-                let declared = item.declared.get(place)?;
-                Some(given_to(declared.sort))
-            }
+            Wanted::Declared(item) => self.declared_at(item, place),
+            Wanted::Implemented(item) => match place.checked_sub(1) {
+                None => Some(Sort::Type),
+                Some(place) => self.declared_at(item, place),
+            },
         }
     }
 
     // The terms of those nodes, as a list of parts.
-    fn list(&mut self, whole: &Node, nodes: &[usize], wanted: Wanted) -> Result<List, NameError> {
+    pub fn list(
+        &mut self,
+        whole: &Node,
+        nodes: &[usize],
+        wanted: Wanted,
+    ) -> Result<List, NameError> {
         let first = self.program.parts.len();
         let mut levels = 0;
         for (place, number) in nodes.iter().enumerate() {
@@ -68,7 +83,7 @@ impl<'a> Namer<'a> {
     }
 
     // The sort of an item that is given so many arguments. The node names the item, and the whole has the arguments.
-    fn item_sort(
+    pub fn item_sort(
         &self,
         whole: &Node,
         node: &Node,
@@ -85,19 +100,34 @@ impl<'a> Namer<'a> {
         Ok(item.sort)
     }
 
+    // The sort of an item that is given so many arguments, and is no trait.
+    fn type_sort(
+        &self,
+        whole: &Node,
+        node: &Node,
+        number: usize,
+        found: usize,
+    ) -> Result<ItemSort, NameError> {
+        let sort = self.item_sort(whole, node, number, found)?;
+        if is_trait(sort) {
+            return Err(error_at(node, Wrong::IsTrait));
+        }
+        Ok(sort)
+    }
+
     // An item that has no parameters.
     fn item_alone(&mut self, node: &Node, number: usize) -> Result<Made, NameError> {
-        let sort = self.item_sort(node, node, number, 0)?;
+        let sort = self.type_sort(node, node, number, 0)?;
         let first = self.program.parts.len();
         let parts = Parts {
             first,
             behind: first,
         };
-        self.add(node, Term::Item(sort, number, parts), Sort::Type, 0)
+        self.item_term(node, sort, number, parts, 0)
     }
 
     // What a name means.
-    fn meaning(&self, node: &Node) -> Result<Meaning, NameError> {
+    pub fn meaning(&self, node: &Node) -> Result<Meaning, NameError> {
         let name = self.text_of(node)?;
         match self.meanings.get(name) {
             Some(meaning) => Ok(*meaning),
@@ -285,10 +315,9 @@ impl<'a> Namer<'a> {
         let Meaning::Item(number) = self.meaning(&name)? else {
             return Err(error_at(&name, Wrong::NoItem));
         };
-        let sort = self.item_sort(node, &name, number, args.len())?;
+        let sort = self.type_sort(node, &name, number, args.len())?;
         let args = self.list(node, args, Wanted::Declared(number))?;
-        let term = Term::Item(sort, number, args.parts);
-        self.add(node, term, Sort::Type, args.levels)
+        self.item_term(node, sort, number, args.parts, args.levels)
     }
 
     // A slice.
@@ -440,6 +469,8 @@ impl<'a> Namer<'a> {
             (Form::UnsafeBinder, [variables, body]) => {
                 self.unsafe_binder(node, *variables, *body)?
             }
+            (Form::Object, _) => self.object(node, parts)?,
+            (Form::Associated, [ty, of, own]) => self.associated(node, *ty, *of, *own)?,
             _ => return Ok(None),
         };
         Ok(Some(made))

@@ -1,8 +1,8 @@
 //! How terms print.
 ghost use Rattle.std.specs.Prelude.{◌≡◌, IsTrue};
-ghost use Rattle.relation_terms.specs.Trees.{known};
+ghost use Rattle.relation_terms.specs.Trees.{known, list_tree};
 ghost use Rattle.relation_terms.specs.Meaning.{alias_id, arg_tree, under, sig_of, signature_tree, term_tree};
-ghost use Rattle.relation_terms.specs.Meaning.{existential_tree, object_predicate_tree};
+ghost use Rattle.relation_terms.specs.Meaning.{object_predicate_tree};
 
 use crate::printing::binders::{Entered, enter, write_bound, write_for, write_variables};
 use crate::printing::leaves::{
@@ -12,7 +12,9 @@ use crate::printing::names::{
     TextsOf, TraitText, abi_text, float_name, int_name, item_text, mutability_text, name_text,
     pointer_name, safety_text, trait_text, uint_name,
 };
-use relation_terms::predicate::{ExistentialPredicate, ExistentialProjection, ObjectPredicate};
+use relation_terms::predicate::{
+    ExistentialPredicate, ExistentialProjection, ExistentialTraitRef, ObjectPredicate,
+};
 use relation_terms::terms::{
     AliasTyKind, Alternatives, Binder, Const, ConstKind, ExistentialPredicates, ExprKind, FnHeader,
     FnSigTys, GenericArg, GenericArgKind, GenericArgs, Interner, Mutability, Pat, PatternKind,
@@ -270,7 +272,7 @@ fn write_unsafe_binder<I: Interner, W: Write>(
     write_operand(cx, texts, &inside, &body.value, out)
 }
 
-// Writes a trait object: `dyn for<'a> Tr<'a, T> + Tr<..>::A == U + Auto + 'r`.
+// Writes a trait object: `dyn for<'a> Tr<'a, T, A = U> + Tr<..>::B<..> == V + Auto + 'r`.
 #[cycle(write_ty)]
 #[tactic(auto, using(crate::proofs::Parts::size_part, crate::proofs::Parts::known_part))]
 fn write_object<I: Interner, W: Write>(
@@ -292,9 +294,10 @@ fn write_object<I: Interner, W: Write>(
     write_region(cx, texts, around, region, out)
 }
 
-// Writes the predicates of a trait object, with `+` between.
+// Writes the predicates of a trait object, with `+` between. What an associated item of a trait is stands in the trait's
+// brackets where it can.
 #[cycle(write_ty)]
-#[tactic(auto, using(crate::proofs::Parts::size_part, crate::proofs::Parts::known_part))]
+#[tactic(auto, using(crate::proofs::Parts::known_range, crate::proofs::Parts::size_range))]
 fn write_object_predicates<I: Interner, W: Write>(
     cx: &I,
     texts: &TextsOf<I>,
@@ -305,55 +308,125 @@ fn write_object_predicates<I: Interner, W: Write>(
     requires { IsTrue (known ((I.meaning cx.now).existential_predicates predicates.now)) }
 {
     let list = cx.existential_predicates(predicates);
+    let mut written = 0;
     for (place, predicate) in list.iter().enumerate() {
-        if place > 0 {
-            out.write_str(" + ")?;
+        if place >= written {
+            if place > 0 {
+                out.write_str(" + ")?;
+            }
+            let behind = list.get(place.saturating_add(1)..).unwrap_or(&[]);
+            let assigned = assigned_count(cx, predicate, behind);
+            written = place.saturating_add(1).saturating_add(assigned);
+            let bound = list.get(place..written).unwrap_or(&[]);
+            write_object_bound(cx, texts, around, bound, out)?;
         }
-        write_object_predicate(&*cx, &*texts, &*around, *predicate, out)?;
     }
     Ok(())
 }
 
-// Writes a predicate of a trait object, under its binder.
-#[cycle(write_ty)]
-#[tactic(auto, using(relation_terms::proofs::Binders::under_known, crate::proofs::Parts::under_size))]
-fn write_object_predicate<I: Interner, W: Write>(
+// How many predicates behind one say what associated items of its trait are, over its arguments and under its binder.
+fn assigned_count<I: Interner>(
     cx: &I,
-    texts: &TextsOf<I>,
-    around: &[Entered],
-    predicate: ObjectPredicate<I>,
-    out: &mut W,
-) -> fmt::Result
-    requires { IsTrue (known (object_predicate_tree (I.meaning cx.now) predicate)) }
-{
-    let vars = cx.bound_vars(&predicate.bound_vars);
-    write_for(vars, around, out)?;
-    let inside = enter(cx.alloc(), around, vars.len())?;
-    write_existential(cx, texts, &inside, &predicate.value, out)
+    of: &ObjectPredicate<I>,
+    behind: &[ObjectPredicate<I>],
+) -> usize {
+    for (count, next) in behind.iter().enumerate() {
+        if !is_assigned(cx, of, next) {
+            return count;
+        }
+    }
+    behind.len()
 }
 
-// Writes what a trait object implements.
+// Whether a predicate says what an associated item of another's trait is, over its arguments and under its binder.
+fn is_assigned<I: Interner>(cx: &I, of: &ObjectPredicate<I>, next: &ObjectPredicate<I>) -> bool {
+    match (of.value, next.value) {
+        (ExistentialPredicate::Trait(of_trait), ExistentialPredicate::Projection(item)) => {
+            of.bound_vars == next.bound_vars
+                && of_trait.args == item.args
+                && cx.projection_parent(&item.def_id) == Some(of_trait.def_id)
+        }
+        _ => false,
+    }
+}
+
+// Writes a predicate of a trait object, under its binder, and those that stand in its brackets.
 #[cycle(write_ty)]
-#[tactic(auto, using(crate::proofs::Parts::size_part, crate::proofs::Parts::known_part))]
-fn write_existential<I: Interner, W: Write>(
+#[tactic(auto, using(relation_terms::proofs::Binders::under_known, crate::proofs::Parts::under_size))]
+fn write_object_bound<I: Interner, W: Write>(
     cx: &I,
     texts: &TextsOf<I>,
     around: &[Entered],
-    predicate: &ExistentialPredicate<I::Key, I::Id>,
+    bound: &[ObjectPredicate<I>],
     out: &mut W,
 ) -> fmt::Result
-    requires { IsTrue (known (existential_tree (I.meaning cx.now) predicate.now)) }
+    requires { IsTrue (known (list_tree (object_predicate_tree (I.meaning cx.now)) bound.now)) }
 {
-    match predicate {
-        ExistentialPredicate::Trait(of) => {
-            let name = item_text(texts.items, &of.def_id.0);
-            let count = cx.args(&of.args).len();
-            write_named(cx, texts, around, name, &of.args, 0, count, out)
-        }
-        ExistentialPredicate::Projection(of) => write_projection(cx, texts, around, of, out),
+    let Some((first, assigned)) = bound.split_first() else {
+        return Ok(());
+    };
+    let vars = cx.bound_vars(&first.bound_vars);
+    write_for(vars, around, out)?;
+    let inside = enter(cx.alloc(), around, vars.len())?;
+    match &first.value {
+        ExistentialPredicate::Trait(of) => write_trait(cx, texts, &inside, of, assigned, out),
+        ExistentialPredicate::Projection(of) => write_projection(cx, texts, &inside, of, out),
         ExistentialPredicate::AutoTrait(def_id) => {
             out.write_str(item_text(texts.items, &def_id.0))
         }
+    }
+}
+
+// Writes a trait over its arguments, and what its associated items are behind them: `Tr<T, A = U>`.
+#[cycle(write_ty)]
+#[tactic(auto, using(crate::proofs::Parts::size_part, crate::proofs::Parts::known_part))]
+fn write_trait<I: Interner, W: Write>(
+    cx: &I,
+    texts: &TextsOf<I>,
+    around: &[Entered],
+    of: &ExistentialTraitRef<I::Key, I::Id>,
+    assigned: &[ObjectPredicate<I>],
+    out: &mut W,
+) -> fmt::Result
+    requires args { IsTrue (known ((I.meaning cx.now).args (of.now).args)) }
+    requires assigned { IsTrue (known (list_tree (object_predicate_tree (I.meaning cx.now)) assigned.now)) }
+{
+    out.write_str(item_text(texts.items, &of.def_id.0))?;
+    let count = cx.args(&of.args).len();
+    if count == 0 && assigned.is_empty() {
+        return Ok(());
+    }
+    out.write_str("<")?;
+    write_args(cx, texts, around, &of.args, 0, count, out)?;
+    for (place, predicate) in assigned.iter().enumerate() {
+        if place > 0 || count > 0 {
+            out.write_str(", ")?;
+        }
+        write_assigned(cx, texts, around, predicate, out)?;
+    }
+    out.write_str(">")
+}
+
+// Writes what an associated item is, in the brackets of its trait: `A = U`.
+#[cycle(write_ty)]
+#[tactic(auto, using(relation_terms::proofs::Binders::under_known, crate::proofs::Parts::under_size))]
+fn write_assigned<I: Interner, W: Write>(
+    cx: &I,
+    texts: &TextsOf<I>,
+    around: &[Entered],
+    predicate: &ObjectPredicate<I>,
+    out: &mut W,
+) -> fmt::Result
+    requires { IsTrue (known (object_predicate_tree (I.meaning cx.now) predicate.now)) }
+{
+    let ExistentialPredicate::Projection(of) = predicate.value else {
+        return Ok(());
+    };
+    out.write_str(item_text(texts.items, &of.def_id.0))?;
+    out.write_str(" = ")?;
+    match of.term {
+        TermKind::Ty(ty) => write_ty(cx, texts, around, &ty, out),
+        TermKind::Const(constant) => write_const(cx, texts, around, &constant, out),
     }
 }
 

@@ -1,15 +1,15 @@
 //! How binders are read, and what stands before the inputs of a function pointer.
-ghost use Rattle.std.specs.Prelude.{◌≡◌, ◌<◌, ◌≤◌, ◌↔◌, IfOk, IfErr, OnOk};
+ghost use Rattle.std.specs.Prelude.{◌≡◌, ◌<◌, ◌≤◌, ◌↔◌, IfOk, IfErr, OnOk, length};
 ghost use Rattle.relation_text.specs.Errors.{LiesIn};
 ghost use Rattle.relation_text.specs.Words.{StandsAt};
 ghost use Rattle.relation_text.specs.Signs.{abi_signs, StandFrom};
-ghost use Rattle.relation_text.specs.Reads.{GoesOn, Makes};
+ghost use Rattle.relation_text.specs.Reads.{GoesOn, AddsRoots, Makes};
 
 use crate::reading::error::{Expected, ReadError};
 use crate::reading::reader::Reader;
 use crate::reading::signs::Sign;
 use crate::reading::tree::Form;
-use crate::reading::words::WordKind;
+use crate::reading::words::{Leaf, WordKind};
 use relation_terms::terms::{ExternAbi, Safety};
 
 // Reads a variable of a binder. A constant may have `const` before it.
@@ -45,6 +45,39 @@ pub(super) fn read_variables(reader: &mut Reader) -> Result<usize, ReadError>
         }
     }
     reader.make(Form::Bound, start, &parts)
+}
+
+// Reads the binder of a bound, behind `for`, or the one that is left out.
+pub(super) fn read_for(reader: &mut Reader) -> Result<usize, ReadError>
+    ensures goes { GoesOn reader.old reader.new }
+    ensures there { IfOk result (λ n. n < length reader.new.tree.nodes.items) }
+    ensures node { OnOk result (AddsRoots 1 reader.old.tree reader.new.tree) }
+    ensures wrong { IfErr result (LiesIn reader.old.tree.text_len) }
+{
+    if reader.accept(Sign::For) {
+        return read_variables(reader);
+    }
+    let start = reader.place();
+    reader.make(Form::Bound, start, &[])
+}
+
+// Whether a region is next.
+pub(super) fn is_region_next(reader: &Reader) -> bool {
+    matches!(
+        reader.peek(),
+        Some(WordKind::Leaf(
+            Leaf::Lifetime
+                | Leaf::RegionVar(_)
+                | Leaf::RegionPlaceholder { .. }
+                | Leaf::OuterRegion { .. }
+        ))
+    )
+}
+
+// Whether a name is next that something is assigned to.
+pub(super) fn is_assignment_next(reader: &Reader) -> bool {
+    reader.peek() == Some(WordKind::Leaf(Leaf::Name))
+        && reader.peek_behind() == Some(WordKind::Sign(Sign::Assign))
 }
 
 // Whether a function pointer without a binder and without `unsafe` begins next.

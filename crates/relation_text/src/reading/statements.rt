@@ -2,8 +2,9 @@
 ghost use Rattle.std.specs.Prelude.{◌≡◌, ◌+◌, ◌<◌, ◌≤◌, ◌↔◌, Err, Some, IfSome, IfNone, IfOk, IfErr, OnOk, length, suc};
 ghost use Rattle.relation_text.specs.Errors.{LiesIn};
 ghost use Rattle.relation_text.specs.Words.{StandsAt};
-ghost use Rattle.relation_text.specs.Signs.{sort_signs, StandFrom};
-ghost use Rattle.relation_text.specs.Reads.{GoesOn, AddsRoots, Makes, IsReadFrom};
+ghost use Rattle.relation_text.specs.Trees.{EachBelow};
+ghost use Rattle.relation_text.specs.Signs.{sort_signs, StandFrom, HasNoAliasSign, HasNoTraitSign};
+ghost use Rattle.relation_text.specs.Reads.{GoesOn, AddsRoots, CollectsMore, Makes, IsReadFrom};
 ghost use Rattle.relation_text.specs.declared.reading.error.ReadError.TheVariants.{TooLong};
 
 use crate::reading::error::{Expected, ReadError};
@@ -19,6 +20,61 @@ use std::alloc::Global;
 
 /// How many bytes a text may have: 1 MiB.
 pub const LONGEST: usize = 1_048_576;
+
+// The sort of item that is declared next, if that is an alias. What a trait declares is told apart behind its name.
+fn read_alias_sort(reader: &mut Reader) -> Result<Option<ItemSort>, ReadError>
+    ensures sort { IfOk result (λ o. IfSome o (λ s. StandFrom reader.old.words.items reader.old.at (sort_signs s))) }
+    ensures over { IfOk result (λ o. IfSome o (λ s. reader.new.at ≡ reader.old.at + length (sort_signs s))) }
+    ensures alone { IfOk result (λ o. o ≡ Some ItemSort.Coroutine → ⊥) }
+    ensures none { IfOk result (λ o. IfNone o (HasNoAliasSign reader.old.words.items reader.old.at)) }
+    ensures stays { IfOk result (λ o. IfNone o (reader.new.at ≡ reader.old.at)) }
+    ensures words { reader.new.words ≡ reader.old.words }
+    ensures tree { reader.new.tree ≡ reader.old.tree }
+    ensures later { reader.old.at ≤ reader.new.at }
+    ensures wrong { IfErr result (LiesIn reader.old.tree.text_len) }
+{
+    if reader.accept(Sign::Type) {
+        return Ok(Some(ItemSort::FreeTy));
+    }
+    if reader.accept(Sign::Const) {
+        return Ok(Some(ItemSort::FreeConst));
+    }
+    if reader.accept(Sign::Opaque) {
+        return Ok(Some(ItemSort::Opaque));
+    }
+    if !reader.accept(Sign::Inherent) {
+        return Ok(None);
+    }
+    if reader.accept(Sign::Type) {
+        return Ok(Some(ItemSort::InherentTy));
+    }
+    if reader.accept(Sign::Const) {
+        return Ok(Some(ItemSort::InherentConst));
+    }
+    Err(reader.unexpected(Expected::Either(Sign::Type, Sign::Const)))
+}
+
+// The sort of item that is declared next, if that is a trait or an alias.
+fn read_trait_sort(reader: &mut Reader) -> Result<Option<ItemSort>, ReadError>
+    ensures sort { IfOk result (λ o. IfSome o (λ s. StandFrom reader.old.words.items reader.old.at (sort_signs s))) }
+    ensures over { IfOk result (λ o. IfSome o (λ s. reader.new.at ≡ reader.old.at + length (sort_signs s))) }
+    ensures alone { IfOk result (λ o. o ≡ Some ItemSort.Coroutine → ⊥) }
+    ensures none { IfOk result (λ o. IfNone o (HasNoTraitSign reader.old.words.items reader.old.at)) }
+    ensures stays { IfOk result (λ o. IfNone o (reader.new.at ≡ reader.old.at)) }
+    ensures words { reader.new.words ≡ reader.old.words }
+    ensures tree { reader.new.tree ≡ reader.old.tree }
+    ensures later { reader.old.at ≤ reader.new.at }
+    ensures wrong { IfErr result (LiesIn reader.old.tree.text_len) }
+{
+    if reader.accept(Sign::Trait) {
+        return Ok(Some(ItemSort::Trait));
+    }
+    if reader.accept(Sign::Auto) {
+        reader.expect(Sign::Trait)?;
+        return Ok(Some(ItemSort::AutoTrait));
+    }
+    read_alias_sort(reader)
+}
 
 // The sort of item that is declared next.
 fn read_sort(reader: &mut Reader) -> Result<Option<ItemSort>, ReadError>
@@ -53,7 +109,7 @@ fn read_sort(reader: &mut Reader) -> Result<Option<ItemSort>, ReadError>
         reader.expect(Sign::Type)?;
         return Ok(Some(ItemSort::Foreign));
     }
-    Ok(None)
+    read_trait_sort(reader)
 }
 
 // How a parameter that an item declares varies.
@@ -94,6 +150,40 @@ fn read_declared(reader: &mut Reader) -> Result<usize, ReadError>
     reader.make(Form::Declared(variance), start, &[name])
 }
 
+// What a trait declares where an item of that sort is declared alone.
+fn declared_sort(sort: ItemSort) -> Option<ItemSort>
+    ensures { IfSome result (λ s. sort_signs s ≡ sort_signs sort) }
+{
+    match sort {
+        ItemSort::FreeTy => Some(ItemSort::AssocTy),
+        ItemSort::FreeConst => Some(ItemSort::AssocConst),
+        _ => None,
+    }
+}
+
+// Reads the name of what a trait declares behind the trait's, if one stands there, and answers the sort of the item.
+fn read_own(
+    reader: &mut Reader,
+    parts: &mut Vec<usize>,
+    sort: ItemSort,
+) -> Result<ItemSort, ReadError>
+    requires { EachBelow parts.old.items (length reader.old.tree.nodes.items) }
+    ensures sort { IfOk result (λ s. sort_signs s ≡ sort_signs sort) }
+    ensures goes { GoesOn reader.old reader.new }
+    ensures parts { OnOk result (CollectsMore reader.old reader.new parts.old.items parts.new.items) }
+    ensures wrong { IfErr result (LiesIn reader.old.tree.text_len) }
+{
+    let Some(declared) = declared_sort(sort) else {
+        return Ok(sort);
+    };
+    if !reader.accept(Sign::PathSep) {
+        return Ok(sort);
+    }
+    let own = reader.take(Expected::Name)?;
+    parts.push(own)?;
+    Ok(declared)
+}
+
 // Reads an item, behind what says its sort.
 fn read_item(reader: &mut Reader, start: usize, sort: ItemSort) -> Result<usize, ReadError>
     requires { start ≤ reader.old.tree.text_len }
@@ -104,6 +194,7 @@ fn read_item(reader: &mut Reader, start: usize, sort: ItemSort) -> Result<usize,
     let mut parts = Vec::new(reader.alloc);
     let name = reader.take(Expected::Name)?;
     parts.push(name)?;
+    let sort = read_own(reader, &mut parts, sort)?;
     if reader.accept(Sign::Less) {
         'list: while !reader.accept(Sign::Greater) {
             let declared = read_declared(reader)?;

@@ -1,193 +1,20 @@
 //! How terms are read.
-ghost use Rattle.std.specs.Prelude.{◌≡◌, ◌≤◌, ◌↔◌, IfOk, IfErr, OnOk, length};
+ghost use Rattle.std.specs.Prelude.{◌≡◌, IfOk, IfErr, OnOk, length};
 ghost use Rattle.relation_text.specs.Errors.{LiesIn};
 ghost use Rattle.relation_text.specs.Trees.{EachBelow};
-ghost use Rattle.relation_text.specs.Words.{StandsAt};
-ghost use Rattle.relation_text.specs.Signs.{pointer_sign, IsMutability, IsReference, InBraces, BehindUnsafe, Begins};
 ghost use Rattle.relation_text.specs.Reads.{GoesOn, Makes, Collects, CollectsMore};
 
 use crate::reading::error::{Expected, ReadError};
-use crate::reading::headers::{is_abi_next, read_abi, read_safety, read_variables};
+use crate::reading::headers::{is_assignment_next, is_region_next, read_for};
+use crate::reading::openings::{Rest, open};
 use crate::reading::reader::Reader;
 use crate::reading::signs::Sign;
 use crate::reading::tree::Form;
 use crate::reading::words::{Leaf, WordKind};
-use relation_terms::terms::{ExternAbi, FnHeader, Mutability, Safety};
+use relation_terms::terms::{ExternAbi, FnHeader, Safety};
 
 /// How many levels a term may have.
 pub(super) const LEVELS: usize = 1000;
-
-// What is still to be read of a term whose beginning was read.
-#[derive(Clone, Copy)]
-enum Rest {
-    // Nothing: the term is that form, of what was read.
-    Nothing(Form),
-    // The type that a pointer of that form leads to.
-    Pointee(Form),
-    // A list up to that sign, the further parts of that form.
-    List(Form, Sign),
-    // The inputs of a function pointer that is called so, and its output.
-    Inputs(Safety, ExternAbi),
-    // What stands in brackets.
-    Brackets,
-    // What stands in parentheses.
-    Parens,
-}
-
-// Reads whether a raw pointer's target may be changed, behind its `*`.
-fn read_pointer(reader: &mut Reader) -> Result<Mutability, ReadError>
-    ensures mutability { IfOk result (λ m. StandsAt reader.old.words.items reader.old.at (pointer_sign m)) }
-    ensures words { reader.new.words ≡ reader.old.words }
-    ensures tree { reader.new.tree ≡ reader.old.tree }
-    ensures later { reader.old.at ≤ reader.new.at }
-    ensures wrong { IfErr result (LiesIn reader.old.tree.text_len) }
-{
-    if reader.accept(Sign::Const) {
-        return Ok(Mutability::Not);
-    }
-    if reader.accept(Sign::Mut) {
-        return Ok(Mutability::Mut);
-    }
-    Err(reader.unexpected(Expected::Either(Sign::Const, Sign::Mut)))
-}
-
-// Reads whether a reference's target may be changed, behind its region.
-fn read_mutability(reader: &mut Reader) -> Mutability
-    ensures mutable { IsMutability reader.old.words.items reader.old.at result }
-    ensures words { reader.new.words ≡ reader.old.words }
-    ensures tree { reader.new.tree ≡ reader.old.tree }
-    ensures later { reader.old.at ≤ reader.new.at }
-{
-    if reader.accept(Sign::Mut) {
-        Mutability::Mut
-    } else {
-        Mutability::Not
-    }
-}
-
-// Reads the beginning of a reference, behind its `&`.
-fn open_reference(reader: &mut Reader, parts: &mut Vec<usize>) -> Result<Rest, ReadError>
-    requires { EachBelow parts.old.items (length reader.old.tree.nodes.items) }
-    ensures reference { IfOk result (IsReference reader.old.words.items reader.old.at) }
-    ensures goes { GoesOn reader.old reader.new }
-    ensures parts { OnOk result (Collects reader.old reader.new parts.old.items parts.new.items) }
-    ensures wrong { IfErr result (LiesIn reader.old.tree.text_len) }
-{
-    let region = reader.take(Expected::Region)?;
-    parts.push(region)?;
-    let mutability = read_mutability(reader);
-    Ok(Rest::Pointee(Form::Ref(mutability)))
-}
-
-// Reads the beginning of an expression, behind its `expr`.
-fn open_expression(reader: &mut Reader, parts: &mut Vec<usize>) -> Result<Rest, ReadError>
-    requires { EachBelow parts.old.items (length reader.old.tree.nodes.items) }
-    ensures list { IfOk result (λ r. r ≡ Rest.List Form.Expr Sign.RightParen) }
-    ensures goes { GoesOn reader.old reader.new }
-    ensures parts { OnOk result (Collects reader.old reader.new parts.old.items parts.new.items) }
-    ensures wrong { IfErr result (LiesIn reader.old.tree.text_len) }
-{
-    let number = reader.take(Expected::Number)?;
-    parts.push(number)?;
-    reader.expect(Sign::LeftParen)?;
-    Ok(Rest::List(Form::Expr, Sign::RightParen))
-}
-
-// Reads the beginning of a term in braces, behind the first.
-fn open_braces(reader: &mut Reader) -> Result<Rest, ReadError>
-    ensures braces { IfOk result (InBraces reader.old.words.items reader.old.at) }
-    ensures words { reader.new.words ≡ reader.old.words }
-    ensures tree { reader.new.tree ≡ reader.old.tree }
-    ensures later { reader.old.at ≤ reader.new.at }
-    ensures wrong { IfErr result (LiesIn reader.old.tree.text_len) }
-{
-    if reader.accept(Sign::Error) {
-        reader.expect(Sign::RightBrace)?;
-        return Ok(Rest::Nothing(Form::Error));
-    }
-    Ok(Rest::List(Form::Branch, Sign::RightBrace))
-}
-
-// Reads the beginning of a term that begins with `unsafe`, behind it: a binder, or the binder that is left out.
-fn open_unsafe(reader: &mut Reader, parts: &mut Vec<usize>) -> Result<Rest, ReadError>
-    requires { EachBelow parts.old.items (length reader.old.tree.nodes.items) }
-    ensures begins { IfOk result (BehindUnsafe reader.old.words.items reader.old.at) }
-    ensures goes { GoesOn reader.old reader.new }
-    ensures parts { OnOk result (Collects reader.old reader.new parts.old.items parts.new.items) }
-    ensures wrong { IfErr result (LiesIn reader.old.tree.text_len) }
-{
-    if reader.peek() == Some(WordKind::Sign(Sign::Less)) {
-        let variables = read_variables(reader)?;
-        parts.push(variables)?;
-        return Ok(Rest::Pointee(Form::UnsafeBinder));
-    }
-    let start = reader.place();
-    let none = reader.make(Form::Bound, start, &[])?;
-    parts.push(none)?;
-    let abi = read_abi(reader)?;
-    Ok(Rest::Inputs(Safety::Unsafe, abi))
-}
-
-// Reads the beginning of a term that begins with a binder, or with a function pointer whose binder is left out.
-fn open_binder(reader: &mut Reader, parts: &mut Vec<usize>) -> Result<Rest, ReadError>
-    requires { EachBelow parts.old.items (length reader.old.tree.nodes.items) }
-    ensures begins { IfOk result (Begins reader.old.words.items reader.old.at) }
-    ensures goes { GoesOn reader.old reader.new }
-    ensures parts { OnOk result (Collects reader.old reader.new parts.old.items parts.new.items) }
-    ensures wrong { IfErr result (LiesIn reader.old.tree.text_len) }
-{
-    if reader.accept(Sign::For) {
-        let variables = read_variables(reader)?;
-        parts.push(variables)?;
-        let safety = read_safety(reader);
-        let abi = read_abi(reader)?;
-        return Ok(Rest::Inputs(safety, abi));
-    }
-    if reader.accept(Sign::Unsafe) {
-        return open_unsafe(reader, parts);
-    }
-    if !is_abi_next(reader) {
-        return Err(reader.unexpected(Expected::Term));
-    }
-    let start = reader.place();
-    let none = reader.make(Form::Bound, start, &[])?;
-    parts.push(none)?;
-    let abi = read_abi(reader)?;
-    Ok(Rest::Inputs(Safety::Safe, abi))
-}
-
-// Reads the beginning of a term that begins with a sign, with the parts that stand there.
-fn open(reader: &mut Reader, parts: &mut Vec<usize>) -> Result<Rest, ReadError>
-    requires { EachBelow parts.old.items (length reader.old.tree.nodes.items) }
-    ensures begins { IfOk result (Begins reader.old.words.items reader.old.at) }
-    ensures goes { GoesOn reader.old reader.new }
-    ensures parts { OnOk result (Collects reader.old reader.new parts.old.items parts.new.items) }
-    ensures wrong { IfErr result (LiesIn reader.old.tree.text_len) }
-{
-    if reader.accept(Sign::Bang) {
-        return Ok(Rest::Nothing(Form::Never));
-    }
-    if reader.accept(Sign::LeftBracket) {
-        return Ok(Rest::Brackets);
-    }
-    if reader.accept(Sign::LeftParen) {
-        return Ok(Rest::Parens);
-    }
-    if reader.accept(Sign::LeftBrace) {
-        return open_braces(reader);
-    }
-    if reader.accept(Sign::Star) {
-        let mutability = read_pointer(reader)?;
-        return Ok(Rest::Pointee(Form::RawPtr(mutability)));
-    }
-    if reader.accept(Sign::Ampersand) {
-        return open_reference(reader, parts);
-    }
-    if reader.accept(Sign::Expr) {
-        return open_expression(reader, parts);
-    }
-    open_binder(reader, parts)
-}
 
 // Reads a list of terms, and the sign behind it. Answers whether it ended in a comma or was empty.
 #[cycle(terms)]
@@ -315,6 +142,114 @@ fn read_brackets(
     Ok(Form::Array)
 }
 
+// Reads an argument of a trait, or what a type or a constant of the trait is.
+#[cycle(terms)]
+fn read_argument(reader: &mut Reader, levels: usize) -> Result<usize, ReadError>
+    ensures goes { GoesOn reader.old reader.new }
+    ensures node { IfOk result (Makes reader.old reader.new) }
+    ensures wrong { IfErr result (LiesIn reader.old.tree.text_len) }
+{
+    if !is_assignment_next(reader) {
+        return read_term(reader, levels);
+    }
+    let start = reader.place();
+    let name = reader.take(Expected::Name)?;
+    reader.expect(Sign::Assign)?;
+    let term = read_term(reader, levels)?;
+    reader.make(Form::Assigned, start, &[name, term])
+}
+
+// Reads the name of a trait, or of what one declares, and what is given to it.
+#[cycle(terms)]
+fn read_named(reader: &mut Reader, levels: usize) -> Result<usize, ReadError>
+    ensures goes { GoesOn reader.old reader.new }
+    ensures node { IfOk result (Makes reader.old reader.new) }
+    ensures wrong { IfErr result (LiesIn reader.old.tree.text_len) }
+{
+    let mut parts = Vec::new(reader.alloc);
+    let start = reader.place();
+    let name = reader.take(Expected::Name)?;
+    parts.push(name)?;
+    if reader.accept(Sign::Less) {
+        'list: while !reader.accept(Sign::Greater) {
+            let argument = read_argument(reader, levels)?;
+            parts.push(argument)?;
+            if reader.accept(Sign::Greater) {
+                break;
+            }
+            if !reader.accept(Sign::Comma) {
+                return Err(reader.unexpected(Expected::CommaOr(Sign::Greater)));
+            }
+        }
+    }
+    reader.make(Form::Named, start, &parts)
+}
+
+// Reads a bound of a trait object.
+#[cycle(terms)]
+fn read_bound(reader: &mut Reader, levels: usize) -> Result<usize, ReadError>
+    ensures goes { GoesOn reader.old reader.new }
+    ensures node { IfOk result (Makes reader.old reader.new) }
+    ensures wrong { IfErr result (LiesIn reader.old.tree.text_len) }
+{
+    let start = reader.place();
+    let variables = read_for(reader)?;
+    let of = read_named(reader, levels)?;
+    if !reader.accept(Sign::PathSep) {
+        return reader.make(Form::Implements, start, &[variables, of]);
+    }
+    let own = read_named(reader, levels)?;
+    reader.expect(Sign::Equal)?;
+    let term = read_term(reader, levels)?;
+    reader.make(Form::Projects, start, &[variables, of, own, term])
+}
+
+// Reads the bounds of a trait object, and its region.
+#[cycle(terms)]
+fn read_bounds(
+    reader: &mut Reader,
+    parts: &mut Vec<usize>,
+    levels: usize,
+) -> Result<Form, ReadError>
+    requires { EachBelow parts.old.items (length reader.old.tree.nodes.items) }
+    ensures goes { GoesOn reader.old reader.new }
+    ensures parts { OnOk result (Collects reader.old reader.new parts.old.items parts.new.items) }
+    ensures wrong { IfErr result (LiesIn reader.old.tree.text_len) }
+{
+    'list: while !is_region_next(reader) {
+        let bound = read_bound(reader, levels)?;
+        parts.push(bound)?;
+        reader.expect(Sign::Plus)?;
+    }
+    let region = reader.take(Expected::Region)?;
+    parts.push(region)?;
+    Ok(Form::Object)
+}
+
+// Reads a type, a trait that it implements, and what the trait declares.
+#[cycle(terms)]
+fn read_associated(
+    reader: &mut Reader,
+    parts: &mut Vec<usize>,
+    levels: usize,
+) -> Result<Form, ReadError>
+    requires { EachBelow parts.old.items (length reader.old.tree.nodes.items) }
+    ensures goes { GoesOn reader.old reader.new }
+    ensures parts { OnOk result (Collects reader.old reader.new parts.old.items parts.new.items) }
+    ensures wrong { IfErr result (LiesIn reader.old.tree.text_len) }
+{
+    let ty = read_term(reader, levels)?;
+    parts.push(ty)?;
+    reader.expect(Sign::As)?;
+    let of = read_named(reader, levels)?;
+    parts.push(of)?;
+    reader.expect(Sign::Greater)?;
+    reader.expect(Sign::PathSep)?;
+    let own = read_named(reader, levels)?;
+    parts.push(own)?;
+    Ok(Form::Associated)
+}
+
 // Reads the rest of a term whose beginning was read, and answers its form; none where it is its only part.
 #[cycle(terms)]
 fn read_rest(
@@ -340,6 +275,8 @@ fn read_rest(
             Ok(Some(form))
         }
         Rest::Inputs(safety, abi) => Ok(Some(read_signature(reader, parts, safety, abi, levels)?)),
+        Rest::Bounds => Ok(Some(read_bounds(reader, parts, levels)?)),
+        Rest::Associated => Ok(Some(read_associated(reader, parts, levels)?)),
         Rest::Brackets => Ok(Some(read_brackets(reader, parts, levels)?)),
         Rest::Parens => {
             let tuple = read_list(reader, parts, Sign::RightParen, levels)?;

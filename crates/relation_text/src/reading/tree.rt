@@ -15,6 +15,20 @@ pub enum ItemSort {
     Coroutine,
     CoroutineClosure,
     Foreign,
+    Trait,
+    /// A trait that a type has unless it is said not to.
+    AutoTrait,
+    /// A type and a constant that a trait declares.
+    AssocTy,
+    AssocConst,
+    /// A type and a constant that stand for others, in no trait.
+    FreeTy,
+    FreeConst,
+    /// A type of which only the bounds are known.
+    Opaque,
+    /// A type and a constant of an `impl` without a trait.
+    InherentTy,
+    InherentConst,
 }
 
 /// How a quick test takes the parameters on the left and those on the right: as types of their own, or as standing for any.
@@ -37,7 +51,7 @@ pub enum KeyParams {
 pub enum Form {
     /// The statements of a text.
     File,
-    /// An item: its name, and the parameters that it declares.
+    /// An item: its name, behind that of its trait if it is a trait's, and the parameters that it declares.
     Item(ItemSort),
     /// A type or a lifetime that an item declares: its name.
     Declared(Variance),
@@ -61,6 +75,12 @@ pub enum Form {
     Visit,
     /// What a walk of a term yields: the walked term, and after how many pulls what is under the last is skipped.
     Walk,
+    /// What has to outlive a region for a type to outlive it.
+    Components,
+    /// What follows from terms that are assumed to outlive regions: an `Outlives` for each.
+    Assumptions,
+    /// A term, and the region that it outlives.
+    Outlives,
     /// What comes of a term where others are put for its parts: the term, and a `Put` for each.
     Fold,
     /// Whether a variable stands in a term that a binder outside it binds.
@@ -115,6 +135,20 @@ pub enum Form {
     FnPtr(FnHeader),
     /// A type under a binder: the `Bound` of the binder, and the type.
     UnsafeBinder,
+    /// A trait object: an `Implements` or a `Projects` for each bound, and the region.
+    Object,
+    /// That a trait is implemented: the `Bound` of the binder, and the `Named` of the trait.
+    Implements,
+    /// What a trait's type or constant is: the `Bound` of the binder, the `Named` of the trait and of what it declares,
+    /// and the term.
+    Projects,
+    /// A trait, or what one declares: its name, its arguments, and an `Assigned` for each thing that a trait's is.
+    Named,
+    /// What a trait's type or constant is: its name, and the term.
+    Assigned,
+    /// A trait's type or constant, of a type that implements the trait: the type, and the `Named` of the trait and of
+    /// what it declares.
+    Associated,
 }
 
 /// What a node is: a word of the text, or a form over further nodes.

@@ -4,8 +4,8 @@ use Rattle.relation_terms.specs.Meaning.{arg_tree}
 use Rattle.relation_terms.proofs.Stays.{stays_same, stays_arg, extends_on}
 use Rattle.relation_text.specs.declared.naming.program.Term.TheVariants.{Bool}
 use Rattle.relation_text.specs.Terms.{trees_of}
-use Rattle.relation_text.specs.Built.{AreBuilt}
-use Rattle.relation_text.proofs.BuildingLemmas.{none_known, none_built, next_key}
+use Rattle.relation_text.specs.Built.{AreBuilt, inner_tree}
+use Rattle.relation_text.proofs.BuildingLemmas.{none_known, none_built, next_key, inner_stays}
 use Rattle.relation_text.proofs.building.build.Goals as goal
 
 pub loop-term-init : goal.loop-term-init
@@ -15,11 +15,11 @@ loop-term-init g c =
     record {
       grown = stays_same m;
       each = ap length c.in_ok-built.ensures.items;
-      each_pat = ap length c.in_ok-pats.ensures.items;
+      each_pat = ap length c.in_ok-inners.ensures.items;
       sure = none_known (arg_tree m) c.in_ok-built.built.items c.in_ok-built.ensures.items;
-      sure_pats = none_known m.pat c.in_ok-pats.pats.items c.in_ok-pats.ensures.items;
+      sure_pats = none_known (inner_tree m) c.in_ok-inners.inners.items c.in_ok-inners.ensures.items;
       made = none_built (arg_tree m) trees c.in_ok-built.built.items c.in_ok-built.ensures.items;
-      made_pats = none_built m.pat trees c.in_ok-pats.pats.items c.in_ok-pats.ensures.items;
+      made_pats = none_built (inner_tree m) trees c.in_ok-inners.inners.items c.in_ok-inners.ensures.items;
     }
 
 pub loop-term-preserved : goal.loop-term-preserved
@@ -27,7 +27,7 @@ loop-term-preserved g c =
     let p = g.I.Interner.meaning c.loop-term.cx in
     let n = g.I.Interner.meaning c.make_either-key.new.cx in
     let keys = c.loop-term.built.items in
-    let pats = c.loop-term.pats.items in
+    let pats = c.loop-term.inners.items in
     let parts = c.args.program.now.parts.items in
     let grown = c.make_either-key.ensures.grown in
     let made = c.make_either-key.result in
@@ -36,9 +36,9 @@ loop-term-preserved g c =
     c.loop-term.invariant.each (stays_arg grown) c.loop-term.invariant.sure c.loop-term.invariant.made
     c.deref-in-loop-term.ensures.value c.deref-in-loop-term-2.ensures.value c.deref.ensures.value c.in_ok-push.ensures.items c.make_either-key.ensures.key in
     let pat = next_key c.loop-term.invariant.grown c.args.ids.now c.args.names.now parts keys pats c.deref-term-items.result.now c.loop-term.term-index Bool
-    c.loop-term-test.true c.loop-term.invariant.made c.loop-term.invariant.made_pats p.pat n.pat pats _ made.1 _ _ _
-    c.loop-term.invariant.each_pat grown.pat c.loop-term.invariant.sure_pats c.loop-term.invariant.made_pats
-    c.deref-in-loop-term.ensures.value c.deref-in-loop-term-2.ensures.value c.deref.ensures.value c.in_ok-push-2.ensures.items c.make_either-key.ensures.pattern in
+    c.loop-term-test.true c.loop-term.invariant.made c.loop-term.invariant.made_pats (inner_tree p) (inner_tree n) pats _ made.1 _ _ _
+    c.loop-term.invariant.each_pat (inner_stays grown) c.loop-term.invariant.sure_pats c.loop-term.invariant.made_pats
+    c.deref-in-loop-term.ensures.value c.deref-in-loop-term-2.ensures.value c.deref.ensures.value c.in_ok-push-2.ensures.items c.make_either-key.ensures.inner in
     record {
       grown = extends_on c.loop-term.invariant.grown grown;
       each = omega (arith, ap length c.in_ok-push.ensures.items, length-append keys (made.0 ∷ []), c.loop-term.invariant.each);

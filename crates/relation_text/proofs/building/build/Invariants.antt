@@ -1,10 +1,10 @@
 use Rattle.std.proofs.Common.{◌≡◌, length, map, take}
 use Rattle.relation_terms.specs.Meaning.{Extends}
 use Rattle.relation_text.specs.Terms.{trees_of}
-use Rattle.relation_text.specs.Built.{AreKnown, AreBuilt, ArePatsKnown, ArePatsBuilt}
+use Rattle.relation_text.specs.Built.{AreKnown, AreBuilt, AreInnerKnown, AreInnerBuilt}
 use Rattle.relation_text.proofs.building.build.Given as goal
 
--- the keys and the patterns so far mean the trees of the first terms
+-- the keys, the patterns and the predicates so far mean the trees of the first terms
 abbrev pub invariant-loop-term : goal.invariant-loop-term
 invariant-loop-term g l =
     let m = g.I.Interner.meaning l.fn.cx in
@@ -13,9 +13,9 @@ invariant-loop-term g l =
     record {
       grown : Extends m n;
       each : length l.built.items ≡ l.term-index;
-      each_pat : length l.pats.items ≡ l.term-index;
+      each_pat : length l.inners.items ≡ l.term-index;
       sure : AreKnown n l.built.items;
-      sure_pats : ArePatsKnown n l.pats.items;
+      sure_pats : AreInnerKnown n l.inners.items;
       made : AreBuilt n trees l.built.items;
-      made_pats : ArePatsBuilt n trees l.pats.items;
+      made_pats : AreInnerBuilt n trees l.inners.items;
     }

@@ -1,7 +1,7 @@
 use Rattle.std.proofs.Common.{◌+◌, ◌*◌}
-use Rattle.relation_terms.specs.Trees.{size}
+use Rattle.relation_terms.specs.Trees.{size, list_tree}
 use Rattle.relation_terms.specs.Meaning.{arg_tree, under, sig_of, signature_tree, term_tree}
-use Rattle.relation_terms.specs.Meaning.{existential_tree, object_predicate_tree}
+use Rattle.relation_terms.specs.Meaning.{object_predicate_tree}
 use Rattle.relation_text.proofs.printing.terms.+write_ty.Given as goal
 
 abbrev pub decreases-write_ty : goal.decreases-write_ty
@@ -71,17 +71,24 @@ decreases-write_unsafe_binder g l =
 
 abbrev pub decreases-write_object : goal.decreases-write_object
 decreases-write_object g l =
-    4 * size ((g.I.Interner.meaning l.cx.now).existential_predicates l.predicates.now) + 1
+    4 * size ((g.I.Interner.meaning l.cx.now).existential_predicates l.predicates.now) + 2
 
 abbrev pub decreases-write_object_predicates : goal.decreases-write_object_predicates
 decreases-write_object_predicates g l =
-    4 * size ((g.I.Interner.meaning l.cx.now).existential_predicates l.predicates.now)
+    4 * size ((g.I.Interner.meaning l.cx.now).existential_predicates l.predicates.now) + 1
 
-abbrev pub decreases-write_object_predicate : goal.decreases-write_object_predicate
-decreases-write_object_predicate g l = 4 * size (object_predicate_tree (g.I.Interner.meaning l.cx.now) l.predicate)
+abbrev pub decreases-write_object_bound : goal.decreases-write_object_bound
+decreases-write_object_bound g l =
+    let m = g.I.Interner.meaning l.cx.now in
+    4 * size (list_tree (object_predicate_tree m) l.bound.now)
 
-abbrev pub decreases-write_existential : goal.decreases-write_existential
-decreases-write_existential g l = 4 * size (existential_tree (g.I.Interner.meaning l.cx.now) l.predicate.now)
+abbrev pub decreases-write_trait : goal.decreases-write_trait
+decreases-write_trait g l =
+    let m = g.I.Interner.meaning l.cx.now in
+    4 * (size (m.args (l.of.now).args) + size (list_tree (object_predicate_tree m) l.assigned.now)) + 1
+
+abbrev pub decreases-write_assigned : goal.decreases-write_assigned
+decreases-write_assigned g l = 4 * size (object_predicate_tree (g.I.Interner.meaning l.cx.now) l.predicate.now)
 
 abbrev pub decreases-write_projection : goal.decreases-write_projection
 decreases-write_projection g l =
