@@ -29,7 +29,18 @@ pub enum RowFault {
 }
 
 /// The rows, in the order of their numbers.
-pub const ROWS: [Row; 8] = [
+pub const ROWS: [Row; 10] = [
+    Row {
+        name: "r04",
+        questions: "param 'a; walk &'a (i32, i32);",
+        stored: "&'a (i32, i32) | 'a | (i32, i32) | i32 | end",
+    },
+    Row {
+        name: "r05",
+        questions: "struct Foo<T, U, V>; struct Bar<T>;
+            walk Foo<Bar<i32>, Bar<i32>, i32> skip after 2;",
+        stored: "Foo<Bar<i32>, Bar<i32>, i32> | Bar<i32> | i32 | end",
+    },
     Row {
         name: "r07",
         questions: "(u8, u8) == (u8, u8, u8); () == (u8,);",
@@ -142,7 +153,9 @@ pub fn print<O: io::Write, E: io::Write>(
 fn is_row(name: &str) -> bool
     ensures { IsTrue result ↔ IsRow name.now }
 {
-    name == "r07"
+    name == "r04"
+        || name == "r05"
+        || name == "r07"
         || name == "r08"
         || name == "r09"
         || name == "r17"
