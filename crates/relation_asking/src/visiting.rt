@@ -127,24 +127,6 @@ pub(super) fn visit<I: Interner>(
     Some(Met { terms, stopped })
 }
 
-// Writes terms, with commas between.
-pub(super) fn write_terms<I: Interner, W: Write>(
-    cx: &I,
-    texts: &TextsOf<I>,
-    terms: &[GenericArg<I>],
-    out: &mut W,
-) -> fmt::Result
-    requires { AllKnown (I.meaning cx.now) terms.now }
-{
-    for (place, term) in terms.iter().enumerate() {
-        if place > 0 {
-            out.write_str(", ")?;
-        }
-        write_arg(cx, texts, term, out)?;
-    }
-    Ok(())
-}
-
 // Writes what a visitor was asked about.
 pub(super) fn write_met<I: Interner, W: Write>(
     cx: &I,
@@ -155,6 +137,11 @@ pub(super) fn write_met<I: Interner, W: Write>(
     requires { AllKnown (I.meaning cx.now) met.now.terms.items }
 {
     out.write_str("met=[")?;
-    write_terms(cx, texts, &met.terms, out)?;
+    for (place, term) in met.terms.iter().enumerate() {
+        if place > 0 {
+            out.write_str(", ")?;
+        }
+        write_arg(cx, texts, term, out)?;
+    }
     out.write_str(if met.stopped { "]; stopped" } else { "]" })
 }

@@ -8,11 +8,10 @@ ghost use Rattle.relation_asking.specs.Codes.{same_tree};
 ghost use Rattle.relation_asking.specs.Meets.{AllKnown};
 ghost use Rattle.relation_asking.specs.Skips.{stands_in, skipped_in};
 
-use crate::visiting::write_terms;
 use reference_interner::RefInterner;
 use relation_terms::terms::{GenericArg, GenericArgKind, Interner, OutOfMemory};
 use relation_text::naming::Parts;
-use relation_text::printing::TextsOf;
+use relation_text::printing::{TextsOf, write_arg};
 use relation_tools::walk::TypeWalker;
 use std::alloc::Global;
 use std::fmt::{self, Write};
@@ -93,7 +92,7 @@ pub(super) fn numbers_at(numbers: &[usize], range: Parts) -> &[usize] {
     numbers.get(range.first..range.behind).unwrap_or(&[])
 }
 
-// Writes what a walk yielded.
+// Writes what the pulls of a walk have answered, to its end.
 pub(super) fn write_walked<I: Interner, W: Write>(
     cx: &I,
     texts: &TextsOf<I>,
@@ -102,7 +101,9 @@ pub(super) fn write_walked<I: Interner, W: Write>(
 ) -> fmt::Result
     requires { AllKnown (I.meaning cx.now) yielded.now }
 {
-    out.write_str("walked=[")?;
-    write_terms(cx, texts, yielded, out)?;
-    out.write_str("]")
+    for term in yielded {
+        write_arg(cx, texts, term, out)?;
+        out.write_str(" | ")?;
+    }
+    out.write_str("end")
 }

@@ -1,6 +1,6 @@
 //! The rows, their stored answers, and the program's runs.
 ghost use Rattle.std.specs.Prelude.{◌≡◌, ◌<◌, ◌≤◌, ◌↔◌, IsTrue, IfSome, length, slice_get, string_bytes};
-ghost use Rattle.relations.specs.Named.{IsRow};
+ghost use Rattle.relations.specs.Named.{IsHighRow, IsLowRow, IsRow};
 
 use relation_asking::ask_all;
 use relation_text::naming::{NameError, look_up};
@@ -29,7 +29,7 @@ pub enum RowFault {
 }
 
 /// The rows, in the order of their numbers.
-pub const ROWS: [Row; 15] = [
+pub const ROWS: [Row; 19] = [
     Row {
         name: "r01",
         questions: "may unify[rigid, rigid] bool, char at 0; may unify[rigid, rigid] bool, char at 1;",
@@ -40,6 +40,17 @@ pub const ROWS: [Row; 15] = [
         questions: "may unify[rigid, rigid] bool, ?i0 at 0;
             may unify[rigid, rigid] ?i0, bool at 0; may unify[rigid, rigid] ?i0, bool at 1;",
         stored: "false | true | false",
+    },
+    Row {
+        name: "r04",
+        questions: "param 'a; walk &'a (i32, i32);",
+        stored: "&'a (i32, i32) | 'a | (i32, i32) | i32 | end",
+    },
+    Row {
+        name: "r05",
+        questions: "struct Foo<T, U, V>; struct Bar<T>;
+            walk Foo<Bar<i32>, Bar<i32>, i32> skip after 2;",
+        stored: "Foo<Bar<i32>, Bar<i32>, i32> | Bar<i32> | i32 | end",
     },
     Row {
         name: "r07",
@@ -112,11 +123,25 @@ pub const ROWS: [Row; 15] = [
         stored: "ok; regions=['b: 'a] | ok; regions=['a: 'b]",
     },
     Row {
+        name: "r53",
+        questions: "trait Tr<T>; type Tr::A; param 'a; walk dyn Tr<bool, A = u8> + 'a;",
+        stored: "dyn Tr<bool, A = u8> + 'a | bool | u8 | 'a | end",
+    },
+    Row {
         name: "r59",
         questions: "param T;
             may unify[rigid, rigid] T, u8; may unify[infer, infer] T, u8; may unify[rigid, infer] T, u8;
             may unify[rigid, infer] u8, T;",
         stored: "false | true | false | true",
+    },
+    Row {
+        name: "r60",
+        questions: "trait Tr; type Tr::A; trait Of<T>; param T, 'a;
+            may unify[rigid, rigid] <T as Tr>::A, u8;
+            may unify[rigid, rigid] (u8, <T as Tr>::A), (bool, u8);
+            may unify[rigid, rigid] dyn Of<u8> + 'a, dyn Of<bool> + 'a;
+            may unify[rigid, rigid] fn(u8), unsafe fn(u8);",
+        stored: "true | false | true | false",
     },
 ];
 
@@ -182,25 +207,42 @@ pub fn print<O: io::Write, E: io::Write>(
     }
 }
 
-// Whether a row has that name.
-fn is_row(name: &str) -> bool
-    ensures { IsTrue result ↔ IsRow name.now }
+// Whether a row below r20 has that name.
+fn is_low_row(name: &str) -> bool
+    ensures { IsTrue result ↔ IsLowRow name.now }
 {
     name == "r01"
         || name == "r02"
+        || name == "r04"
+        || name == "r05"
         || name == "r07"
         || name == "r08"
         || name == "r09"
         || name == "r17"
         || name == "r19"
-        || name == "r20"
+}
+
+// Whether a row from r20 on has that name.
+fn is_high_row(name: &str) -> bool
+    ensures { IsTrue result ↔ IsHighRow name.now }
+{
+    name == "r20"
         || name == "r22"
         || name == "r23"
         || name == "r26"
         || name == "r28"
         || name == "r34"
         || name == "r35"
+        || name == "r53"
         || name == "r59"
+        || name == "r60"
+}
+
+// Whether a row has that name.
+fn is_row(name: &str) -> bool
+    ensures { IsTrue result ↔ IsRow name.now }
+{
+    is_low_row(name) || is_high_row(name)
 }
 
 // Prints the row of a name, or all. The status is 1 if an answer is not the stored one, a row's text is wrong, or a
