@@ -6,3 +6,4 @@ pub mod Recorded
 pub mod CodeLemmas
 pub mod MeetLemmas
 pub mod PutLemmas
+pub mod WalkLemmas

@@ -15,10 +15,18 @@ use Rattle.relation_asking.specs.Codes.{same_tree}
 use Rattle.relation_asking.specs.Meets.{AllKnown}
 use Rattle.relation_asking.proofs.CodeLemmas.{same_is, is_same}
 
+pub cond_same : {A : Type 0} (b : Bool) (a : A) → cond b a a ≡ a
+cond_same true a = refl
+cond_same false a = refl
+
+pub skipped_cx : {I A : Type 0} (b : Bool) (w : Walk I A) → (cond b (record w { inside = [] }) w).cx ≡ w.cx
+skipped_cx true w = refl
+skipped_cx false w = refl
+
 decides : (a b : Tree) → (IsTrue (same_tree a b) ↔ (a ≡ b))
 decides a b = (same_is a b, is_same a b)
 
-one_more : {A : Type 0} (ys : List A) (x : A) → length (ys ++ x ∷ []) ≡ suc (length ys)
+pub one_more : {A : Type 0} (ys : List A) (x : A) → length (ys ++ x ∷ []) ≡ suc (length ys)
 one_more ys x = let n = length-append ys (x ∷ []) in omega (arith, n)
 
 module _ {Key Id Name : Type 0} (m : Meaning Key Id Name) (t : Tree) (skips : ℕ → Bool) where
@@ -45,13 +53,17 @@ module _ {I Key Id Name : Type 0} (m : Meaning Key Id Name) (eq : GenericArgKind
 
   pub goes_first : (w : Walk I (GenericArgKind Key)) (b : Bool) → ByPlaces m eq w t → Goes (skipped b w) []
   goes_first w true h = λ cs rs v r k.
-      let g = h same_tree decides skips (skip ∷ pull ∷ cs) rs v r k in
-      (g.ends, λ e. g.first ∙ ap (λ z. map (arg_tree m) (present rs) ++ z) (g.all e)
-      ∙ append-nil (map (arg_tree m) (present rs)))
+      let g = h same_tree decides skips (skip ∷ pull ∷ cs) rs v r k in (
+        g.ends,
+        λ e. g.first ∙ ap (λ z. map (arg_tree m) (present rs) ++ z) (g.all e)
+            ∙ append-nil (map (arg_tree m) (present rs)),
+      )
   goes_first w false h = λ cs rs v r k.
-      let g = h same_tree decides skips (pull ∷ cs) rs v r k in
-      (g.ends, λ e. g.first ∙ ap (λ z. map (arg_tree m) (present rs) ++ z) (g.all e)
-      ∙ append-nil (map (arg_tree m) (present rs)))
+      let g = h same_tree decides skips (pull ∷ cs) rs v r k in (
+        g.ends,
+        λ e. g.first ∙ ap (λ z. map (arg_tree m) (present rs) ++ z) (g.all e)
+            ∙ append-nil (map (arg_tree m) (present rs)),
+      )
 
   -- A pull has yielded one more, and what is under it was skipped or not.
   pub goes_next : (w u : Walk I (GenericArgKind Key)) (ys : List (GenericArgKind Key)) (x : GenericArgKind Key) (b : Bool) →

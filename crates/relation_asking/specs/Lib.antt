@@ -4,3 +4,4 @@ pub mod Args
 pub mod Codes
 pub mod Meets
 pub mod Puts
+pub mod Skips

@@ -24,7 +24,11 @@ pub trait Walks: Interner {
     ///
     /// # Errors
     /// `OutOfMemory` where a growth was refused.
-    fn walk(&self, root: &GenericArg<Self>, skips: &[usize]) -> Result<Vec<GenericArg<Self>>, OutOfMemory>
+    fn walk(
+        &self,
+        root: &GenericArg<Self>,
+        skips: &[usize],
+    ) -> Result<Vec<GenericArg<Self>>, OutOfMemory>
         requires known { IsTrue (known (arg_tree (meaning self.now) root.now)) }
         ensures sure { IfOk result (λ xs. AllKnown (meaning self.now) xs.items) }
         ensures by_places { let tree = arg_tree (meaning self.now) in
@@ -32,7 +36,11 @@ pub trait Walks: Interner {
 }
 
 impl Walks for RefInterner {
-    fn walk(&self, root: &GenericArg<Self>, skips: &[usize]) -> Result<Vec<GenericArg<Self>>, OutOfMemory> {
+    fn walk(
+        &self,
+        root: &GenericArg<Self>,
+        skips: &[usize],
+    ) -> Result<Vec<GenericArg<Self>>, OutOfMemory> {
         let mut walker = TypeWalker::new(self, *root);
         walk_on(self.alloc(), &mut walker, root, skips)
     }
@@ -74,17 +82,17 @@ fn walk_on<I: Interner>(
     ensures by_places { let tree = arg_tree (I.meaning (walker.old).cx) in
         IfOk result (λ xs. map tree xs.items ≡ yields same_tree (skipped_in skips.now) false [] (tree root.now)) }
 {
-    let mut yielded = Vec::new(alloc);
+    let mut found = Vec::new(alloc);
     skip_after(walker, skips, 0);
     while let Some(arg) = walker.pull() {
-        yielded.push(arg?)?;
-        skip_after(walker, skips, yielded.len());
+        found.push(arg?)?;
+        skip_after(walker, skips, found.len());
     }
-    skip_behind(walker, skips, yielded.len());
+    skip_behind(walker, skips, found.len());
     if let Some(arg) = walker.pull() {
-        yielded.push(arg?)?;
+        found.push(arg?)?;
     }
-    Ok(yielded)
+    Ok(found)
 }
 
 // The numbers of a range.

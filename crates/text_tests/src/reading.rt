@@ -172,6 +172,13 @@ fn patterns_are_read(rt: HostRuntime) -> Result<(), Fail> {
 }
 
 #[test]
+fn walks_are_read(rt: HostRuntime) -> Result<(), Fail> {
+    let all = shown(rt.alloc(), "walk [T]; walk 'a skip after 0, 2, 2;")?;
+    assert_eq!(rt; all.as_str(), "file(walk(slice(T)) walk('a 0 2 2))");
+    Ok(())
+}
+
+#[test]
 fn binders_are_read(rt: HostRuntime) -> Result<(), Fail> {
     let text = "visit for<'a, ^1, const ^c2> unsafe extern \"C\" fn(&'a ^1, ..) -> T;";
     let all = shown(rt.alloc(), text)?;
@@ -262,6 +269,9 @@ fn wrong_texts_are_refused(rt: HostRuntime) -> Result<(), Fail> {
         ("budget x;", "1:8: expected a number, found `x`"),
         ("fold T;", "1:7: expected `with`, found `;`"),
         ("visit T stop A skip B;", "1:16: expected `;`, found `skip`"),
+        ("walk T skip 2;", "1:13: expected `after`, found `2`"),
+        ("walk T skip after;", "1:18: expected a number, found `;`"),
+        ("walk T stop U;", "1:8: expected `;`, found `stop`"),
         ("visit {error, T};", "1:13: expected `}`, found `,`"),
         ("visit T is 1;", "1:13: expected `..=`, found `;`"),
         ("visit T is !;", "1:13: expected `null`, found `;`"),

@@ -1,0 +1,67 @@
+use Rattle.std.proofs.Common.{◌≡◌, ◌∙◌, ◌-◌, ◌<◌, sym, ap, subst, suc, length, refl, arith, rules}
+use Rattle.relation_terms.specs.Trees.{size}
+use Rattle.relation_terms.specs.Meaning.{arg_tree}
+use Rattle.relation_terms.specs.declared.terms.interner.OutOfMemory.{OutOfMemory}
+use Rattle.relation_terms.specs.contracts.terms.generic_arg.GenericArgKindPartialEq.TheImpl.{ghosts}
+use Rattle.relation_tools.specs.Walking.{Pull}
+use Rattle.std.proofs.Common.{Some, Ok}
+use Rattle.relation_asking.specs.Meets.{AllKnown}
+use Rattle.relation_asking.specs.Skips.{stands_in, skipped_in}
+use Rattle.relation_asking.proofs.WalkLemmas.{Goes, goes_first, goes_next, goes_small, one_more, skipped_cx, known_one_more}
+use Rattle.relation_asking.proofs.walking.walk_on.Goals as goal
+
+pub loop-arg-init : goal.loop-arg-init
+loop-arg-init g c =
+    let m = g.I.Interner.meaning c.args.walker.now.cx in
+    let eq = (ghosts g.row.I-Key g.I.Key.PartialEq g.I.Key.PartialEq-dict).eq in
+    let t = arg_tree m c.args.root.now in
+    let b = stands_in c.args.skips.now 0 in
+    let w = c.args.walker.now in
+    record {
+      same = ap (λ k. k.cx) c.skip_after.ensures ∙ skipped_cx b w;
+      known = subst (AllKnown m) (sym c.new-found.ensures.items) refl;
+      goes = rw (c.skip_after.ensures, c.new-found.ensures.items)
+          (goes_first m eq t (skipped_in c.args.skips.now) w b c.requires);
+    }
+
+pub skip_after-requires-in-Some : goal.skip_after-requires-in-Some
+skip_after-requires-in-Some g c = search (c.well_formed)
+
+pub loop-arg-smaller : goal.loop-arg-smaller
+loop-arg-smaller g c =
+    let m = g.I.Interner.meaning c.args.walker.now.cx in
+    let eq = (ghosts g.row.I-Key g.I.Key.PartialEq g.I.Key.PartialEq-dict).eq in
+    let t = arg_tree m c.args.root.now in
+    let ys = c.loop-arg.found.items in
+    let x = c.in_ok-arg.field-0 in
+    let p = rw c.in_ok-arg.was at c.in-Some.ensures in
+    let q : Pull m eq {E = OutOfMemory} c.loop-arg.walker (Some (Ok x)) c.pull.new.self =
+    subst (λ i. Pull (g.I.Interner.meaning i) eq {E = OutOfMemory} c.loop-arg.walker (Some (Ok x)) c.pull.new.self)
+    c.loop-arg.invariant.same p in
+    let small = goes_small m eq t (skipped_in c.args.skips.now) c.loop-arg.walker c.pull.new.self ys x
+    c.loop-arg.invariant.goes q in
+    let more = ap length c.in_ok-push.ensures.items ∙ one_more ys x in
+    omega (arith, small, more)
+
+pub loop-arg-preserved : goal.loop-arg-preserved
+loop-arg-preserved g c =
+    let m = g.I.Interner.meaning c.args.walker.now.cx in
+    let eq = (ghosts g.row.I-Key g.I.Key.PartialEq g.I.Key.PartialEq-dict).eq in
+    let t = arg_tree m c.args.root.now in
+    let ys = c.loop-arg.found.items in
+    let x = c.in_ok-arg.field-0 in
+    let p = rw c.in_ok-arg.was at c.in-Some.ensures in
+    let q : Pull m eq {E = OutOfMemory} c.loop-arg.walker (Some (Ok x)) c.pull.new.self =
+    subst (λ i. Pull (g.I.Interner.meaning i) eq {E = OutOfMemory} c.loop-arg.walker (Some (Ok x)) c.pull.new.self)
+    c.loop-arg.invariant.same p in
+    let b = stands_in c.args.skips.now c.len.result in
+    let more = ap length c.in_ok-push.ensures.items ∙ one_more ys x in
+    let n : skipped_in c.args.skips.now (length ys) ≡ b =
+    ap (stands_in c.args.skips.now) (sym (c.len.ensures ∙ more)) in
+    record {
+      same = ap (λ k. k.cx) c.skip_after-in-Some.ensures ∙ skipped_cx b c.pull.new.self ∙ q.2 ∙ c.loop-arg.invariant.same;
+      known = subst (AllKnown m) (sym c.in_ok-push.ensures.items) (known_one_more m ys x q.3 c.loop-arg.invariant.known);
+      goes = rw (c.skip_after-in-Some.ensures, c.in_ok-push.ensures.items)
+          (goes_next m eq t (skipped_in c.args.skips.now) c.loop-arg.walker c.pull.new.self ys x b n
+          c.loop-arg.invariant.goes q);
+    }
