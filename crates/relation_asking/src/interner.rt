@@ -77,7 +77,11 @@ fn add_item(
     }
     let of = item.of.and_then(|of| ids.get(of).copied());
     let def = def_kind(item.sort, of.unwrap_or(ItemId(0)));
-    cx.add_item(ItemKind { def, params }, name, variances)
+    let id = cx.add_item(ItemKind { def, params }, name, variances)?;
+    if item.sort == ItemSort::AutoTrait {
+        cx.set_auto(TraitId(id));
+    }
+    Ok(id)
 }
 
 // An interner with the items of a program, and their ids.

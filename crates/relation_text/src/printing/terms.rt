@@ -315,10 +315,10 @@ fn write_object_predicates<I: Interner, W: Write>(
                 out.write_str(" + ")?;
             }
             let behind = list.get(place.saturating_add(1)..).unwrap_or(&[]);
-            let assigned = assigned_count(cx, predicate, behind);
+            let assigned = assigned_count(&*cx, predicate, behind);
             written = place.saturating_add(1).saturating_add(assigned);
             let bound = list.get(place..written).unwrap_or(&[]);
-            write_object_bound(cx, texts, around, bound, out)?;
+            write_object_bound(&*cx, &*texts, &*around, bound, out)?;
         }
     }
     Ok(())
