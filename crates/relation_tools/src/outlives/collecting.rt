@@ -71,6 +71,7 @@ fn collect_region<I: Interner>(
 
 // Adds the components of a part, but where it was met before.
 #[cycle(collect)]
+#[tactic(none)]
 pub fn collect_part<I: Interner>(
     cx: &I,
     part: &PartOf<I>,
@@ -99,6 +100,7 @@ pub fn collect_part<I: Interner>(
 
 // Adds the components of the members of a list that are chosen.
 #[cycle(collect)]
+#[tactic(none)]
 fn collect_members<I: Interner>(
     cx: &I,
     parts: &PartsOf<I>,
@@ -131,6 +133,7 @@ fn collect_members<I: Interner>(
 
 // Adds the components of a type that was found among arguments, if one was.
 #[cycle(collect)]
+#[tactic(none)]
 fn collect_found<I: Interner>(
     cx: &I,
     found: Option<Ty<I>>,
@@ -155,6 +158,7 @@ fn collect_found<I: Interner>(
 
 // Adds the components of the types that a closure of these arguments captures.
 #[cycle(collect)]
+#[tactic(none)]
 fn collect_closure<I: Interner>(
     cx: &I,
     args: &GenericArgs<I>,
@@ -176,6 +180,7 @@ fn collect_closure<I: Interner>(
 
 // Adds the components of the types that a coroutine of these arguments captures, and of the type it is resumed with.
 #[cycle(collect)]
+#[tactic(none)]
 fn collect_coroutine<I: Interner>(
     cx: &I,
     args: &GenericArgs<I>,
@@ -199,6 +204,7 @@ fn collect_coroutine<I: Interner>(
 
 // Adds the components of a type, by its outermost form.
 #[cycle(collect)]
+#[tactic(none)]
 fn collect_ty<I: Interner>(
     cx: &I,
     ty: &Ty<I>,
@@ -235,6 +241,7 @@ fn collect_ty<I: Interner>(
 
 // Adds the one component of an alias that a variable escapes, which holds those of its arguments.
 #[cycle(collect)]
+#[tactic(none)]
 fn collect_escaping<I: Interner>(
     cx: &I,
     alias: &AliasTy<I::Key, I::Id>,
@@ -253,6 +260,7 @@ fn collect_escaping<I: Interner>(
 
 // The components of the arguments of an alias, by themselves.
 #[cycle(collect)]
+#[tactic(none)]
 fn alias_components<I: Interner>(
     cx: &I,
     alias: &AliasTy<I::Key, I::Id>,
@@ -272,6 +280,7 @@ fn alias_components<I: Interner>(
 
 // Adds the components of the arguments of an alias, but of those that it is bivariant in.
 #[cycle(collect)]
+#[tactic(none)]
 pub fn collect_alias_args<I: Interner>(
     cx: &I,
     alias: &AliasTy<I::Key, I::Id>,
