@@ -9,11 +9,39 @@ use Rattle.relation_asking.proofs.lists.relate_args.Goals as goal
 -- The reference that is given back is the one that was lent, so the context is what is behind it.
 pub returns : goal.returns
 returns g c =
-    let m = g.I.Interner.meaning c.args.ctx.now.interner in
-    let back = c.ctx-1.given.1 (sym (c.into_infcx-_ctx.ensures.same_reference
-    ∙ c.relate_args-related.ensures.same_reference)) ∙ c.into_infcx-_ctx.ensures.value in
-    subst (λ z. Related solver_manner (solving 0 m c.args.ctx.now.inner Invariant c.args.param_env)
+    let r = c.new-relation.ensures in
+    let back = c.ctx-1.given.1 (sym (c.into_infcx-ctx.ensures.same_reference
+    ∙ c.relate_args-related.ensures.same_reference ∙ r.same_reference)) ∙ c.into_infcx-ctx.ensures.value in
+    subst (λ z. Related solver_manner
+    (solving 0 (g.I.Interner.meaning c.args.ctx.now.interner) c.args.ctx.now.inner Invariant c.args.param_env)
     (solving 0 (g.I.Interner.meaning z.interner) z.inner Invariant c.args.param_env) Invariant
-    (node arguments (m.args c.args.lhs.now)) (node arguments (m.args c.args.rhs.now))
-    (λ k. node arguments ((g.I.Interner.meaning z.interner).args k)) c.relate_args-related.result)
-    (sym back) c.relate_args-related.ensures.related
+    (node arguments ((g.I.Interner.meaning c.args.ctx.now.interner).args c.args.lhs.now))
+    (node arguments ((g.I.Interner.meaning c.args.ctx.now.interner).args c.args.rhs.now))
+    (λ k. node arguments ((g.I.Interner.meaning z.interner).args k)) c.relate_args-related.result) (sym back)
+    (subst (λ x. Related solver_manner
+    (solving 0 (g.I.Interner.meaning x.interner) x.inner Invariant c.args.param_env)
+    (solving 0 (g.I.Interner.meaning c.relate_args-related.new.self.infcx.now.interner)
+    c.relate_args-related.new.self.infcx.now.inner Invariant c.args.param_env) Invariant
+    (node arguments ((g.I.Interner.meaning x.interner).args c.args.lhs.now))
+    (node arguments ((g.I.Interner.meaning x.interner).args c.args.rhs.now))
+    (λ k. node arguments ((g.I.Interner.meaning c.relate_args-related.new.self.infcx.now.interner).args k))
+    c.relate_args-related.result) r.infcx
+    (subst (λ v. Related solver_manner
+    (solving 0 (g.I.Interner.meaning c.new-relation.result.infcx.now.interner) c.new-relation.result.infcx.now.inner v
+    c.args.param_env)
+    (solving 0 (g.I.Interner.meaning c.relate_args-related.new.self.infcx.now.interner)
+    c.relate_args-related.new.self.infcx.now.inner v c.args.param_env) v
+    (node arguments ((g.I.Interner.meaning c.new-relation.result.infcx.now.interner).args c.args.lhs.now))
+    (node arguments ((g.I.Interner.meaning c.new-relation.result.infcx.now.interner).args c.args.rhs.now))
+    (λ k. node arguments ((g.I.Interner.meaning c.relate_args-related.new.self.infcx.now.interner).args k))
+    c.relate_args-related.result) r.ambient_variance
+    (subst (λ e. Related solver_manner
+    (solving 0 (g.I.Interner.meaning c.new-relation.result.infcx.now.interner) c.new-relation.result.infcx.now.inner
+    c.new-relation.result.ambient_variance e)
+    (solving 0 (g.I.Interner.meaning c.relate_args-related.new.self.infcx.now.interner)
+    c.relate_args-related.new.self.infcx.now.inner c.new-relation.result.ambient_variance e)
+    c.new-relation.result.ambient_variance
+    (node arguments ((g.I.Interner.meaning c.new-relation.result.infcx.now.interner).args c.args.lhs.now))
+    (node arguments ((g.I.Interner.meaning c.new-relation.result.infcx.now.interner).args c.args.rhs.now))
+    (λ k. node arguments ((g.I.Interner.meaning c.relate_args-related.new.self.infcx.now.interner).args k))
+    c.relate_args-related.result) r.param_env c.relate_args-related.ensures.related)))

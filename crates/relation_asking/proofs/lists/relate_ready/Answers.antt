@@ -1,4 +1,4 @@
-use Rattle.std.proofs.Common.{sym, ◌∙◌, ap, subst}
+use Rattle.std.proofs.Common.{rules, sym, ◌∙◌, ap, subst, IsTrue}
 use Rattle.relation_terms.specs.declared.terms.enums.Variance.TheVariants.{Invariant}
 use Rattle.relation_terms.specs.Heads.{arguments}
 use Rattle.relation_terms.specs.Trees.{node, count}
@@ -28,7 +28,7 @@ relate_args-requires-clause-asked g c =
     let b = c.args.rhs.1 in
     let h = c.requires.lhs_ready in
     let k = c.requires.rhs_ready in
-    let may = c.in_default-refusal.ensures in
+    let may = c.in_default.ensures in
     let left = as_arguments a (n.args s) (one_ready (m.args s) (n.args s) a (e.args s h.0) h) in
     let right = as_arguments b (n.args t) (one_ready (m.args t) (n.args t) b (e.args t k.0) k) in
     let has : Has x (both_needs a b) = subst (Has x) c.both.ensures c.in-Ok.ensures.has in
@@ -41,10 +41,29 @@ relate_args-requires-clause-asked g c =
       right_taken = right_taken Invariant a b (node arguments (n.args t)) may.at may.right_rules right;
     }
 
+-- Neither list changes while the interner grows.
 pub relate_args-requires-clause-as_many : goal.relate_args-requires-clause-as_many
 relate_args-requires-clause-as_many g c =
     let m = g.I.Interner.meaning c.args.ctx.now.interner in
     let n = g.I.Interner.meaning c.empty_param_env.new.self in
     let e : Extends m n = extends_on c.have_variables.ensures.grown c.empty_param_env.ensures.grown in
-    ap count (e.args c.args.lhs.0 c.requires.lhs_ready.0) ∙ c.are_as_many.ensures c.if.true
+    let many : IsTrue c.are_as_many.result = (let i = c.if-not-are_as_many.false in search rules) in
+    ap count (e.args c.args.lhs.0 c.requires.lhs_ready.0) ∙ c.are_as_many.ensures many
     ∙ sym (ap count (e.args c.args.rhs.0 c.requires.rhs_ready.0))
+
+pub returns-in-Ok-relate_args-clause-lawful : goal.returns-in-Ok-relate_args-clause-lawful
+returns-in-Ok-relate_args-clause-lawful g c = (((c.relate_args.ensures).passes).lawful (
+  lawful_grows c.empty_param_env.ensures.grown c.have_variables.new.ctx.inner c.have_variables.ensures.lawful,
+  c.in-Ok-empty_param_env.ensures.sure,
+)).0
+
+pub returns-in-Err-clause-lawful : goal.returns-in-Err-clause-lawful
+returns-in-Err-clause-lawful g c = (((c.relate_args.ensures).passes).lawful (
+  lawful_grows c.empty_param_env.ensures.grown c.have_variables.new.ctx.inner c.have_variables.ensures.lawful,
+  c.in-Ok-empty_param_env.ensures.sure,
+)).0
+
+pub returns-in-Ok-relate_args-clause-grown : goal.returns-in-Ok-relate_args-clause-grown
+returns-in-Ok-relate_args-clause-grown g c =
+    extends_on (extends_on c.have_variables.ensures.grown c.empty_param_env.ensures.grown)
+    ((c.relate_args.ensures).passes).extends
