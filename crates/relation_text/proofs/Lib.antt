@@ -2,7 +2,6 @@ pub mod BlankLemmas
 pub mod BuildingLemmas
 pub mod Parts
 pub mod PlaceLemmas
-pub mod SortLemmas
 pub mod TreeLemmas
 pub mod WordLemmas
 pub mod WriteLemmas

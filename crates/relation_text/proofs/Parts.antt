@@ -41,7 +41,7 @@ module _ {A : Type 0} (f : A → Tree) where
   known_take (suc n) [] k = k
   known_take (suc n) (x ∷ xs) k =
       let h = and_parts (known (f x)) (known (list_tree f xs)) k in
-      both_true (known (f x)) (known (list_tree f (take n xs))) h.0 (known_take n xs h.1)
+      both_true h.0 (known_take n xs h.1)
 
   pub known_range : (xs : List A) (a b : ℕ) → IsTrue (known (list_tree f xs)) →
       IsTrue (known (list_tree f (slice_range xs a b)))
@@ -63,6 +63,14 @@ module _ {A : Type 0} (f : A → Tree) where
       let h = size_take (b - a) (drop a xs) in
       let k = size_drop a xs in
       omega (arith, h, k)
+
+  -- The same of what is known to stand there, and of what is known to be the list.
+  pub range_of : (t : Tree) (xs ys : List A) (a b : ℕ) → ys ≡ slice_range xs a b → t ≡ list_tree f xs →
+      IsTrue (known t) → IsTrue (known (list_tree f ys)) × (size (list_tree f ys) ≤ size t)
+  range_of t xs ys a b e q k = (
+    subst (λ zs. IsTrue (known (list_tree f zs))) (sym e) (known_range xs a b (subst (λ u. IsTrue (known u)) q k)),
+    subst₂ (λ zs u. size (list_tree f zs) ≤ size u) (sym e) (sym q) (size_range xs a b),
+  )
 
 -- A known binder is larger than its body.
 pub under_size : (o : Option (List BoundKind)) (t : Tree) → IsTrue (known (under o t)) → size t < size (under o t)

@@ -1,5 +1,5 @@
 //! How terms print.
-ghost use Rattle.std.specs.Prelude.{◌≡◌, IsTrue};
+ghost use Rattle.std.specs.Prelude.{◌≡◌, IfSome, IsTrue, slice_range};
 ghost use Rattle.relation_terms.specs.Trees.{known, list_tree};
 ghost use Rattle.relation_terms.specs.Meaning.{alias_id, arg_tree, under, sig_of, signature_tree, term_tree};
 ghost use Rattle.relation_terms.specs.Meaning.{object_predicate_tree};
@@ -297,7 +297,7 @@ fn write_object<I: Interner, W: Write>(
 // Writes the predicates of a trait object, with `+` between. What an associated item of a trait is stands in the trait's
 // brackets where it can.
 #[cycle(write_ty)]
-#[tactic(auto, using(crate::proofs::Parts::known_range, crate::proofs::Parts::size_range))]
+#[tactic(auto, using(crate::proofs::Parts::size_part, crate::proofs::Parts::known_part))]
 fn write_object_predicates<I: Interner, W: Write>(
     cx: &I,
     texts: &TextsOf<I>,
@@ -317,11 +317,19 @@ fn write_object_predicates<I: Interner, W: Write>(
             let behind = list.get(place.saturating_add(1)..).unwrap_or(&[]);
             let assigned = assigned_count(&*cx, predicate, behind);
             written = place.saturating_add(1).saturating_add(assigned);
-            let bound = list.get(place..written).unwrap_or(&[]);
-            write_object_bound(&*cx, &*texts, &*around, bound, out)?;
+            if let Some(bound) = members_at(list, place, written) {
+                write_object_bound(&*cx, &*texts, &*around, bound, out)?;
+            }
         }
     }
     Ok(())
+}
+
+// The members of a list from a place on, up to another.
+fn members_at<T>(list: &[T], first: usize, behind: usize) -> Option<&[T]>
+    ensures { IfSome result (λ part. part.now ≡ slice_range list.now first behind) }
+{
+    list.get(first..behind)
 }
 
 // How many predicates behind one say what associated items of its trait are, over its arguments and under its binder.

@@ -1,7 +1,7 @@
 use Rattle.std.proofs.Common.{rules, refl}
 use Rattle.relation_terms.specs.Trees.{list_tree}
 use Rattle.relation_terms.specs.Meaning.{arg_tree, object_predicate_tree}
-use Rattle.relation_text.proofs.Parts.{part_of}
+use Rattle.relation_text.proofs.Parts.{part_of, range_of}
 use Rattle.relation_text.proofs.printing.terms.+write_ty.Goals as goal
 
 pub write_args-write_arg-requires : goal.write_args-write_arg-requires
@@ -23,6 +23,18 @@ write_trait-write_assigned-requires g t c κs within =
     part_of (object_predicate_tree m) (list_tree (object_predicate_tree m) c.args.assigned.now)
     c.args.assigned.now c.loop-place.place c.index-assigned-place.result c.index-assigned-place.is
     refl c.loop-place-test.true c.requires.assigned in
+    let sure = part.0 in
+    let small = part.1 in
+    search rules
+
+pub write_object_predicates-write_object_bound-requires : goal.write_object_predicates-write_object_bound-requires
+write_object_predicates-write_object_bound-requires g t c κs within =
+    let m = g.I.Interner.meaning c.args.cx.now in
+    let d = c.decreases in
+    let part =
+    range_of (object_predicate_tree m) (m.existential_predicates c.args.predicates.now)
+    c.existential_predicates-list.result.now c.in-Some.bound.now c.loop-place.place _ c.in-Some.ensures
+    c.existential_predicates-list.ensures c.requires in
     let sure = part.0 in
     let small = part.1 in
     search rules
