@@ -11,14 +11,10 @@ use Rattle.relation_terms.specs.declared.terms.enums.Variance.{Variance}
 use Rattle.relation_terms.specs.declared.terms.keys.TyKey.{TyKey}
 use Rattle.relation_tools.specs.Components.{Choice, every, no_member, no_region, last_types, not_bivariant, takes, behind, components}
 use Rattle.relation_tools.specs.Outliving.{SomeIs, HasAll}
-use Rattle.relation_tools.specs.Collecting.{behind_all, found_components}
+use Rattle.relation_tools.specs.Collecting.{behind_all, of_member, found_components}
 use Rattle.relation_tools.specs.declared.outlives.Component.{Component}
 use Rattle.relation_tools.proofs.Outliving.{in_left, in_right, has_both}
 use Rattle.relation_tools.proofs.Visiting.{rest}
-
--- The components of the member at a place, where it is chosen.
-abbrev pub of_member : Choice → ℕ → Tree → List Tree
-of_member c i ts = cond (takes (behind_all i c) (nth i ts) (rest (suc i) ts)) (components every (nth i ts)) []
 
 behind_none : (c : Choice) → behind_all 0 c ≡ c
 behind_none (not_bivariant vs) = refl
@@ -36,36 +32,41 @@ behind_one i no_member = refl
 behind_one i no_region = refl
 behind_one i (last_types n) = refl
 
-first_member : (c : Choice) (t ts : Tree) → of_member c 0 (cons t ts) ≡ cond (takes c t ts) (components every t) []
-first_member c t ts = ap (λ z. cond (takes z t ts) (components every t) []) (behind_none c)
-
-next_member : (c : Choice) (i : ℕ) (t ts : Tree) → of_member c (suc i) (cons t ts) ≡ of_member (behind c) i ts
-next_member c i t ts =
-    ap (λ z. cond (takes z (nth i ts) (rest (suc i) ts)) (components every (nth i ts)) []) (behind_one i c)
+-- The components of the member at a place, by what was read there.
+pub member_is : (c : Choice) (i : ℕ) (ts x : Tree) (b : Bool) → i < count ts → x ≡ nth i ts →
+    b ≡ takes (behind_all i c) x (rest (suc i) ts) → of_member c i ts ≡ cond b (components every x) []
+member_is c zero (cons t ts) x b l e f =
+    ap (λ z. cond (takes c z ts) (components every z) []) (sym e)
+    ∙ ap (λ z. cond z (components every x) []) (sym (f ∙ ap (λ z. takes z x ts) (behind_none c)))
+member_is c (suc i) (cons t ts) x b l e f =
+    member_is (behind c) i ts x b (omega (arith, l)) e (f ∙ ap (λ z. takes z x (rest (suc i) ts)) (behind_one i c))
+member_is c i (leaf y) x b l e f = absurd (omega (arith, l))
+member_is c i (node h ts) x b l e f = absurd (omega (arith, l))
+member_is c i (bind ks t) x b l e f = absurd (omega (arith, l))
+member_is c i nil x b l e f = absurd (omega (arith, l))
 
 -- Those of a member are among those of the list.
-pub member_in : (c : Choice) (i : ℕ) (ts : Tree) → i < count ts → (P : Tree → Type 0) → SomeIs P (of_member c i ts) →
+pub member_in : (c : Choice) (i : ℕ) (ts : Tree) (P : Tree → Type 0) → SomeIs P (of_member c i ts) →
     SomeIs P (components c ts)
-member_in c zero (cons t ts) l P s =
-    in_left (cond (takes c t ts) (components every t) []) (components (behind c) ts) P
-    (subst (SomeIs P) (first_member c t ts) s)
-member_in c (suc i) (cons t ts) l P s =
-    in_right (cond (takes c t ts) (components every t) []) (components (behind c) ts) P
-    (member_in (behind c) i ts (omega (arith, l)) P (subst (SomeIs P) (next_member c i t ts) s))
-member_in c i (leaf x) l P s = absurd (omega (arith, l))
-member_in c i (node h ts) l P s = absurd (omega (arith, l))
-member_in c i (bind ks t) l P s = absurd (omega (arith, l))
-member_in c i nil l P s = absurd (omega (arith, l))
+member_in c zero (cons t ts) P s = in_left (cond (takes c t ts) (components every t) []) (components (behind c) ts) P s
+member_in c (suc i) (cons t ts) P s =
+    in_right (cond (takes c t ts) (components every t) []) (components (behind c) ts) P (member_in (behind c) i ts P s)
+member_in c zero (leaf y) P s = absurd s
+member_in c zero (node h ts) P s = absurd s
+member_in c zero (bind ks t) P s = absurd s
+member_in c zero nil P s = absurd s
+member_in c (suc i) (leaf y) P s = absurd s
+member_in c (suc i) (node h ts) P s = absurd s
+member_in c (suc i) (bind ks t) P s = absurd s
+member_in c (suc i) nil P s = absurd s
 
 -- A list that has those of each member has those of all.
 pub has_members : {X D N : Type 0} (m : Meaning X D N) (cs : List (Component X D N)) (c : Choice) (ts : Tree) → IsList ts →
     ((i : ℕ) → i < count ts → HasAll m (of_member c i ts) cs) → HasAll m (components c ts) cs
 has_members m cs c nil l f = tt
 has_members m cs c (cons t ts) l f =
-    has_both m (cond (takes c t ts) (components every t) []) (components (behind c) ts) cs
-    (subst (λ z. HasAll m z cs) (first_member c t ts) (f 0 (omega arith)))
-    (has_members m cs (behind c) ts l
-    (λ i h. subst (λ z. HasAll m z cs) (next_member c i t ts) (f (suc i) (omega (arith, h)))))
+    has_both m (cond (takes c t ts) (components every t) []) (components (behind c) ts) cs (f 0 (omega arith))
+    (has_members m cs (behind c) ts l (λ i h. f (suc i) (omega (arith, h))))
 has_members m cs c (leaf x) l f = absurd l
 has_members m cs c (node h ts) l f = absurd l
 has_members m cs c (bind ks t) l f = absurd l
@@ -102,16 +103,15 @@ from_last p t ts l =
     ∙ ap (λ i. cond (nat_lt p (count ts)) (cond (is_type_sort (tree_sort (nth i (cons t ts))))
     (Some (nth i (cons t ts))) None) None) place
 
+and_false : (b : Bool) → b && false ≡ false
+and_false true = refl
+and_false false = refl
+
 -- No type is chosen that is so far from the last.
 passed_by : (n : ℕ) (t ts : Tree) → n ≤ count ts → components (last_types n) (cons t ts) ≡ components (last_types n) ts
-passed_by n t ts l = decided (is_type_sort (tree_sort t)) refl
-  where
-    decided : (b : Bool) → is_type_sort (tree_sort t) ≡ b →
-        components (last_types n) (cons t ts) ≡ components (last_types n) ts
-    decided true e = ap (λ z. cond z (components every t) [] ++ components (last_types n) ts)
-        (ap (λ z. cond z (nat_lt (count ts) n) false) e ∙ le-ltb (count ts) n l)
-    decided false e = ap (λ z. cond z (components every t) [] ++ components (last_types n) ts)
-        (ap (λ z. cond z (nat_lt (count ts) n) false) e)
+passed_by n t ts l =
+    ap (λ z. cond z (components every t) [] ++ components (last_types n) ts)
+    (ap (λ z. is_type_sort (tree_sort t) && z) (le-ltb (count ts) n l) ∙ and_false (is_type_sort (tree_sort t)))
 
 -- The one type of a list of one, where it is a type.
 lone : (b : Bool) (t : Tree) → cond (b && true) (components every t) [] ≡ of_found (cond b (Some t) None)
@@ -143,9 +143,9 @@ resumed_is (cons t nil) l = lone_end (is_type_sort (tree_sort t)) t
 resumed_is (cons t (cons u nil)) l =
     ap₂ (λ x y. x ++ y) (lone (is_type_sort (tree_sort t)) t) (lone_end (is_type_sort (tree_sort u)) u)
 resumed_is (cons t (cons u (cons v vs))) l =
-    let ts = cons u (cons v vs) in
-    passed_by 2 t ts (omega arith) ∙ resumed_is ts l
-    ∙ ap₂ (λ x y. of_found x ++ of_found y) (sym (from_last 1 t ts (omega arith))) (sym (from_last 0 t ts (omega arith)))
+    passed_by 2 t (cons u (cons v vs)) (omega arith) ∙ resumed_is (cons u (cons v vs)) l
+    ∙ ap₂ (λ x y. of_found x ++ of_found y) (sym (from_last 1 t (cons u (cons v vs)) (omega arith)))
+    (sym (from_last 0 t (cons u (cons v vs)) (omega arith)))
 resumed_is (cons t (cons u (leaf x))) l = absurd l
 resumed_is (cons t (cons u (node h ts))) l = absurd l
 resumed_is (cons t (cons u (bind ks v))) l = absurd l

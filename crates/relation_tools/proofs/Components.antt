@@ -1,14 +1,14 @@
 -- The components of each form.
-use Rattle.std.proofs.Common.{◌≡◌, ◌∙◌, true, false, cond, IsTrue, refl, sym, ap, append-nil, [], ◌∷◌, List}
-use Rattle.relation_terms.specs.Heads.{region_kind, type_kind, const_kind, bound_kind, no_sort, leaf_sort, head_sort}
+use Rattle.std.proofs.Common.{◌≡◌, ◌∙◌, ℕ, subst, true, false, cond, IsTrue, refl, sym, ap, append-nil, [], ◌∷◌, List}
+use Rattle.relation_terms.specs.Heads.{region_kind, type_kind, const_kind, bound_kind, no_sort, leaf_sort, head_sort, type_sort, argument_sort}
 use Rattle.relation_terms.specs.Heads.{type_var, int_var, float_var, const_var, region_var}
 use Rattle.relation_terms.specs.Heads.{Leaf, variable, bound, placeholder, atom, unknown}
 use Rattle.relation_terms.specs.Heads.{Atom, static_region, early_region, type_param, fresh_type, fresh_int, fresh_float}
 use Rattle.relation_terms.specs.Heads.{Head, adt, fn_def, closure, coroutine_closure, coroutine, coroutine_witness}
 use Rattle.relation_terms.specs.Heads.{array, slice, pattern_type, tuple, unsafe_binder, dynamic, fn_ptr, raw_ptr, ref, alias}
-use Rattle.relation_terms.specs.Trees.{Tree, leaf, node, bind, nil, cons}
+use Rattle.relation_terms.specs.Trees.{Tree, leaf, node, bind, nil, cons, known, IsList, IsTerm}
 use Rattle.relation_terms.specs.Meaning.{Meaning, kind_tree, region_tree, infer_tree}
-use Rattle.relation_terms.specs.Parts.{tree_sort, parts_of}
+use Rattle.relation_terms.specs.Parts.{tree_sort, parts_of, part_tree, part_sort}
 use Rattle.relation_terms.specs.Closures.{is_type_sort}
 use Rattle.relation_terms.specs.declared.terms.ty_kind.TyKind.{TyKind}
 use Rattle.relation_terms.specs.declared.terms.ty_kind.TyKind.TheVariants.{Bool, Char, Int, Uint, Float, Adt, Foreign}
@@ -36,7 +36,17 @@ use Rattle.relation_terms.specs.declared.terms.region_kind.RegionKind.TheVariant
 use Rattle.relation_terms.specs.declared.terms.region_kind.RegionKind.TheVariants.{ReVar, RePlaceholder}
 use Rattle.relation_terms.specs.declared.terms.region_kind.BoundRegion.{BoundRegion}
 use Rattle.relation_terms.specs.declared.terms.numbers.DebruijnIndex.{DebruijnIndex}
-use Rattle.relation_tools.specs.Components.{every, components, choice_of, is_alias, is_component, is_region_sort}
+use Rattle.relation_terms.specs.declared.terms.keys.RegionKey.{RegionKey}
+use Rattle.relation_terms.specs.declared.terms.keys.TyKey.{TyKey}
+use Rattle.relation_terms.specs.declared.terms.part_kind.Part.{Part}
+use Rattle.relation_terms.specs.declared.terms.part_kind.Part.TheVariants.{Region, Ty, Const, ValTree, Pat as PatPart}
+use Rattle.relation_terms.specs.declared.terms.part_kind.Part.TheVariants.{ValueType, Binder, Signature, Inputs}
+use Rattle.relation_terms.specs.declared.terms.part_kind.Part.TheVariants.{Existential, Object}
+use Rattle.relation_terms.proofs.Sorted.{Sorted}
+use Rattle.relation_terms.proofs.Parts.{sort_known}
+use Rattle.relation_tools.proofs.Meeting.{terms_list}
+use Rattle.relation_tools.proofs.Visiting.{has_sort}
+use Rattle.relation_tools.specs.Components.{every, no_member, components, choice_of, is_alias, is_component, is_region_sort}
 
 -- A leaf that is no region and no type is no component.
 leaf_none : (l : Leaf) → is_region_sort (leaf_sort l) ≡ false → is_type_sort (leaf_sort l) ≡ false →
@@ -89,6 +99,41 @@ parts_have (node h ts) n r t =
 parts_have (bind ks t) n r s = append-nil (components every t)
 parts_have nil n r t = absurd (n refl)
 parts_have (cons t ts) n r s = absurd (n refl)
+
+-- A part that is no region and no type has the components of its parts.
+module _ {Key Id Name : Type 0} (m : Meaning Key Id Name) (o : Sorted m) where
+  of_sort : (p : Part Key Id) → IsTrue (known (part_tree m p)) → is_region_sort (part_sort p) ≡ false →
+      is_type_sort (part_sort p) ≡ false → components every (parts_of (part_tree m p)) ≡ components every (part_tree m p)
+  of_sort p k r t =
+      let s = sort_known m o p k in
+      parts_have (part_tree m p) (λ e. has_sort p (sym s ∙ e)) (ap is_region_sort s ∙ r) (ap is_type_sort s ∙ t)
+
+  pub part_has : (p : Part Key Id) → IsTrue (known (part_tree m p)) → ((r : RegionKey Key) → p ≡ Region r → ⊥) →
+      ((t : TyKey Key) → p ≡ Ty t → ⊥) → components every (parts_of (part_tree m p)) ≡ components every (part_tree m p)
+  part_has (Region r) k f g = absurd (f r refl)
+  part_has (Ty t) k f g = absurd (g t refl)
+  part_has (Const c) k f g = of_sort (Const c) k refl refl
+  part_has (ValTree v) k f g = of_sort (ValTree v) k refl refl
+  part_has (PatPart q) k f g = of_sort (PatPart q) k refl refl
+  part_has (ValueType t) k f g = of_sort (ValueType t) k refl refl
+  part_has (Binder vs b) k f g = of_sort (Binder vs b) k refl refl
+  part_has (Signature s) k f g = of_sort (Signature s) k refl refl
+  part_has (Inputs t) k f g = of_sort (Inputs t) k refl refl
+  part_has (Existential p) k f g = of_sort (Existential p) k refl refl
+  part_has (Object p) k f g = of_sort (Object p) k refl refl
+
+-- A coroutine's witness has none.
+none_chosen : (ts : Tree) → IsList ts → components no_member ts ≡ []
+none_chosen nil l = refl
+none_chosen (cons t ts) l = none_chosen ts l
+none_chosen (leaf x) l = absurd l
+none_chosen (node h ts) l = absurd l
+none_chosen (bind ks t) l = absurd l
+
+pub witness_has : (w : Tree) (d : ℕ) (ts : Tree) → w ≡ node (coroutine_witness d) ts → IsTerm type_sort w →
+    components every w ≡ []
+witness_has w d ts e k =
+    ap (components every) e ∙ none_chosen ts (terms_list argument_sort ts (subst (IsTerm type_sort) e k).1)
 
 -- A region that no binder binds is a component, and one that a binder binds has none.
 pub region_is : {Key Id Name : Type 0} (m : Meaning Key Id Name) (k : RegionKind Name) →

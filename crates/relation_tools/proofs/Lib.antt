@@ -23,3 +23,4 @@ pub mod Arguments
 pub mod Outliving
 pub mod Choosing
 pub mod Components
+pub mod Meeting

@@ -61,7 +61,7 @@ module _ {X D N : Type 0} (m : Meaning X D N) where
     p.0,
     p.1,
     each_map (λ c. SomeIs (λ t. StandsFor m c t) ts) (λ c. SomeIs (λ t. StandsFor m c t) us)
-    (λ c s. f (λ t. StandsFor m c t) s) p.0 p.2,
+        (λ c s. f (λ t. StandsFor m c t) s) p.0 p.2,
   )
 
   pub adds_as : (ts us : List Tree) (cs ds : List (Component X D N)) → ts ≡ us → AddsSome m ts cs ds →
@@ -103,12 +103,12 @@ module _ {X D N : Type 0} (m : Meaning X D N) where
 
   -- What is held in a component, as a list.
   each_row : (ts : List Tree) (n : Count) (row : Row_of-Component X D N n) →
-      EachIs (λ c. SomeIs (λ t. StandsFor m c t) ts) (items-the_row-Component n row) → EachStands m row ts
+      EachIs (λ c. SomeIs (λ t. StandsFor m c t) ts) (items-the_row-Component X D N n row) → EachStands m row ts
   each_row ts n end_of-Component e = tt
   each_row ts n (more_of-Component c rest) e = (e.0, each_row ts _ rest e.1)
 
   some_row : (t : Tree) (n : Count) (row : Row_of-Component X D N n) →
-      SomeIs (λ c. StandsFor m c t) (items-the_row-Component n row) → SomeStands m row t
+      SomeIs (λ c. StandsFor m c t) (items-the_row-Component X D N n row) → SomeStands m row t
   some_row t n end_of-Component s = absurd s
   some_row t n (more_of-Component c rest) (inl p) = inl p
   some_row t n (more_of-Component c rest) (inr s) = inr (some_row t _ rest s)
@@ -122,14 +122,13 @@ module _ {X D N : Type 0} (m : Meaning X D N) where
       HasAll m (inside_alias m.alias_variances t) list.items → StandsFor m (EscapingAlias list) t
   stands_escaping list t e p h =
       let row = row_of (EscapingAlias list) in
-      let same = items_hidden-the_row-Component-0 list in
-      let ts = inside_alias m.alias_variances t in
-      (
+      let same = items_hidden-the_row-Component-0 X D N list in
+      let ts = inside_alias m.alias_variances t in (
         e,
         each_row ts row.0 row.1
-        (subst (EachIs (λ c. SomeIs (λ t. StandsFor m c t) ts)) (sym (same ∙ p.1)) p.2),
+            (subst (EachIs (λ c. SomeIs (λ t. StandsFor m c t) ts)) (sym (same ∙ p.1)) p.2),
         each_map (λ u. SomeIs (λ c. StandsFor m c u) list.items) (λ u. SomeStands m row.1 u)
-        (λ u s. some_row u row.0 row.1 (subst (SomeIs (λ c. StandsFor m c u)) (sym same) s)) ts h,
+            (λ u s. some_row u row.0 row.1 (subst (SomeIs (λ c. StandsFor m c u)) (sym same) s)) ts h,
       )
 
   -- What was met.

@@ -1,14 +1,14 @@
 -- How a collection of components goes on, and what it has met.
-use Rattle.std.specs.Prelude.{◌≡◌, ◌⊎◌, ◌<◌, ℕ, Bool, true, cond, List, [], drop, IsTrue, Option, Some, None}
+use Rattle.std.specs.Prelude.{◌≡◌, ◌⊎◌, ◌<◌, ℕ, zero, suc, Bool, true, cond, List, [], drop, IsTrue, Option, Some, None}
 use Rattle.std.specs.List.{list_any}
-use Rattle.relation_terms.specs.Trees.{Tree, known, size}
+use Rattle.relation_terms.specs.Trees.{Tree, cons, known, size}
 use Rattle.relation_terms.specs.Meaning.{Meaning, arg_tree}
 use Rattle.relation_terms.specs.declared.terms.generic_arg.GenericArgKind.{GenericArgKind}
 use Rattle.relation_terms.specs.declared.terms.generic_arg.GenericArgKind.TheVariants.{Ty as TyArg, Const as ConstArg}
 use Rattle.relation_terms.specs.declared.terms.keys.TyKey.{TyKey}
 use Rattle.relation_terms.specs.declared.terms.part_kind.Part.{Part}
 use Rattle.relation_terms.specs.declared.terms.part_kind.Part.TheVariants.{Ty as TyPart, Const as ConstPart}
-use Rattle.relation_tools.specs.Components.{Choice, every, no_region, not_bivariant, alias_choice, components}
+use Rattle.relation_tools.specs.Components.{Choice, every, no_region, not_bivariant, alias_choice, takes, behind, components}
 use Rattle.relation_tools.specs.Outliving.{HasAll}
 use Rattle.relation_tools.specs.Walking.{Adds}
 use Rattle.relation_tools.specs.declared.outlives.Component.{Component}
@@ -19,6 +19,12 @@ use Rattle.relation_tools.specs.declared.outlives.chosen.Chosen.TheVariants.{Eve
 abbrev pub behind_all : ℕ → Choice → Choice
 behind_all i (not_bivariant vs) = not_bivariant (drop i vs)
 behind_all i c = c
+
+-- The components of the member at a place, if it is chosen.
+abbrev pub of_member : Choice → ℕ → Tree → List Tree
+of_member c zero (cons t ts) = cond (takes c t ts) (components every t) []
+of_member c (suc i) (cons t ts) = of_member (behind c) i ts
+of_member c i ts = []
 
 -- What is kept of a part: a type or a constant.
 abbrev pub kept_of : {Key Id : Type 0} → Part Key Id → Option (GenericArgKind Key)

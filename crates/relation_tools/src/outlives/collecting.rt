@@ -1,13 +1,14 @@
 //! The components of a term: one recursion over the parts of all forms, that goes into each type and constant once.
-ghost use Rattle.std.specs.Prelude.{◌≡◌, ◌++◌, ◌∷◌, [], suc, true, IsTrue, IfOk, IfSome, OnOk, OnErr};
-ghost use Rattle.relation_terms.specs.Trees.{known, size};
+ghost use Rattle.std.specs.Prelude.{◌≡◌, ◌<◌, ◌++◌, ◌∷◌, [], suc, true, IsTrue, IfOk, IfSome, OnOk, OnErr};
+ghost use Rattle.relation_terms.specs.Trees.{known, size, count};
 ghost use Rattle.relation_terms.specs.Meaning.{kind_tree};
 ghost use Rattle.relation_terms.specs.Parts.{part_tree, parts_tree};
 ghost use Rattle.relation_terms.specs.declared.terms.ty_kind.TyKind.TheVariants.{Alias as AliasForm};
 ghost use Rattle.relation_tools.specs.Components.{every, last_types, components, inside_alias};
 ghost use Rattle.relation_tools.specs.Visits.{bound_var_escapes};
 ghost use Rattle.relation_tools.specs.Outliving.{AddsSome, HasAll};
-ghost use Rattle.relation_tools.specs.Collecting.{meant, kept_of, found_components, found_size, Settled, Meets, Keeps};
+ghost use Rattle.relation_tools.specs.Collecting.{meant, of_member, kept_of, found_components, found_size};
+ghost use Rattle.relation_tools.specs.Collecting.{Settled, Meets, Keeps};
 
 use crate::outlives::chosen::{Chosen, alias_chosen, is_chosen};
 use crate::outlives::{Component, ComponentOf};
@@ -71,7 +72,6 @@ fn collect_region<I: Interner>(
 
 // Adds the components of a part, but where it was met before.
 #[cycle(collect)]
-#[tactic(none)]
 pub fn collect_part<I: Interner>(
     cx: &I,
     part: &PartOf<I>,
@@ -100,7 +100,6 @@ pub fn collect_part<I: Interner>(
 
 // Adds the components of the members of a list that are chosen.
 #[cycle(collect)]
-#[tactic(none)]
 fn collect_members<I: Interner>(
     cx: &I,
     parts: &PartsOf<I>,
@@ -123,17 +122,43 @@ fn collect_members<I: Interner>(
     let count = member_count(cx, parts);
     for step in 0..count {
         let i = visited_place(parts, count, step);
-        let part = member(cx, parts, i);
-        if is_chosen(cx, chosen, i, &part) {
-            collect_part(cx, &part, out, visited)?;
-        }
+        collect_member(cx, parts, chosen, i, out, visited)?;
     }
     Ok(())
 }
 
+// Adds the components of the member at a place of a list, if it is chosen.
+#[cycle(collect)]
+fn collect_member<I: Interner>(
+    cx: &I,
+    parts: &PartsOf<I>,
+    chosen: &Chosen<I::Id>,
+    i: usize,
+    out: &mut SmallVec<ComponentOf<I>, 4>,
+    visited: &mut HashSet<GenericArg<I>>,
+) -> Result<(), OutOfMemory>
+    requires known { IsTrue (known (parts_tree (I.meaning cx.now) parts.now)) }
+    requires in_bounds { i < count (parts_tree (I.meaning cx.now) parts.now) }
+    requires settled { Settled (I.meaning cx.now) ⟦<GenericArgKind<I::Key> as PartialEq>⟧.eq
+        (size (parts_tree (I.meaning cx.now) parts.now)) visited.old.keys out.old.items }
+    ensures some { AddsSome (I.meaning cx.now)
+        (of_member (meant (I.meaning cx.now) chosen.now) i (parts_tree (I.meaning cx.now) parts.now))
+        out.old.items out.new.items }
+    ensures all { OnOk result (HasAll (I.meaning cx.now)
+        (of_member (meant (I.meaning cx.now) chosen.now) i (parts_tree (I.meaning cx.now) parts.now))
+        out.new.items) }
+    ensures meets { OnOk result (Meets (I.meaning cx.now) ⟦<GenericArgKind<I::Key> as PartialEq>⟧.eq
+        visited.old.keys visited.new.keys out.new.items) }
+{
+    let part = member(cx, parts, i);
+    if !is_chosen(cx, chosen, i, &part) {
+        return Ok(());
+    }
+    collect_part(cx, &part, out, visited)
+}
+
 // Adds the components of a type that was found among arguments, if one was.
 #[cycle(collect)]
-#[tactic(none)]
 fn collect_found<I: Interner>(
     cx: &I,
     found: Option<Ty<I>>,
@@ -158,7 +183,6 @@ fn collect_found<I: Interner>(
 
 // Adds the components of the types that a closure of these arguments captures.
 #[cycle(collect)]
-#[tactic(none)]
 fn collect_closure<I: Interner>(
     cx: &I,
     args: &GenericArgs<I>,
@@ -180,7 +204,6 @@ fn collect_closure<I: Interner>(
 
 // Adds the components of the types that a coroutine of these arguments captures, and of the type it is resumed with.
 #[cycle(collect)]
-#[tactic(none)]
 fn collect_coroutine<I: Interner>(
     cx: &I,
     args: &GenericArgs<I>,
@@ -204,7 +227,6 @@ fn collect_coroutine<I: Interner>(
 
 // Adds the components of a type, by its outermost form.
 #[cycle(collect)]
-#[tactic(none)]
 fn collect_ty<I: Interner>(
     cx: &I,
     ty: &Ty<I>,
@@ -241,7 +263,6 @@ fn collect_ty<I: Interner>(
 
 // Adds the one component of an alias that a variable escapes, which holds those of its arguments.
 #[cycle(collect)]
-#[tactic(none)]
 fn collect_escaping<I: Interner>(
     cx: &I,
     alias: &AliasTy<I::Key, I::Id>,
@@ -260,7 +281,6 @@ fn collect_escaping<I: Interner>(
 
 // The components of the arguments of an alias, by themselves.
 #[cycle(collect)]
-#[tactic(none)]
 fn alias_components<I: Interner>(
     cx: &I,
     alias: &AliasTy<I::Key, I::Id>,
@@ -280,7 +300,6 @@ fn alias_components<I: Interner>(
 
 // Adds the components of the arguments of an alias, but of those that it is bivariant in.
 #[cycle(collect)]
-#[tactic(none)]
 pub fn collect_alias_args<I: Interner>(
     cx: &I,
     alias: &AliasTy<I::Key, I::Id>,
