@@ -17,7 +17,8 @@ pub enum ItemSort {
     Foreign,
 }
 
-/// How a quick test takes the parameters on the left and those on the right: as types of their own, or as standing for any.
+/// How a quick test takes the parameters on the left and those on the right: as types of their own (rigid), or as
+/// standing for any.
 #[derive(Clone, Copy, PartialEq, Eq, Debug)]
 pub enum SideParams {
     RigidRigid,
