@@ -69,7 +69,7 @@ pub(super) fn ask_may_unify<I: Interner>(
 }
 
 // Whether two lists of arguments may unify.
-#[tactic(auto, using(relation_terms::proofs::Stays::knows_args, relation_terms::proofs::Stays::extends_on, crate::proofs::AskingLemmas::ready_stays))]
+#[tactic(auto, using(relation_terms::proofs::Stays::knows_args, relation_terms::proofs::Stays::extends_on))]
 pub(super) fn ask_args_may_unify<I: Interner>(
     ctx: &mut RefCtxt<I>,
     terms: &Ready<I>,

@@ -31,7 +31,8 @@ pub enum ItemSort {
     InherentConst,
 }
 
-/// How a quick test takes the parameters on the left and those on the right: as types of their own, or as standing for any.
+/// How a quick test takes the parameters on the left and those on the right: as types of their own (rigid), or as
+/// standing for any.
 #[derive(Clone, Copy, PartialEq, Eq, Debug)]
 pub enum SideParams {
     RigidRigid,
