@@ -1,7 +1,9 @@
 -- What a walk yields from here on, whatever is called on it, is what the places of its tree say.
 use Rattle.std.proofs.Common.{◌≡◌, ◌↔◌, ◌≤◌, ℕ, suc, Bool, true, false, cond, ◌&&◌, IsTrue, refl, sym, ap, ◌∙◌, subst, arith}
 use Rattle.std.proofs.Common.{List, [], ◌∷◌, ◌++◌, map, length, Option, Some, None, Ok, append-nil}
-use Rattle.std.proofs.lemmas.Bool.{and_parts}
+use Rattle.std.proofs.Common.{◌<◌, ◌||◌, ◌==◌, ◌+◌, drop, get_or}
+use Rattle.std.proofs.Math.Seq.{drop-cons}
+use Rattle.std.proofs.lemmas.Bool.{and_parts, eq-eqb, eqb-true}
 use Rattle.std.proofs.lemmas.List.{append_assoc, length-append}
 use Rattle.std.specs.List.{list_any}
 use Rattle.relation_terms.specs.Trees.{Tree, known, size, list_tree}
@@ -13,6 +15,7 @@ use Rattle.relation_tools.specs.Walking.{Walk, Pull, first_unseen}
 use Rattle.relation_tools.specs.Positions.{yields, Call, pull, skip, Tells, has_ended, Runs, ByPlaces}
 use Rattle.relation_asking.specs.Codes.{same_tree}
 use Rattle.relation_asking.specs.Meets.{AllKnown}
+use Rattle.relation_asking.specs.Skips.{stands_in}
 use Rattle.relation_asking.proofs.CodeLemmas.{same_is, is_same}
 
 pub cond_same : {A : Type 0} (b : Bool) (a : A) → cond b a a ≡ a
@@ -22,6 +25,35 @@ cond_same false a = refl
 pub skipped_cx : {I A : Type 0} (b : Bool) (w : Walk I A) → (cond b (record w { inside = [] }) w).cx ≡ w.cx
 skipped_cx true w = refl
 skipped_cx false w = refl
+
+no_true : (b : Bool) → (b ≡ true → ⊥) → b ≡ false
+no_true true h = absurd (h refl)
+no_true false h = refl
+
+module _ {I A : Type 0} (ns : List ℕ) (i p : ℕ) (w u z : Walk I A) where
+  -- The walk as it is once these have been looked at.
+  abbrev looked : List ℕ → Walk I A → Walk I A
+  looked rest v = cond (stands_in rest p) (record v { inside = [] }) v
+
+  pub looked_same : i < length ns → get_or ns i 0 ≡ p → u ≡ record w { inside = [] } → looked (drop i ns) w ≡ z →
+      looked (drop (i + 1) ns) u ≡ z
+  looked_same l h e k =
+      let rest = drop (suc i) ns in
+      let one : i + 1 ≡ suc i = omega arith in
+      let cut = ap (λ xs. looked xs w) (drop-cons ns i 0 l) in
+      let first = ap (λ b. cond (b || stands_in rest p) (record w { inside = [] }) w) (eq-eqb (get_or ns i 0) p h) in
+      ap (λ j. looked (drop j ns) u) one ∙ ap (looked rest) e ∙ cond_same (stands_in rest p) (record w { inside = [] })
+          ∙ sym (cut ∙ first) ∙ k
+
+  pub looked_other : i < length ns → (get_or ns i 0 ≡ p → ⊥) → u ≡ w → looked (drop i ns) w ≡ z →
+      looked (drop (i + 1) ns) u ≡ z
+  looked_other l h e k =
+      let rest = drop (suc i) ns in
+      let one : i + 1 ≡ suc i = omega arith in
+      let cut = ap (λ xs. looked xs w) (drop-cons ns i 0 l) in
+      let n = no_true (get_or ns i 0 == p) (λ t. h (eqb-true (get_or ns i 0) p t)) in
+      let first = ap (λ b. cond (b || stands_in rest p) (record w { inside = [] }) w) n in
+      ap (λ j. looked (drop j ns) u) one ∙ ap (looked rest) e ∙ sym (cut ∙ first) ∙ k
 
 decides : (a b : Tree) → (IsTrue (same_tree a b) ↔ (a ≡ b))
 decides a b = (same_is a b, is_same a b)
@@ -75,6 +107,12 @@ module _ {I Key Id Name : Type 0} (m : Meaning Key Id Name) (eq : GenericArgKind
   goes_next w u ys x false e h p = λ cs rs v r k.
       let l = subst (λ i. Tells skips i (pull ∷ cs) rs) (one_more ys x) k in
       comes_more m t skips ys x rs (h (pull ∷ cs) (Some x ∷ rs) v (u, p, r) (e, l))
+
+  pub goes_next_as : (w u v : Walk I (GenericArgKind Key)) (ys zs : List (GenericArgKind Key)) (x : GenericArgKind Key)
+      (b : Bool) → zs ≡ ys ++ x ∷ [] → v ≡ skipped b u → skips (length ys) ≡ b → Goes w ys →
+      Pull m eq {E = OutOfMemory} w (Some (Ok x)) u → Goes v zs
+  goes_next_as w u v ys zs x b e k n h p =
+      subst (λ r. Goes r zs) (sym k) (subst (Goes (skipped b u)) (sym e) (goes_next w u ys x b n h p))
 
   pub goes_small : (w u : Walk I (GenericArgKind Key)) (ys : List (GenericArgKind Key)) (x : GenericArgKind Key) →
       Goes w ys → Pull m eq {E = OutOfMemory} w (Some (Ok x)) u → suc (length ys) ≤ size t

@@ -1,7 +1,6 @@
-use Rattle.std.proofs.Common.{◌≡◌, ◌∙◌, sym, ap, true, false, cond, [], drop, suc, get_or, ◌==◌, ◌||◌, rules}
-use Rattle.std.proofs.Math.Seq.{drop-cons}
+use Rattle.std.proofs.Common.{◌∙◌, cond, []}
 use Rattle.relation_asking.specs.Skips.{stands_in}
-use Rattle.relation_asking.proofs.WalkLemmas.{cond_same}
+use Rattle.relation_asking.proofs.WalkLemmas.{looked_same, looked_other}
 use Rattle.relation_asking.proofs.walking.skip_after.Goals as goal
 use Rattle.relation_asking.proofs.walking.skip_after.Goals.{then-number-pulls, else-number-pulls}
 
@@ -9,18 +8,14 @@ pub loop-number-preserved : goal.loop-number-preserved
 loop-number-preserved g c =
     let ns = c.args.skips.now in
     let i = c.loop-number.number-index in
+    let p = c.args.pulls in
     let v = c.loop-number.walker in
-    let u = record v { inside = [] } in
-    let rest = stands_in (drop (suc i) ns) c.args.pulls in
-    let cut = drop-cons ns i 0 c.loop-number-test.true in
+    let u = c.if-number-pulls.walker in
+    let z = cond (stands_in ns p) (record c.args.walker.now { inside = [] }) c.args.walker.now in
     elim c.if-number-pulls.branch [
       then-number-pulls w ↦
-        let h : (get_or ns i 0 == c.args.pulls) ≡ true = search (rules, w.if-number-pulls) in
-        let e : stands_in (drop i ns) c.args.pulls ≡ true = rw cut (ap (λ b. b || rest) h) in
-        rw (w.walker-is, w.skip_current_subtree.ensures)
-        (cond_same rest u ∙ sym (ap (λ b. cond b u v) e) ∙ c.loop-number.invariant)
+        looked_same ns i p v u z c.loop-number-test.true w.if-number-pulls.true
+        (w.walker-is ∙ w.skip_current_subtree.ensures) c.loop-number.invariant
     | else-number-pulls w ↦
-        let h : (get_or ns i 0 == c.args.pulls) ≡ false = search (rules, w.if-number-pulls) in
-        let e : stands_in (drop i ns) c.args.pulls ≡ rest = rw cut (ap (λ b. b || rest) h) in
-        rw w.walker-is (sym (ap (λ b. cond b u v) e) ∙ c.loop-number.invariant)
+        looked_other ns i p v u z c.loop-number-test.true w.if-number-pulls.false w.walker-is c.loop-number.invariant
     ]
