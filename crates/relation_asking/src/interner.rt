@@ -54,8 +54,8 @@ fn has_self(sort: ItemSort) -> bool {
     )
 }
 
-// Adds an item, behind those of these ids. No term is made of its own name and of its parameters' names, so they all are
-// one name.
+// Adds an item, behind those of these ids. No term is made of its own name and of its parameters' names, so they all
+// are one name.
 fn add_item(
     alloc: Global,
     cx: &mut RefInterner,

@@ -9,8 +9,8 @@ use crate::naming::statements::MOST_VARIABLES;
 use crate::reading::{Form, ItemSort, Leaf, Node, NodeKind};
 use relation_terms::terms::{FnHeader, Mutability};
 
-// What the members of a list are to be: of any sort, of one, what an item declares, or a type that implements a trait and
-// then what an item of the trait declares.
+// What the members of a list are to be: of any sort, of one, what an item declares, or a type that implements a trait,
+// and then what an item of the trait declares.
 #[derive(Clone, Copy)]
 pub(super) enum Wanted {
     Any,
