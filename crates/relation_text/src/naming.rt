@@ -5,7 +5,6 @@ mod binders;
 mod error;
 mod namer;
 mod objects;
-mod outlives;
 mod plain;
 mod program;
 mod questions;

@@ -3,7 +3,6 @@
 mod error;
 mod headers;
 mod openings;
-mod outlives;
 mod place;
 mod questions;
 mod quick;
