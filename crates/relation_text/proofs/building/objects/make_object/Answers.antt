@@ -7,21 +7,21 @@ use Rattle.relation_text.specs.Built.{inner_tree}
 use Rattle.relation_text.proofs.BuildingLemmas.{known_list, built_list, made_of}
 use Rattle.relation_text.proofs.building.objects.make_object.Goals as goal
 
-pub make_dynamic-requires-inners : goal.make_dynamic-requires-inners
-make_dynamic-requires-inners g c =
+pub make_dynamic-requires-clause-inners : goal.make_dynamic-requires-clause-inners
+make_dynamic-requires-clause-inners g c =
     let m = g.I.Interner.meaning c.args.cx.now in
     subst (λ u. IsTrue (known u)) (sym (ap (list_tree (inner_tree m)) c.deref.ensures.value))
-    (known_list (inner_tree m) c.args.inners.now c.requires.inners (slice_range c.args.numbers.now (c.in-Object.parts).first (c.in-Object.parts).behind) c.in_ok-list.list.items c.in_ok-list.ensures)
+    (known_list (inner_tree m) c.args.inners.now c.requires.inners (slice_range c.args.numbers.now (c.in-Object.parts).first (c.in-Object.parts).behind) c.in_ok-list-in-Object.list.items c.in_ok-list-in-Object.ensures)
 
-pub make_dynamic-requires-region : goal.make_dynamic-requires-region
-make_dynamic-requires-region g c = c.requires.keys c.in-Object.region (Lifetime c.in_ok-region.region) c.in_ok-region.ensures
+pub make_dynamic-requires-clause-region : goal.make_dynamic-requires-clause-region
+make_dynamic-requires-clause-region g c = c.requires.keys c.in-Object.region (Lifetime c.in_ok-region-in-Object.region) c.in_ok-region-in-Object.ensures
 
-pub returns-in_ok-region-clause-made : goal.returns-in_ok-region-clause-made
-returns-in_ok-region-clause-made g c items names =
+pub returns-in_ok-region-in-Object-clause-made : goal.returns-in_ok-region-in-Object-clause-made
+returns-in_ok-region-in-Object-clause-made g c items names =
     let m = g.I.Interner.meaning c.args.cx.now in
     made_of m c.args.built.now c.args.inners.now (λ ts. term_tree items names c.args.numbers.now ts c.args.term) (arg_tree (g.I.Interner.meaning c.make_dynamic.new.cx))
-    (object_tree (list_tree (inner_tree m) c.deref.result.now) (m.region c.in_ok-region.region)) c.make_dynamic.result c.make_dynamic.ensures.made
+    (object_tree (list_tree (inner_tree m) c.deref.result.now) (m.region c.in_ok-region-in-Object.region)) c.make_dynamic.result c.make_dynamic.ensures.made
     (λ trees b p. ap₂ object_tree (ap (list_tree (inner_tree m)) c.deref.ensures.value
-    ∙ built_list (inner_tree m) c.args.inners.now trees p (slice_range c.args.numbers.now (c.in-Object.parts).first (c.in-Object.parts).behind) c.in_ok-list.list.items c.in_ok-list.ensures)
-    (b c.in-Object.region (Lifetime c.in_ok-region.region) c.in_ok-region.ensures)
+    ∙ built_list (inner_tree m) c.args.inners.now trees p (slice_range c.args.numbers.now (c.in-Object.parts).first (c.in-Object.parts).behind) c.in_ok-list-in-Object.list.items c.in_ok-list-in-Object.ensures)
+    (b c.in-Object.region (Lifetime c.in_ok-region-in-Object.region) c.in_ok-region-in-Object.ensures)
     ∙ sym (ap (term_tree items names c.args.numbers.now trees) c.in-Object.is))

@@ -13,14 +13,14 @@ make_implements-requires g c =
     subst (λ u. IsTrue (known u)) (sym (ap (list_tree (arg_tree m)) c.deref-in-Implements.ensures.value))
     (known_list (arg_tree m) c.args.built.now c.requires (slice_range c.args.numbers.now (c.in-Implements.args).first (c.in-Implements.args).behind) c.in_ok-args-in-Implements.args.items c.in_ok-args-in-Implements.ensures)
 
-pub make_projects-requires-args : goal.make_projects-requires-args
-make_projects-requires-args g c =
+pub make_projects-requires-clause-args : goal.make_projects-requires-clause-args
+make_projects-requires-clause-args g c =
     let m = g.I.Interner.meaning c.args.cx.now in
     subst (λ u. IsTrue (known u)) (sym (ap (list_tree (arg_tree m)) c.deref-in-Projects-2.ensures.value))
     (known_list (arg_tree m) c.args.built.now c.requires (slice_range c.args.numbers.now (c.in-Projects.args).first (c.in-Projects.args).behind) c.in_ok-args-in-Projects.args.items c.in_ok-args-in-Projects.ensures)
 
-pub make_projects-requires-key : goal.make_projects-requires-key
-make_projects-requires-key g c = c.requires c.in-Projects.key c.in_ok-key-in-Projects.key c.in_ok-key-in-Projects.ensures
+pub make_projects-requires-clause-key : goal.make_projects-requires-clause-key
+make_projects-requires-clause-key g c = c.requires c.in-Projects.key c.in_ok-key-in-Projects.key c.in_ok-key-in-Projects.ensures
 
 pub make_under-requires : goal.make_under-requires
 make_under-requires g c = refl
