@@ -1,5 +1,4 @@
-use Rattle.std.proofs.Common.{◌≡◌, ◌∙◌, ◌-◌, ◌<◌, sym, ap, subst, suc, length, refl, arith, rules}
-use Rattle.relation_terms.specs.Trees.{size}
+use Rattle.std.proofs.Common.{◌∙◌, sym, ap, subst, length, refl, arith}
 use Rattle.relation_terms.specs.Meaning.{arg_tree}
 use Rattle.relation_terms.specs.declared.terms.interner.OutOfMemory.{OutOfMemory}
 use Rattle.relation_terms.specs.contracts.terms.generic_arg.GenericArgKindPartialEq.TheImpl.{ghosts}
@@ -7,7 +6,7 @@ use Rattle.relation_tools.specs.Walking.{Pull}
 use Rattle.std.proofs.Common.{Some, None, Ok, map}
 use Rattle.relation_asking.specs.Meets.{AllKnown}
 use Rattle.relation_asking.specs.Skips.{stands_in, skipped_in}
-use Rattle.relation_asking.proofs.WalkLemmas.{Goes, goes_first, goes_next_as, goes_end, ended_still, goes_small, one_more, skipped_cx, known_one_more}
+use Rattle.relation_asking.proofs.WalkLemmas.{goes_first, goes_next_as, goes_end, ended_still, goes_small, one_more, skipped_cx, known_one_more}
 use Rattle.relation_asking.proofs.walking.walk_on.Goals as goal
 use Rattle.relation_asking.proofs.walking.walk_on.Goals.{in-Some-pull+in_ok-arg-2+in_ok-push-2, in_default-pull}
 
