@@ -43,7 +43,7 @@ module _ {I A : Type 0} (ns : List ℕ) (i p : ℕ) (w u z : Walk I A) where
       let cut = ap (λ xs. looked xs w) (drop-cons ns i 0 l) in
       let first = ap (λ b. cond (b || stands_in rest p) (record w { inside = [] }) w) (eq-eqb (get_or ns i 0) p h) in
       ap (λ j. looked (drop j ns) u) one ∙ ap (looked rest) e ∙ cond_same (stands_in rest p) (record w { inside = [] })
-          ∙ sym (cut ∙ first) ∙ k
+      ∙ sym (cut ∙ first) ∙ k
 
   pub looked_other : i < length ns → (get_or ns i 0 ≡ p → ⊥) → u ≡ w → looked (drop i ns) w ≡ z →
       looked (drop (i + 1) ns) u ≡ z

@@ -29,9 +29,9 @@ pub trait Walks: Interner {
         root: &GenericArg<Self>,
         skips: &[usize],
     ) -> Result<Vec<GenericArg<Self>>, OutOfMemory>
-        requires known { IsTrue (known (arg_tree (meaning self.now) root.now)) }
-        ensures sure { IfOk result (λ xs. AllKnown (meaning self.now) xs.items) }
-        ensures by_places { let tree = arg_tree (meaning self.now) in
+        requires known { IsTrue (known (arg_tree (Self.meaning self.now) root.now)) }
+        ensures sure { IfOk result (λ xs. AllKnown (Self.meaning self.now) xs.items) }
+        ensures by_places { let tree = arg_tree (Self.meaning self.now) in
             IfOk result (λ xs. map tree xs.items ≡ yields same_tree (skipped_in skips.now) false [] (tree root.now)) };
 }
 

@@ -13,9 +13,9 @@ loop-number-preserved g c =
     let u = c.if-number-pulls.walker in
     let z = cond (stands_in ns p) (record c.args.walker.now { inside = [] }) c.args.walker.now in
     elim c.if-number-pulls.branch [
-      then-number-pulls w ↦
-        looked_same ns i p v u z c.loop-number-test.true w.if-number-pulls.true
-        (w.walker-is ∙ w.skip_current_subtree.ensures) c.loop-number.invariant
-    | else-number-pulls w ↦
-        looked_other ns i p v u z c.loop-number-test.true w.if-number-pulls.false w.walker-is c.loop-number.invariant
+      | then-number-pulls w ↦
+          looked_same ns i p v u z c.loop-number-test.true w.if-number-pulls.true
+          (w.walker-is ∙ w.skip_current_subtree.ensures) c.loop-number.invariant
+      | else-number-pulls w ↦
+          looked_other ns i p v u z c.loop-number-test.true w.if-number-pulls.false w.walker-is c.loop-number.invariant
     ]

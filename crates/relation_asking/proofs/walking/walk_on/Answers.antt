@@ -1,5 +1,4 @@
-use Rattle.std.proofs.Common.{◌≡◌, ◌∙◌, ◌-◌, ◌<◌, sym, ap, subst, suc, length, refl, arith, rules}
-use Rattle.relation_terms.specs.Trees.{size}
+use Rattle.std.proofs.Common.{◌∙◌, sym, ap, subst, length, refl, arith}
 use Rattle.relation_terms.specs.Meaning.{arg_tree}
 use Rattle.relation_terms.specs.declared.terms.interner.OutOfMemory.{OutOfMemory}
 use Rattle.relation_terms.specs.contracts.terms.generic_arg.GenericArgKindPartialEq.TheImpl.{ghosts}
@@ -7,7 +6,7 @@ use Rattle.relation_tools.specs.Walking.{Pull}
 use Rattle.std.proofs.Common.{Some, None, Ok, map}
 use Rattle.relation_asking.specs.Meets.{AllKnown}
 use Rattle.relation_asking.specs.Skips.{stands_in, skipped_in}
-use Rattle.relation_asking.proofs.WalkLemmas.{Goes, goes_first, goes_next_as, goes_end, ended_still, goes_small, one_more, skipped_cx, known_one_more}
+use Rattle.relation_asking.proofs.WalkLemmas.{goes_first, goes_next_as, goes_end, ended_still, goes_small, one_more, skipped_cx, known_one_more}
 use Rattle.relation_asking.proofs.walking.walk_on.Goals as goal
 use Rattle.relation_asking.proofs.walking.walk_on.Goals.{in-Some-pull+in_ok-arg-2+in_ok-push-2, in_default-pull}
 
@@ -73,12 +72,12 @@ returns-clause-by_places g c =
     subst (λ i. Pull (g.I.Interner.meaning i) eq {E = OutOfMemory} c.loop-arg.walker None c.pull.new.self)
     c.loop-arg.invariant.same c.in_default.ensures in
     elim c.match-pull-2.branch [
-      in-Some-pull+in_ok-arg-2+in_ok-push-2 w ↦
-        absurd (ended_still m n eq c.loop-arg.walker c.pull.new.self c.skip_behind.new.walker c.pull-2.new.self
-        w.in_ok-arg-2.field-0 p c.skip_behind.ensures.inside c.skip_behind.ensures.after
-        (rw w.in_ok-arg-2.was at w.in-Some-pull.ensures))
-    | in_default-pull w ↦
-        ap (λ v. map (arg_tree m) v.items) w.found-is
-        ∙ goes_end m eq t (skipped_in c.args.skips.now) c.loop-arg.walker c.pull.new.self c.loop-arg.found.items
-        c.loop-arg.invariant.goes p
+      | in-Some-pull+in_ok-arg-2+in_ok-push-2 w ↦
+          absurd (ended_still m n eq c.loop-arg.walker c.pull.new.self c.skip_behind.new.walker c.pull-2.new.self
+          w.in_ok-arg-2.field-0 p c.skip_behind.ensures.inside c.skip_behind.ensures.after
+          (rw w.in_ok-arg-2.was at w.in-Some-pull.ensures))
+      | in_default-pull w ↦
+          ap (λ v. map (arg_tree m) v.items) w.found-is
+          ∙ goes_end m eq t (skipped_in c.args.skips.now) c.loop-arg.walker c.pull.new.self c.loop-arg.found.items
+          c.loop-arg.invariant.goes p
     ]
