@@ -9,6 +9,8 @@ use std::test::Fail;
 
 const ALL_ROWS: &str = "r01: true | false
 r02: false | true | false
+r04: &'a (i32, i32) | 'a | (i32, i32) | i32 | end
+r05: Foo<Bar<i32>, Bar<i32>, i32> | Bar<i32> | i32 | end
 r07: err TupleSize(2, 3) | err Sorts((), (u8,))
 r08: err CyclicTy([?0])
 r09: err Sorts(u8, bool); bound=[?0=u8]
@@ -21,7 +23,9 @@ r26: Placeholder | none | Closure(f) | Tuple(0) | Error
 r28: true
 r34: ok; regions=['a: 'c, 'b == 'd] | err Mutability
 r35: ok; regions=['b: 'a] | ok; regions=['a: 'b]
+r53: dyn Tr<bool, A = u8> + 'a | bool | u8 | 'a | end
 r59: false | true | false | true
+r60: true | false | true | false
 ";
 
 // The words of a run, its status, and what it writes.
