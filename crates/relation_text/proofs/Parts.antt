@@ -1,6 +1,6 @@
 -- The parts of a list's tree.
 use Rattle.std.proofs.Common.{ℕ, zero, suc, ◌<◌, ◌≡◌, IsTrue, List, [], ◌∷◌, length, get_or, arith, sym, subst, subst₂}
-use Rattle.std.proofs.Common.{Option, Some, None, IsSome, refl, ◌+◌, ◌≤◌, ◌&&◌, true, false, take, drop, slice_range}
+use Rattle.std.proofs.Common.{Option, Some, None, refl, ◌+◌, ◌≤◌, ◌&&◌, true, false, take, drop, slice_range}
 use Rattle.std.proofs.Common.{◌-◌}
 use Rattle.std.proofs.lemmas.Bool.{and_parts, false≢true}
 use Rattle.std.specs.Cmp.Derive.{both_true}

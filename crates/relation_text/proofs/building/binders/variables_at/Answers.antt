@@ -1,4 +1,4 @@
-use Rattle.std.proofs.Common.{map, take, get_or, ap, sym, ◌∙◌, ◌∷◌, [], Some}
+use Rattle.std.proofs.Common.{take, get_or, ap, sym, ◌∙◌, ◌∷◌, [], Some}
 use Rattle.std.proofs.lemmas.List.{take_more, take_all, map-append}
 use Rattle.relation_terms.specs.Trees.{list_tree}
 use Rattle.relation_terms.specs.Meaning.{bound_kind_of, bound_kinds}

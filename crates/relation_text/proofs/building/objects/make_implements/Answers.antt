@@ -1,4 +1,4 @@
-use Rattle.std.proofs.Common.{Some, ap, ap₂, ◌∙◌}
+use Rattle.std.proofs.Common.{Some, ap₂}
 use Rattle.relation_terms.specs.Heads.{existential_trait}
 use Rattle.relation_terms.specs.Trees.{node}
 use Rattle.relation_terms.specs.Meaning.{under}

@@ -1,7 +1,7 @@
 use Rattle.std.proofs.Common.{Some, refl, sym, ap, ap₂, ◌∙◌, subst, map, IsTrue, slice_range}
 use Rattle.relation_terms.specs.Heads.{existential_trait, existential_projection, existential_auto, atom}
-use Rattle.relation_terms.specs.Trees.{node, cons, known, list_tree}
-use Rattle.relation_terms.specs.Meaning.{under, arg_tree, bound_kinds, existential_tree}
+use Rattle.relation_terms.specs.Trees.{cons, known, list_tree}
+use Rattle.relation_terms.specs.Meaning.{under, arg_tree, bound_kinds}
 use Rattle.relation_text.specs.Terms.{term_tree}
 use Rattle.relation_text.specs.Built.{inner_tree}
 use Rattle.relation_text.proofs.BuildingLemmas.{known_list, built_list, made_from, head_is, leaf_is}

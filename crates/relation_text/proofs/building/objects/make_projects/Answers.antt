@@ -1,4 +1,4 @@
-use Rattle.std.proofs.Common.{Some, sym, ap, ap₂, ◌∙◌, subst, IsTrue, ◌&&◌}
+use Rattle.std.proofs.Common.{Some, sym, ap, ap₂, ◌∙◌, subst, IsTrue}
 use Rattle.relation_terms.specs.Heads.{existential_projection}
 use Rattle.relation_terms.specs.Trees.{node, cons, known}
 use Rattle.relation_terms.specs.Meaning.{under, arg_tree, term_tree}

@@ -1,6 +1,6 @@
-use Rattle.std.proofs.Common.{Some, refl, sym, ap, ap₂, ◌∙◌, subst, IsTrue, IsSome}
+use Rattle.std.proofs.Common.{sym, ap₂, subst, IsTrue}
 use Rattle.relation_terms.specs.Trees.{known}
-use Rattle.relation_terms.specs.Meaning.{under, existential_tree, bound_kinds}
+use Rattle.relation_terms.specs.Meaning.{under}
 use Rattle.relation_terms.proofs.Stays.{stays_existential}
 use Rattle.relation_text.proofs.building.objects.make_under.Goals as goal
 
