@@ -20,3 +20,7 @@ pub mod Keying
 pub mod Shifting
 pub mod Positioning
 pub mod Arguments
+pub mod Outliving
+pub mod Choosing
+pub mod Components
+pub mod Meeting

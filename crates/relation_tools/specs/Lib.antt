@@ -12,3 +12,6 @@ pub mod HeadKeys
 pub mod Shifts
 pub mod KeyLaws
 pub mod InstanceLaws
+pub mod Components
+pub mod Outliving
+pub mod Collecting

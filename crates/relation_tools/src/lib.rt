@@ -5,6 +5,7 @@ pub mod error;
 pub mod fast_reject;
 pub mod fold;
 pub mod laws;
+pub mod outlives;
 pub mod trait_object;
 pub mod tree;
 pub mod visit;

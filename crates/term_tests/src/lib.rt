@@ -19,6 +19,8 @@ mod items;
 #[cfg(test)]
 mod kinds;
 #[cfg(test)]
+mod outlives;
+#[cfg(test)]
 mod predicates;
 #[cfg(test)]
 mod visiting;

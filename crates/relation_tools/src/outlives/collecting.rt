@@ -1,0 +1,319 @@
+//! The components of a term: one recursion over the parts of all forms, that goes into each type and constant once.
+ghost use Rattle.std.specs.Prelude.{◌≡◌, ◌<◌, ◌++◌, ◌∷◌, [], suc, true, IsTrue, IfOk, IfSome, OnOk, OnErr};
+ghost use Rattle.relation_terms.specs.Trees.{known, size, count};
+ghost use Rattle.relation_terms.specs.Meaning.{kind_tree};
+ghost use Rattle.relation_terms.specs.Parts.{part_tree, parts_tree};
+ghost use Rattle.relation_terms.specs.declared.terms.ty_kind.TyKind.TheVariants.{Alias as AliasForm};
+ghost use Rattle.relation_tools.specs.Components.{every, last_types, components, inside_alias};
+ghost use Rattle.relation_tools.specs.Visits.{bound_var_escapes};
+ghost use Rattle.relation_tools.specs.Outliving.{AddsSome, HasAll};
+ghost use Rattle.relation_tools.specs.Collecting.{meant, of_member, kept_of, found_components, found_size};
+ghost use Rattle.relation_tools.specs.Collecting.{Settled, Meets, Keeps};
+
+use crate::outlives::chosen::{Chosen, alias_chosen, is_chosen};
+use crate::outlives::{Component, ComponentOf};
+use crate::visit::has_escaping_bound_vars;
+use relation_terms::terms::parts::{member, member_count, parts_of, ty_parts, visited_place};
+use relation_terms::terms::{
+    AliasTy, GenericArg, GenericArgKind, GenericArgs, Interner, OutOfMemory, Part, PartOf, Parts,
+    PartsOf, Region, RegionKind, Ty, TyKind, closure_upvars, coroutine_resume_ty, coroutine_upvars,
+};
+use smallvec::SmallVec;
+use std::collections::HashSet;
+
+// Whether a part is met for the first time. A type and a constant are kept; of all else no account is kept.
+fn meet<I: Interner>(
+    cx: &I,
+    part: &PartOf<I>,
+    visited: &mut HashSet<GenericArg<I>>,
+) -> Result<bool, OutOfMemory>
+    ensures { IfOk result (λ new.
+        Keeps ⟦<GenericArgKind<I::Key> as PartialEq>⟧.eq (kept_of part.now) new visited.old.keys visited.new.keys) }
+{
+    let _ = cx;
+    match part {
+        Part::Ty(ty) => Ok(visited.insert(GenericArgKind::Ty(*ty))?),
+        Part::Const(constant) => Ok(visited.insert(GenericArgKind::Const(*constant))?),
+        _ => Ok(true),
+    }
+}
+
+// Adds a component.
+fn add<I: Interner>(
+    cx: &I,
+    out: &mut SmallVec<ComponentOf<I>, 4>,
+    component: ComponentOf<I>,
+) -> Result<(), OutOfMemory>
+    ensures ok { OnOk result (out.new.items ≡ out.old.items ++ component ∷ []) }
+    ensures err { OnErr result (out.new.items ≡ out.old.items) }
+{
+    let _ = cx;
+    out.push(component)?;
+    Ok(())
+}
+
+// Adds a region, if no binder binds it.
+fn collect_region<I: Interner>(
+    cx: &I,
+    region: &Region<I>,
+    out: &mut SmallVec<ComponentOf<I>, 4>,
+) -> Result<(), OutOfMemory>
+    requires { IsTrue (known ((I.meaning cx.now).region region.now)) }
+    ensures some { AddsSome (I.meaning cx.now) (components every ((I.meaning cx.now).region region.now))
+        out.old.items out.new.items }
+    ensures all { OnOk result (HasAll (I.meaning cx.now) (components every ((I.meaning cx.now).region region.now))
+        out.new.items) }
+{
+    match cx.region_kind(region) {
+        RegionKind::ReBound(..) => Ok(()),
+        _ => add(cx, out, Component::Region(*region)),
+    }
+}
+
+// Adds the components of a part, but where it was met before.
+#[cycle(collect)]
+pub fn collect_part<I: Interner>(
+    cx: &I,
+    part: &PartOf<I>,
+    out: &mut SmallVec<ComponentOf<I>, 4>,
+    visited: &mut HashSet<GenericArg<I>>,
+) -> Result<(), OutOfMemory>
+    requires known { IsTrue (known (part_tree (I.meaning cx.now) part.now)) }
+    requires settled { Settled (I.meaning cx.now) ⟦<GenericArgKind<I::Key> as PartialEq>⟧.eq
+        (suc (size (part_tree (I.meaning cx.now) part.now))) visited.old.keys out.old.items }
+    ensures some { AddsSome (I.meaning cx.now) (components every (part_tree (I.meaning cx.now) part.now))
+        out.old.items out.new.items }
+    ensures all { OnOk result (HasAll (I.meaning cx.now) (components every (part_tree (I.meaning cx.now) part.now))
+        out.new.items) }
+    ensures meets { OnOk result (Meets (I.meaning cx.now) ⟦<GenericArgKind<I::Key> as PartialEq>⟧.eq
+        visited.old.keys visited.new.keys out.new.items) }
+{
+    if !meet(cx, part, visited)? {
+        return Ok(());
+    }
+    match part {
+        Part::Region(region) => collect_region(cx, region, out),
+        Part::Ty(ty) => collect_ty(cx, ty, out, visited),
+        _ => collect_members(cx, &parts_of(cx, part), &Chosen::Every, out, visited),
+    }
+}
+
+// Adds the components of the members of a list that are chosen.
+#[cycle(collect)]
+fn collect_members<I: Interner>(
+    cx: &I,
+    parts: &PartsOf<I>,
+    chosen: &Chosen<I::Id>,
+    out: &mut SmallVec<ComponentOf<I>, 4>,
+    visited: &mut HashSet<GenericArg<I>>,
+) -> Result<(), OutOfMemory>
+    requires known { IsTrue (known (parts_tree (I.meaning cx.now) parts.now)) }
+    requires settled { Settled (I.meaning cx.now) ⟦<GenericArgKind<I::Key> as PartialEq>⟧.eq
+        (size (parts_tree (I.meaning cx.now) parts.now)) visited.old.keys out.old.items }
+    ensures some { AddsSome (I.meaning cx.now)
+        (components (meant (I.meaning cx.now) chosen.now) (parts_tree (I.meaning cx.now) parts.now))
+        out.old.items out.new.items }
+    ensures all { OnOk result (HasAll (I.meaning cx.now)
+        (components (meant (I.meaning cx.now) chosen.now) (parts_tree (I.meaning cx.now) parts.now))
+        out.new.items) }
+    ensures meets { OnOk result (Meets (I.meaning cx.now) ⟦<GenericArgKind<I::Key> as PartialEq>⟧.eq
+        visited.old.keys visited.new.keys out.new.items) }
+{
+    let count = member_count(cx, parts);
+    for step in 0..count {
+        let i = visited_place(parts, count, step);
+        collect_member(cx, parts, chosen, i, out, visited)?;
+    }
+    Ok(())
+}
+
+// Adds the components of the member at a place of a list, if it is chosen.
+#[cycle(collect)]
+fn collect_member<I: Interner>(
+    cx: &I,
+    parts: &PartsOf<I>,
+    chosen: &Chosen<I::Id>,
+    i: usize,
+    out: &mut SmallVec<ComponentOf<I>, 4>,
+    visited: &mut HashSet<GenericArg<I>>,
+) -> Result<(), OutOfMemory>
+    requires known { IsTrue (known (parts_tree (I.meaning cx.now) parts.now)) }
+    requires in_bounds { i < count (parts_tree (I.meaning cx.now) parts.now) }
+    requires settled { Settled (I.meaning cx.now) ⟦<GenericArgKind<I::Key> as PartialEq>⟧.eq
+        (size (parts_tree (I.meaning cx.now) parts.now)) visited.old.keys out.old.items }
+    ensures some { AddsSome (I.meaning cx.now)
+        (of_member (meant (I.meaning cx.now) chosen.now) i (parts_tree (I.meaning cx.now) parts.now))
+        out.old.items out.new.items }
+    ensures all { OnOk result (HasAll (I.meaning cx.now)
+        (of_member (meant (I.meaning cx.now) chosen.now) i (parts_tree (I.meaning cx.now) parts.now))
+        out.new.items) }
+    ensures meets { OnOk result (Meets (I.meaning cx.now) ⟦<GenericArgKind<I::Key> as PartialEq>⟧.eq
+        visited.old.keys visited.new.keys out.new.items) }
+{
+    let part = member(cx, parts, i);
+    if !is_chosen(cx, chosen, i, &part) {
+        return Ok(());
+    }
+    collect_part(cx, &part, out, visited)
+}
+
+// Adds the components of a type that was found among arguments, if one was.
+#[cycle(collect)]
+fn collect_found<I: Interner>(
+    cx: &I,
+    found: Option<Ty<I>>,
+    out: &mut SmallVec<ComponentOf<I>, 4>,
+    visited: &mut HashSet<GenericArg<I>>,
+) -> Result<(), OutOfMemory>
+    requires known { IfSome found (λ t. IsTrue (known ((I.meaning cx.now).ty t))) }
+    requires settled { Settled (I.meaning cx.now) ⟦<GenericArgKind<I::Key> as PartialEq>⟧.eq
+        (suc (found_size (I.meaning cx.now) found)) visited.old.keys out.old.items }
+    ensures some { AddsSome (I.meaning cx.now) (found_components (I.meaning cx.now) found)
+        out.old.items out.new.items }
+    ensures all { OnOk result (HasAll (I.meaning cx.now) (found_components (I.meaning cx.now) found)
+        out.new.items) }
+    ensures meets { OnOk result (Meets (I.meaning cx.now) ⟦<GenericArgKind<I::Key> as PartialEq>⟧.eq
+        visited.old.keys visited.new.keys out.new.items) }
+{
+    match found {
+        Some(ty) => collect_part(cx, &Part::Ty(ty), out, visited),
+        None => Ok(()),
+    }
+}
+
+// Adds the components of the types that a closure of these arguments captures.
+#[cycle(collect)]
+fn collect_closure<I: Interner>(
+    cx: &I,
+    args: &GenericArgs<I>,
+    out: &mut SmallVec<ComponentOf<I>, 4>,
+    visited: &mut HashSet<GenericArg<I>>,
+) -> Result<(), OutOfMemory>
+    requires known { IsTrue (known ((I.meaning cx.now).args args.now)) }
+    requires settled { Settled (I.meaning cx.now) ⟦<GenericArgKind<I::Key> as PartialEq>⟧.eq
+        (size ((I.meaning cx.now).args args.now)) visited.old.keys out.old.items }
+    ensures some { AddsSome (I.meaning cx.now) (components (last_types 1) ((I.meaning cx.now).args args.now))
+        out.old.items out.new.items }
+    ensures all { OnOk result (HasAll (I.meaning cx.now)
+        (components (last_types 1) ((I.meaning cx.now).args args.now)) out.new.items) }
+    ensures meets { OnOk result (Meets (I.meaning cx.now) ⟦<GenericArgKind<I::Key> as PartialEq>⟧.eq
+        visited.old.keys visited.new.keys out.new.items) }
+{
+    collect_found(cx, closure_upvars(cx, args), out, visited)
+}
+
+// Adds the components of the types that a coroutine of these arguments captures, and of the type it is resumed with.
+#[cycle(collect)]
+fn collect_coroutine<I: Interner>(
+    cx: &I,
+    args: &GenericArgs<I>,
+    out: &mut SmallVec<ComponentOf<I>, 4>,
+    visited: &mut HashSet<GenericArg<I>>,
+) -> Result<(), OutOfMemory>
+    requires known { IsTrue (known ((I.meaning cx.now).args args.now)) }
+    requires settled { Settled (I.meaning cx.now) ⟦<GenericArgKind<I::Key> as PartialEq>⟧.eq
+        (size ((I.meaning cx.now).args args.now)) visited.old.keys out.old.items }
+    ensures some { AddsSome (I.meaning cx.now) (components (last_types 2) ((I.meaning cx.now).args args.now))
+        out.old.items out.new.items }
+    ensures all { OnOk result (HasAll (I.meaning cx.now)
+        (components (last_types 2) ((I.meaning cx.now).args args.now)) out.new.items) }
+    ensures meets { OnOk result (Meets (I.meaning cx.now) ⟦<GenericArgKind<I::Key> as PartialEq>⟧.eq
+        visited.old.keys visited.new.keys out.new.items) }
+{
+    collect_found(cx, coroutine_upvars(cx, args), out, visited)?;
+    // Between two turns a coroutine may store what it was resumed with.
+    collect_found(cx, coroutine_resume_ty(cx, args), out, visited)
+}
+
+// Adds the components of a type, by its outermost form.
+#[cycle(collect)]
+fn collect_ty<I: Interner>(
+    cx: &I,
+    ty: &Ty<I>,
+    out: &mut SmallVec<ComponentOf<I>, 4>,
+    visited: &mut HashSet<GenericArg<I>>,
+) -> Result<(), OutOfMemory>
+    requires known { IsTrue (known ((I.meaning cx.now).ty ty.now)) }
+    requires settled { Settled (I.meaning cx.now) ⟦<GenericArgKind<I::Key> as PartialEq>⟧.eq
+        (size ((I.meaning cx.now).ty ty.now)) visited.old.keys out.old.items }
+    ensures some { AddsSome (I.meaning cx.now) (components every ((I.meaning cx.now).ty ty.now))
+        out.old.items out.new.items }
+    ensures all { OnOk result (HasAll (I.meaning cx.now) (components every ((I.meaning cx.now).ty ty.now))
+        out.new.items) }
+    ensures meets { OnOk result (Meets (I.meaning cx.now) ⟦<GenericArgKind<I::Key> as PartialEq>⟧.eq
+        visited.old.keys visited.new.keys out.new.items) }
+{
+    let kind = cx.ty_kind(ty);
+    match &kind {
+        TyKind::FnDef(_, args) => {
+            collect_members(cx, &Parts::Args(*args), &Chosen::NoRegion, out, visited)
+        }
+        TyKind::Closure(_, args) => collect_closure(cx, args, out, visited),
+        TyKind::CoroutineClosure(_, args) => collect_closure(cx, args, out, visited),
+        TyKind::Coroutine(_, args) => collect_coroutine(cx, args, out, visited),
+        TyKind::CoroutineWitness(..) => Ok(()),
+        TyKind::Param(param) => add(cx, out, Component::Param(*param)),
+        TyKind::Placeholder(placeholder) => add(cx, out, Component::Placeholder(*placeholder)),
+        TyKind::Infer(var) => add(cx, out, Component::UnresolvedInferenceVariable(*var)),
+        TyKind::Alias(alias) if has_escaping_bound_vars(cx, ty) => collect_escaping(cx, alias, out),
+        TyKind::Alias(alias) => add(cx, out, Component::Alias(*alias)),
+        _ => collect_members(cx, &ty_parts(&kind), &Chosen::Every, out, visited),
+    }
+}
+
+// Adds the one component of an alias that a variable escapes, which holds those of its arguments.
+#[cycle(collect)]
+fn collect_escaping<I: Interner>(
+    cx: &I,
+    alias: &AliasTy<I::Key, I::Id>,
+    out: &mut SmallVec<ComponentOf<I>, 4>,
+) -> Result<(), OutOfMemory>
+    requires known { IsTrue (known ((I.meaning cx.now).args (alias.now).args)) }
+    requires escapes { bound_var_escapes (kind_tree (I.meaning cx.now) (AliasForm alias.now)) ≡ true }
+    ensures some { AddsSome (I.meaning cx.now) (kind_tree (I.meaning cx.now) (AliasForm alias.now) ∷ [])
+        out.old.items out.new.items }
+    ensures all { OnOk result (HasAll (I.meaning cx.now) (kind_tree (I.meaning cx.now) (AliasForm alias.now) ∷ [])
+        out.new.items) }
+{
+    let inside = alias_components(cx, alias)?;
+    add(cx, out, Component::EscapingAlias(inside))
+}
+
+// The components of the arguments of an alias, by themselves.
+#[cycle(collect)]
+fn alias_components<I: Interner>(
+    cx: &I,
+    alias: &AliasTy<I::Key, I::Id>,
+) -> Result<Vec<ComponentOf<I>>, OutOfMemory>
+    requires { IsTrue (known ((I.meaning cx.now).args (alias.now).args)) }
+    ensures some { IfOk result (λ list. AddsSome (I.meaning cx.now)
+        (inside_alias (I.meaning cx.now).alias_variances (kind_tree (I.meaning cx.now) (AliasForm alias.now)))
+        [] list.items) }
+    ensures all { IfOk result (λ list. HasAll (I.meaning cx.now)
+        (inside_alias (I.meaning cx.now).alias_variances (kind_tree (I.meaning cx.now) (AliasForm alias.now)))
+        list.items) }
+{
+    let mut inside = SmallVec::new(cx.alloc());
+    collect_alias_args(cx, alias, &mut inside)?;
+    Ok(inside.into_vec()?)
+}
+
+// Adds the components of the arguments of an alias, but of those that it is bivariant in.
+#[cycle(collect)]
+pub fn collect_alias_args<I: Interner>(
+    cx: &I,
+    alias: &AliasTy<I::Key, I::Id>,
+    out: &mut SmallVec<ComponentOf<I>, 4>,
+) -> Result<(), OutOfMemory>
+    requires { IsTrue (known ((I.meaning cx.now).args (alias.now).args)) }
+    ensures some { AddsSome (I.meaning cx.now)
+        (inside_alias (I.meaning cx.now).alias_variances (kind_tree (I.meaning cx.now) (AliasForm alias.now)))
+        out.old.items out.new.items }
+    ensures all { OnOk result (HasAll (I.meaning cx.now)
+        (inside_alias (I.meaning cx.now).alias_variances (kind_tree (I.meaning cx.now) (AliasForm alias.now)))
+        out.new.items) }
+{
+    let mut visited = HashSet::new(cx.alloc());
+    let chosen = alias_chosen(&alias.kind);
+    collect_members(cx, &Parts::Args(alias.args), &chosen, out, &mut visited)
+}
