@@ -88,7 +88,8 @@ pub fn collect_part<I: Interner>(
     ensures meets { OnOk result (Meets (I.meaning cx.now) ⟦<GenericArgKind<I::Key> as PartialEq>⟧.eq
         visited.old.keys visited.new.keys out.new.items) }
 {
-    if !meet(cx, part, visited)? {
+    let first = meet(cx, part, visited)?;
+    if !first {
         return Ok(());
     }
     match part {
