@@ -31,48 +31,10 @@ use Rattle.relation_tools.proofs.Outliving.{settled_below, settled_after, settle
 use Rattle.relation_tools.proofs.Visiting.{rest, has_sort}
 use Rattle.relation_tools.proofs.outlives.collecting.+collect.Goals as goal
 
-pub alias_components-new-inside-requires : goal.alias_components-new-inside-requires
-alias_components-new-inside-requires g t' c =
-    ?
-
-pub alias_components-array_drop-inside-inside-requires : goal.alias_components-array_drop-inside-inside-requires
-alias_components-array_drop-inside-inside-requires g t' c =
-    ?
-
-pub alias_components-into_vec-requires : goal.alias_components-into_vec-requires
-alias_components-into_vec-requires g t' c =
-    ?
-
-pub alias_components-collect_alias_args-requires : goal.alias_components-collect_alias_args-requires
-alias_components-collect_alias_args-requires g t' c κs within =
-    let m = g.I.Interner.meaning c.args.cx.now in
-    let w = m.args (c.args.alias.now).args in
-    let d = c.decreases in
-    let k = c.requires in
-    let small : 4 * size w + 2 < 4 * size w + 3 = omega arith in
-    search rules
-
-pub alias_components-from_residual-requires-in_err-into_vec-room-F-From : goal.alias_components-from_residual-requires-in_err-into_vec-room-F-From
-alias_components-from_residual-requires-in_err-into_vec-room-F-From g t' c κs within =
-    ?
-
 pub collect_part-returns-in_err-first-clause-some : goal.collect_part-returns-in_err-first-clause-some
 collect_part-returns-in_err-first-clause-some g t' c =
     let m = g.I.Interner.meaning c.args.cx.now in
     adds_none m (components every (part_tree m c.args.part.now)) c.args.out.now.items
-
-pub alias_components-returns-clause-some : goal.alias_components-returns-clause-some
-alias_components-returns-clause-some g t' c =
-    let m = g.I.Interner.meaning c.args.cx.now in
-    let ts = inside_alias m.alias_variances (kind_tree m (AliasForm c.args.alias.now)) in
-    subst₂ (λ x y. AddsSome m ts x y) c.new-inside.ensures.items (sym c.in_ok-into_vec.ensures.ok)
-    c.in_ok-collect_alias_args.ensures.some
-
-pub alias_components-returns-clause-all : goal.alias_components-returns-clause-all
-alias_components-returns-clause-all g t' c =
-    let m = g.I.Interner.meaning c.args.cx.now in
-    let ts = inside_alias m.alias_variances (kind_tree m (AliasForm c.args.alias.now)) in
-    subst (λ z. HasAll m ts z) (sym c.in_ok-into_vec.ensures.ok) c.in_ok-collect_alias_args.ensures.all
 
 pub collect_alias_args-collect_members-requires : goal.collect_alias_args-collect_members-requires
 collect_alias_args-collect_members-requires g t' c κs within =
@@ -233,29 +195,47 @@ collect_coroutine-returns-clause-meets g t' c =
     c.collect_found-2.ensures.some c.in_ok-collect_found.ensures.meets o)
     c.collect_found-2.ensures.meets
 
-pub collect_escaping-alias_components-requires : goal.collect_escaping-alias_components-requires
-collect_escaping-alias_components-requires g t' c κs within =
+pub collect_escaping-collect_alias_args-requires : goal.collect_escaping-collect_alias_args-requires
+collect_escaping-collect_alias_args-requires g t' c κs within =
     let m = g.I.Interner.meaning c.args.cx.now in
     let w = m.args (c.args.alias.now).args in
     let d = c.decreases in
     let k = c.requires.known in
-    let small : 4 * size w + 3 < 4 * size w + 4 = omega arith in
+    let small : 4 * size w + 2 < 4 * size w + 4 = omega arith in
     search rules
+
+pub collect_escaping-returns-in_err-collect_alias_args-clause-some : goal.collect_escaping-returns-in_err-collect_alias_args-clause-some
+collect_escaping-returns-in_err-collect_alias_args-clause-some g t' c =
+    let m = g.I.Interner.meaning c.args.cx.now in
+    adds_none m (kind_tree m (AliasForm c.args.alias.now) ∷ []) c.args.out.now.items
+
+pub collect_escaping-returns-in_err-into_vec-clause-some : goal.collect_escaping-returns-in_err-into_vec-clause-some
+collect_escaping-returns-in_err-into_vec-clause-some g t' c =
+    let m = g.I.Interner.meaning c.args.cx.now in
+    adds_none m (kind_tree m (AliasForm c.args.alias.now) ∷ []) c.args.out.now.items
 
 pub collect_escaping-returns-clause-some : goal.collect_escaping-returns-clause-some
 collect_escaping-returns-clause-some g t' c =
     let m = g.I.Interner.meaning c.args.cx.now in
     let w = kind_tree m (AliasForm c.args.alias.now) in
-    let v = c.in_ok-inside.inside in
-    let s = stands_escaping m v w c.requires.escapes c.in_ok-inside.ensures.some c.in_ok-inside.ensures.all in
+    let ts = inside_alias m.alias_variances w in
+    let v = c.in_ok-into_vec.field-0 in
+    let is = sym c.in_ok-into_vec.ensures.ok in
+    let some = subst₂ (λ x y. AddsSome m ts x y) c.new-inside.ensures.items is c.in_ok-collect_alias_args.ensures.some in
+    let all = subst (λ z. HasAll m ts z) is c.in_ok-collect_alias_args.ensures.all in
+    let s = stands_escaping m v w c.requires.escapes some all in
     added_some m (w ∷ []) (EscapingAlias v) w _ _ c.add.result c.add.ensures.ok c.add.ensures.err refl s
 
 pub collect_escaping-returns-clause-all : goal.collect_escaping-returns-clause-all
 collect_escaping-returns-clause-all g t' c =
     let m = g.I.Interner.meaning c.args.cx.now in
     let w = kind_tree m (AliasForm c.args.alias.now) in
-    let v = c.in_ok-inside.inside in
-    let s = stands_escaping m v w c.requires.escapes c.in_ok-inside.ensures.some c.in_ok-inside.ensures.all in
+    let ts = inside_alias m.alias_variances w in
+    let v = c.in_ok-into_vec.field-0 in
+    let is = sym c.in_ok-into_vec.ensures.ok in
+    let some = subst₂ (λ x y. AddsSome m ts x y) c.new-inside.ensures.items is c.in_ok-collect_alias_args.ensures.some in
+    let all = subst (λ z. HasAll m ts z) is c.in_ok-collect_alias_args.ensures.all in
+    let s = stands_escaping m v w c.requires.escapes some all in
     added_all m (w ∷ []) (EscapingAlias v) w _ _ c.add.result c.add.ensures.ok refl s
 
 pub collect_found-collect_part-requires : goal.collect_found-collect_part-requires
