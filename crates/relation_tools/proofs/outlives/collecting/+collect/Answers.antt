@@ -1,8 +1,8 @@
-use Rattle.std.proofs.Common.{rules, arith, refl, sym, ap, ◌∙◌, ◌≡◌, ◌<◌, ◌≤◌, ◌+◌, ◌*◌, suc, subst, subst₂, IsTrue, false, true}
-use Rattle.std.proofs.Common.{[], ◌∷◌, ◌++◌, List, OnOk, IfSome, cond, not}
+use Rattle.std.proofs.Common.{rules, arith, refl, sym, ap, ◌∙◌, ◌≡◌, ◌<◌, ◌+◌, ◌*◌, suc, subst, subst₂, IsTrue, false, true}
+use Rattle.std.proofs.Common.{[], ◌∷◌, ◌++◌, OnOk, IfSome, cond}
 use Rattle.relation_terms.specs.contracts.terms.generic_arg.GenericArgKindPartialEq.TheImpl.{ghosts}
 use Rattle.relation_terms.specs.Heads.{argument_sort}
-use Rattle.relation_terms.specs.Trees.{Tree, size, count, known, nth}
+use Rattle.relation_terms.specs.Trees.{size, count, known, nth}
 use Rattle.relation_terms.specs.Meaning.{kind_tree}
 use Rattle.relation_terms.specs.Orders.{list_order, place_at}
 use Rattle.relation_terms.specs.Parts.{part_tree, parts_tree, parts_of}
@@ -16,7 +16,7 @@ use Rattle.relation_terms.proofs.Parts.{ty_seen, known_parts}
 use Rattle.relation_tools.specs.Visits.{bound_var_escapes}
 use Rattle.relation_tools.specs.Components.{every, last_types, components, inside_alias}
 use Rattle.relation_tools.specs.Outliving.{SomeIs, AddsSome, HasAll}
-use Rattle.relation_tools.specs.Collecting.{Settled, Meets, meant, of_member, found_components, found_size}
+use Rattle.relation_tools.specs.Collecting.{Settled, meant, of_member, found_components, found_size}
 use Rattle.relation_tools.specs.declared.outlives.Component.{Param, Placeholder, UnresolvedInferenceVariable, Alias}
 use Rattle.relation_tools.specs.declared.outlives.Component.{EscapingAlias}
 use Rattle.relation_tools.proofs.Arguments.{arg_same}
@@ -28,7 +28,7 @@ use Rattle.relation_tools.proofs.Meeting.{part_meets, part_had, meets_on}
 use Rattle.relation_tools.proofs.Outliving.{in_left, in_right, adds_none, adds_after, adds_within, adds_as, has_as, has_both}
 use Rattle.relation_tools.proofs.Outliving.{has_grown, added_some, added_all, stands_escaping, meets_none, meets_after}
 use Rattle.relation_tools.proofs.Outliving.{settled_below, settled_after, settled_none}
-use Rattle.relation_tools.proofs.Visiting.{rest, has_sort}
+use Rattle.relation_tools.proofs.Visiting.{rest}
 use Rattle.relation_tools.proofs.outlives.collecting.+collect.Goals as goal
 
 pub collect_part-returns-in_err-first-clause-some : goal.collect_part-returns-in_err-first-clause-some
