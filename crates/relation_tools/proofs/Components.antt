@@ -1,9 +1,9 @@
 -- The components of each form.
-use Rattle.std.proofs.Common.{◌≡◌, ◌∙◌, ℕ, subst, true, false, cond, IsTrue, refl, sym, ap, append-nil, [], ◌∷◌, List}
+use Rattle.std.proofs.Common.{◌≡◌, ◌∙◌, ℕ, subst, false, cond, IsTrue, refl, sym, ap, append-nil, [], ◌∷◌}
 use Rattle.relation_terms.specs.Heads.{region_kind, type_kind, const_kind, bound_kind, no_sort, leaf_sort, head_sort, type_sort, argument_sort}
 use Rattle.relation_terms.specs.Heads.{type_var, int_var, float_var, const_var, region_var}
 use Rattle.relation_terms.specs.Heads.{Leaf, variable, bound, placeholder, atom, unknown}
-use Rattle.relation_terms.specs.Heads.{Atom, static_region, early_region, type_param, fresh_type, fresh_int, fresh_float}
+use Rattle.relation_terms.specs.Heads.{static_region, early_region, type_param, fresh_type, fresh_int, fresh_float}
 use Rattle.relation_terms.specs.Heads.{Head, adt, fn_def, closure, coroutine_closure, coroutine, coroutine_witness}
 use Rattle.relation_terms.specs.Heads.{array, slice, pattern_type, tuple, unsafe_binder, dynamic, fn_ptr, raw_ptr, ref, alias}
 use Rattle.relation_terms.specs.Trees.{Tree, leaf, node, bind, nil, cons, known, IsList, IsTerm}

@@ -1,9 +1,8 @@
 -- What a collection of components has met, as it goes over parts.
-use Rattle.std.proofs.Common.{◌≡◌, ◌<◌, ◌≤◌, ◌+◌, ◌-◌, ◌∙◌, ℕ, suc, Bool, true, false, cond, nat_lt, IsTrue, refl, sym, ap, subst, arith}
-use Rattle.std.proofs.Common.{List, [], ◌∷◌, Option, Some, None, option_map, Result, Ok, Err, OnOk}
+use Rattle.std.proofs.Common.{◌≡◌, ◌<◌, ◌≤◌, ◌+◌, ◌-◌, ℕ, suc, Bool, true, false, cond, nat_lt, IsTrue, refl, sym, ap, subst, arith}
+use Rattle.std.proofs.Common.{List, [], Option, Some, None, option_map, Result, Ok, Err, OnOk}
 use Rattle.std.proofs.lemmas.Bool.{ltb-true, ltb-false}
-use Rattle.std.specs.List.{list_any}
-use Rattle.relation_terms.specs.Heads.{Sort, argument_sort}
+use Rattle.relation_terms.specs.Heads.{Sort}
 use Rattle.relation_terms.specs.Trees.{Tree, leaf, node, bind, nil, cons, known, size, count, nth, IsList, AreTerms}
 use Rattle.relation_terms.specs.Meaning.{Meaning, arg_tree}
 use Rattle.relation_terms.specs.Parts.{part_tree, tree_sort}
@@ -58,8 +57,12 @@ size_some (bind ks t) = omega arith
 size_some nil = omega arith
 size_some (cons t ts) = omega arith
 
+abbrev or_else : Tree → Option Tree → Tree
+or_else d None = d
+or_else d (Some t) = t
+
 found_inside : (b d : Bool) (x y : Tree) → Some x ≡ cond b (cond d (Some y) None) None → (b ≡ true) × (x ≡ y)
-found_inside true true x y refl = (refl, refl)
+found_inside true true x y e = (refl, ap (or_else x) e)
 found_inside true false x y e = absurd (cc)
 found_inside false d x y e = absurd (cc)
 
@@ -78,7 +81,7 @@ module _ {X D N : Type 0} (m : Meaning X D N) where
 
   module _ (eq : GenericArgKind X → GenericArgKind X → Bool)
       (same : (x y : GenericArgKind X) → IsTrue (known (arg_tree m x)) → IsTrue (known (arg_tree m y)) →
-      IsTrue (eq x y) → arg_tree m x ≡ arg_tree m y) where
+      (IsTrue (eq x y) → arg_tree m x ≡ arg_tree m y) × (arg_tree m x ≡ arg_tree m y → IsTrue (eq x y))) where
     -- A part that was kept: what is smaller is settled as before, and where the part's components were added, what is
     -- kept from now on was met.
     pub part_settled : (p : Part X D) (b : Bool) (n : ℕ) (xs ys : List (GenericArgKind X)) (cs : List (Component X D N)) →

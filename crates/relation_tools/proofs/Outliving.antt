@@ -1,5 +1,5 @@
 -- Lists of components, as they grow.
-use Rattle.std.proofs.Common.{◌≡◌, ◌<◌, ◌≤◌, ◌⊎◌, ◌∙◌, ℕ, Bool, true, false, cond, IsTrue, refl, sym, ap, subst, inl, inr, ⊎_elim, arith}
+use Rattle.std.proofs.Common.{◌≡◌, ◌≤◌, ◌⊎◌, ◌∙◌, ℕ, Bool, true, false, cond, IsTrue, refl, sym, ap, subst, inl, inr, ⊎_elim, arith}
 use Rattle.std.proofs.Common.{List, [], ◌∷◌, ◌++◌, append-nil, Vec, Global, Result, Ok, Err, OnOk, OnErr}
 use Rattle.std.proofs.lemmas.List.{append_assoc}
 use Rattle.std.specs.List.{list_any}
@@ -161,23 +161,23 @@ module _ {X D N : Type 0} (m : Meaning X D N) where
 
     -- Of what is kept now, what is smaller was settled before; and where its components were added, all were met.
     pub settled_kept : (same : (x y : GenericArgKind X) → IsTrue (known (arg_tree m x)) → IsTrue (known (arg_tree m y)) →
-        IsTrue (eq x y) → arg_tree m x ≡ arg_tree m y) → (n : ℕ) (x : GenericArgKind X) (xs ys : List (GenericArgKind X))
+        (IsTrue (eq x y) → arg_tree m x ≡ arg_tree m y) × (arg_tree m x ≡ arg_tree m y → IsTrue (eq x y))) → (n : ℕ) (x : GenericArgKind X) (xs ys : List (GenericArgKind X))
         (cs : List (Component X D N)) → IsTrue (known (arg_tree m x)) → n ≡ size (arg_tree m x) → Adds eq xs x ys →
         Settled m eq n xs cs → Settled m eq n ys cs
     settled_kept same n x xs ys cs kx is a o q k s h = decided (eq x q) refl (sym (a q) ∙ s)
       where
         decided : (b : Bool) → eq x q ≡ b → cond b true (list_any (eq q) xs) ≡ true →
             HasAll m (components every (arg_tree m q)) cs
-        decided true e t = absurd (let i = ap size (same x q kx k e) in omega (arith, i, is, h))
+        decided true e t = absurd (let i = ap size ((same x q kx k).0 e) in omega (arith, i, is, h))
         decided false e t = o q k t h
 
     pub meets_kept : (same : (x y : GenericArgKind X) → IsTrue (known (arg_tree m x)) → IsTrue (known (arg_tree m y)) →
-        IsTrue (eq x y) → arg_tree m x ≡ arg_tree m y) → (x : GenericArgKind X) (xs ys : List (GenericArgKind X))
+        (IsTrue (eq x y) → arg_tree m x ≡ arg_tree m y) × (arg_tree m x ≡ arg_tree m y → IsTrue (eq x y))) → (x : GenericArgKind X) (xs ys : List (GenericArgKind X))
         (cs : List (Component X D N)) → IsTrue (known (arg_tree m x)) → Adds eq xs x ys →
         HasAll m (components every (arg_tree m x)) cs → Meets m eq xs ys cs
     meets_kept same x xs ys cs kx a h q k s = decided (eq x q) refl (sym (a q) ∙ s)
       where
         decided : (b : Bool) → eq x q ≡ b → cond b true (list_any (eq q) xs) ≡ true →
             (list_any (eq q) xs ≡ true) ⊎ HasAll m (components every (arg_tree m q)) cs
-        decided true e t = inr (subst (λ z. HasAll m (components every z) cs) (same x q kx k e) h)
+        decided true e t = inr (subst (λ z. HasAll m (components every z) cs) ((same x q kx k).0 e) h)
         decided false e t = inl t

@@ -88,7 +88,8 @@ pub fn collect_part<I: Interner>(
     ensures meets { OnOk result (Meets (I.meaning cx.now) ⟦<GenericArgKind<I::Key> as PartialEq>⟧.eq
         visited.old.keys visited.new.keys out.new.items) }
 {
-    if !meet(cx, part, visited)? {
+    let first = meet(cx, part, visited)?;
+    if !first {
         return Ok(());
     }
     match part {
@@ -275,27 +276,9 @@ fn collect_escaping<I: Interner>(
     ensures all { OnOk result (HasAll (I.meaning cx.now) (kind_tree (I.meaning cx.now) (AliasForm alias.now) ∷ [])
         out.new.items) }
 {
-    let inside = alias_components(cx, alias)?;
-    add(cx, out, Component::EscapingAlias(inside))
-}
-
-// The components of the arguments of an alias, by themselves.
-#[cycle(collect)]
-fn alias_components<I: Interner>(
-    cx: &I,
-    alias: &AliasTy<I::Key, I::Id>,
-) -> Result<Vec<ComponentOf<I>>, OutOfMemory>
-    requires { IsTrue (known ((I.meaning cx.now).args (alias.now).args)) }
-    ensures some { IfOk result (λ list. AddsSome (I.meaning cx.now)
-        (inside_alias (I.meaning cx.now).alias_variances (kind_tree (I.meaning cx.now) (AliasForm alias.now)))
-        [] list.items) }
-    ensures all { IfOk result (λ list. HasAll (I.meaning cx.now)
-        (inside_alias (I.meaning cx.now).alias_variances (kind_tree (I.meaning cx.now) (AliasForm alias.now)))
-        list.items) }
-{
     let mut inside = SmallVec::new(cx.alloc());
     collect_alias_args(cx, alias, &mut inside)?;
-    Ok(inside.into_vec()?)
+    add(cx, out, Component::EscapingAlias(inside.into_vec()?))
 }
 
 // Adds the components of the arguments of an alias, but of those that it is bivariant in.

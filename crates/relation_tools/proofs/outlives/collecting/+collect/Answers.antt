@@ -1,8 +1,8 @@
-use Rattle.std.proofs.Common.{rules, arith, refl, sym, ap, ◌∙◌, ◌≡◌, ◌<◌, ◌≤◌, ◌+◌, ◌*◌, suc, subst, subst₂, IsTrue, false, true}
-use Rattle.std.proofs.Common.{[], ◌∷◌, ◌++◌, List, OnOk, IfSome, cond, not}
+use Rattle.std.proofs.Common.{rules, arith, refl, sym, ap, ◌∙◌, ◌≡◌, ◌<◌, ◌+◌, ◌*◌, suc, subst, subst₂, IsTrue, false, true}
+use Rattle.std.proofs.Common.{[], ◌∷◌, ◌++◌, OnOk, IfSome, cond}
 use Rattle.relation_terms.specs.contracts.terms.generic_arg.GenericArgKindPartialEq.TheImpl.{ghosts}
 use Rattle.relation_terms.specs.Heads.{argument_sort}
-use Rattle.relation_terms.specs.Trees.{Tree, size, count, known, nth}
+use Rattle.relation_terms.specs.Trees.{size, count, known, nth}
 use Rattle.relation_terms.specs.Meaning.{kind_tree}
 use Rattle.relation_terms.specs.Orders.{list_order, place_at}
 use Rattle.relation_terms.specs.Parts.{part_tree, parts_tree, parts_of}
@@ -16,7 +16,7 @@ use Rattle.relation_terms.proofs.Parts.{ty_seen, known_parts}
 use Rattle.relation_tools.specs.Visits.{bound_var_escapes}
 use Rattle.relation_tools.specs.Components.{every, last_types, components, inside_alias}
 use Rattle.relation_tools.specs.Outliving.{SomeIs, AddsSome, HasAll}
-use Rattle.relation_tools.specs.Collecting.{Settled, Meets, meant, of_member, found_components, found_size}
+use Rattle.relation_tools.specs.Collecting.{Settled, meant, of_member, found_components, found_size}
 use Rattle.relation_tools.specs.declared.outlives.Component.{Param, Placeholder, UnresolvedInferenceVariable, Alias}
 use Rattle.relation_tools.specs.declared.outlives.Component.{EscapingAlias}
 use Rattle.relation_tools.proofs.Arguments.{arg_same}
@@ -28,21 +28,13 @@ use Rattle.relation_tools.proofs.Meeting.{part_meets, part_had, meets_on}
 use Rattle.relation_tools.proofs.Outliving.{in_left, in_right, adds_none, adds_after, adds_within, adds_as, has_as, has_both}
 use Rattle.relation_tools.proofs.Outliving.{has_grown, added_some, added_all, stands_escaping, meets_none, meets_after}
 use Rattle.relation_tools.proofs.Outliving.{settled_below, settled_after, settled_none}
-use Rattle.relation_tools.proofs.Visiting.{rest, has_sort}
+use Rattle.relation_tools.proofs.Visiting.{rest}
 use Rattle.relation_tools.proofs.outlives.collecting.+collect.Goals as goal
 
-pub alias_components-returns-clause-some : goal.alias_components-returns-clause-some
-alias_components-returns-clause-some g t' c =
+pub collect_part-returns-in_err-first-clause-some : goal.collect_part-returns-in_err-first-clause-some
+collect_part-returns-in_err-first-clause-some g t' c =
     let m = g.I.Interner.meaning c.args.cx.now in
-    let ts = inside_alias m.alias_variances (kind_tree m (AliasForm c.args.alias.now)) in
-    subst₂ (λ x y. AddsSome m ts x y) c.new-inside.ensures.items (sym c.in_ok-into_vec.ensures.ok)
-    c.in_ok-collect_alias_args.ensures.some
-
-pub alias_components-returns-clause-all : goal.alias_components-returns-clause-all
-alias_components-returns-clause-all g t' c =
-    let m = g.I.Interner.meaning c.args.cx.now in
-    let ts = inside_alias m.alias_variances (kind_tree m (AliasForm c.args.alias.now)) in
-    subst (λ z. HasAll m ts z) (sym c.in_ok-into_vec.ensures.ok) c.in_ok-collect_alias_args.ensures.all
+    adds_none m (components every (part_tree m c.args.part.now)) c.args.out.now.items
 
 pub collect_alias_args-collect_members-requires : goal.collect_alias_args-collect_members-requires
 collect_alias_args-collect_members-requires g t' c κs within =
@@ -203,29 +195,47 @@ collect_coroutine-returns-clause-meets g t' c =
     c.collect_found-2.ensures.some c.in_ok-collect_found.ensures.meets o)
     c.collect_found-2.ensures.meets
 
-pub collect_escaping-alias_components-requires : goal.collect_escaping-alias_components-requires
-collect_escaping-alias_components-requires g t' c κs within =
+pub collect_escaping-collect_alias_args-requires : goal.collect_escaping-collect_alias_args-requires
+collect_escaping-collect_alias_args-requires g t' c κs within =
     let m = g.I.Interner.meaning c.args.cx.now in
     let w = m.args (c.args.alias.now).args in
     let d = c.decreases in
     let k = c.requires.known in
-    let small : 4 * size w + 3 < 4 * size w + 4 = omega arith in
+    let small : 4 * size w + 2 < 4 * size w + 4 = omega arith in
     search rules
+
+pub collect_escaping-returns-in_err-collect_alias_args-clause-some : goal.collect_escaping-returns-in_err-collect_alias_args-clause-some
+collect_escaping-returns-in_err-collect_alias_args-clause-some g t' c =
+    let m = g.I.Interner.meaning c.args.cx.now in
+    adds_none m (kind_tree m (AliasForm c.args.alias.now) ∷ []) c.args.out.now.items
+
+pub collect_escaping-returns-in_err-into_vec-clause-some : goal.collect_escaping-returns-in_err-into_vec-clause-some
+collect_escaping-returns-in_err-into_vec-clause-some g t' c =
+    let m = g.I.Interner.meaning c.args.cx.now in
+    adds_none m (kind_tree m (AliasForm c.args.alias.now) ∷ []) c.args.out.now.items
 
 pub collect_escaping-returns-clause-some : goal.collect_escaping-returns-clause-some
 collect_escaping-returns-clause-some g t' c =
     let m = g.I.Interner.meaning c.args.cx.now in
     let w = kind_tree m (AliasForm c.args.alias.now) in
-    let v = c.in_ok-inside.inside in
-    let s = stands_escaping m v w c.requires.escapes c.in_ok-inside.ensures.some c.in_ok-inside.ensures.all in
+    let ts = inside_alias m.alias_variances w in
+    let v = c.in_ok-into_vec.field-0 in
+    let is = sym c.in_ok-into_vec.ensures.ok in
+    let some = subst₂ (λ x y. AddsSome m ts x y) c.new-inside.ensures.items is c.in_ok-collect_alias_args.ensures.some in
+    let all = subst (λ z. HasAll m ts z) is c.in_ok-collect_alias_args.ensures.all in
+    let s = stands_escaping m v w c.requires.escapes some all in
     added_some m (w ∷ []) (EscapingAlias v) w _ _ c.add.result c.add.ensures.ok c.add.ensures.err refl s
 
 pub collect_escaping-returns-clause-all : goal.collect_escaping-returns-clause-all
 collect_escaping-returns-clause-all g t' c =
     let m = g.I.Interner.meaning c.args.cx.now in
     let w = kind_tree m (AliasForm c.args.alias.now) in
-    let v = c.in_ok-inside.inside in
-    let s = stands_escaping m v w c.requires.escapes c.in_ok-inside.ensures.some c.in_ok-inside.ensures.all in
+    let ts = inside_alias m.alias_variances w in
+    let v = c.in_ok-into_vec.field-0 in
+    let is = sym c.in_ok-into_vec.ensures.ok in
+    let some = subst₂ (λ x y. AddsSome m ts x y) c.new-inside.ensures.items is c.in_ok-collect_alias_args.ensures.some in
+    let all = subst (λ z. HasAll m ts z) is c.in_ok-collect_alias_args.ensures.all in
+    let s = stands_escaping m v w c.requires.escapes some all in
     added_all m (w ∷ []) (EscapingAlias v) w _ _ c.add.result c.add.ensures.ok refl s
 
 pub collect_found-collect_part-requires : goal.collect_found-collect_part-requires
@@ -451,13 +461,13 @@ collect_member-returns-clause-all g t' c =
     let f : components every x ≡ of_member ch i ts = sym (e ∙ ap (λ b. cond b (components every x) []) yes) in
     subst (λ z. OnOk c.collect_part.result (HasAll m z c.collect_part.new.out.items)) f c.collect_part.ensures.all
 
-pub collect_part-returns-then-not-branch-clause-some : goal.collect_part-returns-then-not-branch-clause-some
-collect_part-returns-then-not-branch-clause-some g t' c =
+pub collect_part-returns-then-not-first-clause-some : goal.collect_part-returns-then-not-first-clause-some
+collect_part-returns-then-not-first-clause-some g t' c =
     let m = g.I.Interner.meaning c.args.cx.now in
     adds_none m (components every (part_tree m c.args.part.now)) c.args.out.now.items
 
-pub collect_part-returns-then-not-branch-clause-all : goal.collect_part-returns-then-not-branch-clause-all
-collect_part-returns-then-not-branch-clause-all g t' c =
+pub collect_part-returns-then-not-first-clause-all : goal.collect_part-returns-then-not-first-clause-all
+collect_part-returns-then-not-first-clause-all g t' c =
     let m = g.I.Interner.meaning c.args.cx.now in
     let eq = (ghosts g.row.I-Key g.I.Key.PartialEq g.I.Key.PartialEq-dict).eq in
     let a = c.args.cx.now in
@@ -474,22 +484,21 @@ collect_part-returns-then-not-branch-clause-all g t' c =
       alternatives = laws.are_alternatives a;
       existential_predicates = laws.are_existential_predicates a;
     } in
-    let both = arg_same m g.I.Key.PartialEq.eq eq (λ a b. refl) (λ a b. refl) (λ a b. refl) (λ a b. refl)
+    let same = arg_same m g.I.Key.PartialEq.eq eq (λ a b. refl) (λ a b. refl) (λ a b. refl) (λ a b. refl)
     (λ a b. refl) (λ a b. refl) (λ a b. refl) (λ a b. refl) (λ a b. refl) (laws.same_region a) (laws.same_ty a)
     (laws.same_const a) sorted in
-    let same = λ x y k l i. (both x y k l).0 i in
     let p = c.args.part.now in
     let w = part_tree m p in
-    let kept = c.in_ok-meet.ensures in
-    let b = c.in_ok-meet.field-0 in
+    let kept = c.in_ok-first.ensures in
+    let b = c.in_ok-first.first in
     let xs = c.args.visited.now.keys in
     let ys = c.meet.new.visited.keys in
-    let had = part_had m eq same p b (suc (size w)) xs ys c.args.out.now.items kept c.if-not-branch.true
+    let had = part_had m eq same p b (suc (size w)) xs ys c.args.out.now.items kept c.if-not-first.true
     c.requires.known refl c.requires.settled in
     had
 
-pub collect_part-returns-then-not-branch-clause-meets : goal.collect_part-returns-then-not-branch-clause-meets
-collect_part-returns-then-not-branch-clause-meets g t' c =
+pub collect_part-returns-then-not-first-clause-meets : goal.collect_part-returns-then-not-first-clause-meets
+collect_part-returns-then-not-first-clause-meets g t' c =
     let m = g.I.Interner.meaning c.args.cx.now in
     let eq = (ghosts g.row.I-Key g.I.Key.PartialEq g.I.Key.PartialEq-dict).eq in
     let a = c.args.cx.now in
@@ -506,24 +515,24 @@ collect_part-returns-then-not-branch-clause-meets g t' c =
       alternatives = laws.are_alternatives a;
       existential_predicates = laws.are_existential_predicates a;
     } in
-    let both = arg_same m g.I.Key.PartialEq.eq eq (λ a b. refl) (λ a b. refl) (λ a b. refl) (λ a b. refl)
+    let same = arg_same m g.I.Key.PartialEq.eq eq (λ a b. refl) (λ a b. refl) (λ a b. refl) (λ a b. refl)
     (λ a b. refl) (λ a b. refl) (λ a b. refl) (λ a b. refl) (λ a b. refl) (laws.same_region a) (laws.same_ty a)
     (laws.same_const a) sorted in
-    let same = λ x y k l i. (both x y k l).0 i in
     let p = c.args.part.now in
     let w = part_tree m p in
-    let kept = c.in_ok-meet.ensures in
-    let b = c.in_ok-meet.field-0 in
+    let kept = c.in_ok-first.ensures in
+    let b = c.in_ok-first.first in
     let xs = c.args.visited.now.keys in
     let ys = c.meet.new.visited.keys in
-    let had = part_had m eq same p b (suc (size w)) xs ys c.args.out.now.items kept c.if-not-branch.true
+    let had = part_had m eq same p b (suc (size w)) xs ys c.args.out.now.items kept c.if-not-first.true
     c.requires.known refl c.requires.settled in
     part_meets m eq same p b xs ys c.args.out.now.items kept c.requires.known had
 
 pub collect_part-collect_region-requires : goal.collect_part-collect_region-requires
 collect_part-collect_region-requires g t' c =
     let m = g.I.Interner.meaning c.args.cx.now in
-    subst (λ z. IsTrue (known (part_tree m z))) c.in-Region.is c.requires.known
+    let k = subst (λ z. IsTrue (known (part_tree m z))) c.in-Region.is c.requires.known in
+    search rules
 
 pub collect_part-collect_ty-requires : goal.collect_part-collect_ty-requires
 collect_part-collect_ty-requires g t' c κs within =
@@ -543,14 +552,13 @@ collect_part-collect_ty-requires g t' c κs within =
       alternatives = laws.are_alternatives a;
       existential_predicates = laws.are_existential_predicates a;
     } in
-    let both = arg_same m g.I.Key.PartialEq.eq eq (λ a b. refl) (λ a b. refl) (λ a b. refl) (λ a b. refl)
+    let same = arg_same m g.I.Key.PartialEq.eq eq (λ a b. refl) (λ a b. refl) (λ a b. refl) (λ a b. refl)
     (λ a b. refl) (λ a b. refl) (λ a b. refl) (λ a b. refl) (λ a b. refl) (laws.same_region a) (laws.same_ty a)
     (laws.same_const a) sorted in
-    let same = λ x y k l i. (both x y k l).0 i in
     let p = c.args.part.now in
     let w = part_tree m p in
-    let kept = c.in_ok-meet.ensures in
-    let b = c.in_ok-meet.field-0 in
+    let kept = c.in_ok-first.ensures in
+    let b = c.in_ok-first.first in
     let xs = c.args.visited.now.keys in
     let ys = c.meet.new.visited.keys in
     let below = settled_below m eq (suc (size w)) (size w) xs c.args.out.now.items (omega arith) c.requires.settled in
@@ -581,14 +589,13 @@ collect_part-collect_members-requires g t' c κs within =
       alternatives = laws.are_alternatives a;
       existential_predicates = laws.are_existential_predicates a;
     } in
-    let both = arg_same m g.I.Key.PartialEq.eq eq (λ a b. refl) (λ a b. refl) (λ a b. refl) (λ a b. refl)
+    let same = arg_same m g.I.Key.PartialEq.eq eq (λ a b. refl) (λ a b. refl) (λ a b. refl) (λ a b. refl)
     (λ a b. refl) (λ a b. refl) (λ a b. refl) (λ a b. refl) (λ a b. refl) (laws.same_region a) (laws.same_ty a)
     (laws.same_const a) sorted in
-    let same = λ x y k l i. (both x y k l).0 i in
     let p = c.args.part.now in
     let w = part_tree m p in
-    let kept = c.in_ok-meet.ensures in
-    let b = c.in_ok-meet.field-0 in
+    let kept = c.in_ok-first.ensures in
+    let b = c.in_ok-first.first in
     let xs = c.args.visited.now.keys in
     let ys = c.meet.new.visited.keys in
     let below = settled_below m eq (suc (size w)) (size w) xs c.args.out.now.items (omega arith) c.requires.settled in
@@ -631,14 +638,13 @@ collect_part-returns-in-Region-clause-meets g t' c =
       alternatives = laws.are_alternatives a;
       existential_predicates = laws.are_existential_predicates a;
     } in
-    let both = arg_same m g.I.Key.PartialEq.eq eq (λ a b. refl) (λ a b. refl) (λ a b. refl) (λ a b. refl)
+    let same = arg_same m g.I.Key.PartialEq.eq eq (λ a b. refl) (λ a b. refl) (λ a b. refl) (λ a b. refl)
     (λ a b. refl) (λ a b. refl) (λ a b. refl) (λ a b. refl) (λ a b. refl) (laws.same_region a) (laws.same_ty a)
     (laws.same_const a) sorted in
-    let same = λ x y k l i. (both x y k l).0 i in
     let p = c.args.part.now in
     let w = part_tree m p in
-    let kept = c.in_ok-meet.ensures in
-    let b = c.in_ok-meet.field-0 in
+    let kept = c.in_ok-first.ensures in
+    let b = c.in_ok-first.first in
     let xs = c.args.visited.now.keys in
     let ys = c.meet.new.visited.keys in
     let e = sym (ap (λ z. components every (part_tree m z)) c.in-Region.is) in
@@ -675,14 +681,13 @@ collect_part-returns-in-Ty-clause-meets g t' c =
       alternatives = laws.are_alternatives a;
       existential_predicates = laws.are_existential_predicates a;
     } in
-    let both = arg_same m g.I.Key.PartialEq.eq eq (λ a b. refl) (λ a b. refl) (λ a b. refl) (λ a b. refl)
+    let same = arg_same m g.I.Key.PartialEq.eq eq (λ a b. refl) (λ a b. refl) (λ a b. refl) (λ a b. refl)
     (λ a b. refl) (λ a b. refl) (λ a b. refl) (λ a b. refl) (λ a b. refl) (laws.same_region a) (laws.same_ty a)
     (laws.same_const a) sorted in
-    let same = λ x y k l i. (both x y k l).0 i in
     let p = c.args.part.now in
     let w = part_tree m p in
-    let kept = c.in_ok-meet.ensures in
-    let b = c.in_ok-meet.field-0 in
+    let kept = c.in_ok-first.ensures in
+    let b = c.in_ok-first.first in
     let xs = c.args.visited.now.keys in
     let ys = c.meet.new.visited.keys in
     let e = sym (ap (λ z. components every (part_tree m z)) c.in-Ty.is) in
@@ -711,14 +716,13 @@ collect_part-returns-in_default g t' c =
       alternatives = laws.are_alternatives a;
       existential_predicates = laws.are_existential_predicates a;
     } in
-    let both = arg_same m g.I.Key.PartialEq.eq eq (λ a b. refl) (λ a b. refl) (λ a b. refl) (λ a b. refl)
+    let same = arg_same m g.I.Key.PartialEq.eq eq (λ a b. refl) (λ a b. refl) (λ a b. refl) (λ a b. refl)
     (λ a b. refl) (λ a b. refl) (λ a b. refl) (λ a b. refl) (λ a b. refl) (laws.same_region a) (laws.same_ty a)
     (laws.same_const a) sorted in
-    let same = λ x y k l i. (both x y k l).0 i in
     let p = c.args.part.now in
     let w = part_tree m p in
-    let kept = c.in_ok-meet.ensures in
-    let b = c.in_ok-meet.field-0 in
+    let kept = c.in_ok-first.ensures in
+    let b = c.in_ok-first.first in
     let xs = c.args.visited.now.keys in
     let ys = c.meet.new.visited.keys in
     let d = c.in_default in
@@ -740,7 +744,7 @@ collect_ty-collect_members-requires g t' c κs within =
     let m = g.I.Interner.meaning c.args.cx.now in
     let eq = (ghosts g.row.I-Key g.I.Key.PartialEq g.I.Key.PartialEq-dict).eq in
     let w = m.ty c.args.ty.now in
-    let e : w ≡ kind_tree m _ = c.ty_kind-kind.ensures ∙ ap (kind_tree m) c.in-FnDef.is in
+    let e = c.ty_kind-kind.ensures ∙ ap (kind_tree m) c.in-FnDef.is in
     let ts = m.args c.in-FnDef.args in
     let d = c.decreases in
     let k : IsTrue (known ts) = subst (λ z. IsTrue (known z)) e c.requires.known in
@@ -754,14 +758,14 @@ pub collect_ty-returns-in-FnDef-clause-some : goal.collect_ty-returns-in-FnDef-c
 collect_ty-returns-in-FnDef-clause-some g t' c =
     let m = g.I.Interner.meaning c.args.cx.now in
     let w = m.ty c.args.ty.now in
-    let e : w ≡ kind_tree m _ = c.ty_kind-kind.ensures ∙ ap (kind_tree m) c.in-FnDef.is in
+    let e = c.ty_kind-kind.ensures ∙ ap (kind_tree m) c.in-FnDef.is in
     adds_as m _ _ _ _ (sym (ap (components every) e)) c.collect_members.ensures.some
 
 pub collect_ty-returns-in-FnDef-clause-all : goal.collect_ty-returns-in-FnDef-clause-all
 collect_ty-returns-in-FnDef-clause-all g t' c =
     let m = g.I.Interner.meaning c.args.cx.now in
     let w = m.ty c.args.ty.now in
-    let e : w ≡ kind_tree m _ = c.ty_kind-kind.ensures ∙ ap (kind_tree m) c.in-FnDef.is in
+    let e = c.ty_kind-kind.ensures ∙ ap (kind_tree m) c.in-FnDef.is in
     subst (λ z. OnOk c.collect_members.result (HasAll m z c.collect_members.new.out.items)) (sym (ap (components every) e))
     c.collect_members.ensures.all
 
@@ -770,7 +774,7 @@ collect_ty-collect_closure-requires g t' c κs within =
     let m = g.I.Interner.meaning c.args.cx.now in
     let eq = (ghosts g.row.I-Key g.I.Key.PartialEq g.I.Key.PartialEq-dict).eq in
     let w = m.ty c.args.ty.now in
-    let e : w ≡ kind_tree m _ = c.ty_kind-kind.ensures ∙ ap (kind_tree m) c.in-Closure.is in
+    let e = c.ty_kind-kind.ensures ∙ ap (kind_tree m) c.in-Closure.is in
     let ts = m.args c.in-Closure.args in
     let d = c.decreases in
     let k : IsTrue (known ts) = subst (λ z. IsTrue (known z)) e c.requires.known in
@@ -784,14 +788,14 @@ pub collect_ty-returns-in-Closure-clause-some : goal.collect_ty-returns-in-Closu
 collect_ty-returns-in-Closure-clause-some g t' c =
     let m = g.I.Interner.meaning c.args.cx.now in
     let w = m.ty c.args.ty.now in
-    let e : w ≡ kind_tree m _ = c.ty_kind-kind.ensures ∙ ap (kind_tree m) c.in-Closure.is in
+    let e = c.ty_kind-kind.ensures ∙ ap (kind_tree m) c.in-Closure.is in
     adds_as m _ _ _ _ (sym (ap (components every) e)) c.collect_closure.ensures.some
 
 pub collect_ty-returns-in-Closure-clause-all : goal.collect_ty-returns-in-Closure-clause-all
 collect_ty-returns-in-Closure-clause-all g t' c =
     let m = g.I.Interner.meaning c.args.cx.now in
     let w = m.ty c.args.ty.now in
-    let e : w ≡ kind_tree m _ = c.ty_kind-kind.ensures ∙ ap (kind_tree m) c.in-Closure.is in
+    let e = c.ty_kind-kind.ensures ∙ ap (kind_tree m) c.in-Closure.is in
     subst (λ z. OnOk c.collect_closure.result (HasAll m z c.collect_closure.new.out.items)) (sym (ap (components every) e))
     c.collect_closure.ensures.all
 
@@ -800,7 +804,7 @@ collect_ty-collect_closure-requires-in-CoroutineClosure g t' c κs within =
     let m = g.I.Interner.meaning c.args.cx.now in
     let eq = (ghosts g.row.I-Key g.I.Key.PartialEq g.I.Key.PartialEq-dict).eq in
     let w = m.ty c.args.ty.now in
-    let e : w ≡ kind_tree m _ = c.ty_kind-kind.ensures ∙ ap (kind_tree m) c.in-CoroutineClosure.is in
+    let e = c.ty_kind-kind.ensures ∙ ap (kind_tree m) c.in-CoroutineClosure.is in
     let ts = m.args c.in-CoroutineClosure.args in
     let d = c.decreases in
     let k : IsTrue (known ts) = subst (λ z. IsTrue (known z)) e c.requires.known in
@@ -814,14 +818,14 @@ pub collect_ty-returns-in-CoroutineClosure-clause-some : goal.collect_ty-returns
 collect_ty-returns-in-CoroutineClosure-clause-some g t' c =
     let m = g.I.Interner.meaning c.args.cx.now in
     let w = m.ty c.args.ty.now in
-    let e : w ≡ kind_tree m _ = c.ty_kind-kind.ensures ∙ ap (kind_tree m) c.in-CoroutineClosure.is in
+    let e = c.ty_kind-kind.ensures ∙ ap (kind_tree m) c.in-CoroutineClosure.is in
     adds_as m _ _ _ _ (sym (ap (components every) e)) c.collect_closure-in-CoroutineClosure.ensures.some
 
 pub collect_ty-returns-in-CoroutineClosure-clause-all : goal.collect_ty-returns-in-CoroutineClosure-clause-all
 collect_ty-returns-in-CoroutineClosure-clause-all g t' c =
     let m = g.I.Interner.meaning c.args.cx.now in
     let w = m.ty c.args.ty.now in
-    let e : w ≡ kind_tree m _ = c.ty_kind-kind.ensures ∙ ap (kind_tree m) c.in-CoroutineClosure.is in
+    let e = c.ty_kind-kind.ensures ∙ ap (kind_tree m) c.in-CoroutineClosure.is in
     subst (λ z. OnOk c.collect_closure-in-CoroutineClosure.result (HasAll m z c.collect_closure-in-CoroutineClosure.new.out.items)) (sym (ap (components every) e))
     c.collect_closure-in-CoroutineClosure.ensures.all
 
@@ -830,7 +834,7 @@ collect_ty-collect_coroutine-requires g t' c κs within =
     let m = g.I.Interner.meaning c.args.cx.now in
     let eq = (ghosts g.row.I-Key g.I.Key.PartialEq g.I.Key.PartialEq-dict).eq in
     let w = m.ty c.args.ty.now in
-    let e : w ≡ kind_tree m _ = c.ty_kind-kind.ensures ∙ ap (kind_tree m) c.in-Coroutine.is in
+    let e = c.ty_kind-kind.ensures ∙ ap (kind_tree m) c.in-Coroutine.is in
     let ts = m.args c.in-Coroutine.args in
     let d = c.decreases in
     let k : IsTrue (known ts) = subst (λ z. IsTrue (known z)) e c.requires.known in
@@ -844,14 +848,14 @@ pub collect_ty-returns-in-Coroutine-clause-some : goal.collect_ty-returns-in-Cor
 collect_ty-returns-in-Coroutine-clause-some g t' c =
     let m = g.I.Interner.meaning c.args.cx.now in
     let w = m.ty c.args.ty.now in
-    let e : w ≡ kind_tree m _ = c.ty_kind-kind.ensures ∙ ap (kind_tree m) c.in-Coroutine.is in
+    let e = c.ty_kind-kind.ensures ∙ ap (kind_tree m) c.in-Coroutine.is in
     adds_as m _ _ _ _ (sym (ap (components every) e)) c.collect_coroutine.ensures.some
 
 pub collect_ty-returns-in-Coroutine-clause-all : goal.collect_ty-returns-in-Coroutine-clause-all
 collect_ty-returns-in-Coroutine-clause-all g t' c =
     let m = g.I.Interner.meaning c.args.cx.now in
     let w = m.ty c.args.ty.now in
-    let e : w ≡ kind_tree m _ = c.ty_kind-kind.ensures ∙ ap (kind_tree m) c.in-Coroutine.is in
+    let e = c.ty_kind-kind.ensures ∙ ap (kind_tree m) c.in-Coroutine.is in
     subst (λ z. OnOk c.collect_coroutine.result (HasAll m z c.collect_coroutine.new.out.items)) (sym (ap (components every) e))
     c.collect_coroutine.ensures.all
 
@@ -864,7 +868,7 @@ pub collect_ty-returns-in-CoroutineWitness-clause-all : goal.collect_ty-returns-
 collect_ty-returns-in-CoroutineWitness-clause-all g t' c =
     let m = g.I.Interner.meaning c.args.cx.now in
     let w = m.ty c.args.ty.now in
-    let e : w ≡ kind_tree m _ = c.ty_kind-kind.ensures ∙ ap (kind_tree m) c.in-CoroutineWitness.is in
+    let e = c.ty_kind-kind.ensures ∙ ap (kind_tree m) c.in-CoroutineWitness.is in
     has_as m [] (components every w) c.args.out.now.items
     (sym (witness_has w _ _ e (g.met.I.Interner.is_ty c.args.cx.now c.args.ty.now c.requires.known))) tt
 

@@ -32,9 +32,6 @@ decreases-collect_ty g l = 4 * size ((g.I.Interner.meaning l.cx.now).ty l.ty.now
 abbrev pub decreases-collect_escaping : goal.decreases-collect_escaping
 decreases-collect_escaping g l = 4 * size ((g.I.Interner.meaning l.cx.now).args (l.alias.now).args) + 4
 
-abbrev pub decreases-alias_components : goal.decreases-alias_components
-decreases-alias_components g l = 4 * size ((g.I.Interner.meaning l.cx.now).args (l.alias.now).args) + 3
-
 abbrev pub decreases-collect_alias_args : goal.decreases-collect_alias_args
 decreases-collect_alias_args g l = 4 * size ((g.I.Interner.meaning l.cx.now).args (l.alias.now).args) + 2
 
