@@ -20,3 +20,5 @@ pub mod Keying
 pub mod Shifting
 pub mod Positioning
 pub mod Arguments
+pub mod Entering
+pub mod Fielding
