@@ -1,10 +1,10 @@
 -- Visits and folds of predicates, by their parts.
-use Rattle.std.proofs.Common.{ℕ, ◌≡◌, ◌≢◌, refl, sym, ap, ap₂, ◌∙◌, Option, Some, None, IsTrue, false, subst, subst₂}
+use Rattle.std.proofs.Common.{ℕ, ◌≡◌, ◌≢◌, refl, sym, ap, ap₂, ◌∙◌, Option, IsTrue, false, subst, subst₂}
 use Rattle.std.specs.declared.ops.ControlFlow.TheVariants.{Continue, Break}
 use Rattle.relation_terms.specs.Heads.{no_sort}
-use Rattle.relation_terms.specs.Trees.{Tree, leaf, node, nil, cons, known}
+use Rattle.relation_terms.specs.Trees.{Tree, nil, cons, known}
 use Rattle.relation_terms.specs.Meaning.{Meaning, Extends}
-use Rattle.relation_terms.specs.Predicates.{clause_kind_tree, predicate_kind_tree}
+use Rattle.relation_terms.specs.Predicates.{predicate_kind_tree}
 use Rattle.relation_terms.specs.Parts.{parts_of, over, tree_sort}
 use Rattle.relation_terms.specs.Orders.{in_order, order_of, in_turn}
 use Rattle.relation_terms.specs.Fields.{predicate_view, predicate_made, fields_tree, AlikeFields}
@@ -17,7 +17,9 @@ use Rattle.relation_terms.specs.declared.predicate.kinds.PredicateKind.{Predicat
 use Rattle.relation_terms.specs.declared.predicate.kinds.PredicateKind.TheVariants.{Clause, Subtype, Coerce}
 use Rattle.relation_terms.specs.declared.predicate.kinds.PredicateKind.TheVariants.{NormalizesTo, AliasRelate, Ambiguous}
 use Rattle.relation_terms.proofs.Fields.{predicate_viewed, predicate_remade}
+use Rattle.relation_terms.proofs.Parts.{over_known}
 use Rattle.relation_terms.proofs.Predicates.{stays_predicate_kind}
+use Rattle.relation_terms.proofs.Stays.{knows_as}
 use Rattle.relation_tools.specs.declared.visit.Visit.{Visit}
 use Rattle.relation_tools.specs.declared.visit.Visit.TheVariants.{Enter}
 use Rattle.relation_tools.specs.Visits.{is_visited, told_inside, Flow, Walks, no_part, last_part, next_part}
@@ -145,3 +147,13 @@ module _ {Key Id Name : Type 0} (puts : ℕ → Tree → Option Tree) (m : Meani
         predicate_remade n p gs (subst (λ x. AlikeFields x gs) is a)
         ∙ ap₂ over (stays_predicate_kind e p k) (q ∙ ap (folded puts 0) (ap (fields_tree m) is ∙ predicate_viewed m p))
         ∙ sym (over_folded p)
+
+    -- It is known where they are.
+    pub predicate_known : {n : Meaning Key Id Name} → Extends m n → IsTrue (known (predicate_kind_tree m p)) →
+        (gs : Fields Key Id) → AlikeFields fs gs → IsTrue (known (fields_tree n gs)) →
+        IsTrue (known (predicate_kind_tree n (predicate_made p gs)))
+    predicate_known {n = n} e k gs a h =
+        let stay = stays_predicate_kind e p k in
+        over_known (predicate_kind_tree n p) (fields_tree n gs) (predicate_kind_tree n (predicate_made p gs))
+        (predicate_remade n p gs (subst (λ x. AlikeFields x gs) is a))
+        (knows_as (predicate_kind_tree m p) (predicate_kind_tree n p) stay k) h

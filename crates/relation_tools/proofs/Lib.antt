@@ -22,3 +22,5 @@ pub mod Positioning
 pub mod Arguments
 pub mod Entering
 pub mod Fielding
+pub mod FieldFolding
+pub mod ClauseLists

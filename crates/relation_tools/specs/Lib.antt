@@ -12,3 +12,5 @@ pub mod HeadKeys
 pub mod Shifts
 pub mod KeyLaws
 pub mod InstanceLaws
+pub mod FieldFolds
+pub mod InBinders

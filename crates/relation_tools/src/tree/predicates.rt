@@ -9,8 +9,9 @@ ghost use Rattle.relation_terms.proofs.Predicates.{stays_clause_kind, stays_pred
 
 use crate::tree::HasTree;
 use relation_terms::predicate::{
-    AliasTerm, ClauseKind, CoercePredicate, HostEffectPredicate, NormalizesTo as NormalizesToPredicate,
-    OutlivesPredicate, PredicateKind, ProjectionPredicate, SubtypePredicate, TraitPredicate, TraitRef,
+    AliasTerm, ClauseKind, CoercePredicate, HostEffectPredicate,
+    NormalizesTo as NormalizesToPredicate, OutlivesPredicate, PredicateKind, ProjectionPredicate,
+    SubtypePredicate, TraitPredicate, TraitRef,
 };
 use relation_terms::terms::{
     ClauseKey, ClausesKey, Interner, ParamEnvKey, PredicateKey, RegionKey, TyKey,
