@@ -24,3 +24,5 @@ pub mod Entering
 pub mod Fielding
 pub mod FieldFolding
 pub mod ClauseLists
+pub mod UsedPlaces
+pub mod Anonymizing

@@ -14,3 +14,4 @@ pub mod KeyLaws
 pub mod InstanceLaws
 pub mod FieldFolds
 pub mod InBinders
+pub mod Anonymous
