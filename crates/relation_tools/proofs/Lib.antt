@@ -24,3 +24,9 @@ pub mod Outliving
 pub mod Choosing
 pub mod Components
 pub mod Meeting
+pub mod Entering
+pub mod Fielding
+pub mod FieldFolding
+pub mod ClauseLists
+pub mod UsedPlaces
+pub mod Anonymizing

@@ -15,3 +15,6 @@ pub mod InstanceLaws
 pub mod Components
 pub mod Outliving
 pub mod Collecting
+pub mod FieldFolds
+pub mod InBinders
+pub mod Anonymous

@@ -7,11 +7,14 @@ ghost use Rattle.relation_tools.specs.Folds.{Steps, folded, answered, KnownAnswe
 use crate::tree::HasTree;
 use relation_terms::terms::{Const, Interner, OutOfMemory, Region, Ty};
 
+mod binder;
 mod bound;
+mod clauses;
 mod foldable;
 mod forms;
 mod keyed;
 mod memory;
+mod predicates;
 mod shift;
 mod walk;
 

@@ -8,6 +8,8 @@ ghost use Rattle.relation_terms.proofs.Stays.{stays_arg, stays_term, stays_signa
 ghost use Rattle.relation_terms.proofs.Binders.{under_stays};
 ghost use Rattle.relation_tools.specs.Faults.{pair_tree, error_tree, stays_pair, stays_error};
 
+mod predicates;
+
 use crate::error::{ExpectedFound, TypeError};
 use relation_terms::predicate::{ExistentialPredicate, ExistentialProjection, ExistentialTraitRef};
 use relation_terms::terms::{

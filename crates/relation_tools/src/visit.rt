@@ -8,13 +8,17 @@ ghost use Rattle.relation_terms.specs.Parts.{parts_of};
 ghost use Rattle.relation_tools.specs.Visits.{Walks};
 ghost use Rattle.relation_tools.specs.declared.visit.Visit.{Visit};
 
+mod binder;
+mod clauses;
 mod flags;
 mod forms;
 mod keyed;
+mod predicates;
 mod visitable;
 mod walk;
 
 use crate::tree::HasTree;
+pub(crate) use clauses::{clause_at, clause_count};
 pub use flags::{has_escaping_bound_vars, has_non_region_infer, is_known_rigid};
 pub use keyed::{
     super_visit_const, super_visit_ty, visit_alternatives_with, visit_arg_with, visit_args_with,

@@ -1,8 +1,8 @@
-//! Visits of forms that have no key: signatures, predicates of trait objects, and binders over these and over types.
+//! Visits of forms that have no key: signatures and predicates of trait objects.
 use crate::visit::walk::visit_part;
 use crate::visit::{TypeVisitable, TypeVisitor, visit_predicates_with};
 use relation_terms::predicate::{ExistentialPredicate, ExistentialProjection, ExistentialTraitRef};
-use relation_terms::terms::{Binder, Body, ExistentialPredicatesKey, FnSig, Interner, Part, TyKey};
+use relation_terms::terms::{ExistentialPredicatesKey, FnSig, Interner, Part};
 use std::ops::ControlFlow;
 
 impl<I: Interner> TypeVisitable<I> for ExistentialPredicatesKey<I::Key> {
@@ -38,26 +38,5 @@ impl<I: Interner> TypeVisitable<I> for ExistentialProjection<I::Key, I::Id> {
     fn visit_with<V: TypeVisitor<I>>(&self, cx: &I, visitor: &mut V) -> ControlFlow<()> {
         let predicate = ExistentialPredicate::Projection(*self);
         visit_part(cx, &Part::Existential(predicate), 0, visitor)
-    }
-}
-
-impl<I: Interner> TypeVisitable<I> for Binder<I::Key, FnSig<I::Key>> {
-    fn visit_with<V: TypeVisitor<I>>(&self, cx: &I, visitor: &mut V) -> ControlFlow<()> {
-        let binder = Part::Binder(self.bound_vars, Body::Signature(self.value));
-        visit_part(cx, &binder, 0, visitor)
-    }
-}
-
-impl<I: Interner> TypeVisitable<I> for Binder<I::Key, TyKey<I::Key>> {
-    fn visit_with<V: TypeVisitor<I>>(&self, cx: &I, visitor: &mut V) -> ControlFlow<()> {
-        let binder = Part::Binder(self.bound_vars, Body::Ty(self.value));
-        visit_part(cx, &binder, 0, visitor)
-    }
-}
-
-impl<I: Interner> TypeVisitable<I> for Binder<I::Key, ExistentialPredicate<I::Key, I::Id>> {
-    fn visit_with<V: TypeVisitor<I>>(&self, cx: &I, visitor: &mut V) -> ControlFlow<()> {
-        let binder = Part::Binder(self.bound_vars, Body::Existential(self.value));
-        visit_part(cx, &binder, 0, visitor)
     }
 }

@@ -1,0 +1,38 @@
+//! Predicates whose outermost binders differ in names, order or unused variables alone, made one.
+ghost use Rattle.std.specs.Prelude.{◌≡◌, IsTrue, IfOk};
+ghost use Rattle.relation_terms.specs.Trees.{known};
+ghost use Rattle.relation_terms.specs.Meaning.{Extends};
+ghost use Rattle.relation_tools.specs.Anonymous.{anonymized};
+
+mod renaming;
+mod used;
+
+use relation_terms::terms::{Binder, Interner, OutOfMemory, Predicate, Symbol};
+use renaming::{named_vars, rename_bound_vars};
+use used::used_vars;
+
+/// The predicate with its outermost binder over the variables alone that are used in it, in the order in which a visit
+/// first comes to them, all by the name that is handed in. So there is one value for predicates whose outermost binders
+/// differ in names, order or unused variables alone. Binders further in stay as they are. The interner has to know the
+/// predicate.
+///
+/// Answers `OutOfMemory` where a growth was refused; all keys mean then what they did. Upstream's call of that name of an
+/// interner, where what binders bind needs no name.
+pub fn anonymize_bound_vars<I: Interner>(
+    cx: &mut I,
+    predicate: &Predicate<I>,
+    name: Symbol<I>,
+) -> Result<Predicate<I>, OutOfMemory>
+    requires { IsTrue (known ((I.meaning cx.old).predicate predicate.now)) }
+    ensures grown { Extends (I.meaning cx.old) (I.meaning cx.new) }
+    ensures sure { IfOk result (λ k. IsTrue (known ((I.meaning cx.new).predicate k))) }
+    ensures made { let t = (I.meaning cx.old).predicate predicate.now in
+        IfOk result (λ k. (I.meaning cx.new).predicate k ≡ anonymized ((I.meaning cx.old).name name) t) }
+{
+    let body = cx.predicate_kind(predicate).value;
+    let used = used_vars(cx, &body)?;
+    let value = rename_bound_vars(cx, &body, &used, name)?;
+    let vars = named_vars(&used, name, cx.alloc())?;
+    let bound_vars = cx.mk_bound_vars(&vars)?;
+    cx.mk_predicate(Binder { value, bound_vars })
+}
