@@ -1,6 +1,6 @@
 -- What a visitor collects of the variables of a binder, and binders over these.
-use Rattle.std.proofs.Common.{ℕ, suc, ◌≡◌, ◌<◌, ◌≤◌, refl, sym, ap, ap₂, ◌∙◌, subst, Bool, true, false, not, cond, IsTrue, arith}
-use Rattle.std.proofs.Common.{List, [], ◌∷◌, ◌++◌, append_assoc, map, Option, Some, None, IsSome, nat_lt, nat_eq}
+use Rattle.std.proofs.Common.{ℕ, suc, ◌≡◌, ◌<◌, ◌≤◌, refl, sym, ap, ap₂, ◌∙◌, subst, Bool, true, false, cond, IsTrue, arith}
+use Rattle.std.proofs.Common.{List, [], ◌∷◌, ◌++◌, append_assoc, map, Option, Some, None, nat_lt, nat_eq}
 use Rattle.std.proofs.lemmas.Bool.{false≢true, ltb-true, ltb-false, lt-ltb, le-ltb, eqb-true, eqb-false}
 use Rattle.std.specs.declared.ops.ControlFlow.TheVariants.{Continue, Break}
 use Rattle.relation_terms.specs.Heads.{Head, Shape, Part, one, row, term_of, binder_of, head_parts, array, BoundKind}
@@ -8,16 +8,14 @@ use Rattle.relation_terms.specs.Heads.{bound_kind, type_kind, region_kind, const
 use Rattle.relation_terms.specs.Heads.{atom, unknown}
 use Rattle.relation_terms.specs.Trees.{Tree, leaf, node, bind, nil, cons, known, Fits, IsList}
 use Rattle.relation_terms.specs.Meaning.{Meaning, under, bound_kinds}
-use Rattle.relation_terms.specs.Parts.{parts_of}
 use Rattle.relation_terms.specs.Orders.{Order, in_turn, first_last, behind, in_order, order_of}
 use Rattle.relation_tools.specs.declared.visit.Visit.{Visit}
-use Rattle.relation_tools.specs.declared.visit.Visit.TheVariants.{Enter, Skip, Stop}
 use Rattle.relation_tools.specs.Visits.{is_visited, deeper, Flow, Walks, entered, skipped, stopped, passed_leaf, passed}
 use Rattle.relation_tools.specs.Visits.{in_binder, no_part, last_part, next_part}
 use Rattle.relation_tools.specs.Folds.{folded}
 use Rattle.relation_tools.specs.declared.anonymize.used.UsedVar.{UsedVar}
 use Rattle.relation_tools.specs.declared.anonymize.used.UsedVar.TheVariants.{Ty, Region, Const}
-use Rattle.relation_tools.specs.Anonymous.{var_of, place_in, var_at, ordered, uses, one_more, with_vars, used_vars, here}
+use Rattle.relation_tools.specs.Anonymous.{var_of, place_in, var_at, ordered, uses, one_more, with_vars, used_vars}
 use Rattle.relation_tools.specs.Anonymous.{Near, Collects, named, renames, anonymized, named_as}
 use Rattle.relation_tools.proofs.Visiting.{visited_turn}
 use Rattle.relation_tools.proofs.Searching.{Told, told_deeper}

@@ -1,5 +1,5 @@
 -- The place of a variable in a list, one after another.
-use Rattle.std.proofs.Common.{◌≡◌, ℕ, zero, suc, ◌+◌, ◌<◌, refl, sym, ap, ◌∙◌, Bool, true, false, cond, IsTrue, arith}
+use Rattle.std.proofs.Common.{◌≡◌, ℕ, zero, suc, ◌+◌, ◌<◌, refl, sym, ap, ◌∙◌, Bool, true, false, cond, arith}
 use Rattle.std.proofs.Common.{List, [], ◌∷◌, length, get_or, Option, Some, None, option_map}
 use Rattle.relation_tools.specs.Anonymous.{place_in, same_var}
 use Rattle.relation_tools.specs.declared.anonymize.used.UsedVar.{UsedVar}
