@@ -10,7 +10,7 @@ use smallvec::SmallVec;
 use std::test::Fail;
 
 // Whether a component is the parameter of an index.
-fn is_param<I: Interner>(_cx: &I, component: &ComponentOf<I>, index: u32) -> bool {
+fn is_param(component: &ComponentOf<RefInterner>, index: u32) -> bool {
     match component {
         Component::Param(param) => param.index == index,
         _ => false,
@@ -19,19 +19,19 @@ fn is_param<I: Interner>(_cx: &I, component: &ComponentOf<I>, index: u32) -> boo
 
 // Whether components come behind those that stood there, each type's once.
 #[tactic(auto, using(relation_terms::proofs::Stays::knows_ty))]
-fn come_behind<I: Interner>(cx: &mut I, name: I::Name) -> Result<bool, OutOfMemory> {
+fn come_behind(cx: &mut RefInterner, name: SymbolId) -> Result<bool, OutOfMemory> {
     let first = cx.mk_ty(TyKind::Param(ParamTy { index: 0, name }))?;
     let second = cx.mk_ty(TyKind::Param(ParamTy { index: 1, name }))?;
     let mut out = SmallVec::new(cx.alloc());
     push_outlives_components(cx, &first, &mut out)?;
     push_outlives_components(cx, &second, &mut out)?;
     let list = out.as_slice();
-    Ok(list.len() == 2 && is_param(cx, &list[0], 0) && is_param(cx, &list[1], 1))
+    Ok(list.len() == 2 && is_param(&list[0], 0) && is_param(&list[1], 1))
 }
 
 // Whether the arguments of an alias have components, and the alias itself is none.
 #[tactic(auto, using(relation_terms::proofs::Stays::knows_ty, relation_terms::proofs::Stays::knows_args))]
-fn arguments_have<I: Interner>(cx: &mut I, id: I::Id, name: I::Name) -> Result<bool, OutOfMemory> {
+fn arguments_have(cx: &mut RefInterner, id: ItemId, name: SymbolId) -> Result<bool, OutOfMemory> {
     let param = cx.mk_ty(TyKind::Param(ParamTy { index: 0, name }))?;
     let args = cx.mk_args(&[GenericArgKind::Ty(param)])?;
     let kind = AliasTyKind::Opaque {
@@ -40,7 +40,7 @@ fn arguments_have<I: Interner>(cx: &mut I, id: I::Id, name: I::Name) -> Result<b
     let mut out = SmallVec::new(cx.alloc());
     compute_alias_components_recursive(cx, &AliasTy { kind, args }, &mut out)?;
     let list = out.as_slice();
-    Ok(list.len() == 1 && is_param(cx, &list[0], 0))
+    Ok(list.len() == 1 && is_param(&list[0], 0))
 }
 
 #[test]
