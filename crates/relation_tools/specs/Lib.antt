@@ -15,3 +15,4 @@ pub mod InstanceLaws
 pub mod Components
 pub mod Outliving
 pub mod Collecting
+pub mod Assumptions

@@ -1,6 +1,7 @@
 //! What relations are written with, beside the terms themselves.
 #![tactic(auto)]
 
+pub mod elaborate;
 pub mod error;
 pub mod fast_reject;
 pub mod fold;
