@@ -38,9 +38,9 @@ module _ {X D N : Type 0} (m : Meaning X D N) where
   -- What all of a list give.
   abbrev pub all_elaborated : List (OutlivesPredicate X (GenericArgKind X)) → List (Tree × Tree)
   all_elaborated [] = []
-  all_elaborated (a ∷ as) = elaborated (arg_tree m a.0) (m.region a.1) ++ all_elaborated as
+  all_elaborated (a ∷ rest) = elaborated (arg_tree m a.0) (m.region a.1) ++ all_elaborated rest
 
 -- The list has just these, as a set.
 abbrev pub AreJust : {X D N : Type 0} → Meaning X D N → List (OutlivesPredicate X (GenericArgKind X)) →
     List (Tree × Tree) → Type 0
-AreJust m as ps = EachIs (λ a. SomeIs (λ p. assumed m a ≡ p) ps) as × EachIs (λ p. SomeIs (λ a. assumed m a ≡ p) as) ps
+AreJust m xs ps = EachIs (λ a. SomeIs (λ p. assumed m a ≡ p) ps) xs × EachIs (λ p. SomeIs (λ a. assumed m a ≡ p) xs) ps
