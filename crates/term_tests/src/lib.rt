@@ -3,6 +3,8 @@
 #![tactic(auto)]
 
 #[cfg(test)]
+mod anonymizing;
+#[cfg(test)]
 mod binding;
 #[cfg(test)]
 mod counting;
@@ -18,6 +20,8 @@ mod interning;
 mod items;
 #[cfg(test)]
 mod kinds;
+#[cfg(test)]
+mod predicate_parts;
 #[cfg(test)]
 mod predicates;
 #[cfg(test)]
