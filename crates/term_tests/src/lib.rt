@@ -3,6 +3,8 @@
 #![tactic(auto)]
 
 #[cfg(test)]
+mod anonymizing;
+#[cfg(test)]
 mod binding;
 #[cfg(test)]
 mod counting;
