@@ -7,6 +7,8 @@ mod anonymizing;
 #[cfg(test)]
 mod binding;
 #[cfg(test)]
+mod clause_lists;
+#[cfg(test)]
 mod counting;
 #[cfg(test)]
 mod errors;
@@ -22,6 +24,8 @@ mod items;
 mod kinds;
 #[cfg(test)]
 mod outlives;
+#[cfg(test)]
+mod predicate_parts;
 #[cfg(test)]
 mod predicates;
 #[cfg(test)]
