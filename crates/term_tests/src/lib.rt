@@ -3,7 +3,11 @@
 #![tactic(auto)]
 
 #[cfg(test)]
+mod anonymizing;
+#[cfg(test)]
 mod binding;
+#[cfg(test)]
+mod clause_lists;
 #[cfg(test)]
 mod counting;
 #[cfg(test)]
@@ -20,6 +24,8 @@ mod items;
 mod kinds;
 #[cfg(test)]
 mod outlives;
+#[cfg(test)]
+mod predicate_parts;
 #[cfg(test)]
 mod predicates;
 #[cfg(test)]
