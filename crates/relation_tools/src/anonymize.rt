@@ -4,12 +4,13 @@ ghost use Rattle.relation_terms.specs.Trees.{known};
 ghost use Rattle.relation_terms.specs.Meaning.{Extends};
 ghost use Rattle.relation_tools.specs.Anonymous.{anonymized};
 
+mod collecting;
 mod renaming;
 mod used;
 
 use relation_terms::terms::{Binder, Interner, OutOfMemory, Predicate, Symbol};
+use collecting::used_vars;
 use renaming::{named_vars, rename_bound_vars};
-use used::used_vars;
 
 /// The predicate with its outermost binder over the variables alone that are used in it, in the order in which a visit
 /// first comes to them, all by the name that is handed in. So there is one value for predicates whose outermost binders

@@ -3,6 +3,7 @@
 
 ghost use Rattle.relation_tools.specs.InstanceLaws.{TermsAreInstances, AliasesMeetTypes};
 ghost use Rattle.relation_tools.specs.KeyLaws.{DifferentKeysAreApart};
+ghost use Rattle.relation_tools.specs.Renamings.{RenamingsAreOne};
 
 /// Instances that there are.
 pub fn instances()
@@ -13,4 +14,9 @@ pub fn instances()
 /// Types of different keys.
 pub fn keys()
     ensures apart { DifferentKeysAreApart }
+{}
+
+/// Predicates that differ in the names, the order or the unused ones of their outermost binder's variables alone.
+pub fn renamings()
+    ensures one { RenamingsAreOne }
 {}
