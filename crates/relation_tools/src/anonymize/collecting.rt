@@ -1,7 +1,8 @@
 //! Which variables of a binder are used in its body: one recursion over the parts of all forms.
 //!
 //! A part that has a key is gone into once at each depth, so this takes as many steps as there are different parts.
-ghost use Rattle.std.specs.Prelude.{◌≡◌, IsTrue, IfOk, OnOk, OnTrue, MatchOption, cond, nat_eq, None, Some, [], ◌∷◌};
+ghost use Rattle.std.specs.Prelude.{◌≡◌, IsTrue, IfOk, OnOk, MatchOption, cond, nat_eq, None, Some, [], ◌∷◌};
+ghost use Rattle.std.specs.Bool.{OnTrue};
 ghost use Rattle.relation_terms.specs.Trees.{known, IsList};
 ghost use Rattle.relation_terms.specs.Parts.{part_tree, parts_tree};
 ghost use Rattle.relation_terms.specs.Orders.{in_order, list_order};
