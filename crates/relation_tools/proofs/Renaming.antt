@@ -159,9 +159,11 @@ module _ (f g : UsedVar → UsedVar) where
   with_moved [] us e o = (refl, e)
   with_moved (v ∷ vs) us e o =
       let p = place_in us v in
-      let r = with_moved vs (one_more us v p) (each_more us v p e o.0) o.1 in
-      (ap (λ z. with_vars (one_more (map f us) (f v) z) (map f vs)) (place_moved us v e o.0)
-      ∙ ap (λ z. with_vars z (map f vs)) (more_moved us v p) ∙ r.0, r.1)
+      let r = with_moved vs (one_more us v p) (each_more us v p e o.0) o.1 in (
+        ap (λ z. with_vars (one_more (map f us) (f v) z) (map f vs)) (place_moved us v e o.0)
+            ∙ ap (λ z. with_vars z (map f vs)) (more_moved us v p) ∙ r.0,
+        r.1,
+      )
 
 -- What is put for a variable of the list, and for no other.
 put_none : (b : Bool) (t : Tree) → put_or b None t ≡ t
@@ -364,31 +366,36 @@ module _ (name : ℕ) (us : List UsedVar) where
       let is = sym (renamed_not name us d k n e i q) in
       let stays = λ (to : Kind → ℕ → ℕ). subst (λ b. cond b
       ((x : ℕ) × (bound (bound_kind k n) e i ≡ bound (bound_kind k x) e (to k i)))
-      (bound (bound_kind k n) e i ≡ bound (bound_kind k n) e i)) (sym q) refl in
-      (subst (λ z. Moved (to_place us) d l z) is (stays (to_place us)),
-      subst (λ z. Moved (from_place us) d z l) is (stays (from_place us)))
+      (bound (bound_kind k n) e i ≡ bound (bound_kind k n) e i)) (sym q) refl in (
+        subst (λ z. Moved (to_place us) d l z) is (stays (to_place us)),
+        subst (λ z. Moved (from_place us) d z l) is (stays (from_place us)),
+      )
 
   there : (d : ℕ) (t : Tree) → Each In (uses d t) →
       Moved (to_place us) d t (folded (renames name us) d t) × Moved (from_place us) d (folded (renames name us) d t) t
   there d (leaf (bound (bound_kind k n) e i)) h = bound_there d k n e i (nat_eq e d) refl h
   there d (leaf (variable k n)) h =
-      let is = sym (put_none (asks (leaf_sort (variable k n))) (leaf (variable k n))) in
-      (subst (λ z. Moved (to_place us) d (leaf (variable k n)) z) is refl,
-      subst (λ z. Moved (from_place us) d z (leaf (variable k n))) is refl)
+      let is = sym (put_none (asks (leaf_sort (variable k n))) (leaf (variable k n))) in (
+        subst (λ z. Moved (to_place us) d (leaf (variable k n)) z) is refl,
+        subst (λ z. Moved (from_place us) d z (leaf (variable k n))) is refl,
+      )
   there d (leaf (placeholder k u n)) h =
-      let is = sym (put_none (asks (leaf_sort (placeholder k u n))) (leaf (placeholder k u n))) in
-      (subst (λ z. Moved (to_place us) d (leaf (placeholder k u n)) z) is refl,
-      subst (λ z. Moved (from_place us) d z (leaf (placeholder k u n))) is refl)
+      let is = sym (put_none (asks (leaf_sort (placeholder k u n))) (leaf (placeholder k u n))) in (
+        subst (λ z. Moved (to_place us) d (leaf (placeholder k u n)) z) is refl,
+        subst (λ z. Moved (from_place us) d z (leaf (placeholder k u n))) is refl,
+      )
   there d (leaf (atom x)) h =
-      let is = sym (put_none (asks (leaf_sort (atom x))) (leaf (atom x))) in
-      (subst (λ z. Moved (to_place us) d (leaf (atom x)) z) is refl,
-      subst (λ z. Moved (from_place us) d z (leaf (atom x))) is refl)
+      let is = sym (put_none (asks (leaf_sort (atom x))) (leaf (atom x))) in (
+        subst (λ z. Moved (to_place us) d (leaf (atom x)) z) is refl,
+        subst (λ z. Moved (from_place us) d z (leaf (atom x))) is refl,
+      )
   there d (leaf unknown) h = (refl, refl)
   there d (node h ts) e =
       let is = sym (renamed_node name us d h ts) in
-      let r = there d ts (each_parts In d h ts e) in
-      (subst (λ z. Moved (to_place us) d (node h ts) z) is (refl, r.0),
-      subst (λ z. Moved (from_place us) d z (node h ts)) is (refl, r.1))
+      let r = there d ts (each_parts In d h ts e) in (
+        subst (λ z. Moved (to_place us) d (node h ts) z) is (refl, r.0),
+        subst (λ z. Moved (from_place us) d z (node h ts)) is (refl, r.1),
+      )
   there d (bind ks t) h = let r = there (suc d) t h in ((refl, r.0), (refl, r.1))
   there d nil h = (tt, tt)
   there d (cons t ts) h =

@@ -8,14 +8,16 @@ mod collecting;
 mod renaming;
 mod used;
 
-use relation_terms::terms::{Binder, Interner, OutOfMemory, Predicate, Symbol};
 use collecting::used_vars;
+use relation_terms::terms::{Binder, Interner, OutOfMemory, Predicate, Symbol};
 use renaming::{named_vars, rename_bound_vars};
 
 /// The predicate with its outermost binder over the variables alone that are used in it, in the order in which a visit
-/// first comes to them, all by the name that is handed in. So there is one value for predicates whose outermost binders
-/// differ in names, order or unused variables alone. Binders further in stay as they are. The interner has to know the
-/// predicate.
+/// first comes to them, all by the name that is handed in. So there is one value for two predicates exactly where their
+/// outermost binders differ in names, order or unused variables alone (`laws::renamings`), and then the keys are equal
+/// too. Binders further in stay as they are. The interner has to know the predicate.
+///
+/// Each part that has a key is gone into once at each depth, however often it stands in the predicate.
 ///
 /// Answers `OutOfMemory` where a growth was refused; all keys mean then what they did. Upstream's call of that name of an
 /// interner, where what binders bind needs no name.

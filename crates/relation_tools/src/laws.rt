@@ -16,7 +16,8 @@ pub fn keys()
     ensures apart { DifferentKeysAreApart }
 {}
 
-/// Predicates that differ in the names, the order or the unused ones of their outermost binder's variables alone.
+/// Predicates whose outermost binders differ in names, order or unused variables alone: these, and no others, are
+/// anonymised alike, by each name.
 pub fn renamings()
     ensures one { RenamingsAreOne }
 {}
