@@ -1,5 +1,5 @@
 -- Binders over the variables that are used in their bodies.
-use Rattle.std.proofs.Common.{ℕ, ◌≡◌, refl, ap, ap₂, false, true, IsTrue, List, [], ◌∷◌, map, Option, Some, None}
+use Rattle.std.proofs.Common.{ℕ, ◌≡◌, refl, ap, ap₂, IsTrue, List, [], ◌∷◌, map, Option, Some, None}
 use Rattle.std.proofs.lemmas.Bool.{false≢true}
 use Rattle.relation_terms.specs.Heads.{BoundKind}
 use Rattle.relation_terms.specs.Trees.{Tree, known}

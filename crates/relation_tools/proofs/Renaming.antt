@@ -1,5 +1,5 @@
 -- Bodies that are renamings of one another, and what they are made to.
-use Rattle.std.proofs.Common.{◌≡◌, ◌↔◌, ℕ, suc, refl, sym, ap, ap₂, ◌∙◌, subst, Bool, true, false, cond, nat_eq, IsSome}
+use Rattle.std.proofs.Common.{◌≡◌, ℕ, suc, refl, sym, ap, ap₂, ◌∙◌, subst, Bool, true, false, cond, nat_eq, IsSome}
 use Rattle.std.proofs.Common.{List, [], ◌∷◌, ◌++◌, map, get_or, Option, Some, None, option_map}
 use Rattle.std.proofs.lemmas.Bool.{false≢true}
 use Rattle.relation_terms.specs.Heads.{Kind, type_kind, region_kind, const_kind, BoundKind, bound_kind, Head, Leaf}
@@ -7,7 +7,7 @@ use Rattle.relation_terms.specs.Heads.{existential_projection, bound, variable, 
 use Rattle.relation_terms.specs.Trees.{Tree, leaf, node, bind, nil, cons}
 use Rattle.relation_terms.specs.Orders.{Order, in_turn, first_last, order_of}
 use Rattle.relation_tools.specs.Folds.{folded, put_or, asks}
-use Rattle.relation_tools.specs.Anonymous.{var_of, kind_of, same_var, place_in, var_at, ordered, uses, one_more, with_vars}
+use Rattle.relation_tools.specs.Anonymous.{var_of, same_var, place_in, var_at, ordered, uses, one_more, with_vars}
 use Rattle.relation_tools.specs.Anonymous.{used_vars, named, at_place, renames, anonymized}
 use Rattle.relation_tools.specs.UsedParts.{AllIn}
 use Rattle.relation_tools.specs.Renamings.{MovedLeaf, Moved, AreRenamings, RenamingsAreOne}

@@ -1,5 +1,5 @@
 -- What a collection has met, as it goes on.
-use Rattle.std.proofs.Common.{ℕ, ◌≡◌, ◌↔◌, IsTrue, Bool, true, false, cond, Option, Some, None, refl, sym, ap, ◌∙◌, ◌&&◌, eqb, subst, List, []}
+use Rattle.std.proofs.Common.{ℕ, ◌≡◌, ◌↔◌, IsTrue, Bool, true, false, cond, Some, refl, sym, ap, ◌∙◌, ◌&&◌, eqb, subst, List, []}
 use Rattle.std.proofs.lemmas.Bool.{and_parts, eqb-true}
 use Rattle.std.specs.Bool.{OnTrue}
 use Rattle.std.specs.List.{list_any}
@@ -14,7 +14,7 @@ use Rattle.relation_tools.specs.Walking.{Adds}
 use Rattle.relation_tools.specs.Anonymous.{uses, with_vars}
 use Rattle.relation_tools.specs.UsedParts.{AllIn, IsMet, Remembered}
 use Rattle.relation_tools.proofs.Remembering.{place_eq, placed, one_sort}
-use Rattle.relation_tools.proofs.UsedVars.{all_later, all_there, all_added}
+use Rattle.relation_tools.proofs.UsedVars.{all_later}
 
 module _ {Key Id Name : Type 0} (m : Meaning Key Id Name) (us : List UsedVar) (eq : Place Key → Place Key → Bool) where
   -- Nothing was met yet.

@@ -1,5 +1,5 @@
 -- What is used in a tree, by its parts.
-use Rattle.std.proofs.Common.{◌≡◌, ◌<◌, ℕ, suc, refl, sym, ap, ◌∙◌, subst, Bool, true, false, cond, nat_eq, IsTrue}
+use Rattle.std.proofs.Common.{◌≡◌, ◌<◌, ℕ, suc, refl, sym, ap, ◌∙◌, subst, false, IsTrue}
 use Rattle.std.proofs.Common.{List, [], ◌∷◌, ◌++◌, append_assoc, append-nil}
 use Rattle.relation_terms.specs.Heads.{Head, no_sort, type_kind, region_kind, const_kind, bound_kind}
 use Rattle.relation_terms.specs.Heads.{bound, variable, placeholder, atom, unknown}

@@ -1,4 +1,4 @@
-use Rattle.std.proofs.Common.{rules, arith, refl, sym, ap, ◌∙◌, ◌≡◌, ◌<◌, ◌+◌, ◌*◌, suc, subst, subst₂, IsTrue, OnOk}
+use Rattle.std.proofs.Common.{rules, arith, refl, sym, ap, ◌∙◌, ◌≡◌, ◌<◌, ◌+◌, ◌*◌, suc, subst, OnOk}
 use Rattle.std.proofs.Common.{[], ◌∷◌, MatchOption}
 use Rattle.std.proofs.lemmas.Bool.{OnTrue_at}
 use Rattle.relation_terms.specs.Trees.{size, count, IsList}

@@ -1,4 +1,4 @@
-use Rattle.std.proofs.Common.{◌≡◌, OnOk, refl, sym, ap, ◌∙◌, subst, append-nil}
+use Rattle.std.proofs.Common.{sym, ap, ◌∙◌, append-nil}
 use Rattle.relation_terms.specs.Fields.{field_tree, fields_tree}
 use Rattle.relation_tools.specs.Anonymous.{uses, with_vars}
 use Rattle.relation_tools.proofs.Meeting.{ok_map}
