@@ -10,7 +10,7 @@ use relation_terms::terms::{
     Binder, BoundConst, BoundRegion, BoundTy, BoundVar, BoundVariableKind, ConstKind,
     DebruijnIndex, Interner, OutOfMemory, Pat, PatternKind, Predicate, RegionKind, Ty, TyKind,
 };
-use relation_tools::anonymize::anonymize_bound_vars;
+use relation_tools::anonymize::{anonymize_bound_vars, differ_in_binders_alone};
 use std::test::Fail;
 
 // The pattern that admits what a pattern does, or what that pattern does, as many times over.
@@ -107,7 +107,8 @@ fn is_one(cx: &mut RefInterner, height: usize) -> Result<bool, OutOfMemory> {
     ];
     let other = outlives(cx, &vars, longer, 1, b)?;
     let second = anonymize_bound_vars(cx, &other, a)?;
-    Ok(plain != other && first == plain && second == plain)
+    let alone = differ_in_binders_alone(cx, &other, &second, b)?;
+    Ok(plain != other && first == plain && second == plain && alone)
 }
 
 // The same of a tower of patterns.
