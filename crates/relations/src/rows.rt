@@ -42,6 +42,11 @@ pub const ROWS: [Row; 19] = [
         stored: "false | true | false",
     },
     Row {
+        name: "r03",
+        questions: "may unify[rigid, rigid] ?i0, ?f0; ?i0 == ?f0;",
+        stored: "true | err Sorts(?i0, ?f0)",
+    },
+    Row {
         name: "r04",
         questions: "param 'a; walk &'a (i32, i32);",
         stored: "&'a (i32, i32) | 'a | (i32, i32) | i32 | end",
@@ -110,6 +115,11 @@ pub const ROWS: [Row; 19] = [
         stored: "true",
     },
     Row {
+        name: "r30",
+        questions: "?i0 == u16; ?i0 == bool;",
+        stored: "ok; bound=[?i0=u16] | err Sorts(?i0, bool)",
+    },
+    Row {
         name: "r34",
         questions: "param 'a, 'b, 'c, 'd;
             &'a mut &'b u8 <: &'c mut &'d u8;
@@ -121,6 +131,16 @@ pub const ROWS: [Row; 19] = [
         questions: "struct K<-T>; param 'a, 'b;
             K<&'a u8> <: K<&'b u8>; K<&'a u8> :> K<&'b u8>;",
         stored: "ok; regions=['b: 'a] | ok; regions=['a: 'b]",
+    },
+    Row {
+        name: "r36",
+        questions: "budget 1; (?0, ?i0) == (u8, u16);",
+        stored: "ok; bound=[?0=u8, ?i0=u16]; left=0",
+    },
+    Row {
+        name: "r37",
+        questions: "[u8; ?c0] == [?0; 2];",
+        stored: "ok; bound=[?0=u8, ?c0=2]",
     },
     Row {
         name: "r53",
