@@ -7,6 +7,9 @@ use Rattle.relation_terms.specs.Trees.{Tree, known}
 use Rattle.relation_terms.specs.Meaning.{Meaning, arg_tree}
 use Rattle.relation_terms.specs.Heads.{VarKind, type_var, int_var, float_var, const_var, region_var}
 use Rattle.relation_reference.specs.declared.context.inner.InferCtxtInner.{InferCtxtInner}
+use Rattle.relation_reference.specs.declared.context.inner.Variable.{Variable}
+use Rattle.relation_reference.specs.declared.context.inner.VariableValue.TheVariants.{Known}
+use Rattle.relation_reference.specs.Variables.{value_at}
 use Rattle.type_relations.specs.Covered.{IsCovered}
 use Rattle.relation_asking.specs.declared.context.VariableKind.{VariableKind}
 use Rattle.relation_asking.specs.declared.context.VariableKind.TheVariants.{Ty, Int, Float, Const, Region}
@@ -74,3 +77,7 @@ KnowsAnswer m Knows (Walked xs) = AllKnown m xs.items
 KnowsAnswer m Knows (Folded a) = IsTrue (known (arg_tree m a))
 KnowsAnswer m Knows (Is b) = Unit {0}
 KnowsAnswer m Knows (key k) = Unit {0}
+
+-- What variables are bound to is known.
+abbrev pub AreBoundKnown : {K : Type 0} → (K → Tree) → List (Variable K) → Type 0
+AreBoundKnown {K = K} tree vs = (n : ℕ) (t : K) → value_at vs n ≡ Known t → IsTrue (known (tree t))

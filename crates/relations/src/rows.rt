@@ -29,7 +29,7 @@ pub enum RowFault {
 }
 
 /// The rows, in the order of their numbers.
-pub const ROWS: [Row; 19] = [
+pub const ROWS: [Row; 24] = [
     Row {
         name: "r01",
         questions: "may unify[rigid, rigid] bool, char at 0; may unify[rigid, rigid] bool, char at 1;",
@@ -162,6 +162,15 @@ pub const ROWS: [Row; 19] = [
             may unify[rigid, rigid] dyn Of<u8> + 'a, dyn Of<bool> + 'a;
             may unify[rigid, rigid] fn(u8), unsafe fn(u8);",
         stored: "true | false | true | false",
+    },
+    Row {
+        name: "r69",
+        questions: "struct C<const N>;
+            may unify[rigid, rigid] C<{?c0, 2}>, C<{1, 2}>;
+            may unify[rigid, rigid] C<{?c0, 2}>, C<{1, 3}>;
+            may unify[rigid, rigid] C<{1}>, C<{1, 2}>;
+            C<{?c0, 2}> == C<{1, 2}>;",
+        stored: "true | false | false | ok; bound=[?c0=1]",
     },
 ];
 
