@@ -2,11 +2,12 @@
 use Rattle.std.proofs.Common.{◌≡◌, ℕ, ◌+◌, ◌*◌, ◌≤◌, max, min, refl, sym, ap, ap₂, ◌∙◌, arith, subst, subst₂, None}
 use Rattle.std.proofs.Math.Nat.{mul-le-mul}
 use native.Mathlib.Decide.{ℕ_discrete, dec_le}
-use Rattle.relation_terms.specs.Heads.{type_var, region_var, type_sort, variable, bound}
-use Rattle.relation_terms.specs.Trees.{Tree, leaf, Assign, apply, Occurs, IsTerm, size}
+use Rattle.relation_terms.specs.Heads.{VarKind, type_var, region_var, variable, bound}
+use Rattle.relation_terms.specs.Trees.{Tree, leaf, Assign, apply, Occurs, size}
 use Rattle.type_relations.specs.Relation.{same}
-use Rattle.type_relations.specs.Stores.{Store, unbound, bound_to, entry_of, entry_term, bound_term, IsTermIn, IsSound, resolved, weight}
+use Rattle.type_relations.specs.Stores.{Store, unbound, bound_to, entry_of, entry_term, bound_term, MayStandFor, IsTermIn, IsSound, resolved, weight}
 use Rattle.type_relations.specs.Steps.{BindsTo, Equates}
+use Rattle.type_relations.specs.ErasureLaws.{IsTypeOrConst}
 use Rattle.type_relations.specs.Measures.{Goes}
 use Rattle.type_relations.specs.Errors.{IsReadAs}
 use Rattle.type_relations.proofs.ReadAs.{read_weight}
@@ -59,15 +60,15 @@ pub root_above_back : (st : Store) → IsSound st → (n : ℕ) (a b l u : Tree)
 root_above_back st g n a b l u p q e h = let z = root_above st g n a b l u p q e h in omega (arith, z)
 
 -- The pair that is left after a root was bound to what a type comes to.
-module _ (before after : Store) (n : ℕ) (t u : Tree) (q : BindsTo before after type_var n u) (g : IsSound before) (first : before.universe ≡ 0) (is_in : IsTermIn before t)
-    (e : u ≡ apply (resolved before) t) (away : Occurs type_var n (apply (resolved before) t) → ⊥) (stands : IsTerm type_sort u) where
+module _ (before after : Store) (k : VarKind) (kind : IsTypeOrConst k) (n : ℕ) (t u : Tree) (q : BindsTo before after k n u) (g : IsSound before) (first : before.universe ≡ 0) (is_in : IsTermIn before t)
+    (e : u ≡ apply (resolved before) t) (away : Occurs k n (apply (resolved before) t) → ⊥) (stands : MayStandFor k u) where
   again : apply (resolved before) u ≡ apply (resolved before) t
   again = ap (apply (resolved before)) e ∙ resolved_twice before g t
 
   later_weight : (v : Tree) → apply (resolved before) v ≡ apply (resolved before) t → weight after v ≡ weight before t
   unfolding weight
-  later_weight v h = ap size (resolved_later before after type_var n (bound_to u) u q.writes refl g (λ o. away (subst (Occurs type_var n) again o)) v
-      ∙ ap (apply _) h ∙ absent type_var n (apply (resolved before) u) (apply (resolved before) t) away)
+  later_weight v h = ap size (resolved_later before after k n (bound_to u) u q.writes refl g (λ o. away (subst (Occurs k n) again o)) v
+      ∙ ap (apply _) h ∙ absent k n (apply (resolved before) u) (apply (resolved before) t) away)
 
   left_weight : weight after u ≡ weight before t
   left_weight = later_weight u again
@@ -80,43 +81,40 @@ module _ (before after : Store) (n : ℕ) (t u : Tree) (q : BindsTo before after
   binding_square N h = square_above (weight before t) N (weight after u + weight after t) (ap₂ ◌+◌ left_weight right_weight) h
 
   pub binding_in : (v : Tree) → IsTermIn before v → IsTermIn after v
-  binding_in v h = let l = (binding_goes_at before after n t u q g first is_in e away stands (weight before t) (omega arith)).later in later_term before after l.grows l.universe_stands v h
+  binding_in v h = let l = (binding_goes_at before after k kind n t u q g first is_in e away stands (weight before t) (omega arith)).later in later_term before after l.grows l.universe_stands v h
 
   pub bound_in : IsTermIn after u
   bound_in = binding_in u (subst (IsTermIn before) (sym e) ((resolved_resolves before t g).is_in is_in))
 
 -- Two roots were made one.
-module _ (before after : Store) (x y : ℕ) (g : IsSound before) (stays : x ≡ y → after ≡ before) (q : (x ≡ y → ⊥) → Equates before after type_var (max x y) (min x y)) where
-  no_region : type_var ≡ region_var → ⊥
-  no_region z = cc
-
+module _ (before after : Store) (k : VarKind) (no_region : k ≡ region_var → ⊥) (x y : ℕ) (g : IsSound before) (stays : x ≡ y → after ≡ before) (q : (x ≡ y → ⊥) → Equates before after k (max x y) (min x y)) where
   pub roots_goes : (N : ℕ) → Goes N before after
   roots_goes N = go (ℕ_discrete x y)
     where
       go : Dec (x ≡ y) → Goes N before after
       go (yes e) = subst (Goes N before) (sym (stays e)) (goes_nowhere N before)
-      go (no o) = goes_within (omega arith) (equated_goes before after type_var (max x y) (min x y) (q o) g no_region)
+      go (no o) = goes_within (omega arith) (equated_goes before after k (max x y) (min x y) (q o) g no_region)
 
-  either : (s : Assign) → s type_var (max x y) ≡ s type_var (min x y) → s type_var x ≡ s type_var y
+  either : (s : Assign) → s k (max x y) ≡ s k (min x y) → s k x ≡ s k y
   either s e = go (dec_le x y)
     where
-      go : Dec (x ≤ y) → s type_var x ≡ s type_var y
-      go (yes h) = ap (s type_var) (let z : x ≡ min x y = omega arith in z) ∙ sym e ∙ ap (s type_var) (let z : max x y ≡ y = omega arith in z)
-      go (no h) = ap (s type_var) (let z : x ≡ max x y = omega arith in z) ∙ e ∙ ap (s type_var) (let z : min x y ≡ y = omega arith in z)
+      go : Dec (x ≤ y) → s k x ≡ s k y
+      go (yes h) = ap (s k) (let z : x ≡ min x y = omega arith in z) ∙ sym e ∙ ap (s k) (let z : max x y ≡ y = omega arith in z)
+      go (no h) = ap (s k) (let z : x ≡ max x y = omega arith in z) ∙ e ∙ ap (s k) (let z : min x y ≡ y = omega arith in z)
 
-  both : (s : Assign) → s type_var x ≡ s type_var y → s type_var (max x y) ≡ s type_var (min x y)
+  both : (s : Assign) → s k x ≡ s k y → s k (max x y) ≡ s k (min x y)
   both s e = go (dec_le x y)
     where
-      go : Dec (x ≤ y) → s type_var (max x y) ≡ s type_var (min x y)
-      go (yes h) = ap (s type_var) (let z : max x y ≡ y = omega arith in z) ∙ sym e ∙ ap (s type_var) (let z : x ≡ min x y = omega arith in z)
-      go (no h) = ap (s type_var) (let z : max x y ≡ x = omega arith in z) ∙ e ∙ ap (s type_var) (let z : y ≡ min x y = omega arith in z)
+      go : Dec (x ≤ y) → s k (max x y) ≡ s k (min x y)
+      go (yes h) = ap (s k) (let z : max x y ≡ y = omega arith in z) ∙ sym e ∙ ap (s k) (let z : x ≡ min x y = omega arith in z)
+      go (no h) = ap (s k) (let z : max x y ≡ x = omega arith in z) ∙ e ∙ ap (s k) (let z : y ≡ min x y = omega arith in z)
 
-  pub roots_unite : Unites before after (leaf (variable type_var x)) (leaf (variable type_var y))
+  pub roots_unite : Unites before after (leaf (variable k x)) (leaf (variable k y))
   roots_unite = go (ℕ_discrete x y)
     where
-      go : Dec (x ≡ y) → Unites before after (leaf (variable type_var x)) (leaf (variable type_var y))
-      go (yes e) = subst (λ st. Unites before st (leaf (variable type_var x)) (leaf (variable type_var y))) (sym (stays e)) (same_unites before (leaf (variable type_var x)) (leaf (variable type_var y)) (ap (λ z. leaf (variable type_var z)) e))
+      go : Dec (x ≡ y) → Unites before after (leaf (variable k x)) (leaf (variable k y))
+      go (yes e) = subst (λ st. Unites before st (leaf (variable k x)) (leaf (variable k y))) (sym (stays e)) (same_unites before (leaf (variable k x)) (leaf (variable k y)) (ap (λ z. leaf (variable k z)) e))
       go (no o) = record {
-        relates = λ c v w s sat. same (either s (equated_value before after type_var (max x y) (min x y) (q o) g no_region w s sat));
-        keeps = λ w s sat e. equated_keeps before after type_var (max x y) (min x y) (q o) g no_region w s sat (both s e);
+        relates = λ c v w s sat. same (either s (equated_value before after k (max x y) (min x y) (q o) g no_region w s sat));
+        keeps = λ w s sat e. equated_keeps before after k (max x y) (min x y) (q o) g no_region w s sat (both s e);
       }

@@ -20,10 +20,14 @@ by_kind t i f c r float_var = f
 by_kind t i f c r const_var = c
 by_kind t i f c r region_var = r
 
+-- A term with an outermost form, of the sort that a variable of a kind stands for: a constant, or else a type.
+abbrev pub IsFormedFor : VarKind → Tree → Type 0
+IsFormedFor const_var t = IsFormedConst t
+IsFormedFor k t = IsFormed t
+
 -- What a variable of a kind may be bound to: a term that is no variable, of forms that relating has rules for.
 abbrev pub MayBeBoundTo : VarKind → Tree → Type 0
-MayBeBoundTo const_var t = IsFormedConst t × IsCovered t
-MayBeBoundTo k t = IsFormed t × IsCovered t
+MayBeBoundTo k t = IsFormedFor k t × IsCovered t
 
 -- No entry leads to one that leads on: each names a root.
 abbrev pub IsRooted : Store → Type 0

@@ -57,7 +57,7 @@ impl<I: Interner> RefCtxt<I> {
         if cyclic {
             return Err(RelateFault::Unrelated(TypeError::CyclicTy(bound)));
         }
-        bind(self.inner.types.as_mut_slice(), target.0, bound);
+        bind(&mut self.inner.types, target.0, bound);
         self.inner.budget -= 1;
         Ok(bound)
     }
@@ -99,7 +99,7 @@ impl<I: Interner> RefCtxt<I> {
         if cyclic {
             return Err(RelateFault::Unrelated(TypeError::CyclicConst(bound)));
         }
-        bind(self.inner.consts.as_mut_slice(), target.0, bound);
+        bind(&mut self.inner.consts, target.0, bound);
         self.inner.budget -= 1;
         Ok(bound)
     }
