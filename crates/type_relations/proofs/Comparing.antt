@@ -200,7 +200,7 @@ leaves_alone (atom x) y p a = absurd (cc)
 leaves_alone x (atom y) p a = absurd (cc)
 leaves_alone x y p a = a
 
-pub alone : (x : Leaf) (t : Tree) → IsPlainLeaf x → AreAlike (leaf x) t → leaf x ≡ t
+alone : (x : Leaf) (t : Tree) → IsPlainLeaf x → AreAlike (leaf x) t → leaf x ≡ t
 alone x (leaf y) p a = (let e : AreAlikeLeaves x y = cc in ap leaf (leaves_alone x y p e))
 alone x t p a = absurd (cc)
 

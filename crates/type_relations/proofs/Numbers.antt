@@ -23,7 +23,6 @@ use Rattle.type_relations.specs.Errors.{ErrorOf, FormError, HaveNoError, AreAlik
 use Rattle.type_relations.specs.Parts.{IsFormed}
 use Rattle.type_relations.specs.Covered.{IsCovered}
 use Rattle.type_relations.proofs.Covered.{covered_no_error}
-use Rattle.type_relations.proofs.Comparing.{alone}
 use Rattle.type_relations.proofs.Standing.{itself_stands}
 use Rattle.type_relations.proofs.Written.{is_later, equal, weight_after, kinds_stand, others}
 use Rattle.type_relations.proofs.StoreCalls.{numbers_are_exact}
@@ -216,6 +215,18 @@ module _ (st : Store) (s : Assign) (a : IsAssignment st s) (x : Atom) where
   value_type k i nil f c o h v e = absurd f
   value_type k i (cons t ts) f c o h v e = absurd f
 
+-- A variable is of one form with itself alone.
+variable_alone : (k : VarKind) (n : ℕ) (t : Tree) → AreAlike (leaf (variable k n)) t → leaf (variable k n) ≡ t
+variable_alone k n (leaf (atom x)) a = absurd (cc)
+variable_alone k n (leaf (variable j m)) a = a
+variable_alone k n (leaf (bound q d i)) a = a
+variable_alone k n (leaf (placeholder q u i)) a = a
+variable_alone k n (leaf unknown) a = a
+variable_alone k n (node h ts) a = absurd (cc)
+variable_alone k n (bind ks t) a = absurd (cc)
+variable_alone k n nil a = absurd (cc)
+variable_alone k n (cons t ts) a = absurd (cc)
+
 -- A number variable and a type that may not stand for it, and is no type variable.
 module _ (st : Store) (k : VarKind) (i : IsNumber k) (n : ℕ) (made : IsMade st k n) (t : Tree) (f : IsTerm type_sort t)
     (c : IsCovered t) (o : (m : ℕ) → t ≢ leaf (variable type_var m)) (h : InContext st t) (no : MayStandFor k t → ⊥) where
@@ -256,7 +267,7 @@ module _ (st : Store) (k : VarKind) (i : IsNumber k) (n : ℕ) (made : IsMade st
   variable_for (cons t ts) f o no v = v
 
   not_alike : AreAlike (leaf (variable k n)) t → ⊥
-  not_alike a = no (subst (MayStandFor k) (alone (variable k n) t tt a) (itself_stands k n))
+  not_alike a = no (subst (MayStandFor k) (variable_alone k n t a) (itself_stands k n))
 
   -- The error that comes of them.
   module _ {Key Id Name : Type 0} (m : Meaning Key Id Name) (w : Items) (x y : TyKey Key) (v : Variance)

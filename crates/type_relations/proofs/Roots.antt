@@ -2,7 +2,8 @@
 use Rattle.std.proofs.Common.{◌≡◌, ◌≢◌, ◌⊎◌, ℕ, ◌≤◌, max, min, refl, sym, ap, ap₂, ◌∙◌, arith, inl, inr, subst, subst₂, Some}
 use native.Mathlib.Decide.{ℕ_discrete, dec_le}
 use Rattle.relation_terms.specs.Heads.{VarKind, region_var, variable}
-use Rattle.relation_terms.specs.Trees.{Tree, leaf, Assign}
+use Rattle.relation_terms.specs.Trees.{Tree, leaf, Assign, apply}
+use Rattle.relation_terms.specs.Erasure.{erase}
 use Rattle.type_relations.specs.Relation.{Interpretation}
 use Rattle.type_relations.specs.Stores.{Store, same_as, entry_term, bound_term, IsSound, Satisfies}
 use Rattle.type_relations.specs.FirstOrder.{IsFirstOrder, IsFirstOrderStore}
@@ -11,10 +12,9 @@ use Rattle.type_relations.specs.Measures.{Goes}
 use Rattle.type_relations.specs.Outcomes.{Exact}
 use Rattle.type_relations.proofs.Only.{which}
 use Rattle.type_relations.proofs.Written.{OtherTerm, term_stays, term_led, others}
-use Rattle.type_relations.proofs.Going.{goes_nowhere, goes_within}
+use Rattle.type_relations.proofs.Going.{later_itself, goes_nowhere, goes_within}
 use Rattle.type_relations.proofs.Equating.{equated_goes, equated_value, equated_keeps}
 use Rattle.type_relations.proofs.StoreCalls.{equating_is_exact}
-use Rattle.type_relations.proofs.Unifying.{exact_itself}
 
 -- One variable got an entry, of a first-order term.
 pub written_first_order : (before after : Store) (k : VarKind) (n : ℕ) (t : Tree) → bound_term after k n ≡ Some t →
@@ -38,6 +38,13 @@ exact_turned before after a b f = record {
   later = f.later;
   shrinks = λ s sol. let z = f.shrinks s sol in (z.0, sym z.1);
   keeps = λ s sol one. f.keeps s sol (sym one);
+}
+
+exact_itself : (st : Store) (a b : Tree) → a ≡ b → Exact st st a b
+exact_itself st a b e = record {
+  later = later_itself st;
+  shrinks = λ s sol. (sol, ap (λ z. erase (apply s z)) e);
+  keeps = λ s sol one. (s, (λ k n m. refl), sol);
 }
 
 -- Of the two in order, the larger leads to the smaller.
