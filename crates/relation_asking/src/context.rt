@@ -35,8 +35,7 @@ pub(super) fn renewed<I: Interner>(ctx: RefCtxt<I>, budget: usize) -> RefCtxt<I>
     ensures interner { result.interner ≡ ctx.interner }
     ensures lawful { IsLawful (I.meaning ctx.interner) result.inner }
 {
-    let RefCtxt { interner, inner: _ } = ctx;
-    RefCtxt::new(interner, budget)
+    ctx.renewed(budget)
 }
 
 // Makes variables until the context has so many.

@@ -1,3 +1,5 @@
+pub mod Variables
+pub mod Numbers
 pub mod Tables
 pub mod RefCtxt
 pub mod Remembering
