@@ -25,7 +25,7 @@ use Rattle.type_relations.specs.Covered.{IsCovered}
 use Rattle.type_relations.proofs.Covered.{covered_no_error}
 use Rattle.type_relations.proofs.Standing.{itself_stands}
 use Rattle.type_relations.proofs.Written.{is_later, equal, weight_after, kinds_stand, others}
-use Rattle.type_relations.proofs.StoreCalls.{numbers_are_exact}
+use Rattle.type_relations.proofs.StoreCalls.{numbers_are_exact, resolved_stands}
 use Rattle.type_relations.proofs.Roots.{written_first_order}
 
 -- A variable of integers or floats.
@@ -73,6 +73,10 @@ number_first_order int_var (leaf (atom (uint_type w))) h = tt
 number_first_order float_var (leaf (atom (float_type w))) h = tt
 number_first_order k t h = absurd h
 
+atom_weight : (st : Store) (x : Atom) → weight st (leaf (atom x)) ≡ 1
+unfolding weight
+atom_weight st x = refl
+
 -- A number variable was bound to a type of its kind.
 module _ (before after : Store) (k : VarKind) (n : ℕ) (t : Tree) (q : InstantiatesNumber before after k n t)
     (g : IsSound before) where
@@ -89,11 +93,7 @@ module _ (before after : Store) (k : VarKind) (n : ℕ) (t : Tree) (q : Instanti
       no_variable x p = cc
 
   one : weight before t ≡ 1
-  one = subst (λ z. weight before z ≡ 1) (sym is_atom.1) (atom_weight is_atom.0)
-    where
-      atom_weight : (x : Atom) → weight before (leaf (atom x)) ≡ 1
-      unfolding weight
-      atom_weight x = refl
+  one = subst (λ z. weight before z ≡ 1) (sym is_atom.1) (atom_weight before is_atom.0)
 
   -- It costs nothing, and sizes stay.
   pub number_goes : (N : ℕ) → Goes N before after
@@ -227,6 +227,31 @@ variable_alone k n (bind ks t) a = absurd (cc)
 variable_alone k n nil a = absurd (cc)
 variable_alone k n (cons t ts) a = absurd (cc)
 
+-- It may not stand for a variable that is none of its kind, nor of types.
+kinds_apart : (k : VarKind) → IsNumber k → (n : ℕ) (j : VarKind) (m : ℕ) → IsTerm type_sort (leaf (variable j m)) →
+    ((p : ℕ) → leaf (variable j m) ≢ leaf (variable type_var p)) → (MayStandFor k (leaf (variable j m)) → ⊥) →
+    MayStandFor j (leaf (variable k n)) → ⊥
+kinds_apart k i n type_var m f o no v = o m refl
+kinds_apart k i n const_var m f o no v = f
+kinds_apart k i n region_var m f o no v = f
+kinds_apart int_var i n int_var m f o no v = no tt
+kinds_apart float_var i n float_var m f o no v = no tt
+kinds_apart int_var i n float_var m f o no v = v
+kinds_apart float_var i n int_var m f o no v = v
+kinds_apart k i n j m f o no v = i
+
+variable_for : (k : VarKind) → IsNumber k → (n : ℕ) (t : Tree) → IsTerm type_sort t →
+    ((m : ℕ) → t ≢ leaf (variable type_var m)) → (MayStandFor k t → ⊥) → IsVariableFor t (leaf (variable k n)) → ⊥
+variable_for k i n (leaf (variable j m)) f o no v = kinds_apart k i n j m f o no v
+variable_for k i n (leaf (bound q d j)) f o no v = v
+variable_for k i n (leaf (placeholder q u m)) f o no v = v
+variable_for k i n (leaf (atom x)) f o no v = v
+variable_for k i n (leaf unknown) f o no v = v
+variable_for k i n (node b ts) f o no v = v
+variable_for k i n (bind ks t) f o no v = v
+variable_for k i n nil f o no v = v
+variable_for k i n (cons t ts) f o no v = v
+
 -- A number variable and a type that may not stand for it, and is no type variable.
 module _ (st : Store) (k : VarKind) (i : IsNumber k) (n : ℕ) (made : IsMade st k n) (t : Tree) (f : IsTerm type_sort t)
     (c : IsCovered t) (o : (m : ℕ) → t ≢ leaf (variable type_var m)) (h : InContext st t) (no : MayStandFor k t → ⊥) where
@@ -242,30 +267,6 @@ module _ (st : Store) (k : VarKind) (i : IsNumber k) (n : ℕ) (made : IsMade st
   pub number_no_unifier : NoUnifier st (leaf (variable k n)) t
   number_no_unifier s sol e = never_alike s sol.0 e
 
-  variable_for : (t : Tree) → IsTerm type_sort t → ((m : ℕ) → t ≢ leaf (variable type_var m)) →
-      (MayStandFor k t → ⊥) → IsVariableFor t (leaf (variable k n)) → ⊥
-  variable_for (leaf (variable j m)) f o no v = of_kinds k i j f o no v
-    where
-      of_kinds : (k : VarKind) → IsNumber k → (j : VarKind) → IsTerm type_sort (leaf (variable j m)) →
-          ((p : ℕ) → leaf (variable j m) ≢ leaf (variable type_var p)) → (MayStandFor k (leaf (variable j m)) → ⊥) →
-          MayStandFor j (leaf (variable k n)) → ⊥
-      of_kinds k i type_var f o no v = o m refl
-      of_kinds k i const_var f o no v = f
-      of_kinds k i region_var f o no v = f
-      of_kinds int_var i int_var f o no v = no tt
-      of_kinds float_var i float_var f o no v = no tt
-      of_kinds int_var i float_var f o no v = v
-      of_kinds float_var i int_var f o no v = v
-      of_kinds k i j f o no v = i
-  variable_for (leaf (bound q d j)) f o no v = v
-  variable_for (leaf (placeholder q u m)) f o no v = v
-  variable_for (leaf (atom x)) f o no v = v
-  variable_for (leaf unknown) f o no v = v
-  variable_for (node b ts) f o no v = v
-  variable_for (bind ks t) f o no v = v
-  variable_for nil f o no v = v
-  variable_for (cons t ts) f o no v = v
-
   not_alike : AreAlike (leaf (variable k n)) t → ⊥
   not_alike a = no (subst (MayStandFor k) (variable_alone k n t a) (itself_stands k n))
 
@@ -278,7 +279,7 @@ module _ (st : Store) (k : VarKind) (i : IsNumber k) (n : ℕ) (made : IsMade st
       where
         bindable : AreBindable (m.ty x) (m.ty y) → ⊥
         bindable (inl z) = no (subst (MayStandFor k) q (subst (λ r. IsVariableFor r (m.ty y)) p z))
-        bindable (inr z) = variable_for t f o no (subst₂ IsVariableFor q p z)
+        bindable (inr z) = variable_for k i n t f o no (subst₂ IsVariableFor q p z)
 
         no_error : HaveNoError (m.ty x) (m.ty y)
         no_error = (
@@ -292,7 +293,7 @@ module _ (st : Store) (k : VarKind) (i : IsNumber k) (n : ℕ) (made : IsMade st
         (sorts no_error (λ a. not_alike (sym (subst₂ AreAlike p q a))))
       where
         bindable : AreBindable (m.ty x) (m.ty y) → ⊥
-        bindable (inl z) = variable_for t f o no (subst₂ IsVariableFor p q z)
+        bindable (inl z) = variable_for k i n t f o no (subst₂ IsVariableFor p q z)
         bindable (inr z) = no (subst (MayStandFor k) p (subst (λ r. IsVariableFor r (m.ty x)) q z))
 
         no_error : HaveNoError (m.ty x) (m.ty y)
@@ -300,6 +301,61 @@ module _ (st : Store) (k : VarKind) (i : IsNumber k) (n : ℕ) (made : IsMade st
           λ z. covered_no_error t c (subst IsError p z),
           λ z. subst IsError q z,
         )
+
+-- What is no type of numbers of a kind and no variable of it may not stand for one.
+pub no_number : (k : VarKind) (t : Tree) → IsNumber k → (IsNumberFor k t → ⊥) → ((n : ℕ) → t ≢ leaf (variable k n)) →
+    MayStandFor k t → ⊥
+no_number int_var (leaf (variable int_var n)) i a o h = o n refl
+no_number int_var (leaf (atom x)) i a o h = a h
+no_number int_var t i a o h = h
+no_number float_var (leaf (variable float_var n)) i a o h = o n refl
+no_number float_var (leaf (atom x)) i a o h = a h
+no_number float_var t i a o h = h
+no_number k t i a o h = i
+
+pub other_number : (j k : VarKind) (n : ℕ) → IsNumber j → IsNumber k → j ≢ k → MayStandFor k (leaf (variable j n)) → ⊥
+other_number j type_var n i a o h = a
+other_number j const_var n i a o h = a
+other_number j region_var n i a o h = a
+other_number int_var int_var n i a o h = o refl
+other_number float_var float_var n i a o h = o refl
+other_number int_var float_var n i a o h = h
+other_number float_var int_var n i a o h = h
+other_number j k n i a o h = i
+
+pub number_no_region : (k : VarKind) → IsNumber k → k ≢ region_var
+number_no_region int_var i e = cc
+number_no_region float_var i e = cc
+number_no_region k i e = i
+
+pub number_no_type : (k : VarKind) (n m : ℕ) → IsNumber k → leaf (variable k n) ≢ leaf (variable type_var m)
+number_no_type int_var n m i e = cc
+number_no_type float_var n m i e = cc
+number_no_type k n m i e = i
+
+-- A type that is no type variable comes to none.
+number_resolved : (k : VarKind) (t : Tree) (n : ℕ) → IsNumber k → MayStandFor k t → t ≢ leaf (variable type_var n)
+number_resolved int_var t n i h e = subst IsIntegerTerm e h
+number_resolved float_var t n i h e = subst IsFloatTerm e h
+number_resolved k t n i h e = i
+
+pub no_type_variable : (st : Store) → IsSound st → (t : Tree) → IsTerm type_sort t →
+    ((m : ℕ) → t ≢ leaf (variable type_var m)) → (n : ℕ) → apply (resolved st) t ≢ leaf (variable type_var n)
+no_type_variable st g (leaf (variable type_var m)) f o n e = o m refl
+no_type_variable st g (leaf (variable int_var m)) f o n e =
+    number_resolved int_var (resolved st int_var m) n tt (resolved_stands st g int_var m) e
+no_type_variable st g (leaf (variable float_var m)) f o n e =
+    number_resolved float_var (resolved st float_var m) n tt (resolved_stands st g float_var m) e
+no_type_variable st g (leaf (variable const_var m)) f o n e = f
+no_type_variable st g (leaf (variable region_var m)) f o n e = f
+no_type_variable st g (leaf (bound q d i)) f o n e = cc
+no_type_variable st g (leaf (placeholder q u i)) f o n e = cc
+no_type_variable st g (leaf (atom x)) f o n e = cc
+no_type_variable st g (leaf unknown) f o n e = cc
+no_type_variable st g (node h ts) f o n e = cc
+no_type_variable st g (bind ks t) f o n e = f
+no_type_variable st g nil f o n e = f
+no_type_variable st g (cons t ts) f o n e = f
 
 -- A covered type that is no variable is of a form.
 type_admitted : (s : Sort) → Admits type_sort s → s ≡ type_sort
