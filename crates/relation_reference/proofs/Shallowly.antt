@@ -1,17 +1,19 @@
 -- A step that was taken from terms as they are read was taken from the terms.
-use Rattle.std.proofs.Common.{◌≡◌, ◌+◌, ◌≤◌, ℕ, List, None, Result, Ok, Err, refl, sym, ap, ap₂, ◌∙◌, arith, subst, subst₂}
+use Rattle.std.proofs.Common.{◌≡◌, ◌+◌, ◌<◌, ◌≤◌, ℕ, List, length, None, Result, Ok, Err, refl, sym, ap, ap₂, ◌∙◌, arith, subst, subst₂}
 use Rattle.relation_terms.specs.declared.terms.enums.Variance.{Variance}
 use Rattle.relation_terms.specs.declared.terms.enums.Variance.TheVariants.{Invariant}
-use Rattle.relation_terms.specs.Heads.{VarKind, const_var, variable, bound}
+use Rattle.relation_terms.specs.Heads.{VarKind, type_var, int_var, float_var, const_var, variable, bound}
 use Rattle.relation_terms.specs.Trees.{Tree, leaf, Assign, apply}
 use Rattle.relation_terms.specs.Variances.{xform}
+use Rattle.relation_terms.specs.Meaning.{Meaning}
+use Rattle.std.proofs.lemmas.List.{length-map}
 use Rattle.relation_tools.specs.declared.error.RelateFault.{RelateFault}
 use Rattle.relation_tools.specs.declared.error.RelateFault.TheVariants.{Memory, Budget, Unrelated}
 use Rattle.type_relations.specs.declared.relate.Step.{Step}
 use Rattle.type_relations.specs.declared.relate.Step.TheVariants.{Done, Parts, Again}
 use Rattle.type_relations.specs.Relation.{Interpretation, Rel, at}
 use Rattle.type_relations.specs.Stores.{Store, unbound, same_as, bound_to, entry_of, entry_term, bound_term, IsSound}
-use Rattle.type_relations.specs.Stores.{Satisfies, weight}
+use Rattle.type_relations.specs.Stores.{Satisfies, IsMade, IsTermIn, weight}
 use Rattle.type_relations.specs.Goals.{Goal}
 use Rattle.type_relations.specs.Outcomes.{Outcome}
 use Rattle.type_relations.specs.Measures.{grown}
@@ -21,6 +23,11 @@ use Rattle.type_relations.specs.Parts.{IsFormed}
 use Rattle.type_relations.specs.Lawful.{State, Passes, Leads, StepVerdict, ExactVerdict, Stepped, items_in}
 use Rattle.type_relations.proofs.ReadAs.{read_value, read_later, read_weight}
 use Rattle.type_relations.proofs.Going.{later_through, goes_within}
+use Rattle.type_relations.proofs.Standing.{made_of_term}
+use Rattle.relation_reference.specs.declared.context.inner.InferCtxtInner.{InferCtxtInner}
+use Rattle.relation_reference.specs.declared.context.inner.Variable.{Variable}
+use Rattle.relation_reference.specs.Variables.{values_of, entry_of_value, entries_of}
+use Rattle.relation_reference.specs.Tables.{store_of}
 use Rattle.relation_reference.specs.Answers.{IsShallow, root, stays_bound, formed, IsShallowConst, const_root, no_variable}
 use Rattle.relation_reference.specs.Solving.{solver_manner}
 use Rattle.relation_reference.proofs.Exactly.{read_pair, step_read, exact_read, apart_read}
@@ -58,6 +65,29 @@ shallow_free_const st n t e (const_root m d f) =
   where
     same_number : m ≡ n
     same_number = let h : leaf (variable const_var m) ≡ leaf (variable const_var n) = sym d ∙ e in cc
+
+-- A variable that a term of the context is stands in the tables.
+entries_count : {K : Type 0} (tree : K → Tree) (vs : List (Variable K)) → length (entries_of tree vs) ≡ length vs
+entries_count tree vs = length-map (values_of vs) (entry_of_value tree) ∙ length-map vs (λ v. v.value)
+
+pub variable_made : (st : Store) (k : VarKind) (n : ℕ) (t : Tree) → t ≡ leaf (variable k n) → IsTermIn st t →
+    IsMade st k n
+variable_made st k n t e h = made_of_term st k n (subst (IsTermIn st) e h)
+
+module _ {Key Id Name : Type 0} (m : Meaning Key Id Name) (x : InferCtxtInner Key) (n : ℕ) where
+  pub type_there : (t : Tree) → t ≡ leaf (variable type_var n) → IsTermIn (store_of m x) t → n < length x.types.items
+  type_there t e h =
+      subst (λ z. n < z) (entries_count m.ty x.types.items) (variable_made (store_of m x) type_var n t e h)
+
+  pub const_there : (t : Tree) → t ≡ leaf (variable const_var n) → IsTermIn (store_of m x) t → n < length x.consts.items
+  const_there t e h =
+      subst (λ z. n < z) (entries_count m.const_ x.consts.items) (variable_made (store_of m x) const_var n t e h)
+
+  pub int_there : IsMade (store_of m x) int_var n → n < length x.ints.items
+  int_there h = subst (λ z. n < z) (entries_count m.ty x.ints.items) h
+
+  pub float_there : IsMade (store_of m x) float_var n → n < length x.floats.items
+  float_there h = subst (λ z. n < z) (entries_count m.ty x.floats.items) h
 
 module _ {Key Id Name : Type 0} (r q : State Key Id Name) (g : IsSound r.store) (a b u w : Tree)
     (p : IsReadAs r.store a u) (o : IsReadAs r.store b w) where

@@ -1,6 +1,6 @@
 -- Relating in a context, step by step.
 use Rattle.std.proofs.Common.{◌≡◌, ◌≢◌, ◌⊎◌, ℕ, ◌+◌, ◌*◌, ◌≤◌, refl, sym, ap, ◌∙◌, arith, inl, inr, subst, subst₂, [], All}
-use Rattle.std.proofs.Common.{IsTrue, Some, IfSome, ◌++◌}
+use Rattle.std.proofs.Common.{IsTrue, Some, IfSome, ◌++◌, max, min}
 use Rattle.std.proofs.Common.{Result, Ok, Err}
 use Rattle.std.proofs.lemmas.List.Elements.{All-nil}
 use Rattle.relation_terms.specs.declared.terms.enums.Variance.{Variance}
@@ -13,22 +13,23 @@ use Rattle.relation_terms.specs.declared.terms.keys.TyKey.{TyKey}
 use Rattle.relation_terms.specs.declared.terms.keys.ConstKey.{ConstKey}
 use Rattle.relation_terms.specs.declared.terms.keys.RegionKey.{RegionKey}
 use Rattle.relation_terms.specs.declared.terms.keys.ParamEnvKey.{ParamEnvKey}
-use Rattle.relation_terms.specs.Heads.{VarKind, type_var, region_var, const_var, int_var, float_var, atom, variable}
-use Rattle.relation_terms.specs.Trees.{Tree, leaf, Assign, apply, Leaves, known, Occurs}
+use Rattle.relation_terms.specs.Heads.{type_sort, VarKind, type_var, region_var, const_var, int_var, float_var, atom, variable}
+use Rattle.relation_terms.specs.Trees.{Tree, leaf, Assign, apply, Leaves, IsTerm, known, Occurs}
+use Rattle.relation_terms.specs.Erasure.{erase}
 use Rattle.relation_terms.specs.Meaning.{Meaning, Extends}
 use Rattle.relation_terms.proofs.Stays.{stays_same}
 use Rattle.relation_tools.specs.declared.error.TypeError.{TypeError}
-use Rattle.relation_tools.specs.declared.error.TypeError.TheVariants.{CyclicTy, CyclicConst}
+use Rattle.relation_tools.specs.declared.error.TypeError.TheVariants.{Sorts, CyclicTy, CyclicConst}
 use Rattle.relation_tools.specs.declared.error.RelateFault.{RelateFault}
 use Rattle.relation_tools.specs.declared.error.RelateFault.TheVariants.{Memory, Budget, Unrelated}
 use Rattle.relation_tools.specs.Faults.{KnowsError, KnowsFault}
 use Rattle.type_relations.specs.declared.relate.Step.TheVariants.{Done, Parts, Again}
 use Rattle.type_relations.specs.Relation.{Interpretation, Rel, RegionRule, regions, at, same as same_rel}
 use Rattle.type_relations.specs.Stores.{Store, entry_of, entry_term, bound_to, IsTermIn, IsRegionIn, IsSound, Satisfies}
-use Rattle.type_relations.specs.Stores.{MayStandFor, IsIntegerTerm, IsFloatTerm, ConstraintHolds, weight, resolved}
+use Rattle.type_relations.specs.Stores.{IsMade, InContext, MayStandFor, IsIntegerTerm, IsFloatTerm, ConstraintHolds, weight, resolved}
 use Rattle.type_relations.specs.Goals.{GoalInContext, Holds, MakesOneTree}
 use Rattle.type_relations.specs.Headline.{AnswersGoals, KeepsEqualTerms, IsFirstOrderPair}
-use Rattle.type_relations.specs.Steps.{AddsConstraint, BindsTo, Instantiates}
+use Rattle.type_relations.specs.Steps.{AddsConstraint, Equates, BindsTo, Instantiates, InstantiatesNumber}
 use Rattle.type_relations.specs.Outcomes.{Outcome, StepsTo, Exact, ExactStep, NoEqualTerms, NoUnifier}
 use Rattle.type_relations.specs.Measures.{Goes}
 use Rattle.type_relations.specs.Errors.{ErrorOf, BindingError, StandsOutside, cyclic_ty, cyclic_const, of_binding}
@@ -51,6 +52,9 @@ use Rattle.type_relations.proofs.Constraints.{asked_relates, asked_met}
 use Rattle.type_relations.proofs.Passing.{passes_nowhere}
 use Rattle.type_relations.proofs.Answering.{may_itself}
 use Rattle.type_relations.proofs.Binding.{binding_goes_at, binding_equal, binding_square, bound_in, bound_steps, bound_pair}
+use Rattle.type_relations.proofs.Roots.{roots_goes, roots_equal, roots_keep, roots_exactly, exact_turned}
+use Rattle.type_relations.proofs.Numbers.{IsNumber, number_goes, number_equal, number_keep, number_exactly, number_apart}
+use Rattle.type_relations.proofs.Numbers.{number_no_unifier, number_error, number_error_back}
 use Rattle.relation_reference.specs.declared.context.inner.InferCtxtInner.{InferCtxtInner}
 use Rattle.relation_reference.specs.Tables.{store_of, IsLawful}
 use Rattle.relation_reference.specs.Solving.{solving, solver_settings, solver_manner}
@@ -278,6 +282,92 @@ module _ {Key Id Name : Type 0} (j : ℕ) where
         verdict = (apart, error, sure);
         exact = λ k is pair. no_unifier;
       }))
+
+  -- Two roots of a kind were made one.
+  pub roots_step : {K : Type 0} (F : Tree → Type 0) (m n : Meaning Key Id Name) (x y : InferCtxtInner Key) (v : Variance)
+      (e : ParamEnvKey Key) (k : VarKind) → k ≢ region_var → (i l : ℕ) (a b : Tree) (tree : K → Tree) (t : K) → n ≡ m →
+      IsTrue (known (m.param_env e)) → IsLawful m x → IsLawful m y → (i ≡ l → y ≡ x) →
+      ((i ≡ l → ⊥) → Equates (store_of m x) (store_of m y) k (max i l) (min i l)) → a ≡ leaf (variable k i) →
+      b ≡ leaf (variable k l) → tree t ≡ a →
+      Stepped solver_manner F (solving j m x v e) (solving j n y v e) a b tree (Ok (Done t))
+  roots_step F m n x y v e k o i l a b tree t same env before after stays equates p q answer =
+      one_step F m n x y v e a b tree t same env (roots_goes was now k o i l before.sound still equates _) after
+      (λ w s sat. ap (apply s) p ∙ roots_equal was now k o i l before.sound still equates w s sat ∙ sym (ap (apply s) q))
+      (λ w s sat one. roots_keep was now k o i l before.sound still equates w s sat
+      (sym (ap (apply s) p) ∙ one ∙ ap (apply s) q))
+      (λ h. let z = roots_exactly was now k o i l before.sound still equates h in
+      (z.0, subst₂ (Exact was now) (sym p) (sym q) z.1))
+      (inl answer) (subst (λ z. IsTrue (known z)) (sym (answer ∙ p)) refl)
+    where
+      was : Store
+      was = store_of m x
+
+      now : Store
+      now = store_of m y
+
+      still : i ≡ l → now ≡ was
+      still z = ap (store_of m) (stays z)
+
+  -- A root of a number variable was bound to the other side, a type of its kind.
+  pub number_step : {K : Type 0} (F : Tree → Type 0) (m n : Meaning Key Id Name) (x y : InferCtxtInner Key) (v : Variance)
+      (e : ParamEnvKey Key) (k : VarKind) (i : ℕ) (a b : Tree) (tree : K → Tree) (t : K) → n ≡ m →
+      IsTrue (known (m.param_env e)) → IsLawful m x → IsLawful m y →
+      InstantiatesNumber (store_of m x) (store_of m y) k i b → a ≡ leaf (variable k i) → tree t ≡ b →
+      IsTrue (known b) → Stepped solver_manner F (solving j m x v e) (solving j n y v e) a b tree (Ok (Done t))
+  number_step F m n x y v e k i a b tree t same env before after h p answer sure =
+      one_step F m n x y v e a b tree t same env (number_goes (store_of m x) (store_of m y) k i b h before.sound _) after
+      (λ w s sat. ap (apply s) p ∙ number_equal (store_of m x) (store_of m y) k i b h before.sound w s sat)
+      (λ w s sat one. number_keep (store_of m x) (store_of m y) k i b h before.sound w s sat (sym (ap (apply s) p) ∙ one))
+      (λ f. let z = number_exactly (store_of m x) (store_of m y) k i b h before.sound f in
+      (z.0, subst (λ c. Exact (store_of m x) (store_of m y) c b) (sym p) z.1))
+      (inr answer) (subst (λ z. IsTrue (known z)) (sym answer) sure)
+
+  pub number_step_back : {K : Type 0} (F : Tree → Type 0) (m n : Meaning Key Id Name) (x y : InferCtxtInner Key)
+      (v : Variance) (e : ParamEnvKey Key) (k : VarKind) (i : ℕ) (a b : Tree) (tree : K → Tree) (t : K) → n ≡ m →
+      IsTrue (known (m.param_env e)) → IsLawful m x → IsLawful m y →
+      InstantiatesNumber (store_of m x) (store_of m y) k i a → b ≡ leaf (variable k i) → tree t ≡ a →
+      IsTrue (known a) → Stepped solver_manner F (solving j m x v e) (solving j n y v e) a b tree (Ok (Done t))
+  number_step_back F m n x y v e k i a b tree t same env before after h p answer sure =
+      one_step F m n x y v e a b tree t same env (number_goes (store_of m x) (store_of m y) k i a h before.sound _) after
+      (λ w s sat. sym (ap (apply s) p ∙ number_equal (store_of m x) (store_of m y) k i a h before.sound w s sat))
+      (λ w s sat one. number_keep (store_of m x) (store_of m y) k i a h before.sound w s sat
+      (sym (ap (apply s) p) ∙ sym one))
+      (λ f. let z = number_exactly (store_of m x) (store_of m y) k i a h before.sound f in
+      (z.0, exact_turned (store_of m x) (store_of m y) b a
+      (subst (λ c. Exact (store_of m x) (store_of m y) c a) (sym p) z.1)))
+      (inl answer) (subst (λ z. IsTrue (known z)) (sym answer) sure)
+
+  -- Or the other side is a type that may not stand for it.
+  module _ {K : Type 0} (F : Tree → Type 0) (m n : Meaning Key Id Name) (x y : InferCtxtInner Key) (v : Variance)
+      (decides : v ≢ Bivariant) (e : ParamEnvKey Key) (p q : TyKey Key) (tree : K → Tree)
+      (f : RelateFault Key Id Name) (same : n ≡ m) (stays : y ≡ x)
+      (is : f ≡ Unrelated (Sorts (record { expected = p; found = q }))) (k : VarKind) (number : IsNumber k) (i : ℕ)
+      (made : IsMade (store_of m x) k i) (p_known : IsTrue (known (m.ty p))) (q_known : IsTrue (known (m.ty q))) where
+    pub left_unlike : m.ty p ≡ leaf (variable k i) → IsTerm type_sort (m.ty q) → IsCovered (m.ty q) →
+        ((l : ℕ) → m.ty q ≢ leaf (variable type_var l)) → InContext (store_of m x) (m.ty q) →
+        (MayStandFor k (m.ty q) → ⊥) →
+        Stepped solver_manner F (solving j m x v e) (solving j n y v e) (m.ty p) (m.ty q) tree (Err f)
+    left_unlike h s c o g d = unrelated_step F m n x y v e (m.ty p) (m.ty q) tree f
+        (Sorts (record { expected = p; found = q })) same stays is
+        (subst (λ z. NoEqualTerms (store_of m x) z (m.ty q)) (sym h)
+        (number_apart (store_of m x) k number i made (m.ty q) s c o g d))
+        (subst (λ z. NoUnifier (store_of m x) z (m.ty q)) (sym h)
+        (number_no_unifier (store_of m x) k number i made (m.ty q) s c o g d))
+        (number_error (store_of m x) k number i made (m.ty q) s c o g d m (items_of m) p q v decides h refl)
+        (p_known, q_known)
+
+    pub right_unlike : m.ty q ≡ leaf (variable k i) → IsTerm type_sort (m.ty p) → IsCovered (m.ty p) →
+        ((l : ℕ) → m.ty p ≢ leaf (variable type_var l)) → InContext (store_of m x) (m.ty p) →
+        (MayStandFor k (m.ty p) → ⊥) →
+        Stepped solver_manner F (solving j m x v e) (solving j n y v e) (m.ty p) (m.ty q) tree (Err f)
+    right_unlike h s c o g d = unrelated_step F m n x y v e (m.ty p) (m.ty q) tree f
+        (Sorts (record { expected = p; found = q })) same stays is
+        (λ w s' sat one. number_apart (store_of m x) k number i made (m.ty p) s c o g d w s' sat
+        (sym (ap (apply s') h) ∙ sym one))
+        (λ s' sol one. number_no_unifier (store_of m x) k number i made (m.ty p) s c o g d s' sol
+        (ap (λ z. erase (apply s' z)) (sym h) ∙ sym one))
+        (number_error_back (store_of m x) k number i made (m.ty p) s c o g d m (items_of m) p q v decides refl h)
+        (p_known, q_known)
 
   -- What is shown of two types as they are read is shown of the types.
   pub parts_step : (m : Meaning Key Id Name) (x : InferCtxtInner Key) (v : Variance) (e : ParamEnvKey Key)

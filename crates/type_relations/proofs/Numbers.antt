@@ -231,34 +231,34 @@ variable_alone k n (cons t ts) a = absurd (cc)
 kinds_apart : (k : VarKind) → IsNumber k → (n : ℕ) (j : VarKind) (m : ℕ) → IsTerm type_sort (leaf (variable j m)) →
     ((p : ℕ) → leaf (variable j m) ≢ leaf (variable type_var p)) → (MayStandFor k (leaf (variable j m)) → ⊥) →
     MayStandFor j (leaf (variable k n)) → ⊥
-kinds_apart k i n type_var m f o no v = o m refl
-kinds_apart k i n const_var m f o no v = f
-kinds_apart k i n region_var m f o no v = f
-kinds_apart int_var i n int_var m f o no v = no tt
-kinds_apart float_var i n float_var m f o no v = no tt
-kinds_apart int_var i n float_var m f o no v = v
-kinds_apart float_var i n int_var m f o no v = v
-kinds_apart k i n j m f o no v = i
+kinds_apart k i n type_var m f o differs v = o m refl
+kinds_apart k i n const_var m f o differs v = f
+kinds_apart k i n region_var m f o differs v = f
+kinds_apart int_var i n int_var m f o differs v = differs tt
+kinds_apart float_var i n float_var m f o differs v = differs tt
+kinds_apart int_var i n float_var m f o differs v = v
+kinds_apart float_var i n int_var m f o differs v = v
+kinds_apart k i n j m f o differs v = i
 
 variable_for : (k : VarKind) → IsNumber k → (n : ℕ) (t : Tree) → IsTerm type_sort t →
     ((m : ℕ) → t ≢ leaf (variable type_var m)) → (MayStandFor k t → ⊥) → IsVariableFor t (leaf (variable k n)) → ⊥
-variable_for k i n (leaf (variable j m)) f o no v = kinds_apart k i n j m f o no v
-variable_for k i n (leaf (bound q d j)) f o no v = v
-variable_for k i n (leaf (placeholder q u m)) f o no v = v
-variable_for k i n (leaf (atom x)) f o no v = v
-variable_for k i n (leaf unknown) f o no v = v
-variable_for k i n (node b ts) f o no v = v
-variable_for k i n (bind ks t) f o no v = v
-variable_for k i n nil f o no v = v
-variable_for k i n (cons t ts) f o no v = v
+variable_for k i n (leaf (variable j m)) f o differs v = kinds_apart k i n j m f o differs v
+variable_for k i n (leaf (bound q d j)) f o differs v = v
+variable_for k i n (leaf (placeholder q u m)) f o differs v = v
+variable_for k i n (leaf (atom x)) f o differs v = v
+variable_for k i n (leaf unknown) f o differs v = v
+variable_for k i n (node b ts) f o differs v = v
+variable_for k i n (bind ks t) f o differs v = v
+variable_for k i n nil f o differs v = v
+variable_for k i n (cons t ts) f o differs v = v
 
 -- A number variable and a type that may not stand for it, and is no type variable.
 module _ (st : Store) (k : VarKind) (i : IsNumber k) (n : ℕ) (made : IsMade st k n) (t : Tree) (f : IsTerm type_sort t)
-    (c : IsCovered t) (o : (m : ℕ) → t ≢ leaf (variable type_var m)) (h : InContext st t) (no : MayStandFor k t → ⊥) where
+    (c : IsCovered t) (o : (m : ℕ) → t ≢ leaf (variable type_var m)) (h : InContext st t) (differs : MayStandFor k t → ⊥) where
   never_alike : (s : Assign) → IsAssignment st s → erase (s k n) ≡ erase (apply s t) → ⊥
   never_alike s a e =
       let z = value_of st s a k i n made in
-      no (value_type st s a z.0 k i t f c o h z.2 (sym e ∙ ap erase z.1 ∙ number_erased k z.0 z.2))
+      differs (value_type st s a z.0 k i t f c o h z.2 (sym e ∙ ap erase z.1 ∙ number_erased k z.0 z.2))
 
   -- No assignment makes them one.
   pub number_apart : NoEqualTerms st (leaf (variable k n)) t
@@ -268,7 +268,7 @@ module _ (st : Store) (k : VarKind) (i : IsNumber k) (n : ℕ) (made : IsMade st
   number_no_unifier s sol e = never_alike s sol.0 e
 
   not_alike : AreAlike (leaf (variable k n)) t → ⊥
-  not_alike a = no (subst (MayStandFor k) (variable_alone k n t a) (itself_stands k n))
+  not_alike a = differs (subst (MayStandFor k) (variable_alone k n t a) (itself_stands k n))
 
   -- The error that comes of them.
   module _ {Key Id Name : Type 0} (m : Meaning Key Id Name) (w : Items) (x y : TyKey Key) (v : Variance)
@@ -278,8 +278,8 @@ module _ (st : Store) (k : VarKind) (i : IsNumber k) (n : ℕ) (made : IsMade st
     number_error p q = of_forms x y decides refl refl bindable (sorts no_error (λ a. not_alike (subst₂ AreAlike p q a)))
       where
         bindable : AreBindable (m.ty x) (m.ty y) → ⊥
-        bindable (inl z) = no (subst (MayStandFor k) q (subst (λ r. IsVariableFor r (m.ty y)) p z))
-        bindable (inr z) = variable_for k i n t f o no (subst₂ IsVariableFor q p z)
+        bindable (inl z) = differs (subst (MayStandFor k) q (subst (λ r. IsVariableFor r (m.ty y)) p z))
+        bindable (inr z) = variable_for k i n t f o differs (subst₂ IsVariableFor q p z)
 
         no_error : HaveNoError (m.ty x) (m.ty y)
         no_error = (
@@ -293,8 +293,8 @@ module _ (st : Store) (k : VarKind) (i : IsNumber k) (n : ℕ) (made : IsMade st
         (sorts no_error (λ a. not_alike (sym (subst₂ AreAlike p q a))))
       where
         bindable : AreBindable (m.ty x) (m.ty y) → ⊥
-        bindable (inl z) = variable_for k i n t f o no (subst₂ IsVariableFor p q z)
-        bindable (inr z) = no (subst (MayStandFor k) p (subst (λ r. IsVariableFor r (m.ty x)) q z))
+        bindable (inl z) = variable_for k i n t f o differs (subst₂ IsVariableFor p q z)
+        bindable (inr z) = differs (subst (MayStandFor k) p (subst (λ r. IsVariableFor r (m.ty x)) q z))
 
         no_error : HaveNoError (m.ty x) (m.ty y)
         no_error = (
