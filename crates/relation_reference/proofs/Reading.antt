@@ -32,10 +32,10 @@ use Rattle.relation_reference.specs.declared.context.memory.TermVid.{TermVid}
 use Rattle.relation_reference.specs.declared.context.memory.TermVid.TheVariants.{Ty as TyTerm, Const as ConstTerm}
 use Rattle.relation_reference.specs.Remembering.{vid_kind, vid_number}
 use Rattle.relation_reference.specs.Variables.{value_at, root_by, root_at, term_by, term_at, entry_of_value, entries_of, trees_of, keys_of}
-use Rattle.relation_reference.specs.Tables.{store_of, keys_in, IsFormedFor, IsRooted, IsLawful}
-use Rattle.relation_reference.specs.Answers.{IsRoot, IsShallow, root, stays_bound, formed, IsShallowConst, const_root, no_variable, HasBinding, HasNoBinding}
+use Rattle.relation_reference.specs.Tables.{store_of, keys_in, MayBeBoundTo, IsRooted, IsLawful}
+use Rattle.relation_reference.specs.Answers.{IsRoot, IsShallow, root, stays_bound, formed, IsShallowTy, ty_root, no_ty_variable, IsShallowConst, const_root, no_variable, HasBinding, HasNoBinding}
 use Rattle.relation_reference.proofs.Grows.{entry_at, bound_known}
-use Rattle.relation_reference.proofs.Covering.{covered_formed_const}
+use Rattle.relation_reference.proofs.Covering.{covered_formed_const, may_covered}
 
 -- The other is a variable of the context.
 pub leads_made : (st : Store) → IsSound st → (k : VarKind) (n p : ℕ) → entry_of st k n ≡ same_as p → IsMade st k p
@@ -111,19 +111,24 @@ module _ {Key Id Name : Type 0} (m : Meaning Key Id Name) (x : InferCtxtInner Ke
 
   pub found_covered : Found st k n u → IsCovered u
   found_covered (found_root r d e q) = subst IsCovered (sym q) tt
-  found_covered (found_term r d e) = (l.formed k r u e).1
+  found_covered (found_term r d e) = may_covered k u (l.formed k r u e)
 
-  pub found_shallow : (IsFormedFor k u → IsFormed u) → Found st k n u → IsShallow st u
+  pub found_shallow : (MayBeBoundTo k u → IsFormed u) → Found st k n u → IsShallow st u
   found_shallow f (found_root r d e q) = root k r q (ap (entry_term k) e)
-  found_shallow f (found_term r d e) = formed (f (l.formed k r u e).0)
+  found_shallow f (found_term r d e) = formed (f (l.formed k r u e))
+
+pub found_ty_shallow : {Key Id Name : Type 0} (m : Meaning Key Id Name) (x : InferCtxtInner Key) → IsLawful m x → (n : ℕ) (u : Tree) → Found (store_of m x) type_var n u → IsShallowTy (store_of m x) u
+found_ty_shallow m x l n u (found_root r d e q) = ty_root r q (ap (entry_term type_var) e)
+found_ty_shallow m x l n u (found_term r d e) = no_ty_variable (l.formed type_var r u e).0
 
 pub found_const_shallow : {Key Id Name : Type 0} (m : Meaning Key Id Name) (x : InferCtxtInner Key) → IsLawful m x → (n : ℕ) (u : Tree) → Found (store_of m x) const_var n u → IsShallowConst (store_of m x) u
 found_const_shallow m x l n u (found_root r d e q) = const_root r q (ap (entry_term const_var) e)
 found_const_shallow m x l n u (found_term r d e) = no_variable (λ k i q. subst IsFormedConst q (l.formed const_var r u e).0)
 
--- A form that is no variable of a type stays as it is.
-infer_shallow : (st : Store) (i : InferTy) → ((v : TyVid) → i ≡ TyVar v → ⊥) → ((v : IntVid) → i ≡ IntVar v → ⊥) → ((v : FloatVid) → i ≡ FloatVar v → ⊥) → IsShallow st (infer_tree i)
-infer_shallow st (TyVar v) a b c = absurd (a v refl)
+-- A type that is no integer or float variable, nor a type variable that has a term, stays as it is.
+infer_shallow : (st : Store) (i : InferTy) → IsShallowTy st (infer_tree i) → ((v : IntVid) → i ≡ IntVar v → ⊥) → ((v : FloatVid) → i ≡ FloatVar v → ⊥) → IsShallow st (infer_tree i)
+infer_shallow st (TyVar v) (ty_root n q f) b c = root type_var n q f
+infer_shallow st (TyVar v) (no_ty_variable o) b c = absurd (o v.0 refl)
 infer_shallow st (IntVar v) a b c = absurd (b v refl)
 infer_shallow st (FloatVar v) a b c = absurd (c v refl)
 infer_shallow st (FreshTy n) a b c = formed refl
@@ -131,8 +136,8 @@ infer_shallow st (FreshIntTy n) a b c = formed refl
 infer_shallow st (FreshFloatTy n) a b c = formed refl
 
 pub kind_shallow : {Key Id Name : Type 0} (m : Meaning Key Id Name) (st : Store) (k : TyKind Key Id Name) →
-    ((v : TyVid) → k ≡ Infer (TyVar v) → ⊥) → ((v : IntVid) → k ≡ Infer (IntVar v) → ⊥) → ((v : FloatVid) → k ≡ Infer (FloatVar v) → ⊥) → IsShallow st (kind_tree m k)
-kind_shallow m st (Infer i) a b c = infer_shallow st i (λ v e. a v (ap Infer e)) (λ v e. b v (ap Infer e)) (λ v e. c v (ap Infer e))
+    IsShallowTy st (kind_tree m k) → ((v : IntVid) → k ≡ Infer (IntVar v) → ⊥) → ((v : FloatVid) → k ≡ Infer (FloatVar v) → ⊥) → IsShallow st (kind_tree m k)
+kind_shallow m st (Infer i) a b c = infer_shallow st i a (λ v e. b v (ap Infer e)) (λ v e. c v (ap Infer e))
 kind_shallow m st (TyBound d b) a e c = stays_bound _ _ _ refl
 kind_shallow m st k a b c = formed refl
 
@@ -183,6 +188,12 @@ module _ {Key Id Name : Type 0} (m : Meaning Key Id Name) (k : TyKind Key Id Nam
       IfNone o ((n : ℕ) → t ≡ leaf (variable type_var n) → ⊥)
   no_type_variable (Some v) h = h
   no_type_variable None h = λ n q. kind_variable m k n h (sym e ∙ q)
+
+  pub type_shallow : (st : Store) → ((v : TyVid) → k ≡ Infer (TyVar v) → ⊥) → IsShallowTy st t
+  type_shallow st h = no_ty_variable (λ n q. kind_variable m k n h (sym e ∙ q))
+
+  pub number_shallow : (st : Store) → IsShallowTy st t → ((v : IntVid) → k ≡ Infer (IntVar v) → ⊥) → ((v : FloatVid) → k ≡ Infer (FloatVar v) → ⊥) → IsShallow st t
+  number_shallow st a b c = subst (IsShallow st) (sym e) (kind_shallow m st k (subst (IsShallowTy st) e a) b c)
 
   pub type_no_vid : ((v : TyVid) → k ≡ Infer (TyVar v) → ⊥) → (v : TermVid) → t ≡ leaf (variable (vid_kind v) (vid_number v)) → ⊥
   type_no_vid h (TyTerm v) q = kind_variable m k v.0 h (sym e ∙ q)

@@ -13,7 +13,7 @@ ghost use Rattle.type_relations.specs.Errors.{IsReadAs};
 ghost use Rattle.type_relations.specs.Parts.{IsFormedConst};
 ghost use Rattle.relation_reference.specs.Tables.{IsLawful};
 ghost use Rattle.relation_reference.specs.RefCtxt.{store_in};
-ghost use Rattle.relation_reference.specs.Answers.{IsRoot, IsShallow, IsShallowConst, HasBinding, HasNoBinding};
+ghost use Rattle.relation_reference.specs.Answers.{IsRoot, IsShallow, IsShallowTy, IsShallowConst, HasBinding, HasNoBinding};
 
 use crate::context::table::{probe, root_of, term_of};
 use crate::context::{RefCtxt, VariableValue};
@@ -133,7 +133,7 @@ impl<I: Interner> RefCtxt<I> {
         ensures sure { IsTrue (known ((I.meaning self.now.interner).ty result)) }
         ensures reads { let t = (I.meaning self.now.interner).ty result in
             IsReadAs (store_in I.meaning self.now) (leaf (variable type_var var.0)) t }
-        ensures shallow { IsShallow (store_in I.meaning self.now) ((I.meaning self.now.interner).ty result) }
+        ensures shallow { IsShallowTy (store_in I.meaning self.now) ((I.meaning self.now.interner).ty result) }
         ensures covered { IsCovered ((I.meaning self.now.interner).ty result) }
     {
         term_of(&self.inner.types, var.0)
@@ -178,7 +178,47 @@ impl<I: Interner> RefCtxt<I> {
         term_of(&self.inner.consts, var.0)
     }
 
-    /// The type itself, or for a variable the type that its class is bound to, or else the root of its class.
+    // The type itself, or for a type variable what it is found to be.
+    fn shallow_ty(&self, ty: &Ty<I>) -> Ty<I>
+        requires lawful { IsLawful (I.meaning self.now.interner) self.now.inner }
+        requires ty_known { IsTrue (known ((I.meaning self.now.interner).ty ty.now)) }
+        requires ty_in { InContext (store_in I.meaning self.now) ((I.meaning self.now.interner).ty ty.now) }
+        ensures sure { IsTrue (known ((I.meaning self.now.interner).ty result)) }
+        ensures reads { let m = I.meaning self.now.interner in
+            IsReadAs (store_in I.meaning self.now) (m.ty ty.now) (m.ty result) }
+        ensures shallow { IsShallowTy (store_in I.meaning self.now) ((I.meaning self.now.interner).ty result) }
+        ensures covered { let m = I.meaning self.now.interner in IsCovered (m.ty ty.now) → IsCovered (m.ty result) }
+    {
+        let Some(var) = ty_vid(&self.interner.ty_kind(ty)) else {
+            return *ty;
+        };
+        self.opportunistic_resolve_ty_var(var)
+    }
+
+    // The type itself, or for an integer or float variable what its class is bound to, or else the root of its class.
+    fn shallow_number(&self, ty: &Ty<I>) -> Ty<I>
+        requires lawful { IsLawful (I.meaning self.now.interner) self.now.inner }
+        requires ty_known { IsTrue (known ((I.meaning self.now.interner).ty ty.now)) }
+        requires ty_in { InContext (store_in I.meaning self.now) ((I.meaning self.now.interner).ty ty.now) }
+        requires ty_shallow { IsShallowTy (store_in I.meaning self.now) ((I.meaning self.now.interner).ty ty.now) }
+        ensures sure { IsTrue (known ((I.meaning self.now.interner).ty result)) }
+        ensures reads { let m = I.meaning self.now.interner in
+            IsReadAs (store_in I.meaning self.now) (m.ty ty.now) (m.ty result) }
+        ensures shallow { IsShallow (store_in I.meaning self.now) ((I.meaning self.now.interner).ty result) }
+        ensures covered { let m = I.meaning self.now.interner in IsCovered (m.ty ty.now) → IsCovered (m.ty result) }
+    {
+        let kind = self.interner.ty_kind(ty);
+        if let Some(number) = int_vid(&kind) {
+            return self.opportunistic_resolve_int_var(number);
+        }
+        if let Some(float) = float_vid(&kind) {
+            return self.opportunistic_resolve_float_var(float);
+        }
+        *ty
+    }
+
+    /// The type itself, or for a variable the type that its class is bound to, or else the root of its class. A type
+    /// variable that is bound to an integer or float variable is read as that one is.
     pub fn shallow_resolve(&self, ty: &Ty<I>) -> Ty<I>
         requires lawful { IsLawful (I.meaning self.now.interner) self.now.inner }
         requires ty_known { IsTrue (known ((I.meaning self.now.interner).ty ty.now)) }
@@ -191,17 +231,8 @@ impl<I: Interner> RefCtxt<I> {
         ensures shallow { IsShallow (store_in I.meaning self.now) ((I.meaning self.now.interner).ty result) }
         ensures covered { let m = I.meaning self.now.interner in IsCovered (m.ty ty.now) → IsCovered (m.ty result) }
     {
-        let kind = self.interner.ty_kind(ty);
-        if let Some(var) = ty_vid(&kind) {
-            return self.opportunistic_resolve_ty_var(var);
-        }
-        if let Some(number) = int_vid(&kind) {
-            return self.opportunistic_resolve_int_var(number);
-        }
-        if let Some(float) = float_vid(&kind) {
-            return self.opportunistic_resolve_float_var(float);
-        }
-        *ty
+        let found = self.shallow_ty(ty);
+        self.shallow_number(&found)
     }
 
     /// The constant itself, or for a variable the constant that its class is bound to, or else the root of its class.
