@@ -32,6 +32,7 @@ pub enum NotAsked {
 
 // A new context over the interner of another one.
 pub(super) fn renewed<I: Interner>(ctx: RefCtxt<I>, budget: usize) -> RefCtxt<I>
+    requires { IsLawful (I.meaning ctx.interner) ctx.inner }
     ensures interner { result.interner ≡ ctx.interner }
     ensures lawful { IsLawful (I.meaning ctx.interner) result.inner }
 {

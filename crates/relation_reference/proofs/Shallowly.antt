@@ -127,62 +127,62 @@ module _ {Key Id Name : Type 0} (r q : State Key Id Name) (g : IsSound r.store) 
   }
 
   module _ {K : Type 0} (F : Tree → Type 0) (tree : K → Tree) (passes : Passes (weight r.store u + weight r.store w) r q)
-      where
-    shrinks : (i : Interpretation) (s : Assign) → Satisfies i q.store s → Satisfies i r.store s
-    shrinks i s sat = ((passes.goes).later).shrinks i s sat
+    where
+      shrinks : (i : Interpretation) (s : Assign) → Satisfies i q.store s → Satisfies i r.store s
+      shrinks i s sat = ((passes.goes).later).shrinks i s sat
 
-    read_verdict : (res : Result (Step K) (RelateFault Key Id Name)) →
-        StepVerdict solver_manner F r q passes.added u w tree res →
-        StepVerdict solver_manner F r q passes.added a b tree res
-    read_verdict (Ok (Done t)) h = record {
-      outcome = read_outcome passes.added r.ambient h.outcome;
-      answer = record {
-        related = λ i s sat all. subst (λ z. Rel (items_in q) i q.environment (at r.ambient) z (apply s (tree t)))
-            (sym (value_a i s (shrinks i s sat))) ((h.answer).related i s sat all);
+      read_verdict : (res : Result (Step K) (RelateFault Key Id Name)) →
+          StepVerdict solver_manner F r q passes.added u w tree res →
+          StepVerdict solver_manner F r q passes.added a b tree res
+      read_verdict (Ok (Done t)) h = record {
+        outcome = read_outcome passes.added r.ambient h.outcome;
+        answer = record {
+          related = λ i s sat all. subst (λ z. Rel (items_in q) i q.environment (at r.ambient) z (apply s (tree t)))
+              (sym (value_a i s (shrinks i s sat))) ((h.answer).related i s sat all);
+          left = λ z. absurd z;
+        };
+        known = h.known;
+      }
+      read_verdict (Ok (Parts x y)) h = record {
+        leads = read_leads passes.added r.ambient (tree x) (tree y) h.leads;
+        asked = h.asked;
+        left_form = h.left_form;
+        right_form = h.right_form;
+        answers = λ t i s sat all f. subst (λ z. Rel (items_in q) i q.environment (at r.ambient) z (apply s t))
+            (sym (value_a i s (shrinks i s sat))) (h.answers t i s sat all f);
         left = λ z. absurd z;
-      };
-      known = h.known;
-    }
-    read_verdict (Ok (Parts x y)) h = record {
-      leads = read_leads passes.added r.ambient (tree x) (tree y) h.leads;
-      asked = h.asked;
-      left_form = h.left_form;
-      right_form = h.right_form;
-      answers = λ t i s sat all f. subst (λ z. Rel (items_in q) i q.environment (at r.ambient) z (apply s t))
-          (sym (value_a i s (shrinks i s sat))) (h.answers t i s sat all f);
-      left = λ z. absurd z;
-      same_budget = h.same_budget;
-      not_larger = let e = as_large in let l = h.not_larger in omega (arith, e, l);
-    }
-    read_verdict (Ok (Again k l x y v t)) h = record {
-      leads = read_leads passes.added (xform r.ambient v) (tree x) (tree y) h.leads;
-      read_leads = h.read_leads;
-      read_asked = h.read_asked;
-      asked = h.asked;
-      answers = λ i s sat all f. subst (λ z. Rel (items_in q) i q.environment (at r.ambient) z (apply s (tree t)))
-          (sym (value_a i s (shrinks i s sat))) (h.answers i s sat all f);
-      left = λ z. absurd z;
-      answer_known = h.answer_known;
-      falls = h.falls;
-      not_larger = subst (λ z. weight q.store (tree x) + weight q.store (tree y) ≤ grown 1 z) (sym as_large) h.not_larger;
-    }
-    read_verdict (Err (Unrelated e)) h = (
-      λ i s sat one. h.0 i s sat (sym (value_a i s sat) ∙ one ∙ value_b i s sat),
-      of_entries (read_later r.store q.store (passes.goes).later a u p)
-          (read_later r.store q.store (passes.goes).later b w o) h.1,
-      h.2,
-    )
-    read_verdict (Err Budget) h = h
-    read_verdict (Err Memory) h = tt
+        same_budget = h.same_budget;
+        not_larger = let e = as_large in let l = h.not_larger in omega (arith, e, l);
+      }
+      read_verdict (Ok (Again k l x y v t)) h = record {
+        leads = read_leads passes.added (xform r.ambient v) (tree x) (tree y) h.leads;
+        read_leads = h.read_leads;
+        read_asked = h.read_asked;
+        asked = h.asked;
+        answers = λ i s sat all f. subst (λ z. Rel (items_in q) i q.environment (at r.ambient) z (apply s (tree t)))
+            (sym (value_a i s (shrinks i s sat))) (h.answers i s sat all f);
+        left = λ z. absurd z;
+        answer_known = h.answer_known;
+        falls = h.falls;
+        not_larger = subst (λ z. weight q.store (tree x) + weight q.store (tree y) ≤ grown 1 z) (sym as_large) h.not_larger;
+      }
+      read_verdict (Err (Unrelated e)) h = (
+        λ i s sat one. h.0 i s sat (sym (value_a i s sat) ∙ one ∙ value_b i s sat),
+        of_entries (read_later r.store q.store (passes.goes).later a u p)
+            (read_later r.store q.store (passes.goes).later b w o) h.1,
+        h.2,
+      )
+      read_verdict (Err Budget) h = h
+      read_verdict (Err Memory) h = tt
 
-    read_exact : (res : Result (Step K) (RelateFault Key Id Name)) → ExactVerdict r q u w tree res →
-        ExactVerdict r q a b tree res
-    read_exact (Ok (Done t)) h = (h.0, exact_read r.store g a b u w p o q.store h.1)
-    read_exact (Ok (Parts x y)) h = (h.0, step_read r.store g a b u w p o q.store (tree x) (tree y) h.1)
-    read_exact (Ok (Again k l x y v t)) h = (h.0, step_read r.store g a b u w p o q.store (tree x) (tree y) h.1)
-    read_exact (Err (Unrelated e)) h = apart_read r.store g a b u w p o h
-    read_exact (Err Budget) h = tt
-    read_exact (Err Memory) h = tt
+      read_exact : (res : Result (Step K) (RelateFault Key Id Name)) → ExactVerdict r q u w tree res →
+          ExactVerdict r q a b tree res
+      read_exact (Ok (Done t)) h = (h.0, exact_read r.store g a b u w p o q.store h.1)
+      read_exact (Ok (Parts x y)) h = (h.0, step_read r.store g a b u w p o q.store (tree x) (tree y) h.1)
+      read_exact (Ok (Again k l x y v t)) h = (h.0, step_read r.store g a b u w p o q.store (tree x) (tree y) h.1)
+      read_exact (Err (Unrelated e)) h = apart_read r.store g a b u w p o h
+      read_exact (Err Budget) h = tt
+      read_exact (Err Memory) h = tt
 
   pub read_step : {K : Type 0} (F : Tree → Type 0) (tree : K → Tree) (res : Result (Step K) (RelateFault Key Id Name)) →
       Stepped solver_manner F r q u w tree res → Stepped solver_manner F r q a b tree res

@@ -332,9 +332,11 @@ module _ {Key Id Name : Type 0} (j : ℕ) where
       (λ w s sat. sym (ap (apply s) p ∙ number_equal (store_of m x) (store_of m y) k i a h before.sound w s sat))
       (λ w s sat one. number_keep (store_of m x) (store_of m y) k i a h before.sound w s sat
       (sym (ap (apply s) p) ∙ sym one))
-      (λ f. let z = number_exactly (store_of m x) (store_of m y) k i a h before.sound f in
-      (z.0, exact_turned (store_of m x) (store_of m y) b a
-      (subst (λ c. Exact (store_of m x) (store_of m y) c a) (sym p) z.1)))
+      (λ f. let z = number_exactly (store_of m x) (store_of m y) k i a h before.sound f in (
+        z.0,
+        exact_turned (store_of m x) (store_of m y) b a
+            (subst (λ c. Exact (store_of m x) (store_of m y) c a) (sym p) z.1),
+      ))
       (inl answer) (subst (λ z. IsTrue (known z)) (sym answer) sure)
 
   -- Or the other side is a type that may not stand for it.
