@@ -7,15 +7,16 @@ use Rattle.type_relations.specs.Stores.{unbound}
 use Rattle.type_relations.specs.Steps.{MakesVariable, IsLater}
 use Rattle.relation_reference.specs.declared.context.inner.InferCtxtInner.{InferCtxtInner}
 use Rattle.relation_reference.specs.Tables.{store_of}
+use Rattle.relation_reference.proofs.Making.{entries_long}
 use Rattle.relation_asking.specs.Asking.{variables_in}
 
 -- The entries of a kind are as many as its variables.
 pub entries_count : {Key Id Name : Type 0} (m : Meaning Key Id Name) (x : InferCtxtInner Key) (k : VarKind) →
     length ((store_of m x).entries k) ≡ variables_in x k
-entries_count m x type_var = length-map x.types.items _
-entries_count m x int_var = length-map x.ints.items _
-entries_count m x float_var = length-map x.floats.items _
-entries_count m x const_var = length-map x.consts.items _
+entries_count m x type_var = entries_long m.ty x.types.items
+entries_count m x int_var = entries_long m.ty x.ints.items
+entries_count m x float_var = entries_long m.ty x.floats.items
+entries_count m x const_var = entries_long m.const_ x.consts.items
 entries_count m x region_var = length-map x.regions.items _
 
 -- What all smaller numbers are below is not smaller.

@@ -1,18 +1,14 @@
 -- What calls over a context show.
 use Rattle.std.specs.Prelude.{◌≡◌, ℕ, ◌<◌, Result, Ok, Err, None}
-use Rattle.relation_terms.specs.Heads.{VarKind, const_var, BoundKind, variable, bound}
-use Rattle.relation_terms.specs.Trees.{Tree, leaf, Assign, apply, Occurs}
+use Rattle.relation_terms.specs.Heads.{VarKind, type_var, const_var, BoundKind, variable, bound}
+use Rattle.relation_terms.specs.Trees.{Tree, leaf, apply, Occurs}
 use Rattle.relation_terms.specs.declared.terms.enums.Variance.TheVariants.{Invariant}
 use Rattle.relation_tools.specs.declared.error.TypeError.{TypeError}
 use Rattle.relation_tools.specs.declared.error.RelateFault.{RelateFault}
 use Rattle.relation_tools.specs.declared.error.RelateFault.TheVariants.{Memory, Budget, Unrelated}
-use Rattle.type_relations.specs.Relation.{Items, Interpretation, Rel, at}
-use Rattle.relation_terms.specs.Meaning.{Meaning}
-use Rattle.type_relations.specs.Stores.{Store, unbound, same_as, bound_to, entry_of, bound_term, resolved, Satisfies}
+use Rattle.type_relations.specs.Stores.{Store, unbound, same_as, bound_to, entry_of, bound_term, resolved}
 use Rattle.type_relations.specs.Steps.{LeadsTo, BindsTo, ChangesNothing, Instantiates, RefusesToInstantiate}
-use Rattle.type_relations.specs.Outcomes.{NoEqualTerms}
-use Rattle.type_relations.specs.Errors.{ErrorOf, StandsOutside}
-use Rattle.type_relations.specs.Lawful.{items_of}
+use Rattle.type_relations.specs.Errors.{StandsOutside}
 use Rattle.type_relations.specs.Parts.{IsFormed}
 
 -- The variable's entry leads to no other.
@@ -32,16 +28,15 @@ pub data IsShallow (st : Store) (t : Tree) : Type 0 where
   stays_bound : (k : BoundKind) (d i : ℕ) → t ≡ leaf (bound k d i) → IsShallow st t
   formed : IsFormed t → IsShallow st t
 
+-- What a type variable is found to be: a variable that has no term, or no type variable.
+pub data IsShallowTy (st : Store) (t : Tree) : Type 0 where
+  ty_root : (n : ℕ) → t ≡ leaf (variable type_var n) → bound_term st type_var n ≡ None → IsShallowTy st t
+  no_ty_variable : ((n : ℕ) → t ≡ leaf (variable type_var n) → ⊥) → IsShallowTy st t
+
 -- What resolving a constant shallowly comes to: a variable that has no term, or no variable.
 pub data IsShallowConst (st : Store) (t : Tree) : Type 0 where
   const_root : (n : ℕ) → t ≡ leaf (variable const_var n) → bound_term st const_var n ≡ None → IsShallowConst st t
   no_variable : ((k : VarKind) (n : ℕ) → t ≡ leaf (variable k n) → ⊥) → IsShallowConst st t
-
--- Two terms were made one: what satisfies the store after relates them, and what made them one tree satisfies it.
-pub record Unites (before after : Store) (a b : Tree) : Type 0 where
-  pub relates : (c : Items) (e : Tree) (w : Interpretation) (s : Assign) → Satisfies w after s →
-      Rel c w e (at Invariant) (apply s a) (apply s b)
-  pub keeps : (w : Interpretation) (s : Assign) → Satisfies w before s → apply s a ≡ apply s b → Satisfies w after s
 
 -- What binding a root of a kind to a term answers, in keys that mean trees.
 module _ {Key Id Name K : Type 0} (tree : K → Tree) where
@@ -63,13 +58,3 @@ module _ {Key Id Name K : Type 0} (tree : K → Tree) where
   StepsByInstantiating k before after n t (Err (Unrelated e)) = RefusesToInstantiate before after Invariant k n t
   StepsByInstantiating k before after n t (Err Budget) = ChangesNothing before after
   StepsByInstantiating k before after n t (Err Memory) = ChangesNothing before after
-
--- What relating two terms at invariance answers; nothing is claimed where memory ran out, and no instantiation is left where the
--- budget did. An error is one of a pair that was met, by what is recorded after.
-abbrev pub Answered : {X Key Id Name : Type 0} → Meaning Key Id Name → Store → Store → Tree → Tree →
-    Result X (RelateFault Key Id Name) → Type 0
-Answered m before after a b (Ok x) = Unites before after a b
-Answered m before after a b (Err (Unrelated e)) = NoEqualTerms before a b ×
-    ErrorOf m (items_of m) after Invariant e a b
-Answered m before after a b (Err Budget) = after.budget ≡ 0
-Answered m before after a b (Err Memory) = Unit {0}

@@ -3,5 +3,6 @@ pub mod Numbers
 pub mod Tables
 pub mod RefCtxt
 pub mod Remembering
+pub mod NumberVars
 pub mod Solving
 pub mod Answers

@@ -1,5 +1,5 @@
 -- What the tables of a context mean: the store that they record, and the invariant of a context.
-use Rattle.std.specs.Prelude.{◌≡◌, ℕ, ◌<◌, false, List, [], map, length, get_or}
+use Rattle.std.specs.Prelude.{◌≡◌, ◌≢◌, ℕ, ◌<◌, false, List, [], map, length, get_or}
 use Rattle.relation_terms.specs.Heads.{VarKind, type_var, int_var, float_var, const_var, region_var, variable}
 use Rattle.relation_terms.specs.Trees.{Tree, leaf, nil}
 use Rattle.relation_terms.specs.Meaning.{Meaning}
@@ -20,8 +20,10 @@ by_kind t i f c r float_var = f
 by_kind t i f c r const_var = c
 by_kind t i f c r region_var = r
 
--- What a variable of a kind may be bound to: a term that is no variable, of forms that relating has rules for.
+-- What a variable of a kind may be bound to, of forms that relating has rules for: a type variable to what is no type
+-- variable, so that also to one of integers or floats; any other to a term that is no variable.
 abbrev pub MayBeBoundTo : VarKind → Tree → Type 0
+MayBeBoundTo type_var t = ((n : ℕ) → t ≢ leaf (variable type_var n)) × IsCovered t
 MayBeBoundTo const_var t = IsFormedConst t × IsCovered t
 MayBeBoundTo k t = IsFormed t × IsCovered t
 

@@ -4,6 +4,7 @@ mod equating;
 mod inner;
 mod instantiating;
 mod memory;
+mod number_vars;
 mod numbers;
 mod reading;
 mod recording;

@@ -33,9 +33,9 @@ impl<I: Interner> RefCtxt<I> {
             Equates (store_of m self.old.inner) (store_of m self.new.inner) type_var (max a.0 b.0) (min a.0 b.0) }
     {
         if a.0 < b.0 {
-            link(self.inner.types.as_mut_slice(), b.0, a.0);
+            link(&mut self.inner.types, b.0, a.0);
         } else if b.0 < a.0 {
-            link(self.inner.types.as_mut_slice(), a.0, b.0);
+            link(&mut self.inner.types, a.0, b.0);
         }
     }
 
@@ -55,9 +55,9 @@ impl<I: Interner> RefCtxt<I> {
             Equates (store_of m self.old.inner) (store_of m self.new.inner) int_var (max a.0 b.0) (min a.0 b.0) }
     {
         if a.0 < b.0 {
-            link(self.inner.ints.as_mut_slice(), b.0, a.0);
+            link(&mut self.inner.ints, b.0, a.0);
         } else if b.0 < a.0 {
-            link(self.inner.ints.as_mut_slice(), a.0, b.0);
+            link(&mut self.inner.ints, a.0, b.0);
         }
     }
 
@@ -77,9 +77,9 @@ impl<I: Interner> RefCtxt<I> {
             Equates (store_of m self.old.inner) (store_of m self.new.inner) float_var (max a.0 b.0) (min a.0 b.0) }
     {
         if a.0 < b.0 {
-            link(self.inner.floats.as_mut_slice(), b.0, a.0);
+            link(&mut self.inner.floats, b.0, a.0);
         } else if b.0 < a.0 {
-            link(self.inner.floats.as_mut_slice(), a.0, b.0);
+            link(&mut self.inner.floats, a.0, b.0);
         }
     }
 
@@ -99,9 +99,9 @@ impl<I: Interner> RefCtxt<I> {
             Equates (store_of m self.old.inner) (store_of m self.new.inner) const_var (max a.0 b.0) (min a.0 b.0) }
     {
         if a.0 < b.0 {
-            link(self.inner.consts.as_mut_slice(), b.0, a.0);
+            link(&mut self.inner.consts, b.0, a.0);
         } else if b.0 < a.0 {
-            link(self.inner.consts.as_mut_slice(), a.0, b.0);
+            link(&mut self.inner.consts, a.0, b.0);
         }
     }
 
@@ -118,7 +118,7 @@ impl<I: Interner> RefCtxt<I> {
             int_var var.0 (int_value_tree value) }
     {
         let key = self.inner.numbers[int_value_place(value)];
-        bind(self.inner.ints.as_mut_slice(), var.0, key);
+        bind(&mut self.inner.ints, var.0, key);
     }
 
     /// Binds the root of a float variable to a float type, for nothing of the budget.
@@ -134,6 +134,6 @@ impl<I: Interner> RefCtxt<I> {
             float_var var.0 (float_value_tree value) }
     {
         let key = self.inner.numbers[float_value_place(value)];
-        bind(self.inner.floats.as_mut_slice(), var.0, key);
+        bind(&mut self.inner.floats, var.0, key);
     }
 }

@@ -1,12 +1,12 @@
 //! Binding type and constant variables of a context to what terms come to.
-ghost use Rattle.std.specs.Prelude.{◌≡◌, ◌<◌, IsTrue, IfOk, IfErr, length};
-ghost use Rattle.relation_terms.specs.Heads.{type_var, const_var};
-ghost use Rattle.relation_terms.specs.Trees.{known};
+ghost use Rattle.std.specs.Prelude.{◌≡◌, ◌≢◌, ℕ, ◌<◌, IsTrue, IfOk, IfErr, length};
+ghost use Rattle.relation_terms.specs.Heads.{type_var, const_var, variable};
+ghost use Rattle.relation_terms.specs.Trees.{leaf, known};
 ghost use Rattle.relation_terms.specs.Meaning.{Extends};
 ghost use Rattle.relation_tools.specs.Faults.{KnowsFault};
 ghost use Rattle.relation_tools.specs.declared.error.TypeError.TheVariants.{CyclicTy, CyclicConst};
 ghost use Rattle.type_relations.specs.Stores.{unbound, entry_of, IsTermIn};
-ghost use Rattle.type_relations.specs.Parts.{IsFormed, IsFormedConst};
+ghost use Rattle.type_relations.specs.Parts.{IsFormedConst};
 ghost use Rattle.type_relations.specs.Covered.{IsCovered};
 ghost use Rattle.relation_reference.specs.Tables.{IsLawful};
 ghost use Rattle.relation_reference.specs.RefCtxt.{store_in};
@@ -36,7 +36,8 @@ impl<I: Interner> RefCtxt<I> {
         requires target_unbound { entry_of (store_in I.meaning self.old) type_var target.0 ≡ unbound }
         requires source_known { IsTrue (known ((I.meaning self.old.interner).ty source.now)) }
         requires source_in { IsTermIn (store_in I.meaning self.old) ((I.meaning self.old.interner).ty source.now) }
-        requires source_formed { IsFormed ((I.meaning self.old.interner).ty source.now) }
+        requires source_no_variable { (n : ℕ) →
+            (I.meaning self.old.interner).ty source.now ≢ leaf (variable type_var n) }
         requires source_covered { IsCovered ((I.meaning self.old.interner).ty source.now) }
         ensures lawful { IsLawful (I.meaning self.new.interner) self.new.inner }
         ensures grown { Extends (I.meaning self.old.interner) (I.meaning self.new.interner) }
@@ -57,7 +58,7 @@ impl<I: Interner> RefCtxt<I> {
         if cyclic {
             return Err(RelateFault::Unrelated(TypeError::CyclicTy(bound)));
         }
-        bind(self.inner.types.as_mut_slice(), target.0, bound);
+        bind(&mut self.inner.types, target.0, bound);
         self.inner.budget -= 1;
         Ok(bound)
     }
@@ -99,7 +100,7 @@ impl<I: Interner> RefCtxt<I> {
         if cyclic {
             return Err(RelateFault::Unrelated(TypeError::CyclicConst(bound)));
         }
-        bind(self.inner.consts.as_mut_slice(), target.0, bound);
+        bind(&mut self.inner.consts, target.0, bound);
         self.inner.budget -= 1;
         Ok(bound)
     }

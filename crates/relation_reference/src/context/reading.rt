@@ -3,6 +3,7 @@ ghost use Rattle.std.specs.Prelude.{◌≡◌, ℕ, ◌<◌, IsTrue, IfSome, IfN
 ghost use Rattle.relation_terms.specs.Heads.{type_var, int_var, float_var, const_var, variable};
 ghost use Rattle.relation_terms.specs.Trees.{leaf, known};
 ghost use Rattle.relation_terms.specs.declared.terms.ty_kind.TyKind.TheVariants.{Infer};
+ghost use Rattle.relation_terms.specs.declared.terms.ty_kind.InferTy.TheVariants.{TyVar, IntVar, FloatVar};
 ghost use Rattle.relation_terms.specs.declared.terms.const_kind.ConstKind.TheVariants.{Infer as ConstInfer};
 ghost use Rattle.relation_terms.specs.declared.terms.const_kind.InferConst.TheVariants.{Var};
 ghost use Rattle.type_relations.specs.Covered.{IsCovered};
@@ -12,7 +13,7 @@ ghost use Rattle.type_relations.specs.Errors.{IsReadAs};
 ghost use Rattle.type_relations.specs.Parts.{IsFormedConst};
 ghost use Rattle.relation_reference.specs.Tables.{IsLawful};
 ghost use Rattle.relation_reference.specs.RefCtxt.{store_in};
-ghost use Rattle.relation_reference.specs.Answers.{IsRoot, IsShallow, IsShallowConst, HasBinding, HasNoBinding};
+ghost use Rattle.relation_reference.specs.Answers.{IsRoot, IsShallow, IsShallowTy, IsShallowConst, HasBinding, HasNoBinding};
 
 use crate::context::table::{probe, root_of, term_of};
 use crate::context::{RefCtxt, VariableValue};
@@ -20,13 +21,35 @@ use relation_terms::terms::{
     Const, ConstKind, ConstVid, FloatVid, InferConst, InferTy, IntVid, Interner, Ty, TyKind, TyVid,
 };
 
-// The variable, or the stand-in for one, that a form of a type is, or none.
-pub(crate) fn infer_ty<X, D, N>(kind: &TyKind<X, D, N>) -> Option<InferTy>
-    ensures is { IfSome result (λ v. kind.now ≡ Infer v) }
-    ensures is_none { IfNone result ((v : _) → kind.now ≡ Infer v → ⊥) }
+// The type variable that a form is, or none.
+pub(crate) fn ty_vid<X, D, N>(kind: &TyKind<X, D, N>) -> Option<TyVid>
+    ensures is { IfSome result (λ v. kind.now ≡ Infer (TyVar v)) }
+    ensures is_none { IfNone result ((v : _) → kind.now ≡ Infer (TyVar v) → ⊥) }
 {
     match kind {
-        TyKind::Infer(infer) => Some(*infer),
+        TyKind::Infer(InferTy::TyVar(vid)) => Some(*vid),
+        _ => None,
+    }
+}
+
+// The integer variable that a form is, or none.
+pub(crate) fn int_vid<X, D, N>(kind: &TyKind<X, D, N>) -> Option<IntVid>
+    ensures is { IfSome result (λ v. kind.now ≡ Infer (IntVar v)) }
+    ensures is_none { IfNone result ((v : _) → kind.now ≡ Infer (IntVar v) → ⊥) }
+{
+    match kind {
+        TyKind::Infer(InferTy::IntVar(vid)) => Some(*vid),
+        _ => None,
+    }
+}
+
+// The float variable that a form is, or none.
+pub(crate) fn float_vid<X, D, N>(kind: &TyKind<X, D, N>) -> Option<FloatVid>
+    ensures is { IfSome result (λ v. kind.now ≡ Infer (FloatVar v)) }
+    ensures is_none { IfNone result ((v : _) → kind.now ≡ Infer (FloatVar v) → ⊥) }
+{
+    match kind {
+        TyKind::Infer(InferTy::FloatVar(vid)) => Some(*vid),
         _ => None,
     }
 }
@@ -51,7 +74,7 @@ impl<I: Interner> RefCtxt<I> {
         ensures leads { LeadsTo (store_in I.meaning self.now) type_var var.0 result.0 }
         ensures root { IsRoot (store_in I.meaning self.now) type_var result.0 }
     {
-        TyVid(root_of(self.inner.types.as_slice(), var.0))
+        TyVid(root_of(&self.inner.types, var.0))
     }
 
     /// The root of an integer variable's class.
@@ -62,7 +85,7 @@ impl<I: Interner> RefCtxt<I> {
         ensures leads { LeadsTo (store_in I.meaning self.now) int_var var.0 result.0 }
         ensures root { IsRoot (store_in I.meaning self.now) int_var result.0 }
     {
-        IntVid(root_of(self.inner.ints.as_slice(), var.0))
+        IntVid(root_of(&self.inner.ints, var.0))
     }
 
     /// The root of a float variable's class.
@@ -73,7 +96,7 @@ impl<I: Interner> RefCtxt<I> {
         ensures leads { LeadsTo (store_in I.meaning self.now) float_var var.0 result.0 }
         ensures root { IsRoot (store_in I.meaning self.now) float_var result.0 }
     {
-        FloatVid(root_of(self.inner.floats.as_slice(), var.0))
+        FloatVid(root_of(&self.inner.floats, var.0))
     }
 
     /// The root of a constant variable's class.
@@ -84,7 +107,7 @@ impl<I: Interner> RefCtxt<I> {
         ensures leads { LeadsTo (store_in I.meaning self.now) const_var var.0 result.0 }
         ensures root { IsRoot (store_in I.meaning self.now) const_var result.0 }
     {
-        ConstVid(root_of(self.inner.consts.as_slice(), var.0))
+        ConstVid(root_of(&self.inner.consts, var.0))
     }
 
     /// The type that a type variable's class is bound to, or none.
@@ -96,7 +119,7 @@ impl<I: Interner> RefCtxt<I> {
         ensures unbound { IfNone result (HasNoBinding (store_in I.meaning self.now) type_var var.0) }
     {
         let root = self.root_ty_var(var);
-        match probe(self.inner.types.as_slice(), root.0) {
+        match probe(&self.inner.types, root.0) {
             VariableValue::Known(ty) => Some(ty),
             VariableValue::Unknown => None,
             VariableValue::SameAs(_) => unreachable!(),
@@ -110,10 +133,10 @@ impl<I: Interner> RefCtxt<I> {
         ensures sure { IsTrue (known ((I.meaning self.now.interner).ty result)) }
         ensures reads { let t = (I.meaning self.now.interner).ty result in
             IsReadAs (store_in I.meaning self.now) (leaf (variable type_var var.0)) t }
-        ensures shallow { IsShallow (store_in I.meaning self.now) ((I.meaning self.now.interner).ty result) }
+        ensures shallow { IsShallowTy (store_in I.meaning self.now) ((I.meaning self.now.interner).ty result) }
         ensures covered { IsCovered ((I.meaning self.now.interner).ty result) }
     {
-        term_of(self.inner.types.as_slice(), var.0)
+        term_of(&self.inner.types, var.0)
     }
 
     /// The type that an integer variable's class is bound to, or else the root of its class.
@@ -126,7 +149,7 @@ impl<I: Interner> RefCtxt<I> {
         ensures shallow { IsShallow (store_in I.meaning self.now) ((I.meaning self.now.interner).ty result) }
         ensures covered { IsCovered ((I.meaning self.now.interner).ty result) }
     {
-        term_of(self.inner.ints.as_slice(), var.0)
+        term_of(&self.inner.ints, var.0)
     }
 
     /// The type that a float variable's class is bound to, or else the root of its class.
@@ -139,7 +162,7 @@ impl<I: Interner> RefCtxt<I> {
         ensures shallow { IsShallow (store_in I.meaning self.now) ((I.meaning self.now.interner).ty result) }
         ensures covered { IsCovered ((I.meaning self.now.interner).ty result) }
     {
-        term_of(self.inner.floats.as_slice(), var.0)
+        term_of(&self.inner.floats, var.0)
     }
 
     /// The constant that a constant variable's class is bound to, or else the root of its class.
@@ -152,10 +175,50 @@ impl<I: Interner> RefCtxt<I> {
         ensures shallow { IsShallowConst (store_in I.meaning self.now) ((I.meaning self.now.interner).const_ result) }
         ensures covered { IsCovered ((I.meaning self.now.interner).const_ result) }
     {
-        term_of(self.inner.consts.as_slice(), var.0)
+        term_of(&self.inner.consts, var.0)
     }
 
-    /// The type itself, or for a variable the type that its class is bound to, or else the root of its class.
+    // The type itself, or for a type variable what it is found to be.
+    fn shallow_ty(&self, ty: &Ty<I>) -> Ty<I>
+        requires lawful { IsLawful (I.meaning self.now.interner) self.now.inner }
+        requires ty_known { IsTrue (known ((I.meaning self.now.interner).ty ty.now)) }
+        requires ty_in { InContext (store_in I.meaning self.now) ((I.meaning self.now.interner).ty ty.now) }
+        ensures sure { IsTrue (known ((I.meaning self.now.interner).ty result)) }
+        ensures reads { let m = I.meaning self.now.interner in
+            IsReadAs (store_in I.meaning self.now) (m.ty ty.now) (m.ty result) }
+        ensures shallow { IsShallowTy (store_in I.meaning self.now) ((I.meaning self.now.interner).ty result) }
+        ensures covered { let m = I.meaning self.now.interner in IsCovered (m.ty ty.now) → IsCovered (m.ty result) }
+    {
+        let Some(var) = ty_vid(&self.interner.ty_kind(ty)) else {
+            return *ty;
+        };
+        self.opportunistic_resolve_ty_var(var)
+    }
+
+    // The type itself, or for an integer or float variable what its class is bound to, or else the root of its class.
+    fn shallow_number(&self, ty: &Ty<I>) -> Ty<I>
+        requires lawful { IsLawful (I.meaning self.now.interner) self.now.inner }
+        requires ty_known { IsTrue (known ((I.meaning self.now.interner).ty ty.now)) }
+        requires ty_in { InContext (store_in I.meaning self.now) ((I.meaning self.now.interner).ty ty.now) }
+        requires ty_shallow { IsShallowTy (store_in I.meaning self.now) ((I.meaning self.now.interner).ty ty.now) }
+        ensures sure { IsTrue (known ((I.meaning self.now.interner).ty result)) }
+        ensures reads { let m = I.meaning self.now.interner in
+            IsReadAs (store_in I.meaning self.now) (m.ty ty.now) (m.ty result) }
+        ensures shallow { IsShallow (store_in I.meaning self.now) ((I.meaning self.now.interner).ty result) }
+        ensures covered { let m = I.meaning self.now.interner in IsCovered (m.ty ty.now) → IsCovered (m.ty result) }
+    {
+        let kind = self.interner.ty_kind(ty);
+        if let Some(number) = int_vid(&kind) {
+            return self.opportunistic_resolve_int_var(number);
+        }
+        if let Some(float) = float_vid(&kind) {
+            return self.opportunistic_resolve_float_var(float);
+        }
+        *ty
+    }
+
+    /// The type itself, or for a variable the type that its class is bound to, or else the root of its class. A type
+    /// variable that is bound to an integer or float variable is read as that one is.
     pub fn shallow_resolve(&self, ty: &Ty<I>) -> Ty<I>
         requires lawful { IsLawful (I.meaning self.now.interner) self.now.inner }
         requires ty_known { IsTrue (known ((I.meaning self.now.interner).ty ty.now)) }
@@ -168,17 +231,8 @@ impl<I: Interner> RefCtxt<I> {
         ensures shallow { IsShallow (store_in I.meaning self.now) ((I.meaning self.now.interner).ty result) }
         ensures covered { let m = I.meaning self.now.interner in IsCovered (m.ty ty.now) → IsCovered (m.ty result) }
     {
-        let Some(infer) = infer_ty(&self.interner.ty_kind(ty)) else {
-            return *ty;
-        };
-        match infer {
-            InferTy::TyVar(var) => self.opportunistic_resolve_ty_var(var),
-            InferTy::IntVar(var) => self.opportunistic_resolve_int_var(var),
-            InferTy::FloatVar(var) => self.opportunistic_resolve_float_var(var),
-            InferTy::FreshTy(_) => *ty,
-            InferTy::FreshIntTy(_) => *ty,
-            InferTy::FreshFloatTy(_) => *ty,
-        }
+        let found = self.shallow_ty(ty);
+        self.shallow_number(&found)
     }
 
     /// The constant itself, or for a variable the constant that its class is bound to, or else the root of its class.
@@ -195,10 +249,10 @@ impl<I: Interner> RefCtxt<I> {
         ensures covered { let m = I.meaning self.now.interner in
             IsCovered (m.const_ constant.now) → IsCovered (m.const_ result) }
     {
-        match const_vid(&self.interner.const_kind(constant)) {
-            Some(var) => self.opportunistic_resolve_ct_var(var),
-            None => *constant,
-        }
+        let Some(var) = const_vid(&self.interner.const_kind(constant)) else {
+            return *constant;
+        };
+        self.opportunistic_resolve_ct_var(var)
     }
 
     // The type variable that a type is, or none.
@@ -208,10 +262,7 @@ impl<I: Interner> RefCtxt<I> {
         ensures is_none { IfNone result ((n : ℕ) →
             (I.meaning self.now.interner).ty ty.now ≡ leaf (variable type_var n) → ⊥) }
     {
-        match self.interner.ty_kind(ty) {
-            TyKind::Infer(InferTy::TyVar(vid)) => Some(vid),
-            _ => None,
-        }
+        ty_vid(&self.interner.ty_kind(ty))
     }
 
     // The constant variable that a constant is, or none.

@@ -13,10 +13,9 @@ ghost use Rattle.relation_reference.specs.Remembering.{Remembers, Lacks, vid_kin
 
 use crate::context::RefCtxt;
 use crate::context::memory::{Lacking, PartKey, Resolutions, TermVid, is_lacking, keep_lacking};
+use crate::context::reading::{const_vid, ty_vid};
 use relation_terms::terms::parts::{is_same, part, parts_count, the_const, the_ty, with_parts};
-use relation_terms::terms::{
-    Const, ConstKind, InferConst, InferTy, Interner, OutOfMemory, Part, PartOf, Ty, TyKind,
-};
+use relation_terms::terms::{Const, Interner, OutOfMemory, Part, PartOf, Ty};
 use std::collections::{HashMap, HashSet};
 
 // The type or constant variable that a term is, or none.
@@ -28,14 +27,8 @@ fn variable_of<I: Interner>(cx: &I, term: &PartOf<I>) -> Option<TermVid>
         part_tree (I.meaning cx.now) term.now ≡ leaf (variable (vid_kind v) (vid_number v)) → ⊥) }
 {
     match term {
-        Part::Ty(ty) => match cx.ty_kind(ty) {
-            TyKind::Infer(InferTy::TyVar(vid)) => Some(TermVid::Ty(vid)),
-            _ => None,
-        },
-        Part::Const(constant) => match cx.const_kind(constant) {
-            ConstKind::Infer(InferConst::Var(vid)) => Some(TermVid::Const(vid)),
-            _ => None,
-        },
+        Part::Ty(ty) => Some(TermVid::Ty(ty_vid(&cx.ty_kind(ty))?)),
+        Part::Const(constant) => Some(TermVid::Const(const_vid(&cx.const_kind(constant))?)),
         _ => None,
     }
 }

@@ -8,17 +8,17 @@ use crate::context::{Variable, VariableValue};
 use relation_terms::terms::UniverseIndex;
 
 // What is recorded of a variable.
-pub(crate) fn probe<K: Copy>(table: &[Variable<K>], v: usize) -> VariableValue<K>
-    requires { v < length table.now }
-    ensures { result ≡ value_at table.now v }
+pub(crate) fn probe<K: Copy>(table: &Vec<Variable<K>>, v: usize) -> VariableValue<K>
+    requires { v < length table.now.items }
+    ensures { result ≡ value_at table.now.items v }
 {
     table[v].value
 }
 
 // The root of a variable's class.
-pub(crate) fn root_of<K: Copy>(table: &[Variable<K>], v: usize) -> usize
-    requires { v < length table.now }
-    ensures { result ≡ root_at table.now v }
+pub(crate) fn root_of<K: Copy>(table: &Vec<Variable<K>>, v: usize) -> usize
+    requires { v < length table.now.items }
+    ensures { result ≡ root_at table.now.items v }
 {
     match &table[v].value {
         VariableValue::SameAs(root) => *root,
@@ -28,10 +28,10 @@ pub(crate) fn root_of<K: Copy>(table: &[Variable<K>], v: usize) -> usize
 }
 
 // The term that a variable's class is bound to, or else the key of its root.
-pub(crate) fn term_of<K: Copy>(table: &[Variable<K>], v: usize) -> K
-    requires made { v < length table.now }
-    requires root_made { root_at table.now v < length table.now }
-    ensures { (d : _) → result ≡ term_at (get_or table.now (root_at table.now v) d) }
+pub(crate) fn term_of<K: Copy>(table: &Vec<Variable<K>>, v: usize) -> K
+    requires made { v < length table.now.items }
+    requires root_made { root_at table.now.items v < length table.now.items }
+    ensures { (d : _) → result ≡ term_at (get_or table.now.items (root_at table.now.items v) d) }
 {
     let root = root_of(table, v);
     match &table[root].value {
@@ -70,26 +70,26 @@ fn smaller(a: usize, b: usize) -> usize
 }
 
 // Makes a root and all of its class lead to one of a smaller number, which gets the smaller of both universes.
-pub(crate) fn link<K: Copy>(table: &mut [Variable<K>], child: usize, root: usize)
-    requires made { child < length table.old }
+pub(crate) fn link<K: Copy>(table: &mut Vec<Variable<K>>, child: usize, root: usize)
+    requires made { child < length table.old.items }
     requires smaller { root < child }
-    ensures keys { keys_of table.new ≡ keys_of table.old }
-    ensures values { values_of table.new ≡ slice_set (map (led child root) (values_of table.old)) child (SameAs root) }
-    ensures universes { let lowered = min (universe_at table.old child) (universe_at table.old root) in
-        universes_of table.new ≡ slice_set (universes_of table.old) root lowered }
+    ensures keys { keys_of table.new.items ≡ keys_of table.old.items }
+    ensures values { values_of table.new.items ≡ slice_set (map (led child root) (values_of table.old.items)) child (SameAs root) }
+    ensures universes { let lowered = min (universe_at table.old.items child) (universe_at table.old.items root) in
+        universes_of table.new.items ≡ slice_set (universes_of table.old.items) root lowered }
 {
     let universe = smaller(table[child].universe.0, table[root].universe.0);
-    lead_all(table, child, root);
+    lead_all(table.as_mut_slice(), child, root);
     table[child].value = VariableValue::SameAs(root);
     table[root].universe = UniverseIndex(universe);
 }
 
 // Binds a root to a term.
-pub(crate) fn bind<K: Copy>(table: &mut [Variable<K>], v: usize, term: K)
-    requires { v < length table.old }
-    ensures keys { keys_of table.new ≡ keys_of table.old }
-    ensures values { values_of table.new ≡ slice_set (values_of table.old) v (Known term) }
-    ensures universes { universes_of table.new ≡ universes_of table.old }
+pub(crate) fn bind<K: Copy>(table: &mut Vec<Variable<K>>, v: usize, term: K)
+    requires { v < length table.old.items }
+    ensures keys { keys_of table.new.items ≡ keys_of table.old.items }
+    ensures values { values_of table.new.items ≡ slice_set (values_of table.old.items) v (Known term) }
+    ensures universes { universes_of table.new.items ≡ universes_of table.old.items }
 {
     table[v].value = VariableValue::Known(term);
 }

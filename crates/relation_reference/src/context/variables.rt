@@ -7,13 +7,34 @@ ghost use Rattle.relation_reference.specs.RefCtxt.{IsNew};
 use crate::context::InferCtxtInner;
 use crate::context::numbers::number_keys;
 use relation_terms::predicate::RegionConstraint;
-use relation_terms::terms::{Interner, OutOfMemory, UniverseIndex};
+use relation_terms::terms::{Interner, OutOfMemory, TyKey, UniverseIndex};
+use std::alloc::Global;
 
 /// An inference context: an interner, and what is recorded of variables and regions.
 #[derive(Drop)]
 pub struct RefCtxt<I: Interner> {
     pub interner: I,
     pub inner: InferCtxtInner<I::Key>,
+}
+
+// Tables without variables and constraints, at the first universe.
+fn empty_tables<X>(alloc: Global, budget: usize, numbers: Vec<TyKey<X>>) -> InferCtxtInner<X>
+    ensures new { IsNew result }
+    ensures first_universe { result.universe.0 ≡ 0 }
+    ensures budget { result.budget ≡ budget }
+    ensures numbers { result.numbers ≡ numbers }
+{
+    InferCtxtInner {
+        types: Vec::new(alloc),
+        ints: Vec::new(alloc),
+        floats: Vec::new(alloc),
+        consts: Vec::new(alloc),
+        regions: Vec::new(alloc),
+        constraints: Vec::new(alloc),
+        universe: UniverseIndex(0),
+        budget,
+        numbers,
+    }
 }
 
 impl<I: Interner + Drop> RefCtxt<I> {
@@ -30,21 +51,8 @@ impl<I: Interner + Drop> RefCtxt<I> {
     {
         let mut interner = interner;
         let numbers = number_keys(&mut interner)?;
-        let alloc = interner.alloc();
-        Ok(RefCtxt {
-            interner,
-            inner: InferCtxtInner {
-                types: Vec::new(alloc),
-                ints: Vec::new(alloc),
-                floats: Vec::new(alloc),
-                consts: Vec::new(alloc),
-                regions: Vec::new(alloc),
-                constraints: Vec::new(alloc),
-                universe: UniverseIndex(0),
-                budget,
-                numbers,
-            },
-        })
+        let inner = empty_tables(interner.alloc(), budget, numbers);
+        Ok(RefCtxt { interner, inner })
     }
 }
 
@@ -57,22 +65,9 @@ impl<I: Interner> RefCtxt<I> {
         ensures new { IsNew result.inner }
         ensures budget { result.inner.budget ≡ budget }
     {
-        let alloc = self.interner.alloc();
         let RefCtxt { interner, inner } = self;
-        RefCtxt {
-            interner,
-            inner: InferCtxtInner {
-                types: Vec::new(alloc),
-                ints: Vec::new(alloc),
-                floats: Vec::new(alloc),
-                consts: Vec::new(alloc),
-                regions: Vec::new(alloc),
-                constraints: Vec::new(alloc),
-                universe: UniverseIndex(0),
-                budget,
-                numbers: inner.numbers,
-            },
-        }
+        let inner = empty_tables(interner.alloc(), budget, inner.numbers);
+        RefCtxt { interner, inner }
     }
 
     /// How many instantiations may still be made.
@@ -89,7 +84,8 @@ impl<I: Interner> RefCtxt<I> {
         ensures lawful { IsLawful (I.meaning self.old.interner) self.new.inner }
         ensures sets { self.new.inner ≡ record self.old.inner { budget = budget } }
     {
-        self.inner.budget = budget;
+        let inner = &mut self.inner;
+        inner.budget = budget;
     }
 
     /// The constraints on regions, in the order in which they were recorded, repeats among them.
