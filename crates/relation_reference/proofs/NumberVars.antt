@@ -28,6 +28,10 @@ pub is_number : (v : NumberVid) → IsNumber (number_kind v)
 is_number (vid.Int v) = tt
 is_number (vid.Float v) = tt
 
+pub none_of_kind : (v : NumberVid) (t : Tree) → IsNoNumberVar t → (n : ℕ) → t ≢ leaf (variable (number_kind v) n)
+none_of_kind (vid.Int v) t h n e = h.0 n e
+none_of_kind (vid.Float v) t h n e = h.1 n e
+
 infer_number : (v : NumberVid) → infer_tree (infer_of v) ≡ number_tree v
 infer_number (vid.Int v) = refl
 infer_number (vid.Float v) = refl

@@ -106,16 +106,16 @@ returns-in-Some-const_var g c =
     c.requires.lawful.1 c.requires.lawful.0 done.lawful done.same done.equates c.in-Some.ensures.is
     c.in-Some-const_var.ensures.is (ap (λ z. z.const_ c.args.a.now) same)
 
-pub returns-in_err-bound-in-None-const_var : goal.returns-in_err-bound-in-None-const_var
-returns-in_err-bound-in-None-const_var g c =
+pub returns-in_err-value-in-None-const_var : goal.returns-in_err-value-in-None-const_var
+returns-in_err-value-in-None-const_var g c =
     let r = c.args.self.now in
     let x = r.infcx.now.inner in
     let m = g.I.Interner.meaning r.infcx.now.interner in
     let k = c.requires.asked in
     let q = c.instantiate_const_var_raw.new.self in
     let o = g.I.Interner.meaning q.interner in
-    let f = c.in_err-bound-in-None-const_var.field-0.0 in
-    let h = c.in_err-bound-in-None-const_var.ensures in
+    let f = c.in_err-value-in-None-const_var.field-0.0 in
+    let h = c.in_err-value-in-None-const_var.ensures in
     let t = m.const_ c.args.b.now in
     let differs = (formed_apart r.infcx.ghost_name (resolved (store_of m x)) t const_var c.in-Some.x.0
     (c.in-None-const_var.ensures.formed k.right_taken.1)) in
@@ -130,23 +130,23 @@ returns-in_err-bound-in-None-const_var g c =
     c.requires.lawful.1 h.lawful const_var c.in-Some.x.0 t o.const_ o.const_ CyclicConst
     (const_cycles r.infcx.ghost_name o (store_of m x) c.in-Some.x.0 t differs) f h.why_known h.answers h.steps))
 
-pub returns-in_err-bound-in-Some-const_var-2 : goal.returns-in_err-bound-in-Some-const_var-2
-returns-in_err-bound-in-Some-const_var-2 g c =
+pub returns-in_err-value-in-Some-const_var-2 : goal.returns-in_err-value-in-Some-const_var-2
+returns-in_err-value-in-Some-const_var-2 g c =
     let r = c.args.self.now in
     let x = r.infcx.now.inner in
     let m = g.I.Interner.meaning r.infcx.now.interner in
     let k = c.requires.asked in
     let q = c.instantiate_const_var_raw-in-Some-const_var-2.new.self in
     let o = g.I.Interner.meaning q.interner in
-    let f = c.in_err-bound-in-Some-const_var-2.field-0.0 in
-    let h = c.in_err-bound-in-Some-const_var-2.ensures in
+    let f = c.in_err-value-in-Some-const_var-2.field-0.0 in
+    let h = c.in_err-value-in-Some-const_var-2.ensures in
     let t = m.const_ c.args.a.now in
     let differs = (formed_apart r.infcx.ghost_name (resolved (store_of m x)) t const_var c.in-Some-const_var-2.y.0
     (c.in-None.ensures.formed k.left_taken.1)) in
     subst (λ res. Stepped solver_manner IsFormedConst (solving r.infcx.ghost_name m x r.ambient_variance r.param_env)
     (solving r.infcx.ghost_name o q.inner r.ambient_variance r.param_env) (m.const_ c.args.a.now)
     (m.const_ c.args.b.now) o.const_ res)
-    (sym (as_err c.from_residual-in_err-bound-in-Some-const_var-2.result f c.from_residual-in_err-bound-in-Some-const_var-2.ensures.0 c.from_residual-in_err-bound-in-Some-const_var-2.ensures.1))
+    (sym (as_err c.from_residual-in_err-value-in-Some-const_var-2.result f c.from_residual-in_err-value-in-Some-const_var-2.ensures.0 c.from_residual-in_err-value-in-Some-const_var-2.ensures.1))
     (subst (λ l. Stepped solver_manner IsFormedConst (solving r.infcx.ghost_name m x r.ambient_variance r.param_env)
     (solving r.infcx.ghost_name o q.inner r.ambient_variance r.param_env) t l o.const_ (Err f))
     (sym c.in-Some-const_var-2.ensures.is)
@@ -154,16 +154,16 @@ returns-in_err-bound-in-Some-const_var-2 g c =
     c.requires.lawful.1 h.lawful const_var c.in-Some-const_var-2.y.0 t o.const_ o.const_ CyclicConst
     (const_cycles r.infcx.ghost_name o (store_of m x) c.in-Some-const_var-2.y.0 t differs) f h.why_known h.answers h.steps))
 
-pub returns-in_ok-bound-in-None-const_var : goal.returns-in_ok-bound-in-None-const_var
-returns-in_ok-bound-in-None-const_var g c =
+pub returns-in_ok-value-in-None-const_var : goal.returns-in_ok-value-in-None-const_var
+returns-in_ok-value-in-None-const_var g c =
     let r = c.args.self.now in
     let x = r.infcx.now.inner in
     let m = g.I.Interner.meaning r.infcx.now.interner in
     let k = c.requires.asked in
     let q = c.instantiate_const_var_raw.new.self in
     let o = g.I.Interner.meaning q.interner in
-    let z = c.in_ok-bound-in-None-const_var.bound in
-    let h = c.in_ok-bound-in-None-const_var.ensures in
+    let z = c.in_ok-value-in-None-const_var.value in
+    let h = c.in_ok-value-in-None-const_var.ensures in
     let t = m.const_ c.args.b.now in
     let is = c.in-Some.ensures.is in
     let root_stays : o.const_ c.args.a.now ≡ leaf (variable const_var c.in-Some.x.0) =
@@ -181,16 +181,16 @@ returns-in_ok-bound-in-None-const_var g c =
     k.left_taken)
     c.args.a.now c.args.b.now z c.args.b.now c.args.b.now Invariant o.const_ root_stays t_stays refl t_stays (inr t_stays))
 
-pub returns-in_ok-bound-in-Some-const_var-2 : goal.returns-in_ok-bound-in-Some-const_var-2
-returns-in_ok-bound-in-Some-const_var-2 g c =
+pub returns-in_ok-value-in-Some-const_var-2 : goal.returns-in_ok-value-in-Some-const_var-2
+returns-in_ok-value-in-Some-const_var-2 g c =
     let r = c.args.self.now in
     let x = r.infcx.now.inner in
     let m = g.I.Interner.meaning r.infcx.now.interner in
     let k = c.requires.asked in
     let q = c.instantiate_const_var_raw-in-Some-const_var-2.new.self in
     let o = g.I.Interner.meaning q.interner in
-    let z = c.in_ok-bound-in-Some-const_var-2.bound in
-    let h = c.in_ok-bound-in-Some-const_var-2.ensures in
+    let z = c.in_ok-value-in-Some-const_var-2.value in
+    let h = c.in_ok-value-in-Some-const_var-2.ensures in
     let t = m.const_ c.args.a.now in
     let is = c.in-Some-const_var-2.ensures.is in
     let root_stays : o.const_ c.args.b.now ≡ leaf (variable const_var c.in-Some-const_var-2.y.0) =
