@@ -14,7 +14,8 @@ use Rattle.relation_terms.specs.declared.terms.keys.ConstKey.{ConstKey}
 use Rattle.relation_terms.specs.declared.terms.keys.RegionKey.{RegionKey}
 use Rattle.relation_terms.specs.declared.terms.keys.ParamEnvKey.{ParamEnvKey}
 use Rattle.relation_terms.specs.Heads.{type_sort, VarKind, type_var, region_var, const_var, int_var, float_var, atom, variable}
-use Rattle.relation_terms.specs.Trees.{Tree, leaf, Assign, apply, Leaves, IsTerm, known, Occurs}
+use Rattle.relation_terms.specs.Heads.{bound, placeholder, unknown}
+use Rattle.relation_terms.specs.Trees.{Tree, leaf, node, bind, nil, cons, Assign, apply, Leaves, IsTerm, known, Occurs}
 use Rattle.relation_terms.specs.Erasure.{erase}
 use Rattle.relation_terms.specs.Meaning.{Meaning, Extends}
 use Rattle.relation_terms.proofs.Stays.{stays_same}
@@ -35,6 +36,7 @@ use Rattle.type_relations.specs.Measures.{Goes}
 use Rattle.type_relations.specs.Errors.{ErrorOf, BindingError, StandsOutside, cyclic_ty, cyclic_const, of_binding}
 use Rattle.type_relations.specs.Errors.{of_binding_back, of_entries, IsReadAs, itself, by_class, by_binding}
 use Rattle.type_relations.specs.ErasureLaws.{IsTypeOrConst}
+use Rattle.type_relations.specs.Parts.{IsFormedConst}
 use Rattle.type_relations.specs.FirstOrder.{IsFirstOrder, IsFirstOrderStore}
 use Rattle.type_relations.specs.Constraints.{constraint_at, constraint_of, asked_constraints}
 use Rattle.type_relations.specs.Taken.{IsFixedVariable, IsFixedLeaf, IsTakenLeaf}
@@ -652,6 +654,18 @@ module _ {Key Id Name : Type 0} (j : ℕ) where
       n.const_ c ≡ apply (resolved st) t → StandsOutside (variable const_var target) (n.const_ c) →
       BindingError n st (leaf (variable const_var target)) t (CyclicConst c)
   const_cycles n st target t o c e h = cyclic_const target c refl e (h, λ q. o (sym e ∙ q)) refl
+
+  -- What a constant of a form comes to is no variable.
+  pub formed_apart : (s : Assign) (t : Tree) (k : VarKind) (n : ℕ) → IsFormedConst t → apply s t ≢ leaf (variable k n)
+  formed_apart s (leaf (atom x)) k n f h = cc
+  formed_apart s (leaf (placeholder q u i)) k n f h = cc
+  formed_apart s (leaf (variable i p)) k n f h = f
+  formed_apart s (leaf (bound q d i)) k n f h = f
+  formed_apart s (leaf unknown) k n f h = f
+  formed_apart s (node i ts) k n f h = cc
+  formed_apart s (bind ks t) k n f h = f
+  formed_apart s nil k n f h = f
+  formed_apart s (cons t ts) k n f h = f
 
   -- What a relation leaves as it was need not be named, nor the reference that it held.
   module _ {X : Type 0} (m n : Meaning Key Id Name) (x y : InferCtxtInner Key) (v w : Variance) (e f : ParamEnvKey Key)
