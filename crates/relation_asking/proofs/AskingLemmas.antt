@@ -1,19 +1,19 @@
 -- Terms that are ready, and contexts that have what they need.
 use Rattle.std.proofs.Common.{◌≡◌, ◌≢◌, ℕ, ◌<◌, sym, subst, arith, List, [], ◌∷◌, Option, Some, map, slice_get, refl}
 use Rattle.std.proofs.Common.{IsTrue}
-use Rattle.std.proofs.lemmas.List.{length-map}
 use Rattle.std.proofs.lemmas.Bool.{and_parts}
 use Rattle.relation_terms.specs.declared.terms.enums.Variance.{Variance}
 use Rattle.relation_terms.specs.declared.terms.enums.Variance.TheVariants.{Covariant, Contravariant, Invariant, Bivariant}
 use Rattle.relation_terms.specs.declared.terms.generic_arg.GenericArgKind.{GenericArgKind}
-use Rattle.relation_terms.specs.Heads.{arguments}
+use Rattle.relation_terms.specs.Heads.{arguments, VarKind, type_var, int_var, float_var, const_var, region_var}
 use Rattle.relation_terms.specs.Trees.{Tree, node, known, list_tree}
 use Rattle.relation_terms.specs.Meaning.{Meaning, Extends, arg_tree}
 use Rattle.relation_terms.proofs.Stays.{stays_arg}
 use Rattle.type_relations.specs.Stores.{IsTermIn}
-use Rattle.type_relations.specs.Taken.{IsTaken}
 use Rattle.relation_reference.specs.declared.context.inner.InferCtxtInner.{InferCtxtInner}
 use Rattle.relation_reference.specs.Tables.{store_of}
+use Rattle.relation_asking.proofs.Counting.{entries_count}
+use Rattle.type_relations.specs.Taken.{IsTaken}
 use Rattle.relation_asking.specs.declared.needs.Needs.{Needs}
 use Rattle.relation_text.specs.declared.naming.program.Term.{Term}
 use Rattle.relation_text.specs.Terms.{at, trees_of}
@@ -22,7 +22,7 @@ use Rattle.relation_text.specs.declared.naming.program.Put.{Put}
 use Rattle.relation_asking.specs.Meets.{AllKnown}
 use Rattle.relation_asking.specs.Puts.{AreMade, ArePuts}
 use Rattle.relation_asking.proofs.MeetLemmas.{and_both}
-use Rattle.relation_asking.specs.Needs.{Allows, both_needs, need_at, needs_with, needs_of}
+use Rattle.relation_asking.specs.Needs.{Allows, Reaches, largest, both_needs, need_at, needs_with, needs_of}
 use Rattle.relation_asking.specs.Asking.{IsReady, AreReady, Has, MayBeAsked}
 use Rattle.type_relations.specs.Covered.{IsCovered}
 use Rattle.relation_asking.proofs.CoverLemmas.{all_covered, rules_before}
@@ -45,18 +45,30 @@ pub as_arguments : (needs : Needs) (t : Tree) → IsReady needs t → IsReady ne
 as_arguments needs t h = (h.0, (h.1.0, λ rules. (tt, h.1.1 rules)))
 
 -- What has what is needed for both has it for each.
+reaches_in_left : (a b : Needs) (k : VarKind) (i : ℕ) → Reaches (largest a k) i → Reaches (largest (both_needs a b) k) i
+reaches_in_left a b type_var i r = reaches_left a.types b.types i r
+reaches_in_left a b int_var i r = reaches_left a.ints b.ints i r
+reaches_in_left a b float_var i r = reaches_left a.floats b.floats i r
+reaches_in_left a b const_var i r = reaches_left a.consts b.consts i r
+reaches_in_left a b region_var i r = reaches_left a.regions b.regions i r
+
+reaches_in_right : (a b : Needs) (k : VarKind) (i : ℕ) → Reaches (largest b k) i → Reaches (largest (both_needs a b) k) i
+reaches_in_right a b type_var i r = reaches_right a.types b.types i r
+reaches_in_right a b int_var i r = reaches_right a.ints b.ints i r
+reaches_in_right a b float_var i r = reaches_right a.floats b.floats i r
+reaches_in_right a b const_var i r = reaches_right a.consts b.consts i r
+reaches_in_right a b region_var i r = reaches_right a.regions b.regions i r
+
 module _ {Key : Type 0} (x : InferCtxtInner Key) (a b : Needs) (h : Has x (both_needs a b)) where
   pub has_left : Has x a
   has_left = record {
-    types = λ i r. h.types i (reaches_left a.types b.types i r);
-    regions = λ i r. h.regions i (reaches_left a.regions b.regions i r);
+    variables = λ k i r. h.variables k i (reaches_in_left a b k i r);
     universe = (let u = h.universe in omega (arith, u));
   }
 
   pub has_right : Has x b
   has_right = record {
-    types = λ i r. h.types i (reaches_right a.types b.types i r);
-    regions = λ i r. h.regions i (reaches_right a.regions b.regions i r);
+    variables = λ k i r. h.variables k i (reaches_in_right a b k i r);
     universe = (let u = h.universe in omega (arith, u));
   }
 
@@ -64,8 +76,7 @@ module _ {Key : Type 0} (x : InferCtxtInner Key) (a b : Needs) (h : Has x (both_
 pub ready_in : {Key Id Name : Type 0} (m : Meaning Key Id Name) (x : InferCtxtInner Key) (n : Needs) → Has x n →
     (t : Tree) → IsTrue n.has_rules → IsReady n t → IsTermIn (store_of m x) t
 ready_in m x n h t k r = allowed_in (store_of m x) n
-    (λ i k. subst (λ l. i < l) (sym (length-map x.types.items _)) (h.types i k))
-    (λ i k. subst (λ l. i < l) (sym (length-map x.regions.items _)) (h.regions i k)) h.universe k t r.0 r.1.0
+    (λ v i o. subst (λ l. i < l) (sym (entries_count m x v)) (h.variables v i o)) h.universe k t r.0 r.1.0
 
 -- What may be asked.
 pub left_taken : (v : Variance) (a b : Needs) (t : Tree) → MayBeAsked v a b → IsTrue a.has_rules → IsReady a t →

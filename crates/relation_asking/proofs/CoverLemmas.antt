@@ -86,8 +86,8 @@ module _ (items names parts : List ℕ) where
   term_covered ts ns h (term.TyParam i n) k r = leaf_covered _ (λ x. tt) (slice_get names n) k
   term_covered ts ns h (term.TyPlaceholder u v n) k r = leaf_covered _ (λ x. tt) (slice_get names n) k
   term_covered ts ns h (term.TyVar n) k r = tt
-  term_covered ts ns h (term.IntVar n) k r = absurd (false≢true r)
-  term_covered ts ns h (term.FloatVar n) k r = absurd (false≢true r)
+  term_covered ts ns h (term.IntVar n) k r = tt
+  term_covered ts ns h (term.FloatVar n) k r = tt
   term_covered ts ns h term.TyError k r = absurd (false≢true r)
   term_covered ts ns h (term.Pat t p) k r = absurd (false≢true r)
   term_covered ts ns h term.Static k r = tt
@@ -96,7 +96,7 @@ module _ (items names parts : List ℕ) where
   term_covered ts ns h (term.RegionPlaceholder u v n) k r = leaf_covered _ (λ x. tt) (slice_get names n) k
   term_covered ts ns h (term.ConstParam i n) k r = leaf_covered _ (λ x. tt) (slice_get names n) k
   term_covered ts ns h (term.ConstPlaceholder u v n) k r = leaf_covered _ (λ x. tt) (slice_get names n) k
-  term_covered ts ns h (term.ConstVar n) k r = absurd (false≢true r)
+  term_covered ts ns h (term.ConstVar n) k r = tt
   term_covered ts ns h term.ConstError k r = absurd (false≢true r)
   term_covered ts ns h (term.Number t b n) k r =
       let p = and_parts (known (at ts t) && true) true k in

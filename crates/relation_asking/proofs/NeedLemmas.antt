@@ -8,7 +8,7 @@ use Rattle.std.proofs.lemmas.Option.{slice_get_within, get_or_from_slice_get, sl
 use Rattle.std.proofs.lemmas.Bool.{and_parts, false≢true}
 use Rattle.relation_terms.specs.declared.terms.enums.Variance.{Variance}
 use Rattle.relation_terms.specs.declared.terms.enums.Variance.TheVariants.{Covariant, Contravariant, Invariant, Bivariant}
-use Rattle.relation_terms.specs.Heads.{Head, existential_trait, existential_projection, Leaf, BoundKind, type_var, region_var, int_var, float_var, const_var}
+use Rattle.relation_terms.specs.Heads.{VarKind, Head, existential_trait, existential_projection, Leaf, BoundKind, type_var, region_var, int_var, float_var, const_var}
 use Rattle.relation_terms.specs.Heads.{variable, bound, placeholder, atom, unknown}
 use Rattle.relation_terms.specs.Trees.{Tree, leaf, node, bind, nil, cons, Leaves, known, list_tree, front, last}
 use Rattle.relation_terms.specs.Meaning.{under}
@@ -25,7 +25,8 @@ use Rattle.relation_text.specs.declared.naming.program.Term.TheVariants as term
 use Rattle.relation_text.specs.Terms.{at, parts_tree, leaf_of, item_tree, term_tree, trees_from, trees_of}
 use Rattle.relation_text.specs.Terms.{variables_of, fn_ptr_tree, head_of, object_tree}
 use Rattle.relation_asking.specs.Needs.{larger, both_needs, no_needs, universe_need, without_rules, need_at, needs_with}
-use Rattle.relation_asking.specs.Needs.{item_need, parts_need, term_need, needs_from, needs_of, Reaches, IsEnough, Allows, AreEnough}
+use Rattle.relation_asking.specs.Asking.{NeedsNoVariable}
+use Rattle.relation_asking.specs.Needs.{item_need, parts_need, term_need, needs_from, needs_of, Reaches, largest, IsEnough, Allows, AreEnough}
 
 some_is_there : {x : ℕ} → Some x ≡ None → ⊥
 some_is_there e = cc
@@ -57,10 +58,10 @@ reaches_right (Some a) (Some b) i h = max_right a b i h
 -- What is enough for either is enough for both.
 enough_left : (a b : Needs) (l : Leaf) → IsEnough a l → IsEnough (both_needs a b) l
 enough_left a b (variable type_var i) h = reaches_left a.types b.types i h
+enough_left a b (variable int_var i) h = reaches_left a.ints b.ints i h
+enough_left a b (variable float_var i) h = reaches_left a.floats b.floats i h
+enough_left a b (variable const_var i) h = reaches_left a.consts b.consts i h
 enough_left a b (variable region_var i) h = reaches_left a.regions b.regions i h
-enough_left a b (variable int_var i) h = false_left a.has_rules b.has_rules h
-enough_left a b (variable float_var i) h = false_left a.has_rules b.has_rules h
-enough_left a b (variable const_var i) h = false_left a.has_rules b.has_rules h
 enough_left a b (bound k d i) h = false_left a.has_rules b.has_rules h
 enough_left a b (placeholder k u i) h = max_left a.universe b.universe u h
 enough_left a b (atom x) h = h
@@ -68,10 +69,10 @@ enough_left a b unknown h = tt
 
 enough_right : (a b : Needs) (l : Leaf) → IsEnough b l → IsEnough (both_needs a b) l
 enough_right a b (variable type_var i) h = reaches_right a.types b.types i h
+enough_right a b (variable int_var i) h = reaches_right a.ints b.ints i h
+enough_right a b (variable float_var i) h = reaches_right a.floats b.floats i h
+enough_right a b (variable const_var i) h = reaches_right a.consts b.consts i h
 enough_right a b (variable region_var i) h = reaches_right a.regions b.regions i h
-enough_right a b (variable int_var i) h = false_right a.has_rules b.has_rules h
-enough_right a b (variable float_var i) h = false_right a.has_rules b.has_rules h
-enough_right a b (variable const_var i) h = false_right a.has_rules b.has_rules h
 enough_right a b (bound k d i) h = false_right a.has_rules b.has_rules h
 enough_right a b (placeholder k u i) h = max_right a.universe b.universe u h
 enough_right a b (atom x) h = h
@@ -79,10 +80,10 @@ enough_right a b unknown h = tt
 
 enough_without : (n : Needs) (l : Leaf) → IsEnough n l → IsEnough (without_rules n) l
 enough_without n (variable type_var i) h = h
+enough_without n (variable int_var i) h = h
+enough_without n (variable float_var i) h = h
+enough_without n (variable const_var i) h = h
 enough_without n (variable region_var i) h = h
-enough_without n (variable int_var i) h = refl
-enough_without n (variable float_var i) h = refl
-enough_without n (variable const_var i) h = refl
 enough_without n (bound k d i) h = refl
 enough_without n (placeholder k u i) h = h
 enough_without n (atom x) h = h
@@ -285,9 +286,9 @@ module _ (items names parts : List ℕ) where
     ),
   )
   term_enough ts ns e (term.Expr k p) = list_enough ts ns e no_needs _
-  term_enough ts ns e (term.IntVar n) = refl
-  term_enough ts ns e (term.FloatVar n) = refl
-  term_enough ts ns e (term.ConstVar n) = refl
+  term_enough ts ns e (term.IntVar n) = same_number n
+  term_enough ts ns e (term.FloatVar n) = same_number n
+  term_enough ts ns e (term.ConstVar n) = same_number n
   term_enough ts ns e term.TyError = tt
   term_enough ts ns e term.ConstError = tt
   term_enough ts ns e term.NotNull = tt
@@ -343,15 +344,10 @@ needs_with_more ns n [] k = refl
 needs_with_more ns n (j ∷ ks) k = needs_with_more ns (both_needs n (need_at ns j)) ks k
 
 -- A context that has what a known term needs, of forms that have rules.
-module _ (st : Store) (n : Needs) (types : (i : ℕ) → Reaches n.types i → IsMade st type_var i)
-    (regions : (i : ℕ) → Reaches n.regions i → IsMade st region_var i) (universe : n.universe ≤ st.universe)
-    (rules : IsTrue n.has_rules) where
+module _ (st : Store) (n : Needs) (variables : (k : VarKind) (i : ℕ) → Reaches (largest n k) i → IsMade st k i)
+    (universe : n.universe ≤ st.universe) (rules : IsTrue n.has_rules) where
   is_made : (l : Leaf) → IsTrue (known (leaf l)) → IsEnough n l → IsMadeLeaf st l
-  is_made (variable type_var i) k h = types i h
-  is_made (variable region_var i) k h = regions i h
-  is_made (variable int_var i) k h = absurd (false≢true (sym h ∙ rules))
-  is_made (variable float_var i) k h = absurd (false≢true (sym h ∙ rules))
-  is_made (variable const_var i) k h = absurd (false≢true (sym h ∙ rules))
+  is_made (variable v i) k h = variables v i h
   is_made (bound c d i) k h = tt
   is_made (placeholder c u i) k h = tt
   is_made (atom x) k h = h
@@ -392,19 +388,19 @@ module _ (st : Store) (n : Needs) (types : (i : ℕ) → Reaches n.types i → I
   allowed_in t k h =
       (known_leaves (IsMadeLeaf st) is_made t k h, stays 0 t h, known_leaves (IsNamable st.universe) is_namable t k h)
 
--- A term that needs no type variable is taken at each variance.
-fixed : (n : Needs) → n.types ≡ None → IsTrue n.has_rules → (l : Leaf) → IsEnough n l → IsFixedLeaf l
+-- A term that needs no variable of types or constants is taken at each variance.
+fixed : (n : Needs) → NeedsNoVariable n → IsTrue n.has_rules → (l : Leaf) → IsEnough n l → IsFixedLeaf l
 fixed n e r (variable region_var i) h = tt
-fixed n e r (variable type_var i) h = absurd (subst (λ o. Reaches o i) e h)
-fixed n e r (variable int_var i) h = absurd (false≢true (sym h ∙ r))
-fixed n e r (variable float_var i) h = absurd (false≢true (sym h ∙ r))
-fixed n e r (variable const_var i) h = absurd (false≢true (sym h ∙ r))
+fixed n e r (variable type_var i) h = absurd (subst (λ o. Reaches o i) e.0 h)
+fixed n e r (variable int_var i) h = tt
+fixed n e r (variable float_var i) h = tt
+fixed n e r (variable const_var i) h = absurd (subst (λ o. Reaches o i) e.1 h)
 fixed n e r (bound k d i) h = tt
 fixed n e r (placeholder k u i) h = tt
 fixed n e r (atom x) h = tt
 fixed n e r unknown h = tt
 
-pub fixed_taken : (n : Needs) → n.types ≡ None → IsTrue n.has_rules → (v : Variance) (t : Tree) → Allows n t →
+pub fixed_taken : (n : Needs) → NeedsNoVariable n → IsTrue n.has_rules → (v : Variance) (t : Tree) → Allows n t →
     IsCovered t → IsTaken v t
 fixed_taken n e r Covariant t h k = (each_leaf (IsEnough n) (IsTakenLeaf Covariant) (fixed n e r) t h, k)
 fixed_taken n e r Contravariant t h k = (each_leaf (IsEnough n) (IsTakenLeaf Contravariant) (fixed n e r) t h, k)

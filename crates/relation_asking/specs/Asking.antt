@@ -5,13 +5,19 @@ use Rattle.relation_terms.specs.declared.terms.enums.Variance.TheVariants.{Covar
 use Rattle.relation_terms.specs.declared.terms.generic_arg.GenericArgKind.{GenericArgKind}
 use Rattle.relation_terms.specs.Trees.{Tree, known}
 use Rattle.relation_terms.specs.Meaning.{Meaning, arg_tree}
+use Rattle.relation_terms.specs.Heads.{VarKind, type_var, int_var, float_var, const_var, region_var}
 use Rattle.relation_reference.specs.declared.context.inner.InferCtxtInner.{InferCtxtInner}
+use Rattle.relation_reference.specs.declared.context.inner.Variable.{Variable}
+use Rattle.relation_reference.specs.declared.context.inner.VariableValue.TheVariants.{Known}
+use Rattle.relation_reference.specs.Variables.{value_at}
 use Rattle.type_relations.specs.Covered.{IsCovered}
+use Rattle.relation_asking.specs.declared.context.VariableKind.{VariableKind}
+use Rattle.relation_asking.specs.declared.context.VariableKind.TheVariants.{Ty, Int, Float, Const, Region}
 use Rattle.relation_asking.specs.declared.needs.Needs.{Needs}
 use Rattle.relation_asking.specs.declared.question.Answer.{Answer}
 use Rattle.relation_asking.specs.declared.question.Answer.TheVariants.{Related, Met, Walked, Folded, Is, Key as key}
 use Rattle.relation_asking.specs.Meets.{AllKnown}
-use Rattle.relation_asking.specs.Needs.{Allows, Reaches, need_at}
+use Rattle.relation_asking.specs.Needs.{Allows, Reaches, largest, need_at}
 
 -- A known term, for which what is needed is enough; of forms that have rules where that is said of it.
 abbrev pub IsReady : Needs → Tree → Type 0
@@ -23,16 +29,35 @@ abbrev pub AreReady : {Key Id Name : Type 0} → Meaning Key Id Name → List (O
 AreReady {Key = Key} m keys needs = (k : ℕ) (key : GenericArgKind Key) → slice_get keys k ≡ Some (Some key) →
     IsReady (need_at needs k) (arg_tree m key)
 
+-- The kind of variables that contracts speak of by this name.
+abbrev pub var_kind : VariableKind → VarKind
+var_kind Ty = type_var
+var_kind Int = int_var
+var_kind Float = float_var
+var_kind Const = const_var
+var_kind Region = region_var
+
+-- How many variables of a kind a context has.
+abbrev pub variables_in : {Key : Type 0} → InferCtxtInner Key → VarKind → ℕ
+variables_in x type_var = length x.types.items
+variables_in x int_var = length x.ints.items
+variables_in x float_var = length x.floats.items
+variables_in x const_var = length x.consts.items
+variables_in x region_var = length x.regions.items
+
 -- A context has what is needed: the variables, and a universe that names the placeholders.
 pub record Has {Key : Type 0} (x : InferCtxtInner Key) (n : Needs) : Type 0 where
-  pub types : (i : ℕ) → Reaches n.types i → i < length x.types.items
-  pub regions : (i : ℕ) → Reaches n.regions i → i < length x.regions.items
+  pub variables : (k : VarKind) (i : ℕ) → Reaches (largest n k) i → i < variables_in x k
   pub universe : n.universe ≤ (x.universe).0
 
--- Types with these needs may be related at a variance: with type variables at invariance alone.
+-- No variable of a type or a constant is needed.
+abbrev pub NeedsNoVariable : Needs → Type 0
+NeedsNoVariable n = (n.types ≡ None) × (n.consts ≡ None)
+
+-- Types with these needs may be related at a variance: with variables of types and constants at invariance alone.
 abbrev pub MayBeAsked : Variance → Needs → Needs → Type 0
-MayBeAsked Covariant a b = (a.types ≡ None) × (b.types ≡ None)
-MayBeAsked Contravariant a b = (a.types ≡ None) × (b.types ≡ None)
+MayBeAsked Covariant a b = NeedsNoVariable a × NeedsNoVariable b
+MayBeAsked Contravariant a b = NeedsNoVariable a × NeedsNoVariable b
 MayBeAsked Invariant a b = Unit {0}
 MayBeAsked Bivariant a b = ⊥
 
@@ -52,3 +77,7 @@ KnowsAnswer m Knows (Walked xs) = AllKnown m xs.items
 KnowsAnswer m Knows (Folded a) = IsTrue (known (arg_tree m a))
 KnowsAnswer m Knows (Is b) = Unit {0}
 KnowsAnswer m Knows (key k) = Unit {0}
+
+-- What variables are bound to is known.
+abbrev pub AreBoundKnown : {K : Type 0} → (K → Tree) → List (Variable K) → Type 0
+AreBoundKnown {K = K} tree vs = (n : ℕ) (t : K) → value_at vs n ≡ Known t → IsTrue (known (tree t))

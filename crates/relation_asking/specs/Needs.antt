@@ -1,7 +1,8 @@
 -- What a context has to have for a term to be its own.
 use Rattle.std.specs.Prelude.{◌≡◌, ℕ, ◌≤◌, max, Bool, true, false, cond, ◌&&◌, List, [], ◌∷◌, ◌++◌, Option, Some, None}
 use Rattle.std.specs.Prelude.{slice_get, slice_range}
-use Rattle.relation_terms.specs.Heads.{Leaf, variable, bound, placeholder, atom, unknown, type_var, region_var}
+use Rattle.relation_terms.specs.Heads.{VarKind, Leaf, variable, bound, placeholder, atom, unknown, type_var, int_var, float_var}
+use Rattle.relation_terms.specs.Heads.{const_var, region_var}
 use Rattle.relation_terms.specs.Trees.{Tree, Leaves}
 use Rattle.type_relations.specs.Relation.{IsValueAtom}
 use Rattle.relation_asking.specs.declared.needs.Needs.{Needs}
@@ -20,16 +21,27 @@ larger (Some a) (Some b) = Some (max a b)
 
 -- Nothing is needed.
 abbrev pub no_needs : Needs
-no_needs = record { types = None; regions = None; universe = 0; has_rules = true }
+no_needs = record {
+  types = None;
+  ints = None;
+  floats = None;
+  consts = None;
+  regions = None;
+  universe = 0;
+  has_rules = true;
+}
 
 -- What a placeholder of a universe needs.
 abbrev pub universe_need : ℕ → Needs
-universe_need u = record { types = None; regions = None; universe = u; has_rules = true }
+universe_need u = record no_needs { universe = u }
 
 -- What is needed for both.
 abbrev pub both_needs : Needs → Needs → Needs
 both_needs a b = record {
   types = larger a.types b.types;
+  ints = larger a.ints b.ints;
+  floats = larger a.floats b.floats;
+  consts = larger a.consts b.consts;
   regions = larger a.regions b.regions;
   universe = max a.universe b.universe;
   has_rules = a.has_rules && b.has_rules;
@@ -37,7 +49,7 @@ both_needs a b = record {
 
 -- The same is needed, and a form has no rules.
 abbrev pub without_rules : Needs → Needs
-without_rules n = record { types = n.types; regions = n.regions; universe = n.universe; has_rules = false }
+without_rules n = record n { has_rules = false }
 
 -- An item over arguments stands for a type or a constant that has to be found first; what such an item needs, and
 -- another, over arguments that need so much.
@@ -74,8 +86,11 @@ parts_need ps ns p = needs_with ns no_needs (slice_range ps p.first p.behind)
 module _ (parts : List ℕ) where
   -- What a term needs, by what the terms before it need.
   abbrev pub term_need : List Needs → Term → Needs
-  term_need ns (term.TyVar n) = record { types = Some n; regions = None; universe = 0; has_rules = true }
-  term_need ns (term.RegionVar n) = record { types = None; regions = Some n; universe = 0; has_rules = true }
+  term_need ns (term.TyVar n) = record no_needs { types = Some n }
+  term_need ns (term.IntVar n) = record no_needs { ints = Some n }
+  term_need ns (term.FloatVar n) = record no_needs { floats = Some n }
+  term_need ns (term.ConstVar n) = record no_needs { consts = Some n }
+  term_need ns (term.RegionVar n) = record no_needs { regions = Some n }
   term_need ns (term.TyPlaceholder u v n) = universe_need u
   term_need ns (term.RegionPlaceholder u v n) = universe_need u
   term_need ns (term.ConstPlaceholder u v n) = universe_need u
@@ -88,9 +103,6 @@ module _ (parts : List ℕ) where
   term_need ns (term.Item s d p) = item_need s (parts_need parts ns p)
   term_need ns (term.Tuple p) = parts_need parts ns p
   term_need ns (term.Expr k p) = parts_need parts ns p
-  term_need ns (term.IntVar n) = without_rules no_needs
-  term_need ns (term.FloatVar n) = without_rules no_needs
-  term_need ns (term.ConstVar n) = without_rules no_needs
   term_need ns term.TyError = without_rules no_needs
   term_need ns term.ConstError = without_rules no_needs
   term_need ns term.NotNull = without_rules no_needs
@@ -116,17 +128,23 @@ module _ (parts : List ℕ) where
   abbrev pub needs_of : List Term → List Needs
   needs_of xs = needs_from [] xs
 
+-- The largest variable of a kind that is needed.
+abbrev pub largest : Needs → VarKind → Option ℕ
+largest n type_var = n.types
+largest n int_var = n.ints
+largest n float_var = n.floats
+largest n const_var = n.consts
+largest n region_var = n.regions
+
 -- A number reaches another, if it is there.
 abbrev pub Reaches : Option ℕ → ℕ → Type 0
 Reaches None i = ⊥
 Reaches (Some n) i = i ≤ n
 
--- What is needed is enough for a leaf: a type or a region variable up to the largest, a placeholder that the universe
--- names. Another variable stands only in a term with a form that has no rules, and so does what a binder binds.
+-- What is needed is enough for a leaf: a variable up to the largest of its kind, a placeholder that the universe names.
+-- What a binder binds stands only in a term with a form that has no rules.
 abbrev pub IsEnough : Needs → Leaf → Type 0
-IsEnough n (variable type_var i) = Reaches n.types i
-IsEnough n (variable region_var i) = Reaches n.regions i
-IsEnough n (variable k i) = n.has_rules ≡ false
+IsEnough n (variable k i) = Reaches (largest n k) i
 IsEnough n (bound k d i) = n.has_rules ≡ false
 IsEnough n (placeholder k u i) = u ≤ n.universe
 IsEnough n (atom x) = IsValueAtom x

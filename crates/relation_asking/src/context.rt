@@ -1,12 +1,13 @@
 //! A question's context, and relating in it.
-ghost use Rattle.std.specs.Prelude.{◌≡◌, ◌≢◌, ℕ, ◌<◌, ◌≤◌, IfNone, IfOk, IfErr, OnOk, length};
+ghost use Rattle.std.specs.Prelude.{◌≡◌, ◌≢◌, ℕ, suc, ◌<◌, ◌≤◌, IsFalse, IfNone, IfOk, IfErr, OnOk};
+ghost use Rattle.relation_terms.specs.Heads.{VarKind};
 ghost use Rattle.relation_terms.specs.Meaning.{Extends};
 ghost use Rattle.relation_tools.specs.Faults.{KnowsFault};
 ghost use Rattle.type_relations.specs.Contexts.{KnowsEnv, KnowsTy, TakesTy, HasTy};
 ghost use Rattle.type_relations.specs.Contexts.{AnswersTys, KeepsEqualTys, TellsApart};
 ghost use Rattle.relation_reference.specs.Tables.{IsLawful};
 ghost use Rattle.relation_asking.specs.Needs.{Reaches};
-ghost use Rattle.relation_asking.specs.Asking.{Has, IsAskable};
+ghost use Rattle.relation_asking.specs.Asking.{Has, IsAskable, NeedsNoVariable, var_kind, variables_in};
 
 use crate::needs::Needs;
 use relation_reference::context::RefCtxt;
@@ -20,7 +21,7 @@ use type_relations::relate::solver_relating::{RelateExt, RelateGoals};
 pub enum NotAsked {
     /// No rules relate terms of one of the forms.
     Rules,
-    /// Types with type variables are related at `==` alone.
+    /// Types with variables of types or constants are related at `==` alone.
     Variables,
     /// The context's universe does not name a placeholder.
     Universe,
@@ -32,32 +33,100 @@ pub enum NotAsked {
 
 // A new context over the interner of another one.
 pub(super) fn renewed<I: Interner>(ctx: RefCtxt<I>, budget: usize) -> RefCtxt<I>
+    requires { IsLawful (I.meaning ctx.interner) ctx.inner }
     ensures interner { result.interner ≡ ctx.interner }
     ensures lawful { IsLawful (I.meaning ctx.interner) result.inner }
 {
-    let RefCtxt { interner, inner: _ } = ctx;
-    RefCtxt::new(interner, budget)
+    ctx.renewed(budget)
 }
 
-// Makes variables until the context has so many.
-fn make_variables<I: Interner>(
+// A kind of variables.
+#[derive(Clone, Copy)]
+enum VariableKind {
+    Ty,
+    Int,
+    Float,
+    Const,
+    Region,
+}
+
+// How many variables of a kind the context has.
+fn variables_count<I: Interner>(ctx: &RefCtxt<I>, kind: VariableKind) -> usize
+    ensures { result ≡ variables_in ctx.now.inner (var_kind kind) }
+{
+    match kind {
+        VariableKind::Ty => ctx.inner.types.len(),
+        VariableKind::Int => ctx.inner.ints.len(),
+        VariableKind::Float => ctx.inner.floats.len(),
+        VariableKind::Const => ctx.inner.consts.len(),
+        VariableKind::Region => ctx.inner.regions.len(),
+    }
+}
+
+// Makes one more variable of a kind.
+fn make_variable<I: Interner>(
     ctx: &mut RefCtxt<I>,
-    types: usize,
-    regions: usize,
+    kind: VariableKind,
 ) -> Result<(), OutOfMemory>
     requires { IsLawful (I.meaning ctx.old.interner) ctx.old.inner }
     ensures lawful { IsLawful (I.meaning ctx.new.interner) ctx.new.inner }
     ensures grown { Extends (I.meaning ctx.old.interner) (I.meaning ctx.new.interner) }
-    ensures types { OnOk result (types ≤ length ctx.new.inner.types.items) }
-    ensures regions { OnOk result (regions ≤ length ctx.new.inner.regions.items) }
+    ensures kept { (k : VarKind) → variables_in ctx.old.inner k ≤ variables_in ctx.new.inner k }
+    ensures one_more { let k = var_kind kind in
+        OnOk result (variables_in ctx.new.inner k ≡ suc (variables_in ctx.old.inner k)) }
 {
-    for _ in ctx.inner.types.len()..types {
-        let _ = ctx.next_ty_infer()?;
-    }
-    for _ in ctx.inner.regions.len()..regions {
-        let _ = ctx.next_region_infer()?;
+    match kind {
+        VariableKind::Ty => {
+            let _ = ctx.next_ty_infer()?;
+        }
+        VariableKind::Int => {
+            let _ = ctx.next_int_var()?;
+        }
+        VariableKind::Float => {
+            let _ = ctx.next_float_var()?;
+        }
+        VariableKind::Const => {
+            let _ = ctx.next_const_infer()?;
+        }
+        VariableKind::Region => {
+            let _ = ctx.next_region_infer()?;
+        }
     }
     Ok(())
+}
+
+// Makes variables of a kind until the context has so many.
+fn make_variables<I: Interner>(
+    ctx: &mut RefCtxt<I>,
+    kind: VariableKind,
+    count: usize,
+) -> Result<(), OutOfMemory>
+    requires { IsLawful (I.meaning ctx.old.interner) ctx.old.inner }
+    ensures lawful { IsLawful (I.meaning ctx.new.interner) ctx.new.inner }
+    ensures grown { Extends (I.meaning ctx.old.interner) (I.meaning ctx.new.interner) }
+    ensures kept { (k : VarKind) → variables_in ctx.old.inner k ≤ variables_in ctx.new.inner k }
+    ensures has { OnOk result (count ≤ variables_in ctx.new.inner (var_kind kind)) }
+{
+    for _ in variables_count(ctx, kind)..count {
+        make_variable(ctx, kind)?;
+    }
+    Ok(())
+}
+
+// Makes variables of a kind until the context has the largest that is named.
+fn reach<I: Interner>(
+    ctx: &mut RefCtxt<I>,
+    kind: VariableKind,
+    largest: Option<usize>,
+) -> Result<(), OutOfMemory>
+    requires { IsLawful (I.meaning ctx.old.interner) ctx.old.inner }
+    ensures lawful { IsLawful (I.meaning ctx.new.interner) ctx.new.inner }
+    ensures grown { Extends (I.meaning ctx.old.interner) (I.meaning ctx.new.interner) }
+    ensures kept { (k : VarKind) → variables_in ctx.old.inner k ≤ variables_in ctx.new.inner k }
+    ensures has { OnOk result ((i : ℕ) → Reaches largest i → i < variables_in ctx.new.inner (var_kind kind)) }
+{
+    let count = count_to(largest)?;
+    make_variables(ctx, kind, count)
 }
 
 // How many variables there are up to that number.
@@ -82,10 +151,20 @@ pub(super) fn have_variables<I: Interner>(
     ensures grown { Extends (I.meaning ctx.old.interner) (I.meaning ctx.new.interner) }
     ensures has { OnOk result (Has ctx.new.inner needs) }
 {
-    let types = count_to(needs.types)?;
-    let regions = count_to(needs.regions)?;
-    make_variables(ctx, question.type_variables, question.region_variables)?;
-    make_variables(ctx, types, regions)
+    make_variables(ctx, VariableKind::Ty, question.type_variables)?;
+    make_variables(ctx, VariableKind::Region, question.region_variables)?;
+    reach(ctx, VariableKind::Ty, needs.types)?;
+    reach(ctx, VariableKind::Int, needs.ints)?;
+    reach(ctx, VariableKind::Float, needs.floats)?;
+    reach(ctx, VariableKind::Const, needs.consts)?;
+    reach(ctx, VariableKind::Region, needs.regions)
+}
+
+// Whether a variable of a type or a constant is needed.
+fn needs_variable(needs: Needs) -> bool
+    ensures { IsFalse result → NeedsNoVariable needs }
+{
+    needs.types.is_some() || needs.consts.is_some()
 }
 
 // Why two types are not related at a variance in a context, if they are not.
@@ -108,7 +187,7 @@ pub(super) fn refusal<I: Interner>(
         Variance::Invariant => None,
         Variance::Bivariant => Some(NotAsked::Variance),
         Variance::Covariant | Variance::Contravariant => {
-            if lhs.types.is_some() || rhs.types.is_some() {
+            if needs_variable(lhs) || needs_variable(rhs) {
                 return Some(NotAsked::Variables);
             }
             None
@@ -150,7 +229,9 @@ pub(super) fn write_not_asked<W: Write>(why: NotAsked, out: &mut W) -> fmt::Resu
     out.write_str("not asked: ")?;
     match why {
         NotAsked::Rules => out.write_str("a form in these types has no rules yet"),
-        NotAsked::Variables => out.write_str("types with type variables are related by `==` alone"),
+        NotAsked::Variables => {
+            out.write_str("types with variables of types or constants are related by `==` alone")
+        },
         NotAsked::Universe => {
             out.write_str("the context's universe, 0, does not name the placeholder")
         }

@@ -13,6 +13,9 @@ use std::alloc::{AllocError, Global};
 #[derive(Clone, Copy, PartialEq, Eq, Debug)]
 pub struct Needs {
     pub types: Option<usize>,
+    pub ints: Option<usize>,
+    pub floats: Option<usize>,
+    pub consts: Option<usize>,
     pub regions: Option<usize>,
     pub universe: usize,
     pub has_rules: bool,
@@ -21,6 +24,9 @@ pub struct Needs {
 // Nothing is needed.
 const NONE: Needs = Needs {
     types: None,
+    ints: None,
+    floats: None,
+    consts: None,
     regions: None,
     universe: 0,
     has_rules: true,
@@ -52,6 +58,9 @@ pub(crate) fn both(a: Needs, b: Needs) -> Needs
 {
     Needs {
         types: larger(a.types, b.types),
+        ints: larger(a.ints, b.ints),
+        floats: larger(a.floats, b.floats),
+        consts: larger(a.consts, b.consts),
         regions: larger(a.regions, b.regions),
         universe: greater(a.universe, b.universe),
         has_rules: a.has_rules && b.has_rules,
@@ -142,6 +151,18 @@ fn term_need(numbers: &[usize], before: &[Needs], term: Term) -> Needs
             types: Some(number),
             ..NONE
         },
+        Term::IntVar(number) => Needs {
+            ints: Some(number),
+            ..NONE
+        },
+        Term::FloatVar(number) => Needs {
+            floats: Some(number),
+            ..NONE
+        },
+        Term::ConstVar(number) => Needs {
+            consts: Some(number),
+            ..NONE
+        },
         Term::RegionVar(number) => Needs {
             regions: Some(number),
             ..NONE
@@ -158,7 +179,6 @@ fn term_need(numbers: &[usize], before: &[Needs], term: Term) -> Needs
         Term::Item(sort, _, parts) => item_need(sort, parts_need(numbers, before, parts)),
         Term::Tuple(parts) => parts_need(numbers, before, parts),
         Term::Expr(_, parts) => parts_need(numbers, before, parts),
-        Term::IntVar(_) | Term::FloatVar(_) | Term::ConstVar(_) => without_rules(NONE),
         Term::TyError | Term::ConstError | Term::NotNull => without_rules(NONE),
         Term::Pat(base, pat) => without_rules(both(need_at(before, base), need_at(before, pat))),
         Term::Range(start, end) => {

@@ -1,14 +1,15 @@
 //! How errors and answers print, over any interner.
-ghost use Rattle.std.specs.Prelude.{◌≡◌, ◌<◌, IsTrue, IfSome, IfNone, IfErr, length};
-ghost use Rattle.relation_terms.specs.Heads.{type_var};
-ghost use Rattle.relation_terms.specs.Trees.{Tree, known};
+ghost use Rattle.std.specs.Prelude.{◌≡◌, IfSome, IfNone, IfErr};
 ghost use Rattle.relation_tools.specs.Faults.{KnowsBoth, KnowsError, KnowsFault};
-ghost use Rattle.type_relations.specs.Stores.{ConstraintIn, entry_of, bound_to};
+ghost use Rattle.type_relations.specs.Stores.{ConstraintIn};
 ghost use Rattle.type_relations.specs.Constraints.{constraint_of};
 ghost use Rattle.relation_reference.specs.Tables.{IsLawful};
+ghost use Rattle.relation_reference.specs.Variables.{value_at};
+ghost use Rattle.relation_reference.specs.declared.context.inner.VariableValue.TheVariants.{Known};
 ghost use Rattle.relation_reference.specs.RefCtxt.{store_in};
+ghost use Rattle.relation_asking.specs.Asking.{AreBoundKnown};
 
-use relation_reference::context::{RefCtxt, TypeVariableValue};
+use relation_reference::context::{RefCtxt, Variable, VariableValue};
 use relation_terms::predicate::RegionConstraint;
 use relation_terms::terms::{Const, Interner, Ty};
 use relation_text::printing::{TextsOf, write_arg, write_const, write_region, write_ty};
@@ -186,23 +187,68 @@ fn write_constraints<I: Interner, W: Write>(
     if any { out.write_str("]") } else { Ok(()) }
 }
 
-// The type that a root is bound to, or none, also where the variable is the same as another.
-fn bound_type<I: Interner>(ctx: &RefCtxt<I>, number: usize) -> Option<Ty<I>>
-    requires lawful { IsLawful (I.meaning ctx.now.interner) ctx.now.inner }
-    requires made { number < length ctx.now.inner.types.items }
-    ensures sure { IfSome result (λ t. IsTrue (known ((I.meaning ctx.now.interner).ty t))) }
-    ensures bound { IfSome result (λ t. entry_of (store_in I.meaning ctx.now) type_var number ≡
-        bound_to ((I.meaning ctx.now.interner).ty t)) }
-    ensures none { IfNone result ((t : Tree) → entry_of (store_in I.meaning ctx.now) type_var number ≡ bound_to t → ⊥) }
+// The term that a root is bound to, or none, also where the variable is the same as another.
+fn bound_at<K: Copy>(variables: &[Variable<K>], number: usize) -> Option<K>
+    ensures bound { IfSome result (λ t. value_at variables.now number ≡ Known t) }
+    ensures none { IfNone result ((t : K) → value_at variables.now number ≡ Known t → ⊥) }
 {
-    match &ctx.inner.types[number].value {
-        TypeVariableValue::Known(ty) => Some(*ty),
-        TypeVariableValue::Unknown => None,
-        TypeVariableValue::SameAs(_) => None,
+    match variables.get(number)?.value {
+        VariableValue::Known(term) => Some(term),
+        VariableValue::Unknown => None,
+        VariableValue::SameAs(_) => None,
     }
 }
 
-// Writes the roots that are bound to a type, if any, each with its type.
+// Writes what stands before a root that is bound, of the kind of that sign: what is written is the first one or not.
+fn write_root<W: Write>(any: bool, sign: &str, number: usize, out: &mut W) -> fmt::Result {
+    out.write_str(if any { ", " } else { "; bound=[" })?;
+    write!(out, "{sign}{number}=")
+}
+
+// Writes the roots of a kind that are bound to a type, each with its type. Answers whether any root was written so far.
+fn write_bound_tys<I: Interner, W: Write>(
+    cx: &I,
+    texts: &TextsOf<I>,
+    sign: &str,
+    variables: &[Variable<Ty<I>>],
+    before: bool,
+    out: &mut W,
+) -> Result<bool, fmt::Error>
+    requires { AreBoundKnown (I.meaning cx.now).ty variables.now }
+{
+    let mut any = before;
+    for number in 0..variables.len() {
+        if let Some(ty) = bound_at(variables, number) {
+            write_root(any, sign, number, out)?;
+            write_ty(cx, texts, &ty, out)?;
+            any = true;
+        }
+    }
+    Ok(any)
+}
+
+// The same of constants.
+fn write_bound_consts<I: Interner, W: Write>(
+    cx: &I,
+    texts: &TextsOf<I>,
+    variables: &[Variable<Const<I>>],
+    before: bool,
+    out: &mut W,
+) -> Result<bool, fmt::Error>
+    requires { AreBoundKnown (I.meaning cx.now).const_ variables.now }
+{
+    let mut any = before;
+    for number in 0..variables.len() {
+        if let Some(constant) = bound_at(variables, number) {
+            write_root(any, "?c", number, out)?;
+            write_const(cx, texts, &constant, out)?;
+            any = true;
+        }
+    }
+    Ok(any)
+}
+
+// Writes the roots that are bound, if any, each with its term: of types, integers, floats and constants.
 fn write_bound<I: Interner, W: Write>(
     ctx: &RefCtxt<I>,
     texts: &TextsOf<I>,
@@ -210,20 +256,16 @@ fn write_bound<I: Interner, W: Write>(
 ) -> fmt::Result
     requires { IsLawful (I.meaning ctx.now.interner) ctx.now.inner }
 {
-    let mut any = false;
-    for number in 0..ctx.inner.types.len() {
-        if let Some(ty) = bound_type(ctx, number) {
-            out.write_str(if any { ", " } else { "; bound=[" })?;
-            write!(out, "?{number}=")?;
-            write_ty(&ctx.interner, texts, &ty, out)?;
-            any = true;
-        }
-    }
+    let cx = &ctx.interner;
+    let mut any = write_bound_tys(cx, texts, "?", &ctx.inner.types, false, out)?;
+    any = write_bound_tys(cx, texts, "?i", &ctx.inner.ints, any, out)?;
+    any = write_bound_tys(cx, texts, "?f", &ctx.inner.floats, any, out)?;
+    any = write_bound_consts(cx, texts, &ctx.inner.consts, any, out)?;
     if any { out.write_str("]") } else { Ok(()) }
 }
 
 /// Writes what a relation answered, and then what its context has recorded: the constraints on regions, in the order
-/// in which they were recorded, and the roots that are bound to a type.
+/// in which they were recorded, and the roots that are bound to a term.
 ///
 /// # Errors
 /// `fmt::Error` where `out` refused to take some of the text. What it took before stands.

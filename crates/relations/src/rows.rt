@@ -29,7 +29,7 @@ pub enum RowFault {
 }
 
 /// The rows, in the order of their numbers.
-pub const ROWS: [Row; 19] = [
+pub const ROWS: [Row; 24] = [
     Row {
         name: "r01",
         questions: "may unify[rigid, rigid] bool, char at 0; may unify[rigid, rigid] bool, char at 1;",
@@ -40,6 +40,11 @@ pub const ROWS: [Row; 19] = [
         questions: "may unify[rigid, rigid] bool, ?i0 at 0;
             may unify[rigid, rigid] ?i0, bool at 0; may unify[rigid, rigid] ?i0, bool at 1;",
         stored: "false | true | false",
+    },
+    Row {
+        name: "r03",
+        questions: "may unify[rigid, rigid] ?i0, ?f0; ?i0 == ?f0;",
+        stored: "true | err Sorts(?i0, ?f0)",
     },
     Row {
         name: "r04",
@@ -110,6 +115,11 @@ pub const ROWS: [Row; 19] = [
         stored: "true",
     },
     Row {
+        name: "r30",
+        questions: "?i0 == u16; ?i0 == bool;",
+        stored: "ok; bound=[?i0=u16] | err Sorts(?i0, bool)",
+    },
+    Row {
         name: "r34",
         questions: "param 'a, 'b, 'c, 'd;
             &'a mut &'b u8 <: &'c mut &'d u8;
@@ -121,6 +131,16 @@ pub const ROWS: [Row; 19] = [
         questions: "struct K<-T>; param 'a, 'b;
             K<&'a u8> <: K<&'b u8>; K<&'a u8> :> K<&'b u8>;",
         stored: "ok; regions=['b: 'a] | ok; regions=['a: 'b]",
+    },
+    Row {
+        name: "r36",
+        questions: "budget 1; (?0, ?i0) == (u8, u16);",
+        stored: "ok; bound=[?0=u8, ?i0=u16]; left=0",
+    },
+    Row {
+        name: "r37",
+        questions: "[u8; ?c0] == [?0; 2];",
+        stored: "ok; bound=[?0=u8, ?c0=2]",
     },
     Row {
         name: "r53",
@@ -142,6 +162,15 @@ pub const ROWS: [Row; 19] = [
             may unify[rigid, rigid] dyn Of<u8> + 'a, dyn Of<bool> + 'a;
             may unify[rigid, rigid] fn(u8), unsafe fn(u8);",
         stored: "true | false | true | false",
+    },
+    Row {
+        name: "r69",
+        questions: "struct C<const N>;
+            may unify[rigid, rigid] C<{?c0, 2}>, C<{1, 2}>;
+            may unify[rigid, rigid] C<{?c0, 2}>, C<{1, 3}>;
+            may unify[rigid, rigid] C<{1}>, C<{1, 2}>;
+            C<{?c0, 2}> == C<{1, 2}>;",
+        stored: "true | false | false | ok; bound=[?c0=1]",
     },
 ];
 

@@ -168,7 +168,7 @@ const ASKED: [(&str, &str); 11] = [
     ("budget 1; ?0 == u8;", "ok; bound=[?0=u8]; left=0"),
     (
         "u8 <: u8; u8 :> ?0;",
-        "ok | not asked: types with type variables are related by `==` alone",
+        "ok | not asked: types with variables of types or constants are related by `==` alone",
     ),
     (
         "param 'a; [?0; 4] == [&'a mut [u8]; 4]; then *mut u8 == *mut char;",

@@ -1,0 +1,52 @@
+use Rattle.relation_asking.proofs.Counting.{none_lost}
+use Rattle.relation_asking.proofs.context.make_variable.Goals as goal
+
+pub returns-in_err-next_ty_infer-in-Ty-clause-kept : goal.returns-in_err-next_ty_infer-in-Ty-clause-kept
+returns-in_err-next_ty_infer-in-Ty-clause-kept g c =
+    none_lost (g.I.Interner.meaning c.args.ctx.now.interner) (g.I.Interner.meaning c.next_ty_infer.new.self.interner)
+    c.args.ctx.now.inner c.next_ty_infer.new.self.inner c.next_ty_infer.ensures.later
+
+pub returns-in_ok-next_ty_infer-in-Ty-clause-kept : goal.returns-in_ok-next_ty_infer-in-Ty-clause-kept
+returns-in_ok-next_ty_infer-in-Ty-clause-kept g c =
+    none_lost (g.I.Interner.meaning c.args.ctx.now.interner) (g.I.Interner.meaning c.next_ty_infer.new.self.interner)
+    c.args.ctx.now.inner c.next_ty_infer.new.self.inner c.next_ty_infer.ensures.later
+
+pub returns-in_err-next_int_var-in-Int-clause-kept : goal.returns-in_err-next_int_var-in-Int-clause-kept
+returns-in_err-next_int_var-in-Int-clause-kept g c =
+    none_lost (g.I.Interner.meaning c.args.ctx.now.interner) (g.I.Interner.meaning c.next_int_var.new.self.interner)
+    c.args.ctx.now.inner c.next_int_var.new.self.inner c.next_int_var.ensures.later
+
+pub returns-in_ok-next_int_var-in-Int-clause-kept : goal.returns-in_ok-next_int_var-in-Int-clause-kept
+returns-in_ok-next_int_var-in-Int-clause-kept g c =
+    none_lost (g.I.Interner.meaning c.args.ctx.now.interner) (g.I.Interner.meaning c.next_int_var.new.self.interner)
+    c.args.ctx.now.inner c.next_int_var.new.self.inner c.next_int_var.ensures.later
+
+pub returns-in_err-next_float_var-in-Float-clause-kept : goal.returns-in_err-next_float_var-in-Float-clause-kept
+returns-in_err-next_float_var-in-Float-clause-kept g c =
+    none_lost (g.I.Interner.meaning c.args.ctx.now.interner) (g.I.Interner.meaning c.next_float_var.new.self.interner)
+    c.args.ctx.now.inner c.next_float_var.new.self.inner c.next_float_var.ensures.later
+
+pub returns-in_ok-next_float_var-in-Float-clause-kept : goal.returns-in_ok-next_float_var-in-Float-clause-kept
+returns-in_ok-next_float_var-in-Float-clause-kept g c =
+    none_lost (g.I.Interner.meaning c.args.ctx.now.interner) (g.I.Interner.meaning c.next_float_var.new.self.interner)
+    c.args.ctx.now.inner c.next_float_var.new.self.inner c.next_float_var.ensures.later
+
+pub returns-in_err-next_const_infer-in-Const-clause-kept : goal.returns-in_err-next_const_infer-in-Const-clause-kept
+returns-in_err-next_const_infer-in-Const-clause-kept g c =
+    none_lost (g.I.Interner.meaning c.args.ctx.now.interner) (g.I.Interner.meaning c.next_const_infer.new.self.interner)
+    c.args.ctx.now.inner c.next_const_infer.new.self.inner c.next_const_infer.ensures.later
+
+pub returns-in_ok-next_const_infer-in-Const-clause-kept : goal.returns-in_ok-next_const_infer-in-Const-clause-kept
+returns-in_ok-next_const_infer-in-Const-clause-kept g c =
+    none_lost (g.I.Interner.meaning c.args.ctx.now.interner) (g.I.Interner.meaning c.next_const_infer.new.self.interner)
+    c.args.ctx.now.inner c.next_const_infer.new.self.inner c.next_const_infer.ensures.later
+
+pub returns-in_err-next_region_infer-in-Region-clause-kept : goal.returns-in_err-next_region_infer-in-Region-clause-kept
+returns-in_err-next_region_infer-in-Region-clause-kept g c =
+    none_lost (g.I.Interner.meaning c.args.ctx.now.interner) (g.I.Interner.meaning c.next_region_infer.new.self.interner)
+    c.args.ctx.now.inner c.next_region_infer.new.self.inner c.next_region_infer.ensures.later
+
+pub returns-in_ok-next_region_infer-in-Region-clause-kept : goal.returns-in_ok-next_region_infer-in-Region-clause-kept
+returns-in_ok-next_region_infer-in-Region-clause-kept g c =
+    none_lost (g.I.Interner.meaning c.args.ctx.now.interner) (g.I.Interner.meaning c.next_region_infer.new.self.interner)
+    c.args.ctx.now.inner c.next_region_infer.new.self.inner c.next_region_infer.ensures.later
