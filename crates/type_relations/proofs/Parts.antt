@@ -3,7 +3,7 @@ use Rattle.std.proofs.Common.{◌≡◌, ℕ, zero, suc, ◌<◌, refl, sym, ap,
 use Rattle.std.proofs.Common.{◌&&◌, IsTrue, true, Option, Some, List, [], ◌∷◌, length, get_or}
 use Rattle.std.proofs.lemmas.Bool.{and_parts}
 use Rattle.relation_terms.specs.Heads.{VarKind, Head, Leaf, Sort, Part, row, head_parts}
-use Rattle.relation_terms.specs.Heads.{expression}
+use Rattle.relation_terms.specs.Heads.{unevaluated, expression}
 use Rattle.relation_terms.specs.Heads.{type_var}
 use Rattle.relation_terms.specs.Heads.{array, value, value_branch, Shape, one, variable, bound, placeholder, atom}
 use Rattle.relation_terms.specs.Heads.{unknown}
@@ -21,40 +21,9 @@ use Rattle.relation_terms.specs.declared.terms.const_kind.ValTreeKind.TheVariant
 use Rattle.relation_terms.specs.declared.terms.ty_kind.TyKind.{TyKind}
 use Rattle.type_relations.specs.Relation.{StaysWithin}
 use Rattle.type_relations.specs.Stores.{Store, IsNamable, IsMadeLeaf, IsTermIn, InContext, resolved, weight}
-use Rattle.type_relations.specs.declared.relate.forms.ItemForm.{ItemForm}
-use Rattle.type_relations.specs.declared.relate.forms.ItemForm.TheVariants.{Adt as AdtForm, FnDef as FnDefForm}
-use Rattle.type_relations.specs.declared.relate.forms.ItemForm.TheVariants.{Closure as ClosureForm}
-use Rattle.type_relations.specs.declared.relate.forms.ItemForm.TheVariants.{CoroutineClosure as AsyncForm}
-use Rattle.type_relations.specs.declared.relate.forms.ItemForm.TheVariants.{Coroutine as CoroutineForm}
-use Rattle.type_relations.specs.declared.relate.forms.ItemForm.TheVariants.{CoroutineWitness as WitnessForm}
-use Rattle.type_relations.specs.declared.relate.forms.ItemTy.{ItemTy}
-use Rattle.type_relations.specs.Parts.{parts_of, branches_of, const_parts_of, item_head, kind_of, item_kind}
+use Rattle.type_relations.specs.Parts.{parts_of, branches_of, const_parts_of}
 use Rattle.type_relations.specs.Parts.{IsFormed}
 use Rattle.type_relations.proofs.Lists.{list_count, list_is, list_nth, part_known}
-
--- The tree of a form over an item.
-module _ {Key Id Name : Type 0} (m : Meaning Key Id Name) where
-  form_tree : (f : ItemForm) (t : ItemTy Key Id) → kind_tree m (kind_of f t) ≡ node (item_head f (m.id t.def_id))
-      (m.args t.args)
-  form_tree AdtForm t = refl
-  form_tree FnDefForm t = refl
-  form_tree ClosureForm t = refl
-  form_tree AsyncForm t = refl
-  form_tree CoroutineForm t = refl
-  form_tree WitnessForm t = refl
-
-  pub item_tree : (t : ItemTy Key Id) → kind_tree m (item_kind t) ≡ node (item_head t.form (m.id t.def_id))
-      (m.args t.args)
-  item_tree t = form_tree t.form t
-
-  -- What a type of such a form is, and its parts.
-  pub over_item : (t : ItemTy Key Id) (k : TyKind Key Id Name) (u : Tree) → u ≡ kind_tree m k → k ≡ item_kind t →
-      u ≡ node (item_head t.form (m.id t.def_id)) (m.args t.args)
-  over_item t k u e q = e ∙ ap (kind_tree m) q ∙ item_tree t
-
-  pub item_parts : (t : ItemTy Key Id) (k : TyKind Key Id Name) (u : Tree) → u ≡ kind_tree m k → k ≡ item_kind t →
-      parts_of u ≡ m.args t.args
-  item_parts t k u e q = ap parts_of (over_item t k u e q)
 
 -- A list of parts, as the slice that an interner reads.
 module _ {K : Type 0} (f : K → Tree) (xs : List K) (u : Tree) (i : u ≡ list_tree f xs) where
@@ -74,24 +43,6 @@ module _ {K : Type 0} (f : K → Tree) (xs : List K) (u : Tree) (i : u ≡ list_
 
   pub slice_nth : (w : Tree) → w ≡ u → (n : ℕ) (d x : K) → n < count w → x ≡ get_or xs n d → f x ≡ nth n w
   slice_nth w e n d x h q = ap f q ∙ sym (list_nth f xs n d (slice_below w e n h)) ∙ ap (nth n) (sym (e ∙ i))
-
--- The parts of a tree that is over a list of them.
-pub parts_are : (h : Head) (u t : Tree) → t ≡ node h u → parts_of t ≡ u
-parts_are h u t e = ap parts_of e
-
--- The same of constants.
-module _ {Key Id Name : Type 0} (m : Meaning Key Id Name) where
-  pub expression_parts : (k : ExprKind) (a : ArgsKey Key) (c : Tree) → c ≡ const_tree m (Expr k a) →
-      const_parts_of c ≡ m.args a
-  expression_parts k a c e = ap const_parts_of e
-
-  pub value_parts : (t : TyKey Key) (v : ValTreeKey Key) (c : Tree) → c ≡ const_tree m (Value t v) →
-      const_parts_of c ≡ branches_of (m.valtree v)
-  value_parts t v c e = ap const_parts_of e
-
-  pub value_branches : (t : TyKey Key) (v : ValTreeKey Key) (b : BranchesKey Key) (c : Tree) →
-      c ≡ const_tree m (Value t v) → m.valtree v ≡ valtree_tree m (Branch b) → const_parts_of c ≡ m.branches b
-  value_branches t v b c e q = value_parts t v c e ∙ ap branches_of q
 
 -- Parts of what is known are known.
 pub known_parts : (t : Tree) → IsTrue (known t) → IsTrue (known (parts_of t))
@@ -115,6 +66,7 @@ known_branches (node value_branch ts) k = k
 known_branches v k = refl
 
 pub known_const_parts : (c : Tree) → IsTrue (known c) → IsTrue (known (const_parts_of c))
+known_const_parts (node (unevaluated d) ts) k = k
 known_const_parts (node (expression x) ts) k = k
 known_const_parts (node value (cons t (cons v nil))) k =
     known_branches v (and_parts (known v) true (and_parts (known t) (known v && true) k).1).0
@@ -122,7 +74,7 @@ known_const_parts c k = refl
 
 -- What a constant's parts are of: of its own list, or of its value's.
 pub data OverParts (c : Tree) : Type 0 where
-  of_expression : (k : ℕ) → c ≡ node (expression k) (const_parts_of c) → OverParts c
+  of_list : (h : Head) → c ≡ node h (const_parts_of c) → OverParts c
   of_branches : (t : Tree) → c ≡ node value (cons t (cons (node value_branch (const_parts_of c)) nil)) → OverParts c
   of_none : const_parts_of c ≡ nil → OverParts c
 
@@ -131,7 +83,8 @@ of_value t (node value_branch ts) = of_branches t refl
 of_value t v = of_none refl
 
 pub over_parts : (c : Tree) → OverParts c
-over_parts (node (expression k) ts) = of_expression k refl
+over_parts (node (unevaluated d) ts) = of_list (unevaluated d) refl
+over_parts (node (expression k) ts) = of_list (expression k) refl
 over_parts (node value (cons t (cons v nil))) = of_value t v
 over_parts c = of_none refl
 
@@ -149,16 +102,16 @@ in_branches : (st : Store) (t u : Tree) → IsTermIn st (node value (cons t (con
 unfolding IsTermIn InContext
 in_branches st t u p = (p.0.1.0, p.1.1.0, p.2.1.0)
 
-in_expression : (st : Store) (h : Head) (u : Tree) → IsTermIn st (node h u) → IsTermIn st u
+in_form : (st : Store) (h : Head) (u : Tree) → IsTermIn st (node h u) → IsTermIn st u
 unfolding IsTermIn InContext
-in_expression st h u p = p
+in_form st h u p = p
 
 in_nil : (st : Store) → IsTermIn st nil
 unfolding IsTermIn InContext
 in_nil st = (tt, tt, tt)
 
 in_over : (st : Store) (c : Tree) → OverParts c → IsTermIn st c → IsTermIn st (const_parts_of c)
-in_over st c (of_expression k e) p = in_expression st (expression k) (const_parts_of c) (subst (IsTermIn st) e p)
+in_over st c (of_list h e) p = in_form st h (const_parts_of c) (subst (IsTermIn st) e p)
 in_over st c (of_branches t e) p = in_branches st t (const_parts_of c) (subst (IsTermIn st) e p)
 in_over st c (of_none e) p = subst (IsTermIn st) (sym e) (in_nil st)
 
@@ -216,7 +169,7 @@ parts_size s (cons t ts) c = absurd (omega arith)
 
 over_size : (s : Assign) (c : Tree) → OverParts c → 0 < count (const_parts_of c) →
     size (apply s (const_parts_of c)) < size (apply s c)
-over_size s c (of_expression k e) h = let q = ap (λ u. size (apply s u)) e in omega arith
+over_size s c (of_list f e) h = let q = ap (λ u. size (apply s u)) e in omega arith
 over_size s c (of_branches t e) h = let q = ap (λ u. size (apply s u)) e in omega arith
 over_size s c (of_none e) h = let q = ap count e in absurd (omega arith)
 

@@ -153,13 +153,12 @@ pub(crate) fn const_variance_at<I: Interner, R: TypeRelation<I>>(
         (i : _) → xform q.ambient result ≡ part_in q (const_head_of (q.meaning.const_ constant.now)) i }
 {
     match r.cx().const_kind(constant) {
-        ConstKind::Expr(..) => Variance::Invariant,
+        ConstKind::Expr(..) | ConstKind::Unevaluated(_) => Variance::Invariant,
         ConstKind::Value(..) => Variance::Covariant,
         ConstKind::Param(_) => Variance::Covariant,
         ConstKind::Infer(_) => Variance::Covariant,
         ConstKind::Bound(..) => Variance::Covariant,
         ConstKind::Placeholder(_) => Variance::Covariant,
-        ConstKind::Unevaluated(_) => Variance::Covariant,
         ConstKind::Error(_) => Variance::Covariant,
     }
 }
