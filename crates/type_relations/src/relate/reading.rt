@@ -153,7 +153,8 @@ pub(crate) fn const_variance_at<I: Interner, R: TypeRelation<I>>(
         (i : _) → xform q.ambient result ≡ part_in q (const_head_of (q.meaning.const_ constant.now)) i }
 {
     match r.cx().const_kind(constant) {
-        ConstKind::Expr(..) | ConstKind::Unevaluated(_) => Variance::Invariant,
+        ConstKind::Expr(..) => Variance::Invariant,
+        ConstKind::Unevaluated(_) => Variance::Invariant,
         ConstKind::Value(..) => Variance::Covariant,
         ConstKind::Param(_) => Variance::Covariant,
         ConstKind::Infer(_) => Variance::Covariant,
