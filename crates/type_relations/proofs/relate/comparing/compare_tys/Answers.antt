@@ -1,6 +1,5 @@
-use Rattle.std.proofs.Common.{rules, ◌≡◌, ◌∙◌, sym, ap, ◌↔◌, IsTrue}
+use Rattle.std.proofs.Common.{rules, ◌≡◌, ◌∙◌, sym, ap}
 use Rattle.std.proofs.lemmas.Bool.{false≢true}
-use Rattle.relation_tools.specs.Outlines.{named}
 use Rattle.type_relations.specs.declared.relate.forms.Form.TheVariants.{Leaf}
 use Rattle.type_relations.specs.Forms.{named_outline, tree_outline}
 use Rattle.type_relations.proofs.Forms.{itself_alike, unlike_forms, unlike_items, unlike_mutability}

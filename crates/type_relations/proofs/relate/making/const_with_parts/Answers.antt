@@ -37,9 +37,9 @@ mk_const-requires g c =
     let v = m.valtree c.in-Value.value in
     let e : k ≡ value_of t v = c.const_kind.ensures ∙ ap (const_tree m) c.in-Value.is in
     let sure = value_type_known k t v e c.requires.constant_known in
-    let made = c.in_ok-value.ensures in
+    let made = c.in_ok-value-in-Value.ensures in
     let same : n.ty c.in-Value.ty ≡ t = (made.grown).ty c.in-Value.ty sure in
-    let r : n.valtree c.the_valtree.result ≡ part_tree n c.in_ok-value.value = ap (part_tree n) c.the_valtree.ensures in
+    let r : n.valtree c.the_valtree.result ≡ part_tree n c.in_ok-value-in-Value.value = ap (part_tree n) c.the_valtree.ensures in
     value_known (n.ty c.in-Value.ty) (n.valtree c.the_valtree.result) (subst (λ z. IsTrue (known z)) (sym same) sure)
     (subst (λ z. IsTrue (known z)) (sym r) made.sure)
 
@@ -57,7 +57,7 @@ returns-in-Value g c =
     let ps = c.as_slice.result.now in
     let us = list_tree (part_tree m) ps in
     let q : ps ≡ map part_of_arg xs = c.as_slice.ensures.value ∙ c.in_ok-parts.ensures in
-    let made = c.in_ok-value.ensures in
+    let made = c.in_ok-value-in-Value.ensures in
     let same : n.ty c.in-Value.ty ≡ t =
     (made.grown).ty c.in-Value.ty (value_type_known k t v e c.requires.constant_known) in
     let r : n.valtree c.the_valtree.result ≡ term_over v us = ap (part_tree n) c.the_valtree.ensures ∙ made.made in
@@ -84,8 +84,8 @@ with_parts-requires-in_default g c =
       fits = fits_as xs ps (const_parts_of k) _ q same c.requires.fits;
     }
 
-pub returns-in_default : goal.returns-in_default
-returns-in_default g c =
+pub returns : goal.returns
+returns g c =
     let m = g.I.Interner.meaning c.args.cx.now in
     let n = g.I.Interner.meaning c.with_parts-in_default.new.cx in
     let k = m.const_ c.args.constant.now in
@@ -93,8 +93,8 @@ returns-in_default g c =
     let ps = c.as_slice-in_default.result.now in
     let us = list_tree (part_tree m) ps in
     let q : ps ≡ map part_of_arg xs = c.as_slice-in_default.ensures.value ∙ c.in_ok-parts.ensures in
-    let made = c.in_ok-made.ensures in
-    let r : n.const_ c.the_const.result ≡ part_tree n c.in_ok-made.made = ap (part_tree n) c.the_const.ensures in
+    let made = c.in_ok-made-in_default.ensures in
+    let r : n.const_ c.the_const.result ≡ part_tree n c.in_ok-made-in_default.made = ap (part_tree n) c.the_const.ensures in
     let same : term_over k us ≡ const_over k us = ap (λ z. term_over z us) c.const_kind.ensures
     ∙ const_over_as m c.const_kind.result us c.in_default.not-Value ∙ sym (ap (λ z. const_over z us) c.const_kind.ensures) in
     record {
