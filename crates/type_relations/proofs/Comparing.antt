@@ -3,16 +3,12 @@ use Rattle.std.proofs.Common.{◌≡◌, ◌≢◌, ◌⊎◌, ℕ, zero, suc, �
 use Rattle.std.specs.Result.{IsErr, IsErrAnd}
 use Rattle.std.proofs.lemmas.Bool.{false≢true}
 use Rattle.relation_terms.specs.Heads.{Head, Sort, Part, Shape, one, row, head_parts, Admits, type_sort, const_sort, value_sort, VarKind, var_sort, type_var, int_var, float_var, const_var, region_var}
-use Rattle.relation_terms.specs.Heads.{adt, fn_def, closure, coroutine_closure, coroutine, coroutine_witness}
-use Rattle.relation_terms.specs.Heads.{array, slice, tuple, raw_ptr, ref, unevaluated, expression, value, value_branch, Atom, type_param, const_param}
+use Rattle.relation_terms.specs.Heads.{array, tuple, unevaluated, expression, value, value_branch, Atom, type_param, const_param}
 use Rattle.relation_terms.specs.Heads.{Leaf, atom, variable, bound, placeholder, unknown}
 use Rattle.relation_terms.specs.Trees.{Tree, leaf, node, bind, nil, cons, Assign, apply, IsTerm, Fits, IsList, count, known}
 use Rattle.relation_terms.specs.Meaning.{Meaning, kind_tree, const_tree, infer_tree}
-use Rattle.relation_terms.specs.declared.terms.enums.Mutability.{Mutability}
 use Rattle.relation_terms.specs.declared.terms.keys.TyKey.{TyKey}
-use Rattle.relation_terms.specs.declared.terms.keys.TysKey.{TysKey}
 use Rattle.relation_terms.specs.declared.terms.keys.ConstKey.{ConstKey}
-use Rattle.relation_terms.specs.declared.terms.keys.RegionKey.{RegionKey}
 use Rattle.relation_terms.specs.declared.terms.ty_kind.TyKind.{TyKind}
 use Rattle.relation_terms.specs.declared.terms.ty_kind.TyKind.TheVariants.{FnPtr, UnsafeBinder, Dynamic}
 use Rattle.relation_terms.specs.declared.terms.ty_kind.TyKind.TheVariants.{Slice, Array, Tuple, RawPtr, Ref, Infer}
@@ -38,20 +34,15 @@ use Rattle.relation_tools.specs.Faults.{KnowsError, KnowsFault}
 use Rattle.type_relations.specs.Relation.{plain_atom, IsError}
 use Rattle.type_relations.specs.Covered.{IsCovered}
 use Rattle.type_relations.specs.Stores.{Store}
-use Rattle.type_relations.specs.Errors.{AreOfOneForm, over_parts, one_leaf, AreAlike, AreAlikeLeaves, AreAlikeConsts, AreOfOneValue, one_value, as_many_branches, IsVariableFor, AreBindable, HaveNoError, outer_head}
+use Rattle.type_relations.specs.Errors.{AreAlike, AreAlikeLeaves, AreAlikeConsts, AreOfOneValue, one_value, as_many_branches, IsVariableFor, AreBindable, HaveNoError, outer_head}
 use Rattle.type_relations.specs.Errors.{alike_leaves, of_one_item, both_expressions, both_values, unlike_aliases}
 use Rattle.type_relations.specs.Errors.{FormError, mutability, pointer_mutability, tuple_size, empty_tuple, as_many, sorts}
 use Rattle.type_relations.specs.Errors.{ConstFormError, const_mismatch, operations}
 use Rattle.type_relations.specs.Outcomes.{NoEqualTerms}
 use Rattle.type_relations.specs.Parts.{IsFormed, IsFormedConst}
-use Rattle.type_relations.specs.Parts.{parts_of, const_parts_of, branches_of, item_head, item_kind, kind_of, IsNoItem}
-use Rattle.type_relations.specs.declared.relate.forms.ItemForm.{ItemForm}
-use Rattle.type_relations.specs.declared.relate.forms.ItemForm.TheVariants.{Adt as AdtForm, FnDef as FnDefForm}
-use Rattle.type_relations.specs.declared.relate.forms.ItemForm.TheVariants.{Closure as ClosureForm}
-use Rattle.type_relations.specs.declared.relate.forms.ItemForm.TheVariants.{CoroutineClosure as AsyncForm}
-use Rattle.type_relations.specs.declared.relate.forms.ItemForm.TheVariants.{Coroutine as CoroutineForm}
-use Rattle.type_relations.specs.declared.relate.forms.ItemForm.TheVariants.{CoroutineWitness as WitnessForm}
-use Rattle.type_relations.specs.declared.relate.forms.ItemTy.{ItemTy}
+use Rattle.type_relations.specs.Parts.{parts_of, const_parts_of, branches_of}
+use Rattle.type_relations.specs.Forms.{tree_outline}
+use Rattle.type_relations.specs.declared.relate.forms.Form.TheVariants.{Leaf as LeafForm}
 use Rattle.type_relations.proofs.Covered.{covered_no_error}
 use Rattle.type_relations.proofs.OneParts.{lists_apart, count_applied}
 
@@ -142,6 +133,7 @@ value_shape (cons t (bind ks u)) f = absurd f.1
 value_shape ts f = absurd f
 
 pub const_parts_list : (t : Tree) → IsTerm const_sort t → IsList (const_parts_of t)
+const_parts_list (node (unevaluated d) ts) f = parts_list (unevaluated d) ts f.1
 const_parts_list (node (expression k) ts) f = parts_list (expression k) ts f.1
 const_parts_list (node value ts) f = (let (t, v, e, h) = value_shape ts f.1 in subst (λ z. IsList (const_parts_of (node value z))) (sym e) (branches_list v h))
 const_parts_list t f = tt
@@ -227,15 +219,7 @@ of_forms_alike (node value (cons t (cons v nil))) (node value (cons u (cons w ni
 of_forms_alike t u a = absurd a
 
 module _ {Key Id Name : Type 0} (m : Meaning Key Id Name) where
-  -- A variable is no form over parts, and no parameter.
-  alike_infer : (h : Head) (ts : Tree) (i : InferTy) → AreAlike (node h ts) (infer_tree i) → ⊥
-  alike_infer h ts (TyVar v) a = cc
-  alike_infer h ts (IntVar v) a = cc
-  alike_infer h ts (FloatVar v) a = cc
-  alike_infer h ts (FreshTy n) a = cc
-  alike_infer h ts (FreshIntTy n) a = cc
-  alike_infer h ts (FreshFloatTy n) a = cc
-
+  -- A variable is no parameter.
   param_infer : (i n : ℕ) (j : InferTy) → AreAlike (leaf (atom (type_param i n))) (infer_tree j) → ⊥
   param_infer i n (TyVar v) a = cc
   param_infer i n (IntVar v) a = cc
@@ -244,138 +228,58 @@ module _ {Key Id Name : Type 0} (m : Meaning Key Id Name) where
   param_infer i n (FreshIntTy k) a = cc
   param_infer i n (FreshFloatTy k) a = cc
 
-  -- What a type that is alike to one of a form is.
-  alike_slice : (ts : Tree) (l : TyKind Key Id Name) → AreAlike (node slice ts) (kind_tree m l) → ((y : TyKey Key) → l ≡ Slice y → ⊥) → ⊥
-  alike_slice ts (Slice y) a o = o y refl
-  alike_slice ts (Infer i) a o = alike_infer slice ts i a
-  alike_slice ts l a o = first_of (cc, search a)
-
-  alike_array : (ts : Tree) (l : TyKind Key Id Name) → AreAlike (node array ts) (kind_tree m l) → ((y : TyKey Key) (d : ConstKey Key) → l ≡ Array y d → ⊥) → ⊥
-  alike_array ts (Array y d) a o = o y d refl
-  alike_array ts (Infer i) a o = alike_infer array ts i a
-  alike_array ts l a o = first_of (cc, search a)
-
-  alike_tuple : (ts : Tree) (l : TyKind Key Id Name) → AreAlike (node tuple ts) (kind_tree m l) → ((y : TysKey Key) → l ≡ Tuple y → ⊥) → ⊥
-  alike_tuple ts (Tuple y) a o = o y refl
-  alike_tuple ts (Infer i) a o = alike_infer tuple ts i a
-  alike_tuple ts l a o = first_of (cc, search a)
-
-  alike_raw : (u : Mutability) (ts : Tree) (l : TyKind Key Id Name) → AreAlike (node (raw_ptr u) ts) (kind_tree m l) → ((y : TyKey Key) (v : Mutability) → l ≡ RawPtr y v → ⊥) → ⊥
-  alike_raw u ts (RawPtr y v) a o = o y v refl
-  alike_raw u ts (Infer i) a o = alike_infer (raw_ptr u) ts i a
-  alike_raw u ts l a o = first_of (cc, search a)
-
-  alike_ref : (u : Mutability) (ts : Tree) (l : TyKind Key Id Name) → AreAlike (node (ref u) ts) (kind_tree m l) → ((q : RegionKey Key) (y : TyKey Key) (v : Mutability) → l ≡ Ref q y v → ⊥) → ⊥
-  alike_ref u ts (Ref q y v) a o = o q y v refl
-  alike_ref u ts (Infer i) a o = alike_infer (ref u) ts i a
-  alike_ref u ts l a o = first_of (cc, search a)
-
+  -- What is alike to a parameter is one of its index.
   alike_param : (i n : ℕ) (l : TyKind Key Id Name) → AreAlike (leaf (atom (type_param i n))) (kind_tree m l) → ((q : ParamTy Name) → l ≡ TyParam q → i ≡ q.index → ⊥) → ⊥
   alike_param i n (TyParam q) a o = o q refl (cc)
   alike_param i n (Infer j) a o = param_infer i n j a
   alike_param i n l a o = first_of (cc, search a)
 
-  alike_item : (f : ItemForm) (n : ℕ) (ts : Tree) (l : TyKind Key Id Name) → IsNoItem l → AreAlike (node (item_head f n) ts) (kind_tree m l) → ⊥
-  alike_item AdtForm n ts (Infer i) o a = alike_infer (adt n) ts i a
-  alike_item FnDefForm n ts (Infer i) o a = alike_infer (fn_def n) ts i a
-  alike_item ClosureForm n ts (Infer i) o a = alike_infer (closure n) ts i a
-  alike_item AsyncForm n ts (Infer i) o a = alike_infer (coroutine_closure n) ts i a
-  alike_item CoroutineForm n ts (Infer i) o a = alike_infer (coroutine n) ts i a
-  alike_item WitnessForm n ts (Infer i) o a = alike_infer (coroutine_witness n) ts i a
-  alike_item f n ts l o a = first_of (cc, search o)
-
-  pub alike_items : (f g : ItemForm) (n k : ℕ) (ts us : Tree) → AreAlike (node (item_head f n) ts) (node (item_head g k) us) → (f ≡ g) × (n ≡ k)
-  alike_items AdtForm AdtForm n k ts us a = (refl, (cc))
-  alike_items FnDefForm FnDefForm n k ts us a = (refl, (cc))
-  alike_items ClosureForm ClosureForm n k ts us a = (refl, (cc))
-  alike_items AsyncForm AsyncForm n k ts us a = (refl, (cc))
-  alike_items CoroutineForm CoroutineForm n k ts us a = (refl, (cc))
-  alike_items WitnessForm WitnessForm n k ts us a = (refl, (cc))
-  alike_items f g n k ts us a = absurd (cc)
-
-  pub item_tree : (t : ItemTy Key Id) → kind_tree {Name = Name} m (item_kind t) ≡ node (item_head t.form (m.id t.def_id)) (m.args t.args)
-  item_tree t = go t.form t
-    where
-      go : (f : ItemForm) (t : ItemTy Key Id) → kind_tree {Name = Name} m (kind_of f t) ≡ node (item_head f (m.id t.def_id)) (m.args t.args)
-      go AdtForm t = refl
-      go FnDefForm t = refl
-      go ClosureForm t = refl
-      go AsyncForm t = refl
-      go CoroutineForm t = refl
-      go WitnessForm t = refl
-
   -- The error of two types that are of unlike forms.
-  unlike_as : (x y : TyKey Key) (t u : Tree) (e : TypeError Key Id Name) → m.ty x ≡ t → m.ty y ≡ u → HaveNoError t u → (AreAlike t u → ⊥) → e ≡ Sorts (record { expected = x; found = y }) → FormError m x y e
+  pub unlike_as : (x y : TyKey Key) (t u : Tree) (e : TypeError Key Id Name) → m.ty x ≡ t → m.ty y ≡ u → HaveNoError t u → (AreAlike t u → ⊥) → e ≡ Sorts (record { expected = x; found = y }) → FormError m x y e
   unlike_as x y t u e p q n o is = subst (FormError m x y) (sym is) (sorts (subst₂ HaveNoError (sym p) (sym q) n) (λ a. o (subst (λ z. AreAlike z u) p (subst (AreAlike (m.ty x)) q a))))
 
   module _ (l : TyKind Key Id Name) (x y : TyKey Key) (e : TypeError Key Id Name) (q : m.ty y ≡ kind_tree m l) (is : e ≡ Sorts (record { expected = x; found = y })) (o : IsCovered (m.ty y)) where
     no_error : IsError (kind_tree m l) → ⊥
     no_error = covered_no_error (kind_tree m l) (subst IsCovered q o)
 
-    pub unlike_slice : (k : TyKey Key) → m.ty x ≡ kind_tree {Name = Name} m (Slice k) → ((z : TyKey Key) → l ≡ Slice z → ⊥) → FormError m x y e
-    unlike_slice k p o = unlike_as x y (node slice (cons (m.ty k) nil)) (kind_tree m l) e p q ((λ z. z), no_error) (λ a. alike_slice (cons (m.ty k) nil) l a o) is
-
-    pub unlike_array : (k : TyKey Key) (c : ConstKey Key) → m.ty x ≡ kind_tree {Name = Name} m (Array k c) → ((z : TyKey Key) (d : ConstKey Key) → l ≡ Array z d → ⊥) → FormError m x y e
-    unlike_array k c p o = unlike_as x y (node array (cons (m.ty k) (cons (m.const_ c) nil))) (kind_tree m l) e p q ((λ z. z), no_error) (λ a. alike_array (cons (m.ty k) (cons (m.const_ c) nil)) l a o) is
-
-    pub unlike_tuple : (k : TysKey Key) → m.ty x ≡ kind_tree {Name = Name} m (Tuple k) → ((z : TysKey Key) → l ≡ Tuple z → ⊥) → FormError m x y e
-    unlike_tuple k p o = unlike_as x y (node tuple (m.tys k)) (kind_tree m l) e p q ((λ z. z), no_error) (λ a. alike_tuple (m.tys k) l a o) is
-
-    pub unlike_raw : (k : TyKey Key) (u : Mutability) → m.ty x ≡ kind_tree {Name = Name} m (RawPtr k u) → ((z : TyKey Key) (v : Mutability) → l ≡ RawPtr z v → ⊥) → FormError m x y e
-    unlike_raw k u p o = unlike_as x y (node (raw_ptr u) (cons (m.ty k) nil)) (kind_tree m l) e p q ((λ z. z), no_error) (λ a. alike_raw u (cons (m.ty k) nil) l a o) is
-
-    pub unlike_ref : (r : RegionKey Key) (k : TyKey Key) (u : Mutability) → m.ty x ≡ kind_tree {Name = Name} m (Ref r k u) → ((s : RegionKey Key) (z : TyKey Key) (v : Mutability) → l ≡ Ref s z v → ⊥) → FormError m x y e
-    unlike_ref r k u p o = unlike_as x y (node (ref u) (cons (m.region r) (cons (m.ty k) nil))) (kind_tree m l) e p q ((λ z. z), no_error) (λ a. alike_ref u (cons (m.region r) (cons (m.ty k) nil)) l a o) is
-
     pub unlike_param : (k : ParamTy Name) → m.ty x ≡ kind_tree m (TyParam k) → ((z : ParamTy Name) → l ≡ TyParam z → k.index ≡ z.index → ⊥) → FormError m x y e
     unlike_param k p o = unlike_as x y (leaf (atom (type_param k.index (m.name k.name)))) (kind_tree m l) e p q ((λ z. z), no_error) (λ a. alike_param k.index (m.name k.name) l a o) is
 
-    pub unlike_item : (t : ItemTy Key Id) → m.ty x ≡ kind_tree {Name = Name} m (item_kind t) → IsNoItem l → FormError m x y e
-    unlike_item t p o = unlike_as x y (node (item_head t.form (m.id t.def_id)) (m.args t.args)) (kind_tree m l) e (p ∙ item_tree t) q ((λ z. z), no_error) (alike_item t.form (m.id t.def_id) (m.args t.args) l o) is
+  -- What is alike to a type without parts that is no parameter is that type.
+  alone_kind : (k : TyKind Key Id Name) (t : Tree) → (tree_outline (kind_tree m k)).form ≡ LeafForm →
+      ((p : ParamTy Name) → k ≡ TyParam p → ⊥) → AreAlike (kind_tree m k) t → kind_tree m k ≡ t
+  alone_kind (TyParam p) t e n a = absurd (n p refl)
+  alone_kind (Infer (TyVar v)) t e n a = alone _ t tt a
+  alone_kind (Infer (IntVar v)) t e n a = alone _ t tt a
+  alone_kind (Infer (FloatVar v)) t e n a = alone _ t tt a
+  alone_kind (Infer (FreshTy i)) t e n a = alone _ t tt a
+  alone_kind (Infer (FreshIntTy i)) t e n a = alone _ t tt a
+  alone_kind (Infer (FreshFloatTy i)) t e n a = alone _ t tt a
+  alone_kind (Slice z) t e n a = absurd (cc)
+  alone_kind (Array z w) t e n a = absurd (cc)
+  alone_kind (Tuple z) t e n a = absurd (cc)
+  alone_kind (RawPtr z w) t e n a = absurd (cc)
+  alone_kind (Ref z w v) t e n a = absurd (cc)
+  alone_kind (Pat z w) t e n a = absurd (cc)
+  alone_kind (Alias z) t e n a = absurd (cc)
+  alone_kind (FnPtr z w) t e n a = absurd (cc)
+  alone_kind (UnsafeBinder z) t e n a = absurd (cc)
+  alone_kind (Dynamic z w) t e n a = absurd (cc)
+  alone_kind (Adt z w) t e n a = absurd (cc)
+  alone_kind (FnDef z w) t e n a = absurd (cc)
+  alone_kind (Closure z w) t e n a = absurd (cc)
+  alone_kind (CoroutineClosure z w) t e n a = absurd (cc)
+  alone_kind (Coroutine z w) t e n a = absurd (cc)
+  alone_kind (CoroutineWitness z w) t e n a = absurd (cc)
+  alone_kind k t e n a = alone _ t tt a
 
-  -- The first is a type without parts, and no parameter.
-  abbrev IsAlone : TyKind Key Id Name → Type 0
-  IsAlone k = (l : Leaf) × (kind_tree m k ≡ leaf l) × IsPlainLeaf l
-
-  alone_kind : (k : TyKind Key Id Name) → IsCovered (kind_tree m k) → IsNoItem k → ((x : TyKey Key) → k ≡ Slice x → ⊥) → ((x : TyKey Key) (c : ConstKey Key) → k ≡ Array x c → ⊥)
-      → ((x : TysKey Key) → k ≡ Tuple x → ⊥) → ((x : TyKey Key) (u : Mutability) → k ≡ RawPtr x u → ⊥) → ((r : RegionKey Key) (x : TyKey Key) (u : Mutability) → k ≡ Ref r x u → ⊥)
-      → ((p : ParamTy Name) → k ≡ TyParam p → ⊥) → IsAlone k
-  alone_kind (Slice x) o i a b c d e f = absurd (a x refl)
-  alone_kind (Array x y) o i a b c d e f = absurd (b x y refl)
-  alone_kind (Tuple x) o i a b c d e f = absurd (c x refl)
-  alone_kind (RawPtr x u) o i a b c d e f = absurd (d x u refl)
-  alone_kind (Ref r x u) o i a b c d e f = absurd (e r x u refl)
-  alone_kind (TyParam p) o i a b c d e f = absurd (f p refl)
-  alone_kind (Infer (TyVar v)) o i a b c d e f = (_, refl, tt)
-  alone_kind (Infer (IntVar v)) o i a b c d e f = (_, refl, tt)
-  alone_kind (Infer (FloatVar v)) o i a b c d e f = (_, refl, tt)
-  alone_kind (Infer (FreshTy n)) o i a b c d e f = absurd o
-  alone_kind (Infer (FreshIntTy n)) o i a b c d e f = absurd o
-  alone_kind (Infer (FreshFloatTy n)) o i a b c d e f = absurd o
-  alone_kind (Pat t p) o i a b c d e f = absurd o.0
-  alone_kind (Alias t) o i a b c d e f = absurd o.0
-  alone_kind (FnPtr q z) o i a b c d e f = absurd o.0
-  alone_kind (UnsafeBinder q) o i a b c d e f = absurd o.0
-  alone_kind (Dynamic q z) o i a b c d e f = absurd o.0
-  alone_kind (Adt q z) o i a b c d e f = absurd i
-  alone_kind (FnDef q z) o i a b c d e f = absurd i
-  alone_kind (Closure q z) o i a b c d e f = absurd i
-  alone_kind (CoroutineClosure q z) o i a b c d e f = absurd i
-  alone_kind (Coroutine q z) o i a b c d e f = absurd i
-  alone_kind (CoroutineWitness q z) o i a b c d e f = absurd i
-  alone_kind k o i a b c d e f = (_, refl, tt)
-
-  pub unlike_alone : (k other : TyKind Key Id Name) (x y : TyKey Key) (e : TypeError Key Id Name) → m.ty x ≡ kind_tree m k → m.ty y ≡ kind_tree m other → m.ty x ≢ m.ty y → e ≡ Sorts (record { expected = x; found = y })
-      → IsCovered (m.ty x) → IsCovered (m.ty y) → IsNoItem k → ((x : TyKey Key) → k ≡ Slice x → ⊥) → ((x : TyKey Key) (c : ConstKey Key) → k ≡ Array x c → ⊥) → ((x : TysKey Key) → k ≡ Tuple x → ⊥)
-      → ((x : TyKey Key) (u : Mutability) → k ≡ RawPtr x u → ⊥) → ((r : RegionKey Key) (x : TyKey Key) (u : Mutability) → k ≡ Ref r x u → ⊥) → ((p : ParamTy Name) → k ≡ TyParam p → ⊥) → FormError m x y e
-  unlike_alone k other x y e p w differ is v z i a b c d f g =
-      let (l, q, plain) = alone_kind k (subst IsCovered p v) i a b c d f g in
-      unlike_as x y (leaf l) (m.ty y) e (p ∙ q) refl (covered_no_error (leaf l) (subst IsCovered (p ∙ q) v), covered_no_error (m.ty y) z) (λ h. differ (p ∙ q ∙ alone l (m.ty y) plain h)) is
-
-  -- Where the two are one, they are of one form without parts.
-  pub one_alone : (k : TyKind Key Id Name) (a b : Tree) → a ≡ kind_tree m k → a ≡ b → IsCovered a → IsNoItem k → ((x : TyKey Key) → k ≡ Slice x → ⊥) → ((x : TyKey Key) (c : ConstKey Key) → k ≡ Array x c → ⊥) → ((x : TysKey Key) → k ≡ Tuple x → ⊥)
-      → ((x : TyKey Key) (u : Mutability) → k ≡ RawPtr x u → ⊥) → ((r : RegionKey Key) (x : TyKey Key) (u : Mutability) → k ≡ Ref r x u → ⊥) → ((p : ParamTy Name) → k ≡ TyParam p → ⊥) → AreOfOneForm a b
-  one_alone k x y p e v i a b c d f g = (let (l, q, plain) = alone_kind k (subst IsCovered p v) i a b c d f g in one_leaf (p ∙ q) (sym e ∙ p ∙ q))
+  pub unlike_leaf : (k : TyKind Key Id Name) (x y : TyKey Key) (e : TypeError Key Id Name) → m.ty x ≡ kind_tree m k →
+      IsCovered (m.ty x) → IsCovered (m.ty y) → (tree_outline (m.ty x)).form ≡ LeafForm → m.ty x ≢ m.ty y →
+      ((p : ParamTy Name) → k ≡ TyParam p → ⊥) → e ≡ Sorts (record { expected = x; found = y }) → FormError m x y e
+  unlike_leaf k x y e p c d f differ n is =
+      unlike_as x y (m.ty x) (m.ty y) e refl refl (covered_no_error (m.ty x) c, covered_no_error (m.ty y) d)
+      (λ a. differ (p ∙ alone_kind k (m.ty y) (ap (λ t. (tree_outline t).form) (sym p) ∙ f) n
+      (subst (λ t. AreAlike t (m.ty y)) p a))) is
 
   pub lengths_error : (i j : ℕ) (ts us : Tree) (x y : TyKey Key) (e : TypeError Key Id Name) → m.ty x ≡ node tuple ts → m.ty y ≡ node tuple us → i ≡ count ts → j ≡ count us → i ≢ j →
       (0 < i → 0 < j → e ≡ TupleSize (record { expected = i; found = j })) → ((i ≡ 0) ⊎ (j ≡ 0) → e ≡ Sorts (record { expected = x; found = y })) → FormError m x y e
@@ -392,32 +296,6 @@ module _ {Key Id Name : Type 0} (m : Meaning Key Id Name) where
       go zero b h k = subst (FormError m x y) (sym (empty (inl h))) (empty_tuple p q unequal (inl (sym ci ∙ h)))
       go (suc a) zero h k = subst (FormError m x y) (sym (empty (inr k))) (empty_tuple p q unequal (inr (sym cj ∙ k)))
       go (suc a) (suc b) h k = sized e (sizes (omega (arith, h)) (omega (arith, k))) (omega (arith, h)) (omega (arith, k))
-
-  -- Two items, or two numbers of arguments.
-  pub items_error : (s t : ItemTy Key Id) (x y : TyKey Key) (e : TypeError Key Id Name) → m.ty x ≡ kind_tree {Name = Name} m (item_kind s) → m.ty y ≡ kind_tree {Name = Name} m (item_kind t)
-      → (s.form ≡ t.form → m.id s.def_id ≡ m.id t.def_id → ⊥) → e ≡ Sorts (record { expected = x; found = y }) → FormError m x y e
-  items_error s t x y e p q o is =
-      unlike_as x y (node (item_head s.form (m.id s.def_id)) (m.args s.args)) (node (item_head t.form (m.id t.def_id)) (m.args t.args)) e (p ∙ item_tree s) (q ∙ item_tree t) ((λ z. z), (λ z. z))
-      (λ a. let h = alike_items s.form t.form (m.id s.def_id) (m.id t.def_id) (m.args s.args) (m.args t.args) a in o h.0 h.1) is
-
-  item_no_tuple : (f : ItemForm) (n : ℕ) → item_head f n ≢ tuple
-  item_no_tuple AdtForm n e = absurd (cc)
-  item_no_tuple FnDefForm n e = absurd (cc)
-  item_no_tuple ClosureForm n e = absurd (cc)
-  item_no_tuple AsyncForm n e = absurd (cc)
-  item_no_tuple CoroutineForm n e = absurd (cc)
-  item_no_tuple WitnessForm n e = absurd (cc)
-
-  pub arguments_error : (s t : ItemTy Key Id) (x y : TyKey Key) (e : TypeError Key Id Name) → m.ty x ≡ kind_tree {Name = Name} m (item_kind s) → m.ty y ≡ kind_tree {Name = Name} m (item_kind t)
-      → s.form ≡ t.form → m.id s.def_id ≡ m.id t.def_id → count (m.args s.args) ≢ count (m.args t.args) → e ≡ Sorts (record { expected = x; found = y }) → FormError m x y e
-  arguments_error s t x y e p q f d o is =
-      subst (FormError m x y) (sym is) (as_many (p ∙ item_tree s)
-      (q ∙ item_tree t ∙ ap (λ z. node (item_head z (m.id t.def_id)) (m.args t.args)) (sym f) ∙ ap (λ z. node (item_head s.form z) (m.args t.args)) (sym d)) (item_no_tuple s.form (m.id s.def_id)) o)
-
-  pub items_alike : (s t : ItemTy Key Id) (a b : Tree) → a ≡ kind_tree {Name = Name} m (item_kind s) → b ≡ kind_tree {Name = Name} m (item_kind t) → s.form ≡ t.form → m.id s.def_id ≡ m.id t.def_id
-      → count (m.args s.args) ≡ count (m.args t.args) → AreOfOneForm a b
-  items_alike s t a b p q f d n = over_parts (p ∙ item_tree s)
-      (q ∙ item_tree t ∙ ap (λ z. node (item_head z (m.id t.def_id)) (m.args t.args)) (sym f) ∙ ap (λ z. node (item_head s.form z) (m.args t.args)) (sym d)) n
 
   -- Where the forms differ no assignment makes the types one.
   alike_heads : (h k : Head) (ts us : Tree) → h ≡ k → AreAlike (node h ts) (node k us)

@@ -1,6 +1,6 @@
 -- Terms that relating has rules for: their parts, and what they are not.
 use Rattle.std.proofs.Common.{ℕ, zero, suc, ◌<◌, arith}
-use Rattle.relation_terms.specs.Heads.{expression, value, value_branch, type_error, const_error}
+use Rattle.relation_terms.specs.Heads.{unevaluated, expression, value, value_branch, type_error, const_error}
 use Rattle.relation_terms.specs.Heads.{atom}
 use Rattle.relation_terms.specs.Trees.{Tree, leaf, node, bind, nil, cons, count, nth}
 use Rattle.type_relations.specs.Covered.{IsCovered}
@@ -25,6 +25,7 @@ covered_branches (node value_branch ts) c = c.1
 covered_branches t c = tt
 
 covered_const_parts : (t : Tree) → IsCovered t → IsCovered (const_parts_of t)
+covered_const_parts (node (unevaluated d) ts) c = c.1
 covered_const_parts (node (expression k) ts) c = c.1
 covered_const_parts (node value (cons t (cons v nil))) c = covered_branches v c.1.1.0
 covered_const_parts t c = tt

@@ -28,6 +28,8 @@ pub mod Parts
 pub mod OneParts
 pub mod Classes
 pub mod Comparing
+pub mod Forms
+pub mod AsParts
 pub mod Handing
 pub mod PartSizes
 pub mod Equating

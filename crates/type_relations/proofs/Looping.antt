@@ -1,7 +1,7 @@
 -- The next parts of two forms: what is asked of them, and that they are smaller.
 use Rattle.std.proofs.Common.{◌≡◌, ℕ, zero, suc, ◌+◌, ◌*◌, ◌<◌, refl, sym, ap, ◌∙◌, subst, subst₂, arith, IsTrue, List, Result, Ok, Err}
 use Rattle.relation_terms.specs.declared.terms.enums.Variance.{Variance}
-use Rattle.relation_terms.specs.Heads.{Head, Leaf, expression, value, value_branch}
+use Rattle.relation_terms.specs.Heads.{Head, Leaf, unevaluated, expression, value, value_branch}
 use Rattle.relation_terms.specs.Trees.{Tree, leaf, node, bind, nil, cons, Leaves, known, count, nth}
 use Rattle.relation_terms.specs.declared.terms.keys.ConstKey.{ConstKey}
 use Rattle.relation_terms.specs.declared.terms.generic_arg.GenericArgKind.{GenericArgKind}
@@ -53,6 +53,7 @@ module _ (M : Manner) (is : (c : Items) (h : Head) (i : ℕ) (v : Variance) (l :
   branches_taken P t k = tt
 
   const_parts_taken : (P : Leaf → Type 0) (t : Tree) → Leaves P t → Leaves P (const_parts_of t)
+  const_parts_taken P (node (unevaluated d) ts) h = h
   const_parts_taken P (node (expression k) ts) h = h
   const_parts_taken P (node value (cons t (cons u nil))) h = branches_taken P u h.1.0
   const_parts_taken P t h = tt

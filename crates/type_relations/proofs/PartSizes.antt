@@ -1,6 +1,6 @@
 -- The parts of a term weigh less than the term.
 use Rattle.std.proofs.Common.{◌<◌, ◌≤◌, arith}
-use Rattle.relation_terms.specs.Heads.{expression, value, value_branch}
+use Rattle.relation_terms.specs.Heads.{unevaluated, expression, value, value_branch}
 use Rattle.relation_terms.specs.Trees.{Tree, leaf, node, bind, nil, cons, Assign, apply, count, size}
 use Rattle.type_relations.specs.Stores.{Store, weight, resolved}
 use Rattle.type_relations.specs.Parts.{parts_of, const_parts_of, branches_of}
@@ -25,6 +25,7 @@ branches_most s (node value_branch ts) = omega (arith)
 branches_most s v = (let e = one_size (apply s v) in omega (arith, e))
 
 const_parts_most : (s : Assign) (c : Tree) → size (apply s (const_parts_of c)) ≤ size (apply s c)
+const_parts_most s (node (unevaluated d) ts) = omega (arith)
 const_parts_most s (node (expression k) ts) = omega (arith)
 const_parts_most s (node value (cons t (cons v nil))) = (let e = branches_most s v in omega (arith, e))
 const_parts_most s c = (let e = one_size (apply s c) in omega (arith, e))

@@ -1,60 +1,16 @@
--- The parts of types and constants: known, of the context, smaller, and lists.
-use Rattle.std.proofs.Common.{◌≡◌, ℕ, zero, suc, ◌<◌, refl, sym, ap, ap₂, ◌∙◌, subst, arith, inl, inr}
-use Rattle.std.proofs.Common.{◌&&◌, IsTrue, true, Option, Some, List, [], ◌∷◌, length, get_or}
-use Rattle.std.proofs.lemmas.Bool.{and_parts}
-use Rattle.relation_terms.specs.Heads.{VarKind, Head, Leaf, Sort, Part, row, head_parts}
-use Rattle.relation_terms.specs.Heads.{expression}
-use Rattle.relation_terms.specs.Heads.{type_var}
-use Rattle.relation_terms.specs.Heads.{array, value, value_branch, Shape, one, variable, bound, placeholder, atom}
-use Rattle.relation_terms.specs.Heads.{unknown}
+-- The parts of types and constants: of the context, and smaller.
+use Rattle.std.proofs.Common.{◌≡◌, ℕ, zero, suc, ◌<◌, refl, sym, ap, ◌∙◌, subst, arith, inl, inr}
+use Rattle.std.proofs.Common.{IsTrue, List, length, get_or}
+use Rattle.relation_terms.specs.Heads.{VarKind, Head, Leaf}
+use Rattle.relation_terms.specs.Heads.{unevaluated, expression}
+use Rattle.relation_terms.specs.Heads.{value, value_branch, variable}
 use Rattle.relation_terms.specs.Trees.{Tree, leaf, node, bind, nil, cons, Assign, apply, Leaves, Occurs, size, count}
 use Rattle.relation_terms.specs.Trees.{nth}
-use Rattle.relation_terms.specs.Trees.{known, list_tree, IsList, IsTerm, Fits}
-use Rattle.relation_terms.specs.Meaning.{Meaning, kind_tree, const_tree, valtree_tree}
-use Rattle.relation_terms.specs.declared.terms.keys.TyKey.{TyKey}
-use Rattle.relation_terms.specs.declared.terms.keys.ArgsKey.{ArgsKey}
-use Rattle.relation_terms.specs.declared.terms.keys.ValTreeKey.{ValTreeKey}
-use Rattle.relation_terms.specs.declared.terms.keys.BranchesKey.{BranchesKey}
-use Rattle.relation_terms.specs.declared.terms.const_kind.ExprKind.{ExprKind}
-use Rattle.relation_terms.specs.declared.terms.const_kind.ConstKind.TheVariants.{Value, Expr}
-use Rattle.relation_terms.specs.declared.terms.const_kind.ValTreeKind.TheVariants.{Branch}
-use Rattle.relation_terms.specs.declared.terms.ty_kind.TyKind.{TyKind}
+use Rattle.relation_terms.specs.Trees.{known, list_tree, IsList}
 use Rattle.type_relations.specs.Relation.{StaysWithin}
-use Rattle.type_relations.specs.Stores.{Store, IsNamable, IsMadeLeaf, IsTermIn, InContext, resolved, weight}
-use Rattle.type_relations.specs.declared.relate.forms.ItemForm.{ItemForm}
-use Rattle.type_relations.specs.declared.relate.forms.ItemForm.TheVariants.{Adt as AdtForm, FnDef as FnDefForm}
-use Rattle.type_relations.specs.declared.relate.forms.ItemForm.TheVariants.{Closure as ClosureForm}
-use Rattle.type_relations.specs.declared.relate.forms.ItemForm.TheVariants.{CoroutineClosure as AsyncForm}
-use Rattle.type_relations.specs.declared.relate.forms.ItemForm.TheVariants.{Coroutine as CoroutineForm}
-use Rattle.type_relations.specs.declared.relate.forms.ItemForm.TheVariants.{CoroutineWitness as WitnessForm}
-use Rattle.type_relations.specs.declared.relate.forms.ItemTy.{ItemTy}
-use Rattle.type_relations.specs.Parts.{parts_of, branches_of, const_parts_of, item_head, kind_of, item_kind}
-use Rattle.type_relations.specs.Parts.{IsFormed}
+use Rattle.type_relations.specs.Stores.{Store, IsNamable, IsMadeLeaf, IsTermIn, InContext}
+use Rattle.type_relations.specs.Parts.{parts_of, const_parts_of}
 use Rattle.type_relations.proofs.Lists.{list_count, list_is, list_nth, part_known}
-
--- The tree of a form over an item.
-module _ {Key Id Name : Type 0} (m : Meaning Key Id Name) where
-  form_tree : (f : ItemForm) (t : ItemTy Key Id) → kind_tree m (kind_of f t) ≡ node (item_head f (m.id t.def_id))
-      (m.args t.args)
-  form_tree AdtForm t = refl
-  form_tree FnDefForm t = refl
-  form_tree ClosureForm t = refl
-  form_tree AsyncForm t = refl
-  form_tree CoroutineForm t = refl
-  form_tree WitnessForm t = refl
-
-  pub item_tree : (t : ItemTy Key Id) → kind_tree m (item_kind t) ≡ node (item_head t.form (m.id t.def_id))
-      (m.args t.args)
-  item_tree t = form_tree t.form t
-
-  -- What a type of such a form is, and its parts.
-  pub over_item : (t : ItemTy Key Id) (k : TyKind Key Id Name) (u : Tree) → u ≡ kind_tree m k → k ≡ item_kind t →
-      u ≡ node (item_head t.form (m.id t.def_id)) (m.args t.args)
-  over_item t k u e q = e ∙ ap (kind_tree m) q ∙ item_tree t
-
-  pub item_parts : (t : ItemTy Key Id) (k : TyKind Key Id Name) (u : Tree) → u ≡ kind_tree m k → k ≡ item_kind t →
-      parts_of u ≡ m.args t.args
-  item_parts t k u e q = ap parts_of (over_item t k u e q)
 
 -- A list of parts, as the slice that an interner reads.
 module _ {K : Type 0} (f : K → Tree) (xs : List K) (u : Tree) (i : u ≡ list_tree f xs) where
@@ -75,54 +31,9 @@ module _ {K : Type 0} (f : K → Tree) (xs : List K) (u : Tree) (i : u ≡ list_
   pub slice_nth : (w : Tree) → w ≡ u → (n : ℕ) (d x : K) → n < count w → x ≡ get_or xs n d → f x ≡ nth n w
   slice_nth w e n d x h q = ap f q ∙ sym (list_nth f xs n d (slice_below w e n h)) ∙ ap (nth n) (sym (e ∙ i))
 
--- The parts of a tree that is over a list of them.
-pub parts_are : (h : Head) (u t : Tree) → t ≡ node h u → parts_of t ≡ u
-parts_are h u t e = ap parts_of e
-
--- The same of constants.
-module _ {Key Id Name : Type 0} (m : Meaning Key Id Name) where
-  pub expression_parts : (k : ExprKind) (a : ArgsKey Key) (c : Tree) → c ≡ const_tree m (Expr k a) →
-      const_parts_of c ≡ m.args a
-  expression_parts k a c e = ap const_parts_of e
-
-  pub value_parts : (t : TyKey Key) (v : ValTreeKey Key) (c : Tree) → c ≡ const_tree m (Value t v) →
-      const_parts_of c ≡ branches_of (m.valtree v)
-  value_parts t v c e = ap const_parts_of e
-
-  pub value_branches : (t : TyKey Key) (v : ValTreeKey Key) (b : BranchesKey Key) (c : Tree) →
-      c ≡ const_tree m (Value t v) → m.valtree v ≡ valtree_tree m (Branch b) → const_parts_of c ≡ m.branches b
-  value_branches t v b c e q = value_parts t v c e ∙ ap branches_of q
-
--- Parts of what is known are known.
-pub known_parts : (t : Tree) → IsTrue (known t) → IsTrue (known (parts_of t))
-known_parts (node h ts) k = k
-known_parts (leaf l) k = refl
-known_parts (bind ks t) k = refl
-known_parts nil k = refl
-known_parts (cons t ts) k = refl
-
-pub known_nth : (ts : Tree) (i : ℕ) → i < count ts → IsTrue (known ts) → IsTrue (known (nth i ts))
-known_nth (cons t ts) zero h k = (and_parts (known t) (known ts) k).0
-known_nth (cons t ts) (suc i) h k = known_nth ts i (omega arith) (and_parts (known t) (known ts) k).1
-known_nth (leaf l) i h k = absurd (omega arith)
-known_nth (node a l) i h k = absurd (omega arith)
-known_nth (bind ks l) i h k = absurd (omega arith)
-known_nth nil i h k = absurd (omega arith)
-
--- Of a constant the same.
-pub known_branches : (v : Tree) → IsTrue (known v) → IsTrue (known (branches_of v))
-known_branches (node value_branch ts) k = k
-known_branches v k = refl
-
-pub known_const_parts : (c : Tree) → IsTrue (known c) → IsTrue (known (const_parts_of c))
-known_const_parts (node (expression x) ts) k = k
-known_const_parts (node value (cons t (cons v nil))) k =
-    known_branches v (and_parts (known v) true (and_parts (known t) (known v && true) k).1).0
-known_const_parts c k = refl
-
 -- What a constant's parts are of: of its own list, or of its value's.
 pub data OverParts (c : Tree) : Type 0 where
-  of_expression : (k : ℕ) → c ≡ node (expression k) (const_parts_of c) → OverParts c
+  of_list : (h : Head) → c ≡ node h (const_parts_of c) → OverParts c
   of_branches : (t : Tree) → c ≡ node value (cons t (cons (node value_branch (const_parts_of c)) nil)) → OverParts c
   of_none : const_parts_of c ≡ nil → OverParts c
 
@@ -131,7 +42,8 @@ of_value t (node value_branch ts) = of_branches t refl
 of_value t v = of_none refl
 
 pub over_parts : (c : Tree) → OverParts c
-over_parts (node (expression k) ts) = of_expression k refl
+over_parts (node (unevaluated d) ts) = of_list (unevaluated d) refl
+over_parts (node (expression k) ts) = of_list (expression k) refl
 over_parts (node value (cons t (cons v nil))) = of_value t v
 over_parts c = of_none refl
 
@@ -149,16 +61,16 @@ in_branches : (st : Store) (t u : Tree) → IsTermIn st (node value (cons t (con
 unfolding IsTermIn InContext
 in_branches st t u p = (p.0.1.0, p.1.1.0, p.2.1.0)
 
-in_expression : (st : Store) (h : Head) (u : Tree) → IsTermIn st (node h u) → IsTermIn st u
+in_form : (st : Store) (h : Head) (u : Tree) → IsTermIn st (node h u) → IsTermIn st u
 unfolding IsTermIn InContext
-in_expression st h u p = p
+in_form st h u p = p
 
 in_nil : (st : Store) → IsTermIn st nil
 unfolding IsTermIn InContext
 in_nil st = (tt, tt, tt)
 
 in_over : (st : Store) (c : Tree) → OverParts c → IsTermIn st c → IsTermIn st (const_parts_of c)
-in_over st c (of_expression k e) p = in_expression st (expression k) (const_parts_of c) (subst (IsTermIn st) e p)
+in_over st c (of_list h e) p = in_form st h (const_parts_of c) (subst (IsTermIn st) e p)
 in_over st c (of_branches t e) p = in_branches st t (const_parts_of c) (subst (IsTermIn st) e p)
 in_over st c (of_none e) p = subst (IsTermIn st) (sym e) (in_nil st)
 
@@ -216,7 +128,7 @@ parts_size s (cons t ts) c = absurd (omega arith)
 
 over_size : (s : Assign) (c : Tree) → OverParts c → 0 < count (const_parts_of c) →
     size (apply s (const_parts_of c)) < size (apply s c)
-over_size s c (of_expression k e) h = let q = ap (λ u. size (apply s u)) e in omega arith
+over_size s c (of_list f e) h = let q = ap (λ u. size (apply s u)) e in omega arith
 over_size s c (of_branches t e) h = let q = ap (λ u. size (apply s u)) e in omega arith
 over_size s c (of_none e) h = let q = ap count e in absurd (omega arith)
 
@@ -224,88 +136,7 @@ pub const_parts_size : (s : Assign) (c : Tree) → 0 < count (const_parts_of c) 
     size (apply s (const_parts_of c)) < size (apply s c)
 const_parts_size s c h = over_size s c (over_parts c) h
 
-pub weight_part : (st : Store) (t : Tree) (i : ℕ) → i < count (parts_of t) →
-    weight st (nth i (parts_of t)) < weight st t
-unfolding weight
-weight_part st t i h =
-    let a = nth_size (resolved st) (parts_of t) i h in
-    let b = parts_size (resolved st) t (omega arith) in
-    omega arith
-
-pub weight_const_part : (st : Store) (c : Tree) (i : ℕ) → i < count (const_parts_of c) →
-    weight st (nth i (const_parts_of c)) < weight st c
-unfolding weight
-weight_const_part st c i h =
-    let a = nth_size (resolved st) (const_parts_of c) i h in
-    let b = const_parts_size (resolved st) c (omega arith) in
-    omega arith
-
--- The same over trees as they are.
-abbrev own : Assign
-own k n = leaf (variable k n)
-
-owned : (t : Tree) → apply own t ≡ t
-owned (leaf (variable k n)) = refl
-owned (leaf (bound k d i)) = refl
-owned (leaf (placeholder k u n)) = refl
-owned (leaf (atom x)) = refl
-owned (leaf unknown) = refl
-owned (node h ts) = ap (node h) (owned ts)
-owned (bind ks t) = ap (bind ks) (owned t)
-owned nil = refl
-owned (cons t ts) = ap₂ cons (owned t) (owned ts)
-
-pub size_part : (t : Tree) (i : ℕ) → i < count (parts_of t) → size (nth i (parts_of t)) < size t
-size_part t i h =
-    let a = nth_size own (parts_of t) i h in
-    let b = parts_size own t (omega arith) in
-    let p = ap size (owned (nth i (parts_of t))) in
-    let q = ap size (owned t) in
-    omega arith
-
-pub size_const_part : (c : Tree) (i : ℕ) → i < count (const_parts_of c) → size (nth i (const_parts_of c)) < size c
-size_const_part c i h =
-    let a = nth_size own (const_parts_of c) i h in
-    let b = const_parts_size own c (omega arith) in
-    let p = ap size (owned (nth i (const_parts_of c))) in
-    let q = ap size (owned c) in
-    omega arith
-
--- The parts of terms are lists.
-rest_list : (ps : List Part) (r : Option Part) (t : Tree) → Fits (row ps r) t → IsList t
-rest_list [] r nil f = tt
-rest_list [] (Some p) (cons t ts) f = rest_list [] (Some p) ts f.1
-rest_list (p ∷ ps) r (cons t ts) f = rest_list ps r ts f.1
-rest_list ps r t f = absurd f
-
-abbrev IsRow : Shape → Type 0
-IsRow (row ps r) = Unit {0}
-IsRow (one p) = ⊥
-
-each_row : (h : Head) → IsRow (head_parts h)
-each_row array = tt
-each_row h = tt
-
-list_fits : (s : Shape) (t : Tree) → IsRow s → Fits s t → IsList t
-list_fits (row ps r) t i f = rest_list ps r t f
-list_fits (one p) t i f = absurd i
-
-pub parts_list : (s : Sort) (t : Tree) → IsTerm s t → IsList (parts_of t)
-parts_list s (node h ts) f = list_fits (head_parts h) ts (each_row h) f.1
-parts_list s (leaf l) f = tt
-parts_list s (bind ks t) f = tt
-parts_list s nil f = tt
-parts_list s (cons t ts) f = tt
-
--- Where a variable stands in a part, it stands in the whole; and in some part, where it stands in a list.
-pub occurs_nth : (k : VarKind) (n : ℕ) (ts : Tree) (i : ℕ) → i < count ts → Occurs k n (nth i ts) → Occurs k n ts
-occurs_nth k n (cons t ts) zero h o = inl o
-occurs_nth k n (cons t ts) (suc i) h o = inr (occurs_nth k n ts i (omega arith) o)
-occurs_nth k n (leaf l) i h o = absurd (omega arith)
-occurs_nth k n (node a l) i h o = absurd (omega arith)
-occurs_nth k n (bind ks l) i h o = absurd (omega arith)
-occurs_nth k n nil i h o = absurd (omega arith)
-
+-- A variable that stands in no member of a list stands nowhere in it.
 pub nowhere : (k : VarKind) (n : ℕ) (ts : Tree) → IsList ts → ((i : ℕ) → i < count ts → Occurs k n (nth i ts) → ⊥) →
     Occurs k n ts → ⊥
 nowhere k n nil l h o = o
@@ -314,26 +145,3 @@ nowhere k n (cons t ts) l h (inr o) = nowhere k n ts l (λ i j p. h (suc i) (ome
 nowhere k n (leaf x) l h o = l
 nowhere k n (node g ts) l h o = l
 nowhere k n (bind ks t) l h o = l
-
-pub occurs_parts : (k : VarKind) (n : ℕ) (t : Tree) → Occurs k n (parts_of t) → Occurs k n t
-occurs_parts k n (node h ts) o = o
-occurs_parts k n (leaf l) o = absurd o
-occurs_parts k n (bind ks t) o = absurd o
-occurs_parts k n nil o = absurd o
-occurs_parts k n (cons t ts) o = absurd o
-
-occurs_over : (k : VarKind) (n : ℕ) (c : Tree) → OverParts c → Occurs k n (const_parts_of c) → Occurs k n c
-occurs_over k n c (of_expression x e) o = subst (Occurs k n) (sym e) o
-occurs_over k n c (of_branches t e) o = subst (Occurs k n) (sym e) (inr (inl o))
-occurs_over k n c (of_none e) o = absurd (subst (Occurs k n) e o)
-
-pub occurs_const_parts : (k : VarKind) (n : ℕ) (c : Tree) → Occurs k n (const_parts_of c) → Occurs k n c
-occurs_const_parts k n c o = occurs_over k n c (over_parts c) o
-
--- A variable stands in a type that is none only in its parts.
-pub occurs_formed : (n : ℕ) (t : Tree) → IsFormed t → Occurs type_var n t → Occurs type_var n (parts_of t)
-occurs_formed n (leaf l) f o = absurd (subst IsFormed o f)
-occurs_formed n (node h ts) f o = o
-occurs_formed n (bind ks t) f o = absurd f
-occurs_formed n nil f o = absurd f
-occurs_formed n (cons t ts) f o = absurd f

@@ -11,7 +11,7 @@ use Rattle.type_relations.proofs.Comparing.{list_of, parts_list, value_shape, no
 use Rattle.type_relations.specs.Errors.{ConstFormError, const_mismatch, operations}
 use Rattle.relation_terms.specs.declared.terms.keys.ConstKey.{ConstKey}
 use Rattle.relation_terms.specs.Heads.{Admits, region_var}
-use Rattle.relation_terms.specs.Heads.{expression, value, value_type, value_branch, Leaf, tuple, alias}
+use Rattle.relation_terms.specs.Heads.{unevaluated, expression, value, value_type, value_branch, Leaf, tuple, alias}
 use Rattle.relation_terms.specs.Trees.{Tree, leaf, node, bind, nil, cons, Assign, apply, count, IsList, IsTerm}
 use Rattle.relation_terms.specs.Erasure.{erase, erase_atom, erase_kinded}
 use Rattle.type_relations.specs.Relation.{plain_atom, sort_of}
@@ -39,6 +39,7 @@ first_order_branches (node value_branch ts) f = f.3
 first_order_branches v f = tt
 
 pub first_order_const_parts : (c : Tree) → IsFirstOrder c → IsFirstOrder (const_parts_of c)
+first_order_const_parts (node (unevaluated d) ts) f = f.3
 first_order_const_parts (node (expression k) ts) f = f.3
 first_order_const_parts (node value (cons t (cons v nil))) f = first_order_branches v f.3.1.0
 first_order_const_parts c f = tt
@@ -53,6 +54,7 @@ formed_looked_at (node h ts) f = looked_at h f
 formed_looked_at t f = tt
 
 pub const_looked_at : (t : Tree) → IsLookedAt (const_head_of t)
+const_looked_at (node (unevaluated d) ts) = tt
 const_looked_at (node (expression k) ts) = tt
 const_looked_at t = tt
 

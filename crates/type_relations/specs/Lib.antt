@@ -1,5 +1,6 @@
 pub mod Relation
 pub mod Stores
+pub mod Forms
 pub mod Goals
 pub mod FirstOrder
 pub mod Steps

@@ -1,21 +1,16 @@
 -- Terms made anew: the form of one over other parts.
-use Rattle.std.specs.Prelude.{◌≡◌, ℕ, zero, suc, List, [], ◌∷◌, IsTrue, Result, IfOk}
+use Rattle.std.specs.Prelude.{◌≡◌, List, [], ◌∷◌, IsTrue, Result, IfOk}
 use Rattle.relation_terms.specs.declared.terms.generic_arg.GenericArgKind.{GenericArgKind}
 use Rattle.relation_terms.specs.declared.terms.generic_arg.GenericArgKind.TheVariants.{Lifetime, Ty, Const}
-use Rattle.relation_terms.specs.Heads.{Sort, region_sort, type_sort, const_sort, no_sort, expression, value, value_branch}
+use Rattle.relation_terms.specs.Heads.{Sort, region_sort, type_sort, const_sort, unevaluated, expression, value, value_branch}
 use Rattle.relation_terms.specs.Trees.{Tree, node, nil, cons, known, IsTerm}
 use Rattle.relation_terms.specs.Meaning.{Meaning, Extends}
 
--- The sort that an argument's kind says, and that of the argument at a place.
+-- The sort that an argument's kind says.
 abbrev pub arg_sort : {Key : Type 0} → GenericArgKind Key → Sort
 arg_sort (Lifetime r) = region_sort
 arg_sort (Ty t) = type_sort
 arg_sort (Const c) = const_sort
-
-abbrev pub sort_at : {Key : Type 0} → ℕ → List (GenericArgKind Key) → Sort
-sort_at i [] = no_sort
-sort_at zero (x ∷ xs) = arg_sort x
-sort_at (suc i) (x ∷ xs) = sort_at i xs
 
 -- As many arguments as there are parts, each of the kind of the part at its place.
 abbrev pub Fit : {Key : Type 0} → List (GenericArgKind Key) → Tree → Type 0
@@ -28,8 +23,9 @@ abbrev pub over : Tree → Tree → Tree
 over (node h ts) us = node h us
 over t us = t
 
--- Of a constant the same: an expression over other arguments, a value of its type with other branches.
+-- Of a constant the same: an item or an expression over other arguments, a value of its type with other branches.
 abbrev pub const_over : Tree → Tree → Tree
+const_over (node (unevaluated d) ts) us = node (unevaluated d) us
 const_over (node (expression k) ts) us = node (expression k) us
 const_over (node value (cons t (cons (node value_branch vs) nil))) us =
     node value (cons t (cons (node value_branch us) nil))

@@ -4,10 +4,10 @@ ghost use Rattle.type_relations.specs.DiagInfo.{first_invariant, NestingIsAssoci
 
 mod args;
 pub mod comparing;
-pub mod forms;
+mod forms;
 pub mod handing;
 mod making;
-pub mod parts;
+mod parts;
 mod reading;
 mod relatable;
 pub mod solver_relating;

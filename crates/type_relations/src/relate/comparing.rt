@@ -1,14 +1,15 @@
 //! Comparing the outermost forms of two terms.
 ghost use Rattle.std.specs.Prelude.{◌≡◌, ◌≢◌, ◌⊎◌, ◌<◌, IsTrue, IsFalse, OnOk, IfErr};
 ghost use Rattle.relation_terms.specs.Trees.{known};
-ghost use Rattle.relation_terms.specs.Meaning.{kind_tree};
 ghost use Rattle.type_relations.specs.Errors.{FormError, ConstFormError, AreOfOneForm, AreOfOneConst, AreOfOneValue};
 ghost use Rattle.relation_tools.specs.declared.error.TypeError.TheVariants.{Sorts, TupleSize, ConstMismatch};
-ghost use Rattle.type_relations.specs.Parts.{item_kind};
+ghost use Rattle.type_relations.specs.Forms.{tree_outline};
+ghost use Rattle.type_relations.specs.declared.relate.forms.Form.TheVariants.{Leaf, Tuple};
 ghost use Rattle.type_relations.specs.Parts.{IsFormedConst};
 ghost use Rattle.type_relations.specs.Covered.{IsCovered};
 
-use crate::relate::forms::{ItemTy, item_of};
+use crate::relate::forms::{Form, is_same_form, is_same_item, outline_of};
+use crate::relate::parts::parts_count;
 use relation_terms::terms::{Const, ConstKind, Interner, Ty, TyKind, ValTree, ValTreeKind};
 use relation_tools::error::{ExpectedFound, TypeError, TypeErrorOf};
 
@@ -28,95 +29,51 @@ pub fn compare_tys<I: Interner>(cx: &I, a: &Ty<I>, b: &Ty<I>) -> Result<(), Type
     ensures alike { OnOk result (AreOfOneForm ((I.meaning cx.now).ty a.now) ((I.meaning cx.now).ty b.now)) }
     ensures errors { IfErr result (FormError (I.meaning cx.now) a.now b.now) }
 {
-    let right = cx.ty_kind(b);
-    let left = cx.ty_kind(a);
-    if let Some(item) = item_of(&left) {
-        return compare_items(cx, a, b, &item);
+    if a == b {
+        return Ok(());
     }
-    match &left {
-        TyKind::Slice(_) => {
-            let TyKind::Slice(_) = &right else {
-                return Err(unlike::<I>(a, b));
-            };
-            Ok(())
-        }
-        TyKind::Array(..) => {
-            let TyKind::Array(..) = &right else {
-                return Err(unlike::<I>(a, b));
-            };
-            Ok(())
-        }
-        TyKind::Tuple(xs) => {
-            let TyKind::Tuple(ys) = &right else {
-                return Err(unlike::<I>(a, b));
-            };
-            let n = cx.tys(xs).len();
-            let m = cx.tys(ys).len();
-            if n != m {
-                return Err(unlike_lengths::<I>(a, b, n, m));
-            }
-            Ok(())
-        }
-        TyKind::RawPtr(_, mutability) => {
-            let TyKind::RawPtr(_, other) = &right else {
-                return Err(unlike::<I>(a, b));
-            };
-            if *mutability != *other {
-                return Err(TypeError::Mutability);
-            }
-            Ok(())
-        }
-        TyKind::Ref(_, _, mutability) => {
-            let TyKind::Ref(_, _, other) = &right else {
-                return Err(unlike::<I>(a, b));
-            };
-            if *mutability != *other {
-                return Err(TypeError::Mutability);
-            }
-            Ok(())
-        }
-        TyKind::Param(parameter) => {
-            let TyKind::Param(other) = &right else {
-                return Err(unlike::<I>(a, b));
-            };
-            if parameter.index != other.index {
-                return Err(unlike::<I>(a, b));
-            }
-            Ok(())
-        }
-        _ => {
-            if a != b {
-                return Err(unlike::<I>(a, b));
-            }
-            Ok(())
-        }
+    let left = outline_of(cx, &cx.ty_kind(a));
+    let right = outline_of(cx, &cx.ty_kind(b));
+    if is_same_form(left.form, Form::Leaf) {
+        return compare_leaves(cx, a, b);
     }
+    if !is_same_form(left.form, right.form) {
+        return Err(unlike::<I>(a, b));
+    }
+    if !is_same_item(cx, &left.item, &right.item) {
+        return Err(unlike::<I>(a, b));
+    }
+    if left.mutability != right.mutability {
+        return Err(TypeError::Mutability);
+    }
+    let n = parts_count(cx, a);
+    let m = parts_count(cx, b);
+    if n != m {
+        return Err(unlike_counts::<I>(a, b, left.form, n, m));
+    }
+    Ok(())
 }
 
-// The same where the first is over an item: the other is over that item too, in the same form.
-fn compare_items<I: Interner>(
-    cx: &I,
-    a: &Ty<I>,
-    b: &Ty<I>,
-    item: &ItemTy<I::Key, I::Id>,
-) -> Result<(), TypeErrorOf<I>>
+// The same of two types that differ, of which the first has no parts.
+fn compare_leaves<I: Interner>(cx: &I, a: &Ty<I>, b: &Ty<I>) -> Result<(), TypeErrorOf<I>>
     requires a_known { IsTrue (known ((I.meaning cx.now).ty a.now)) }
     requires b_known { IsTrue (known ((I.meaning cx.now).ty b.now)) }
+    requires a_covered { IsCovered ((I.meaning cx.now).ty a.now) }
     requires b_covered { IsCovered ((I.meaning cx.now).ty b.now) }
-    requires means { (I.meaning cx.now).ty a.now ≡ kind_tree (I.meaning cx.now) (item_kind item.now) }
+    requires leaf { (tree_outline ((I.meaning cx.now).ty a.now)).form ≡ Leaf }
+    requires differ { (I.meaning cx.now).ty a.now ≢ (I.meaning cx.now).ty b.now }
     ensures alike { OnOk result (AreOfOneForm ((I.meaning cx.now).ty a.now) ((I.meaning cx.now).ty b.now)) }
     ensures errors { IfErr result (FormError (I.meaning cx.now) a.now b.now) }
 {
-    let Some(other) = item_of(&cx.ty_kind(b)) else {
+    let left = cx.ty_kind(a);
+    let right = cx.ty_kind(b);
+    let TyKind::Param(parameter) = left else {
         return Err(unlike::<I>(a, b));
     };
-    if item.form != other.form {
+    let TyKind::Param(other) = right else {
         return Err(unlike::<I>(a, b));
-    }
-    if item.def_id != other.def_id {
-        return Err(unlike::<I>(a, b));
-    }
-    if cx.args(&item.args).len() != cx.args(&other.args).len() {
+    };
+    if parameter.index != other.index {
         return Err(unlike::<I>(a, b));
     }
     Ok(())
@@ -210,12 +167,22 @@ fn unlike<I: Interner>(a: &Ty<I>, b: &Ty<I>) -> TypeErrorOf<I>
     TypeError::Sorts(ExpectedFound::new(*a, *b))
 }
 
-// Two tuples of unlike lengths; where one is empty, two types of unlike forms.
-fn unlike_lengths<I: Interner>(a: &Ty<I>, b: &Ty<I>, n: usize, m: usize) -> TypeErrorOf<I>
-    ensures sizes { 0 < n → 0 < m → result ≡ TupleSize (record { expected = n; found = m }) }
+// Two types of one form with unlike numbers of parts: two tuples, of which neither is empty, by their lengths.
+fn unlike_counts<I: Interner>(
+    a: &Ty<I>,
+    b: &Ty<I>,
+    form: Form,
+    n: usize,
+    m: usize,
+) -> TypeErrorOf<I>
+    ensures sizes { form ≡ Tuple → 0 < n → 0 < m → result ≡ TupleSize (record { expected = n; found = m }) }
     ensures empty { (n ≡ 0) ⊎ (m ≡ 0) → result ≡ Sorts (record { expected = a.now; found = b.now }) }
+    ensures others { form ≢ Tuple → result ≡ Sorts (record { expected = a.now; found = b.now }) }
 {
     if n == 0 || m == 0 {
+        return unlike::<I>(a, b);
+    }
+    if !is_same_form(form, Form::Tuple) {
         return unlike::<I>(a, b);
     }
     TypeError::TupleSize(ExpectedFound::new(n, m))

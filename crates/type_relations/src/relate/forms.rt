@@ -1,70 +1,128 @@
-//! The forms of types over an item and its arguments, told apart in one place.
-ghost use Rattle.std.specs.Prelude.{◌≡◌, IfSome, IfNone};
-ghost use Rattle.type_relations.specs.Parts.{item_kind, IsNoItem};
+//! The outermost forms of types, as comparing tells them apart.
+ghost use Rattle.std.specs.Prelude.{◌≡◌, ◌↔◌, IsTrue};
+ghost use Rattle.relation_terms.specs.Trees.{known};
+ghost use Rattle.relation_terms.specs.Meaning.{kind_tree};
+ghost use Rattle.relation_tools.specs.Outlines.{named};
+ghost use Rattle.type_relations.specs.Forms.{plain, of_item, of_pointer, named_outline, tree_outline};
 
-use relation_terms::terms::{
-    AdtId, ArgsKey, ClosureId, CoroutineClosureId, CoroutineId, FunctionId, TyKind,
-};
+use relation_terms::terms::{Interner, Mutability, TyForm, TyKind};
 
-/// Which form a type over an item has. Each is the form of `TyKind` of that name.
+// Which form a type over parts has. Each is the form of `TyKind` of that name.
 #[derive(Clone, Copy, PartialEq, Eq)]
-pub enum ItemForm {
+pub(crate) enum Form {
+    // Without parts.
+    Leaf,
     Adt,
     FnDef,
     Closure,
     CoroutineClosure,
     Coroutine,
     CoroutineWitness,
+    Array,
+    Slice,
+    Pat,
+    RawPtr,
+    Ref,
+    Tuple,
+    FnPtr,
+    UnsafeBinder,
+    Dynamic,
+    Alias,
 }
 
-/// The form of a type over an item and its arguments: which it is, the item's id, and the list of arguments.
+// What is compared of a type besides its parts.
 #[derive(Clone, Copy)]
-pub struct ItemTy<X, D> {
-    pub form: ItemForm,
-    pub def_id: D,
-    pub args: ArgsKey<X>,
+pub(crate) struct Outline<D> {
+    pub form: Form,
+    // The item that it is over, where the form says which.
+    pub item: Option<D>,
+    // `Not` where the form has none.
+    pub mutability: Mutability,
 }
 
-fn item<X: Copy, D: Copy>(form: ItemForm, def_id: &D, args: &ArgsKey<X>) -> ItemTy<X, D>
-    ensures { result ≡ record { form = form; def_id = def_id.now; args = args.now } }
+fn plain_outline<D>(form: Form) -> Outline<D>
+    ensures { result ≡ plain form }
 {
-    ItemTy {
+    pointer_outline(form, Mutability::Not)
+}
+
+fn pointer_outline<D>(form: Form, mutability: Mutability) -> Outline<D>
+    ensures { result ≡ of_pointer form mutability }
+{
+    Outline {
         form,
-        def_id: *def_id,
-        args: *args,
+        item: None,
+        mutability,
     }
 }
 
-/// The form, the item and the arguments of a type that is over an item. Answers `None` for every other form.
-pub fn item_of<X: Copy, D: Copy, N>(kind: &TyKind<X, D, N>) -> Option<ItemTy<X, D>>
-    ensures is { IfSome result (λ t. kind.now ≡ item_kind t) }
-    ensures is_none { IfNone result (IsNoItem kind.now) }
+fn item_outline<D: Copy>(form: Form, item: &D) -> Outline<D>
+    ensures { result ≡ of_item form item.now }
 {
+    Outline {
+        form,
+        item: Some(*item),
+        mutability: Mutability::Not,
+    }
+}
+
+// What is compared of a type besides its parts.
+pub(crate) fn outline_of<I: Interner>(cx: &I, kind: &TyForm<I>) -> Outline<I::Id>
+    ensures { named_outline (I.meaning cx.now).id result ≡ tree_outline (kind_tree (I.meaning cx.now) kind.now) }
+{
+    let _ = cx;
     match kind {
-        TyKind::Adt(def, args) => Some(item(ItemForm::Adt, &def.0, args)),
-        TyKind::FnDef(def, args) => Some(item(ItemForm::FnDef, &def.0, args)),
-        TyKind::Closure(def, args) => Some(item(ItemForm::Closure, &def.0, args)),
-        TyKind::CoroutineClosure(def, args) => {
-            Some(item(ItemForm::CoroutineClosure, &def.0, args))
-        }
-        TyKind::Coroutine(def, args) => Some(item(ItemForm::Coroutine, &def.0, args)),
-        TyKind::CoroutineWitness(def, args) => {
-            Some(item(ItemForm::CoroutineWitness, &def.0, args))
-        }
-        _ => None,
+        TyKind::Adt(def, _) => item_outline(Form::Adt, &def.0),
+        TyKind::FnDef(def, _) => item_outline(Form::FnDef, &def.0),
+        TyKind::Closure(def, _) => item_outline(Form::Closure, &def.0),
+        TyKind::CoroutineClosure(def, _) => item_outline(Form::CoroutineClosure, &def.0),
+        TyKind::Coroutine(def, _) => item_outline(Form::Coroutine, &def.0),
+        TyKind::CoroutineWitness(def, _) => item_outline(Form::CoroutineWitness, &def.0),
+        TyKind::RawPtr(_, mutability) => pointer_outline(Form::RawPtr, *mutability),
+        TyKind::Ref(_, _, mutability) => pointer_outline(Form::Ref, *mutability),
+        TyKind::Array(..) => plain_outline(Form::Array),
+        TyKind::Slice(_) => plain_outline(Form::Slice),
+        TyKind::Pat(..) => plain_outline(Form::Pat),
+        TyKind::Tuple(_) => plain_outline(Form::Tuple),
+        TyKind::FnPtr(..) => plain_outline(Form::FnPtr),
+        TyKind::UnsafeBinder(_) => plain_outline(Form::UnsafeBinder),
+        TyKind::Dynamic(..) => plain_outline(Form::Dynamic),
+        TyKind::Alias(_) => plain_outline(Form::Alias),
+        TyKind::Bool
+        | TyKind::Char
+        | TyKind::Int(_)
+        | TyKind::Uint(_)
+        | TyKind::Float(_)
+        | TyKind::Foreign(_)
+        | TyKind::Str
+        | TyKind::Never
+        | TyKind::Param(_)
+        | TyKind::Bound(..)
+        | TyKind::Placeholder(_)
+        | TyKind::Infer(_)
+        | TyKind::Error(_) => plain_outline(Form::Leaf),
     }
 }
 
-/// The form of a type over that item and these arguments: what `item_of` takes apart, put together.
-pub fn kind_of_item<X, D, N>(form: ItemForm, def_id: D, args: ArgsKey<X>) -> TyKind<X, D, N>
-    ensures { result ≡ item_kind (record { form = form; def_id = def_id; args = args }) }
+pub(crate) fn is_same_form(form: Form, other: Form) -> bool
+    ensures { IsTrue result ↔ (form ≡ other) }
 {
-    match form {
-        ItemForm::Adt => TyKind::Adt(AdtId(def_id), args),
-        ItemForm::FnDef => TyKind::FnDef(FunctionId(def_id), args),
-        ItemForm::Closure => TyKind::Closure(ClosureId(def_id), args),
-        ItemForm::CoroutineClosure => TyKind::CoroutineClosure(CoroutineClosureId(def_id), args),
-        ItemForm::Coroutine => TyKind::Coroutine(CoroutineId(def_id), args),
-        ItemForm::CoroutineWitness => TyKind::CoroutineWitness(CoroutineId(def_id), args),
+    form == other
+}
+
+// Whether two outlines are of one item, or both of none.
+pub(crate) fn is_same_item<I: Interner>(cx: &I, item: &Option<I::Id>, other: &Option<I::Id>) -> bool
+    ensures { IsTrue result ↔ (named (I.meaning cx.now).id item.now ≡ named (I.meaning cx.now).id other.now) }
+{
+    let _ = cx;
+    match item {
+        Some(item) => match other {
+            Some(other) => item == other,
+            None => false,
+        },
+        None => match other {
+            Some(_) => false,
+            None => true,
+        },
     }
 }

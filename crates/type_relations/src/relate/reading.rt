@@ -156,12 +156,12 @@ pub(crate) fn const_variance_at<I: Interner, R: TypeRelation<I>>(
 {
     match r.cx().const_kind(constant) {
         ConstKind::Expr(..) => Variance::Invariant,
+        ConstKind::Unevaluated(_) => Variance::Invariant,
         ConstKind::Value(..) => Variance::Covariant,
         ConstKind::Param(_) => Variance::Covariant,
         ConstKind::Infer(_) => Variance::Covariant,
         ConstKind::Bound(..) => Variance::Covariant,
         ConstKind::Placeholder(_) => Variance::Covariant,
-        ConstKind::Unevaluated(_) => Variance::Covariant,
         ConstKind::Error(_) => Variance::Covariant,
     }
 }

@@ -1,72 +1,50 @@
-use Rattle.std.proofs.Common.{◌∙◌, ap, arith, ◌<◌, length}
-use Rattle.relation_terms.specs.Heads.{tuple}
-use Rattle.relation_terms.specs.Meaning.{arg_tree, kind_tree}
+use Rattle.std.proofs.Common.{◌≡◌, ◌<◌, ◌∙◌, sym, ap, subst, IsTrue}
+use Rattle.relation_terms.specs.Heads.{type_sort, argument_sort}
+use Rattle.relation_terms.specs.Trees.{known, count, nth, IsTerm}
+use Rattle.relation_terms.specs.Meaning.{arg_tree}
+use Rattle.relation_terms.specs.Parts.{part_tree}
+use Rattle.relation_terms.proofs.Sorted.{Sorted}
+use Rattle.relation_terms.proofs.Parts.{arg_part}
 use Rattle.type_relations.specs.Parts.{parts_of}
-use Rattle.type_relations.proofs.Parts.{item_parts, slice_below, slice_sure, slice_nth, parts_are, known_parts}
+use Rattle.type_relations.proofs.AsParts.{parts_as, ty_argument, is_arg}
 use Rattle.type_relations.proofs.relate.parts.part.Goals as goal
 
-pub bounds-args-i : goal.bounds-args-i
-bounds-args-i g c =
-    let m = g.I.Interner.meaning c.args.cx.now in
-    let item = c.in-Some.item in
-    let over = item_parts m item c.ty_kind-kind.result (m.ty c.args.ty.now) c.ty_kind-kind.ensures
-    c.in-Some.ensures.is in
-    slice_below (arg_tree m) c.args-in-Some.result.now (m.args item.args) c.args-in-Some.ensures _ over c.args.i
-    c.requires.in_bounds
+pub part-requires-clause-in_bounds : goal.part-requires-clause-in_bounds
+part-requires-clause-in_bounds g c =
+    let t = (g.I.Interner.meaning c.args.cx.now).ty c.args.ty.now in
+    let is = g.met.I.Interner.is_ty c.args.cx.now c.args.ty.now c.requires.ty_known in
+    subst (λ z. c.args.i < count z) (sym (parts_as type_sort t is)) c.requires.in_bounds
 
-pub offset_bounds-args-i : goal.offset_bounds-args-i
-offset_bounds-args-i g c =
+pub the_arg-requires : goal.the_arg-requires
+the_arg-requires g c =
     let m = g.I.Interner.meaning c.args.cx.now in
-    let item = c.in-Some.item in
-    let over = item_parts m item c.ty_kind-kind.result (m.ty c.args.ty.now) c.ty_kind-kind.ensures
-    c.in-Some.ensures.is in
-    let h : c.args.i < length c.args-in-Some.result.now =
-    slice_below (arg_tree m) c.args-in-Some.result.now (m.args item.args) c.args-in-Some.ensures _ over c.args.i
-    c.requires.in_bounds in
-    omega (arith, h)
-
-pub returns-in-Some : goal.returns-in-Some
-returns-in-Some g c =
-    let m = g.I.Interner.meaning c.args.cx.now in
-    let item = c.in-Some.item in
     let t = m.ty c.args.ty.now in
-    let over = item_parts m item c.ty_kind-kind.result t c.ty_kind-kind.ensures c.in-Some.ensures.is in
-    let at = c.index-args-i.result in
-    let is = c.index-args-i.is in
-    record {
-      sure = slice_sure (arg_tree m) c.args-in-Some.result.now (m.args item.args) c.args-in-Some.ensures
-          (parts_of t) over (known_parts t c.requires.ty_known) c.args.i at at c.requires.in_bounds is;
-      means = slice_nth (arg_tree m) c.args-in-Some.result.now (m.args item.args) c.args-in-Some.ensures
-          (parts_of t) over c.args.i at at c.requires.in_bounds is;
-    }
+    let is = g.met.I.Interner.is_ty c.args.cx.now c.args.ty.now c.requires.ty_known in
+    let sorted : Sorted m = record {
+      ty = g.met.I.Interner.is_ty c.args.cx.now;
+      region = g.met.I.Interner.is_region c.args.cx.now;
+      tys = g.met.I.Interner.are_tys c.args.cx.now;
+      const_ = g.met.I.Interner.is_const c.args.cx.now;
+      valtree = g.met.I.Interner.is_valtree c.args.cx.now;
+      args = g.met.I.Interner.are_args c.args.cx.now;
+      branches = g.met.I.Interner.are_branches c.args.cx.now;
+      pat = g.met.I.Interner.is_pat c.args.cx.now;
+      alternatives = g.met.I.Interner.are_alternatives c.args.cx.now;
+      existential_predicates = g.met.I.Interner.are_existential_predicates c.args.cx.now;
+    } in
+    let at : part_tree m c.part.result ≡ nth c.args.i (parts_of t) =
+    c.part.ensures.means ∙ ap (nth c.args.i) (parts_as type_sort t is) in
+    is_arg m sorted c.part.result c.part.ensures.sure (subst (IsTerm argument_sort) (sym at)
+    (ty_argument t c.args.i c.requires.in_bounds is c.requires.ty_covered))
 
-pub bounds-tys-i : goal.bounds-tys-i
-bounds-tys-i g c =
+pub returns : goal.returns
+returns g c =
     let m = g.I.Interner.meaning c.args.cx.now in
-    let ts = m.tys c.in-Tuple.members in
-    let over = parts_are tuple ts (m.ty c.args.ty.now) (c.ty_kind-kind.ensures ∙ ap (kind_tree m) c.in-Tuple.is) in
-    slice_below m.ty c.tys.result.now ts c.tys.ensures _ over c.args.i c.requires.in_bounds
-
-pub offset_bounds-tys-i : goal.offset_bounds-tys-i
-offset_bounds-tys-i g c =
-    let m = g.I.Interner.meaning c.args.cx.now in
-    let ts = m.tys c.in-Tuple.members in
-    let over = parts_are tuple ts (m.ty c.args.ty.now) (c.ty_kind-kind.ensures ∙ ap (kind_tree m) c.in-Tuple.is) in
-    let h : c.args.i < length c.tys.result.now = slice_below m.ty c.tys.result.now ts c.tys.ensures _ over c.args.i
-    c.requires.in_bounds in
-    omega (arith, h)
-
-pub returns-in-Tuple : goal.returns-in-Tuple
-returns-in-Tuple g c =
-    let m = g.I.Interner.meaning c.args.cx.now in
-    let ts = m.tys c.in-Tuple.members in
     let t = m.ty c.args.ty.now in
-    let over = parts_are tuple ts t (c.ty_kind-kind.ensures ∙ ap (kind_tree m) c.in-Tuple.is) in
-    let at = c.index-tys-i.result in
-    let is = c.index-tys-i.is in
+    let is = g.met.I.Interner.is_ty c.args.cx.now c.args.ty.now c.requires.ty_known in
+    let same : arg_tree m c.the_arg.result ≡ part_tree m c.part.result =
+    sym (arg_part m c.the_arg.result) ∙ ap (part_tree m) c.the_arg.ensures in
     record {
-      sure = slice_sure m.ty c.tys.result.now ts c.tys.ensures (parts_of t) over (known_parts t c.requires.ty_known)
-          c.args.i at at c.requires.in_bounds is;
-      means = slice_nth m.ty c.tys.result.now ts c.tys.ensures (parts_of t) over c.args.i at at
-          c.requires.in_bounds is;
+      sure = subst (λ z. IsTrue (known z)) (sym same) c.part.ensures.sure;
+      means = same ∙ c.part.ensures.means ∙ ap (nth c.args.i) (parts_as type_sort t is);
     }

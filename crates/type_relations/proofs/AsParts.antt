@@ -1,0 +1,195 @@
+-- The parts that are related of types and constants, among those of terms of any sort: they are generic arguments.
+use Rattle.std.proofs.Common.{◌≡◌, ℕ, zero, suc, ◌<◌, refl, sym, subst, subst₂, arith, IsTrue, Option, Some, None}
+use Rattle.std.proofs.Common.{List, [], ◌∷◌, map}
+use Rattle.relation_terms.specs.Heads.{Sort, region_sort, type_sort, const_sort, value_sort, argument_sort, Admits, head_sort}
+use Rattle.relation_terms.specs.Heads.{Part, term_of, binder_of, Shape, one, row, head_parts}
+use Rattle.relation_terms.specs.Heads.{Head, adt, fn_def, closure, coroutine_closure, coroutine, coroutine_witness}
+use Rattle.relation_terms.specs.Heads.{array, slice, tuple, raw_ptr, ref, arguments, unevaluated, expression, value}
+use Rattle.relation_terms.specs.Heads.{value_type, value_branch}
+use Rattle.relation_terms.specs.Trees.{Tree, leaf, node, bind, nil, cons, known, list_tree, count, nth, Fits, IsTerm, AreTerms}
+use Rattle.relation_terms.specs.Meaning.{Meaning, arg_tree, const_tree}
+use Rattle.relation_terms.specs.Parts.{AreArgs, part_tree, part_sort, part_of_arg, tree_sort}
+use Rattle.relation_terms.specs.Parts.{parts_of as list_of_parts, over as term_over, Fit as PartsFit}
+use Rattle.relation_terms.specs.declared.terms.part_kind.Part.{Part as TermPart}
+use Rattle.relation_terms.specs.declared.terms.generic_arg.GenericArgKind.{GenericArgKind}
+use Rattle.relation_terms.specs.declared.terms.generic_arg.GenericArgKind.TheVariants.{Lifetime, Ty, Const}
+use Rattle.relation_terms.specs.declared.terms.keys.TyKey.{TyKey}
+use Rattle.relation_terms.specs.declared.terms.keys.ValTreeKey.{ValTreeKey}
+use Rattle.relation_terms.specs.declared.terms.const_kind.ConstKind.{ConstKind}
+use Rattle.relation_terms.specs.declared.terms.const_kind.ConstKind.TheVariants.{Infer}
+use Rattle.relation_terms.specs.declared.terms.const_kind.ConstKind.TheVariants.{Value}
+use Rattle.relation_terms.specs.declared.terms.const_kind.InferConst.TheVariants.{Var, Fresh}
+use Rattle.relation_terms.proofs.Sorted.{Sorted, widen}
+use Rattle.relation_terms.proofs.Members.{fit_args, mapped, region_term, type_term, const_term}
+use Rattle.relation_terms.proofs.Parts.{sort_known, arg_part}
+use Rattle.type_relations.specs.Covered.{IsCovered, IsCoveredHead}
+use Rattle.type_relations.specs.Parts.{parts_of, branches_of, const_parts_of}
+use Rattle.type_relations.specs.Making.{arg_sort, Fit, over, const_over}
+use Rattle.type_relations.proofs.Comparing.{value_shape}
+use Rattle.type_relations.proofs.Making.{value_of}
+
+-- A region, a type or a constant is an argument.
+region_admitted : (x : Sort) → Admits region_sort x → Admits argument_sort x
+region_admitted region_sort h = tt
+region_admitted x h = absurd h
+
+type_admitted : (x : Sort) → Admits type_sort x → Admits argument_sort x
+type_admitted type_sort h = tt
+type_admitted x h = absurd h
+
+const_admitted : (x : Sort) → Admits const_sort x → Admits argument_sort x
+const_admitted const_sort h = tt
+const_admitted x h = absurd h
+
+-- Parts that are arguments, as a form asks for them.
+abbrev IsArgument : Part → Type 0
+IsArgument (term_of s) = (x : Sort) → Admits s x → Admits argument_sort x
+IsArgument (binder_of s) = ⊥
+
+abbrev AreArguments : List Part → Option Part → Type 0
+AreArguments [] None = Unit {0}
+AreArguments [] (Some p) = IsArgument p
+AreArguments (p ∷ ps) r = IsArgument p × AreArguments ps r
+
+row_arguments : (ps : List Part) (r : Option Part) (ts : Tree) → AreArguments ps r → Fits (row ps r) ts →
+    AreTerms argument_sort ts
+row_arguments [] None nil a f = tt
+row_arguments [] (Some (term_of s)) nil a f = tt
+row_arguments [] (Some (term_of s)) (cons t ts) a f =
+    (widen s argument_sort a t f.0, row_arguments [] (Some (term_of s)) ts a f.1)
+row_arguments (term_of s ∷ ps) r (cons t ts) a f = (widen s argument_sort a.0 t f.0, row_arguments ps r ts a.1 f.1)
+row_arguments [] (Some (binder_of s)) ts a f = absurd a
+row_arguments (binder_of s ∷ ps) r ts a f = absurd a.0
+row_arguments ps r ts a f = absurd f
+
+abbrev HasArguments : Shape → Type 0
+HasArguments (one p) = ⊥
+HasArguments (row ps r) = AreArguments ps r
+
+shape_arguments : (x : Shape) (ts : Tree) → HasArguments x → Fits x ts → AreTerms argument_sort ts
+shape_arguments (one p) ts a f = absurd a
+shape_arguments (row ps r) ts a f = row_arguments ps r ts a f
+
+-- The types that relating has rules for are over arguments.
+covered_arguments : (h : Head) → IsCoveredHead h → Admits type_sort (head_sort h) → HasArguments (head_parts h)
+covered_arguments (adt d) c a = λ x h. h
+covered_arguments (fn_def d) c a = λ x h. h
+covered_arguments (closure d) c a = λ x h. h
+covered_arguments (coroutine_closure d) c a = λ x h. h
+covered_arguments (coroutine d) c a = λ x h. h
+covered_arguments (coroutine_witness d) c a = λ x h. h
+covered_arguments array c a = (type_admitted, (const_admitted, tt))
+covered_arguments slice c a = (type_admitted, tt)
+covered_arguments tuple c a = type_admitted
+covered_arguments (raw_ptr u) c a = (type_admitted, tt)
+covered_arguments (ref u) c a = (region_admitted, (type_admitted, tt))
+covered_arguments arguments c a = absurd a
+covered_arguments (expression k) c a = absurd a
+covered_arguments value c a = absurd a
+covered_arguments value_type c a = absurd a
+covered_arguments value_branch c a = absurd a
+covered_arguments h c a = absurd c
+
+ty_arguments : (t : Tree) → IsTerm type_sort t → IsCovered t → AreTerms argument_sort (parts_of t)
+ty_arguments (node h ts) f c = shape_arguments (head_parts h) ts (covered_arguments h c.0 f.0) f.1
+ty_arguments t f c = tt
+
+branch_arguments : (v : Tree) → IsTerm value_sort v → AreTerms argument_sort (branches_of v)
+branch_arguments (node value_branch ts) f = row_arguments [] (Some (term_of const_sort)) ts const_admitted f.1
+branch_arguments v f = tt
+
+const_arguments : (c : Tree) → IsTerm const_sort c → AreTerms argument_sort (const_parts_of c)
+const_arguments (node (unevaluated d) ts) f = f.1
+const_arguments (node (expression k) ts) f = f.1
+const_arguments (node value ts) f =
+    let (t, v, e, h) = value_shape ts f.1 in
+    subst (λ z. AreTerms argument_sort (const_parts_of (node value z))) (sym e) (branch_arguments v h)
+const_arguments c f = tt
+
+term_nth : (s : Sort) (ts : Tree) (i : ℕ) → i < count ts → AreTerms s ts → IsTerm s (nth i ts)
+term_nth s (cons t ts) zero l f = f.0
+term_nth s (cons t ts) (suc i) l f = term_nth s ts i (omega (arith, l)) f.1
+term_nth s t i l f = absurd (omega (arith, l))
+
+pub ty_argument : (t : Tree) (i : ℕ) → i < count (parts_of t) → IsTerm type_sort t → IsCovered t →
+    IsTerm argument_sort (nth i (parts_of t))
+ty_argument t i l f c = term_nth argument_sort (parts_of t) i l (ty_arguments t f c)
+
+pub const_argument : (c : Tree) (i : ℕ) → i < count (const_parts_of c) → IsTerm const_sort c →
+    IsTerm argument_sort (nth i (const_parts_of c))
+const_argument c i l f = term_nth argument_sort (const_parts_of c) i l (const_arguments c f)
+
+-- No term is a binder, so all its parts are.
+pub parts_as : (s : Sort) (t : Tree) → IsTerm s t → list_of_parts t ≡ parts_of t
+parts_as s (bind ks t) f = absurd f
+parts_as s (node h ts) f = refl
+parts_as s t f = refl
+
+pub over_as : (s : Sort) (t us : Tree) → IsTerm s t → term_over t us ≡ over t us
+over_as s (bind ks t) us f = absurd f
+over_as s (node h ts) us f = refl
+over_as s t us f = refl
+
+-- A value's value tree.
+pub branches_as : (v : Tree) → IsTerm value_sort v → list_of_parts v ≡ branches_of v
+branches_as (node value_branch ts) f = refl
+branches_as (node h ts) f = absurd f.0
+branches_as (bind ks t) f = absurd f
+branches_as v f = refl
+
+pub value_over : (t v us : Tree) → IsTerm value_sort v → value_of t (term_over v us) ≡ const_over (value_of t v) us
+value_over t (node value_branch ts) us f = refl
+value_over t (node h ts) us f = absurd f.0
+value_over t (bind ks v) us f = absurd f
+value_over t v us f = refl
+
+module _ {Key Id Name : Type 0} (m : Meaning Key Id Name) where
+  -- The parts of a constant that is no value are all related.
+  pub const_parts_as : (k : ConstKind Key Id Name) → ((t : TyKey Key) (v : ValTreeKey Key) → k ≡ Value t v → ⊥) →
+      list_of_parts (const_tree m k) ≡ const_parts_of (const_tree m k)
+  const_parts_as (Value t v) n = absurd (n t v refl)
+  const_parts_as (Infer (Var v)) n = refl
+  const_parts_as (Infer (Fresh i)) n = refl
+  const_parts_as k n = refl
+
+  pub const_over_as : (k : ConstKind Key Id Name) (us : Tree) →
+      ((t : TyKey Key) (v : ValTreeKey Key) → k ≡ Value t v → ⊥) →
+      term_over (const_tree m k) us ≡ const_over (const_tree m k) us
+  const_over_as (Value t v) us n = absurd (n t v refl)
+  const_over_as (Infer (Var v)) us n = refl
+  const_over_as (Infer (Fresh i)) us n = refl
+  const_over_as k us n = refl
+
+  -- A part that may be an argument is one.
+  pub is_arg : Sorted m → (p : TermPart Key Id) → IsTrue (known (part_tree m p)) →
+      IsTerm argument_sort (part_tree m p) → AreArgs (p ∷ [])
+  is_arg s p k f = fit_args (p ∷ []) (cons (part_tree m p) nil) (sym (sort_known m s p k), tt) (f, tt)
+
+-- Arguments as parts.
+pub args_as : {Key Id Name : Type 0} (m : Meaning Key Id Name) (xs : List (GenericArgKind Key))
+    (ps : List (TermPart Key Id)) → ps ≡ map part_of_arg xs → list_tree (part_tree m) ps ≡ list_tree (arg_tree m) xs
+args_as m xs ps e = sym (mapped (arg_tree m) (part_tree m) (λ a. part_of_arg a) (arg_part m) xs ps (sym e))
+
+module _ {Key : Type 0} (Id : Type 0) where
+  fit_sort : (x : GenericArgKind Key) (t : Tree) → IsTerm (arg_sort x) t →
+      part_sort {Id = Id} (part_of_arg x) ≡ tree_sort t
+  fit_sort (Lifetime r) t f = sym (region_term t f)
+  fit_sort (Ty k) t f = sym (type_term t f)
+  fit_sort (Const c) t f = sym (const_term t f)
+
+  fit_mapped : (xs : List (GenericArgKind Key)) (ts : Tree) → Fit xs ts → PartsFit {Id = Id} (map part_of_arg xs) ts
+  fit_mapped [] nil f = tt
+  fit_mapped (x ∷ xs) (cons t ts) f = (fit_sort x t f.0, fit_mapped xs ts f.1)
+  fit_mapped [] (cons t ts) f = absurd f
+  fit_mapped [] (leaf l) f = absurd f
+  fit_mapped [] (node h ts) f = absurd f
+  fit_mapped [] (bind ks t) f = absurd f
+  fit_mapped (x ∷ xs) nil f = absurd f
+  fit_mapped (x ∷ xs) (leaf l) f = absurd f
+  fit_mapped (x ∷ xs) (node h ts) f = absurd f
+  fit_mapped (x ∷ xs) (bind ks t) f = absurd f
+
+-- Arguments that fit the parts that are related fit, as parts, those of the term that these are of.
+pub fits_as : {Key Id : Type 0} (xs : List (GenericArgKind Key)) (ps : List (TermPart Key Id)) (ts us : Tree) →
+    ps ≡ map part_of_arg xs → us ≡ ts → Fit xs ts → PartsFit ps us
+fits_as {Id} xs ps ts us e q f = subst₂ PartsFit (sym e) (sym q) (fit_mapped Id xs ts f)

@@ -1,0 +1,217 @@
+-- What is compared of types besides their parts: where it is one the forms are, and else which error says so.
+use Rattle.std.proofs.Common.{◌≡◌, ◌≢◌, ◌⊎◌, ℕ, ◌<◌, refl, sym, ap, ◌∙◌, inl, inr, subst, Option, Some}
+use Rattle.relation_terms.specs.declared.terms.enums.Mutability.{Mutability}
+use Rattle.relation_terms.specs.declared.terms.enums.Mutability.TheVariants.{Not}
+use Rattle.relation_terms.specs.declared.terms.keys.TyKey.{TyKey}
+use Rattle.relation_terms.specs.Heads.{Head, adt, fn_def, closure, coroutine_closure, coroutine, coroutine_witness}
+use Rattle.relation_terms.specs.Heads.{array, slice, pattern_type, tuple, unsafe_binder, dynamic, fn_ptr, raw_ptr, ref}
+use Rattle.relation_terms.specs.Heads.{alias, type_sort}
+use Rattle.relation_terms.specs.Trees.{Tree, leaf, node, bind, nil, cons, count, IsTerm}
+use Rattle.relation_terms.specs.Meaning.{Meaning}
+use Rattle.relation_tools.specs.Outlines.{named}
+use Rattle.relation_tools.specs.declared.error.TypeError.{TypeError}
+use Rattle.relation_tools.specs.declared.error.TypeError.TheVariants.{TupleSize, Sorts}
+use Rattle.relation_tools.specs.declared.error.TypeError.TheVariants.{Mutability as MutabilityError}
+use Rattle.type_relations.specs.declared.relate.forms.Outline.{Outline}
+use Rattle.type_relations.specs.declared.relate.forms.Form.{Form}
+use Rattle.type_relations.specs.declared.relate.forms.Form.TheVariants.{Leaf, Adt, FnDef, Closure, CoroutineClosure}
+use Rattle.type_relations.specs.declared.relate.forms.Form.TheVariants.{Coroutine, CoroutineWitness, Array, Slice}
+use Rattle.type_relations.specs.declared.relate.forms.Form.TheVariants.{RawPtr, Ref, Tuple}
+use Rattle.type_relations.specs.Covered.{IsCovered, IsCoveredHead}
+use Rattle.type_relations.specs.Parts.{parts_of, head_of}
+use Rattle.type_relations.specs.Forms.{named_outline, head_outline, tree_outline}
+use Rattle.type_relations.specs.Errors.{outer_head, outermost, AreAlike, AreOfOneForm, over_parts, one_leaf}
+use Rattle.type_relations.specs.Errors.{FormError, mutability, pointer_mutability, as_many}
+use Rattle.type_relations.proofs.Covered.{covered_no_error}
+use Rattle.type_relations.proofs.Comparing.{unlike_as, lengths_error}
+
+-- The form that an outline is of, where relating has rules for it.
+abbrev from : Form → Option ℕ → Mutability → Head
+from Adt (Some d) u = adt d
+from FnDef (Some d) u = fn_def d
+from Closure (Some d) u = closure d
+from CoroutineClosure (Some d) u = coroutine_closure d
+from Coroutine (Some d) u = coroutine d
+from CoroutineWitness (Some d) u = coroutine_witness d
+from Array n u = array
+from Slice n u = slice
+from RawPtr n u = raw_ptr u
+from Ref n u = ref u
+from f n u = tuple
+
+abbrev head_from : Outline ℕ → Head
+head_from o = from o.form o.item o.mutability
+
+rebuilt : (h : Head) → IsCoveredHead h → ((head_outline h).form ≡ Leaf → ⊥) → h ≡ head_from (head_outline h)
+rebuilt (adt d) c n = refl
+rebuilt (fn_def d) c n = refl
+rebuilt (closure d) c n = refl
+rebuilt (coroutine_closure d) c n = refl
+rebuilt (coroutine d) c n = refl
+rebuilt (coroutine_witness d) c n = refl
+rebuilt array c n = refl
+rebuilt slice c n = refl
+rebuilt tuple c n = refl
+rebuilt (raw_ptr u) c n = refl
+rebuilt (ref u) c n = refl
+rebuilt pattern_type c n = absurd c
+rebuilt unsafe_binder c n = absurd c
+rebuilt dynamic c n = absurd c
+rebuilt fn_ptr c n = absurd c
+rebuilt (alias k d) c n = absurd c
+rebuilt h c n = absurd (n refl)
+
+-- Mutability is a pointer's and a reference's alone.
+abbrev own_mutability : Form → Mutability → Mutability
+own_mutability RawPtr u = u
+own_mutability Ref u = u
+own_mutability f u = Not
+
+mutability_of : (h : Head) → (head_outline h).mutability ≡ own_mutability (head_outline h).form (head_outline h).mutability
+mutability_of array = refl
+mutability_of h = refl
+
+-- Types that are alike have one form, and are over one item.
+outer_form : (h : Head) → (head_outline (outer_head h)).form ≡ (head_outline h).form
+outer_form array = refl
+outer_form h = refl
+
+outer_item : (h : Head) → (head_outline (outer_head h)).item ≡ (head_outline h).item
+outer_item array = refl
+outer_item h = refl
+
+outermost_form : (t : Tree) → (tree_outline (outermost t)).form ≡ (tree_outline t).form
+outermost_form (node h ts) = outer_form h
+outermost_form t = refl
+
+outermost_item : (t : Tree) → (tree_outline (outermost t)).item ≡ (tree_outline t).item
+outermost_item (node h ts) = outer_item h
+outermost_item t = refl
+
+alike_form : (t u : Tree) → AreAlike t u → (tree_outline t).form ≡ (tree_outline u).form
+alike_form t u a = sym (outermost_form t) ∙ ap (λ z. (tree_outline z).form) a ∙ outermost_form u
+
+alike_item : (t u : Tree) → AreAlike t u → (tree_outline t).item ≡ (tree_outline u).item
+alike_item t u a = sym (outermost_item t) ∙ ap (λ z. (tree_outline z).item) a ∙ outermost_item u
+
+-- A type that is not without parts.
+over_node : (t : Tree) → ((tree_outline t).form ≡ Leaf → ⊥) → t ≡ node (head_of t) (parts_of t)
+over_node (node h ts) n = refl
+over_node t n = absurd (n refl)
+
+covered_head : (t : Tree) → ((tree_outline t).form ≡ Leaf → ⊥) → IsCovered t → IsCoveredHead (head_of t)
+covered_head (node h ts) n c = c.0
+covered_head t n c = absurd (n refl)
+
+outline_head : (t : Tree) → ((tree_outline t).form ≡ Leaf → ⊥) → tree_outline t ≡ head_outline (head_of t)
+outline_head (node h ts) n = refl
+outline_head t n = absurd (n refl)
+
+-- A type is of one form with itself.
+pub itself_alike : (t u : Tree) → IsTerm type_sort t → IsCovered t → t ≡ u → AreOfOneForm t u
+itself_alike (leaf l) u f c e = one_leaf refl (sym e)
+itself_alike (node h ts) u f c e = over_parts refl (sym e) refl
+itself_alike (bind ks t) u f c e = absurd c
+itself_alike nil u f c e = absurd f
+itself_alike (cons t ts) u f c e = absurd f
+
+is_tuple : (f : Form) → (f ≡ Tuple) ⊎ (f ≢ Tuple)
+is_tuple Tuple = inl refl
+is_tuple f = inr (λ e. absurd (cc))
+
+module _ {Key Id Name : Type 0} (m : Meaning Key Id Name) (x y : TyKey Key) (o p : Outline Id)
+    (left : named_outline m.id o ≡ tree_outline (m.ty x)) (right : named_outline m.id p ≡ tree_outline (m.ty y))
+    (c : IsCovered (m.ty x)) (d : IsCovered (m.ty y)) where
+  unlike_types : (AreAlike (m.ty x) (m.ty y) → ⊥) → (e : TypeError Key Id Name) →
+      e ≡ Sorts (record { expected = x; found = y }) → FormError m x y e
+  unlike_types n e is = unlike_as m x y (m.ty x) (m.ty y) e refl refl
+      (covered_no_error (m.ty x) c, covered_no_error (m.ty y) d) n is
+
+  pub unlike_forms : (o.form ≡ p.form → ⊥) → (e : TypeError Key Id Name) →
+      e ≡ Sorts (record { expected = x; found = y }) → FormError m x y e
+  unlike_forms n e is = unlike_types
+      (λ a. n (ap (λ z. z.form) left ∙ alike_form (m.ty x) (m.ty y) a ∙ sym (ap (λ z. z.form) right))) e is
+
+  pub unlike_items : (named m.id o.item ≡ named m.id p.item → ⊥) → (e : TypeError Key Id Name) →
+      e ≡ Sorts (record { expected = x; found = y }) → FormError m x y e
+  unlike_items n e is = unlike_types
+      (λ a. n (ap (λ z. z.item) left ∙ alike_item (m.ty x) (m.ty y) a ∙ sym (ap (λ z. z.item) right))) e is
+
+  module _ (parted : o.form ≡ Leaf → ⊥) (form : o.form ≡ p.form) where
+    some_left : (tree_outline (m.ty x)).form ≡ Leaf → ⊥
+    some_left e = parted (ap (λ z. z.form) left ∙ e)
+
+    some_right : (tree_outline (m.ty y)).form ≡ Leaf → ⊥
+    some_right e = parted (form ∙ ap (λ z. z.form) right ∙ e)
+
+    left_head : named_outline m.id o ≡ head_outline (head_of (m.ty x))
+    left_head = left ∙ outline_head (m.ty x) some_left
+
+    right_head : named_outline m.id p ≡ head_outline (head_of (m.ty y))
+    right_head = right ∙ outline_head (m.ty y) some_right
+
+    left_from : head_of (m.ty x) ≡ from o.form (named m.id o.item) o.mutability
+    left_from = rebuilt (head_of (m.ty x)) (covered_head (m.ty x) some_left c)
+        (λ e. some_left (ap (λ z. z.form) (outline_head (m.ty x) some_left) ∙ e)) ∙ ap head_from (sym left_head)
+
+    right_from : head_of (m.ty y) ≡ from p.form (named m.id p.item) p.mutability
+    right_from = rebuilt (head_of (m.ty y)) (covered_head (m.ty y) some_right d)
+        (λ e. some_right (ap (λ z. z.form) (outline_head (m.ty y) some_right) ∙ e)) ∙ ap head_from (sym right_head)
+
+    left_own : o.mutability ≡ own_mutability o.form o.mutability
+    left_own = ap (λ z. z.mutability) left_head ∙ mutability_of (head_of (m.ty x))
+        ∙ sym (ap (λ z. own_mutability z.form z.mutability) left_head)
+
+    right_own : p.mutability ≡ own_mutability p.form p.mutability
+    right_own = ap (λ z. z.mutability) right_head ∙ mutability_of (head_of (m.ty y))
+        ∙ sym (ap (λ z. own_mutability z.form z.mutability) right_head)
+
+    -- Two pointers, or two references.
+    pub unlike_mutability : (o.mutability ≡ p.mutability → ⊥) → FormError m x y MutabilityError
+    unlike_mutability n = go o.form refl
+      where
+        is_left : (f : Form) → o.form ≡ f → m.ty x ≡ node (from f (named m.id o.item) o.mutability) (parts_of (m.ty x))
+        is_left f e = over_node (m.ty x) some_left ∙ ap (λ h. node h (parts_of (m.ty x)))
+            (left_from ∙ ap (λ z. from z (named m.id o.item) o.mutability) e)
+
+        is_right : (f : Form) → o.form ≡ f → m.ty y ≡ node (from f (named m.id p.item) p.mutability) (parts_of (m.ty y))
+        is_right f e = over_node (m.ty y) some_right ∙ ap (λ h. node h (parts_of (m.ty y)))
+            (right_from ∙ ap (λ z. from z (named m.id p.item) p.mutability) (sym form ∙ e))
+
+        both : (f : Form) → o.form ≡ f → own_mutability f o.mutability ≡ own_mutability f p.mutability → ⊥
+        both f e q = n (left_own ∙ ap (λ z. own_mutability z o.mutability) e ∙ q
+            ∙ sym (ap (λ z. own_mutability z p.mutability) (sym form ∙ e)) ∙ sym right_own)
+
+        go : (f : Form) → o.form ≡ f → FormError m x y MutabilityError
+        go RawPtr e = pointer_mutability (is_left RawPtr e) (is_right RawPtr e) n
+        go Ref e = mutability (is_left Ref e) (is_right Ref e) n
+        go f e = absurd (both f e refl)
+
+    module _ (item : named m.id o.item ≡ named m.id p.item) (same : o.mutability ≡ p.mutability) where
+      one_head : head_of (m.ty x) ≡ head_of (m.ty y)
+      one_head = left_from ∙ ap (λ z. from z (named m.id o.item) o.mutability) form
+          ∙ ap (λ z. from p.form z o.mutability) item ∙ ap (from p.form (named m.id p.item)) same ∙ sym right_from
+
+      over_right : m.ty y ≡ node (head_of (m.ty x)) (parts_of (m.ty y))
+      over_right = over_node (m.ty y) some_right ∙ ap (λ h. node h (parts_of (m.ty y))) (sym one_head)
+
+      pub forms_alike : count (parts_of (m.ty x)) ≡ count (parts_of (m.ty y)) → AreOfOneForm (m.ty x) (m.ty y)
+      forms_alike n = over_parts (over_node (m.ty x) some_left) over_right n
+
+      pub unlike_counts : (i j : ℕ) → i ≡ count (parts_of (m.ty x)) → j ≡ count (parts_of (m.ty y)) → i ≢ j →
+          (e : TypeError Key Id Name) →
+          (o.form ≡ Tuple → 0 < i → 0 < j → e ≡ TupleSize (record { expected = i; found = j })) →
+          ((i ≡ 0) ⊎ (j ≡ 0) → e ≡ Sorts (record { expected = x; found = y })) →
+          (o.form ≢ Tuple → e ≡ Sorts (record { expected = x; found = y })) → FormError m x y e
+      unlike_counts i j ci cj differ e sizes empty others = go (is_tuple o.form)
+        where
+          go : (o.form ≡ Tuple) ⊎ (o.form ≢ Tuple) → FormError m x y e
+          go (inl t) =
+              let h : head_of (m.ty x) ≡ tuple = left_from ∙ ap (λ z. from z (named m.id o.item) o.mutability) t in
+              lengths_error m i j (parts_of (m.ty x)) (parts_of (m.ty y)) x y e
+              (over_node (m.ty x) some_left ∙ ap (λ z. node z (parts_of (m.ty x))) h)
+              (over_right ∙ ap (λ z. node z (parts_of (m.ty y))) h) ci cj differ (sizes t) empty
+          go (inr n) = subst (FormError m x y) (sym (others n))
+              (as_many (over_node (m.ty x) some_left) over_right
+              (λ h. n (ap (λ z. z.form) left_head ∙ ap (λ z. (head_outline z).form) h))
+              (λ q. differ (ci ∙ q ∙ sym cj)))

@@ -1,0 +1,54 @@
+-- What is compared of types besides their parts.
+use Rattle.std.specs.Prelude.{ℕ, Some, None}
+use Rattle.relation_terms.specs.declared.terms.enums.Mutability.{Mutability}
+use Rattle.relation_terms.specs.declared.terms.enums.Mutability.TheVariants.{Not}
+use Rattle.relation_terms.specs.Heads.{Head, adt, fn_def, closure, coroutine_closure, coroutine, coroutine_witness}
+use Rattle.relation_terms.specs.Heads.{array, slice, pattern_type, tuple, unsafe_binder, dynamic, fn_ptr, raw_ptr, ref}
+use Rattle.relation_terms.specs.Heads.{alias}
+use Rattle.relation_terms.specs.Trees.{Tree, node}
+use Rattle.relation_tools.specs.Outlines.{named}
+use Rattle.type_relations.specs.declared.relate.forms.Outline.{Outline}
+use Rattle.type_relations.specs.declared.relate.forms.Form.{Form}
+use Rattle.type_relations.specs.declared.relate.forms.Form.TheVariants.{Leaf, Adt, FnDef, Closure, CoroutineClosure}
+use Rattle.type_relations.specs.declared.relate.forms.Form.TheVariants.{Coroutine, CoroutineWitness, Array, Slice, Pat}
+use Rattle.type_relations.specs.declared.relate.forms.Form.TheVariants.{RawPtr, Ref, Tuple, FnPtr, UnsafeBinder, Dynamic}
+use Rattle.type_relations.specs.declared.relate.forms.Form.TheVariants.{Alias}
+
+-- The outline of a pointer, of a form without mutability, and of one over an item.
+abbrev pub of_pointer : {D : Type 0} → Form → Mutability → Outline D
+of_pointer form u = record { form = form; item = None; mutability = u }
+
+abbrev pub plain : {D : Type 0} → Form → Outline D
+plain form = of_pointer form Not
+
+abbrev pub of_item : {D : Type 0} → Form → D → Outline D
+of_item form d = record { form = form; item = Some d; mutability = Not }
+
+-- The outline with the number of its item.
+abbrev pub named_outline : {D : Type 0} → (D → ℕ) → Outline D → Outline ℕ
+named_outline number o = record { form = o.form; item = named number o.item; mutability = o.mutability }
+
+-- The outline of a form over parts. What is no type has none.
+abbrev pub head_outline : Head → Outline ℕ
+head_outline (adt d) = of_item Adt d
+head_outline (fn_def d) = of_item FnDef d
+head_outline (closure d) = of_item Closure d
+head_outline (coroutine_closure d) = of_item CoroutineClosure d
+head_outline (coroutine d) = of_item Coroutine d
+head_outline (coroutine_witness d) = of_item CoroutineWitness d
+head_outline array = plain Array
+head_outline slice = plain Slice
+head_outline pattern_type = plain Pat
+head_outline tuple = plain Tuple
+head_outline unsafe_binder = plain UnsafeBinder
+head_outline dynamic = plain Dynamic
+head_outline fn_ptr = plain FnPtr
+head_outline (raw_ptr u) = of_pointer RawPtr u
+head_outline (ref u) = of_pointer Ref u
+head_outline (alias k d) = plain Alias
+head_outline h = plain Leaf
+
+-- The outline of a type.
+abbrev pub tree_outline : Tree → Outline ℕ
+tree_outline (node h ts) = head_outline h
+tree_outline t = plain Leaf
