@@ -5,7 +5,7 @@ use Rattle.std.proofs.lemmas.Bool.{and_from, and_parts}
 use Rattle.relation_terms.specs.declared.terms.enums.Variance.{Variance}
 use Rattle.relation_terms.specs.declared.terms.enums.Variance.TheVariants.{Covariant, Contravariant, Invariant, Bivariant}
 use Rattle.relation_terms.specs.Variances.{xform}
-use Rattle.relation_terms.specs.Heads.{Head, expression, value, value_branch}
+use Rattle.relation_terms.specs.Heads.{Head, unevaluated, expression, value, value_branch}
 use Rattle.relation_terms.specs.Trees.{Tree, leaf, node, bind, nil, cons, Assign, apply, known, count, nth, IsList}
 use Rattle.type_relations.specs.Relation.{Interpretation, at, parts, part_at, IsRelatedHead, Rel, same, forms, no_parts, next_part}
 use Rattle.type_relations.specs.Goals.{Holds, Relates}
@@ -192,6 +192,7 @@ module _ {Key Id Name : Type 0} (M : Manners) where
 
   pub may_const_over : (q : State Key Id Name) (v : Variance) (c us : Tree) →
       AnswersParts M q (const_head_of c) v (const_parts_of c) us → MayAnswer M q v c (const_over c us)
+  may_const_over q v (node (unevaluated d) ts) us a = may_form q (unevaluated d) v ts us tt a
   may_const_over q v (node (expression k) ts) us a = may_form q (expression k) v ts us tt a
   may_const_over q v (node value (cons t (cons (node value_branch vs) nil))) us a = may_value q v t vs us a
   may_const_over q v c us a = may_itself M q v c

@@ -7,9 +7,8 @@ ghost use Rattle.relation_terms.specs.Parts.{parts_of as list_of_parts};
 ghost use Rattle.type_relations.specs.Parts.{parts_of, const_parts_of};
 ghost use Rattle.type_relations.specs.Covered.{IsCovered};
 
-use relation_terms::terms::parts;
 use relation_terms::terms::{
-    Const, ConstKind, GenericArg, GenericArgKind, Interner, Part, PartOf, Ty,
+    Const, ConstKind, GenericArg, GenericArgKind, Interner, Part, PartOf, Ty, parts,
 };
 
 // The generic argument that a part is.

@@ -4,6 +4,6 @@ use Rattle.type_relations.proofs.relate.parts.const_parts_count.Goals as goal
 
 pub returns : goal.returns
 returns g c = record {
-      counts = c.parts_count.ensures.counts ∙ ap count c.related_part.ensures.parts;
-      is_list = subst IsList c.related_part.ensures.parts c.parts_count.ensures.is_list;
-    }
+  counts = c.parts_count.ensures.counts ∙ ap count c.related_part.ensures.parts;
+  is_list = subst IsList c.related_part.ensures.parts c.parts_count.ensures.is_list;
+}
