@@ -14,7 +14,8 @@ use Rattle.relation_terms.specs.declared.terms.keys.ConstKey.{ConstKey}
 use Rattle.relation_terms.specs.declared.terms.keys.RegionKey.{RegionKey}
 use Rattle.relation_terms.specs.declared.terms.keys.ParamEnvKey.{ParamEnvKey}
 use Rattle.relation_terms.specs.Heads.{type_sort, VarKind, type_var, region_var, const_var, int_var, float_var, atom, variable}
-use Rattle.relation_terms.specs.Trees.{Tree, leaf, Assign, apply, Leaves, IsTerm, known, Occurs}
+use Rattle.relation_terms.specs.Heads.{bound, placeholder, unknown}
+use Rattle.relation_terms.specs.Trees.{Tree, leaf, node, bind, nil, cons, Assign, apply, Leaves, IsTerm, known, Occurs}
 use Rattle.relation_terms.specs.Erasure.{erase}
 use Rattle.relation_terms.specs.Meaning.{Meaning, Extends}
 use Rattle.relation_terms.proofs.Stays.{stays_same}
@@ -35,6 +36,7 @@ use Rattle.type_relations.specs.Measures.{Goes}
 use Rattle.type_relations.specs.Errors.{ErrorOf, BindingError, StandsOutside, cyclic_ty, cyclic_const, of_binding}
 use Rattle.type_relations.specs.Errors.{of_binding_back, of_entries, IsReadAs, itself, by_class, by_binding}
 use Rattle.type_relations.specs.ErasureLaws.{IsTypeOrConst}
+use Rattle.type_relations.specs.Parts.{IsFormedConst}
 use Rattle.type_relations.specs.FirstOrder.{IsFirstOrder, IsFirstOrderStore}
 use Rattle.type_relations.specs.Constraints.{constraint_at, constraint_of, asked_constraints}
 use Rattle.type_relations.specs.Taken.{IsFixedVariable, IsFixedLeaf, IsTakenLeaf}
@@ -122,6 +124,18 @@ read_taken st g v a u r c h = (read_leaves st g v a u r h.0, c h.1)
 -- At invariance all leaves may stand.
 all_taken : (t : Tree) → IsCovered t → Takes (solver_manner solver_settings) Invariant t
 all_taken t c = (all_leaves _ (λ l. tt) t, c)
+
+-- What a constant of a form comes to is no variable.
+pub formed_apart : (s : Assign) (t : Tree) (k : VarKind) (n : ℕ) → IsFormedConst t → apply s t ≢ leaf (variable k n)
+formed_apart s (leaf (atom x)) k n f h = cc
+formed_apart s (leaf (placeholder q u i)) k n f h = cc
+formed_apart s (leaf (variable i p)) k n f h = f
+formed_apart s (leaf (bound q d i)) k n f h = f
+formed_apart s (leaf unknown) k n f h = f
+formed_apart s (node i ts) k n f h = cc
+formed_apart s (bind ks t) k n f h = f
+formed_apart s nil k n f h = f
+formed_apart s (cons t ts) k n f h = f
 
 module _ {Key Id Name : Type 0} (j : ℕ) where
   -- Work that recorded something, and registered no goal.

@@ -215,11 +215,11 @@ impl<'a, I: Interner> SolverRelating<'a, I> {
                     Ok(Step::Done(*a))
                 }
                 None => {
-                    let bound = self.infcx.instantiate_const_var_raw(x, b)?;
+                    let value = self.infcx.instantiate_const_var_raw(x, b)?;
                     Ok(Step::Again {
                         a: *a,
                         b: *b,
-                        x: bound,
+                        x: value,
                         y: *b,
                         variance: Variance::Invariant,
                         answer: *b,
@@ -228,12 +228,12 @@ impl<'a, I: Interner> SolverRelating<'a, I> {
             },
             None => match self.infcx.const_var(b) {
                 Some(y) => {
-                    let bound = self.infcx.instantiate_const_var_raw(y, a)?;
+                    let value = self.infcx.instantiate_const_var_raw(y, a)?;
                     Ok(Step::Again {
                         a: *a,
                         b: *b,
                         x: *a,
-                        y: bound,
+                        y: value,
                         variance: Variance::Invariant,
                         answer: *a,
                     })

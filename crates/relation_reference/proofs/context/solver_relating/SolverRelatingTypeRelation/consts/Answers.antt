@@ -1,16 +1,65 @@
-use Rattle.std.proofs.Common.{refl}
+use Rattle.std.proofs.Common.{refl, sym}
 use Rattle.type_relations.specs.Parts.{IsFormedConst}
-use Rattle.type_relations.proofs.Comparing.{formed_const}
-use Rattle.type_relations.proofs.Passing.{parts_left}
-use Rattle.relation_reference.specs.Solving.{solving, solver_manner}
+use Rattle.type_relations.proofs.Standing.{term_context}
+use Rattle.type_relations.proofs.StructuralConsts.{itself_related}
+use Rattle.relation_reference.specs.Tables.{store_of}
+use Rattle.relation_reference.specs.Solving.{solving, relation_in, solver_manner}
+use Rattle.relation_reference.proofs.Shallowly.{read_step}
+use Rattle.relation_reference.proofs.Solving.{answered_step, read_taken}
 use Rattle.relation_reference.proofs.context.solver_relating.SolverRelatingTypeRelation.consts.Goals as goal
+
+pub returns-then-eq : goal.returns-then-eq
+returns-then-eq g c =
+    let r = c.args.self.now in
+    let m = g.I.Interner.meaning r.infcx.now.interner in
+    let k = c.requires.asked in
+    let same = (g.met.I.Interner.same_const r.infcx.now.interner c.args.a.now c.args.b.now k.left_known k.right_known).0
+    (sym c.if-eq.ensures) in
+    answered_step r.infcx.ghost_name IsFormedConst m m r.infcx.now.inner r.infcx.now.inner r.ambient_variance
+    r.param_env (m.const_ c.args.a.now)
+    (m.const_ c.args.b.now) m.const_ c.args.a.now
+    (itself_related solver_manner (solving r.infcx.ghost_name m r.infcx.now.inner r.ambient_variance r.param_env)
+    r.ambient_variance m.const_
+    (m.const_ c.args.a.now) (m.const_ c.args.b.now) c.args.a.now same refl k.left_known)
+
+pub shallow_resolve_const-left-requires-clause-const_in : goal.shallow_resolve_const-left-requires-clause-const_in
+shallow_resolve_const-left-requires-clause-const_in g c =
+    let r = c.args.self.now in
+    let m = g.I.Interner.meaning r.infcx.now.interner in
+    term_context (store_of m r.infcx.now.inner) (m.const_ c.args.a.now) c.requires.asked.left_in
+
+pub shallow_resolve_const-right-requires-clause-const_in : goal.shallow_resolve_const-right-requires-clause-const_in
+shallow_resolve_const-right-requires-clause-const_in g c =
+    let r = c.args.self.now in
+    let m = g.I.Interner.meaning r.infcx.now.interner in
+    term_context (store_of m r.infcx.now.inner) (m.const_ c.args.b.now) c.requires.asked.right_in
+
+pub super_combine_consts-requires-clause-asked : goal.super_combine_consts-requires-clause-asked
+super_combine_consts-requires-clause-asked g c =
+    let r = c.args.self.now in
+    let m = g.I.Interner.meaning r.infcx.now.interner in
+    let st = store_of m r.infcx.now.inner in
+    let k = c.requires.asked in
+    let l = c.shallow_resolve_const-left in
+    let t = c.shallow_resolve_const-right in
+    record {
+      left_known = l.ensures.sure;
+      right_known = t.ensures.sure;
+      left_in = l.ensures.resolves.is_in k.left_in;
+      right_in = t.ensures.resolves.is_in k.right_in;
+      left_taken = read_taken st c.requires.lawful.0.sound r.ambient_variance (m.const_ c.args.a.now) (m.const_ l.result)
+          l.ensures.reads l.ensures.covered k.left_taken;
+      right_taken = read_taken st c.requires.lawful.0.sound r.ambient_variance (m.const_ c.args.b.now) (m.const_ t.result)
+          t.ensures.reads t.ensures.covered k.right_taken;
+    }
 
 pub returns : goal.returns
 returns g c =
     let r = c.args.self.now in
+    let q = c.super_combine_consts.new.self in
     let m = g.I.Interner.meaning r.infcx.now.interner in
-    parts_left solver_manner IsFormedConst (solving r.infcx.ghost_name m r.infcx.now.inner
-    r.ambient_variance r.param_env) m.const_
-    c.args.a.now c.args.b.now c.args.a.now c.args.b.now refl refl c.requires.asked
-    (formed_const m c.const_kind-a.result c.args.a.now c.const_kind-a.ensures c.requires.asked.left_taken.1)
-    (formed_const m c.const_kind-b.result c.args.b.now c.const_kind-b.ensures c.requires.asked.right_taken.1)
+    let l = c.shallow_resolve_const-left in
+    let t = c.shallow_resolve_const-right in
+    read_step (relation_in g.I.Interner.meaning r) (relation_in g.I.Interner.meaning q) c.requires.lawful.0.sound
+    (m.const_ c.args.a.now) (m.const_ c.args.b.now) (m.const_ l.result) (m.const_ t.result) l.ensures.reads
+    t.ensures.reads IsFormedConst (g.I.Interner.meaning q.infcx.now.interner).const_ c.super_combine_consts.result c.super_combine_consts.ensures
