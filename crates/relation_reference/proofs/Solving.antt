@@ -125,6 +125,18 @@ read_taken st g v a u r c h = (read_leaves st g v a u r h.0, c h.1)
 all_taken : (t : Tree) → IsCovered t → Takes (solver_manner solver_settings) Invariant t
 all_taken t c = (all_leaves _ (λ l. tt) t, c)
 
+-- What a constant of a form comes to is no variable.
+pub formed_apart : (s : Assign) (t : Tree) (k : VarKind) (n : ℕ) → IsFormedConst t → apply s t ≢ leaf (variable k n)
+formed_apart s (leaf (atom x)) k n f h = cc
+formed_apart s (leaf (placeholder q u i)) k n f h = cc
+formed_apart s (leaf (variable i p)) k n f h = f
+formed_apart s (leaf (bound q d i)) k n f h = f
+formed_apart s (leaf unknown) k n f h = f
+formed_apart s (node i ts) k n f h = cc
+formed_apart s (bind ks t) k n f h = f
+formed_apart s nil k n f h = f
+formed_apart s (cons t ts) k n f h = f
+
 module _ {Key Id Name : Type 0} (j : ℕ) where
   -- Work that recorded something, and registered no goal.
   unfoldable pub solver_passes : {N : ℕ} {m n : Meaning Key Id Name} {x y : InferCtxtInner Key} (v : Variance)
@@ -654,18 +666,6 @@ module _ {Key Id Name : Type 0} (j : ℕ) where
       n.const_ c ≡ apply (resolved st) t → StandsOutside (variable const_var target) (n.const_ c) →
       BindingError n st (leaf (variable const_var target)) t (CyclicConst c)
   const_cycles n st target t o c e h = cyclic_const target c refl e (h, λ q. o (sym e ∙ q)) refl
-
-  -- What a constant of a form comes to is no variable.
-  pub formed_apart : (s : Assign) (t : Tree) (k : VarKind) (n : ℕ) → IsFormedConst t → apply s t ≢ leaf (variable k n)
-  formed_apart s (leaf (atom x)) k n f h = cc
-  formed_apart s (leaf (placeholder q u i)) k n f h = cc
-  formed_apart s (leaf (variable i p)) k n f h = f
-  formed_apart s (leaf (bound q d i)) k n f h = f
-  formed_apart s (leaf unknown) k n f h = f
-  formed_apart s (node i ts) k n f h = cc
-  formed_apart s (bind ks t) k n f h = f
-  formed_apart s nil k n f h = f
-  formed_apart s (cons t ts) k n f h = f
 
   -- What a relation leaves as it was need not be named, nor the reference that it held.
   module _ {X : Type 0} (m n : Meaning Key Id Name) (x y : InferCtxtInner Key) (v w : Variance) (e f : ParamEnvKey Key)

@@ -117,7 +117,7 @@ returns-in_err-value-in-None-const_var g c =
     let f = c.in_err-value-in-None-const_var.field-0.0 in
     let h = c.in_err-value-in-None-const_var.ensures in
     let t = m.const_ c.args.b.now in
-    let differs = (formed_apart r.infcx.ghost_name (resolved (store_of m x)) t const_var c.in-Some.x.0
+    let differs = (formed_apart (resolved (store_of m x)) t const_var c.in-Some.x.0
     (c.in-None-const_var.ensures.formed k.right_taken.1)) in
     subst (λ res. Stepped solver_manner IsFormedConst (solving r.infcx.ghost_name m x r.ambient_variance r.param_env)
     (solving r.infcx.ghost_name o q.inner r.ambient_variance r.param_env) (m.const_ c.args.a.now)
@@ -141,7 +141,7 @@ returns-in_err-value-in-Some-const_var-2 g c =
     let f = c.in_err-value-in-Some-const_var-2.field-0.0 in
     let h = c.in_err-value-in-Some-const_var-2.ensures in
     let t = m.const_ c.args.a.now in
-    let differs = (formed_apart r.infcx.ghost_name (resolved (store_of m x)) t const_var c.in-Some-const_var-2.y.0
+    let differs = (formed_apart (resolved (store_of m x)) t const_var c.in-Some-const_var-2.y.0
     (c.in-None.ensures.formed k.left_taken.1)) in
     subst (λ res. Stepped solver_manner IsFormedConst (solving r.infcx.ghost_name m x r.ambient_variance r.param_env)
     (solving r.infcx.ghost_name o q.inner r.ambient_variance r.param_env) (m.const_ c.args.a.now)
