@@ -164,7 +164,7 @@ returns-in_ok-bound-in-None-ty_var g c =
     h.grown.ty c.args.a.now k.left_known ∙ is in
     let t_stays : o.ty c.args.b.now ≡ t = h.grown.ty c.args.b.now k.right_known in
     subst (λ l. Stepped solver_manner IsFormed (solving r.infcx.ghost_name m x r.ambient_variance r.param_env)
-    (solving r.infcx.ghost_name o q.inner r.ambient_variance r.param_env) l t o.ty 
+    (solving r.infcx.ghost_name o q.inner r.ambient_variance r.param_env) l t o.ty
     (Ok (Again c.args.a.now c.args.b.now z c.args.b.now Covariant c.args.a.now)))
     (sym is)
     (left_step r.infcx.ghost_name type_var tt m o h.grown x q.inner r.param_env c.requires.lawful.1 c.requires.lawful.0 h.lawful
@@ -191,7 +191,7 @@ returns-in_ok-bound-in-Some-ty_var-2 g c =
     h.grown.ty c.args.b.now k.right_known ∙ is in
     let t_stays : o.ty c.args.a.now ≡ t = h.grown.ty c.args.a.now k.left_known in
     subst (λ l. Stepped solver_manner IsFormed (solving r.infcx.ghost_name m x r.ambient_variance r.param_env)
-    (solving r.infcx.ghost_name o q.inner r.ambient_variance r.param_env) t l o.ty 
+    (solving r.infcx.ghost_name o q.inner r.ambient_variance r.param_env) t l o.ty
     (Ok (Again c.args.a.now c.args.b.now c.args.a.now z Covariant c.args.a.now)))
     (sym is)
     (right_step r.infcx.ghost_name type_var tt m o h.grown x q.inner r.param_env c.requires.lawful.1 c.requires.lawful.0 h.lawful
@@ -201,4 +201,3 @@ returns-in_ok-bound-in-Some-ty_var-2 g c =
     (taken_invariantly r.ambient_variance type_var tt c.in-Some-ty_var-2.y.0 (m.ty c.args.b.now) is c.requires.decides
     k.right_taken)
     c.args.a.now c.args.b.now c.args.a.now z c.args.a.now Covariant o.ty t_stays root_stays t_stays refl (inr t_stays))
-

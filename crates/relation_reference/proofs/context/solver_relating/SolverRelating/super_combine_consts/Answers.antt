@@ -170,7 +170,7 @@ returns-in_ok-value-in-None-const_var g c =
     h.grown.const_ c.args.a.now k.left_known ∙ is in
     let t_stays : o.const_ c.args.b.now ≡ t = h.grown.const_ c.args.b.now k.right_known in
     subst (λ l. Stepped solver_manner IsFormedConst (solving r.infcx.ghost_name m x r.ambient_variance r.param_env)
-    (solving r.infcx.ghost_name o q.inner r.ambient_variance r.param_env) l t o.const_ 
+    (solving r.infcx.ghost_name o q.inner r.ambient_variance r.param_env) l t o.const_
     (Ok (Again c.args.a.now c.args.b.now z c.args.b.now Invariant c.args.b.now)))
     (sym is)
     (left_step r.infcx.ghost_name const_var tt m o h.grown x q.inner r.param_env c.requires.lawful.1 c.requires.lawful.0 h.lawful
@@ -197,7 +197,7 @@ returns-in_ok-value-in-Some-const_var-2 g c =
     h.grown.const_ c.args.b.now k.right_known ∙ is in
     let t_stays : o.const_ c.args.a.now ≡ t = h.grown.const_ c.args.a.now k.left_known in
     subst (λ l. Stepped solver_manner IsFormedConst (solving r.infcx.ghost_name m x r.ambient_variance r.param_env)
-    (solving r.infcx.ghost_name o q.inner r.ambient_variance r.param_env) t l o.const_ 
+    (solving r.infcx.ghost_name o q.inner r.ambient_variance r.param_env) t l o.const_
     (Ok (Again c.args.a.now c.args.b.now c.args.a.now z Invariant c.args.a.now)))
     (sym is)
     (right_step r.infcx.ghost_name const_var tt m o h.grown x q.inner r.param_env c.requires.lawful.1 c.requires.lawful.0 h.lawful
