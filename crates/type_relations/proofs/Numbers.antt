@@ -103,12 +103,12 @@ module _ (before after : Store) (k : VarKind) (n : ℕ) (t : Tree) (q : Instanti
     spent = 0;
     counts = let b = q.same_budget in omega arith;
     binds = (
-      let a = kinds_stand before after k n (bound_to t) t q.writes refl counts_bound type_var (other_kind type_var (λ z. z)) in
-      let b = kinds_stand before after k n (bound_to t) t q.writes refl counts_bound const_var (other_kind const_var (λ z. z)) in
-      omega (arith, a, b));
+        let a = kinds_stand before after k n (bound_to t) t q.writes refl counts_bound type_var (other_kind type_var (λ z. z)) in
+        let b = kinds_stand before after k n (bound_to t) t q.writes refl counts_bound const_var (other_kind const_var (λ z. z)) in
+        omega (arith, a, b));
     grows = λ m u above below.
         let h : weight after u ≤ weight before u * 1 = subst (λ z. weight after u ≤ weight before u * z) one
-            (weight_after before after k n (bound_to t) t q.writes refl g absent u) in omega arith;
+        (weight_after before after k n (bound_to t) t q.writes refl g absent u) in omega arith;
   }
 
   pub number_equal : (w : Interpretation) (s : Assign) → Satisfies w after s → s k n ≡ apply s t
