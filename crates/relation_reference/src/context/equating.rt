@@ -117,7 +117,8 @@ impl<I: Interner> RefCtxt<I> {
             InstantiatesNumber (store_of m self.old.inner) (store_of m self.new.inner)
             int_var var.0 (int_value_tree value) }
     {
-        let key = self.inner.numbers[int_value_place(value)];
+        let place = int_value_place(value);
+        let key = self.inner.numbers[place];
         bind(&mut self.inner.ints, var.0, key);
     }
 
@@ -133,7 +134,8 @@ impl<I: Interner> RefCtxt<I> {
             InstantiatesNumber (store_of m self.old.inner) (store_of m self.new.inner)
             float_var var.0 (float_value_tree value) }
     {
-        let key = self.inner.numbers[float_value_place(value)];
+        let place = float_value_place(value);
+        let key = self.inner.numbers[place];
         bind(&mut self.inner.floats, var.0, key);
     }
 }

@@ -34,10 +34,11 @@ pub(crate) fn term_of<K: Copy>(table: &Vec<Variable<K>>, v: usize) -> K
     ensures { (d : _) → result ≡ term_at (get_or table.now.items (root_at table.now.items v) d) }
 {
     let root = root_of(table, v);
-    match &table[root].value {
+    let entry = &table[root];
+    match &entry.value {
         VariableValue::Known(term) => *term,
-        VariableValue::Unknown => table[root].key,
-        VariableValue::SameAs(_) => table[root].key,
+        VariableValue::Unknown => entry.key,
+        VariableValue::SameAs(_) => entry.key,
     }
 }
 
@@ -55,11 +56,12 @@ fn led_to<K: Copy>(entry: &Variable<K>, child: usize, root: usize) -> Variable<K
 }
 
 // Leads each variable that led to the child to the root.
-fn lead_all<K: Copy>(table: &mut [Variable<K>], child: usize, root: usize)
-    ensures { table.new ≡ map (led_variable child root) table.old }
+fn lead_all<K: Copy>(table: &mut Vec<Variable<K>>, child: usize, root: usize)
+    ensures { table.new.items ≡ map (led_variable child root) table.old.items }
 {
-    for entry in table.iter_mut() {
-        *entry = led_to(entry, child, root);
+    for i in 0..table.len() {
+        let entry = led_to(&table[i], child, root);
+        table[i] = entry;
     }
 }
 
@@ -69,19 +71,52 @@ fn smaller(a: usize, b: usize) -> usize
     if a < b { a } else { b }
 }
 
+// The universe of a variable.
+fn universe_of<K: Copy>(table: &Vec<Variable<K>>, v: usize) -> usize
+    requires { v < length table.now.items }
+    ensures { result ≡ universe_at table.now.items v }
+{
+    table[v].universe.0
+}
+
+// Writes what is recorded of a variable.
+fn write_value<K: Copy>(table: &mut Vec<Variable<K>>, v: usize, value: VariableValue<K>)
+    requires { v < length table.old.items }
+    ensures keys { keys_of table.new.items ≡ keys_of table.old.items }
+    ensures values { values_of table.new.items ≡ slice_set (values_of table.old.items) v value }
+    ensures universes { universes_of table.new.items ≡ universes_of table.old.items }
+{
+    let entry = &mut table[v];
+    entry.value = value;
+}
+
+// Writes the universe of a variable.
+fn write_universe<K: Copy>(table: &mut Vec<Variable<K>>, v: usize, universe: usize)
+    requires { v < length table.old.items }
+    ensures keys { keys_of table.new.items ≡ keys_of table.old.items }
+    ensures values { values_of table.new.items ≡ values_of table.old.items }
+    ensures universes { universes_of table.new.items ≡ slice_set (universes_of table.old.items) v universe }
+{
+    let entry = &mut table[v];
+    entry.universe = UniverseIndex(universe);
+}
+
 // Makes a root and all of its class lead to one of a smaller number, which gets the smaller of both universes.
 pub(crate) fn link<K: Copy>(table: &mut Vec<Variable<K>>, child: usize, root: usize)
     requires made { child < length table.old.items }
     requires smaller { root < child }
     ensures keys { keys_of table.new.items ≡ keys_of table.old.items }
-    ensures values { values_of table.new.items ≡ slice_set (map (led child root) (values_of table.old.items)) child (SameAs root) }
+    ensures values { values_of table.new.items ≡
+        slice_set (map (led child root) (values_of table.old.items)) child (SameAs root) }
     ensures universes { let lowered = min (universe_at table.old.items child) (universe_at table.old.items root) in
         universes_of table.new.items ≡ slice_set (universes_of table.old.items) root lowered }
 {
-    let universe = smaller(table[child].universe.0, table[root].universe.0);
-    lead_all(table.as_mut_slice(), child, root);
-    table[child].value = VariableValue::SameAs(root);
-    table[root].universe = UniverseIndex(universe);
+    let below = universe_of(table, child);
+    let above = universe_of(table, root);
+    let universe = smaller(below, above);
+    lead_all(table, child, root);
+    write_value(table, child, VariableValue::SameAs(root));
+    write_universe(table, root, universe);
 }
 
 // Binds a root to a term.
@@ -91,5 +126,5 @@ pub(crate) fn bind<K: Copy>(table: &mut Vec<Variable<K>>, v: usize, term: K)
     ensures values { values_of table.new.items ≡ slice_set (values_of table.old.items) v (Known term) }
     ensures universes { universes_of table.new.items ≡ universes_of table.old.items }
 {
-    table[v].value = VariableValue::Known(term);
+    write_value(table, v, VariableValue::Known(term));
 }

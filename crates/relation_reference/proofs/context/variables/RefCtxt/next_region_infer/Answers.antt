@@ -6,6 +6,9 @@ use Rattle.relation_reference.proofs.context.variables.RefCtxt.next_region_infer
 pub returns-in_err-key-clause-later : goal.returns-in_err-key-clause-later
 returns-in_err-key-clause-later g c = later_same _ _ (ap (λ m. store_of m c.args.self.now.inner) c.in_err-key.ensures.refused)
 
+pub returns-in_err-key-clause-refused : goal.returns-in_err-key-clause-refused
+returns-in_err-key-clause-refused g c = on_err c.from_residual.result _ (ap (λ m. store_of m c.args.self.now.inner) c.in_err-key.ensures.refused)
+
 pub returns-in_err-push-clause-lawful : goal.returns-in_err-push-clause-lawful
 returns-in_err-push-clause-lawful g c = refused_lawful c.in_ok-key.ensures.grown c.args.self.now.inner (record c.args.self.now.inner { regions = c.push.new.self }) (record { types = refl; ints = refl; floats = refl; consts = refl; regions = c.in_err-push.ensures.items; constraints = refl; universe = refl; budget = refl; numbers = refl }) c.requires
 

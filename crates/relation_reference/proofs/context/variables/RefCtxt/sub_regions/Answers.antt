@@ -3,7 +3,7 @@ use Rattle.relation_terms.specs.declared.predicate.RegionConstraint.TheVariants.
 use Rattle.relation_terms.specs.declared.terms.generic_arg.GenericArgKind.TheVariants.{Lifetime}
 use Rattle.relation_terms.specs.declared.predicate.RegionConstraint.{RegionConstraint}
 use Rattle.relation_reference.specs.Tables.{store_of}
-use Rattle.relation_reference.proofs.Making.{same_lawful, same_store, goes_same, constraint_lawful, constraint_goes, constraint_added}
+use Rattle.relation_reference.proofs.Making.{on_err, same_lawful, same_store, goes_same, constraint_lawful, constraint_goes, constraint_added}
 use Rattle.relation_reference.proofs.context.variables.RefCtxt.sub_regions.Goals as goal
 
 pub returns-in_err-push-clause-lawful : goal.returns-in_err-push-clause-lawful
@@ -19,6 +19,22 @@ returns-in_err-push-clause-goes g c =
     let x = c.args.self.now.inner in
     let y = record x { constraints = c.push.new.self } in
     goes_same 0 (store_of m x) (store_of m y) (same_store m x y (record {
+      types = refl;
+      ints = refl;
+      floats = refl;
+      consts = refl;
+      regions = refl;
+      constraints = c.in_err-push.ensures.items;
+      universe = refl;
+      budget = refl;
+      numbers = refl;
+    }))
+
+pub returns-in_err-push-clause-refused : goal.returns-in_err-push-clause-refused
+returns-in_err-push-clause-refused g c =
+    let m = g.I.Interner.meaning c.args.self.now.interner in
+    let x = c.args.self.now.inner in
+    on_err c.from_residual.result _ (same_store m x (record x { constraints = c.push.new.self }) (record {
       types = refl;
       ints = refl;
       floats = refl;

@@ -1,0 +1,26 @@
+use Rattle.std.proofs.Common.{refl}
+use Rattle.relation_reference.specs.Numbers.{float_value_tree}
+use Rattle.relation_reference.proofs.Numbers.{number_in, float_bound, float_bound_lawful}
+use Rattle.relation_reference.proofs.context.variables.RefCtxt.instantiate_float_var_raw.Goals as goal
+
+pub index-key-requires : goal.index-key-requires
+index-key-requires g c =
+    let m = g.I.Interner.meaning c.args.self.now.interner in
+    let x = c.args.self.now.inner in
+    number_in m x.numbers.items c.float_value_place-place.result c.requires.lawful.numbers c.float_value_place-place.ensures.place
+
+pub returns-clause-lawful : goal.returns-clause-lawful
+returns-clause-lawful g c =
+    let m = g.I.Interner.meaning c.args.self.now.interner in
+    let x = c.args.self.now.inner in
+    float_bound_lawful m x c.requires.lawful c.bind.new.table c.args.var.0 c.float_value_place-place.result c.index-key.result.now (float_value_tree c.args.value)
+    c.float_value_place-place.ensures.place c.float_value_place-place.ensures.is c.index-key.ensures c.bind.ensures.keys c.bind.ensures.values c.bind.ensures.universes
+    c.requires.made c.requires.unbound c.args.value c.requires.value_known refl
+
+pub returns-clause-binds : goal.returns-clause-binds
+returns-clause-binds g c =
+    let m = g.I.Interner.meaning c.args.self.now.interner in
+    let x = c.args.self.now.inner in
+    float_bound m x c.requires.lawful c.bind.new.table c.args.var.0 c.float_value_place-place.result c.index-key.result.now (float_value_tree c.args.value)
+    c.float_value_place-place.ensures.place c.float_value_place-place.ensures.is c.index-key.ensures c.bind.ensures.keys c.bind.ensures.values c.bind.ensures.universes
+    c.requires.made c.requires.unbound c.args.value c.requires.value_known refl
