@@ -1,7 +1,6 @@
 -- A step that was taken from terms as they are read was taken from the terms.
 use Rattle.std.proofs.Common.{◌≡◌, ◌+◌, ◌<◌, ◌≤◌, ℕ, List, length, None, Result, Ok, Err, refl, sym, ap, ap₂, ◌∙◌, arith, subst, subst₂}
 use Rattle.relation_terms.specs.declared.terms.enums.Variance.{Variance}
-use Rattle.relation_terms.specs.declared.terms.enums.Variance.TheVariants.{Invariant}
 use Rattle.relation_terms.specs.Heads.{VarKind, type_var, int_var, float_var, const_var, variable, bound}
 use Rattle.relation_terms.specs.Trees.{Tree, leaf, Assign, apply}
 use Rattle.relation_terms.specs.Variances.{xform}
@@ -18,7 +17,6 @@ use Rattle.type_relations.specs.Goals.{Goal}
 use Rattle.type_relations.specs.Outcomes.{Outcome}
 use Rattle.type_relations.specs.Measures.{grown}
 use Rattle.type_relations.specs.Errors.{IsReadAs, of_entries}
-use Rattle.type_relations.specs.Headline.{IsFirstOrderPair}
 use Rattle.type_relations.specs.Parts.{IsFormed}
 use Rattle.type_relations.specs.Lawful.{State, Passes, Leads, StepVerdict, ExactVerdict, Stepped, items_in}
 use Rattle.type_relations.proofs.ReadAs.{read_value, read_later, read_weight}

@@ -1,12 +1,13 @@
 -- A relation of terms without variables.
-use Rattle.std.proofs.Common.{◌≡◌, ℕ, ◌≤◌, refl, sym, ◌∙◌, subst, subst₂, arith, List, [], ◌∷◌, ◌++◌, All, IsTrue, map}
+use Rattle.std.proofs.Common.{◌≡◌, ◌≢◌, ℕ, ◌≤◌, refl, sym, ◌∙◌, subst, subst₂, arith, List, [], ◌∷◌, ◌++◌, All, IsTrue, map}
 use Rattle.std.proofs.Common.{Option, Some, IfSome, Result, Ok, Err}
 use Rattle.std.proofs.lemmas.List.{map-append}
 use Rattle.std.proofs.lemmas.List.Elements.{All-nil}
 use Rattle.relation_terms.specs.declared.terms.enums.Variance.{Variance}
 use Rattle.relation_terms.specs.declared.terms.keys.RegionKey.{RegionKey}
 use Rattle.relation_terms.specs.declared.predicate.RegionConstraint.{RegionConstraint}
-use Rattle.relation_terms.specs.Heads.{environment, type_sort, region_sort, region_var, type_var, variable, bound}
+use Rattle.relation_terms.specs.Heads.{environment, type_sort, region_sort, region_var, type_var, const_var, variable}
+use Rattle.relation_terms.specs.Heads.{bound}
 use Rattle.relation_terms.specs.Heads.{placeholder, atom, unknown}
 use Rattle.relation_terms.specs.Trees.{Tree, leaf, node, bind, nil, cons, known, IsTerm, Assign, apply}
 use Rattle.relation_terms.specs.Meaning.{Meaning}
@@ -54,6 +55,12 @@ module _ {Key Id Name : Type 0} (m : Meaning Key Id Name) where
   formed cs (bind ks t) h i = absurd h
   formed cs nil h i = absurd h
   formed cs (cons t ts) h i = absurd h
+
+  -- No constant is a variable.
+  pub no_const_variable : (cs : List (RegionConstraint Key)) (t : Tree) → IsTermIn (plain_store m cs) t → (n : ℕ) →
+      t ≢ leaf (variable const_var n)
+  no_const_variable cs t i n e = let l = made_of_term (plain_store m cs) const_var n
+      (subst (IsTermIn (plain_store m cs)) e i) in omega (arith, l)
 
   -- A region stays one under each assignment.
   region_stays : (cs : List (RegionConstraint Key)) (s : Assign) (t : Tree) → IsRegionIn (plain_store m cs) t →

@@ -71,7 +71,7 @@ module _ (before after : Store) (k : VarKind) (counted : IsTypeOrConst k) (n : �
   pub binding_equal : (w : Interpretation) (s : Assign) → Satisfies w after s → s k n ≡ apply s t
   binding_equal w s sat =
       bound_value before after k n u q g (no_region k counted) stands u_in u_absent scope w s sat
-          ∙ has_value s (((binding_goes_at (weight before t) (omega arith)).later.shrinks w s sat).bindings)
+      ∙ has_value s (((binding_goes_at (weight before t) (omega arith)).later.shrinks w s sat).bindings)
 
   pub binding_keeps : (w : Interpretation) (s : Assign) → Satisfies w before s → s k n ≡ apply s t → Satisfies w after s
   binding_keeps w s sat h = bound_keeps before after k n u q g (no_region k counted) stands u_in u_absent scope w s sat

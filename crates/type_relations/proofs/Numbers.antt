@@ -103,12 +103,12 @@ module _ (before after : Store) (k : VarKind) (n : ℕ) (t : Tree) (q : Instanti
     spent = 0;
     counts = let b = q.same_budget in omega arith;
     binds = (
-      let a = kinds_stand before after k n (bound_to t) t q.writes refl counts_bound type_var (other_kind type_var (λ z. z)) in
-      let b = kinds_stand before after k n (bound_to t) t q.writes refl counts_bound const_var (other_kind const_var (λ z. z)) in
-      omega (arith, a, b));
+        let a = kinds_stand before after k n (bound_to t) t q.writes refl counts_bound type_var (other_kind type_var (λ z. z)) in
+        let b = kinds_stand before after k n (bound_to t) t q.writes refl counts_bound const_var (other_kind const_var (λ z. z)) in
+        omega (arith, a, b));
     grows = λ m u above below.
         let h : weight after u ≤ weight before u * 1 = subst (λ z. weight after u ≤ weight before u * z) one
-            (weight_after before after k n (bound_to t) t q.writes refl g absent u) in omega arith;
+        (weight_after before after k n (bound_to t) t q.writes refl g absent u) in omega arith;
   }
 
   pub number_equal : (w : Interpretation) (s : Assign) → Satisfies w after s → s k n ≡ apply s t
@@ -373,15 +373,3 @@ covered_formed (node h ts) s c o = type_admitted (head_sort h) s.0
 covered_formed (bind ks t) s c o = absurd c
 covered_formed nil s c o = absurd s
 covered_formed (cons t ts) s c o = absurd s
-
--- The same, told apart.
-pub type_formed : (t : Tree) → IsTerm type_sort t → IsCovered t → ((n : ℕ) → t ≢ leaf (variable type_var n)) →
-    ((n : ℕ) → t ≢ leaf (variable int_var n)) → ((n : ℕ) → t ≢ leaf (variable float_var n)) → IsFormed t
-type_formed t s c a i f = covered_formed t s c apart
-  where
-    apart : (k : VarKind) (n : ℕ) → t ≢ leaf (variable k n)
-    apart type_var n e = a n e
-    apart int_var n e = i n e
-    apart float_var n e = f n e
-    apart const_var n e = subst (IsTerm type_sort) e s
-    apart region_var n e = subst (IsTerm type_sort) e s

@@ -1,5 +1,5 @@
 //! Integer and float variables of a context, met with types.
-ghost use Rattle.std.specs.Prelude.{◌≡◌, ◌≢◌, ◌↔◌, IsTrue, IsFalse, IfSome, IfNone, min, max};
+ghost use Rattle.std.specs.Prelude.{◌≡◌, ◌≢◌, IsTrue, IsFalse, IfSome, IfNone, min, max};
 ghost use Rattle.relation_terms.specs.Trees.{known};
 ghost use Rattle.relation_terms.specs.declared.terms.ty_kind.TyKind.TheVariants.{Infer, Int, Uint, Float};
 ghost use Rattle.relation_terms.specs.declared.terms.ty_kind.InferTy.TheVariants.{IntVar, FloatVar};

@@ -3,15 +3,17 @@ use Rattle.type_relations.specs.Parts.{IsFormedConst}
 use Rattle.relation_tests.specs.Plain.{plain_state, plain_manner}
 use Rattle.type_relations.proofs.Comparing.{formed_const}
 use Rattle.type_relations.proofs.Passing.{parts_left}
+use Rattle.relation_tests.proofs.PlainLemmas.{no_const_variable}
 use Rattle.relation_tests.proofs.plain.PlainRelationTypeRelation.consts.Goals as goal
 
 pub returns : goal.returns
 returns g c =
     let m = g.I.Interner.meaning c.args.self.now.interner in
-    parts_left plain_manner IsFormedConst
-    (plain_state m c.args.self.now.ambient c.args.self.now.constraints.items) m.const_
-    c.args.a.now c.args.b.now c.args.a.now c.args.b.now refl refl c.requires.asked
-    (formed_const m c.const_kind-a.result c.args.a.now c.const_kind-a.ensures
-    c.requires.asked.left_taken.1)
-    (formed_const m c.const_kind-b.result c.args.b.now c.const_kind-b.ensures
-    c.requires.asked.right_taken.1)
+    let cs = c.args.self.now.constraints.items in
+    let k = c.requires.asked in
+    parts_left plain_manner IsFormedConst (plain_state m c.args.self.now.ambient cs) m.const_
+    c.args.a.now c.args.b.now c.args.a.now c.args.b.now refl refl k
+    (formed_const m c.const_kind-a.result c.args.a.now c.const_kind-a.ensures k.left_taken.1
+    (no_const_variable m cs (m.const_ c.args.a.now) k.left_in))
+    (formed_const m c.const_kind-b.result c.args.b.now c.const_kind-b.ensures k.right_taken.1
+    (no_const_variable m cs (m.const_ c.args.b.now) k.right_in))

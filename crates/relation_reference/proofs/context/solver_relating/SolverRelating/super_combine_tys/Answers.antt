@@ -5,11 +5,11 @@ use Rattle.type_relations.specs.Stores.{MayStandFor}
 use Rattle.type_relations.specs.Errors.{itself}
 use Rattle.type_relations.specs.Parts.{IsFormed}
 use Rattle.type_relations.proofs.Standing.{term_context}
-use Rattle.type_relations.proofs.Numbers.{no_number, other_number, number_no_region, type_formed}
+use Rattle.type_relations.proofs.Numbers.{no_number, other_number, number_no_region}
 use Rattle.relation_reference.specs.Tables.{store_of}
 use Rattle.relation_reference.specs.NumberVars.{number_kind, number_of}
 use Rattle.relation_reference.proofs.Shallowly.{shallow_free, variable_made}
-use Rattle.relation_reference.proofs.NumberVars.{is_number, none_of_kind}
+use Rattle.relation_reference.proofs.NumberVars.{is_number, none_of_kind, type_formed}
 use Rattle.relation_reference.proofs.Solving.{roots_step, number_step, number_step_back, left_unlike, right_unlike, parts_step}
 use Rattle.relation_reference.proofs.context.solver_relating.SolverRelating.super_combine_tys.Goals as goal
 
@@ -96,7 +96,7 @@ returns-else-not-equate_numbers g c =
     let m = g.I.Interner.meaning r.infcx.now.interner in
     let st = store_of m x in
     let k = c.requires.asked in
-    let q = c.if-not-equate_numbers.new.self in
+    let q = c.equate_numbers.new.self in
     let o = g.I.Interner.meaning q.interner in
     let done = c.if-not-equate_numbers.ensures in
     let same : o ≡ m = ap g.I.Interner.meaning done.interner in
@@ -116,7 +116,7 @@ returns-then-not-equate_numbers g c =
     let m = g.I.Interner.meaning r.infcx.now.interner in
     let st = store_of m x in
     let k = c.requires.asked in
-    let q = c.if-not-equate_numbers.new.self in
+    let q = c.equate_numbers.new.self in
     let o = g.I.Interner.meaning q.interner in
     let done = c.if-not-equate_numbers.ensures in
     let same : o ≡ m = ap g.I.Interner.meaning done.interner in
@@ -137,7 +137,7 @@ returns-then-not-bind_number g c =
     let m = g.I.Interner.meaning r.infcx.now.interner in
     let st = store_of m x in
     let k = c.requires.asked in
-    let q = c.if-not-bind_number.new.self in
+    let q = c.bind_number.new.self in
     let o = g.I.Interner.meaning q.interner in
     let done = c.if-not-bind_number.ensures in
     let same : o ≡ m = ap g.I.Interner.meaning done.interner in
@@ -158,7 +158,7 @@ returns-then-not-bind_number-2 g c =
     let m = g.I.Interner.meaning r.infcx.now.interner in
     let st = store_of m x in
     let k = c.requires.asked in
-    let q = c.if-not-bind_number-2.new.self in
+    let q = c.bind_number-in-Some-number_var-2.new.self in
     let o = g.I.Interner.meaning q.interner in
     let done = c.if-not-bind_number-2.ensures in
     let same : o ≡ m = ap g.I.Interner.meaning done.interner in
@@ -178,7 +178,7 @@ returns-else-not-bind_number g c =
     let m = g.I.Interner.meaning r.infcx.now.interner in
     let st = store_of m x in
     let k = c.requires.asked in
-    let q = c.if-not-bind_number.new.self in
+    let q = c.bind_number.new.self in
     let o = g.I.Interner.meaning q.interner in
     let done = c.if-not-bind_number.ensures in
     let same : o ≡ m = ap g.I.Interner.meaning done.interner in
@@ -194,7 +194,7 @@ returns-else-not-bind_number-2 g c =
     let m = g.I.Interner.meaning r.infcx.now.interner in
     let st = store_of m x in
     let k = c.requires.asked in
-    let q = c.if-not-bind_number-2.new.self in
+    let q = c.bind_number-in-Some-number_var-2.new.self in
     let o = g.I.Interner.meaning q.interner in
     let done = c.if-not-bind_number-2.ensures in
     let same : o ≡ m = ap g.I.Interner.meaning done.interner in
