@@ -1,7 +1,7 @@
 -- Number variables by their forms, and the types that they are bound to.
 use Rattle.std.proofs.Common.{◌≡◌, ◌≢◌, ℕ, Option, Some, None, IfSome, IfNone, refl, sym, ap, ◌∙◌, subst}
-use Rattle.relation_terms.specs.Heads.{int_var, float_var, variable}
-use Rattle.relation_terms.specs.Trees.{Tree, leaf}
+use Rattle.relation_terms.specs.Heads.{type_sort, VarKind, type_var, int_var, float_var, const_var, region_var, variable}
+use Rattle.relation_terms.specs.Trees.{Tree, leaf, IsTerm}
 use Rattle.relation_terms.specs.Meaning.{Meaning, kind_tree, infer_tree}
 use Rattle.relation_terms.specs.declared.terms.ty_kind.TyKind.{TyKind}
 use Rattle.relation_terms.specs.declared.terms.ty_kind.TyKind.TheVariants.{Infer, Int, Uint, Float}
@@ -17,12 +17,26 @@ use Rattle.relation_terms.specs.declared.terms.enums.IntTy.{IntTy}
 use Rattle.relation_terms.specs.declared.terms.enums.UintTy.{UintTy}
 use Rattle.relation_terms.specs.declared.terms.enums.FloatTy.{FloatTy}
 use Rattle.type_relations.specs.Steps.{IsNumberFor}
-use Rattle.type_relations.proofs.Numbers.{IsNumber}
+use Rattle.type_relations.specs.Covered.{IsCovered}
+use Rattle.type_relations.specs.Parts.{IsFormed}
+use Rattle.type_relations.proofs.Numbers.{IsNumber, covered_formed}
 use Rattle.relation_reference.specs.Numbers.{int_value_tree, float_value_tree}
 use Rattle.relation_reference.specs.declared.context.number_vars.NumberVid.{NumberVid}
 use Rattle.relation_reference.specs.declared.context.number_vars.NumberVid.TheVariants as vid
 use Rattle.relation_reference.specs.NumberVars.{number_kind, number_of, infer_of, number_tree, IsNoNumberVar}
 use Rattle.relation_reference.specs.NumberVars.{IsIntValue, IsFloatValue}
+
+-- A covered type that is no type, integer or float variable is of a form.
+pub type_formed : (t : Tree) → IsTerm type_sort t → IsCovered t → ((n : ℕ) → t ≢ leaf (variable type_var n)) →
+    ((n : ℕ) → t ≢ leaf (variable int_var n)) → ((n : ℕ) → t ≢ leaf (variable float_var n)) → IsFormed t
+type_formed t s c a i f = covered_formed t s c apart
+  where
+    apart : (k : VarKind) (n : ℕ) → t ≢ leaf (variable k n)
+    apart type_var n e = a n e
+    apart int_var n e = i n e
+    apart float_var n e = f n e
+    apart const_var n e = subst (IsTerm type_sort) e s
+    apart region_var n e = subst (IsTerm type_sort) e s
 
 pub is_number : (v : NumberVid) → IsNumber (number_kind v)
 is_number (vid.Int v) = tt

@@ -373,15 +373,3 @@ covered_formed (node h ts) s c o = type_admitted (head_sort h) s.0
 covered_formed (bind ks t) s c o = absurd c
 covered_formed nil s c o = absurd s
 covered_formed (cons t ts) s c o = absurd s
-
--- The same, told apart.
-pub type_formed : (t : Tree) → IsTerm type_sort t → IsCovered t → ((n : ℕ) → t ≢ leaf (variable type_var n)) →
-    ((n : ℕ) → t ≢ leaf (variable int_var n)) → ((n : ℕ) → t ≢ leaf (variable float_var n)) → IsFormed t
-type_formed t s c a i f = covered_formed t s c apart
-  where
-    apart : (k : VarKind) (n : ℕ) → t ≢ leaf (variable k n)
-    apart type_var n e = a n e
-    apart int_var n e = i n e
-    apart float_var n e = f n e
-    apart const_var n e = subst (IsTerm type_sort) e s
-    apart region_var n e = subst (IsTerm type_sort) e s

@@ -5,11 +5,11 @@ use Rattle.type_relations.specs.Stores.{MayStandFor}
 use Rattle.type_relations.specs.Errors.{itself}
 use Rattle.type_relations.specs.Parts.{IsFormed}
 use Rattle.type_relations.proofs.Standing.{term_context}
-use Rattle.type_relations.proofs.Numbers.{no_number, other_number, number_no_region, type_formed}
+use Rattle.type_relations.proofs.Numbers.{no_number, other_number, number_no_region}
 use Rattle.relation_reference.specs.Tables.{store_of}
 use Rattle.relation_reference.specs.NumberVars.{number_kind, number_of}
 use Rattle.relation_reference.proofs.Shallowly.{shallow_free, variable_made}
-use Rattle.relation_reference.proofs.NumberVars.{is_number, none_of_kind}
+use Rattle.relation_reference.proofs.NumberVars.{is_number, none_of_kind, type_formed}
 use Rattle.relation_reference.proofs.Solving.{roots_step, number_step, number_step_back, left_unlike, right_unlike, parts_step}
 use Rattle.relation_reference.proofs.context.solver_relating.SolverRelating.super_combine_tys.Goals as goal
 

@@ -1,4 +1,4 @@
-use Rattle.std.proofs.Common.{refl}
+use Rattle.std.proofs.Common.{refl, arith}
 use Rattle.relation_reference.specs.Numbers.{int_value_tree}
 use Rattle.relation_reference.proofs.Numbers.{number_in, int_bound, int_bound_lawful}
 use Rattle.relation_reference.proofs.context.variables.RefCtxt.instantiate_int_var_raw.Goals as goal
@@ -7,7 +7,9 @@ pub index-key-requires : goal.index-key-requires
 index-key-requires g c =
     let m = g.I.Interner.meaning c.args.self.now.interner in
     let x = c.args.self.now.inner in
-    number_in m x.numbers.items c.int_value_place-place.result c.requires.lawful.numbers c.int_value_place-place.ensures.place
+    let within = number_in m x.numbers.items c.int_value_place-place.result c.requires.lawful.numbers c.int_value_place-place.ensures.place in
+    let long = x.numbers.ok.0 in
+    omega (arith, within, long)
 
 pub returns-clause-lawful : goal.returns-clause-lawful
 returns-clause-lawful g c =

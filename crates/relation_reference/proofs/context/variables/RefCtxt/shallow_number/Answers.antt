@@ -40,6 +40,6 @@ returns g c =
       sure = c.requires.ty_known;
       reads = itself refl;
       shallow = number_shallow m c.ty_kind-kind.result (m.ty c.args.ty.now) c.ty_kind-kind.ensures (store_of m c.args.self.now.inner)
-          c.requires.ty_shallow c.in-None.ensures.is_none c.in-None-float_vid.ensures.is_none;
+          c.requires.ty_shallow c.in_default.ensures.is_none c.in_default-float_vid.ensures.is_none;
       covered = λ d. d;
     }

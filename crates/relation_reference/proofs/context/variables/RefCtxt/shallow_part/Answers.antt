@@ -63,6 +63,6 @@ returns-in-Const-clause-by_parts g c =
       existential_predicates = g.met.I.Interner.are_existential_predicates c.args.self.now.interner;
     } in
     const_by_parts (store_of m c.args.self.now.inner) (m.const_ c.shallow_resolve_const.result)
-    (λ s. some_sort (Const c.shallow_resolve_const.result)
+    (λ s. some_sort {Id = g.row.I-Id.Denot} (Const c.shallow_resolve_const.result)
     (sym (sort_known m sorted (Const c.shallow_resolve_const.result) c.shallow_resolve_const.ensures.sure) ∙ s))
     c.shallow_resolve_const.ensures.shallow
