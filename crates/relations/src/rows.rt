@@ -242,6 +242,7 @@ fn is_low_row(name: &str) -> bool
 {
     name == "r01"
         || name == "r02"
+        || name == "r03"
         || name == "r04"
         || name == "r05"
         || name == "r07"
@@ -260,11 +261,15 @@ fn is_high_row(name: &str) -> bool
         || name == "r23"
         || name == "r26"
         || name == "r28"
+        || name == "r30"
         || name == "r34"
         || name == "r35"
+        || name == "r36"
+        || name == "r37"
         || name == "r53"
         || name == "r59"
         || name == "r60"
+        || name == "r69"
 }
 
 // Whether a row has that name.

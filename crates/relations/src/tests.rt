@@ -9,6 +9,7 @@ use std::test::Fail;
 
 const ALL_ROWS: &str = "r01: true | false
 r02: false | true | false
+r03: true | err Sorts(?i0, ?f0)
 r04: &'a (i32, i32) | 'a | (i32, i32) | i32 | end
 r05: Foo<Bar<i32>, Bar<i32>, i32> | Bar<i32> | i32 | end
 r07: err TupleSize(2, 3) | err Sorts((), (u8,))
@@ -21,11 +22,15 @@ r22: err ArraySize(2, 3)
 r23: ok; regions=['a: 'b] | ok; regions=['b: 'a] | ok; regions=['a == 'b]
 r26: Placeholder | none | Closure(f) | Tuple(0) | Error
 r28: true
+r30: ok; bound=[?i0=u16] | err Sorts(?i0, bool)
 r34: ok; regions=['a: 'c, 'b == 'd] | err Mutability
 r35: ok; regions=['b: 'a] | ok; regions=['a: 'b]
+r36: ok; bound=[?0=u8, ?i0=u16]; left=0
+r37: ok; bound=[?0=u8, ?c0=2]
 r53: dyn Tr<bool, A = u8> + 'a | bool | u8 | 'a | end
 r59: false | true | false | true
 r60: true | false | true | false
+r69: true | false | false | ok; bound=[?c0=1]
 ";
 
 // The words of a run, its status, and what it writes.
