@@ -2,9 +2,28 @@ use Rattle.std.proofs.Common.{sym, ◌∙◌, subst}
 use Rattle.relation_terms.specs.declared.terms.enums.Variance.TheVariants.{Invariant}
 use Rattle.relation_terms.specs.Heads.{arguments}
 use Rattle.relation_terms.specs.Trees.{node}
-use Rattle.type_relations.specs.Lawful.{Related}
+use Rattle.type_relations.specs.Lawful.{Asked, Related}
 use Rattle.relation_reference.specs.Solving.{solving, solver_manner}
 use Rattle.relation_asking.proofs.lists.relate_args.Goals as goal
+
+-- The relation is over the context that was lent, as it stands.
+pub relate_args-related-requires-clause-asked : goal.relate_args-related-requires-clause-asked
+relate_args-related-requires-clause-asked g c =
+    let r = c.new-relation.ensures in
+    subst (λ x. Asked solver_manner
+    (solving 0 (g.I.Interner.meaning x.interner) x.inner c.new-relation.result.ambient_variance
+    c.new-relation.result.param_env) c.new-relation.result.ambient_variance
+    (node arguments ((g.I.Interner.meaning x.interner).args c.args.lhs.now))
+    (node arguments ((g.I.Interner.meaning x.interner).args c.args.rhs.now))) (sym r.infcx)
+    (subst (λ v. Asked solver_manner
+    (solving 0 (g.I.Interner.meaning c.args.ctx.now.interner) c.args.ctx.now.inner v c.new-relation.result.param_env) v
+    (node arguments ((g.I.Interner.meaning c.args.ctx.now.interner).args c.args.lhs.now))
+    (node arguments ((g.I.Interner.meaning c.args.ctx.now.interner).args c.args.rhs.now))) (sym r.ambient_variance)
+    (subst (λ e. Asked solver_manner
+    (solving 0 (g.I.Interner.meaning c.args.ctx.now.interner) c.args.ctx.now.inner Invariant e) Invariant
+    (node arguments ((g.I.Interner.meaning c.args.ctx.now.interner).args c.args.lhs.now))
+    (node arguments ((g.I.Interner.meaning c.args.ctx.now.interner).args c.args.rhs.now))) (sym r.param_env)
+    c.requires.asked))
 
 -- The reference that is given back is the one that was lent, so the context is what is behind it.
 pub returns : goal.returns
