@@ -64,10 +64,7 @@ fn variables_count<I: Interner>(ctx: &RefCtxt<I>, kind: VariableKind) -> usize
 }
 
 // Makes one more variable of a kind.
-fn make_variable<I: Interner>(
-    ctx: &mut RefCtxt<I>,
-    kind: VariableKind,
-) -> Result<(), OutOfMemory>
+fn make_variable<I: Interner>(ctx: &mut RefCtxt<I>, kind: VariableKind) -> Result<(), OutOfMemory>
     requires { IsLawful (I.meaning ctx.old.interner) ctx.old.inner }
     ensures lawful { IsLawful (I.meaning ctx.new.interner) ctx.new.inner }
     ensures grown { Extends (I.meaning ctx.old.interner) (I.meaning ctx.new.interner) }
