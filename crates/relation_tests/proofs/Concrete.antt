@@ -128,11 +128,3 @@ module _ {Key Id Name : Type 0} {m n : Meaning Key Id Name} (e : Extends m n) wh
 
   pub args_concrete : (k : ArgsKey Key) → IsConcrete (m.args k) → IsConcrete (n.args k)
   args_concrete k h = concrete_as (m.args k) (n.args k) (e.args k (concrete_known (m.args k) h)) h
-
--- A copy of a type's key, in a context over what its interner has grown to.
-pub given_concrete : {I Key Id Name : Type 0} (meaning : I → Meaning Key Id Name) {cx old new : I}
-    (is : new ≡ old) (e : Extends (meaning cx) (meaning old)) {k l : TyKey Key} (same : l ≡ k) →
-    IsConcrete ((meaning cx).ty k) → IsConcrete ((meaning new).ty l)
-given_concrete meaning {cx} {old} {new} is e {k} {l} same h =
-    subst (λ i. IsConcrete ((meaning i).ty l)) (sym is)
-    (concrete_as ((meaning old).ty k) ((meaning old).ty l) (ap (meaning old).ty same) (stays_concrete e k h))
