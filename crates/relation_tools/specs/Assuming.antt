@@ -1,10 +1,14 @@
--- What a component gives of an assumption.
-use Rattle.std.specs.Prelude.{IsTrue, IfSome, cond, Option, Some, None}
+-- What a component gives of an assumption, and how a set of assumptions grows.
+use Rattle.std.specs.Prelude.{◌≡◌, IsTrue, cond, List, ◌++◌, map, Option, Some, None}
+use Rattle.std.specs.List.{All}
+use Rattle.std.specs.Option.{option_map}
 use Rattle.relation_terms.specs.Trees.{Tree, known}
 use Rattle.relation_terms.specs.Meaning.{Meaning, kind_tree}
+use Rattle.relation_terms.specs.declared.predicate.OutlivesPredicate.{OutlivesPredicate}
+use Rattle.relation_terms.specs.declared.terms.generic_arg.GenericArgKind.{GenericArgKind}
 use Rattle.relation_terms.specs.declared.terms.ty_kind.TyKind.TheVariants.{Param as TyParam, Alias as TyAlias}
 use Rattle.relation_terms.specs.declared.terms.ty_kind.TyKind.TheVariants.{Placeholder as TyPlaceholder}
-use Rattle.relation_tools.specs.Assumptions.{is_assumed}
+use Rattle.relation_tools.specs.Assumptions.{is_assumed, IsKnown, assumed, HaveSame}
 use Rattle.relation_tools.specs.declared.outlives.Component.{Component, Region, Param, Placeholder, Alias}
 
 module _ {X D N : Type 0} (m : Meaning X D N) where
@@ -16,8 +20,17 @@ module _ {X D N : Type 0} (m : Meaning X D N) where
   argument_of (Alias a) = Some (kind_tree m (TyAlias a))
   argument_of c = None
 
-  -- Of a component that is one, the key is known.
+  -- The same with the region that it outlives.
+  abbrev pub pair_of : Tree → Component X D N → Option (Tree × Tree)
+  pair_of r c = option_map (λ t. (t, r)) (argument_of c)
+
+  -- The key of such a component is known.
   abbrev pub IsKnownComponent : Component X D N → Type 0
   IsKnownComponent (Region r) = IsTrue (known (m.region r))
   IsKnownComponent (Alias a) = IsTrue (known (kind_tree m (TyAlias a)))
   IsKnownComponent c = Unit {0}
+
+-- From one set of assumptions to another that has these besides, and all known; the interner may have grown.
+abbrev pub Gains : {X D N : Type 0} → Meaning X D N → Meaning X D N → List (OutlivesPredicate X (GenericArgKind X)) →
+    List (OutlivesPredicate X (GenericArgKind X)) → List (Tree × Tree) → Type 0
+Gains m n xs ys ps = All (IsKnown n) ys × HaveSame (map (assumed n) ys) (map (assumed m) xs ++ ps)
