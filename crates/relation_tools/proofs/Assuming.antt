@@ -1,7 +1,7 @@
 -- Sets of assumptions, as they grow, and what a list of components gives.
 use Rattle.std.proofs.Common.{◌≡◌, ◌⊎◌, ◌∙◌, ◌&&◌, ◌||◌, not, Bool, true, false, cond, IsTrue, refl, sym, ap, ap₂, subst}
-use Rattle.std.proofs.Common.{⊎_elim, inl, inr, List, [], ◌∷◌, ◌++◌, map, append-nil, Option, Some, None}
-use Rattle.std.proofs.lemmas.Bool.{and_parts}
+use Rattle.std.proofs.Common.{ℕ, nat_lt, arith, IfSome, ⊎_elim, inl, inr, List, [], ◌∷◌, ◌++◌, map, append-nil, Option, Some, None}
+use Rattle.std.proofs.lemmas.Bool.{and_parts, ltb-true}
 use Rattle.std.proofs.lemmas.List.{append_assoc}
 use Rattle.std.proofs.lemmas.List.Elements.{All-nil, All-cons, All-head, All-tail, All-append, All-weaker, All-map}
 use Rattle.std.proofs.lemmas.List.Elements.{All-contains, All-contains_itself, Contains-append_left}
@@ -14,13 +14,18 @@ use Rattle.std.specs.List.Sorted.{IsPermutation}
 use Rattle.std.specs.Option.{option_map}
 use Rattle.relation_terms.specs.Heads.{type_sort}
 use Rattle.relation_terms.specs.Trees.{Tree, leaf, node, bind, nil, cons, known}
-use Rattle.relation_terms.specs.Meaning.{Meaning, Extends, kind_tree, infer_tree, arg_tree}
+use Rattle.relation_terms.specs.Meaning.{Meaning, Extends, kind_tree, infer_tree, region_tree, arg_tree}
 use Rattle.relation_terms.specs.Interning.{AreEqualAsTrees}
 use Rattle.relation_terms.specs.Parts.{tree_sort}
 use Rattle.relation_terms.specs.Closures.{is_type_sort}
 use Rattle.relation_terms.specs.declared.predicate.OutlivesPredicate.{OutlivesPredicate}
 use Rattle.relation_terms.specs.declared.terms.generic_arg.GenericArgKind.{GenericArgKind}
 use Rattle.relation_terms.specs.declared.terms.keys.RegionKey.{RegionKey}
+use Rattle.relation_terms.specs.declared.terms.numbers.DebruijnIndex.{DebruijnIndex}
+use Rattle.relation_terms.specs.declared.terms.region_kind.BoundRegion.{BoundRegion}
+use Rattle.relation_terms.specs.declared.terms.region_kind.RegionKind.{RegionKind}
+use Rattle.relation_terms.specs.declared.terms.region_kind.RegionKind.TheVariants.{ReStatic, ReEarlyParam, ReBound}
+use Rattle.relation_terms.specs.declared.terms.region_kind.RegionKind.TheVariants.{ReVar, RePlaceholder}
 use Rattle.relation_terms.specs.declared.terms.ty_kind.InferTy.{InferTy}
 use Rattle.relation_terms.specs.declared.terms.ty_kind.InferTy.TheVariants.{TyVar, IntVar, FloatVar}
 use Rattle.relation_terms.specs.declared.terms.ty_kind.InferTy.TheVariants.{FreshTy, FreshIntTy, FreshFloatTy}
@@ -428,3 +433,39 @@ module _ {X D N : Type 0} where
   pairs_same m args regions same same_region a y k o e =
       let p = and_parts (args a.0 y.0) (regions a.1 y.1) e in
       sym (ap₂ pair ((same a.0 y.0 k.0 o.0).0 p.0) ((same_region a.1 y.1 k.1 o.1).0 p.1))
+
+no_less : (d : ℕ) (b : Bool) → nat_lt d 0 ≡ b → b ≡ false
+no_less d true e = absurd (let l = ltb-true d 0 e in omega (arith, l))
+no_less d false e = refl
+
+-- A region is an assumption of its own just where no binder binds it.
+module _ {X D N : Type 0} (m : Meaning X D N) where
+  region_free : (k : RegionKind N) → ((d : DebruijnIndex) (b : BoundRegion N) → k ≡ ReBound d b → ⊥) →
+      is_assumed (region_tree m k) ≡ true
+  region_free ReStatic n = refl
+  region_free (ReEarlyParam p) n = refl
+  region_free (ReBound d b) n = absurd (n d b refl)
+  region_free (ReVar v) n = refl
+  region_free (RePlaceholder p) n = refl
+
+  pub free_given : (r : RegionKey X) (k : RegionKind N) → m.region r ≡ region_tree m k →
+      ((d : DebruijnIndex) (b : BoundRegion N) → k ≡ ReBound d b → ⊥) → Some (m.region r) ≡ argument_of m (Region r)
+  free_given r k e n =
+      ap (λ b. cond b (Some (m.region r)) None) (sym (region_free k n) ∙ ap is_assumed (sym e))
+
+  pub bound_given : (r : RegionKey X) (d : DebruijnIndex) (b : BoundRegion N) →
+      m.region r ≡ region_tree m (ReBound d b) → None ≡ argument_of m (Region r)
+  bound_given r d b e =
+      let none : is_assumed (region_tree m (ReBound d b)) ≡ false = ap (λ z. not (not z)) (no_less d.0 (nat_lt d.0 0) refl) in
+      ap (λ z. cond z (Some (m.region r)) None) (sym none ∙ ap is_assumed (sym e))
+
+  given_sure : (b : Bool) (t : Tree) (o : Option (GenericArgKind X)) → option_map (arg_tree m) o ≡ cond b (Some t) None →
+      Known t → IfSome o (λ a. IsTrue (known (arg_tree m a)))
+  given_sure b t None e k = tt
+  given_sure true t (Some a) e k = subst Known (sym (ap (held t) e)) k
+  given_sure false t (Some a) e k = absurd (cc)
+
+  pub region_sure : (r : RegionKey X) (o : Option (GenericArgKind X)) →
+      option_map (arg_tree m) o ≡ argument_of m (Region r) → IsTrue (known (m.region r)) →
+      IfSome o (λ a. IsTrue (known (arg_tree m a)))
+  region_sure r o e k = given_sure (is_assumed (m.region r)) (m.region r) o e k

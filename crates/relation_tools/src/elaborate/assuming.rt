@@ -1,9 +1,9 @@
 //! How a set of assumptions gains one and what follows from it.
-ghost use Rattle.std.specs.Prelude.{◌≡◌, ◌∷◌, [], IsTrue, IfOk, OnOk, IfSome};
+ghost use Rattle.std.specs.Prelude.{◌≡◌, ◌∷◌, [], IsTrue, IfOk, OnOk, IfSome, Some};
 ghost use Rattle.std.specs.List.{All, filter, filter_map};
 ghost use Rattle.std.specs.Option.{option_map};
 ghost use Rattle.relation_terms.specs.Trees.{known};
-ghost use Rattle.relation_terms.specs.Meaning.{Extends, arg_tree};
+ghost use Rattle.relation_terms.specs.Meaning.{Extends, arg_tree, kind_tree};
 ghost use Rattle.relation_tools.specs.Components.{every, components};
 ghost use Rattle.relation_tools.specs.Assumptions.{IsKnown, is_assumed, assumed, elaborated, HaveSame};
 ghost use Rattle.relation_tools.specs.Assuming.{argument_of, pair_of, IsKnownComponent, Gains};
@@ -13,7 +13,7 @@ use crate::elaborate::OutlivesAssumption;
 use crate::outlives::{Component, ComponentOf, push_outlives_components};
 use relation_terms::predicate::OutlivesPredicate;
 use relation_terms::terms::{
-    GenericArg, GenericArgKind, Interner, OutOfMemory, Region, RegionKind, Ty, TyKind,
+    GenericArg, GenericArgKind, Interner, OutOfMemory, Region, RegionKind, Ty, TyForm, TyKind,
 };
 use smallvec::SmallVec;
 use std::collections::HashSet;
@@ -31,6 +31,18 @@ fn unbound_region<I: Interner>(cx: &I, region: &Region<I>) -> Option<GenericArg<
     }
 }
 
+// The type of a form, as an argument.
+#[tactic(none)]
+fn ty_arg<I: Interner>(cx: &mut I, kind: TyForm<I>) -> Result<Option<GenericArg<I>>, OutOfMemory>
+    requires { IsTrue (known (kind_tree (I.meaning cx.old) kind)) }
+    ensures grown { Extends (I.meaning cx.old) (I.meaning cx.new) }
+    ensures sure { IfOk result (λ o. IfSome o (λ a. IsTrue (known (arg_tree (I.meaning cx.new) a)))) }
+    ensures is { IfOk result (λ o. option_map (arg_tree (I.meaning cx.new)) o ≡
+        Some (kind_tree (I.meaning cx.old) kind)) }
+{
+    Ok(Some(GenericArgKind::Ty(cx.mk_ty(kind)?)))
+}
+
 // The argument that a component is, if it is an assumption of its own.
 #[tactic(none)]
 fn arg_of<I: Interner>(
@@ -43,14 +55,13 @@ fn arg_of<I: Interner>(
     ensures is { IfOk result (λ o. option_map (arg_tree (I.meaning cx.new)) o ≡
         argument_of (I.meaning cx.old) component.now) }
 {
-    let kind = match component {
-        Component::Region(region) => return Ok(unbound_region(cx, region)),
-        Component::Param(param) => TyKind::Param(*param),
-        Component::Placeholder(placeholder) => TyKind::Placeholder(*placeholder),
-        Component::Alias(alias) => TyKind::Alias(*alias),
-        Component::UnresolvedInferenceVariable(_) | Component::EscapingAlias(_) => return Ok(None),
-    };
-    Ok(Some(GenericArgKind::Ty(cx.mk_ty(kind)?)))
+    match component {
+        Component::Region(region) => Ok(unbound_region(cx, region)),
+        Component::Param(param) => ty_arg(cx, TyKind::Param(*param)),
+        Component::Placeholder(placeholder) => ty_arg(cx, TyKind::Placeholder(*placeholder)),
+        Component::Alias(alias) => ty_arg(cx, TyKind::Alias(*alias)),
+        Component::UnresolvedInferenceVariable(_) | Component::EscapingAlias(_) => Ok(None),
+    }
 }
 
 // Adds an assumption.
