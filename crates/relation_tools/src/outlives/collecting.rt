@@ -18,7 +18,6 @@ use relation_terms::terms::{
     AliasTy, GenericArg, GenericArgKind, GenericArgs, Interner, OutOfMemory, Part, PartOf, Parts,
     PartsOf, Region, RegionKind, Ty, TyKind, closure_upvars, coroutine_resume_ty, coroutine_upvars,
 };
-use smallvec::SmallVec;
 use std::collections::HashSet;
 
 // Whether a part is met for the first time. A type and a constant are kept; of all else no account is kept.
@@ -39,9 +38,9 @@ fn meet<I: Interner>(
 }
 
 // Adds a component.
-fn add<I: Interner, const N: usize>(
+fn add<I: Interner>(
     cx: &I,
-    out: &mut SmallVec<ComponentOf<I>, N>,
+    out: &mut Vec<ComponentOf<I>>,
     component: ComponentOf<I>,
 ) -> Result<(), OutOfMemory>
     ensures ok { OnOk result (out.new.items ≡ out.old.items ++ component ∷ []) }
@@ -53,10 +52,10 @@ fn add<I: Interner, const N: usize>(
 }
 
 // Adds a region, if no binder binds it.
-fn collect_region<I: Interner, const N: usize>(
+fn collect_region<I: Interner>(
     cx: &I,
     region: &Region<I>,
-    out: &mut SmallVec<ComponentOf<I>, N>,
+    out: &mut Vec<ComponentOf<I>>,
 ) -> Result<(), OutOfMemory>
     requires { IsTrue (known ((I.meaning cx.now).region region.now)) }
     ensures some { AddsSome (I.meaning cx.now) (components every ((I.meaning cx.now).region region.now))
@@ -72,10 +71,10 @@ fn collect_region<I: Interner, const N: usize>(
 
 // Adds the components of a part, but where it was met before.
 #[cycle(collect)]
-pub fn collect_part<I: Interner, const N: usize>(
+pub fn collect_part<I: Interner>(
     cx: &I,
     part: &PartOf<I>,
-    out: &mut SmallVec<ComponentOf<I>, N>,
+    out: &mut Vec<ComponentOf<I>>,
     visited: &mut HashSet<GenericArg<I>>,
 ) -> Result<(), OutOfMemory>
     requires known { IsTrue (known (part_tree (I.meaning cx.now) part.now)) }
@@ -101,11 +100,11 @@ pub fn collect_part<I: Interner, const N: usize>(
 
 // Adds the components of the members of a list that are chosen.
 #[cycle(collect)]
-fn collect_members<I: Interner, const N: usize>(
+fn collect_members<I: Interner>(
     cx: &I,
     parts: &PartsOf<I>,
     chosen: &Chosen<I::Id>,
-    out: &mut SmallVec<ComponentOf<I>, N>,
+    out: &mut Vec<ComponentOf<I>>,
     visited: &mut HashSet<GenericArg<I>>,
 ) -> Result<(), OutOfMemory>
     requires known { IsTrue (known (parts_tree (I.meaning cx.now) parts.now)) }
@@ -130,12 +129,12 @@ fn collect_members<I: Interner, const N: usize>(
 
 // Adds the components of the member at a place of a list, if it is chosen.
 #[cycle(collect)]
-fn collect_member<I: Interner, const N: usize>(
+fn collect_member<I: Interner>(
     cx: &I,
     parts: &PartsOf<I>,
     chosen: &Chosen<I::Id>,
     i: usize,
-    out: &mut SmallVec<ComponentOf<I>, N>,
+    out: &mut Vec<ComponentOf<I>>,
     visited: &mut HashSet<GenericArg<I>>,
 ) -> Result<(), OutOfMemory>
     requires known { IsTrue (known (parts_tree (I.meaning cx.now) parts.now)) }
@@ -160,10 +159,10 @@ fn collect_member<I: Interner, const N: usize>(
 
 // Adds the components of a type that was found among arguments, if one was.
 #[cycle(collect)]
-fn collect_found<I: Interner, const N: usize>(
+fn collect_found<I: Interner>(
     cx: &I,
     found: Option<Ty<I>>,
-    out: &mut SmallVec<ComponentOf<I>, N>,
+    out: &mut Vec<ComponentOf<I>>,
     visited: &mut HashSet<GenericArg<I>>,
 ) -> Result<(), OutOfMemory>
     requires known { IfSome found (λ t. IsTrue (known ((I.meaning cx.now).ty t))) }
@@ -184,10 +183,10 @@ fn collect_found<I: Interner, const N: usize>(
 
 // Adds the components of the types that a closure of these arguments captures.
 #[cycle(collect)]
-fn collect_closure<I: Interner, const N: usize>(
+fn collect_closure<I: Interner>(
     cx: &I,
     args: &GenericArgs<I>,
-    out: &mut SmallVec<ComponentOf<I>, N>,
+    out: &mut Vec<ComponentOf<I>>,
     visited: &mut HashSet<GenericArg<I>>,
 ) -> Result<(), OutOfMemory>
     requires known { IsTrue (known ((I.meaning cx.now).args args.now)) }
@@ -205,10 +204,10 @@ fn collect_closure<I: Interner, const N: usize>(
 
 // Adds the components of the types that a coroutine of these arguments captures, and of the type it is resumed with.
 #[cycle(collect)]
-fn collect_coroutine<I: Interner, const N: usize>(
+fn collect_coroutine<I: Interner>(
     cx: &I,
     args: &GenericArgs<I>,
-    out: &mut SmallVec<ComponentOf<I>, N>,
+    out: &mut Vec<ComponentOf<I>>,
     visited: &mut HashSet<GenericArg<I>>,
 ) -> Result<(), OutOfMemory>
     requires known { IsTrue (known ((I.meaning cx.now).args args.now)) }
@@ -228,10 +227,10 @@ fn collect_coroutine<I: Interner, const N: usize>(
 
 // Adds the components of a type, by its outermost form.
 #[cycle(collect)]
-fn collect_ty<I: Interner, const N: usize>(
+fn collect_ty<I: Interner>(
     cx: &I,
     ty: &Ty<I>,
-    out: &mut SmallVec<ComponentOf<I>, N>,
+    out: &mut Vec<ComponentOf<I>>,
     visited: &mut HashSet<GenericArg<I>>,
 ) -> Result<(), OutOfMemory>
     requires known { IsTrue (known ((I.meaning cx.now).ty ty.now)) }
@@ -264,10 +263,10 @@ fn collect_ty<I: Interner, const N: usize>(
 
 // Adds the one component of an alias that a variable escapes, which holds those of its arguments.
 #[cycle(collect)]
-fn collect_escaping<I: Interner, const N: usize>(
+fn collect_escaping<I: Interner>(
     cx: &I,
     alias: &AliasTy<I::Key, I::Id>,
-    out: &mut SmallVec<ComponentOf<I>, N>,
+    out: &mut Vec<ComponentOf<I>>,
 ) -> Result<(), OutOfMemory>
     requires known { IsTrue (known ((I.meaning cx.now).args (alias.now).args)) }
     requires escapes { bound_var_escapes (kind_tree (I.meaning cx.now) (AliasForm alias.now)) ≡ true }
@@ -276,17 +275,17 @@ fn collect_escaping<I: Interner, const N: usize>(
     ensures all { OnOk result (HasAll (I.meaning cx.now) (kind_tree (I.meaning cx.now) (AliasForm alias.now) ∷ [])
         out.new.items) }
 {
-    let mut inside: SmallVec<ComponentOf<I>, N> = SmallVec::new(cx.alloc());
+    let mut inside = Vec::new(cx.alloc());
     collect_alias_args(cx, alias, &mut inside)?;
-    add(cx, out, Component::EscapingAlias(inside.into_vec()?))
+    add(cx, out, Component::EscapingAlias(inside))
 }
 
 // Adds the components of the arguments of an alias, but of those that it is bivariant in.
 #[cycle(collect)]
-pub fn collect_alias_args<I: Interner, const N: usize>(
+pub fn collect_alias_args<I: Interner>(
     cx: &I,
     alias: &AliasTy<I::Key, I::Id>,
-    out: &mut SmallVec<ComponentOf<I>, N>,
+    out: &mut Vec<ComponentOf<I>>,
 ) -> Result<(), OutOfMemory>
     requires { IsTrue (known ((I.meaning cx.now).args (alias.now).args)) }
     ensures some { AddsSome (I.meaning cx.now)

@@ -1,7 +1,8 @@
-use Rattle.std.proofs.Common.{◌+◌, ◌++◌, [], take, subst}
+use Rattle.std.proofs.Common.{◌+◌, ◌++◌, [], take, map, subst, arith}
+use Rattle.std.proofs.lemmas.List.{take_all}
 use Rattle.relation_terms.specs.Meaning.{arg_tree}
 use Rattle.relation_terms.proofs.Stays.{stays_same, extends_on}
-use Rattle.relation_tools.specs.Assumptions.{IsKnown, elaborated, all_elaborated}
+use Rattle.relation_tools.specs.Assumptions.{IsKnown, assumed, elaborated, all_elaborated, HaveSame}
 use Rattle.relation_tools.specs.Assuming.{Gains}
 use Rattle.relation_tools.proofs.Assuming.{gains_grown, gains_after, gains_as, same_as, all_at, taken_next, all_more}
 use Rattle.relation_tools.proofs.Assuming.{knows_assumed, stays_elaborated, gains_none}
@@ -53,3 +54,15 @@ loop-assumption-preserved g c =
 
 pub returns-clause-grown : goal.returns-clause-grown
 returns-clause-grown g c = c.loop-assumption.invariant.grown
+
+pub returns-clause-sure : goal.returns-clause-sure
+returns-clause-sure g c = c.loop-assumption.invariant.gains.0
+
+pub returns-clause-same : goal.returns-clause-same
+returns-clause-same g c =
+    let m = g.I.Interner.meaning c.args.cx.now in
+    let n = g.I.Interner.meaning c.loop-assumption.cx in
+    let all = c.args.assumptions.now in
+    let test = c.loop-assumption-test.false in
+    subst (λ z. HaveSame (map (assumed n) c.loop-assumption.collected.keys) (all_elaborated m z))
+    (take_all c.loop-assumption.assumption-index all (omega (arith, test))) c.loop-assumption.invariant.gains.1

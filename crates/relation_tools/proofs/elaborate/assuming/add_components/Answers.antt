@@ -1,7 +1,8 @@
-use Rattle.std.proofs.Common.{◌∷◌, ◌+◌, ◌++◌, [], take}
+use Rattle.std.proofs.Common.{◌∷◌, ◌+◌, ◌++◌, [], take, subst, arith}
+use Rattle.std.proofs.lemmas.List.{take_all}
 use Rattle.std.specs.List.{filter_map}
 use Rattle.relation_terms.proofs.Stays.{stays_same, extends_on, knows_region}
-use Rattle.relation_tools.specs.Assuming.{pair_of, IsKnownComponent}
+use Rattle.relation_tools.specs.Assuming.{pair_of, IsKnownComponent, Gains}
 use Rattle.relation_tools.proofs.Assuming.{gains_grown, gains_after, gains_as, same_as, all_at, filter_next}
 use Rattle.relation_tools.proofs.Assuming.{knows_component, stays_pairs}
 use Rattle.relation_tools.proofs.elaborate.assuming.add_components.Goals as goal
@@ -55,3 +56,13 @@ loop-component-preserved g c =
       gains = gains_as m o xs zs (ps ++ qs) all (same_as (ps ++ qs) all next)
           (gains_after m n o xs ys zs ps qs c.loop-component.invariant.gains c.in_ok-add_component.ensures.gains);
     }
+
+pub returns-clause-gains : goal.returns-clause-gains
+returns-clause-gains g c =
+    let m = g.I.Interner.meaning c.args.cx.now in
+    let n = g.I.Interner.meaning c.loop-component.cx in
+    let f = pair_of m (m.region c.args.region.now) in
+    let cs = c.args.components.now in
+    let test = c.loop-component-test.false in
+    subst (λ z. Gains m n c.args.collected.now.keys c.loop-component.collected.keys (filter_map f z))
+    (take_all c.loop-component.component-index cs (omega (arith, test))) c.loop-component.invariant.gains
