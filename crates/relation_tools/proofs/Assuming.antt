@@ -1,5 +1,5 @@
 -- Sets of assumptions, as they grow, and what a list of components gives.
-use Rattle.std.proofs.Common.{◌≡◌, ◌⊎◌, ◌∙◌, ◌&&◌, ◌||◌, not, Bool, true, false, cond, IsTrue, refl, sym, ap, ap₂, subst}
+use Rattle.std.proofs.Common.{◌≡◌, ◌∙◌, ◌&&◌, ◌||◌, not, Bool, true, false, cond, IsTrue, refl, sym, ap, ap₂, subst}
 use Rattle.std.proofs.Common.{ℕ, ◌<◌, ◌+◌, nat_lt, arith, length, get_or, take, IfSome, ⊎_elim, inl, inr}
 use Rattle.std.proofs.Common.{List, [], ◌∷◌, ◌++◌, map, append-nil, Option, Some, None}
 use Rattle.std.proofs.lemmas.Bool.{and_parts, ltb-true}

@@ -1,5 +1,5 @@
 -- What a component gives of an assumption, and how a set of assumptions grows.
-use Rattle.std.specs.Prelude.{◌≡◌, IsTrue, cond, List, ◌++◌, map, Option, Some, None}
+use Rattle.std.specs.Prelude.{IsTrue, cond, List, ◌++◌, map, Option, Some, None}
 use Rattle.std.specs.List.{All}
 use Rattle.std.specs.Option.{option_map}
 use Rattle.relation_terms.specs.Trees.{Tree, known}

@@ -1,7 +1,7 @@
 -- What follows from assumptions that generic arguments outlive regions.
-use Rattle.std.specs.Prelude.{◌≡◌, ◌↔◌, ◌&&◌, not, Bool, true, false, cond, IsTrue, List, [], ◌∷◌, ◌++◌, map}
+use Rattle.std.specs.Prelude.{◌↔◌, ◌&&◌, not, Bool, true, false, cond, IsTrue, List, [], ◌∷◌, ◌++◌, map}
 use Rattle.std.specs.List.{Contains, filter}
-use Rattle.relation_terms.specs.Heads.{Leaf, variable, atom, region_var, fresh_type, fresh_int, fresh_float}
+use Rattle.relation_terms.specs.Heads.{variable, atom, region_var, fresh_type, fresh_int, fresh_float}
 use Rattle.relation_terms.specs.Trees.{Tree, leaf, known}
 use Rattle.relation_terms.specs.Meaning.{Meaning, arg_tree}
 use Rattle.relation_terms.specs.Parts.{tree_sort}

@@ -4,7 +4,7 @@ use Rattle.relation_terms.specs.Meaning.{arg_tree}
 use Rattle.relation_terms.proofs.Stays.{stays_same, extends_on}
 use Rattle.relation_tools.specs.Assumptions.{IsKnown, assumed, elaborated, all_elaborated, HaveSame}
 use Rattle.relation_tools.specs.Assuming.{Gains}
-use Rattle.relation_tools.proofs.Assuming.{gains_grown, gains_after, gains_as, same_as, all_at, taken_next, all_more}
+use Rattle.relation_tools.proofs.Assuming.{gains_after, gains_as, same_as, all_at, taken_next, all_more}
 use Rattle.relation_tools.proofs.Assuming.{knows_assumed, stays_elaborated, gains_none}
 use Rattle.relation_tools.proofs.elaborate.elaborate_outlives_assumptions.Goals as goal
 

@@ -1,10 +1,9 @@
-use Rattle.std.proofs.Common.{◌≡◌, ◌∷◌, ◌++◌, [], ap, sym, subst, IsTrue, List}
+use Rattle.std.proofs.Common.{◌≡◌, ◌∷◌, ◌++◌, [], sym, subst, IsTrue, List}
 use Rattle.std.specs.List.{All, filter_map}
 use Rattle.relation_terms.specs.Trees.{Tree, known}
 use Rattle.relation_terms.specs.Meaning.{arg_tree}
 use Rattle.relation_terms.proofs.Sorted.{Sorted}
 use Rattle.relation_terms.proofs.Stays.{stays_same}
-use Rattle.relation_tools.specs.Components.{every, components}
 use Rattle.relation_tools.specs.Assumptions.{elaborated, HaveSame}
 use Rattle.relation_tools.specs.Assuming.{pair_of, IsKnownComponent}
 use Rattle.relation_tools.proofs.Meeting.{ok_map}
