@@ -34,3 +34,4 @@ mod UsedVars
 mod UsedTrees
 mod UsedParts
 mod Renaming
+mod Assuming

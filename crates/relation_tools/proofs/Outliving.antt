@@ -101,6 +101,20 @@ module _ {X D N : Type 0} (m : Meaning X D N) where
   added_all ts c t cs ds (Ok u) ok is s = has_one ts c t cs ds is s ok
   added_all ts c t cs ds (Err e) ok is s = tt
 
+  -- A list of them was to be put behind others, and was where memory sufficed.
+  pub appended_some : {E : Type 0} (ts : List Tree) (list cs ds : List (Component X D N)) (r : Result (Unit {0}) E) →
+      OnOk r (ds ≡ cs ++ list) → OnErr r (ds ≡ cs) → AddsSome m ts [] list → AddsSome m ts cs ds
+  appended_some ts list cs ds (Ok u) ok err p = (p.0, ok ∙ ap (λ z. cs ++ z) p.1, p.2)
+  appended_some ts list cs ds (Err e) ok err p = subst (λ z. AddsSome m ts cs z) (sym err) (adds_none ts cs)
+
+  pub appended_all : {E : Type 0} (ts : List Tree) (list cs ds : List (Component X D N)) (r : Result (Unit {0}) E) →
+      OnOk r (ds ≡ cs ++ list) → HasAll m ts list → OnOk r (HasAll m ts ds)
+  appended_all ts list cs ds (Ok u) ok h =
+      subst (λ z. HasAll m ts z) (sym ok)
+      (each_map (λ t. SomeIs (λ c. StandsFor m c t) list) (λ t. SomeIs (λ c. StandsFor m c t) (cs ++ list))
+      (λ t s. some_right (λ c. StandsFor m c t) cs list s) ts h)
+  appended_all ts list cs ds (Err e) ok h = tt
+
   -- What is held in a component, as a list.
   each_row : (ts : List Tree) (n : Count) (row : Row_of-Component X D N n) →
       EachIs (λ c. SomeIs (λ t. StandsFor m c t) ts) (items-the_row-Component X D N n row) → EachStands m row ts

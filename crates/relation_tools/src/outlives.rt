@@ -3,7 +3,7 @@
 //! A component is a region, a parameter, a placeholder, a variable or an alias in the type. What is inside an alias is
 //! left to whoever decides whether the alias outlives the region, but where a variable stands in it that a binder outside
 //! the alias binds: there it is the components of its arguments.
-ghost use Rattle.std.specs.Prelude.{IsTrue, OnOk};
+ghost use Rattle.std.specs.Prelude.{◌≡◌, ◌++◌, IsTrue, IfOk, OnOk, OnErr, []};
 ghost use Rattle.relation_terms.specs.Trees.{known};
 ghost use Rattle.relation_terms.specs.Meaning.{kind_tree};
 ghost use Rattle.relation_terms.specs.declared.terms.ty_kind.TyKind.TheVariants.{Alias as AliasForm};
@@ -69,8 +69,41 @@ pub fn push_outlives_components<I: Interner>(
     ensures all { OnOk result (HasAll (I.meaning cx.now) (components every ((I.meaning cx.now).ty ty.now))
         out.new.items) }
 {
+    let list = components_of(cx, ty)?;
+    append(cx, list, out)
+}
+
+/// The components of a type, in a list of their own.
+pub(crate) fn components_of<I: Interner>(
+    cx: &I,
+    ty: &Ty<I>,
+) -> Result<Vec<ComponentOf<I>>, OutOfMemory>
+    requires { IsTrue (known ((I.meaning cx.now).ty ty.now)) }
+    ensures some { IfOk result (λ list.
+        AddsSome (I.meaning cx.now) (components every ((I.meaning cx.now).ty ty.now)) [] list.items) }
+    ensures all { IfOk result (λ list.
+        HasAll (I.meaning cx.now) (components every ((I.meaning cx.now).ty ty.now)) list.items) }
+{
+    let mut list = Vec::new(cx.alloc());
     let mut visited = HashSet::new(cx.alloc());
-    collect_part(cx, &Part::Ty(*ty), out, &mut visited)
+    collect_part(cx, &Part::Ty(*ty), &mut list, &mut visited)?;
+    Ok(list)
+}
+
+// Puts the components of a list behind others. A list with a place for four is made only where one is given already:
+// nothing else bounds its size.
+fn append<I: Interner>(
+    cx: &I,
+    list: Vec<ComponentOf<I>>,
+    out: &mut SmallVec<ComponentOf<I>, 4>,
+) -> Result<(), OutOfMemory>
+    ensures ok { OnOk result (out.new.items ≡ out.old.items ++ list.items) }
+    ensures err { OnErr result (out.new.items ≡ out.old.items) }
+{
+    let _ = cx;
+    let mut added: SmallVec<ComponentOf<I>, 4> = SmallVec::from_vec(list);
+    out.append(&mut added)?;
+    Ok(())
 }
 
 /// Adds the components of the arguments of an alias, but of those that the alias is bivariant in, and not the alias itself.
@@ -92,5 +125,7 @@ pub fn compute_alias_components_recursive<I: Interner>(
         (inside_alias (I.meaning cx.now).alias_variances (kind_tree (I.meaning cx.now) (AliasForm alias_ty.now)))
         out.new.items) }
 {
-    collect_alias_args(cx, alias_ty, out)
+    let mut list = Vec::new(cx.alloc());
+    collect_alias_args(cx, alias_ty, &mut list)?;
+    append(cx, list, out)
 }

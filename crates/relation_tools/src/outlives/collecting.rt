@@ -18,7 +18,6 @@ use relation_terms::terms::{
     AliasTy, GenericArg, GenericArgKind, GenericArgs, Interner, OutOfMemory, Part, PartOf, Parts,
     PartsOf, Region, RegionKind, Ty, TyKind, closure_upvars, coroutine_resume_ty, coroutine_upvars,
 };
-use smallvec::SmallVec;
 use std::collections::HashSet;
 
 // Whether a part is met for the first time. A type and a constant are kept; of all else no account is kept.
@@ -41,7 +40,7 @@ fn meet<I: Interner>(
 // Adds a component.
 fn add<I: Interner>(
     cx: &I,
-    out: &mut SmallVec<ComponentOf<I>, 4>,
+    out: &mut Vec<ComponentOf<I>>,
     component: ComponentOf<I>,
 ) -> Result<(), OutOfMemory>
     ensures ok { OnOk result (out.new.items ≡ out.old.items ++ component ∷ []) }
@@ -56,7 +55,7 @@ fn add<I: Interner>(
 fn collect_region<I: Interner>(
     cx: &I,
     region: &Region<I>,
-    out: &mut SmallVec<ComponentOf<I>, 4>,
+    out: &mut Vec<ComponentOf<I>>,
 ) -> Result<(), OutOfMemory>
     requires { IsTrue (known ((I.meaning cx.now).region region.now)) }
     ensures some { AddsSome (I.meaning cx.now) (components every ((I.meaning cx.now).region region.now))
@@ -75,7 +74,7 @@ fn collect_region<I: Interner>(
 pub fn collect_part<I: Interner>(
     cx: &I,
     part: &PartOf<I>,
-    out: &mut SmallVec<ComponentOf<I>, 4>,
+    out: &mut Vec<ComponentOf<I>>,
     visited: &mut HashSet<GenericArg<I>>,
 ) -> Result<(), OutOfMemory>
     requires known { IsTrue (known (part_tree (I.meaning cx.now) part.now)) }
@@ -105,7 +104,7 @@ fn collect_members<I: Interner>(
     cx: &I,
     parts: &PartsOf<I>,
     chosen: &Chosen<I::Id>,
-    out: &mut SmallVec<ComponentOf<I>, 4>,
+    out: &mut Vec<ComponentOf<I>>,
     visited: &mut HashSet<GenericArg<I>>,
 ) -> Result<(), OutOfMemory>
     requires known { IsTrue (known (parts_tree (I.meaning cx.now) parts.now)) }
@@ -135,7 +134,7 @@ fn collect_member<I: Interner>(
     parts: &PartsOf<I>,
     chosen: &Chosen<I::Id>,
     i: usize,
-    out: &mut SmallVec<ComponentOf<I>, 4>,
+    out: &mut Vec<ComponentOf<I>>,
     visited: &mut HashSet<GenericArg<I>>,
 ) -> Result<(), OutOfMemory>
     requires known { IsTrue (known (parts_tree (I.meaning cx.now) parts.now)) }
@@ -163,7 +162,7 @@ fn collect_member<I: Interner>(
 fn collect_found<I: Interner>(
     cx: &I,
     found: Option<Ty<I>>,
-    out: &mut SmallVec<ComponentOf<I>, 4>,
+    out: &mut Vec<ComponentOf<I>>,
     visited: &mut HashSet<GenericArg<I>>,
 ) -> Result<(), OutOfMemory>
     requires known { IfSome found (λ t. IsTrue (known ((I.meaning cx.now).ty t))) }
@@ -187,7 +186,7 @@ fn collect_found<I: Interner>(
 fn collect_closure<I: Interner>(
     cx: &I,
     args: &GenericArgs<I>,
-    out: &mut SmallVec<ComponentOf<I>, 4>,
+    out: &mut Vec<ComponentOf<I>>,
     visited: &mut HashSet<GenericArg<I>>,
 ) -> Result<(), OutOfMemory>
     requires known { IsTrue (known ((I.meaning cx.now).args args.now)) }
@@ -208,7 +207,7 @@ fn collect_closure<I: Interner>(
 fn collect_coroutine<I: Interner>(
     cx: &I,
     args: &GenericArgs<I>,
-    out: &mut SmallVec<ComponentOf<I>, 4>,
+    out: &mut Vec<ComponentOf<I>>,
     visited: &mut HashSet<GenericArg<I>>,
 ) -> Result<(), OutOfMemory>
     requires known { IsTrue (known ((I.meaning cx.now).args args.now)) }
@@ -231,7 +230,7 @@ fn collect_coroutine<I: Interner>(
 fn collect_ty<I: Interner>(
     cx: &I,
     ty: &Ty<I>,
-    out: &mut SmallVec<ComponentOf<I>, 4>,
+    out: &mut Vec<ComponentOf<I>>,
     visited: &mut HashSet<GenericArg<I>>,
 ) -> Result<(), OutOfMemory>
     requires known { IsTrue (known ((I.meaning cx.now).ty ty.now)) }
@@ -267,7 +266,7 @@ fn collect_ty<I: Interner>(
 fn collect_escaping<I: Interner>(
     cx: &I,
     alias: &AliasTy<I::Key, I::Id>,
-    out: &mut SmallVec<ComponentOf<I>, 4>,
+    out: &mut Vec<ComponentOf<I>>,
 ) -> Result<(), OutOfMemory>
     requires known { IsTrue (known ((I.meaning cx.now).args (alias.now).args)) }
     requires escapes { bound_var_escapes (kind_tree (I.meaning cx.now) (AliasForm alias.now)) ≡ true }
@@ -276,9 +275,9 @@ fn collect_escaping<I: Interner>(
     ensures all { OnOk result (HasAll (I.meaning cx.now) (kind_tree (I.meaning cx.now) (AliasForm alias.now) ∷ [])
         out.new.items) }
 {
-    let mut inside = SmallVec::new(cx.alloc());
+    let mut inside = Vec::new(cx.alloc());
     collect_alias_args(cx, alias, &mut inside)?;
-    add(cx, out, Component::EscapingAlias(inside.into_vec()?))
+    add(cx, out, Component::EscapingAlias(inside))
 }
 
 // Adds the components of the arguments of an alias, but of those that it is bivariant in.
@@ -286,7 +285,7 @@ fn collect_escaping<I: Interner>(
 pub fn collect_alias_args<I: Interner>(
     cx: &I,
     alias: &AliasTy<I::Key, I::Id>,
-    out: &mut SmallVec<ComponentOf<I>, 4>,
+    out: &mut Vec<ComponentOf<I>>,
 ) -> Result<(), OutOfMemory>
     requires { IsTrue (known ((I.meaning cx.now).args (alias.now).args)) }
     ensures some { AddsSome (I.meaning cx.now)

@@ -1,4 +1,4 @@
-use Rattle.std.proofs.Common.{rules, arith, refl, sym, ap, ◌∙◌, ◌≡◌, ◌<◌, ◌+◌, ◌*◌, suc, subst, subst₂, IsTrue, false, true}
+use Rattle.std.proofs.Common.{rules, arith, refl, sym, ap, ◌∙◌, ◌≡◌, ◌<◌, ◌+◌, ◌*◌, suc, subst, IsTrue, false, true}
 use Rattle.std.proofs.Common.{[], ◌∷◌, ◌++◌, OnOk, IfSome, cond}
 use Rattle.relation_terms.specs.contracts.terms.generic_arg.GenericArgKindPartialEq.TheImpl.{ghosts}
 use Rattle.relation_terms.specs.Heads.{argument_sort}
@@ -209,20 +209,14 @@ collect_escaping-returns-in_err-collect_alias_args-clause-some g t' c =
     let m = g.I.Interner.meaning c.args.cx.now in
     adds_none m (kind_tree m (AliasForm c.args.alias.now) ∷ []) c.args.out.now.items
 
-pub collect_escaping-returns-in_err-into_vec-clause-some : goal.collect_escaping-returns-in_err-into_vec-clause-some
-collect_escaping-returns-in_err-into_vec-clause-some g t' c =
-    let m = g.I.Interner.meaning c.args.cx.now in
-    adds_none m (kind_tree m (AliasForm c.args.alias.now) ∷ []) c.args.out.now.items
-
 pub collect_escaping-returns-clause-some : goal.collect_escaping-returns-clause-some
 collect_escaping-returns-clause-some g t' c =
     let m = g.I.Interner.meaning c.args.cx.now in
     let w = kind_tree m (AliasForm c.args.alias.now) in
     let ts = inside_alias m.alias_variances w in
-    let v = c.in_ok-into_vec.field-0 in
-    let is = sym c.in_ok-into_vec.ensures.ok in
-    let some = subst₂ (λ x y. AddsSome m ts x y) c.new-inside.ensures.items is c.in_ok-collect_alias_args.ensures.some in
-    let all = subst (λ z. HasAll m ts z) is c.in_ok-collect_alias_args.ensures.all in
+    let v = c.collect_alias_args.new.out in
+    let some = subst (λ x. AddsSome m ts x v.items) c.new-inside.ensures.items c.in_ok-collect_alias_args.ensures.some in
+    let all = c.in_ok-collect_alias_args.ensures.all in
     let s = stands_escaping m v w c.requires.escapes some all in
     added_some m (w ∷ []) (EscapingAlias v) w _ _ c.add.result c.add.ensures.ok c.add.ensures.err refl s
 
@@ -231,10 +225,9 @@ collect_escaping-returns-clause-all g t' c =
     let m = g.I.Interner.meaning c.args.cx.now in
     let w = kind_tree m (AliasForm c.args.alias.now) in
     let ts = inside_alias m.alias_variances w in
-    let v = c.in_ok-into_vec.field-0 in
-    let is = sym c.in_ok-into_vec.ensures.ok in
-    let some = subst₂ (λ x y. AddsSome m ts x y) c.new-inside.ensures.items is c.in_ok-collect_alias_args.ensures.some in
-    let all = subst (λ z. HasAll m ts z) is c.in_ok-collect_alias_args.ensures.all in
+    let v = c.collect_alias_args.new.out in
+    let some = subst (λ x. AddsSome m ts x v.items) c.new-inside.ensures.items c.in_ok-collect_alias_args.ensures.some in
+    let all = c.in_ok-collect_alias_args.ensures.all in
     let s = stands_escaping m v w c.requires.escapes some all in
     added_all m (w ∷ []) (EscapingAlias v) w _ _ c.add.result c.add.ensures.ok refl s
 
