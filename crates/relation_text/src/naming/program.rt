@@ -168,6 +168,8 @@ pub enum QuestionKind {
         term: usize,
         skips: Parts,
     },
+    /// What has to outlive a region for a type to outlive it.
+    Components(usize),
     /// What comes of a term where others are put for its parts, those of a range of the program's list.
     Fold {
         term: usize,

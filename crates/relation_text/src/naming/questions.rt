@@ -96,13 +96,13 @@ impl<'a> Namer<'a> {
 
     // What is asked about one term.
     fn ask_about(&mut self, node: &Node, form: Form, term: usize) -> Result<(), NameError> {
-        let sort = if form == Form::Rigid {
-            Some(Sort::Type)
-        } else {
-            None
+        let sort = match form {
+            Form::Components | Form::Rigid => Some(Sort::Type),
+            _ => None,
         };
         let term = self.term(node, term, sort)?.number;
         let kind = match form {
+            Form::Components => QuestionKind::Components(term),
             Form::Escapes => QuestionKind::Escapes(term),
             Form::Infers => QuestionKind::Infers(term),
             Form::Rigid => QuestionKind::Rigid(term),
@@ -142,7 +142,7 @@ impl<'a> Namer<'a> {
             (Form::Visit, [term, skip, stop]) => self.ask_visit(node, *term, *skip, *stop),
             (Form::Walk, _) => self.ask_walk(node, parts),
             (Form::Fold, _) => self.ask_fold(node, parts),
-            (Form::Escapes | Form::Infers | Form::Rigid, [term]) => {
+            (Form::Components | Form::Escapes | Form::Infers | Form::Rigid, [term]) => {
                 self.ask_about(node, form, *term)
             }
             (Form::MayUnify(_) | Form::ArgsMayUnify(_) | Form::ArgsEqual | Form::Key(_), _) =>

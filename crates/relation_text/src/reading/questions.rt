@@ -135,6 +135,9 @@ fn read_asked(reader: &mut Reader) -> Result<usize, ReadError>
     if reader.accept(Sign::Walk) {
         return read_walk(reader, start);
     }
+    if reader.accept(Sign::Components) {
+        return read_about(reader, start, Form::Components);
+    }
     if reader.accept(Sign::Fold) {
         return read_fold(reader, start);
     }

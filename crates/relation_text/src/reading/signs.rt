@@ -38,6 +38,7 @@ pub enum Sign {
     Auto,
     Budget,
     Closure,
+    Components,
     Const,
     Coroutine,
     Dyn,
@@ -74,6 +75,7 @@ pub enum Sign {
     Visit,
     Walk,
     With,
+    Witness,
 }
 
 impl Sign {
@@ -115,6 +117,7 @@ impl Sign {
             Sign::Auto => "auto",
             Sign::Budget => "budget",
             Sign::Closure => "closure",
+            Sign::Components => "components",
             Sign::Const => "const",
             Sign::Coroutine => "coroutine",
             Sign::Dyn => "dyn",
@@ -151,12 +154,13 @@ impl Sign {
             Sign::Visit => "visit",
             Sign::Walk => "walk",
             Sign::With => "with",
+            Sign::Witness => "witness",
         }
     }
 }
 
 // The words of the language, each of which is written as a name would be.
-const RESERVED: [Sign; 43] = [
+const RESERVED: [Sign; 45] = [
     Sign::After,
     Sign::Args,
     Sign::As,
@@ -164,6 +168,7 @@ const RESERVED: [Sign; 43] = [
     Sign::Auto,
     Sign::Budget,
     Sign::Closure,
+    Sign::Components,
     Sign::Const,
     Sign::Coroutine,
     Sign::Dyn,
@@ -200,6 +205,7 @@ const RESERVED: [Sign; 43] = [
     Sign::Visit,
     Sign::Walk,
     Sign::With,
+    Sign::Witness,
 ];
 
 // The word of the language that is written so.
