@@ -53,6 +53,7 @@ fn form_name(form: Form) -> &'static str {
         Form::Question(_) => "question",
         Form::Visit => "visit",
         Form::Walk => "walk",
+        Form::Components => "components",
         Form::Fold => "fold",
         Form::Escapes => "escapes",
         Form::Infers => "infers",
