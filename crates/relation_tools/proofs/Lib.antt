@@ -30,3 +30,7 @@ pub mod FieldFolding
 pub mod ClauseLists
 pub mod UsedPlaces
 pub mod Anonymizing
+mod UsedVars
+mod UsedTrees
+mod UsedParts
+mod Renaming
