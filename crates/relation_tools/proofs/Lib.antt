@@ -30,3 +30,4 @@ pub mod FieldFolding
 pub mod ClauseLists
 pub mod UsedPlaces
 pub mod Anonymizing
+mod Assuming

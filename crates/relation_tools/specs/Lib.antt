@@ -18,3 +18,5 @@ pub mod Collecting
 pub mod FieldFolds
 pub mod InBinders
 pub mod Anonymous
+pub mod Assumptions
+pub mod Assuming

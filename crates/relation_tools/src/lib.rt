@@ -2,6 +2,7 @@
 #![tactic(auto)]
 
 pub mod anonymize;
+pub mod elaborate;
 pub mod error;
 pub mod fast_reject;
 pub mod fold;

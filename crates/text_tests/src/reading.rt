@@ -54,6 +54,8 @@ fn form_name(form: Form) -> &'static str {
         Form::Visit => "visit",
         Form::Walk => "walk",
         Form::Components => "components",
+        Form::Assumptions => "assumptions",
+        Form::Outlives => "outlives",
         Form::Fold => "fold",
         Form::Escapes => "escapes",
         Form::Infers => "infers",

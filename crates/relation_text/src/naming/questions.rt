@@ -141,6 +141,7 @@ impl<'a> Namer<'a> {
             (Form::Question(variance), [lhs, rhs]) => self.ask_related(node, variance, *lhs, *rhs),
             (Form::Visit, [term, skip, stop]) => self.ask_visit(node, *term, *skip, *stop),
             (Form::Walk, _) => self.ask_walk(node, parts),
+            (Form::Assumptions, _) => self.ask_assumptions(node, parts),
             (Form::Fold, _) => self.ask_fold(node, parts),
             (Form::Components | Form::Escapes | Form::Infers | Form::Rigid, [term]) => {
                 self.ask_about(node, form, *term)
@@ -149,7 +150,7 @@ impl<'a> Namer<'a> {
                 self.ask_quickly(node, form, parts),
             (Form::Then, [_]) => self.ask_then(node),
             (Form::Repeat, [times, _]) => self.ask_again(node, *times),
-            (Form::Terms | Form::Put | Form::Error, _) => Ok(()),
+            (Form::Terms | Form::Put | Form::Outlives | Form::Error, _) => Ok(()),
             _ => Err(error_at(node, Wrong::NotRead)),
         }
     }

@@ -80,6 +80,10 @@ pub enum Form {
     Walk,
     /// What has to outlive a region for a type to outlive it.
     Components,
+    /// What follows from terms that are assumed to outlive regions: an `Outlives` for each.
+    Assumptions,
+    /// A term, and the region that it outlives.
+    Outlives,
     /// What comes of a term where others are put for its parts: the term, and a `Put` for each.
     Fold,
     /// Whether a variable stands in a term that a binder outside it binds.

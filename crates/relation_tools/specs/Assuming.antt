@@ -1,0 +1,36 @@
+-- What a component gives of an assumption, and how a set of assumptions grows.
+use Rattle.std.specs.Prelude.{◌≡◌, IsTrue, cond, List, ◌++◌, map, Option, Some, None}
+use Rattle.std.specs.List.{All}
+use Rattle.std.specs.Option.{option_map}
+use Rattle.relation_terms.specs.Trees.{Tree, known}
+use Rattle.relation_terms.specs.Meaning.{Meaning, kind_tree}
+use Rattle.relation_terms.specs.declared.predicate.OutlivesPredicate.{OutlivesPredicate}
+use Rattle.relation_terms.specs.declared.terms.generic_arg.GenericArgKind.{GenericArgKind}
+use Rattle.relation_terms.specs.declared.terms.ty_kind.TyKind.TheVariants.{Param as TyParam, Alias as TyAlias}
+use Rattle.relation_terms.specs.declared.terms.ty_kind.TyKind.TheVariants.{Placeholder as TyPlaceholder}
+use Rattle.relation_tools.specs.Assumptions.{is_assumed, IsKnown, assumed, HaveSame}
+use Rattle.relation_tools.specs.declared.outlives.Component.{Component, Region, Param, Placeholder, Alias}
+
+module _ {X D N : Type 0} (m : Meaning X D N) where
+  -- The tree of the argument that a component is, if it is an assumption of its own.
+  abbrev pub argument_of : Component X D N → Option Tree
+  argument_of (Region r) = cond (is_assumed (m.region r)) (Some (m.region r)) None
+  argument_of (Param p) = Some (kind_tree m (TyParam p))
+  argument_of (Placeholder p) = Some (kind_tree m (TyPlaceholder p))
+  argument_of (Alias a) = Some (kind_tree m (TyAlias a))
+  argument_of c = None
+
+  -- The same with the region that it outlives.
+  abbrev pub pair_of : Tree → Component X D N → Option (Tree × Tree)
+  pair_of r c = option_map (λ t. (t, r)) (argument_of c)
+
+  -- The key of such a component is known.
+  abbrev pub IsKnownComponent : Component X D N → Type 0
+  IsKnownComponent (Region r) = IsTrue (known (m.region r))
+  IsKnownComponent (Alias a) = IsTrue (known (kind_tree m (TyAlias a)))
+  IsKnownComponent c = Unit {0}
+
+-- From one set of assumptions to another that has these besides, and all known; the interner may have grown.
+abbrev pub Gains : {X D N : Type 0} → Meaning X D N → Meaning X D N → List (OutlivesPredicate X (GenericArgKind X)) →
+    List (OutlivesPredicate X (GenericArgKind X)) → List (Tree × Tree) → Type 0
+Gains m n xs ys ps = All (IsKnown n) ys × HaveSame (map (assumed n) ys) (map (assumed m) xs ++ ps)

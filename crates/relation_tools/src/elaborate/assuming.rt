@@ -1,0 +1,163 @@
+//! How a set of assumptions gains one and what follows from it.
+ghost use Rattle.std.specs.Prelude.{◌≡◌, ◌∷◌, [], IsTrue, IfOk, OnOk, IfSome, Some};
+ghost use Rattle.std.specs.List.{All, filter, filter_map};
+ghost use Rattle.std.specs.Option.{option_map};
+ghost use Rattle.relation_terms.specs.Trees.{known};
+ghost use Rattle.relation_terms.specs.Meaning.{Extends, arg_tree, kind_tree};
+ghost use Rattle.relation_tools.specs.Components.{every, components};
+ghost use Rattle.relation_tools.specs.Assumptions.{IsKnown, is_assumed, assumed, elaborated, HaveSame};
+ghost use Rattle.relation_tools.specs.Assuming.{argument_of, pair_of, IsKnownComponent, Gains};
+ghost use Rattle.relation_tools.specs.declared.outlives.Component.{Region as RegionComponent};
+
+use crate::elaborate::OutlivesAssumption;
+use crate::outlives::{Component, ComponentOf, push_outlives_components};
+use relation_terms::predicate::OutlivesPredicate;
+use relation_terms::terms::{
+    GenericArg, GenericArgKind, Interner, OutOfMemory, Region, RegionKind, Ty, TyForm, TyKind,
+};
+use smallvec::SmallVec;
+use std::collections::HashSet;
+
+// A region as an argument, if no binder binds it.
+#[tactic(none)]
+fn unbound_region<I: Interner>(cx: &I, region: &Region<I>) -> Option<GenericArg<I>>
+    requires { IsTrue (known ((I.meaning cx.now).region region.now)) }
+    ensures { option_map (arg_tree (I.meaning cx.now)) result ≡
+        argument_of (I.meaning cx.now) (RegionComponent region.now) }
+{
+    match cx.region_kind(region) {
+        RegionKind::ReBound(..) => None,
+        _ => Some(GenericArgKind::Lifetime(*region)),
+    }
+}
+
+// The type of a form, as an argument.
+#[tactic(none)]
+fn ty_arg<I: Interner>(cx: &mut I, kind: TyForm<I>) -> Result<Option<GenericArg<I>>, OutOfMemory>
+    requires { IsTrue (known (kind_tree (I.meaning cx.old) kind)) }
+    ensures grown { Extends (I.meaning cx.old) (I.meaning cx.new) }
+    ensures sure { IfOk result (λ o. IfSome o (λ a. IsTrue (known (arg_tree (I.meaning cx.new) a)))) }
+    ensures is { IfOk result (λ o. option_map (arg_tree (I.meaning cx.new)) o ≡
+        Some (kind_tree (I.meaning cx.old) kind)) }
+{
+    Ok(Some(GenericArgKind::Ty(cx.mk_ty(kind)?)))
+}
+
+// The argument that a component is, if it is an assumption of its own.
+#[tactic(none)]
+fn arg_of<I: Interner>(
+    cx: &mut I,
+    component: &ComponentOf<I>,
+) -> Result<Option<GenericArg<I>>, OutOfMemory>
+    requires { IsKnownComponent (I.meaning cx.old) component.now }
+    ensures grown { Extends (I.meaning cx.old) (I.meaning cx.new) }
+    ensures sure { IfOk result (λ o. IfSome o (λ a. IsTrue (known (arg_tree (I.meaning cx.new) a)))) }
+    ensures is { IfOk result (λ o. option_map (arg_tree (I.meaning cx.new)) o ≡
+        argument_of (I.meaning cx.old) component.now) }
+{
+    match component {
+        Component::Region(region) => Ok(unbound_region(cx, region)),
+        Component::Param(param) => ty_arg(cx, TyKind::Param(*param)),
+        Component::Placeholder(placeholder) => ty_arg(cx, TyKind::Placeholder(*placeholder)),
+        Component::Alias(alias) => ty_arg(cx, TyKind::Alias(*alias)),
+        Component::UnresolvedInferenceVariable(_) | Component::EscapingAlias(_) => Ok(None),
+    }
+}
+
+// Adds an assumption.
+#[tactic(none)]
+fn assume<I: Interner>(
+    cx: &I,
+    assumption: OutlivesAssumption<I>,
+    collected: &mut HashSet<OutlivesAssumption<I>>,
+) -> Result<(), OutOfMemory>
+    requires known { IsKnown (I.meaning cx.now) assumption }
+    requires sure { All (IsKnown (I.meaning cx.now)) collected.old.keys }
+    ensures { let m = I.meaning cx.now in
+        OnOk result (Gains m m collected.old.keys collected.new.keys (assumed m assumption ∷ [])) }
+{
+    let _ = cx;
+    collected.insert(assumption)?;
+    Ok(())
+}
+
+// The components of a type.
+#[tactic(none)]
+fn components_of<I: Interner>(cx: &I, ty: &Ty<I>) -> Result<Vec<ComponentOf<I>>, OutOfMemory>
+    requires { IsTrue (known ((I.meaning cx.now).ty ty.now)) }
+    ensures sure { IfOk result (λ list. All (IsKnownComponent (I.meaning cx.now)) list.items) }
+    ensures same { IfOk result (λ list. HaveSame (filter_map (argument_of (I.meaning cx.now)) list.items)
+        (filter is_assumed (components every ((I.meaning cx.now).ty ty.now)))) }
+{
+    let mut components = SmallVec::new(cx.alloc());
+    push_outlives_components(cx, ty, &mut components)?;
+    Ok(components.into_vec()?)
+}
+
+// Adds that a component outlives a region, if it is an assumption of its own.
+#[tactic(none)]
+fn add_component<I: Interner>(
+    cx: &mut I,
+    component: &ComponentOf<I>,
+    region: &Region<I>,
+    collected: &mut HashSet<OutlivesAssumption<I>>,
+) -> Result<(), OutOfMemory>
+    requires component { IsKnownComponent (I.meaning cx.old) component.now }
+    requires region { IsTrue (known ((I.meaning cx.old).region region.now)) }
+    requires sure { All (IsKnown (I.meaning cx.old)) collected.old.keys }
+    ensures grown { Extends (I.meaning cx.old) (I.meaning cx.new) }
+    ensures gains { let m = I.meaning cx.old in
+        OnOk result (Gains m (I.meaning cx.new) collected.old.keys collected.new.keys
+        (filter_map (pair_of m (m.region region.now)) (component.now ∷ []))) }
+{
+    match arg_of(cx, component)? {
+        Some(arg) => assume(cx, OutlivesPredicate(arg, *region), collected),
+        None => Ok(()),
+    }
+}
+
+// Adds the same of each component of a list.
+#[tactic(none)]
+fn add_components<I: Interner>(
+    cx: &mut I,
+    components: &[ComponentOf<I>],
+    region: &Region<I>,
+    collected: &mut HashSet<OutlivesAssumption<I>>,
+) -> Result<(), OutOfMemory>
+    requires components { All (IsKnownComponent (I.meaning cx.old)) components.now }
+    requires region { IsTrue (known ((I.meaning cx.old).region region.now)) }
+    requires sure { All (IsKnown (I.meaning cx.old)) collected.old.keys }
+    ensures grown { Extends (I.meaning cx.old) (I.meaning cx.new) }
+    ensures gains { let m = I.meaning cx.old in
+        OnOk result (Gains m (I.meaning cx.new) collected.old.keys collected.new.keys
+        (filter_map (pair_of m (m.region region.now)) components.now)) }
+{
+    for component in components {
+        add_component(cx, component, region, collected)?;
+    }
+    Ok(())
+}
+
+/// Adds an assumption, and for a type the same of its components.
+#[tactic(none)]
+pub fn add_assumption<I: Interner>(
+    cx: &mut I,
+    assumption: &OutlivesAssumption<I>,
+    collected: &mut HashSet<OutlivesAssumption<I>>,
+) -> Result<(), OutOfMemory>
+    requires known { IsKnown (I.meaning cx.old) assumption.now }
+    requires sure { All (IsKnown (I.meaning cx.old)) collected.old.keys }
+    ensures grown { Extends (I.meaning cx.old) (I.meaning cx.new) }
+    ensures gains { let m = I.meaning cx.old in
+        OnOk result (Gains m (I.meaning cx.new) collected.old.keys collected.new.keys
+        (elaborated (arg_tree m (assumption.now).0) (m.region (assumption.now).1))) }
+{
+    assume(cx, *assumption, collected)?;
+    match &assumption.0 {
+        GenericArgKind::Ty(ty) => {
+            let components = components_of(cx, ty)?;
+            add_components(cx, components.as_slice(), &assumption.1, collected)
+        }
+        _ => Ok(()),
+    }
+}
