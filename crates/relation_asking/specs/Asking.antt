@@ -1,5 +1,6 @@
 -- What is ready to be asked about, and a context in which it may be.
 use Rattle.std.specs.Prelude.{◌≡◌, ℕ, ◌<◌, ◌≤◌, List, Option, Some, None, IsTrue, length, slice_get}
+use Rattle.std.specs.List.{All}
 use Rattle.relation_terms.specs.declared.terms.enums.Variance.{Variance}
 use Rattle.relation_terms.specs.declared.terms.enums.Variance.TheVariants.{Covariant, Contravariant, Invariant, Bivariant}
 use Rattle.relation_terms.specs.declared.terms.generic_arg.GenericArgKind.{GenericArgKind}
@@ -10,7 +11,8 @@ use Rattle.type_relations.specs.Covered.{IsCovered}
 use Rattle.relation_asking.specs.declared.needs.Needs.{Needs}
 use Rattle.relation_asking.specs.declared.question.Answer.{Answer}
 use Rattle.relation_asking.specs.declared.question.Answer.TheVariants.{Related, Met, Walked, Components, Folded, Is}
-use Rattle.relation_asking.specs.declared.question.Answer.TheVariants.{Key as key}
+use Rattle.relation_asking.specs.declared.question.Answer.TheVariants.{Assumed, Key as key}
+use Rattle.relation_tools.specs.Assumptions.{IsKnown}
 use Rattle.relation_asking.specs.Meets.{AllKnown}
 use Rattle.relation_asking.specs.Needs.{Allows, Reaches, need_at}
 use Rattle.relation_asking.specs.Outlives.{KnowsComponents}
@@ -52,6 +54,7 @@ KnowsAnswer m Knows (Related r) = Knows r
 KnowsAnswer m Knows (Met x) = AllKnown m x.terms.items
 KnowsAnswer m Knows (Walked xs) = AllKnown m xs.items
 KnowsAnswer m Knows (Components cs) = KnowsComponents m cs.items
+KnowsAnswer m Knows (Assumed all) = All (IsKnown m) all.items
 KnowsAnswer m Knows (Folded a) = IsTrue (known (arg_tree m a))
 KnowsAnswer m Knows (Is b) = Unit {0}
 KnowsAnswer m Knows (key k) = Unit {0}

@@ -13,13 +13,14 @@ use crate::context::{NotAsked, have_variables, refusal, relate, renewed, write_n
 use crate::folding::{fold, puts_at};
 use crate::lists::ask_args_related;
 use crate::needs::{Needs, both, need_at};
-use crate::outlives::{ask_components, write_components};
+use crate::outlives::{ask_assumptions, ask_components, write_assumptions, write_components};
 use crate::printing::write_answer;
 use crate::quick::{KeyOf, ask_args_may_unify, ask_key, ask_may_unify, write_key};
 use crate::sized_keys::SizedKeys;
 use crate::visiting::{Met, visit, write_met};
 use crate::walking::{numbers_at, write_walked};
 use relation_reference::context::RefCtxt;
+use relation_terms::predicate::OutlivesPredicate;
 use relation_terms::terms::{GenericArg, GenericArgKind, Interner, Keys, Ty, Variance};
 use relation_text::building::{key_at, keys_at, ty_at};
 use relation_text::naming::{Parts, Put, Question, QuestionKind};
@@ -58,6 +59,7 @@ pub(super) enum Answer<R, K, X, D, N> {
     Met(Met<X>),
     Walked(Vec<GenericArgKind<X>>),
     Components(Vec<Component<X, D, N>>),
+    Assumed(Vec<OutlivesPredicate<X, GenericArgKind<X>>>),
     Folded(GenericArgKind<X>),
     Is(bool),
     Key(K),
@@ -82,6 +84,7 @@ fn ran_out<I: Interner>(answer: &AnswerOf<I>) -> bool {
         Answer::Met(_) => false,
         Answer::Walked(_) => false,
         Answer::Components(_) => false,
+        Answer::Assumed(_) => false,
         Answer::Folded(_) => false,
         Answer::Is(_) => false,
         Answer::Key(_) => false,
@@ -172,7 +175,7 @@ fn term_of<I: Interner>(terms: &Ready<I>, number: usize) -> Result<GenericArg<I>
 }
 
 // The terms of a list.
-fn terms_of<I: Interner>(
+pub(super) fn terms_of<I: Interner>(
     alloc: Global,
     terms: &Ready<I>,
     list: Parts,
@@ -313,6 +316,13 @@ fn ask<I: SizedKeys>(ctx: &mut RefCtxt<I>, terms: &Ready<I>, question: &Question
             let found = ask_components(&ctx.interner, terms, number)?;
             Ok(Answer::Components(found))
         }
+        QuestionKind::Assumptions {
+            terms: list,
+            regions,
+        } => {
+            let all = ask_assumptions(ctx, terms, list, regions)?;
+            Ok(Answer::Assumed(all))
+        }
         QuestionKind::Fold { term, puts } => {
             let folded = ask_folded(ctx, terms, term, puts)?;
             Ok(Answer::Folded(folded))
@@ -399,6 +409,7 @@ fn write_given<I: Interner, W: Write>(
         Answer::Met(met) => write_met(&ctx.interner, texts, met, out),
         Answer::Walked(yielded) => write_walked(&ctx.interner, texts, yielded, out),
         Answer::Components(found) => write_components(&ctx.interner, texts, found, out),
+        Answer::Assumed(all) => write_assumptions(&ctx.interner, texts, all, out),
         Answer::Folded(term) => write_arg(&ctx.interner, texts, term, out),
         Answer::Is(holds) => write!(out, "{holds}"),
         Answer::Key(key) => write_key::<I, W>(texts, key, out),

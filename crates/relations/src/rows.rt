@@ -29,7 +29,7 @@ pub enum RowFault {
 }
 
 /// The rows, in the order of their numbers.
-pub const ROWS: [Row; 21] = [
+pub const ROWS: [Row; 22] = [
     Row {
         name: "r01",
         questions: "may unify[rigid, rigid] bool, char at 0; may unify[rigid, rigid] bool, char at 1;",
@@ -140,6 +140,11 @@ pub const ROWS: [Row; 21] = [
         stored: "'a, T, 'b | 'b | none | escaping[T]",
     },
     Row {
+        name: "r55",
+        questions: "param T, 'a, 'b; assumptions (&'a T, u8): 'b;",
+        stored: "'a: 'b | (&'a T, u8): 'b | T: 'b",
+    },
+    Row {
         name: "r59",
         questions: "param T;
             may unify[rigid, rigid] T, u8; may unify[infer, infer] T, u8; may unify[rigid, infer] T, u8;
@@ -248,6 +253,7 @@ fn is_high_row(name: &str) -> bool
         || name == "r35"
         || name == "r53"
         || name == "r54"
+        || name == "r55"
         || name == "r59"
         || name == "r60"
 }

@@ -33,8 +33,14 @@ impl<'a> Namer<'a> {
             self.program.parts.push(region)?;
         }
         let behind = self.program.parts.len();
-        let terms = Parts { first, behind: middle };
-        let regions = Parts { first: middle, behind };
+        let terms = Parts {
+            first,
+            behind: middle,
+        };
+        let regions = Parts {
+            first: middle,
+            behind,
+        };
         self.ask(QuestionKind::Assumptions { terms, regions })
     }
 }
