@@ -1,12 +1,12 @@
 -- Sets of assumptions, as they grow, and what a list of components gives.
 use Rattle.std.proofs.Common.{◌≡◌, ◌⊎◌, ◌∙◌, ◌&&◌, ◌||◌, not, Bool, true, false, cond, IsTrue, refl, sym, ap, ap₂, subst}
-use Rattle.std.proofs.Common.{ℕ, nat_lt, arith, IfSome, ⊎_elim, inl, inr, List, [], ◌∷◌, ◌++◌, map, append-nil, Option, Some, None}
+use Rattle.std.proofs.Common.{ℕ, ◌<◌, ◌+◌, nat_lt, arith, length, get_or, take, IfSome, ⊎_elim, inl, inr, List, [], ◌∷◌, ◌++◌, map, append-nil, Option, Some, None}
 use Rattle.std.proofs.lemmas.Bool.{and_parts, ltb-true}
-use Rattle.std.proofs.lemmas.List.{append_assoc}
+use Rattle.std.proofs.lemmas.List.{append_assoc, take_more}
 use Rattle.std.proofs.lemmas.List.Elements.{All-nil, All-cons, All-head, All-tail, All-append, All-weaker, All-map}
 use Rattle.std.proofs.lemmas.List.Elements.{All-contains, All-contains_itself, Contains-append_left}
 use Rattle.std.proofs.lemmas.List.Elements.{Contains-append_right, Contains-append_cases, Contains-push}
-use Rattle.std.proofs.lemmas.List.Elements.{Contains-push_cases}
+use Rattle.std.proofs.lemmas.List.Elements.{Contains-push_cases, filter_map-append}
 use Rattle.std.proofs.lemmas.List.Sorted.{IsPermutation-map, IsPermutation-sym, IsPermutation-to_front, All-permutation}
 use Rattle.std.specs.Bool.{MatchBool}
 use Rattle.std.specs.List.{All, Contains, cons_option, filter, filter_map, list_any}
@@ -20,7 +20,9 @@ use Rattle.relation_terms.specs.Parts.{tree_sort}
 use Rattle.relation_terms.specs.Closures.{is_type_sort}
 use Rattle.relation_terms.specs.declared.predicate.OutlivesPredicate.{OutlivesPredicate}
 use Rattle.relation_terms.specs.declared.terms.generic_arg.GenericArgKind.{GenericArgKind}
+use Rattle.relation_terms.specs.declared.terms.generic_arg.GenericArgKind.TheVariants.{Lifetime, Ty, Const}
 use Rattle.relation_terms.specs.declared.terms.keys.RegionKey.{RegionKey}
+use Rattle.relation_terms.specs.declared.terms.keys.TyKey.{TyKey}
 use Rattle.relation_terms.specs.declared.terms.numbers.DebruijnIndex.{DebruijnIndex}
 use Rattle.relation_terms.specs.declared.terms.region_kind.BoundRegion.{BoundRegion}
 use Rattle.relation_terms.specs.declared.terms.region_kind.RegionKind.{RegionKind}
@@ -31,6 +33,8 @@ use Rattle.relation_terms.specs.declared.terms.ty_kind.InferTy.TheVariants.{TyVa
 use Rattle.relation_terms.specs.declared.terms.ty_kind.InferTy.TheVariants.{FreshTy, FreshIntTy, FreshFloatTy}
 use Rattle.relation_terms.specs.declared.terms.ty_kind.TyKind.TheVariants.{Param as TyParam, Alias as TyAlias}
 use Rattle.relation_terms.specs.declared.terms.ty_kind.TyKind.TheVariants.{Placeholder as TyPlaceholder}
+use Rattle.relation_terms.proofs.Members.{region_term, type_term, const_term}
+use Rattle.relation_terms.proofs.Sorted.{Sorted}
 use Rattle.relation_terms.proofs.Stays.{knows_as, stays_arg, knows_arg, knows_region, stays_kind}
 use Rattle.relation_tools.specs.Visits.{bound_var_escapes}
 use Rattle.relation_tools.specs.Components.{Choice, every, takes, behind, choice_of, is_alias, is_component, components}
@@ -376,6 +380,11 @@ module _ {X D N : Type 0} {m n : Meaning X D N} (e : Extends m n) where
 
 -- A set gains one after the other, and one.
 module _ {X D N : Type 0} where
+  pub gains_none : (m : Meaning X D N) (xs : List (OutlivesPredicate X (GenericArgKind X))) → xs ≡ [] →
+      Gains m m [] xs []
+  gains_none m xs e =
+      subst (λ zs. Gains m m [] zs []) (sym e) (All-nil (IsKnown m), same_refl (map (assumed m) []))
+
   pub gains_after : (m n o : Meaning X D N) (xs ys zs : List (OutlivesPredicate X (GenericArgKind X)))
       (ps qs : List (Tree × Tree)) → Gains m n xs ys ps → Gains n o ys zs qs → Gains m o xs zs (ps ++ qs)
   gains_after m n o xs ys zs ps qs g h =
@@ -469,3 +478,50 @@ module _ {X D N : Type 0} (m : Meaning X D N) where
       option_map (arg_tree m) o ≡ argument_of m (Region r) → IsTrue (known (m.region r)) →
       IfSome o (λ a. IsTrue (known (arg_tree m a)))
   region_sure r o e k = given_sure (is_assumed (m.region r)) (m.region r) o e k
+
+-- What an argument gives, by its form.
+module _ {X D N : Type 0} (m : Meaning X D N) where
+  -- What is no type has a sort that is not that of types.
+  pub other_sort : Sorted m → (x : GenericArgKind X) → IsTrue (known (arg_tree m x)) →
+      ((k : TyKey X) → x ≡ Ty k → ⊥) → is_type_sort (tree_sort (arg_tree m x)) ≡ false
+  other_sort s (Lifetime r) k n = ap is_type_sort (region_term (m.region r) (s.region r k))
+  other_sort s (Ty t) k n = absurd (n t refl)
+  other_sort s (Const c) k n = ap is_type_sort (const_term (m.const_ c) (s.const_ c k))
+
+  pub ty_sort : Sorted m → (x : GenericArgKind X) (t : TyKey X) → x ≡ Ty t → IsTrue (known (arg_tree m x)) →
+      tree_sort (arg_tree m x) ≡ type_sort
+  ty_sort s x t e k =
+      let is = ap (arg_tree m) e in
+      ap tree_sort is ∙ type_term (m.ty t) (s.ty t (subst Known is k))
+
+  -- A list of components gives what follows from a type, and from its first ones one more.
+  pub ty_gives : (x : GenericArgKind X) (t : TyKey X) (r : Tree) (cs : List (Component X D N)) → Sorted m → x ≡ Ty t →
+      IsTrue (known (arg_tree m x)) → AddsSome m (components every (m.ty t)) [] cs →
+      HasAll m (components every (m.ty t)) cs →
+      HaveSame ((arg_tree m x, r) ∷ [] ++ filter_map (pair_of m r) cs) (elaborated (arg_tree m x) r)
+  ty_gives x t r cs s e k p h =
+      type_elaborated m (arg_tree m x) r cs (ty_sort s x t e k)
+      (subst (λ z. HaveSame (filter_map (argument_of m) cs) (filter is_assumed (components every z)))
+      (sym (ap (arg_tree m) e)) (given_same m (components every (m.ty t)) cs p h))
+
+  pub ty_known : (x : GenericArgKind X) (t : TyKey X) (cs : List (Component X D N)) → x ≡ Ty t →
+      IsTrue (known (arg_tree m x)) → AddsSome m (components every (m.ty t)) [] cs → All (IsKnownComponent m) cs
+  ty_known x t cs e k p =
+      added_known m (components every (m.ty t)) cs
+      (components_known every (m.ty t) (subst Known (ap (arg_tree m) e) k)) p
+
+pub all_at : {A : Type 0} (P : A → Type 0) (xs : List A) (i : ℕ) (x : A) → All P xs → i < length xs →
+    x ≡ get_or xs i x → P x
+all_at P xs i x a l e = subst P (sym e) (a i x l)
+
+-- What the first members give, and the next.
+pub filter_next : {A B : Type 0} (f : A → Option B) (xs : List A) (i : ℕ) (x : A) (ys : List B) → i < length xs →
+    x ≡ get_or xs i x → ys ≡ filter_map f (x ∷ []) →
+    filter_map f (take i xs) ++ ys ≡ filter_map f (take (i + 1) xs)
+filter_next f xs i x ys l e q =
+    ap (λ z. filter_map f (take i xs) ++ z) q ∙ sym (filter_map-append f (take i xs) (x ∷ []))
+    ∙ ap (filter_map f) (ap (λ z. take i xs ++ z ∷ []) e ∙ sym (take_more xs i x l))
+
+pub taken_next : {A : Type 0} (xs : List A) (i : ℕ) (x : A) → i < length xs → x ≡ get_or xs i x →
+    take (i + 1) xs ≡ take i xs ++ x ∷ []
+taken_next xs i x l e = take_more xs i x l ∙ ap (λ z. take i xs ++ z ∷ []) (sym e)

@@ -21,7 +21,6 @@ pub type OutlivesAssumption<I> = OutlivesPredicate<<I as Keys>::Key, GenericArg<
 /// where a growth was refused; all keys keep their meanings.
 ///
 /// It comes from upstream's function of this name, which takes any iterator.
-#[tactic(none)]
 pub fn elaborate_outlives_assumptions<I: Interner>(
     cx: &mut I,
     assumptions: &[OutlivesAssumption<I>],

@@ -3,7 +3,7 @@
 //! A component is a region, a parameter, a placeholder, a variable or an alias in the type. What is inside an alias is
 //! left to whoever decides whether the alias outlives the region, but where a variable stands in it that a binder outside
 //! the alias binds: there it is the components of its arguments.
-ghost use Rattle.std.specs.Prelude.{IsTrue, OnOk};
+ghost use Rattle.std.specs.Prelude.{IsTrue, IfOk, OnOk, []};
 ghost use Rattle.relation_terms.specs.Trees.{known};
 ghost use Rattle.relation_terms.specs.Meaning.{kind_tree};
 ghost use Rattle.relation_terms.specs.declared.terms.ty_kind.TyKind.TheVariants.{Alias as AliasForm};
@@ -71,6 +71,24 @@ pub fn push_outlives_components<I: Interner>(
 {
     let mut visited = HashSet::new(cx.alloc());
     collect_part(cx, &Part::Ty(*ty), out, &mut visited)
+}
+
+/// The components of a type, in a list of their own. It is generic, and so has none of them inline: nothing bounds the
+/// size of four.
+pub(crate) fn components_of<I: Interner>(
+    cx: &I,
+    ty: &Ty<I>,
+) -> Result<Vec<ComponentOf<I>>, OutOfMemory>
+    requires { IsTrue (known ((I.meaning cx.now).ty ty.now)) }
+    ensures some { IfOk result (λ list.
+        AddsSome (I.meaning cx.now) (components every ((I.meaning cx.now).ty ty.now)) [] list.items) }
+    ensures all { IfOk result (λ list.
+        HasAll (I.meaning cx.now) (components every ((I.meaning cx.now).ty ty.now)) list.items) }
+{
+    let mut list: SmallVec<ComponentOf<I>, 0> = SmallVec::new(cx.alloc());
+    let mut visited = HashSet::new(cx.alloc());
+    collect_part(cx, &Part::Ty(*ty), &mut list, &mut visited)?;
+    Ok(list.into_vec()?)
 }
 
 /// Adds the components of the arguments of an alias, but of those that the alias is bivariant in, and not the alias itself.

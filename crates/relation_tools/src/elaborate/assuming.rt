@@ -1,25 +1,22 @@
 //! How a set of assumptions gains one and what follows from it.
 ghost use Rattle.std.specs.Prelude.{◌≡◌, ◌∷◌, [], IsTrue, IfOk, OnOk, IfSome, Some};
-ghost use Rattle.std.specs.List.{All, filter, filter_map};
+ghost use Rattle.std.specs.List.{All, filter_map};
 ghost use Rattle.std.specs.Option.{option_map};
 ghost use Rattle.relation_terms.specs.Trees.{known};
 ghost use Rattle.relation_terms.specs.Meaning.{Extends, arg_tree, kind_tree};
-ghost use Rattle.relation_tools.specs.Components.{every, components};
-ghost use Rattle.relation_tools.specs.Assumptions.{IsKnown, is_assumed, assumed, elaborated, HaveSame};
+ghost use Rattle.relation_tools.specs.Assumptions.{IsKnown, assumed, elaborated};
 ghost use Rattle.relation_tools.specs.Assuming.{argument_of, pair_of, IsKnownComponent, Gains};
 ghost use Rattle.relation_tools.specs.declared.outlives.Component.{Region as RegionComponent};
 
 use crate::elaborate::OutlivesAssumption;
-use crate::outlives::{Component, ComponentOf, push_outlives_components};
+use crate::outlives::{Component, ComponentOf, components_of};
 use relation_terms::predicate::OutlivesPredicate;
 use relation_terms::terms::{
-    GenericArg, GenericArgKind, Interner, OutOfMemory, Region, RegionKind, Ty, TyForm, TyKind,
+    GenericArg, GenericArgKind, Interner, OutOfMemory, Region, RegionKind, TyForm, TyKind,
 };
-use smallvec::SmallVec;
 use std::collections::HashSet;
 
 // A region as an argument, if no binder binds it.
-#[tactic(none)]
 fn unbound_region<I: Interner>(cx: &I, region: &Region<I>) -> Option<GenericArg<I>>
     requires { IsTrue (known ((I.meaning cx.now).region region.now)) }
     ensures { option_map (arg_tree (I.meaning cx.now)) result ≡
@@ -32,7 +29,6 @@ fn unbound_region<I: Interner>(cx: &I, region: &Region<I>) -> Option<GenericArg<
 }
 
 // The type of a form, as an argument.
-#[tactic(none)]
 fn ty_arg<I: Interner>(cx: &mut I, kind: TyForm<I>) -> Result<Option<GenericArg<I>>, OutOfMemory>
     requires { IsTrue (known (kind_tree (I.meaning cx.old) kind)) }
     ensures grown { Extends (I.meaning cx.old) (I.meaning cx.new) }
@@ -44,7 +40,6 @@ fn ty_arg<I: Interner>(cx: &mut I, kind: TyForm<I>) -> Result<Option<GenericArg<
 }
 
 // The argument that a component is, if it is an assumption of its own.
-#[tactic(none)]
 fn arg_of<I: Interner>(
     cx: &mut I,
     component: &ComponentOf<I>,
@@ -60,12 +55,12 @@ fn arg_of<I: Interner>(
         Component::Param(param) => ty_arg(cx, TyKind::Param(*param)),
         Component::Placeholder(placeholder) => ty_arg(cx, TyKind::Placeholder(*placeholder)),
         Component::Alias(alias) => ty_arg(cx, TyKind::Alias(*alias)),
-        Component::UnresolvedInferenceVariable(_) | Component::EscapingAlias(_) => Ok(None),
+        Component::UnresolvedInferenceVariable(_) => Ok(None),
+        Component::EscapingAlias(_) => Ok(None),
     }
 }
 
 // Adds an assumption.
-#[tactic(none)]
 fn assume<I: Interner>(
     cx: &I,
     assumption: OutlivesAssumption<I>,
@@ -81,21 +76,7 @@ fn assume<I: Interner>(
     Ok(())
 }
 
-// The components of a type.
-#[tactic(none)]
-fn components_of<I: Interner>(cx: &I, ty: &Ty<I>) -> Result<Vec<ComponentOf<I>>, OutOfMemory>
-    requires { IsTrue (known ((I.meaning cx.now).ty ty.now)) }
-    ensures sure { IfOk result (λ list. All (IsKnownComponent (I.meaning cx.now)) list.items) }
-    ensures same { IfOk result (λ list. HaveSame (filter_map (argument_of (I.meaning cx.now)) list.items)
-        (filter is_assumed (components every ((I.meaning cx.now).ty ty.now)))) }
-{
-    let mut components = SmallVec::new(cx.alloc());
-    push_outlives_components(cx, ty, &mut components)?;
-    Ok(components.into_vec()?)
-}
-
 // Adds that a component outlives a region, if it is an assumption of its own.
-#[tactic(none)]
 fn add_component<I: Interner>(
     cx: &mut I,
     component: &ComponentOf<I>,
@@ -110,14 +91,14 @@ fn add_component<I: Interner>(
         OnOk result (Gains m (I.meaning cx.new) collected.old.keys collected.new.keys
         (filter_map (pair_of m (m.region region.now)) (component.now ∷ []))) }
 {
-    match arg_of(cx, component)? {
+    let found = arg_of(cx, component)?;
+    match found {
         Some(arg) => assume(cx, OutlivesPredicate(arg, *region), collected),
         None => Ok(()),
     }
 }
 
 // Adds the same of each component of a list.
-#[tactic(none)]
 fn add_components<I: Interner>(
     cx: &mut I,
     components: &[ComponentOf<I>],
@@ -139,7 +120,6 @@ fn add_components<I: Interner>(
 }
 
 /// Adds an assumption, and for a type the same of its components.
-#[tactic(none)]
 pub fn add_assumption<I: Interner>(
     cx: &mut I,
     assumption: &OutlivesAssumption<I>,
@@ -156,7 +136,7 @@ pub fn add_assumption<I: Interner>(
     match &assumption.0 {
         GenericArgKind::Ty(ty) => {
             let components = components_of(cx, ty)?;
-            add_components(cx, components.as_slice(), &assumption.1, collected)
+            add_components(cx, &components, &assumption.1, collected)
         }
         _ => Ok(()),
     }

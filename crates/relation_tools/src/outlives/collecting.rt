@@ -39,9 +39,9 @@ fn meet<I: Interner>(
 }
 
 // Adds a component.
-fn add<I: Interner>(
+fn add<I: Interner, const N: usize>(
     cx: &I,
-    out: &mut SmallVec<ComponentOf<I>, 4>,
+    out: &mut SmallVec<ComponentOf<I>, N>,
     component: ComponentOf<I>,
 ) -> Result<(), OutOfMemory>
     ensures ok { OnOk result (out.new.items ≡ out.old.items ++ component ∷ []) }
@@ -53,10 +53,10 @@ fn add<I: Interner>(
 }
 
 // Adds a region, if no binder binds it.
-fn collect_region<I: Interner>(
+fn collect_region<I: Interner, const N: usize>(
     cx: &I,
     region: &Region<I>,
-    out: &mut SmallVec<ComponentOf<I>, 4>,
+    out: &mut SmallVec<ComponentOf<I>, N>,
 ) -> Result<(), OutOfMemory>
     requires { IsTrue (known ((I.meaning cx.now).region region.now)) }
     ensures some { AddsSome (I.meaning cx.now) (components every ((I.meaning cx.now).region region.now))
@@ -72,10 +72,10 @@ fn collect_region<I: Interner>(
 
 // Adds the components of a part, but where it was met before.
 #[cycle(collect)]
-pub fn collect_part<I: Interner>(
+pub fn collect_part<I: Interner, const N: usize>(
     cx: &I,
     part: &PartOf<I>,
-    out: &mut SmallVec<ComponentOf<I>, 4>,
+    out: &mut SmallVec<ComponentOf<I>, N>,
     visited: &mut HashSet<GenericArg<I>>,
 ) -> Result<(), OutOfMemory>
     requires known { IsTrue (known (part_tree (I.meaning cx.now) part.now)) }
@@ -101,11 +101,11 @@ pub fn collect_part<I: Interner>(
 
 // Adds the components of the members of a list that are chosen.
 #[cycle(collect)]
-fn collect_members<I: Interner>(
+fn collect_members<I: Interner, const N: usize>(
     cx: &I,
     parts: &PartsOf<I>,
     chosen: &Chosen<I::Id>,
-    out: &mut SmallVec<ComponentOf<I>, 4>,
+    out: &mut SmallVec<ComponentOf<I>, N>,
     visited: &mut HashSet<GenericArg<I>>,
 ) -> Result<(), OutOfMemory>
     requires known { IsTrue (known (parts_tree (I.meaning cx.now) parts.now)) }
@@ -130,12 +130,12 @@ fn collect_members<I: Interner>(
 
 // Adds the components of the member at a place of a list, if it is chosen.
 #[cycle(collect)]
-fn collect_member<I: Interner>(
+fn collect_member<I: Interner, const N: usize>(
     cx: &I,
     parts: &PartsOf<I>,
     chosen: &Chosen<I::Id>,
     i: usize,
-    out: &mut SmallVec<ComponentOf<I>, 4>,
+    out: &mut SmallVec<ComponentOf<I>, N>,
     visited: &mut HashSet<GenericArg<I>>,
 ) -> Result<(), OutOfMemory>
     requires known { IsTrue (known (parts_tree (I.meaning cx.now) parts.now)) }
@@ -160,10 +160,10 @@ fn collect_member<I: Interner>(
 
 // Adds the components of a type that was found among arguments, if one was.
 #[cycle(collect)]
-fn collect_found<I: Interner>(
+fn collect_found<I: Interner, const N: usize>(
     cx: &I,
     found: Option<Ty<I>>,
-    out: &mut SmallVec<ComponentOf<I>, 4>,
+    out: &mut SmallVec<ComponentOf<I>, N>,
     visited: &mut HashSet<GenericArg<I>>,
 ) -> Result<(), OutOfMemory>
     requires known { IfSome found (λ t. IsTrue (known ((I.meaning cx.now).ty t))) }
@@ -184,10 +184,10 @@ fn collect_found<I: Interner>(
 
 // Adds the components of the types that a closure of these arguments captures.
 #[cycle(collect)]
-fn collect_closure<I: Interner>(
+fn collect_closure<I: Interner, const N: usize>(
     cx: &I,
     args: &GenericArgs<I>,
-    out: &mut SmallVec<ComponentOf<I>, 4>,
+    out: &mut SmallVec<ComponentOf<I>, N>,
     visited: &mut HashSet<GenericArg<I>>,
 ) -> Result<(), OutOfMemory>
     requires known { IsTrue (known ((I.meaning cx.now).args args.now)) }
@@ -205,10 +205,10 @@ fn collect_closure<I: Interner>(
 
 // Adds the components of the types that a coroutine of these arguments captures, and of the type it is resumed with.
 #[cycle(collect)]
-fn collect_coroutine<I: Interner>(
+fn collect_coroutine<I: Interner, const N: usize>(
     cx: &I,
     args: &GenericArgs<I>,
-    out: &mut SmallVec<ComponentOf<I>, 4>,
+    out: &mut SmallVec<ComponentOf<I>, N>,
     visited: &mut HashSet<GenericArg<I>>,
 ) -> Result<(), OutOfMemory>
     requires known { IsTrue (known ((I.meaning cx.now).args args.now)) }
@@ -228,10 +228,10 @@ fn collect_coroutine<I: Interner>(
 
 // Adds the components of a type, by its outermost form.
 #[cycle(collect)]
-fn collect_ty<I: Interner>(
+fn collect_ty<I: Interner, const N: usize>(
     cx: &I,
     ty: &Ty<I>,
-    out: &mut SmallVec<ComponentOf<I>, 4>,
+    out: &mut SmallVec<ComponentOf<I>, N>,
     visited: &mut HashSet<GenericArg<I>>,
 ) -> Result<(), OutOfMemory>
     requires known { IsTrue (known ((I.meaning cx.now).ty ty.now)) }
@@ -264,10 +264,10 @@ fn collect_ty<I: Interner>(
 
 // Adds the one component of an alias that a variable escapes, which holds those of its arguments.
 #[cycle(collect)]
-fn collect_escaping<I: Interner>(
+fn collect_escaping<I: Interner, const N: usize>(
     cx: &I,
     alias: &AliasTy<I::Key, I::Id>,
-    out: &mut SmallVec<ComponentOf<I>, 4>,
+    out: &mut SmallVec<ComponentOf<I>, N>,
 ) -> Result<(), OutOfMemory>
     requires known { IsTrue (known ((I.meaning cx.now).args (alias.now).args)) }
     requires escapes { bound_var_escapes (kind_tree (I.meaning cx.now) (AliasForm alias.now)) ≡ true }
@@ -276,17 +276,17 @@ fn collect_escaping<I: Interner>(
     ensures all { OnOk result (HasAll (I.meaning cx.now) (kind_tree (I.meaning cx.now) (AliasForm alias.now) ∷ [])
         out.new.items) }
 {
-    let mut inside = SmallVec::new(cx.alloc());
+    let mut inside: SmallVec<ComponentOf<I>, N> = SmallVec::new(cx.alloc());
     collect_alias_args(cx, alias, &mut inside)?;
     add(cx, out, Component::EscapingAlias(inside.into_vec()?))
 }
 
 // Adds the components of the arguments of an alias, but of those that it is bivariant in.
 #[cycle(collect)]
-pub fn collect_alias_args<I: Interner>(
+pub fn collect_alias_args<I: Interner, const N: usize>(
     cx: &I,
     alias: &AliasTy<I::Key, I::Id>,
-    out: &mut SmallVec<ComponentOf<I>, 4>,
+    out: &mut SmallVec<ComponentOf<I>, N>,
 ) -> Result<(), OutOfMemory>
     requires { IsTrue (known ((I.meaning cx.now).args (alias.now).args)) }
     ensures some { AddsSome (I.meaning cx.now)
