@@ -58,6 +58,7 @@ impl SizedKeys for RefInterner {
         walk_on(self.alloc(), &mut walker, root, skips)
     }
 
+    #[tactic(auto, using(crate::proofs::OutlivesLemmas::found_known))]
     fn components(&self, ty: &Ty<Self>) -> Result<Vec<ComponentOf<Self>>, OutOfMemory> {
         let mut found = SmallVec::new(self.alloc());
         push_outlives_components(self, ty, &mut found)?;

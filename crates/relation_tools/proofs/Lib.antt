@@ -31,3 +31,7 @@ pub mod ClauseLists
 pub mod UsedPlaces
 pub mod Anonymizing
 mod Assuming
+mod UsedVars
+mod UsedTrees
+mod UsedParts
+mod Renaming

@@ -21,7 +21,7 @@ abbrev pub place_eq : {Key : Type 0} → (Key → Key → Bool) → Place Key �
 place_eq eq x y = eqb x.sort y.sort && (eq x.key y.key && eqb x.depth y.depth)
 
 -- What stands at the place of a part: its key, its rank and the depth.
-placed : {Key : Type 0} (o : Option Key) (r d : ℕ) (q : Place Key) →
+pub placed : {Key : Type 0} (o : Option Key) (r d : ℕ) (q : Place Key) →
     option_map (λ k. record { sort = r; key = k; depth = d }) o ≡ Some q →
     (o ≡ Some q.key) × ((r ≡ q.sort) × (d ≡ q.depth))
 placed (Some k) r d q e =
@@ -30,7 +30,7 @@ placed (Some k) r d q e =
 placed None r d q e = absurd (cc)
 
 -- Parts of one rank that have keys are of one sort.
-one_sort : {Key Id : Type 0} (p q : Part Key Id) (x y : Key) → part_key p ≡ Some x → part_key q ≡ Some y →
+pub one_sort : {Key Id : Type 0} (p q : Part Key Id) (x y : Key) → part_key p ≡ Some x → part_key q ≡ Some y →
     part_rank p ≡ part_rank q → part_sort p ≡ part_sort q
 one_sort (Region r) (Region s) x y a b e = refl
 one_sort (Ty t) (Ty u) x y a b e = refl

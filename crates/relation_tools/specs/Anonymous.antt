@@ -1,5 +1,5 @@
 -- Predicates whose outermost binders differ in names, order or unused variables alone, and the one that stands for them.
-use Rattle.std.specs.Prelude.{◌≡◌, IsTrue, ℕ, suc, Bool, false, cond, nat_eq, nat_lt, List, [], ◌∷◌, ◌++◌, map}
+use Rattle.std.specs.Prelude.{◌≡◌, ℕ, suc, Bool, false, cond, nat_eq, List, [], ◌∷◌, ◌++◌, map}
 use Rattle.std.specs.Prelude.{Option, Some, None, option_map}
 use Rattle.std.proofs.Common.{ap}
 use Rattle.relation_terms.specs.Heads.{Kind, type_kind, region_kind, const_kind, BoundKind, bound_kind, Leaf, bound}
@@ -11,8 +11,6 @@ use Rattle.relation_terms.specs.declared.terms.binder.BoundVariableKind.TheVaria
 use Rattle.relation_terms.specs.declared.terms.binder.BoundVariableKind.TheVariants.{Region as RegionKind}
 use Rattle.relation_terms.specs.declared.terms.binder.BoundVariableKind.TheVariants.{Const as ConstKind}
 use Rattle.relation_tools.specs.Folds.{folded}
-use Rattle.relation_tools.specs.declared.visit.Visit.{Visit}
-use Rattle.relation_tools.specs.declared.visit.Visit.TheVariants.{Enter, Skip, Stop}
 use Rattle.relation_tools.specs.declared.anonymize.used.UsedVar.{UsedVar}
 use Rattle.relation_tools.specs.declared.anonymize.used.UsedVar.TheVariants.{Ty, Region, Const}
 
@@ -71,26 +69,10 @@ with_vars us (v ∷ vs) = with_vars (one_more us v (place_in us v)) vs
 abbrev pub used_vars : Tree → List UsedVar
 used_vars t = with_vars [] (uses 0 t)
 
--- A list of variables and what a visitor adds to it at a tree, not counting the parts: it enters what it has seen, or
--- stops where memory runs out. How many binders stand around is told as far as there are numbers.
+-- The variable that a tree is, not counting its parts, if the binder `depth` steps up binds it.
 abbrev pub here : ℕ → Tree → List UsedVar
 here depth (leaf l) = var_at depth l
 here depth t = []
-
-abbrev pub Near : Tree → Type 0
-Near (leaf (bound k d i)) = IsTrue (nat_lt d 18446744073709551616)
-Near t = Unit {0}
-
-abbrev pub Collects : List UsedVar → ℕ → Tree → List UsedVar → Visit → Type 0
-Collects us depth t vs Enter = (vs ≡ with_vars us (here depth t)) × Near t
-Collects us depth t vs Stop = Unit {0}
-Collects us depth t vs Skip = ⊥
-
--- The same of one variable, where its index is that depth.
-abbrev pub Adds : List UsedVar → ℕ → ℕ → UsedVar → List UsedVar → Visit → Type 0
-Adds us d depth u vs Enter = vs ≡ with_vars us (cond (nat_eq d depth) (u ∷ []) [])
-Adds us d depth u vs Stop = Unit {0}
-Adds us d depth u vs Skip = ⊥
 
 -- A variable of a binder that has one name for all; and the one at a place, if there is a place.
 abbrev pub named : ℕ → UsedVar → BoundKind

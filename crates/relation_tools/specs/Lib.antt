@@ -20,3 +20,5 @@ pub mod InBinders
 pub mod Anonymous
 pub mod Assumptions
 pub mod Assuming
+pub mod UsedParts
+pub mod Renamings

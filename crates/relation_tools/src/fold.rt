@@ -24,7 +24,9 @@ pub use keyed::{
     fold_pat_with, fold_predicates_with, fold_region_with, fold_ty_with, fold_tys_with,
     fold_valtree_with, super_fold_const, super_fold_ty,
 };
+pub(crate) use memory::{Place, place_of};
 pub use shift::shift_vars;
+pub(crate) use walk::depth_inside;
 
 /// What a folder answers at a type, a region or a constant.
 #[derive(Clone, Copy)]

@@ -3,6 +3,7 @@
 
 ghost use Rattle.relation_tools.specs.InstanceLaws.{TermsAreInstances, AliasesMeetTypes};
 ghost use Rattle.relation_tools.specs.KeyLaws.{DifferentKeysAreApart};
+ghost use Rattle.relation_tools.specs.Renamings.{RenamingsAreOne};
 
 /// Instances that there are.
 pub fn instances()
@@ -13,4 +14,10 @@ pub fn instances()
 /// Types of different keys.
 pub fn keys()
     ensures apart { DifferentKeysAreApart }
+{}
+
+/// Predicates whose outermost binders differ in names, order or unused variables alone: these, and no others, are
+/// anonymised alike, by each name.
+pub fn renamings()
+    ensures one { RenamingsAreOne }
 {}

@@ -22,8 +22,8 @@ pub struct Place<X> {
 /// What a fold has made of the parts that it has met.
 pub type Memory<X, D> = HashMap<Place<X>, Part<X, D>>;
 
-// A part at a depth, where it has a key.
-fn place_of<X: Copy, D: Copy>(part: &Part<X, D>, depth: u128) -> Option<Place<X>>
+/// A part at a depth, where it has a key.
+pub fn place_of<X: Copy, D: Copy>(part: &Part<X, D>, depth: u128) -> Option<Place<X>>
     ensures { result ≡ the_place part.now depth }
 {
     let (sort, key) = match part {

@@ -50,8 +50,8 @@ fn put_for<I: Interner, F: TypeFolder<I>>(
     }
 }
 
-// How many binders stand around the parts of a part under `depth` binders, if there is a number for it.
-fn depth_inside<X: Copy, D: Copy>(part: &Part<X, D>, depth: u128) -> Result<u128, OutOfMemory>
+/// How many binders stand around the parts of a part under `depth` binders, if there is a number for it.
+pub fn depth_inside<X: Copy, D: Copy>(part: &Part<X, D>, depth: u128) -> Result<u128, OutOfMemory>
     ensures { IfOk result (λ d. d ≡ inside_part part.now depth) }
 {
     match part {

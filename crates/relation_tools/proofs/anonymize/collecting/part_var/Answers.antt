@@ -1,0 +1,42 @@
+use Rattle.std.proofs.Common.{◌≡◌, [], ◌∷◌, MatchOption, sym, subst}
+use Rattle.relation_terms.specs.Parts.{part_tree}
+use Rattle.relation_terms.proofs.Sorted.{Sorted}
+use Rattle.relation_tools.specs.Anonymous.{here}
+use Rattle.relation_tools.proofs.UsedTrees.{none_here}
+use Rattle.relation_tools.proofs.anonymize.collecting.part_var.Goals as goal
+
+pub returns-in-Region : goal.returns-in-Region
+returns-in-Region g c =
+    let m = g.I.Interner.meaning c.args.cx.now in
+    subst (λ p. MatchOption c.region_var.result (here c.args.depth (part_tree m p) ≡ [])
+    (λ var. here c.args.depth (part_tree m p) ≡ var ∷ [])) (sym c.in-Region.is) c.region_var.ensures
+
+pub returns-in-Ty : goal.returns-in-Ty
+returns-in-Ty g c =
+    let m = g.I.Interner.meaning c.args.cx.now in
+    subst (λ p. MatchOption c.ty_var.result (here c.args.depth (part_tree m p) ≡ [])
+    (λ var. here c.args.depth (part_tree m p) ≡ var ∷ [])) (sym c.in-Ty.is) c.ty_var.ensures
+
+pub returns-in-Const : goal.returns-in-Const
+returns-in-Const g c =
+    let m = g.I.Interner.meaning c.args.cx.now in
+    subst (λ p. MatchOption c.const_var.result (here c.args.depth (part_tree m p) ≡ [])
+    (λ var. here c.args.depth (part_tree m p) ≡ var ∷ [])) (sym c.in-Const.is) c.const_var.ensures
+
+pub returns-in_default : goal.returns-in_default
+returns-in_default g c =
+    let m = g.I.Interner.meaning c.args.cx.now in
+    let sorted : Sorted m = record {
+      ty = g.met.I.Interner.is_ty c.args.cx.now;
+      region = g.met.I.Interner.is_region c.args.cx.now;
+      tys = g.met.I.Interner.are_tys c.args.cx.now;
+      const_ = g.met.I.Interner.is_const c.args.cx.now;
+      valtree = g.met.I.Interner.is_valtree c.args.cx.now;
+      args = g.met.I.Interner.are_args c.args.cx.now;
+      branches = g.met.I.Interner.are_branches c.args.cx.now;
+      pat = g.met.I.Interner.is_pat c.args.cx.now;
+      alternatives = g.met.I.Interner.are_alternatives c.args.cx.now;
+      existential_predicates = g.met.I.Interner.are_existential_predicates c.args.cx.now;
+    } in
+    none_here m sorted c.args.depth c.args.part.now c.requires c.in_default.not-Region c.in_default.not-Ty
+    c.in_default.not-Const

@@ -1,0 +1,25 @@
+use Rattle.std.proofs.Common.{ap, ◌∙◌, []}
+use Rattle.relation_terms.specs.Fields.{fields_tree}
+use Rattle.relation_tools.specs.Anonymous.{uses, with_vars}
+use Rattle.relation_tools.proofs.Remembering.{place_eq}
+use Rattle.relation_tools.proofs.UsedParts.{remembers_none}
+use Rattle.relation_tools.proofs.UsedTrees.{fields_known, uses_fields}
+use Rattle.relation_tools.proofs.anonymize.collecting.used_vars.Goals as goal
+
+pub collect_fields-requires-clause-known : goal.collect_fields-requires-clause-known
+collect_fields-requires-clause-known g c =
+    fields_known (g.I.Interner.meaning c.args.cx.now) c.args.body.now c.predicate_fields.result
+    c.predicate_fields.ensures c.requires
+
+pub collect_fields-requires-clause-remembered : goal.collect_fields-requires-clause-remembered
+collect_fields-requires-clause-remembered g c =
+    remembers_none (g.I.Interner.meaning c.args.cx.now) c.new-vars.result.items (place_eq g.I.Key.PartialEq.eq)
+    c.new-met.result.keys c.new-met.ensures.empty
+
+pub returns : goal.returns
+returns g c =
+    let m = g.I.Interner.meaning c.args.cx.now in
+    let fs = c.predicate_fields.result in
+    c.in_ok-collect_fields.ensures
+    ∙ ap (λ us. with_vars us (uses 0 (fields_tree m fs))) c.new-vars.ensures.items
+    ∙ ap (with_vars []) (uses_fields m c.args.body.now fs c.predicate_fields.ensures)

@@ -1,0 +1,31 @@
+-- Of which parts all variables were collected.
+use Rattle.std.specs.Prelude.{◌≡◌, ℕ, Bool, true, IsTrue, IsSome, List, [], ◌∷◌, Some}
+use Rattle.std.specs.List.{list_any}
+use Rattle.relation_terms.specs.Trees.{known}
+use Rattle.relation_terms.specs.Meaning.{Meaning}
+use Rattle.relation_terms.specs.Parts.{part_tree}
+use Rattle.relation_terms.specs.declared.terms.part_kind.Part.{Part}
+use Rattle.relation_tools.specs.declared.fold.memory.Place.{Place}
+use Rattle.relation_tools.specs.Folds.{place_of}
+use Rattle.relation_tools.specs.Anonymous.{place_in, uses}
+use Rattle.relation_tools.specs.declared.anonymize.used.UsedVar.{UsedVar}
+
+-- Each variable of the second list is in the first.
+abbrev pub AllIn : List UsedVar → List UsedVar → Type 0
+AllIn us [] = Unit {0}
+AllIn us (v ∷ vs) = IsSome (place_in us v) × AllIn us vs
+
+module _ {Key Id Name : Type 0} (m : Meaning Key Id Name) (us : List UsedVar) (eq : Place Key → Place Key → Bool) where
+  -- A known part stands at an equal place, and all variables that are used in it are in the list.
+  pub record IsMet (q : Place Key) : Type 0 where
+    pub part : Part Key Id
+    pub depth : ℕ
+    pub place : Place Key
+    pub stands : place_of part depth ≡ Some place
+    pub same : IsTrue (eq place q)
+    pub there : IsTrue (known (part_tree m part))
+    pub used : AllIn us (uses depth (part_tree m part))
+
+  -- Of each place that is kept a part was met.
+  abbrev pub Remembered : List (Place Key) → Type 0
+  Remembered kept = (q : Place Key) → list_any (eq q) kept ≡ true → IsMet q
