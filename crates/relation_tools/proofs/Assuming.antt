@@ -1,6 +1,7 @@
 -- Sets of assumptions, as they grow, and what a list of components gives.
 use Rattle.std.proofs.Common.{◌≡◌, ◌⊎◌, ◌∙◌, ◌&&◌, ◌||◌, not, Bool, true, false, cond, IsTrue, refl, sym, ap, ap₂, subst}
-use Rattle.std.proofs.Common.{ℕ, ◌<◌, ◌+◌, nat_lt, arith, length, get_or, take, IfSome, ⊎_elim, inl, inr, List, [], ◌∷◌, ◌++◌, map, append-nil, Option, Some, None}
+use Rattle.std.proofs.Common.{ℕ, ◌<◌, ◌+◌, nat_lt, arith, length, get_or, take, IfSome, ⊎_elim, inl, inr}
+use Rattle.std.proofs.Common.{List, [], ◌∷◌, ◌++◌, map, append-nil, Option, Some, None}
 use Rattle.std.proofs.lemmas.Bool.{and_parts, ltb-true}
 use Rattle.std.proofs.lemmas.List.{append_assoc, take_more}
 use Rattle.std.proofs.lemmas.List.Elements.{All-nil, All-cons, All-head, All-tail, All-append, All-weaker, All-map}
@@ -378,6 +379,10 @@ module _ {X D N : Type 0} {m n : Meaning X D N} (e : Extends m n) where
   stays_pairs c r k h =
       ap₂ (λ o z. cons_option (option_map (λ x. pair x z) o) []) (stays_argument c k) (e.region r h)
 
+flipped : (b : Bool) → false ≡ not b → b ≡ true
+flipped true e = refl
+flipped false e = absurd (cc)
+
 -- A set gains one after the other, and one.
 module _ {X D N : Type 0} where
   pub gains_none : (m : Meaning X D N) (xs : List (OutlivesPredicate X (GenericArgKind X))) → xs ≡ [] →
@@ -405,10 +410,6 @@ module _ {X D N : Type 0} where
         g.0,
         same_on (map (assumed n) ys) (old ++ ps) (old ++ qs) g.1 (same_both old old ps qs (same_refl old) s),
       )
-
-  flipped : (b : Bool) → false ≡ not b → b ≡ true
-  flipped true e = refl
-  flipped false e = absurd (cc)
 
   pub gains_put : (m : Meaning X D N) (test : OutlivesPredicate X (GenericArgKind X) → Bool)
       (a : OutlivesPredicate X (GenericArgKind X)) (xs ys : List (OutlivesPredicate X (GenericArgKind X))) (b : Bool) →
