@@ -4,22 +4,23 @@ use Rattle.std.proofs.Common.{◌≡◌, ◌≢◌, ◌⊎◌, ℕ, zero, suc, �
 use native.Mathlib.Decide.{dec_le}
 use Rattle.relation_terms.specs.declared.terms.enums.Variance.{Variance}
 use Rattle.relation_terms.specs.declared.terms.enums.Variance.TheVariants.{Invariant}
-use Rattle.relation_terms.specs.Heads.{region_sort, type_sort, const_sort, leaf_sort, term_of, one, region_kind, type_kind, const_kind, BoundKind, bound_kind, bound_sort, VarKind, type_var, int_var, float_var, const_var, region_var, var_sort, static_region, early_region, value_type, Leaf, variable, bound, placeholder, atom, unknown}
-use Rattle.relation_terms.specs.Trees.{Tree, leaf, node, bind, nil, cons, Assign, assigned, apply, Leaves, Occurs, IsTerm, size}
+use Rattle.relation_terms.specs.Heads.{region_sort, type_sort, const_sort, leaf_sort, term_of, one, region_kind, type_kind, const_kind, BoundKind, bound_kind, bound_sort, VarKind, type_var, int_var, float_var, const_var, region_var, var_sort, static_region, early_region, value_type, Head, Leaf, variable, bound, placeholder, atom, unknown}
+use Rattle.relation_terms.specs.Trees.{Tree, leaf, node, bind, nil, cons, Assign, assigned, apply, Leaves, Occurs, IsTerm, IsList, size}
 use Rattle.relation_terms.specs.Erasure.{erase}
 use Rattle.type_relations.specs.Relation.{Items, Interpretation, IsValueLeaf, StaysWithin, sort_of}
-use Rattle.type_relations.specs.Stores.{Store, bound_to, bound_term, universe_of, IsMade, IsFree, IsMadeLeaf, InContext, IsInScope, IsNamable, IsAssignment, MayStandFor, IsTermIn, IsSound, Satisfies, resolved, weight}
-use Rattle.type_relations.specs.FirstOrder.{IsFirstOrder, IsFirstOrderStore, IsClosedLeaf, Unifies, IsErasedSolution}
+use Rattle.type_relations.specs.Stores.{Store, entry_term, bound_to, bound_term, universe_of, IsMade, IsFree, IsMadeLeaf, InContext, IsInScope, IsNamable, IsAssignment, MayStandFor, IsTermIn, IsSound, Satisfies, resolved, weight}
+use Rattle.type_relations.specs.FirstOrder.{IsFirstOrder, IsFirstOrderStore, IsClosedLeaf, IsTypeClosed, Unifies, IsErasedSolution}
 use Rattle.type_relations.specs.StoreLaws.{GeneralisingInstantiates, GeneralisingRefuses}
 use Rattle.type_relations.specs.Steps.{BindsTo, IsLater, AgreeOn, AgreeErased, Extends, ExtendsErased, IsGeneralised, kept, replaced, in_form, in_binder, in_list, IsNamedBy, Instantiates, RefusesToInstantiate}
 use Rattle.type_relations.specs.ErasureLaws.{IsTypeOrConst}
 use Rattle.type_relations.specs.Measures.{Goes}
 use Rattle.type_relations.specs.Generalising.{gives_way_to, any_part, variance_for, InstantiatesBy, NumbersNameNothing, Obstacle, cycle, beyond, StopsAt, at_itself, at_placeholder, in_parts, in_body, in_first, in_others, RefusesBy}
-use Rattle.type_relations.proofs.Trees.{Leaves_map, Leaves_map₂, apply-apply}
+use Rattle.type_relations.proofs.Trees.{Leaves_map, Leaves_map₂, Leaves-replace, apply-apply, apply_alike}
+use Rattle.type_relations.proofs.Only.{which, absent as absent_stays}
 use Rattle.type_relations.proofs.Values.{in_context}
 use Rattle.type_relations.proofs.Resolved.{resolved_value, resolved_free, over_free, settled_term, cycles_do_not_unify}
 use Rattle.type_relations.proofs.Standing.{later_term, namable_mono, scope_namable, term_in, term_within, term_context}
-use Rattle.type_relations.proofs.Written.{made_after, others_bound}
+use Rattle.type_relations.proofs.Written.{made_after, others_bound, now_bound, resolved_later}
 use Rattle.type_relations.proofs.Equating.{bound_sound, bound_later, bound_keeps, bound_goes}
 use Rattle.type_relations.proofs.Exactness.{entry_is_exact, erased_through}
 use Rattle.type_relations.proofs.Going.{later_through, goes_then, goes_within, le_grown}
@@ -39,6 +40,16 @@ given_value st s h (placeholder (bound_kind region_kind x) w i) j e d = let q : 
 given_value st s h (atom static_region) j e i = let q : region_var ≡ j = cc in (subst (λ z. MayStandFor z (leaf (atom static_region))) q tt, tt, tt)
 given_value st s h (atom (early_region a x)) j e i = let q : region_var ≡ j = cc in (subst (λ z. MayStandFor z (leaf (atom (early_region a x)))) q tt, tt, tt)
 given_value st s h l j e i = absurd cc
+
+-- What takes the place of a closed leaf is closed.
+given_closed : (l : Leaf) (j : VarKind) (m : ℕ) → gives_way_to l ≡ Some j → IsClosedLeaf l → IsClosedLeaf (variable j m)
+given_closed (variable type_var i) j m e h = absurd h
+given_closed (variable const_var i) j m e h = absurd h
+given_closed (variable region_var i) j m e h = let q : region_var ≡ j = cc in subst (λ z. IsClosedLeaf (variable z m)) q tt
+given_closed (placeholder (bound_kind region_kind x) w i) j m e h = let q : region_var ≡ j = cc in subst (λ z. IsClosedLeaf (variable z m)) q tt
+given_closed (atom static_region) j m e h = let q : region_var ≡ j = cc in subst (λ z. IsClosedLeaf (variable z m)) q tt
+given_closed (atom (early_region a x)) j m e h = let q : region_var ≡ j = cc in subst (λ z. IsClosedLeaf (variable z m)) q tt
+given_closed l j m e h = absurd cc
 
 -- Values for kinds of types, constants and regions are terms of their sorts.
 tamed_stands : (u : ℕ) (l : Leaf) (j : VarKind) (t : Tree) → gives_way_to l ≡ Some j → MayStandFor j t → MayStandFor j (tamed u t)
@@ -102,7 +113,7 @@ module _ (c : Items) (before after : Store) (v : Variance) (k : VarKind) (n : �
   abbrev back : Assign
   back = here.further
 
-  leads : LeadsBack Q before back middle
+  leads : LeadsBack Q before k n back middle
   leads = (here.reached).leads
 
   a : Adds u before middle
@@ -303,6 +314,88 @@ module _ (c : Items) (before after : Store) (v : Variance) (k : VarKind) (n : �
   pub generalised_goes : Goes (weight before source) before after
   generalised_goes = let first : Goes (weight before source) before middle = goes_within (omega arith) (adds_goes a) in goes_then first
       (bound_goes middle after k n term f.binds a.sound not_region term_stands bound_in absent in_scope kind (weight before source) (le_of_eq same_size)) (le_grown first.spent (weight before source))
+
+  -- The variable does not stand in the source, and so nothing grows by the binding.
+  leaf_other : (l : Leaf) → IsInScope middle u l → l ≢ variable k n → Leaves (λ y. y ≢ variable k n) (assigned back l)
+  leaf_other (variable j m) h o = go (dec_le (suc m) (length (before.entries j)))
+    where
+      go : Dec (suc m ≤ length (before.entries j)) → Leaves (λ y. y ≢ variable k n) (back j m)
+      go (yes p) = subst (Leaves (λ y. y ≢ variable k n)) (sym (leads.old j m p)) o
+      go (no q) = let r = leads.new j m h.0 q in subst (Leaves (λ y. y ≢ variable k n)) (sym r.is) r.other
+  leaf_other (bound q d i) h o = o
+  leaf_other (placeholder q w i) h o = o
+  leaf_other (atom x) h o = o
+  leaf_other unknown h o = o
+
+  full_other : Occurs k n full → ⊥
+  full_other = absent_of_leaves k n full (subst (Leaves (λ y. y ≢ variable k n)) value (Leaves-replace (λ y. y ≢ variable k n) (assigned back) term
+      (Leaves_map (IsBoundLeaf before k n middle) _ (λ l h. leaf_other l h.in_scope h.other) term (here.became).leaves)))
+
+  weight_by_binding : (t : Tree) → (Occurs k n (apply (resolved middle) t) → ⊥) → weight after t ≡ weight middle t
+  unfolding weight
+  weight_by_binding t o = ap size (resolved_later middle after k n (bound_to term) term (f.binds).writes refl a.sound absent t
+      ∙ absent_stays k n (apply (resolved middle) term) (apply (resolved middle) t) o)
+
+  source_same : apply (resolved middle) source ≡ full
+  source_same = sym (apply_alike (resolved before) (resolved middle) source a.resolves)
+
+  pub generalised_weights : (weight after term ≡ weight before source) × (weight after source ≡ weight before source)
+  generalised_weights = (weight_by_binding term absent ∙ same_size, weight_by_binding source (λ o. full_other (subst (Occurs k n) source_same o)) ∙ sym (a.weights source))
+
+  -- A first-order term becomes one.
+  closed_back : (t : Tree) → Leaves (IsInScope middle u) t → Leaves IsClosedLeaf (apply back t) → Leaves IsClosedLeaf t
+  closed_back (leaf (variable j m)) h d = go (dec_le (suc m) (length (before.entries j)))
+    where
+      go : Dec (suc m ≤ length (before.entries j)) → IsClosedLeaf (variable j m)
+      go (yes p) = subst (Leaves IsClosedLeaf) (leads.old j m p) d
+      go (no o) = let r = leads.new j m h.0 o in given_closed r.was j m r.gives (subst (Leaves IsClosedLeaf) r.is d)
+  closed_back (leaf (bound q e i)) h d = d
+  closed_back (leaf (placeholder q w i)) h d = d
+  closed_back (leaf (atom x)) h d = d
+  closed_back (leaf unknown) h d = d
+  closed_back (node b t) h d = closed_back t h d
+  closed_back (bind ks t) h d = closed_back t h d
+  closed_back nil h d = tt
+  closed_back (cons t x) h d = (closed_back t h.0 d.0, closed_back x h.1 d.1)
+
+  type_closed : (b : Head) (t : Tree) → Leaves (IsInScope middle u) t → IsTypeClosed b (apply back t) → IsTypeClosed b t
+  type_closed value_type t h d = closed_back t h d
+  type_closed b t h d = tt
+
+  list_back : (t : Tree) → Leaves (KeepsSort back) t → IsList (apply back t) → IsList t
+  list_back (leaf (variable j m)) h d = absurd (subst IsList (h.1) d)
+  list_back (leaf (bound q e i)) h d = d
+  list_back (leaf (placeholder q w i)) h d = d
+  list_back (leaf (atom x)) h d = d
+  list_back (leaf unknown) h d = d
+  list_back (node b t) h d = d
+  list_back (bind ks t) h d = d
+  list_back nil h d = tt
+  list_back (cons t x) h d = list_back x h.1 d
+
+  first_order_back : (t : Tree) → Leaves (IsInScope middle u) t → IsFirstOrder (apply back t) → IsFirstOrder t
+  first_order_back (leaf (variable j m)) h d = tt
+  first_order_back (leaf (bound q e i)) h d = d
+  first_order_back (leaf (placeholder q w i)) h d = d
+  first_order_back (leaf (atom x)) h d = d
+  first_order_back (leaf unknown) h d = d
+  first_order_back (node b t) h d = (d.0, list_back t (Leaves_map (IsInScope middle u) (KeepsSort back) sorted t h) d.1, type_closed b t h d.2, first_order_back t h d.3)
+  first_order_back (bind ks t) h d = absurd d
+  first_order_back nil h d = tt
+  first_order_back (cons t x) h d = (first_order_back t h.0 d.0, first_order_back x h.1 d.1)
+
+  pub generalised_first_order : IsFirstOrder source → IsFirstOrderStore before → IsFirstOrder term × IsFirstOrderStore after
+  generalised_first_order d h = (simple, each)
+    where
+      simple : IsFirstOrder term
+      simple = first_order_back term scope (subst IsFirstOrder (sym value) (resolved_first_order before g h source d))
+
+      each : IsFirstOrderStore after
+      each j m t e = go (which j k m n)
+        where
+          go : ((j ≡ k) × (m ≡ n)) ⊎ (j ≡ k → m ≡ n → ⊥) → IsFirstOrder t
+          go (inl (p, q)) = let z : bound_term after j m ≡ bound_term after k n = ap₂ (bound_term after) p q in let w = now_bound middle after k n (bound_to term) term (f.binds).writes refl in let is : term ≡ t = cc (z, e, w) in subst IsFirstOrder is simple
+          go (inr o) = h j m t (a.terms j m ∙ sym (ap (entry_term j) (others_bound middle after k n term (f.binds).writes j m o)) ∙ e)
 
 pub generalising_instantiates : GeneralisingInstantiates
 generalising_instantiates c before after v k n source term kind f numbers g is_in stands = (generalised_instantiates c before after v k n source term kind f numbers g is_in stands, generalised_goes c before after v k n source term kind f numbers g is_in stands)

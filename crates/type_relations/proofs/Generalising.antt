@@ -1,17 +1,18 @@
 -- What generalising makes of a term: one that comes back to it when each new variable is replaced by the leaf whose
 -- place it took, and that a variable can be bound to.
-use Rattle.std.proofs.Common.{◌≡◌, ◌≢◌, ◌⊎◌, ℕ, suc, ◌≤◌, refl, sym, ap, ap₂, ◌∙◌, arith, inl, inr, subst, subst₂, Option, Some, None, List, [], ◌∷◌, All, le_of_eq}
+use Rattle.std.proofs.Common.{◌≡◌, ◌≢◌, ◌⊎◌, ℕ, suc, ◌+◌, ◌≤◌, refl, sym, ap, ap₂, ◌∙◌, arith, inl, inr, subst, subst₂, Option, Some, None, List, [], ◌∷◌, All, le_of_eq}
 use Rattle.std.proofs.lemmas.List.Elements.{All-nil, All-cons}
 use Rattle.relation_terms.specs.declared.terms.enums.Variance.{Variance}
 use Rattle.relation_terms.specs.declared.terms.enums.Variance.TheVariants.{Invariant}
 use Rattle.relation_terms.specs.Heads.{region_sort, leaf_sort, region_kind, type_kind, const_kind, BoundKind, bound_kind, VarKind, type_var, int_var, float_var, const_var, region_var, var_sort, Atom, static_region, early_region, Head, Leaf, variable, bound, placeholder, atom, unknown}
-use Rattle.relation_terms.specs.Trees.{Tree, leaf, node, bind, nil, cons, Assign, assigned, apply, Leaves}
+use Rattle.relation_terms.specs.Trees.{Tree, leaf, node, bind, nil, cons, Assign, assigned, apply, Leaves, count}
 use Rattle.relation_terms.specs.Erasure.{erase}
 use Rattle.type_relations.specs.Relation.{Items, part_at}
 use Rattle.type_relations.specs.Stores.{Store, entry_term, bound_term, universe_of, IsMade, IsFree, IsMadeLeaf, IsInScope, IsSound}
 use Rattle.type_relations.specs.Steps.{MakesVariable, IsNumberKind, AgreeOn, IsNamedBy}
 use Rattle.type_relations.specs.Generalising.{Stays, gives_way_to, Met, Stage, Turn, any_part, new_part, parts_from, Generalised, met_before, met_first, no_type, stays, gives_way, by_parts, in_binder, no_parts, next_part, MakesUnbound, makes_none, makes_one, NumbersNameNothing}
 use Rattle.type_relations.proofs.Trees.{Leaves_map}
+use Rattle.type_relations.proofs.Lists.{snoc}
 use Rattle.type_relations.proofs.Values.{same_value, in_context}
 use Rattle.type_relations.proofs.Erased.{PartsErased, parts_done, parts_next, parts_form}
 use Rattle.type_relations.proofs.Exactness.{changed, changed_same, changed_other}
@@ -46,16 +47,17 @@ gives_no_number (atom (early_region i x)) j e h = no_number_sort j (Some region_
 gives_no_number l j e h = absurd cc
 
 -- The leaf that a new variable took the place of.
-pub record Replaced (Q : Leaf → Type 0) (j : VarKind) (y : Tree) : Type 0 where
+pub record Replaced (Q : Leaf → Type 0) (k : VarKind) (n : ℕ) (j : VarKind) (y : Tree) : Type 0 where
   pub was : Leaf
+  pub other : was ≢ variable k n
   pub is : y ≡ leaf was
   pub gives : gives_way_to was ≡ Some j
   pub holds : Q was
 
 -- A way back from the new variables to these leaves.
-pub record LeadsBack (Q : Leaf → Type 0) (start : Store) (back : Assign) (st : Store) : Type 0 where
+pub record LeadsBack (Q : Leaf → Type 0) (start : Store) (k : VarKind) (n : ℕ) (back : Assign) (st : Store) : Type 0 where
   pub old : (j : VarKind) (m : ℕ) → IsMade start j m → back j m ≡ leaf (variable j m)
-  pub new : (j : VarKind) (m : ℕ) → IsMade st j m → (IsMade start j m → ⊥) → Replaced Q j (back j m)
+  pub new : (j : VarKind) (m : ℕ) → IsMade st j m → (IsMade start j m → ⊥) → Replaced Q k n j (back j m)
 
 -- What may stand in a term that the variable is bound to.
 pub record IsBoundLeaf (start : Store) (k : VarKind) (n : ℕ) (st : Store) (l : Leaf) : Type 0 where
@@ -83,7 +85,7 @@ pub record IsSourceLeaf (Q : Leaf → Type 0) (start : Store) (l : Leaf) : Type 
 
 -- A stage with a way back.
 pub record Reached (Q : Leaf → Type 0) (start : Store) (k : VarKind) (n : ℕ) (back : Assign) (r : Stage) : Type 0 where
-  pub leads : LeadsBack Q start back r.store
+  pub leads : LeadsBack Q start k n back r.store
   pub makes : MakesUnbound (universe_of start k n) start r.store
   pub met : All (λ e. Became start k n back r.store (any_part e.variance) e.type e.term) r.met
 
@@ -131,7 +133,7 @@ module _ (c : Items) (start : Store) (g : IsSound start) (numbers : NumbersNameN
   }
 
   -- A leaf that stays.
-  kept_value : (back : Assign) (st : Store) → LeadsBack Q start back st → (l : Leaf) → IsMadeLeaf start l → apply back (leaf l) ≡ leaf l
+  kept_value : (back : Assign) (st : Store) → LeadsBack Q start k n back st → (l : Leaf) → IsMadeLeaf start l → apply back (leaf l) ≡ leaf l
   kept_value back st b (variable j m) h = b.old j m h
   kept_value back st b (bound q d i) h = refl
   kept_value back st b (placeholder q w i) h = refl
@@ -186,7 +188,7 @@ module _ (c : Items) (start : Store) (g : IsSound start) (numbers : NumbersNameN
   changed_alike v (atom (early_region i x)) j m o e p h = region_alike (atom (early_region i x)) j m (some_path e) (refl {a = leaf (atom static_region)})
   changed_alike v l j m o e p h = absurd cc
 
-  module _ (v : Variance) (back : Assign) (r q : Stage) (l : Leaf) (j : VarKind) (m : ℕ) (at : Reached Q start k n back r) (holds : Q l)
+  module _ (v : Variance) (back : Assign) (r q : Stage) (l : Leaf) (j : VarKind) (m : ℕ) (at : Reached Q start k n back r) (holds : Q l) (other : l ≢ variable k n)
       (not_stays : Stays start reach v l → ⊥) (gives : gives_way_to l ≡ Some j) (makes : MakesVariable r.store q.store j m reach) (same_met : q.met ≡ r.met) where
     abbrev further : Assign
     further = changed j m (leaf l) back
@@ -203,15 +205,15 @@ module _ (c : Items) (start : Store) (g : IsSound start) (numbers : NumbersNameN
     agrees : AgreeOn r.store back further
     agrees i p h = sym (changed_other j m (leaf l) back i p (not_made i p h))
 
-    leads : LeadsBack Q start further q.store
+    leads : LeadsBack Q start k n further q.store
     leads = record {
       old = λ i p h. sym (agrees i p ((to_here.later).grows i p h)) ∙ (at.leads).old i p h;
       new = λ i p h o. go i p o (old_or_new r.store q.store j m reach makes i p h);
     }
       where
-        go : (i : VarKind) (p : ℕ) → (IsMade start i p → ⊥) → IsMade r.store i p ⊎ ((i ≡ j) × (p ≡ m)) → Replaced Q i (further i p)
-        go i p o (inl h) = subst (Replaced Q i) (agrees i p h) ((at.leads).new i p h o)
-        go i p o (inr (a, b)) = subst₂ (λ x y. Replaced Q x (further x y)) (sym a) (sym b) (record { was = l; is = changed_same j m (leaf l) back; gives = gives; holds = holds })
+        go : (i : VarKind) (p : ℕ) → (IsMade start i p → ⊥) → IsMade r.store i p ⊎ ((i ≡ j) × (p ≡ m)) → Replaced Q k n i (further i p)
+        go i p o (inl h) = subst (Replaced Q k n i) (agrees i p h) ((at.leads).new i p h o)
+        go i p o (inr (a, b)) = subst₂ (λ x y. Replaced Q k n x (further x y)) (sym a) (sym b) (record { was = l; other = other; is = changed_same j m (leaf l) back; gives = gives; holds = holds })
 
     new_leaf : IsBoundLeaf start k n q.store (variable j m)
     new_leaf = record {
@@ -245,7 +247,7 @@ module _ (c : Items) (start : Store) (g : IsSound start) (numbers : NumbersNameN
     agrees = f.agrees;
     makes = subst (MakesUnbound reach r.store) (sym e) f.makes;
     reached = record {
-      leads = subst (LeadsBack Q start f.further) (sym e) a.leads;
+      leads = subst (LeadsBack Q start k n f.further) (sym e) a.leads;
       makes = subst (MakesUnbound reach start) (sym e) a.makes;
       met = subst₂ (λ st es. All (λ e. Became start k n f.further st (any_part e.variance) e.type e.term) es) (sym e) (sym d)
           (All-cons (λ e. Became start k n f.further q.store (any_part e.variance) e.type e.term) (record { variance = v; type = t; term = x }) q.met
@@ -303,7 +305,7 @@ module _ (c : Items) (start : Store) (g : IsSound start) (numbers : NumbersNameN
   came (met_first {v = v} {r = r} {q = q} {p = p} {t = t} {x = x} s new f e d) back at h = first_came v back r q p t x e d (came f back at h)
   came (no_type {v = v} {r = r} {q = q} {t = t} {x = x} s f) back at h = other_came v back r q t x (came f back at h)
   came (stays {v = v} {r = r} {l = l} o s) back at h = kept_leaf v back r l at h o s
-  came (gives_way {v = v} {r = r} {q = q} {l = l} {j = j} {m = m} o s e f d) back at h = new_leaf_came v back r q l j m at h.holds s e f d
+  came (gives_way {v = v} {r = r} {q = q} {l = l} {j = j} {m = m} o s e f d) back at h = new_leaf_came v back r q l j m at h.holds o s e f d
   came (by_parts {v = v} {r = r} {q = q} {h = a} {ts = ts} {xs = xs} z f) back at h = form_came a v back r q ts xs (came f back at h)
   came (in_binder {v = v} {r = r} {q = q} {ks = ks} {t = t} {x = x} f) back at h = body_came ks v back r q t x (came f back at h)
   came (no_parts {h = a} {i = i} {v = v} {r = r}) back at h = record { further = back; agrees = λ j m i. refl; makes = makes_none; reached = at; became = record { value = refl; leaves = tt; alike = λ e z. parts_done a } }
@@ -317,3 +319,8 @@ module _ (c : Items) (start : Store) (g : IsSound start) (numbers : NumbersNameN
     makes = makes_none;
     met = All-nil _;
   }) h
+
+-- The first parts of a list, and then the next.
+pub parts_next_one : {c : Items} {start : Store} {k : VarKind} {n : ℕ} {h : Head} {i j : ℕ} {v : Variance} {r q p : Stage} {ts us t x : Tree} → Generalised c start k n (parts_from h i v) r ts q us → j ≡ i + count ts → Generalised c start k n (any_part (part_at c h j v)) q t p x → Generalised c start k n (parts_from h i v) r (snoc ts t) p (snoc us x)
+parts_next_one {c = c} {start = start} {k = k} {n = n} {h = h} {i = i} {j = j} {v = v} {p = p} {t = t} {x = x} (no_parts {r = r}) e f = let d : j ≡ i = omega (arith, e) in next_part (subst (λ z. Generalised c start k n (any_part (part_at c h z v)) r t p x) d f) no_parts
+parts_next_one (next_part g s) e f = next_part g (parts_next_one s (omega (arith, e)) f)
