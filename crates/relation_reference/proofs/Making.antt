@@ -231,7 +231,7 @@ module _ {Key Id Name : Type 0} (m : Meaning Key Id Name) (x y : InferCtxtInner 
   pub constraint_goes : Goes 0 (store_of m x) (store_of m y)
   constraint_goes = record {
     later = constraint_is_later (store_of m x) (store_of m y) asked constraint_added;
-    none_made = λ k. ap length (constraint_added.same_entries k);
+    no_number_made = λ k h. ap length (constraint_added.same_entries k);
     spent = 0;
     counts = omega (arith, budget);
     binds = let e = constraint_bound (store_of m x) (store_of m y) asked constraint_added in omega (arith, e);
