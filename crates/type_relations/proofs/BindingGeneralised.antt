@@ -1,17 +1,17 @@
 -- Binding a variable to what a term comes to, generalised for it: the assignments that are left, and that the store stays
 -- sound.
-use Rattle.std.proofs.Common.{◌≡◌, ◌≢◌, ◌⊎◌, ℕ, zero, suc, ◌≤◌, ◌<◌, refl, sym, ap, ap₂, ◌∙◌, arith, inl, inr, subst, subst₂, [], Some, length, le_of_eq}
+use Rattle.std.proofs.Common.{◌≡◌, ◌≢◌, ◌⊎◌, ℕ, suc, ◌≤◌, ◌<◌, refl, sym, ap, ap₂, ◌∙◌, arith, inl, inr, subst, subst₂, [], Some, length, le_of_eq}
 use native.Mathlib.Decide.{dec_le}
 use Rattle.relation_terms.specs.declared.terms.enums.Variance.{Variance}
 use Rattle.relation_terms.specs.declared.terms.enums.Variance.TheVariants.{Invariant}
-use Rattle.relation_terms.specs.Heads.{region_sort, type_sort, const_sort, leaf_sort, term_of, one, region_kind, type_kind, const_kind, BoundKind, bound_kind, bound_sort, VarKind, type_var, int_var, float_var, const_var, region_var, var_sort, static_region, early_region, value_type, Head, Leaf, variable, bound, placeholder, atom, unknown}
+use Rattle.relation_terms.specs.Heads.{region_sort, type_sort, const_sort, term_of, one, region_kind, type_kind, const_kind, BoundKind, bound_kind, bound_sort, VarKind, type_var, int_var, float_var, const_var, region_var, static_region, early_region, value_type, Head, Leaf, variable, bound, placeholder, atom, unknown}
 use Rattle.relation_terms.specs.Trees.{Tree, leaf, node, bind, nil, cons, Assign, assigned, apply, Leaves, Occurs, IsTerm, IsList, size}
 use Rattle.relation_terms.specs.Erasure.{erase}
 use Rattle.type_relations.specs.Relation.{Items, Interpretation, IsValueLeaf, StaysWithin, sort_of}
 use Rattle.type_relations.specs.Stores.{Store, entry_term, bound_to, bound_term, universe_of, IsMade, IsFree, IsMadeLeaf, InContext, IsInScope, IsNamable, IsAssignment, MayStandFor, IsTermIn, IsSound, Satisfies, resolved, weight}
 use Rattle.type_relations.specs.FirstOrder.{IsFirstOrder, IsFirstOrderStore, IsClosedLeaf, IsTypeClosed, Unifies, IsErasedSolution}
 use Rattle.type_relations.specs.StoreLaws.{GeneralisingInstantiates, GeneralisingRefuses}
-use Rattle.type_relations.specs.Steps.{BindsTo, IsLater, AgreeOn, AgreeErased, Extends, ExtendsErased, IsGeneralised, kept, replaced, in_form, in_binder, in_list, IsNamedBy, Instantiates, RefusesToInstantiate}
+use Rattle.type_relations.specs.Steps.{IsLater, AgreeOn, AgreeErased, Extends, ExtendsErased, IsGeneralised, kept, replaced, in_form, in_binder, in_list, IsNamedBy, Instantiates, RefusesToInstantiate}
 use Rattle.type_relations.specs.ErasureLaws.{IsTypeOrConst}
 use Rattle.type_relations.specs.Measures.{Goes}
 use Rattle.type_relations.specs.Generalising.{gives_way_to, any_part, variance_for, InstantiatesBy, NumbersNameNothing, Obstacle, cycle, beyond, StopsAt, at_itself, at_placeholder, in_parts, in_body, in_first, in_others, RefusesBy}
@@ -29,7 +29,7 @@ use Rattle.type_relations.proofs.Instantiating.{stands_resolved, resolved_first_
 use Rattle.type_relations.proofs.Erased.{erased_occurs_check}
 use Rattle.type_relations.proofs.NewVariables.{Adds, adds, adds_goes, IsValueFor, satisfies_after, assigns_after, erased_after, erased_agrees}
 use Rattle.type_relations.proofs.Leafwise.{StandsIn, each_stands, one_of_all, replaced_leaves, absent_of_leaves, KeepsSort, within_back, fits_back, size_back, tamed, tamed_fits, tamed_values, tamed_named, tamed_within, tamed_erased, erased_named}
-use Rattle.type_relations.proofs.Generalising.{gives_sort, Replaced, LeadsBack, IsBoundLeaf, IsSourceLeaf, Came, came_from_start}
+use Rattle.type_relations.proofs.Generalising.{gives_sort, LeadsBack, IsBoundLeaf, IsSourceLeaf, Came, came_from_start}
 
 -- A value of a leaf that gives way is one for the new variable.
 given_value : (st : Store) (s : Assign) → IsAssignment st s → (l : Leaf) (j : VarKind) → gives_way_to l ≡ Some j → IsMadeLeaf st l → MayStandFor j (assigned s l) × Leaves IsValueLeaf (assigned s l) × StaysWithin 0 (assigned s l)

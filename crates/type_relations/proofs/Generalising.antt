@@ -1,18 +1,17 @@
 -- What generalising makes of a term: one that comes back to it when each new variable is replaced by the leaf whose
 -- place it took, and that a variable can be bound to.
-use Rattle.std.proofs.Common.{◌≡◌, ◌≢◌, ◌⊎◌, ℕ, suc, ◌+◌, ◌≤◌, refl, sym, ap, ap₂, ◌∙◌, arith, inl, inr, subst, subst₂, Option, Some, None, List, [], ◌∷◌, All, le_of_eq}
+use Rattle.std.proofs.Common.{◌≡◌, ◌≢◌, ◌⊎◌, ℕ, suc, ◌≤◌, refl, sym, ap, ap₂, ◌∙◌, arith, inl, inr, subst, subst₂, Option, Some, [], ◌∷◌, All, le_of_eq}
 use Rattle.std.proofs.lemmas.List.Elements.{All-nil, All-cons}
 use Rattle.relation_terms.specs.declared.terms.enums.Variance.{Variance}
 use Rattle.relation_terms.specs.declared.terms.enums.Variance.TheVariants.{Invariant}
-use Rattle.relation_terms.specs.Heads.{region_sort, leaf_sort, region_kind, type_kind, const_kind, BoundKind, bound_kind, VarKind, type_var, int_var, float_var, const_var, region_var, var_sort, Atom, static_region, early_region, Head, Leaf, variable, bound, placeholder, atom, unknown}
-use Rattle.relation_terms.specs.Trees.{Tree, leaf, node, bind, nil, cons, Assign, assigned, apply, Leaves, count}
+use Rattle.relation_terms.specs.Heads.{leaf_sort, region_kind, type_kind, const_kind, bound_kind, VarKind, type_var, int_var, float_var, const_var, region_var, var_sort, static_region, early_region, Head, Leaf, variable, bound, placeholder, atom, unknown}
+use Rattle.relation_terms.specs.Trees.{Tree, leaf, node, bind, cons, Assign, apply, Leaves, count}
 use Rattle.relation_terms.specs.Erasure.{erase}
 use Rattle.type_relations.specs.Relation.{Items, part_at}
-use Rattle.type_relations.specs.Stores.{Store, entry_term, bound_term, universe_of, IsMade, IsFree, IsMadeLeaf, IsInScope, IsSound}
+use Rattle.type_relations.specs.Stores.{Store, entry_term, universe_of, IsMade, IsFree, IsMadeLeaf, IsInScope, IsSound}
 use Rattle.type_relations.specs.Steps.{MakesVariable, IsNumberKind, AgreeOn, IsNamedBy}
-use Rattle.type_relations.specs.Generalising.{Stays, gives_way_to, Met, Stage, Turn, any_part, new_part, parts_from, Generalised, met_before, met_first, no_type, stays, gives_way, by_parts, in_binder, no_parts, next_part, MakesUnbound, makes_none, makes_one, NumbersNameNothing}
+use Rattle.type_relations.specs.Generalising.{Stays, gives_way_to, Stage, Turn, any_part, new_part, parts_from, Generalised, met_before, met_first, no_type, stays, gives_way, by_parts, in_binder, no_parts, next_part, MakesUnbound, makes_none, makes_one, NumbersNameNothing}
 use Rattle.type_relations.proofs.Trees.{Leaves_map}
-use Rattle.type_relations.proofs.Lists.{snoc}
 use Rattle.type_relations.proofs.Values.{same_value, in_context}
 use Rattle.type_relations.proofs.Erased.{PartsErased, parts_done, parts_next, parts_form}
 use Rattle.type_relations.proofs.Exactness.{changed, changed_same, changed_other}
@@ -319,8 +318,3 @@ module _ (c : Items) (start : Store) (g : IsSound start) (numbers : NumbersNameN
     makes = makes_none;
     met = All-nil _;
   }) h
-
--- The first parts of a list, and then the next.
-pub parts_next_one : {c : Items} {start : Store} {k : VarKind} {n : ℕ} {h : Head} {i j : ℕ} {v : Variance} {r q p : Stage} {ts us t x : Tree} → Generalised c start k n (parts_from h i v) r ts q us → j ≡ i + count ts → Generalised c start k n (any_part (part_at c h j v)) q t p x → Generalised c start k n (parts_from h i v) r (snoc ts t) p (snoc us x)
-parts_next_one {c = c} {start = start} {k = k} {n = n} {h = h} {i = i} {j = j} {v = v} {p = p} {t = t} {x = x} (no_parts {r = r}) e f = let d : j ≡ i = omega (arith, e) in next_part (subst (λ z. Generalised c start k n (any_part (part_at c h z v)) r t p x) d f) no_parts
-parts_next_one (next_part g s) e f = next_part g (parts_next_one s (omega (arith, e)) f)

@@ -5,7 +5,6 @@ use Rattle.relation_terms.specs.Trees.{Tree, leaf, node, apply}
 use Rattle.relation_terms.specs.Meaning.{Meaning}
 use Rattle.relation_terms.specs.declared.terms.keys.TyKey.{TyKey}
 use Rattle.relation_terms.specs.declared.terms.keys.ConstKey.{ConstKey}
-use Rattle.relation_tools.specs.declared.error.TypeError.{TypeError}
 use Rattle.relation_tools.specs.declared.error.TypeError.TheVariants.{CyclicTy, CyclicConst, Mismatch}
 use Rattle.type_relations.specs.Stores.{Store, universe_of, IsSound, resolved}
 use Rattle.type_relations.specs.Generalising.{IsPlainHead, Obstacle, cycle, beyond, StopsAt, at_itself, at_placeholder, in_parts, in_body, in_first, in_others, RefusesBy}

@@ -39,6 +39,7 @@ pub mod Leafwise
 pub mod Generalising
 pub mod BindingGeneralised
 pub mod GeneralisingErrors
+pub mod GeneralisingParts
 pub mod Assigning
 pub mod RegionTerms
 pub mod Deciding

@@ -1,8 +1,8 @@
 -- Any number of new variables of a universe: what stands, and which assignments extend to them.
-use Rattle.std.proofs.Common.{◌≡◌, ◌⊎◌, ℕ, suc, ◌≤◌, ◌<◌, refl, sym, ap, ap₂, ◌∙◌, arith, inl, inr, subst, subst₂, Some, All, length, get_or, [], ◌∷◌, ◌++◌, le_of_eq}
+use Rattle.std.proofs.Common.{◌≡◌, ◌⊎◌, ℕ, suc, ◌≤◌, refl, sym, ap, ap₂, ◌∙◌, arith, inl, inr, subst, subst₂, All, length, get_or, [], ◌∷◌, ◌++◌}
 use native.Mathlib.Decide.{dec_le}
 use Rattle.relation_terms.specs.Heads.{VarKind, VarKind_discrete}
-use Rattle.relation_terms.specs.Trees.{Tree, Assign, apply, Leaves}
+use Rattle.relation_terms.specs.Trees.{Tree, Assign, Leaves}
 use Rattle.type_relations.specs.Relation.{Interpretation, Outlives, IsValueLeaf, StaysWithin}
 use Rattle.type_relations.specs.Stores.{Store, entry_of, bound_term, universe_of, IsMade, MayStandFor, IsNamable, IsAssignment, MeetsBindings, IsSound, Satisfies, Constraint, outlives_constraint, equal_constraint, ConstraintHolds, ConstraintIn, all_bound, resolved, weight}
 use Rattle.type_relations.specs.FirstOrder.{MeetsErased}
@@ -12,7 +12,7 @@ use Rattle.type_relations.specs.Generalising.{MakesUnbound, makes_none, makes_on
 use Rattle.type_relations.proofs.Standing.{term_context}
 use Rattle.type_relations.proofs.Values.{same_value}
 use Rattle.type_relations.proofs.Going.{later_itself, later_through}
-use Rattle.type_relations.proofs.Growing.{same_entries, same_terms, made_later, old_or_new, same_bound, resolved_still, weight_still, universes_stand, made_sound, made_is_later}
+use Rattle.type_relations.proofs.Growing.{same_entries, same_terms, old_or_new, same_bound, resolved_still, weight_still, universes_stand, made_sound, made_is_later}
 use Rattle.type_relations.proofs.Composing.{All_map₂}
 use Rattle.type_relations.proofs.StoreCalls.{get_or_past}
 use Rattle.type_relations.proofs.Exactness.{same_erased}

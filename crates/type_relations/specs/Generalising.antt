@@ -1,10 +1,10 @@
 -- What a variable is bound to when it is instantiated with a term: what the term comes to, generalised for what the
 -- variable can name.
-use Rattle.std.specs.Prelude.{◌≡◌, ◌≢◌, ℕ, zero, suc, ◌<◌, ◌≤◌, List, [], ◌∷◌, Option, Some, None, Contains}
+use Rattle.std.specs.Prelude.{◌≡◌, ◌≢◌, ℕ, suc, ◌<◌, ◌≤◌, List, [], ◌∷◌, Option, Some, None, Contains}
 use Rattle.relation_terms.specs.declared.terms.enums.Variance.{Variance}
 use Rattle.relation_terms.specs.declared.terms.enums.Variance.TheVariants.{Invariant}
 use Rattle.relation_terms.specs.Heads.{region_sort, type_sort, region_kind, BoundKind, bound_kind, bound_sort}
-use Rattle.relation_terms.specs.Heads.{VarKind, type_var, int_var, float_var, const_var, region_var, Atom}
+use Rattle.relation_terms.specs.Heads.{VarKind, type_var, int_var, float_var, const_var, region_var}
 use Rattle.relation_terms.specs.Heads.{static_region, early_region, Head, alias, Leaf, variable, bound, placeholder}
 use Rattle.relation_terms.specs.Heads.{atom, unknown}
 use Rattle.relation_terms.specs.Trees.{Tree, leaf, node, bind, nil, cons, apply, Leaves}
@@ -63,6 +63,11 @@ IsNew r v t = (x : Tree) → Contains r.met (record { variance = v; type = t; te
 pub data Turn : Type 0 where
   any_part new_part : Variance → Turn
   parts_from : Head → ℕ → Variance → Turn
+
+-- The variance of the part at a place of a form or a binder; a binder's body stands at its own.
+abbrev pub variance_of_part : Items → Tree → ℕ → Variance → Variance
+variance_of_part c (node h ts) i v = part_at c h i v
+variance_of_part c t i v = v
 
 -- Any form but an alias type's, which is generalised by rules of its own.
 abbrev pub IsPlainHead : Head → Type 0
