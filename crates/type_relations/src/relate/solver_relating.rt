@@ -42,9 +42,9 @@ pub trait RelateExt {
     /// record at `Invariant` no solution up to erasure unifies them then. Answers `Budget` only where no
     /// instantiation is left, and `Memory` where a growth was refused.
     ///
-    /// On each outcome all that was recorded stands. It makes no variable, and binds only what was the context's and
-    /// unbound, each for one instantiation; so no error and no spent budget comes of variables of its own. After an
-    /// error more may have been recorded on the way.
+    /// On each outcome all that was recorded stands. It makes no variable of a number, and binds what was the context's and
+    /// unbound, or was made on the way, each for one instantiation. After an error more may have been recorded on the way,
+    /// and variables made on the way may stay unbound.
     fn relate(
         &mut self,
         param_env: ParamEnv<Self::Interner>,
