@@ -32,11 +32,11 @@ pub enum NotAsked {
 
 // A new context over the interner of another one.
 pub(super) fn renewed<I: Interner>(ctx: RefCtxt<I>, budget: usize) -> RefCtxt<I>
+    requires { IsLawful (I.meaning ctx.interner) ctx.inner }
     ensures interner { result.interner ≡ ctx.interner }
     ensures lawful { IsLawful (I.meaning ctx.interner) result.inner }
 {
-    let RefCtxt { interner, inner: _ } = ctx;
-    RefCtxt::new(interner, budget)
+    ctx.renewed(budget)
 }
 
 // Makes variables until the context has so many.

@@ -48,7 +48,10 @@ fn ask_ready<I: Walks + Drop, W: Write>(
 ) -> fmt::Result
     requires { AreReady (I.meaning interner) terms.now.built.now terms.now.needs.now }
 {
-    let mut ctx = RefCtxt::new(interner, BUDGET);
+    let Ok(made) = RefCtxt::new(interner, BUDGET) else {
+        return refuse_all(program, between, out);
+    };
+    let mut ctx = made;
     let mut fresh = true;
     let mut any = false;
     for question in &program.questions {

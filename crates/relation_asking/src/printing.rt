@@ -8,7 +8,7 @@ ghost use Rattle.type_relations.specs.Constraints.{constraint_of};
 ghost use Rattle.relation_reference.specs.Tables.{IsLawful};
 ghost use Rattle.relation_reference.specs.RefCtxt.{store_in};
 
-use relation_reference::context::{RefCtxt, TypeVariableValue};
+use relation_reference::context::{RefCtxt, VariableValue};
 use relation_terms::predicate::RegionConstraint;
 use relation_terms::terms::{Const, Interner, Ty};
 use relation_text::printing::{TextsOf, write_arg, write_const, write_region, write_ty};
@@ -196,9 +196,9 @@ fn bound_type<I: Interner>(ctx: &RefCtxt<I>, number: usize) -> Option<Ty<I>>
     ensures none { IfNone result ((t : Tree) → entry_of (store_in I.meaning ctx.now) type_var number ≡ bound_to t → ⊥) }
 {
     match &ctx.inner.types[number].value {
-        TypeVariableValue::Known(ty) => Some(*ty),
-        TypeVariableValue::Unknown => None,
-        TypeVariableValue::SameAs(_) => None,
+        VariableValue::Known(ty) => Some(*ty),
+        VariableValue::Unknown => None,
+        VariableValue::SameAs(_) => None,
     }
 }
 

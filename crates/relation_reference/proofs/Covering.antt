@@ -1,7 +1,7 @@
 -- Terms that relating has rules for, in a context: their parts, and what they come to.
 use Rattle.std.proofs.Common.{◌≡◌, ℕ, zero, suc, ◌<◌, refl, sym, ap, ◌∙◌, subst, Some}
-use Rattle.relation_terms.specs.Heads.{Sort, type_sort, Admits, bound_sort, atom_sort, head_sort, Leaf}
-use Rattle.relation_terms.specs.Heads.{VarKind, type_var, int_var, float_var, const_var, region_var, alias}
+use Rattle.relation_terms.specs.Heads.{Sort, const_sort, Admits, bound_sort, atom_sort, head_sort, Leaf}
+use Rattle.relation_terms.specs.Heads.{Head, VarKind, type_var, int_var, float_var, const_var, region_var, alias, expression, value, unevaluated}
 use Rattle.relation_terms.specs.Heads.{variable, bound, placeholder, atom, unknown}
 use Rattle.relation_terms.specs.Trees.{Tree, leaf, node, bind, nil, cons, IsTerm, Assign, apply, count, nth}
 use Rattle.relation_terms.specs.Parts.{parts_of}
@@ -9,12 +9,12 @@ use Rattle.relation_terms.specs.Meaning.{Meaning}
 use Rattle.type_relations.specs.Stores.{Store, Entry, unbound, same_as, bound_to, entry_of, entry_term, bound_term}
 use Rattle.type_relations.specs.Stores.{resolve, rounds_for, all_taken, resolved}
 use Rattle.type_relations.specs.Errors.{StandsOutside}
-use Rattle.type_relations.specs.Parts.{IsFormed}
-use Rattle.type_relations.specs.Covered.{IsCovered}
+use Rattle.type_relations.specs.Parts.{IsFormedConst}
+use Rattle.type_relations.specs.Covered.{IsCovered, IsCoveredHead}
 use Rattle.type_relations.proofs.Covered.{covered_nth}
 use Rattle.type_relations.proofs.Resolved.{resolve_free, resolve_bound, HasTerm, is_free, is_bound, has_term}
 use Rattle.relation_reference.specs.declared.context.inner.InferCtxtInner.{InferCtxtInner}
-use Rattle.relation_reference.specs.Tables.{store_of, IsLawful}
+use Rattle.relation_reference.specs.Tables.{store_of, MayBeBoundTo, IsLawful}
 
 -- A part of a covered term is covered, and what stands in one stands in the term.
 parts_covered : (t : Tree) → IsCovered t → IsCovered (parts_of t)
@@ -31,26 +31,28 @@ covered_open l (node h ts) c o = o
 covered_open l (bind ks t) c o = absurd c
 covered_open l t c o = absurd o
 
--- A covered type that is no type variable is of a form.
-type_admitted : (s : Sort) → Admits type_sort s → s ≡ type_sort
-type_admitted type_sort a = refl
-type_admitted s a = absurd a
+-- A covered constant that is no variable is of a form.
+const_admitted : (s : Sort) → Admits const_sort s → s ≡ const_sort
+const_admitted const_sort a = refl
+const_admitted s a = absurd a
 
-pub covered_formed : (t : Tree) → IsTerm type_sort t → IsCovered t → ((n : ℕ) → t ≡ leaf (variable type_var n) → ⊥) →
-    IsFormed t
-covered_formed (leaf (variable type_var n)) s c o = absurd (o n refl)
-covered_formed (leaf (variable int_var n)) s c o = absurd c
-covered_formed (leaf (variable float_var n)) s c o = absurd c
-covered_formed (leaf (variable const_var n)) s c o = absurd c
-covered_formed (leaf (variable region_var n)) s c o = absurd s
-covered_formed (leaf (bound k d i)) s c o = absurd c
-covered_formed (leaf (placeholder k u n)) s c o = type_admitted (bound_sort k) s
-covered_formed (leaf (atom x)) s c o = type_admitted (atom_sort x) s
-covered_formed (leaf unknown) s c o = absurd c
-covered_formed (node h ts) s c o = type_admitted (head_sort h) s.0
-covered_formed (bind ks t) s c o = absurd c
-covered_formed nil s c o = absurd s
-covered_formed (cons t ts) s c o = absurd s
+form_of_const : (h : Head) (ts : Tree) → head_sort h ≡ const_sort → IsCoveredHead h → IsFormedConst (node h ts)
+form_of_const (expression k) ts e c = tt
+form_of_const value ts e c = tt
+form_of_const (unevaluated d) ts e c = absurd c
+form_of_const h ts e c = absurd (cc)
+
+pub covered_formed_const : (t : Tree) → IsTerm const_sort t → IsCovered t → ((k : VarKind) (n : ℕ) → t ≡ leaf (variable k n) → ⊥) →
+    IsFormedConst t
+covered_formed_const (leaf (variable k n)) s c o = absurd (o k n refl)
+covered_formed_const (leaf (bound k d i)) s c o = absurd c
+covered_formed_const (leaf (placeholder k u n)) s c o = const_admitted (bound_sort k) s
+covered_formed_const (leaf (atom x)) s c o = const_admitted (atom_sort x) s
+covered_formed_const (leaf unknown) s c o = absurd c
+covered_formed_const (node h ts) s c o = form_of_const h ts (const_admitted (head_sort h) s.0) c.0
+covered_formed_const (bind ks t) s c o = absurd c
+covered_formed_const nil s c o = absurd s
+covered_formed_const (cons t ts) s c o = absurd s
 
 -- What a covered term comes to is covered, where each binding is.
 covered_apply : (s : Assign) → ((k : VarKind) (n : ℕ) → IsCovered (leaf (variable k n)) → IsCovered (s k n)) →
@@ -97,14 +99,18 @@ module _ (st : Store) (all : (k : VarKind) (n : ℕ) (t : Tree) → entry_of st 
   covered_resolved t c = covered_apply (resolve (rounds_for (all_taken st)) st)
       (covered_resolve (rounds_for (all_taken st))) t c
 
+-- What may be bound is covered.
+pub may_covered : (k : VarKind) (t : Tree) → MayBeBoundTo k t → IsCovered t
+may_covered type_var t h = h.1
+may_covered int_var t h = h.1
+may_covered float_var t h = h.1
+may_covered const_var t h = h.1
+may_covered region_var t h = h.1
+
 -- In a lawful context it is.
 module _ {Key Id Name : Type 0} (m : Meaning Key Id Name) (x : InferCtxtInner Key) (l : IsLawful m x) where
   bindings_covered : (k : VarKind) (n : ℕ) (t : Tree) → entry_of (store_of m x) k n ≡ bound_to t → IsCovered t
-  bindings_covered type_var n t e = (l.formed n t e).1
-  bindings_covered region_var n t e = absurd (let h = sym (l.sound.regions_unbound n) ∙ e in cc)
-  bindings_covered int_var n t e = absurd (cc)
-  bindings_covered float_var n t e = absurd (cc)
-  bindings_covered const_var n t e = absurd (cc)
+  bindings_covered k n t e = may_covered k t (l.formed k n t e)
 
   pub comes_covered : (t : Tree) → IsCovered t → IsCovered (apply (resolved (store_of m x)) t)
   comes_covered t c = covered_resolved (store_of m x) bindings_covered t c

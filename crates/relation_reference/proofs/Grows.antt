@@ -1,21 +1,25 @@
 -- A context whose interner has grown is as lawful as it was, and has recorded what it had.
-use Rattle.std.proofs.Common.{◌≡◌, ℕ, zero, suc, ◌<◌, IsTrue, Bool, true, false, ◌&&◌, refl, sym, ap, ap₂, ◌∙◌, subst, arith, List, [], ◌∷◌, length, map, get_or}
-use Rattle.std.proofs.lemmas.Bool.{false≢true}
-use Rattle.std.proofs.lemmas.List.{get_or-map, length-map}
-use Rattle.relation_terms.specs.Heads.{type_var, variable, bound, placeholder, atom, unknown}
-use Rattle.relation_terms.specs.Trees.{Tree, leaf, node, bind, nil, cons, known}
+use Rattle.std.proofs.Common.{◌≡◌, ℕ, zero, suc, ◌<◌, ◌≤◌, IsTrue, Bool, true, false, ◌&&◌, refl, sym, ap, ap₂, ◌∙◌, subst, arith, List, [], ◌∷◌, length, map, get_or}
+use Rattle.std.proofs.lemmas.Bool.{false≢true, and_parts}
+use Rattle.std.proofs.lemmas.List.{get_or-map, length-map, get_or_past}
+use Rattle.std.proofs.Math.ListN.{get_or-map as at_map}
+use native.Mathlib.Decide.{dec_le}
+use Rattle.relation_terms.specs.Heads.{VarKind, type_var, int_var, float_var, const_var, region_var, variable, bound, placeholder, atom, unknown}
+use Rattle.relation_terms.specs.Trees.{Tree, leaf, node, bind, nil, cons, known, list_tree}
 use Rattle.relation_terms.specs.Meaning.{Meaning, Extends}
 use Rattle.relation_terms.proofs.Stays.{stays_arg}
 use Rattle.relation_terms.specs.declared.predicate.RegionConstraint.{RegionConstraint}
 use Rattle.relation_terms.specs.declared.predicate.RegionConstraint.TheVariants.{Outlives, Eq}
-use Rattle.type_relations.specs.Stores.{Store, Entry, unbound, bound_to, entry_of, entry_term, Constraint, outlives_constraint, equal_constraint, IsSound, InContext, IsTermIn, ConstraintIn}
-use Rattle.type_relations.proofs.Standing.{term_context}
-use Rattle.relation_reference.specs.declared.context.inner.TypeVariableValue.{TypeVariableValue}
-use Rattle.relation_reference.specs.declared.context.inner.TypeVariableValue.TheVariants.{Unknown, SameAs, Known}
-use Rattle.relation_reference.specs.declared.context.inner.TypeVariable.{TypeVariable}
-use Rattle.relation_reference.specs.declared.context.inner.InferCtxtInner.{InferCtxtInner}
-use Rattle.relation_reference.specs.Tables.{by_kind, entry_of_value, store_of, IsLawful}
+use Rattle.type_relations.specs.Stores.{Store, Entry, unbound, same_as, bound_to, entry_of, entry_term, Constraint, outlives_constraint, equal_constraint, IsSound, InContext, IsTermIn, ConstraintIn}
 use Rattle.type_relations.specs.Constraints.{constraint_of}
+use Rattle.type_relations.proofs.Standing.{term_context}
+use Rattle.relation_reference.specs.declared.context.inner.Variable.{Variable}
+use Rattle.relation_reference.specs.declared.context.inner.VariableValue.{VariableValue}
+use Rattle.relation_reference.specs.declared.context.inner.VariableValue.TheVariants.{Unknown, SameAs, Known}
+use Rattle.relation_reference.specs.declared.context.inner.InferCtxtInner.{InferCtxtInner}
+use Rattle.relation_reference.specs.Variables.{keys_of, values_of, universes_of, value_at, entry_of_value, entries_of}
+use Rattle.relation_reference.specs.Numbers.{number_trees}
+use Rattle.relation_reference.specs.Tables.{by_kind, store_of, keys_in, IsRooted, IsFilled, IsLawful}
 
 pub both : (a b : Bool) → IsTrue a → IsTrue b → IsTrue (a && b)
 both true b h k = k
@@ -37,63 +41,108 @@ known_of_context st (cons t ts) h = both (known t) (known ts) (known_of_context 
 pub known_of_term : (st : Store) (t : Tree) → IsTermIn st t → IsTrue (known t)
 known_of_term st t h = known_of_context st t (term_context st t h)
 
-pub map_at : {A B : Type 0} (f g : A → B) (xs : List A) → ((i : ℕ) (d : A) → i < length xs → f (get_or xs i d) ≡ g (get_or xs i d)) → map f xs ≡ map g xs
+map_at : {A B : Type 0} (f g : A → B) (xs : List A) → ((i : ℕ) (d : A) → i < length xs → f (get_or xs i d) ≡ g (get_or xs i d)) → map f xs ≡ map g xs
 map_at f g [] h = refl
 map_at f g (x ∷ xs) h = ap₂ ◌∷◌ (h 0 x (omega arith)) (map_at f g xs (λ i d p. h (suc i) d (omega arith)))
 
-pub map-map : {A B C : Type 0} (f : B → C) (g : A → B) (xs : List A) → map (λ x. f (g x)) xs ≡ map f (map g xs)
-map-map f g [] = refl
-map-map f g (x ∷ xs) = ap (λ ys. f (g x) ∷ ys) (map-map f g xs)
+-- The entry of a variable is that of its value.
+pub entry_at : {K : Type 0} (tree : K → Tree) (vs : List (Variable K)) (i : ℕ) → get_or (entries_of tree vs) i unbound ≡ entry_of_value tree (value_at vs i)
+entry_at tree vs i = at_map (entry_of_value tree) (values_of vs) i Unknown
 
-module _ {Key Id Name : Type 0} (m : Meaning Key Id Name) (x : InferCtxtInner Key) where
-  -- The entry of a variable is that of its value.
-  pub entry_at : (i : ℕ) (d : TypeVariable Key) → i < length x.types.items → entry_of (store_of m x) type_var i ≡ entry_of_value m ((get_or x.types.items i d).value)
-  entry_at i d h = get_or-map (λ v. entry_of_value m v.value) x.types.items i d unbound h
+-- Trees of a list of known ones are known.
+pub each_known : (ts : List Tree) → IsTrue (known (list_tree (λ t. t) ts)) → (i : ℕ) → IsTrue (known (get_or ts i nil))
+each_known [] h i = refl
+each_known (t ∷ ts) h zero = (and_parts (known t) (known (list_tree (λ z. z) ts)) h).0
+each_known (t ∷ ts) h (suc i) = each_known ts (and_parts (known t) (known (list_tree (λ z. z) ts)) h).1 i
 
-  pub known_bound : IsLawful m x → (i : ℕ) (t : Tree) → entry_of (store_of m x) type_var i ≡ bound_to t → IsTermIn (store_of m x) t
-  known_bound l i t e = (l.sound.bindings type_var i t (ap (entry_term type_var) e)).is_in
+-- Keys that are known mean what they meant.
+module _ {K : Type 0} (before after : K → Tree) (stay : (t : K) → IsTrue (known (before t)) → after t ≡ before t) where
+  pub keys_stay : (ks : List K) → ((i : ℕ) → IsTrue (known (get_or (map before ks) i nil))) → map after ks ≡ map before ks
+  keys_stay [] h = refl
+  keys_stay (k ∷ ks) h = ap₂ ◌∷◌ (stay k (h 0)) (keys_stay ks (λ i. h (suc i)))
+
+  pub values_stay : (vs : List (VariableValue K)) → ((i : ℕ) (t : Tree) → get_or (map (entry_of_value before) vs) i unbound ≡ bound_to t → IsTrue (known t)) →
+      map (entry_of_value after) vs ≡ map (entry_of_value before) vs
+  values_stay [] h = refl
+  values_stay (Unknown ∷ vs) h = ap (λ es. unbound ∷ es) (values_stay vs (λ i. h (suc i)))
+  values_stay (SameAs r ∷ vs) h = ap (λ es. same_as r ∷ es) (values_stay vs (λ i. h (suc i)))
+  values_stay (Known t ∷ vs) h = ap₂ (λ u es. bound_to u ∷ es) (stay t (h 0 (before t) refl)) (values_stay vs (λ i. h (suc i)))
+
+module _ {Key Id Name : Type 0} (m : Meaning Key Id Name) (x : InferCtxtInner Key) (l : IsLawful m x) where
+  -- What variables are bound to is of the context, and so known.
+  pub known_bound : (k : VarKind) (i : ℕ) (t : Tree) → entry_of (store_of m x) k i ≡ bound_to t → IsTermIn (store_of m x) t
+  known_bound k i t e = (l.sound.bindings k i t (ap (entry_term k) e)).is_in
+
+  pub bound_known : (k : VarKind) (i : ℕ) (t : Tree) → entry_of (store_of m x) k i ≡ bound_to t → IsTrue (known t)
+  bound_known k i t e = known_of_term (store_of m x) t (known_bound k i t e)
+
+  pub keys_known : (k : VarKind) (i : ℕ) → IsTrue (known (get_or (keys_in m x k) i nil))
+  keys_known k i = go (dec_le (suc i) (length (keys_in m x k)))
+    where
+      go : Dec (suc i ≤ length (keys_in m x k)) → IsTrue (known (get_or (keys_in m x k) i nil))
+      go (yes h) = subst (λ t. IsTrue (known t)) (sym (l.keyed k i (omega (arith, h)))) refl
+      go (no o) = subst (λ t. IsTrue (known t)) (sym (get_or_past (keys_in m x k) i nil (omega (arith, o)))) refl
+
+  pub numbers_known : (i : ℕ) → IsTrue (known (get_or (map m.ty x.numbers.items) i nil))
+  numbers_known i = subst (λ ts. IsTrue (known (get_or ts i nil))) (sym l.numbers) (each_known number_trees refl i)
 
 module _ {Key Id Name : Type 0} {m n : Meaning Key Id Name} (e : Extends m n) (x : InferCtxtInner Key) (l : IsLawful m x) where
-  value_stays : (i : ℕ) (v : TypeVariableValue Key) → entry_of (store_of m x) type_var i ≡ entry_of_value m v → entry_of_value n v ≡ entry_of_value m v
-  value_stays i Unknown h = refl
-  value_stays i (SameAs o) h = refl
-  value_stays i (Known t) h = ap bound_to (e.ty t (known_of_term (store_of m x) (m.ty t) (known_bound m x l i (m.ty t) h)))
-
   constraint_stays : (q : RegionConstraint Key) → ConstraintIn (store_of m x) (constraint_of m q) → constraint_of n q ≡ constraint_of m q
   constraint_stays (Outlives p) h = ap₂ outlives_constraint (stays_arg e p.0 (known_of_term (store_of m x) _ h.0.1)) (e.region p.1 (known_of_term (store_of m x) _ h.1.1))
   constraint_stays (Eq p) h = ap₂ equal_constraint (e.region p.0 (known_of_term (store_of m x) _ h.0.1)) (e.region p.1 (known_of_term (store_of m x) _ h.1.1))
 
-  with_lists : List Entry → List Constraint → Store
-  with_lists es cs = record {
-    entries = by_kind es (map (λ u. unbound) x.regions.items) [];
-    universes = by_kind (map (λ v. (v.universe).0) x.types.items) (map (λ u. u.0) x.regions.items) [];
+  constraints_stay : map (constraint_of n) x.constraints.items ≡ map (constraint_of m) x.constraints.items
+  constraints_stay = map_at (constraint_of n) (constraint_of m) x.constraints.items (λ i d p. constraint_stays (get_or x.constraints.items i d)
+      (subst (ConstraintIn (store_of m x)) (get_or-map (constraint_of m) x.constraints.items i d (constraint_of m d) p) (l.sound.constraints_in i (constraint_of m d) (at i p))))
+    where
+      at : (i : ℕ) → i < length x.constraints.items → i < length (map (constraint_of m) x.constraints.items)
+      at i p = subst (λ z. i < z) (sym (length-map x.constraints.items (constraint_of m))) p
+
+  with_lists : List Entry → List Entry → List Entry → List Entry → List Constraint → Store
+  with_lists ts is fs ks cs = record {
+    entries = by_kind ts is fs ks (map (λ u. unbound) x.regions.items);
+    universes = by_kind (universes_of x.types.items) (universes_of x.ints.items) (universes_of x.floats.items) (universes_of x.consts.items) (map (λ u. u.0) x.regions.items);
     universe = (x.universe).0;
     constraints = cs;
     tainted = false;
     budget = x.budget;
   }
 
+  abbrev types_at : Meaning Key Id Name → List Entry
+  types_at o = entries_of o.ty x.types.items
+
+  abbrev ints_at : Meaning Key Id Name → List Entry
+  ints_at o = entries_of o.ty x.ints.items
+
+  abbrev floats_at : Meaning Key Id Name → List Entry
+  floats_at o = entries_of o.ty x.floats.items
+
+  abbrev consts_at : Meaning Key Id Name → List Entry
+  consts_at o = entries_of o.const_ x.consts.items
+
   pub store_grows : store_of n x ≡ store_of m x
   unfolding with_lists
-  store_grows = ap₂ with_lists
-      (map_at (λ v. entry_of_value n v.value) (λ v. entry_of_value m v.value) x.types.items (λ i d p. value_stays i ((get_or x.types.items i d).value) (entry_at m x i d p)))
-      (map_at (constraint_of n) (constraint_of m) x.constraints.items (λ i d p. constraint_stays (get_or x.constraints.items i d)
-      (subst (ConstraintIn (store_of m x)) (get_or-map (constraint_of m) x.constraints.items i d (constraint_of m d) p) (l.sound.constraints_in i (constraint_of m d) (at i p)))))
-    where
-      at : (i : ℕ) → i < length x.constraints.items → i < length (map (constraint_of m) x.constraints.items)
-      at i p = subst (λ z. i < z) (sym (length-map x.constraints.items (constraint_of m))) p
+  store_grows =
+      ap (λ es. with_lists es (ints_at n) (floats_at n) (consts_at n) (map (constraint_of n) x.constraints.items)) (values_stay m.ty n.ty e.ty (values_of x.types.items) (bound_known m x l type_var))
+      ∙ ap (λ es. with_lists (types_at m) es (floats_at n) (consts_at n) (map (constraint_of n) x.constraints.items)) (values_stay m.ty n.ty e.ty (values_of x.ints.items) (bound_known m x l int_var))
+      ∙ ap (λ es. with_lists (types_at m) (ints_at m) es (consts_at n) (map (constraint_of n) x.constraints.items)) (values_stay m.ty n.ty e.ty (values_of x.floats.items) (bound_known m x l float_var))
+      ∙ ap₂ (with_lists (types_at m) (ints_at m) (floats_at m)) (values_stay m.const_ n.const_ e.const_ (values_of x.consts.items) (bound_known m x l const_var)) constraints_stay
 
-  key_grows : (vs : List (TypeVariable Key)) (i : ℕ) (k : ℕ) → i < length vs → get_or (map (λ v. m.ty v.key) vs) i nil ≡ leaf (variable type_var k) → get_or (map (λ v. n.ty v.key) vs) i nil ≡ leaf (variable type_var k)
-  key_grows [] i k p h = absurd (omega arith)
-  key_grows (v ∷ vs) zero k p h = e.ty v.key (subst (λ t. IsTrue (known t)) (sym h) refl) ∙ h
-  key_grows (v ∷ vs) (suc i) k p h = key_grows vs i k (omega arith) h
+  pub keys_grow : (k : VarKind) → keys_in n x k ≡ keys_in m x k
+  keys_grow type_var = keys_stay m.ty n.ty e.ty (keys_of x.types.items) (keys_known m x l type_var)
+  keys_grow int_var = keys_stay m.ty n.ty e.ty (keys_of x.ints.items) (keys_known m x l int_var)
+  keys_grow float_var = keys_stay m.ty n.ty e.ty (keys_of x.floats.items) (keys_known m x l float_var)
+  keys_grow const_var = keys_stay m.const_ n.const_ e.const_ (keys_of x.consts.items) (keys_known m x l const_var)
+  keys_grow region_var = refl
 
   pub lawful_grows : IsLawful n x
   lawful_grows = record {
     sound = subst IsSound (sym store_grows) l.sound;
-    keyed = λ i p. key_grows x.types.items i i p (l.keyed i p);
-    formed = λ i t h. l.formed i t (ap (λ st. entry_of st type_var i) (sym store_grows) ∙ h);
+    rooted = subst IsRooted (sym store_grows) l.rooted;
+    formed = subst IsFilled (sym store_grows) l.formed;
     first_universe = l.first_universe;
+    keyed = λ k. subst (λ ts. (i : ℕ) → i < length ts → get_or ts i nil ≡ leaf (variable k i)) (sym (keys_grow k)) (l.keyed k);
+    numbers = keys_stay m.ty n.ty e.ty x.numbers.items (numbers_known m x l) ∙ l.numbers;
   }
 
   pub term_grows : (t : Tree) → IsTermIn (store_of m x) t → IsTermIn (store_of n x) t

@@ -3,6 +3,7 @@ use Rattle.std.proofs.Common.{◌≡◌, ℕ, ◌<◌, ◌≤◌, refl, sym, ap,
 use Rattle.std.proofs.lemmas.List.{map-append, length-map, get_or_append_left}
 use Rattle.std.proofs.Math.Seq.{get_or-append_seam}
 use native.Mathlib.Decide.{ℕ_discrete}
+use Rattle.std.specs.Global.{Vec}
 use Rattle.relation_terms.specs.Heads.{VarKind, type_var, int_var, float_var, const_var, region_var, region_sort, Admits, var_sort, variable, bound, placeholder, atom, unknown}
 use Rattle.relation_terms.specs.Trees.{Tree, leaf, node, bind, nil, cons, IsTerm, Assign, apply}
 use Rattle.relation_terms.specs.Meaning.{Meaning, Extends}
@@ -13,160 +14,263 @@ use Rattle.type_relations.specs.Stores.{Store, unbound, entry_of, IsSound, IsAss
 use Rattle.type_relations.specs.Steps.{MakesVariable, AddsConstraint, IsLater}
 use Rattle.type_relations.specs.Measures.{Goes}
 use Rattle.type_relations.proofs.Standing.{made_of_term, stands_term, term_sort_of}
-use Rattle.type_relations.proofs.Growing.{entry_push, made_sound, made_is_later, constraint_sound, constraint_is_later, constraint_bound, constraint_weight}
+use Rattle.type_relations.proofs.Growing.{same_entries, made_sound, made_is_later, constraint_sound, constraint_is_later, constraint_bound, constraint_weight}
 use Rattle.type_relations.proofs.Going.{later_itself, goes_nowhere}
-use Rattle.relation_reference.specs.declared.context.inner.TypeVariableValue.TheVariants.{Unknown}
-use Rattle.relation_reference.specs.declared.context.inner.TypeVariable.{TypeVariable}
+use Rattle.relation_terms.specs.declared.terms.keys.TyKey.{TyKey}
+use Rattle.relation_terms.specs.declared.terms.keys.ConstKey.{ConstKey}
+use Rattle.relation_reference.specs.declared.context.inner.VariableValue.TheVariants.{Unknown}
+use Rattle.relation_reference.specs.declared.context.inner.Variable.{Variable}
 use Rattle.relation_reference.specs.declared.context.inner.InferCtxtInner.{InferCtxtInner}
-use Rattle.relation_reference.specs.Tables.{by_kind, entry_of_value, store_of, IsLawful}
+use Rattle.relation_reference.specs.Variables.{keys_of, values_of, universes_of, entry_of_value, entries_of, trees_of}
+use Rattle.relation_reference.specs.Tables.{by_kind, store_of, keys_in, IsRooted, IsFilled, IsLawful}
 use Rattle.type_relations.specs.Constraints.{constraint_of}
 use Rattle.relation_reference.proofs.Grows.{store_grows, lawful_grows}
+use Rattle.relation_reference.proofs.Beside.{Beside, types_beside, ints_beside, floats_beside, consts_beside, regions_beside, lawful_beside, keyed_still}
 
 -- Tables with the same lists.
 pub record SameTables {Key : Type 0} (x y : InferCtxtInner Key) : Type 0 where
   pub types : y.types.items ≡ x.types.items
+  pub ints : y.ints.items ≡ x.ints.items
+  pub floats : y.floats.items ≡ x.floats.items
+  pub consts : y.consts.items ≡ x.consts.items
   pub regions : y.regions.items ≡ x.regions.items
   pub constraints : y.constraints.items ≡ x.constraints.items
   pub universe : y.universe ≡ x.universe
   pub budget : y.budget ≡ x.budget
+  pub numbers : y.numbers.items ≡ x.numbers.items
 
 module _ {Key Id Name : Type 0} (m : Meaning Key Id Name) (x y : InferCtxtInner Key) (s : SameTables x y) where
-  of_lists : List (TypeVariable Key) → List UniverseIndex → List (RegionConstraint Key) → UniverseIndex → ℕ → Store
-  of_lists ts rs cs u b = record {
-    entries = by_kind (map (λ v. entry_of_value m v.value) ts) (map (λ u. unbound) rs) [];
-    universes = by_kind (map (λ v. (v.universe).0) ts) (map (λ u. u.0) rs) [];
+  of_variables : List (Variable (TyKey Key)) → List (Variable (TyKey Key)) → List (Variable (TyKey Key)) → List (Variable (ConstKey Key)) → List UniverseIndex → Store
+  of_variables ts is fs cs rs = record {
+    entries = by_kind (entries_of m.ty ts) (entries_of m.ty is) (entries_of m.ty fs) (entries_of m.const_ cs) (map (λ u. unbound) rs);
+    universes = by_kind (universes_of ts) (universes_of is) (universes_of fs) (universes_of cs) (map (λ u. u.0) rs);
+    universe = (x.universe).0;
+    constraints = map (constraint_of m) x.constraints.items;
+    tainted = false;
+    budget = x.budget;
+  }
+
+  of_rest : List (RegionConstraint Key) → UniverseIndex → ℕ → Store
+  of_rest qs u b = record {
+    entries = (store_of m y).entries;
+    universes = (store_of m y).universes;
     universe = u.0;
-    constraints = map (constraint_of m) cs;
+    constraints = map (constraint_of m) qs;
     tainted = false;
     budget = b;
   }
 
   pub same_store : store_of m y ≡ store_of m x
-  unfolding of_lists
-  same_store = ap (λ ts. of_lists ts y.regions.items y.constraints.items y.universe y.budget) s.types
-      ∙ ap (λ rs. of_lists x.types.items rs y.constraints.items y.universe y.budget) s.regions
-      ∙ ap (λ cs. of_lists x.types.items x.regions.items cs y.universe y.budget) s.constraints
-      ∙ ap₂ (λ u b. of_lists x.types.items x.regions.items x.constraints.items u b) s.universe s.budget
+  unfolding of_variables of_rest
+  same_store = ap (λ qs. of_rest qs y.universe y.budget) s.constraints ∙ ap₂ (of_rest x.constraints.items) s.universe s.budget
+      ∙ ap (λ ts. of_variables ts y.ints.items y.floats.items y.consts.items y.regions.items) s.types
+      ∙ ap (λ is. of_variables x.types.items is y.floats.items y.consts.items y.regions.items) s.ints
+      ∙ ap (λ fs. of_variables x.types.items x.ints.items fs y.consts.items y.regions.items) s.floats
+      ∙ ap₂ (of_variables x.types.items x.ints.items x.floats.items) s.consts s.regions
+
+  same_keys : (k : VarKind) → keys_in m y k ≡ keys_in m x k
+  same_keys type_var = ap (trees_of m.ty) s.types
+  same_keys int_var = ap (trees_of m.ty) s.ints
+  same_keys float_var = ap (trees_of m.ty) s.floats
+  same_keys const_var = ap (trees_of m.const_) s.consts
+  same_keys region_var = refl
 
   pub same_lawful : IsLawful m x → IsLawful m y
   same_lawful l = record {
     sound = subst IsSound (sym same_store) l.sound;
-    keyed = λ i h. ap (λ ts. get_or (map (λ v. m.ty v.key) ts) i nil) s.types ∙ l.keyed i (subst (λ ts. i < length ts) s.types h);
-    formed = λ i t h. l.formed i t (ap (λ st. entry_of st type_var i) (sym same_store) ∙ h);
+    rooted = subst IsRooted (sym same_store) l.rooted;
+    formed = subst IsFilled (sym same_store) l.formed;
     first_universe = ap (λ u. u.0) s.universe ∙ l.first_universe;
+    keyed = λ k. keyed_still m x y k (same_keys k) l;
+    numbers = ap (map m.ty) s.numbers ∙ l.numbers;
   }
 
 pub later_same : (old new : Store) → new ≡ old → IsLater old new
 later_same old new e = subst (λ st. IsLater old st) (sym e) (later_itself old)
 
--- A new type variable.
-module _ {Key Id Name : Type 0} {m n : Meaning Key Id Name} (e : Extends m n) (x y : InferCtxtInner Key) (l : IsLawful m x) (v : TypeVariable Key)
-    (types : y.types.items ≡ x.types.items ++ v ∷ []) (free : v.value ≡ Unknown) (universe_is : v.universe ≡ x.universe)
-    (key : n.ty v.key ≡ leaf (variable type_var (length x.types.items)))
-    (same_regions : y.regions.items ≡ x.regions.items) (constraints : y.constraints.items ≡ x.constraints.items)
-    (universe : y.universe ≡ x.universe) (budget : y.budget ≡ x.budget) where
-  grown_entries : map (λ w. entry_of_value n w.value) x.types.items ≡ (store_of m x).entries type_var
-  grown_entries = ap (λ st. st.entries type_var) (store_grows e x l)
+-- The entries, the universes and the keys of a table with one more variable.
+pub made_entries : {K : Type 0} (tree : K → Tree) (xs ys : List (Variable K)) (v : Variable K) → ys ≡ xs ++ v ∷ [] → v.value ≡ Unknown → entries_of tree ys ≡ entries_of tree xs ++ unbound ∷ []
+made_entries tree xs ys v e f = ap (entries_of tree) e ∙ ap (map (entry_of_value tree)) (map-append (λ w. w.value) xs (v ∷ [])) ∙ map-append (entry_of_value tree) (values_of xs) (v.value ∷ [])
+    ∙ ap (λ w. entries_of tree xs ++ entry_of_value tree w ∷ []) f
 
-  pub type_made : MakesVariable (store_of m x) (store_of n y) type_var (length x.types.items) ((x.universe).0)
-  type_made = record {
-    number = sym (length-map x.types.items (λ w. entry_of_value m w.value));
-    entries_grow = ap (map (λ w. entry_of_value n w.value)) types ∙ map-append (λ w. entry_of_value n w.value) x.types.items (v ∷ [])
-        ∙ ap₂ (λ es z. es ++ z ∷ []) grown_entries (ap (entry_of_value n) free);
-    universes_grow = ap (map (λ w. (w.universe).0)) types ∙ map-append (λ w. (w.universe).0) x.types.items (v ∷ [])
-        ∙ ap (λ u. map (λ w. (w.universe).0) x.types.items ++ u.0 ∷ []) universe_is;
-    other_entries = other_entries;
-    other_universes = other_universes;
-    same_constraints = ap (map (constraint_of n)) constraints ∙ ap (λ st. st.constraints) (store_grows e x l);
-    same_universe = ap (λ u. u.0) universe;
+pub made_universes : {K : Type 0} (xs ys : List (Variable K)) (v : Variable K) (u : UniverseIndex) → ys ≡ xs ++ v ∷ [] → v.universe ≡ u → universes_of ys ≡ universes_of xs ++ u.0 ∷ []
+made_universes xs ys v u e f = ap universes_of e ∙ map-append (λ w. (w.universe).0) xs (v ∷ []) ∙ ap (λ z. universes_of xs ++ z.0 ∷ []) f
+
+pub made_keys : {K : Type 0} (tree : K → Tree) (xs ys : List (Variable K)) (v : Variable K) (t : Tree) → ys ≡ xs ++ v ∷ [] → tree v.key ≡ t → trees_of tree ys ≡ trees_of tree xs ++ t ∷ []
+made_keys tree xs ys v t e f = ap (trees_of tree) e ∙ ap (map tree) (map-append (λ w. w.key) xs (v ∷ [])) ∙ map-append tree (keys_of xs) (v.key ∷ []) ∙ ap (λ z. trees_of tree xs ++ z ∷ []) f
+
+pub entries_long : {K : Type 0} (tree : K → Tree) (vs : List (Variable K)) → length (entries_of tree vs) ≡ length vs
+entries_long tree vs = length-map (values_of vs) (entry_of_value tree) ∙ length-map vs (λ v. v.value)
+
+pub keys_long : {K : Type 0} (tree : K → Tree) (vs : List (Variable K)) → length (trees_of tree vs) ≡ length vs
+keys_long tree vs = length-map (keys_of vs) tree ∙ length-map vs (λ v. v.key)
+
+keyed_one : (ts : List Tree) (k : VarKind) → ((i : ℕ) → i < length ts → get_or ts i nil ≡ leaf (variable k i)) → (i : ℕ) → i < length (ts ++ leaf (variable k (length ts)) ∷ []) → get_or (ts ++ leaf (variable k (length ts)) ∷ []) i nil ≡ leaf (variable k i)
+keyed_one ts k f i h = go (ℕ_discrete i (length ts))
+  where
+    go : Dec (i ≡ length ts) → get_or (ts ++ leaf (variable k (length ts)) ∷ []) i nil ≡ leaf (variable k i)
+    go (yes e) = subst (λ j. get_or (ts ++ leaf (variable k (length ts)) ∷ []) j nil ≡ leaf (variable k j)) (sym e) (get_or-append_seam ts (leaf (variable k (length ts))) [] nil)
+    go (no o) = let within : i < length ts = (let a = length-append ts (leaf (variable k (length ts)) ∷ []) in omega (arith, h, a, o)) in
+        get_or_append_left ts (leaf (variable k (length ts)) ∷ []) nil i within ∙ f i within
+
+-- A new variable of a kind. `y` has it, by what keys mean after its key was made.
+module _ {Key Id Name : Type 0} {m n : Meaning Key Id Name} (e : Extends m n) (x y : InferCtxtInner Key) (l : IsLawful m x) (k : VarKind) (number : ℕ) (b : Beside n x y k)
+    (numbered : number ≡ length ((store_of m x).entries k))
+    (entries : (store_of n y).entries k ≡ (store_of n x).entries k ++ unbound ∷ [])
+    (universes : (store_of n y).universes k ≡ (store_of n x).universes k ++ (x.universe).0 ∷ [])
+    (budget : (store_of n y).budget ≡ (store_of n x).budget) where
+  made_now : MakesVariable (store_of n x) (store_of n y) k number ((x.universe).0)
+  made_now = record {
+    number = numbered ∙ ap (λ st. length (st.entries k)) (sym (store_grows e x l));
+    entries_grow = entries;
+    universes_grow = universes;
+    other_entries = b.entries;
+    other_universes = b.universes;
+    same_constraints = b.constraints;
+    same_universe = b.universe;
     same_taint = refl;
     same_budget = budget;
   }
-    where
-      other_entries : (j : VarKind) → (j ≡ type_var → ⊥) → (store_of n y).entries j ≡ (store_of m x).entries j
-      other_entries type_var o = absurd (o refl)
-      other_entries region_var o = ap (map (λ u. unbound)) same_regions
-      other_entries int_var o = refl
-      other_entries float_var o = refl
-      other_entries const_var o = refl
 
-      other_universes : (j : VarKind) → (j ≡ type_var → ⊥) → (store_of n y).universes j ≡ (store_of m x).universes j
-      other_universes type_var o = absurd (o refl)
-      other_universes region_var o = ap (map (λ u. u.0)) same_regions
-      other_universes int_var o = refl
-      other_universes float_var o = refl
-      other_universes const_var o = refl
+  pub variable_made : MakesVariable (store_of m x) (store_of n y) k number ((x.universe).0)
+  variable_made = subst (λ st. MakesVariable st (store_of n y) k number ((x.universe).0)) (store_grows e x l) made_now
 
-  pub type_made_sound : IsSound (store_of n y)
-  type_made_sound = made_sound (store_of m x) (store_of n y) type_var (length x.types.items) ((x.universe).0) type_made l.sound (le_refl ((x.universe).0))
+  pub variable_later : IsLater (store_of m x) (store_of n y)
+  variable_later = made_is_later (store_of m x) (store_of n y) k number ((x.universe).0) variable_made l.sound
 
-  pub type_made_later : IsLater (store_of m x) (store_of n y)
-  type_made_later = made_is_later (store_of m x) (store_of n y) type_var (length x.types.items) ((x.universe).0) type_made l.sound
+  entry_still : (j : VarKind) (i : ℕ) → entry_of (store_of n y) j i ≡ entry_of (store_of m x) j i
+  entry_still = same_entries (store_of m x) (store_of n y) k number ((x.universe).0) variable_made
 
-  keys : map (λ w. n.ty w.key) y.types.items ≡ map (λ w. n.ty w.key) x.types.items ++ leaf (variable type_var (length x.types.items)) ∷ []
-  keys = ap (map (λ w. n.ty w.key)) types ∙ map-append (λ w. n.ty w.key) x.types.items (v ∷ []) ∙ ap (λ t. map (λ w. n.ty w.key) x.types.items ++ t ∷ []) key
+  -- `keyed` says that the key beside each variable of the kind is its own.
+  pub variable_lawful : ((i : ℕ) → i < length (keys_in n y k) → get_or (keys_in n y k) i nil ≡ leaf (variable k i)) → IsLawful n y
+  variable_lawful keyed = lawful_beside n x y k b keyed
+      (made_sound (store_of m x) (store_of n y) k number ((x.universe).0) variable_made l.sound (le_refl ((x.universe).0)))
+      (λ j i r p c d. l.rooted j i r p (sym (entry_still j i) ∙ c) (sym (entry_still j r) ∙ d))
+      (λ j i t h. l.formed j i t (sym (entry_still j i) ∙ h))
+      (lawful_grows e x l)
 
-  keyed : (i : ℕ) → i < length y.types.items → Dec (i ≡ length x.types.items) → get_or (map (λ w. n.ty w.key) y.types.items) i nil ≡ leaf (variable type_var i)
-  keyed i h (yes q) = ap (λ ts. get_or ts i nil) keys ∙ subst (λ j. get_or (map (λ w. n.ty w.key) x.types.items ++ leaf (variable type_var (length x.types.items)) ∷ []) j nil ≡ leaf (variable type_var i)) (length-map x.types.items (λ w. n.ty w.key) ∙ sym q)
-      (get_or-append_seam (map (λ w. n.ty w.key) x.types.items) _ [] nil ∙ ap (λ j. leaf (variable type_var j)) (sym q))
-  keyed i h (no o) = ap (λ ts. get_or ts i nil) keys ∙ get_or_append_left (map (λ w. n.ty w.key) x.types.items) _ nil i within ∙ (lawful_grows e x l).keyed i before
-    where
-      before : i < length x.types.items
-      before = let a = ap length types in let b = length-append x.types.items (v ∷ []) in omega (arith, h, a, b, o)
+  pub keyed_more : keys_in n y k ≡ keys_in n x k ++ leaf (variable k number) ∷ [] → number ≡ length (keys_in n x k) → (i : ℕ) → i < length (keys_in n y k) → get_or (keys_in n y k) i nil ≡ leaf (variable k i)
+  keyed_more keys long = subst (λ ts. (i : ℕ) → i < length ts → get_or ts i nil ≡ leaf (variable k i))
+      (sym (keys ∙ ap (λ z. keys_in n x k ++ leaf (variable k z) ∷ []) long)) (keyed_one (keys_in n x k) k ((lawful_grows e x l).keyed k))
 
-      within : i < length (map (λ w. n.ty w.key) x.types.items)
-      within = let c = length-map x.types.items (λ w. n.ty w.key) in omega (arith, before, c)
+-- A new variable in the table of `types`.
+module _ {Key Id Name : Type 0} {m n : Meaning Key Id Name} (e : Extends m n) (x : InferCtxtInner Key) (l : IsLawful m x) (ts : Vec (Variable (TyKey Key))) (v : Variable (TyKey Key))
+    (more : ts.items ≡ x.types.items ++ v ∷ []) (free : v.value ≡ Unknown) (universe_is : v.universe ≡ x.universe)
+    (key : n.ty v.key ≡ leaf (variable type_var (length x.types.items))) where
+  abbrev type_entries : (store_of n (record x { types = ts })).entries type_var ≡ (store_of n x).entries type_var ++ unbound ∷ []
+  type_entries = made_entries n.ty x.types.items ts.items v more free
 
-  pub type_made_lawful : IsLawful n y
-  type_made_lawful = record {
-    sound = type_made_sound;
-    keyed = λ i h. keyed i h (ℕ_discrete i (length x.types.items));
-    formed = λ i t h. l.formed i t (sym (ap (λ es. get_or es i unbound) type_made.entries_grow ∙ entry_push ((store_of m x).entries type_var) i) ∙ h);
-    first_universe = ap (λ u. u.0) universe ∙ l.first_universe;
-  }
+  abbrev type_universes : (store_of n (record x { types = ts })).universes type_var ≡ (store_of n x).universes type_var ++ (x.universe).0 ∷ []
+  type_universes = made_universes x.types.items ts.items v x.universe more universe_is
+
+  abbrev type_numbered : length x.types.items ≡ length ((store_of m x).entries type_var)
+  type_numbered = sym (entries_long m.ty x.types.items)
+
+  pub type_made : MakesVariable (store_of m x) (store_of n (record x { types = ts })) type_var (length x.types.items) ((x.universe).0)
+  type_made = variable_made e x (record x { types = ts }) l type_var (length x.types.items) (types_beside n x ts x.budget) type_numbered type_entries type_universes refl
+
+  pub type_made_later : IsLater (store_of m x) (store_of n (record x { types = ts }))
+  type_made_later = variable_later e x (record x { types = ts }) l type_var (length x.types.items) (types_beside n x ts x.budget) type_numbered type_entries type_universes refl
+
+  pub type_made_lawful : IsLawful n (record x { types = ts })
+  type_made_lawful =
+      let keyed = keyed_more e x (record x { types = ts }) l type_var (length x.types.items) (types_beside n x ts x.budget) type_numbered type_entries type_universes refl
+      (made_keys n.ty x.types.items ts.items v (leaf (variable type_var (length x.types.items))) more key) (sym (keys_long n.ty x.types.items)) in
+      variable_lawful e x (record x { types = ts }) l type_var (length x.types.items) (types_beside n x ts x.budget) type_numbered type_entries type_universes refl keyed
+
+-- A new variable in the table of `ints`.
+module _ {Key Id Name : Type 0} {m n : Meaning Key Id Name} (e : Extends m n) (x : InferCtxtInner Key) (l : IsLawful m x) (ts : Vec (Variable (TyKey Key))) (v : Variable (TyKey Key))
+    (more : ts.items ≡ x.ints.items ++ v ∷ []) (free : v.value ≡ Unknown) (universe_is : v.universe ≡ x.universe)
+    (key : n.ty v.key ≡ leaf (variable int_var (length x.ints.items))) where
+  abbrev int_entries : (store_of n (record x { ints = ts })).entries int_var ≡ (store_of n x).entries int_var ++ unbound ∷ []
+  int_entries = made_entries n.ty x.ints.items ts.items v more free
+
+  abbrev int_universes : (store_of n (record x { ints = ts })).universes int_var ≡ (store_of n x).universes int_var ++ (x.universe).0 ∷ []
+  int_universes = made_universes x.ints.items ts.items v x.universe more universe_is
+
+  abbrev int_numbered : length x.ints.items ≡ length ((store_of m x).entries int_var)
+  int_numbered = sym (entries_long m.ty x.ints.items)
+
+  pub int_made : MakesVariable (store_of m x) (store_of n (record x { ints = ts })) int_var (length x.ints.items) ((x.universe).0)
+  int_made = variable_made e x (record x { ints = ts }) l int_var (length x.ints.items) (ints_beside n x ts x.budget) int_numbered int_entries int_universes refl
+
+  pub int_made_later : IsLater (store_of m x) (store_of n (record x { ints = ts }))
+  int_made_later = variable_later e x (record x { ints = ts }) l int_var (length x.ints.items) (ints_beside n x ts x.budget) int_numbered int_entries int_universes refl
+
+  pub int_made_lawful : IsLawful n (record x { ints = ts })
+  int_made_lawful =
+      let keyed = keyed_more e x (record x { ints = ts }) l int_var (length x.ints.items) (ints_beside n x ts x.budget) int_numbered int_entries int_universes refl
+      (made_keys n.ty x.ints.items ts.items v (leaf (variable int_var (length x.ints.items))) more key) (sym (keys_long n.ty x.ints.items)) in
+      variable_lawful e x (record x { ints = ts }) l int_var (length x.ints.items) (ints_beside n x ts x.budget) int_numbered int_entries int_universes refl keyed
+
+-- A new variable in the table of `floats`.
+module _ {Key Id Name : Type 0} {m n : Meaning Key Id Name} (e : Extends m n) (x : InferCtxtInner Key) (l : IsLawful m x) (ts : Vec (Variable (TyKey Key))) (v : Variable (TyKey Key))
+    (more : ts.items ≡ x.floats.items ++ v ∷ []) (free : v.value ≡ Unknown) (universe_is : v.universe ≡ x.universe)
+    (key : n.ty v.key ≡ leaf (variable float_var (length x.floats.items))) where
+  abbrev float_entries : (store_of n (record x { floats = ts })).entries float_var ≡ (store_of n x).entries float_var ++ unbound ∷ []
+  float_entries = made_entries n.ty x.floats.items ts.items v more free
+
+  abbrev float_universes : (store_of n (record x { floats = ts })).universes float_var ≡ (store_of n x).universes float_var ++ (x.universe).0 ∷ []
+  float_universes = made_universes x.floats.items ts.items v x.universe more universe_is
+
+  abbrev float_numbered : length x.floats.items ≡ length ((store_of m x).entries float_var)
+  float_numbered = sym (entries_long m.ty x.floats.items)
+
+  pub float_made : MakesVariable (store_of m x) (store_of n (record x { floats = ts })) float_var (length x.floats.items) ((x.universe).0)
+  float_made = variable_made e x (record x { floats = ts }) l float_var (length x.floats.items) (floats_beside n x ts x.budget) float_numbered float_entries float_universes refl
+
+  pub float_made_later : IsLater (store_of m x) (store_of n (record x { floats = ts }))
+  float_made_later = variable_later e x (record x { floats = ts }) l float_var (length x.floats.items) (floats_beside n x ts x.budget) float_numbered float_entries float_universes refl
+
+  pub float_made_lawful : IsLawful n (record x { floats = ts })
+  float_made_lawful =
+      let keyed = keyed_more e x (record x { floats = ts }) l float_var (length x.floats.items) (floats_beside n x ts x.budget) float_numbered float_entries float_universes refl
+      (made_keys n.ty x.floats.items ts.items v (leaf (variable float_var (length x.floats.items))) more key) (sym (keys_long n.ty x.floats.items)) in
+      variable_lawful e x (record x { floats = ts }) l float_var (length x.floats.items) (floats_beside n x ts x.budget) float_numbered float_entries float_universes refl keyed
+
+-- A new variable in the table of `consts`.
+module _ {Key Id Name : Type 0} {m n : Meaning Key Id Name} (e : Extends m n) (x : InferCtxtInner Key) (l : IsLawful m x) (ts : Vec (Variable (ConstKey Key))) (v : Variable (ConstKey Key))
+    (more : ts.items ≡ x.consts.items ++ v ∷ []) (free : v.value ≡ Unknown) (universe_is : v.universe ≡ x.universe)
+    (key : n.const_ v.key ≡ leaf (variable const_var (length x.consts.items))) where
+  abbrev const_entries : (store_of n (record x { consts = ts })).entries const_var ≡ (store_of n x).entries const_var ++ unbound ∷ []
+  const_entries = made_entries n.const_ x.consts.items ts.items v more free
+
+  abbrev const_universes : (store_of n (record x { consts = ts })).universes const_var ≡ (store_of n x).universes const_var ++ (x.universe).0 ∷ []
+  const_universes = made_universes x.consts.items ts.items v x.universe more universe_is
+
+  abbrev const_numbered : length x.consts.items ≡ length ((store_of m x).entries const_var)
+  const_numbered = sym (entries_long m.const_ x.consts.items)
+
+  pub const_made : MakesVariable (store_of m x) (store_of n (record x { consts = ts })) const_var (length x.consts.items) ((x.universe).0)
+  const_made = variable_made e x (record x { consts = ts }) l const_var (length x.consts.items) (consts_beside n x ts x.budget) const_numbered const_entries const_universes refl
+
+  pub const_made_later : IsLater (store_of m x) (store_of n (record x { consts = ts }))
+  const_made_later = variable_later e x (record x { consts = ts }) l const_var (length x.consts.items) (consts_beside n x ts x.budget) const_numbered const_entries const_universes refl
+
+  pub const_made_lawful : IsLawful n (record x { consts = ts })
+  const_made_lawful =
+      let keyed = keyed_more e x (record x { consts = ts }) l const_var (length x.consts.items) (consts_beside n x ts x.budget) const_numbered const_entries const_universes refl
+      (made_keys n.const_ x.consts.items ts.items v (leaf (variable const_var (length x.consts.items))) more key) (sym (keys_long n.const_ x.consts.items)) in
+      variable_lawful e x (record x { consts = ts }) l const_var (length x.consts.items) (consts_beside n x ts x.budget) const_numbered const_entries const_universes refl keyed
 
 -- A new region variable.
-module _ {Key Id Name : Type 0} {m n : Meaning Key Id Name} (e : Extends m n) (x y : InferCtxtInner Key) (l : IsLawful m x)
-    (types : y.types.items ≡ x.types.items)
-    (more : y.regions.items ≡ x.regions.items ++ x.universe ∷ []) (constraints : y.constraints.items ≡ x.constraints.items)
-    (universe : y.universe ≡ x.universe) (budget : y.budget ≡ x.budget) where
-  pub region_made : MakesVariable (store_of m x) (store_of n y) region_var (length x.regions.items) ((x.universe).0)
-  region_made = record {
-    number = sym (length-map x.regions.items (λ u. unbound));
-    entries_grow = ap (map (λ u. unbound)) more ∙ map-append (λ u. unbound) x.regions.items (x.universe ∷ []);
-    universes_grow = ap (map (λ u. u.0)) more ∙ map-append (λ u. u.0) x.regions.items (x.universe ∷ []);
-    other_entries = other_entries;
-    other_universes = other_universes;
-    same_constraints = ap (map (constraint_of n)) constraints ∙ ap (λ st. st.constraints) (store_grows e x l);
-    same_universe = ap (λ u. u.0) universe;
-    same_taint = refl;
-    same_budget = budget;
-  }
-    where
-      other_entries : (j : VarKind) → (j ≡ region_var → ⊥) → (store_of n y).entries j ≡ (store_of m x).entries j
-      other_entries type_var o = ap (map (λ w. entry_of_value n w.value)) types ∙ ap (λ st. st.entries type_var) (store_grows e x l)
-      other_entries region_var o = absurd (o refl)
-      other_entries int_var o = refl
-      other_entries float_var o = refl
-      other_entries const_var o = refl
+module _ {Key Id Name : Type 0} {m n : Meaning Key Id Name} (e : Extends m n) (x : InferCtxtInner Key) (l : IsLawful m x) (rs : Vec UniverseIndex)
+    (more : rs.items ≡ x.regions.items ++ x.universe ∷ []) where
+  abbrev region_entries : (store_of n (record x { regions = rs })).entries region_var ≡ (store_of n x).entries region_var ++ unbound ∷ []
+  region_entries = ap (map (λ u. unbound)) more ∙ map-append (λ u. unbound) x.regions.items (x.universe ∷ [])
 
-      other_universes : (j : VarKind) → (j ≡ region_var → ⊥) → (store_of n y).universes j ≡ (store_of m x).universes j
-      other_universes type_var o = ap (map (λ w. (w.universe).0)) types
-      other_universes region_var o = absurd (o refl)
-      other_universes int_var o = refl
-      other_universes float_var o = refl
-      other_universes const_var o = refl
+  abbrev region_universes : (store_of n (record x { regions = rs })).universes region_var ≡ (store_of n x).universes region_var ++ (x.universe).0 ∷ []
+  region_universes = ap (map (λ u. u.0)) more ∙ map-append (λ u. u.0) x.regions.items (x.universe ∷ [])
 
-  pub region_made_later : IsLater (store_of m x) (store_of n y)
-  region_made_later = made_is_later (store_of m x) (store_of n y) region_var (length x.regions.items) ((x.universe).0) region_made l.sound
+  pub region_made : MakesVariable (store_of m x) (store_of n (record x { regions = rs })) region_var (length x.regions.items) ((x.universe).0)
+  region_made = variable_made e x (record x { regions = rs }) l region_var (length x.regions.items) (regions_beside n x rs x.budget) (sym (length-map x.regions.items (λ u. unbound))) region_entries region_universes refl
 
-  pub region_made_lawful : IsLawful n y
-  region_made_lawful = record {
-    sound = made_sound (store_of m x) (store_of n y) region_var (length x.regions.items) ((x.universe).0) region_made l.sound (le_refl ((x.universe).0));
-    keyed = λ i h. ap (λ ts. get_or (map (λ v. n.ty v.key) ts) i nil) types ∙ (lawful_grows e x l).keyed i (subst (λ ts. i < length ts) types h);
-    formed = λ i t h. l.formed i t (sym (ap (λ es. get_or es i unbound) (region_made.other_entries type_var (λ q. cc))) ∙ h);
-    first_universe = ap (λ u. u.0) universe ∙ l.first_universe;
-  }
+  pub region_made_later : IsLater (store_of m x) (store_of n (record x { regions = rs }))
+  region_made_later = variable_later e x (record x { regions = rs }) l region_var (length x.regions.items) (regions_beside n x rs x.budget) (sym (length-map x.regions.items (λ u. unbound))) region_entries region_universes refl
+
+  pub region_made_lawful : IsLawful n (record x { regions = rs })
+  region_made_lawful = variable_lawful e x (record x { regions = rs }) l region_var (length x.regions.items) (regions_beside n x rs x.budget) (sym (length-map x.regions.items (λ u. unbound))) region_entries region_universes refl
+      (λ i h. absurd (omega (arith, h)))
 
 -- The value of a region of the context is a region.
 region_kind_only : (k : VarKind) → Admits region_sort (var_sort k) → var_sort k ≡ region_sort
@@ -188,52 +292,40 @@ region_value st s nil a h i = absurd h
 region_value st s (cons t u) a h i = absurd h
 
 -- A new constraint.
-module _ {Key Id Name : Type 0} (m : Meaning Key Id Name) (x y : InferCtxtInner Key) (l : IsLawful m x) (r : RegionConstraint Key)
-    (is_in : ConstraintIn (store_of m x) (constraint_of m r))
-    (types : y.types.items ≡ x.types.items) (same_regions : y.regions.items ≡ x.regions.items)
-    (more : y.constraints.items ≡ x.constraints.items ++ r ∷ [])
-    (universe : y.universe ≡ x.universe) (budget : y.budget ≡ x.budget) where
+module _ {Key Id Name : Type 0} (m : Meaning Key Id Name) (x : InferCtxtInner Key) (l : IsLawful m x) (r : RegionConstraint Key)
+    (is_in : ConstraintIn (store_of m x) (constraint_of m r)) (qs : Vec (RegionConstraint Key)) (more : qs.items ≡ x.constraints.items ++ r ∷ []) where
   abbrev asked : Constraint
   asked = constraint_of m r
 
+  abbrev y : InferCtxtInner Key
+  y = record x { constraints = qs }
+
   pub constraint_added : AddsConstraint (store_of m x) (store_of m y) asked
   constraint_added = record {
-    same_entries = same_entries;
-    same_universes = same_universes;
+    same_entries = λ k. refl;
+    same_universes = λ k. refl;
     one_more = ap (map (constraint_of m)) more ∙ map-append (constraint_of m) x.constraints.items (r ∷ []);
-    same_universe = ap (λ u. u.0) universe;
+    same_universe = refl;
     same_taint = refl;
-    same_budget = budget;
+    same_budget = refl;
   }
-    where
-      same_entries : (k : VarKind) → (store_of m y).entries k ≡ (store_of m x).entries k
-      same_entries type_var = ap (map (λ w. entry_of_value m w.value)) types
-      same_entries region_var = ap (map (λ u. unbound)) same_regions
-      same_entries int_var = refl
-      same_entries float_var = refl
-      same_entries const_var = refl
-
-      same_universes : (k : VarKind) → (store_of m y).universes k ≡ (store_of m x).universes k
-      same_universes type_var = ap (map (λ w. (w.universe).0)) types
-      same_universes region_var = ap (map (λ u. u.0)) same_regions
-      same_universes int_var = refl
-      same_universes float_var = refl
-      same_universes const_var = refl
 
   pub constraint_lawful : IsLawful m y
   constraint_lawful = record {
     sound = constraint_sound (store_of m x) (store_of m y) asked constraint_added l.sound is_in;
-    keyed = λ i h. ap (λ ts. get_or (map (λ v. m.ty v.key) ts) i nil) types ∙ l.keyed i (subst (λ ts. i < length ts) types h);
-    formed = λ i t h. l.formed i t (sym (ap (λ es. get_or es i unbound) (constraint_added.same_entries type_var)) ∙ h);
-    first_universe = ap (λ u. u.0) universe ∙ l.first_universe;
+    rooted = l.rooted;
+    formed = l.formed;
+    first_universe = l.first_universe;
+    keyed = l.keyed;
+    numbers = l.numbers;
   }
 
   pub constraint_goes : Goes 0 (store_of m x) (store_of m y)
   constraint_goes = record {
     later = constraint_is_later (store_of m x) (store_of m y) asked constraint_added;
-    no_number_made = λ k h. ap length (constraint_added.same_entries k);
+    no_number_made = λ k h. refl;
     spent = 0;
-    counts = omega (arith, budget);
+    counts = omega arith;
     binds = let e = constraint_bound (store_of m x) (store_of m y) asked constraint_added in omega (arith, e);
     grows = λ k t above below. subst (λ z. z ≤ k) (constraint_weight (store_of m x) (store_of m y) asked constraint_added t) below;
   }

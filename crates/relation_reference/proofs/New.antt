@@ -1,32 +1,45 @@
 -- A context that has recorded nothing.
-use Rattle.std.proofs.Common.{◌≡◌, refl, ap, arith, [], length, map, get_or}
-use Rattle.relation_terms.specs.Heads.{VarKind, type_var, int_var, float_var, const_var, region_var}
+use Rattle.std.proofs.Common.{◌≡◌, ℕ, ◌<◌, refl, ap, arith, [], length, map, get_or}
+use Rattle.relation_terms.specs.Heads.{VarKind, type_var, int_var, float_var, const_var, region_var, variable}
+use Rattle.relation_terms.specs.Trees.{leaf, nil}
 use Rattle.relation_terms.specs.Meaning.{Meaning}
-use Rattle.type_relations.specs.Stores.{unbound}
+use Rattle.type_relations.specs.Stores.{unbound, entry_of, same_as}
+use Rattle.type_relations.specs.Constraints.{constraint_of}
 use Rattle.type_relations.proofs.Empty.{empty_sound}
 use Rattle.relation_reference.specs.declared.context.inner.InferCtxtInner.{InferCtxtInner}
-use Rattle.relation_reference.specs.Tables.{store_of, IsLawful}
-use Rattle.type_relations.specs.Constraints.{constraint_of}
+use Rattle.relation_reference.specs.Variables.{entries_of, universes_of, trees_of}
+use Rattle.relation_reference.specs.Numbers.{number_trees}
+use Rattle.relation_reference.specs.Tables.{store_of, keys_in, IsLawful}
+use Rattle.relation_reference.specs.RefCtxt.{IsNew}
 
-module _ {Key Id Name : Type 0} (m : Meaning Key Id Name) (x : InferCtxtInner Key) (types : x.types.items ≡ []) (regions : x.regions.items ≡ []) (constraints : x.constraints.items ≡ []) where
+module _ {Key Id Name : Type 0} (m : Meaning Key Id Name) (x : InferCtxtInner Key) (n : IsNew x) where
   entries : (k : VarKind) → (store_of m x).entries k ≡ []
-  entries type_var = ap (map _) types
-  entries region_var = ap (map _) regions
-  entries int_var = refl
-  entries float_var = refl
-  entries const_var = refl
+  entries type_var = ap (entries_of m.ty) n.types
+  entries int_var = ap (entries_of m.ty) n.ints
+  entries float_var = ap (entries_of m.ty) n.floats
+  entries const_var = ap (entries_of m.const_) n.consts
+  entries region_var = ap (map (λ u. unbound)) n.regions
 
   universes : (k : VarKind) → (store_of m x).universes k ≡ []
-  universes type_var = ap (map _) types
-  universes region_var = ap (map _) regions
-  universes int_var = refl
-  universes float_var = refl
-  universes const_var = refl
+  universes type_var = ap universes_of n.types
+  universes int_var = ap universes_of n.ints
+  universes float_var = ap universes_of n.floats
+  universes const_var = ap universes_of n.consts
+  universes region_var = ap (map (λ u. u.0)) n.regions
 
-  pub new_lawful : (x.universe).0 ≡ 0 → IsLawful m x
-  new_lawful first = record {
-    sound = empty_sound (store_of m x) entries universes (ap (map (constraint_of m)) constraints);
-    keyed = λ n h. absurd (let e = ap length types in omega (arith, h, e));
-    formed = λ n t h. absurd (let e = ap (λ es. get_or es n unbound) (entries type_var) in cc (e, h));
+  keys : (k : VarKind) → keys_in m x k ≡ []
+  keys type_var = ap (trees_of m.ty) n.types
+  keys int_var = ap (trees_of m.ty) n.ints
+  keys float_var = ap (trees_of m.ty) n.floats
+  keys const_var = ap (trees_of m.const_) n.consts
+  keys region_var = refl
+
+  pub new_lawful : (x.universe).0 ≡ 0 → map m.ty x.numbers.items ≡ number_trees → IsLawful m x
+  new_lawful first numbers = record {
+    sound = empty_sound (store_of m x) entries universes (ap (map (constraint_of m)) n.constraints);
+    rooted = λ k i r p h. absurd (let e = ap (λ es. get_or es i unbound) (entries k) in cc (e, h));
+    formed = λ k i t h. absurd (let e = ap (λ es. get_or es i unbound) (entries k) in cc (e, h));
     first_universe = first;
+    keyed = λ k i h. absurd (let e = ap length (keys k) in omega (arith, h, e));
+    numbers = numbers;
   }

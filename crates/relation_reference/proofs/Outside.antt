@@ -1,6 +1,6 @@
 -- What stands in a term outside the aliases in it, and in its parts.
 use Rattle.std.proofs.Common.{ℕ, zero, suc, ◌<◌, inl, inr, arith, refl, ◌≡◌}
-use Rattle.relation_terms.specs.Heads.{Leaf, VarKind, variable, alias, type_var, no_sort}
+use Rattle.relation_terms.specs.Heads.{Leaf, VarKind, variable, alias, no_sort}
 use Rattle.relation_terms.specs.Trees.{Tree, leaf, node, bind, nil, cons, Occurs, count, nth, size, IsList}
 use Rattle.relation_terms.specs.Parts.{parts_of, tree_sort}
 use Rattle.relation_terms.proofs.Members.{member_small, parts_small}
@@ -26,14 +26,14 @@ outside_nth l (bind ks t) i h o = absurd (omega (arith, h))
 outside_nth l nil i h o = absurd (omega (arith, h))
 
 -- A variable that stands in no part of a term, and is not the term, does not stand in it.
-pub occurs_nowhere : (n : ℕ) (t : Tree) → (t ≡ leaf (variable type_var n) → ⊥) → (tree_sort t ≡ no_sort → ⊥) →
-    IsList (parts_of t) → ((i : ℕ) → i < count (parts_of t) → Occurs type_var n (nth i (parts_of t)) → ⊥) →
-    Occurs type_var n t → ⊥
-occurs_nowhere n (leaf l) v s p h o = v o
-occurs_nowhere n (node g ts) v s p h o = nowhere type_var n ts p h o
-occurs_nowhere n (bind ks t) v s p h o = h 0 (omega arith) o
-occurs_nowhere n nil v s p h o = s refl
-occurs_nowhere n (cons t ts) v s p h o = s refl
+pub occurs_nowhere : (k : VarKind) (n : ℕ) (t : Tree) → (t ≡ leaf (variable k n) → ⊥) → (tree_sort t ≡ no_sort → ⊥) →
+    IsList (parts_of t) → ((i : ℕ) → i < count (parts_of t) → Occurs k n (nth i (parts_of t)) → ⊥) →
+    Occurs k n t → ⊥
+occurs_nowhere k n (leaf l) v s p h o = v o
+occurs_nowhere k n (node g ts) v s p h o = nowhere k n ts p h o
+occurs_nowhere k n (bind ks t) v s p h o = h 0 (omega arith) o
+occurs_nowhere k n nil v s p h o = s refl
+occurs_nowhere k n (cons t ts) v s p h o = s refl
 
 -- A part is smaller than the term.
 pub part_smaller : (t : Tree) (i : ℕ) → i < count (parts_of t) → size (nth i (parts_of t)) < size t

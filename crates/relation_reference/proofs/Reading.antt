@@ -1,67 +1,147 @@
 -- Reading the tables.
-use Rattle.std.proofs.Common.{◌≡◌, ℕ, ◌<◌, IsTrue, Option, Some, None, IfSome, IfNone, refl, sym, ap, ◌∙◌, subst, length, get_or}
+use Rattle.std.proofs.Common.{◌≡◌, ℕ, ◌<◌, IsTrue, Option, Some, None, IfSome, IfNone, refl, sym, ap, ◌∙◌, subst, List, length, get_or, map}
 use Rattle.std.proofs.lemmas.List.{get_or-map, length-map}
-use Rattle.relation_terms.specs.Heads.{VarKind, type_var, int_var, float_var, const_var, region_var, variable, type_sort}
+use Rattle.std.proofs.Math.ListN.{get_or-map as at_map}
+use Rattle.relation_terms.specs.Heads.{VarKind, type_var, int_var, float_var, const_var, region_var, variable, type_sort, const_sort}
 use Rattle.relation_terms.specs.Trees.{Tree, leaf, nil, known, IsTerm}
-use Rattle.relation_terms.specs.Meaning.{Meaning, kind_tree, infer_tree}
+use Rattle.relation_terms.specs.Meaning.{Meaning, kind_tree, infer_tree, const_tree, infer_const_tree}
 use Rattle.relation_terms.specs.declared.terms.ty_kind.TyKind.{TyKind}
 use Rattle.relation_terms.specs.declared.terms.ty_kind.TyKind.TheVariants.{Infer, Bound as TyBound}
 use Rattle.relation_terms.specs.declared.terms.ty_kind.InferTy.{InferTy}
 use Rattle.relation_terms.specs.declared.terms.ty_kind.InferTy.TheVariants.{TyVar, IntVar, FloatVar, FreshTy, FreshIntTy, FreshFloatTy}
+use Rattle.relation_terms.specs.declared.terms.const_kind.ConstKind.{ConstKind}
+use Rattle.relation_terms.specs.declared.terms.const_kind.ConstKind.TheVariants.{Infer as ConstInfer}
+use Rattle.relation_terms.specs.declared.terms.const_kind.InferConst.{InferConst}
+use Rattle.relation_terms.specs.declared.terms.const_kind.InferConst.TheVariants.{Var, Fresh}
 use Rattle.relation_terms.specs.declared.terms.numbers.TyVid.{TyVid}
-use Rattle.type_relations.specs.Stores.{Store, unbound, same_as, bound_to, entry_of, entry_term, bound_term, IsMade, IsSound, IsTermIn, InContext}
-use Rattle.type_relations.specs.Errors.{IsReadAs, itself, by_class, by_binding}
-use Rattle.type_relations.proofs.Standing.{made_of_term, term_of_made, term_context}
-use Rattle.type_relations.proofs.Classes.{class_made}
-use Rattle.type_relations.proofs.ReadAs.{read_bound}
-use Rattle.relation_reference.specs.declared.context.inner.TypeVariable.{TypeVariable}
-use Rattle.relation_reference.specs.declared.context.inner.InferCtxtInner.{InferCtxtInner}
-use Rattle.relation_reference.specs.Tables.{store_of, IsLawful}
+use Rattle.relation_terms.specs.declared.terms.numbers.IntVid.{IntVid}
+use Rattle.relation_terms.specs.declared.terms.numbers.FloatVid.{FloatVid}
+use Rattle.relation_terms.specs.declared.terms.numbers.ConstVid.{ConstVid}
+use Rattle.type_relations.specs.Stores.{Store, unbound, same_as, bound_to, entry_of, entry_term, IsMade, IsSound, InContext}
 use Rattle.type_relations.specs.Steps.{LeadsTo, here, next}
+use Rattle.type_relations.specs.Errors.{IsReadAs, itself, by_class, by_binding}
 use Rattle.type_relations.specs.Covered.{IsCovered}
-use Rattle.type_relations.specs.Parts.{IsFormed}
-use Rattle.relation_reference.proofs.Covering.{covered_formed}
-use Rattle.relation_reference.specs.Answers.{IsShallow, root, stays_bound, formed}
-
--- What a variable leads to is what it is read as.
-leads_read : (st : Store) (n m : ℕ) (t : Tree) → LeadsTo st type_var n m → IsReadAs st (leaf (variable type_var m)) t → IsReadAs st (leaf (variable type_var n)) t
-leads_read st n m t l r = by_class type_var n m refl (m, l, here refl) r
-
-pub leads_on : (st : Store) (n m p : ℕ) → LeadsTo st type_var n m → entry_of st type_var m ≡ same_as p → LeadsTo st type_var n p
-leads_on st n m p (here e) q = next (ap (entry_of st type_var) e ∙ q) (here refl)
-leads_on st n m p (next {p = r} e l) q = next e (leads_on st r m p l q)
+use Rattle.type_relations.specs.Parts.{IsFormed, IsFormedConst}
+use Rattle.type_relations.proofs.Standing.{made_of_term, term_context}
+use Rattle.type_relations.proofs.Classes.{class_made}
+use Rattle.relation_reference.specs.declared.context.inner.Variable.{Variable}
+use Rattle.relation_reference.specs.declared.context.inner.VariableValue.{VariableValue}
+use Rattle.relation_reference.specs.declared.context.inner.VariableValue.TheVariants.{Unknown, SameAs, Known}
+use Rattle.relation_reference.specs.declared.context.inner.InferCtxtInner.{InferCtxtInner}
+use Rattle.relation_reference.specs.declared.context.memory.TermVid.{TermVid}
+use Rattle.relation_reference.specs.declared.context.memory.TermVid.TheVariants.{Ty as TyTerm, Const as ConstTerm}
+use Rattle.relation_reference.specs.Remembering.{vid_kind, vid_number}
+use Rattle.relation_reference.specs.Variables.{value_at, root_by, root_at, term_by, term_at, entry_of_value, entries_of, trees_of, keys_of}
+use Rattle.relation_reference.specs.Tables.{store_of, keys_in, MayBeBoundTo, IsRooted, IsLawful}
+use Rattle.relation_reference.specs.Answers.{IsRoot, IsShallow, root, stays_bound, formed, IsShallowTy, ty_root, no_ty_variable, IsShallowConst, const_root, no_variable, HasBinding, HasNoBinding}
+use Rattle.relation_reference.proofs.Grows.{entry_at, bound_known}
+use Rattle.relation_reference.proofs.Covering.{covered_formed_const, may_covered}
 
 -- The other is a variable of the context.
-pub leads_made : (st : Store) → IsSound st → (n p : ℕ) → entry_of st type_var n ≡ same_as p → IsMade st type_var p
-leads_made st g n p e = made_of_term st type_var p (g.bindings type_var n (leaf (variable type_var p)) (ap (entry_term type_var) e)).is_in
+pub leads_made : (st : Store) → IsSound st → (k : VarKind) (n p : ℕ) → entry_of st k n ≡ same_as p → IsMade st k p
+leads_made st g k n p e = made_of_term st k p (g.bindings k n (leaf (variable k p)) (ap (entry_term k) e)).is_in
 
--- A context binds type variables alone.
-pub other_free : {Key Id Name : Type 0} (m : Meaning Key Id Name) (x : InferCtxtInner Key) → IsSound (store_of m x) →
-    (k : VarKind) (n : ℕ) → (k ≡ type_var → ⊥) → bound_term (store_of m x) k n ≡ None
-other_free m x g type_var n h = absurd (h refl)
-other_free m x g int_var n h = refl
-other_free m x g float_var n h = refl
-other_free m x g const_var n h = refl
-other_free m x g region_var n h = ap (entry_term region_var) (g.regions_unbound n)
+-- What is found for a variable: its root, where that has no term, or the term that the root is bound to.
+pub data Found (st : Store) (k : VarKind) (n : ℕ) (u : Tree) : Type 0 where
+  found_root : (r : ℕ) → LeadsTo st k n r → entry_of st k r ≡ unbound → u ≡ leaf (variable k r) → Found st k n u
+  found_term : (r : ℕ) → LeadsTo st k n r → entry_of st k r ≡ bound_to u → Found st k n u
 
--- A form that is no type variable stays as it is.
-infer_shallow : (st : Store) → ((k : VarKind) (n : ℕ) → (k ≡ type_var → ⊥) → bound_term st k n ≡ None) → (i : InferTy) →
-    ((v : TyVid) → i ≡ TyVar v → ⊥) → IsShallow st (infer_tree i)
-infer_shallow st free (TyVar v) h = absurd (h v refl)
-infer_shallow st free (IntVar v) h = root int_var v.0 refl (free int_var v.0 (λ e. cc))
-infer_shallow st free (FloatVar v) h = root float_var v.0 refl (free float_var v.0 (λ e. cc))
-infer_shallow st free (FreshTy n) h = formed refl
-infer_shallow st free (FreshIntTy n) h = formed refl
-infer_shallow st free (FreshFloatTy n) h = formed refl
+keys_reach : {K : Type 0} (vs : List (Variable K)) (n : ℕ) → n < length vs → n < length (keys_of vs)
+keys_reach vs n h = subst (λ z. n < z) (sym (length-map vs (λ v. v.key))) h
 
-pub kind_shallow : {Key Id Name : Type 0} (m : Meaning Key Id Name) (st : Store) →
-    ((k : VarKind) (n : ℕ) → (k ≡ type_var → ⊥) → bound_term st k n ≡ None) → (k : TyKind Key Id Name) →
-    ((v : TyVid) → k ≡ Infer (TyVar v) → ⊥) → IsShallow st (kind_tree m k)
-kind_shallow m st free (Infer i) h = infer_shallow st free i (λ v e. h v (ap Infer e))
-kind_shallow m st free (TyBound d b) h = stays_bound _ _ _ refl
-kind_shallow m st free k h = formed refl
+trees_reach : {K : Type 0} (tree : K → Tree) (vs : List (Variable K)) (n : ℕ) → n < length vs → n < length (trees_of tree vs)
+trees_reach tree vs n h = subst (λ z. n < z) (sym (length-map (keys_of vs) tree)) (keys_reach vs n h)
 
--- A type variable is the form of none but a type variable.
+-- A table of a store.
+module _ {K : Type 0} (tree : K → Tree) (vs : List (Variable K)) (st : Store) (k : VarKind) (is : st.entries k ≡ entries_of tree vs) where
+  pub entry_is : (n : ℕ) → entry_of st k n ≡ entry_of_value tree (value_at vs n)
+  entry_is n = ap (λ es. get_or es n unbound) is ∙ entry_at tree vs n
+
+  leads_by : (n : ℕ) (v : VariableValue K) → entry_of st k n ≡ entry_of_value tree v → LeadsTo st k n (root_by n v)
+  leads_by n Unknown e = here refl
+  leads_by n (SameAs r) e = next e (here refl)
+  leads_by n (Known t) e = here refl
+
+  pub root_leads : (n : ℕ) → LeadsTo st k n (root_at vs n)
+  root_leads n = leads_by n (value_at vs n) (entry_is n)
+
+  stands_by : IsRooted st → (n : ℕ) (v : VariableValue K) → entry_of st k n ≡ entry_of_value tree v → IsRoot st k (root_by n v)
+  stands_by rooted n Unknown e = λ p q. cc (e, q)
+  stands_by rooted n (SameAs r) e = λ p q. rooted k n r p e q
+  stands_by rooted n (Known t) e = λ p q. cc (e, q)
+
+  pub root_stands : IsRooted st → (n : ℕ) → IsRoot st k (root_at vs n)
+  root_stands rooted n = stands_by rooted n (value_at vs n) (entry_is n)
+
+  made_by : IsSound st → (n : ℕ) → IsMade st k n → (v : VariableValue K) → entry_of st k n ≡ entry_of_value tree v → IsMade st k (root_by n v)
+  made_by g n h Unknown e = h
+  made_by g n h (SameAs r) e = leads_made st g k n r e
+  made_by g n h (Known t) e = h
+
+  pub root_made : IsSound st → (n : ℕ) → IsMade st k n → IsMade st k (root_at vs n)
+  root_made g n h = made_by g n h (value_at vs n) (entry_is n)
+
+  found_by : (n r : ℕ) (key x : K) (v : VariableValue K) → x ≡ term_by key v → entry_of st k r ≡ entry_of_value tree v → tree key ≡ leaf (variable k r) → LeadsTo st k n r → IsRoot st k r → Found st k n (tree x)
+  found_by n r key x Unknown q e t l o = found_root r l e (ap tree q ∙ t)
+  found_by n r key x (SameAs p) q e t l o = absurd (o p e)
+  found_by n r key x (Known u) q e t l o = found_term r l (e ∙ ap (λ z. bound_to (tree z)) (sym q))
+
+  pub found : IsRooted st → ((i : ℕ) → i < length (trees_of tree vs) → get_or (trees_of tree vs) i nil ≡ leaf (variable k i)) → (n : ℕ) → root_at vs n < length vs → (x : K) →
+      ((d : Variable K) → x ≡ term_at (get_or vs (root_at vs n) d)) → Found st k n (tree x)
+  found rooted keyed n h x f =
+      let d : Variable K = record { key = x; value = Unknown; universe = record { 0 = 0 } } in
+      let r = root_at vs n in
+      let w = get_or vs r d in
+      found_by n r w.key x w.value (f d) (entry_is r ∙ ap (entry_of_value tree) (at_map (λ v. v.value) vs r d))
+      (sym (get_or-map tree (keys_of vs) r w.key nil (keys_reach vs r h) ∙ ap tree (get_or-map (λ v. v.key) vs r d w.key h)) ∙ keyed r (trees_reach tree vs r h))
+      (root_leads n) (root_stands rooted n)
+
+-- What is found for a variable of a lawful context.
+module _ {Key Id Name : Type 0} (m : Meaning Key Id Name) (x : InferCtxtInner Key) (l : IsLawful m x) (k : VarKind) (n : ℕ) (u : Tree) where
+  abbrev st : Store
+  st = store_of m x
+
+  pub found_known : Found st k n u → IsTrue (known u)
+  found_known (found_root r d e q) = subst (λ t. IsTrue (known t)) (sym q) refl
+  found_known (found_term r d e) = bound_known m x l k r u e
+
+  pub found_read : Found st k n u → IsReadAs st (leaf (variable k n)) u
+  found_read (found_root r d e q) = by_class k n r refl (r, d, here refl) (itself (sym q))
+  found_read (found_term r d e) = by_class k n r refl (r, d, here refl) (by_binding k r refl e (itself refl))
+
+  pub found_covered : Found st k n u → IsCovered u
+  found_covered (found_root r d e q) = subst IsCovered (sym q) tt
+  found_covered (found_term r d e) = may_covered k u (l.formed k r u e)
+
+  pub found_shallow : (MayBeBoundTo k u → IsFormed u) → Found st k n u → IsShallow st u
+  found_shallow f (found_root r d e q) = root k r q (ap (entry_term k) e)
+  found_shallow f (found_term r d e) = formed (f (l.formed k r u e))
+
+pub found_ty_shallow : {Key Id Name : Type 0} (m : Meaning Key Id Name) (x : InferCtxtInner Key) → IsLawful m x → (n : ℕ) (u : Tree) → Found (store_of m x) type_var n u → IsShallowTy (store_of m x) u
+found_ty_shallow m x l n u (found_root r d e q) = ty_root r q (ap (entry_term type_var) e)
+found_ty_shallow m x l n u (found_term r d e) = no_ty_variable (l.formed type_var r u e).0
+
+pub found_const_shallow : {Key Id Name : Type 0} (m : Meaning Key Id Name) (x : InferCtxtInner Key) → IsLawful m x → (n : ℕ) (u : Tree) → Found (store_of m x) const_var n u → IsShallowConst (store_of m x) u
+found_const_shallow m x l n u (found_root r d e q) = const_root r q (ap (entry_term const_var) e)
+found_const_shallow m x l n u (found_term r d e) = no_variable (λ k i q. subst IsFormedConst q (l.formed const_var r u e).0)
+
+-- A type that is no integer or float variable, nor a type variable that has a term, stays as it is.
+infer_shallow : (st : Store) (i : InferTy) → IsShallowTy st (infer_tree i) → ((v : IntVid) → i ≡ IntVar v → ⊥) → ((v : FloatVid) → i ≡ FloatVar v → ⊥) → IsShallow st (infer_tree i)
+infer_shallow st (TyVar v) (ty_root n q f) b c = root type_var n q f
+infer_shallow st (TyVar v) (no_ty_variable o) b c = absurd (o v.0 refl)
+infer_shallow st (IntVar v) a b c = absurd (b v refl)
+infer_shallow st (FloatVar v) a b c = absurd (c v refl)
+infer_shallow st (FreshTy n) a b c = formed refl
+infer_shallow st (FreshIntTy n) a b c = formed refl
+infer_shallow st (FreshFloatTy n) a b c = formed refl
+
+pub kind_shallow : {Key Id Name : Type 0} (m : Meaning Key Id Name) (st : Store) (k : TyKind Key Id Name) →
+    IsShallowTy st (kind_tree m k) → ((v : IntVid) → k ≡ Infer (IntVar v) → ⊥) → ((v : FloatVid) → k ≡ Infer (FloatVar v) → ⊥) → IsShallow st (kind_tree m k)
+kind_shallow m st (Infer i) a b c = infer_shallow st i a (λ v e. b v (ap Infer e)) (λ v e. c v (ap Infer e))
+kind_shallow m st (TyBound d b) a e c = stays_bound _ _ _ refl
+kind_shallow m st k a b c = formed refl
+
+-- A type variable is the form of none but a type variable, and a type is no variable of a constant.
 infer_variable : (i : InferTy) (n : ℕ) → ((v : TyVid) → i ≡ TyVar v → ⊥) → infer_tree i ≡ leaf (variable type_var n) → ⊥
 infer_variable (TyVar v) n h e = h v refl
 infer_variable (IntVar v) n h e = cc
@@ -70,38 +150,72 @@ infer_variable (FreshTy k) n h e = cc
 infer_variable (FreshIntTy k) n h e = cc
 infer_variable (FreshFloatTy k) n h e = cc
 
+infer_no_const : (i : InferTy) (n : ℕ) → infer_tree i ≡ leaf (variable const_var n) → ⊥
+infer_no_const (TyVar v) n e = cc
+infer_no_const (IntVar v) n e = cc
+infer_no_const (FloatVar v) n e = cc
+infer_no_const (FreshTy k) n e = cc
+infer_no_const (FreshIntTy k) n e = cc
+infer_no_const (FreshFloatTy k) n e = cc
+
 pub kind_variable : {Key Id Name : Type 0} (m : Meaning Key Id Name) (k : TyKind Key Id Name) (n : ℕ) →
     ((v : TyVid) → k ≡ Infer (TyVar v) → ⊥) → kind_tree m k ≡ leaf (variable type_var n) → ⊥
 kind_variable m (Infer i) n h e = infer_variable i n (λ v q. h v (ap Infer q)) e
 kind_variable m k n h e = cc
 
--- What a term is by whether its form is a type variable.
+kind_no_const : {Key Id Name : Type 0} (m : Meaning Key Id Name) (k : TyKind Key Id Name) (n : ℕ) → kind_tree m k ≡ leaf (variable const_var n) → ⊥
+kind_no_const m (Infer i) n e = infer_no_const i n e
+kind_no_const m k n e = cc
+
+-- A variable is the form of no constant but a constant variable.
+infer_const_variable : (i : InferConst) (j : VarKind) (n : ℕ) → ((v : ConstVid) → i ≡ Var v → ⊥) → infer_const_tree i ≡ leaf (variable j n) → ⊥
+infer_const_variable (Var v) j n h e = h v refl
+infer_const_variable (Fresh k) j n h e = cc
+
+const_no_variable : {Key Id Name : Type 0} (m : Meaning Key Id Name) (k : ConstKind Key Id Name) (j : VarKind) (n : ℕ) →
+    ((v : ConstVid) → k ≡ ConstInfer (Var v) → ⊥) → const_tree m k ≡ leaf (variable j n) → ⊥
+const_no_variable m (ConstInfer i) j n h e = infer_const_variable i j n (λ v q. h v (ap ConstInfer q)) e
+const_no_variable m k j n h e = cc
+
+-- What a type is by whether its form is a type variable.
 module _ {Key Id Name : Type 0} (m : Meaning Key Id Name) (k : TyKind Key Id Name) (t : Tree) (e : t ≡ kind_tree m k) where
   pub some_variable : (o : Option TyVid) → IfSome o (λ v. k ≡ Infer (TyVar v)) →
       IfSome o (λ v. t ≡ leaf (variable type_var v.0))
   some_variable (Some v) h = e ∙ ap (kind_tree m) h
   some_variable None h = h
 
-  pub no_variable : (o : Option TyVid) → IfNone o ((v : TyVid) → k ≡ Infer (TyVar v) → ⊥) →
+  pub no_type_variable : (o : Option TyVid) → IfNone o ((v : TyVid) → k ≡ Infer (TyVar v) → ⊥) →
       IfNone o ((n : ℕ) → t ≡ leaf (variable type_var n) → ⊥)
-  no_variable (Some v) h = h
-  no_variable None h = λ n q. kind_variable m k n h (sym e ∙ q)
+  no_type_variable (Some v) h = h
+  no_type_variable None h = λ n q. kind_variable m k n h (sym e ∙ q)
 
-  pub no_variable_formed : IsTerm type_sort t → IsCovered t → (o : Option TyVid) →
-      IfNone o ((v : TyVid) → k ≡ Infer (TyVar v) → ⊥) → IfNone o (IsFormed t)
-  no_variable_formed s c (Some v) h = h
-  no_variable_formed s c None h = covered_formed t s c (λ n q. kind_variable m k n h (sym e ∙ q))
+  pub type_shallow : (st : Store) → ((v : TyVid) → k ≡ Infer (TyVar v) → ⊥) → IsShallowTy st t
+  type_shallow st h = no_ty_variable (λ n q. kind_variable m k n h (sym e ∙ q))
 
--- The number of type variables.
-pub made_of_table : {Key Id Name : Type 0} (m : Meaning Key Id Name) (x : InferCtxtInner Key) (n : ℕ) → n < length x.types.items → IsMade (store_of m x) type_var n
-made_of_table m x n h = subst (λ z. n < z) (sym (length-map x.types.items _)) h
+  pub number_shallow : (st : Store) → IsShallowTy st t → ((v : IntVid) → k ≡ Infer (IntVar v) → ⊥) → ((v : FloatVid) → k ≡ Infer (FloatVar v) → ⊥) → IsShallow st t
+  number_shallow st a b c = subst (IsShallow st) (sym e) (kind_shallow m st k (subst (IsShallowTy st) e a) b c)
 
-pub table_of_made : {Key Id Name : Type 0} (m : Meaning Key Id Name) (x : InferCtxtInner Key) (n : ℕ) → IsMade (store_of m x) type_var n → n < length x.types.items
-table_of_made m x n h = subst (λ z. n < z) (length-map x.types.items _) h
+  pub type_no_vid : ((v : TyVid) → k ≡ Infer (TyVar v) → ⊥) → (v : TermVid) → t ≡ leaf (variable (vid_kind v) (vid_number v)) → ⊥
+  type_no_vid h (TyTerm v) q = kind_variable m k v.0 h (sym e ∙ q)
+  type_no_vid h (ConstTerm v) q = kind_no_const m k v.0 (sym e ∙ q)
 
--- The key beside a variable.
-pub key_of : {Key Id Name : Type 0} (m : Meaning Key Id Name) (x : InferCtxtInner Key) → IsLawful m x → (n : ℕ) (d : TypeVariable Key) → n < length x.types.items → m.ty ((get_or x.types.items n d).key) ≡ leaf (variable type_var n)
-key_of m x l n d h = sym (get_or-map (λ v. m.ty v.key) x.types.items n d nil h) ∙ l.keyed n h
+-- What a constant is by whether its form is a constant variable.
+module _ {Key Id Name : Type 0} (m : Meaning Key Id Name) (k : ConstKind Key Id Name) (t : Tree) (e : t ≡ const_tree m k) where
+  pub const_shallow : (st : Store) → ((v : ConstVid) → k ≡ ConstInfer (Var v) → ⊥) → IsShallowConst st t
+  const_shallow st h = no_variable (λ j n q. const_no_variable m k j n h (sym e ∙ q))
+
+  pub const_no_vid : ((v : ConstVid) → k ≡ ConstInfer (Var v) → ⊥) → (v : TermVid) → t ≡ leaf (variable (vid_kind v) (vid_number v)) → ⊥
+  const_no_vid h v q = const_no_variable m k (vid_kind v) (vid_number v) h (sym e ∙ q)
+
+  pub some_const_variable : (o : Option ConstVid) → IfSome o (λ v. k ≡ ConstInfer (Var v)) →
+      IfSome o (λ v. t ≡ leaf (variable const_var v.0))
+  some_const_variable (Some v) h = e ∙ ap (const_tree m) h
+  some_const_variable None h = h
+
+  pub no_const_variable : IsTerm const_sort t → (o : Option ConstVid) → IfNone o ((v : ConstVid) → k ≡ ConstInfer (Var v) → ⊥) →
+      IfNone o (IsCovered t → IsFormedConst t)
+  no_const_variable s (Some v) h = h
+  no_const_variable s None h = λ c. covered_formed_const t s c (λ j n q. const_no_variable m k j n h (sym e ∙ q))
 
 -- A variable of the context; and what a term of it is read as is of it.
 made_of_context : (st : Store) (k : VarKind) (n : ℕ) → InContext st (leaf (variable k n)) → IsMade st k n
@@ -119,34 +233,9 @@ context_read st g t u (by_class k n m e c r) h = context_read st g (leaf (variab
 context_read st g t u (by_binding {u = x} k n e b r) h = context_read st g x u r
     (term_context st x (g.bindings k n x (ap (entry_term k) b)).is_in)
 
--- What is found for a variable.
-module _ {Key Id Name : Type 0} (m : Meaning Key Id Name) (x : InferCtxtInner Key) (l : IsLawful m x) where
-  abbrev st : Store
-  st = store_of m x
+pub made_in_context : (st : Store) (k : VarKind) (t : Tree) (n : ℕ) → t ≡ leaf (variable k n) → InContext st t → IsMade st k n
+made_in_context st k t n e h = made_of_context st k n (subst (InContext st) e h)
 
-  pub made_in_context : (t : Tree) (n : ℕ) → t ≡ leaf (variable type_var n) → InContext st t → n < length x.types.items
-  made_in_context t n e h = table_of_made m x n (made_of_context st type_var n (subst (InContext st) e h))
-
-  pub made_of_key : (t : Tree) (n : ℕ) → t ≡ leaf (variable type_var n) → IsTermIn st t → n < length x.types.items
-  made_of_key t n e h = table_of_made m x n (made_of_term st type_var n (subst (IsTermIn st) e h))
-
-  pub root_read : (t u : Tree) (n r : ℕ) → t ≡ leaf (variable type_var n) → LeadsTo st type_var n r → u ≡ leaf (variable type_var r) → IsReadAs st t u
-  root_read t u n r e d q = subst (λ z. IsReadAs st z u) (sym e) (leads_read st n r u d (itself (sym q)))
-
-  pub bound_read : (t u : Tree) (n r : ℕ) → t ≡ leaf (variable type_var n) → LeadsTo st type_var n r → bound_to u ≡ entry_of st type_var r → IsReadAs st t u
-  bound_read t u n r e d q = subst (λ z. IsReadAs st z u) (sym e) (leads_read st n r u d (read_bound st r u (sym q)))
-
-  pub root_shallow : (u : Tree) (r : ℕ) → u ≡ leaf (variable type_var r) → unbound ≡ entry_of st type_var r → IsShallow st u
-  root_shallow u r e q = root type_var r e (ap (entry_term type_var) (sym q))
-
-  pub bound_shallow : (u : Tree) (r : ℕ) → bound_to u ≡ entry_of st type_var r → IsShallow st u
-  bound_shallow u r q = formed (l.formed r u (sym q)).0
-
-  pub bound_covered : (u : Tree) (r : ℕ) → bound_to u ≡ entry_of st type_var r → IsCovered u
-  bound_covered u r q = (l.formed r u (sym q)).1
-
-  pub root_in : (u : Tree) (r : ℕ) → u ≡ leaf (variable type_var r) → r < length x.types.items → IsTermIn st u
-  root_in u r e h = subst (IsTermIn st) (sym e) (term_of_made st type_var r (made_of_table m x r h))
-
-  pub root_known : (u : Tree) (r : ℕ) → u ≡ leaf (variable type_var r) → IsTrue (known u)
-  root_known u r e = subst (λ t. IsTrue (known t)) (sym e) refl
+-- A term that is a variable is read as what is read for the variable.
+pub read_for : (st : Store) (t u v : Tree) → t ≡ v → IsReadAs st v u → IsReadAs st t u
+read_for st t u v e r = subst (λ z. IsReadAs st z u) (sym e) r

@@ -1,18 +1,19 @@
 -- Resolving a term by its parts.
 use Rattle.std.proofs.Common.{◌≡◌, ℕ, zero, suc, ◌<◌, refl, sym, ap, ap₂, ◌∙◌, arith, subst, subst₂, IsTrue}
 use Rattle.std.proofs.Common.{None, List, [], ◌∷◌, ◌++◌}
-use Rattle.relation_terms.specs.Heads.{VarKind, var_sort}
+use Rattle.relation_terms.specs.Heads.{VarKind, type_var, int_var, float_var, const_var, region_var, const_sort}
 use Rattle.relation_terms.specs.Heads.{type_sort, no_sort, atom, variable, bound, placeholder, unknown}
 use Rattle.relation_terms.specs.Trees.{Tree, leaf, node, bind, nil, cons, Assign, apply, size, count, nth}
 use Rattle.relation_terms.specs.Trees.{known, list_tree, IsList}
 use Rattle.relation_terms.specs.Meaning.{Meaning, Extends}
 use Rattle.relation_terms.specs.Parts.{part_tree, part_sort, tree_sort, parts_of, over, Fit}
 use Rattle.relation_terms.specs.declared.terms.keys.TyKey.{TyKey}
+use Rattle.relation_terms.specs.declared.terms.keys.ConstKey.{ConstKey}
 use Rattle.relation_terms.specs.declared.terms.part_kind.Part.{Part}
 use Rattle.relation_terms.specs.declared.terms.part_kind.Part.TheVariants.{Region, Ty, Const, ValTree, Pat, ValueType}
 use Rattle.relation_terms.specs.declared.terms.part_kind.Part.TheVariants.{Binder, Signature, Inputs, Existential, Object}
 use Rattle.relation_terms.proofs.Stays.{stays_list, knows_as}
-use Rattle.type_relations.specs.Stores.{Store, bound_term, IsSound}
+use Rattle.type_relations.specs.Stores.{Store, entry_term, bound_term, IsSound}
 use Rattle.type_relations.specs.Stores.{InContext, resolved, weight}
 use Rattle.type_relations.proofs.Resolved.{resolved_free}
 use Rattle.type_relations.proofs.Parts.{nth_size}
@@ -20,9 +21,11 @@ use Rattle.type_relations.proofs.Values.{nth_in}
 use Rattle.type_relations.proofs.Lists.{firsts, firsts_all, snoc, list_push, firsts_more, apply_snoc, push_known}
 use Rattle.relation_reference.specs.declared.context.inner.InferCtxtInner.{InferCtxtInner}
 use Rattle.relation_reference.specs.Tables.{store_of, IsLawful}
-use Rattle.relation_reference.specs.Answers.{IsShallow, root, stays_bound, formed}
+use Rattle.relation_reference.specs.declared.context.memory.TermVid.{TermVid}
+use Rattle.relation_reference.specs.declared.context.memory.TermVid.TheVariants.{Ty as TyTerm, Const as ConstTerm}
+use Rattle.relation_reference.specs.Remembering.{vid_kind, vid_number}
+use Rattle.relation_reference.specs.Answers.{IsShallow, root, stays_bound, formed, IsShallowConst, const_root, no_variable}
 use Rattle.relation_reference.proofs.Grows.{store_grows, lawful_grows}
-use Rattle.relation_reference.proofs.Reading.{other_free}
 
 -- A part that is no type is of another sort, and each part is of some.
 module _ {Key Id : Type 0} where
@@ -38,6 +41,19 @@ module _ {Key Id : Type 0} where
   not_type (Inputs t) n e = cc
   not_type (Existential p) n e = cc
   not_type (Object k) n e = cc
+
+  pub not_const : (p : Part Key Id) → ((c : ConstKey Key) → p ≡ Const c → ⊥) → part_sort p ≡ const_sort → ⊥
+  not_const (Const c) n e = n c refl
+  not_const (Ty t) n e = cc
+  not_const (Region r) n e = cc
+  not_const (ValTree v) n e = cc
+  not_const (Pat v) n e = cc
+  not_const (ValueType t) n e = cc
+  not_const (Binder vs b) n e = cc
+  not_const (Signature s) n e = cc
+  not_const (Inputs t) n e = cc
+  not_const (Existential p) n e = cc
+  not_const (Object k) n e = cc
 
   pub some_sort : (p : Part Key Id) → part_sort p ≡ no_sort → ⊥
   some_sort (Ty t) e = cc
@@ -83,12 +99,28 @@ shallow_by_parts st (bind ks t) (formed f) = absurd f
 shallow_by_parts st nil (formed f) = absurd f
 shallow_by_parts st (cons t ts) (formed f) = absurd f
 
-pub other_by_parts : {Key Id Name : Type 0} (m : Meaning Key Id Name) (x : InferCtxtInner Key) →
-    IsSound (store_of m x) → (p : Part Key Id) → ((t : TyKey Key) → p ≡ Ty t → ⊥) →
-    tree_sort (part_tree m p) ≡ part_sort p → apply (resolved (store_of m x)) (part_tree m p) ≡
-    over (part_tree m p) (apply (resolved (store_of m x)) (parts_of (part_tree m p)))
-other_by_parts m x g p n e = comes_by_parts (store_of m x) (part_tree m p) (λ s. some_sort p (sym e ∙ s))
-    (λ k i q. other_free m x g k i (λ s. not_type p n (sym e ∙ ap tree_sort q ∙ ap var_sort s)))
+pub const_by_parts : (st : Store) (t : Tree) → (tree_sort t ≡ no_sort → ⊥) → IsShallowConst st t → apply (resolved st) t ≡
+    over t (apply (resolved st) (parts_of t))
+const_by_parts st t s (const_root n q f) = shallow_by_parts st t (root const_var n q f)
+const_by_parts st t s (no_variable o) = comes_by_parts st t s (λ k n q. absurd (o k n q))
+
+-- A part that is neither a type nor a constant is no variable but a region's.
+module _ {Key Id Name : Type 0} (m : Meaning Key Id Name) (p : Part Key Id) (no_type : (t : TyKey Key) → p ≡ Ty t → ⊥) (no_const : (c : ConstKey Key) → p ≡ Const c → ⊥)
+    (e : tree_sort (part_tree m p) ≡ part_sort p) where
+  variable_free : (st : Store) → IsSound st → (k : VarKind) (n : ℕ) → part_tree m p ≡ leaf (variable k n) → bound_term st k n ≡ None
+  variable_free st g type_var n q = absurd (not_type p no_type (sym e ∙ ap tree_sort q))
+  variable_free st g int_var n q = absurd (not_type p no_type (sym e ∙ ap tree_sort q))
+  variable_free st g float_var n q = absurd (not_type p no_type (sym e ∙ ap tree_sort q))
+  variable_free st g const_var n q = absurd (not_const p no_const (sym e ∙ ap tree_sort q))
+  variable_free st g region_var n q = ap (entry_term region_var) (g.regions_unbound n)
+
+  pub other_by_parts : (st : Store) → IsSound st → apply (resolved st) (part_tree m p) ≡
+      over (part_tree m p) (apply (resolved st) (parts_of (part_tree m p)))
+  other_by_parts st g = comes_by_parts st (part_tree m p) (λ s. some_sort p (sym e ∙ s)) (variable_free st g)
+
+  pub other_no_vid : (v : TermVid) → part_tree m p ≡ leaf (variable (vid_kind v) (vid_number v)) → ⊥
+  other_no_vid (TyTerm v) q = not_type p no_type (sym e ∙ ap tree_sort q)
+  other_no_vid (ConstTerm v) q = not_const p no_const (sym e ∙ ap tree_sort q)
 
 -- A part of a term is of the context, and comes to less.
 context_list : (st : Store) (t : Tree) → InContext st t → InContext st (parts_of t)

@@ -1,285 +1,304 @@
--- Writing the tables: what is recorded of one variable, new variables, new constraints.
-use Rattle.std.proofs.Common.{◌≡◌, ℕ, suc, ◌<◌, refl, sym, ap, ◌∙◌, arith, subst, List, length, map, get_or, set, min}
-use Rattle.std.proofs.lemmas.List.{map-set, set-get_or, length-set, length-map, get_or-set_same, get_or-set_other}
+-- Writing what is recorded of variables of a kind: two were made one, or one was bound.
+use Rattle.std.proofs.Common.{◌≡◌, ℕ, zero, suc, ◌<◌, refl, sym, ap, ◌∙◌, arith, subst, List, [], ◌∷◌, length, map, get_or, set, min, eqb, cond, Bool, true, false}
+use Rattle.std.proofs.lemmas.Bool.{eqb-true, eq-eqb}
+use Rattle.std.proofs.lemmas.List.{map-set, length-set, length-map, get_or-set_same, get_or-set_other}
+use Rattle.std.proofs.Math.ListN.{get_or-map}
 use native.Mathlib.Decide.{ℕ_discrete}
-use Rattle.relation_terms.specs.Heads.{VarKind, type_var, int_var, float_var, const_var, region_var}
-use Rattle.relation_terms.specs.Trees.{Tree, nil}
+use Rattle.relation_terms.specs.Heads.{VarKind, VarKind_discrete, region_var}
+use Rattle.relation_terms.specs.Trees.{Tree}
 use Rattle.relation_terms.specs.Meaning.{Meaning}
-use Rattle.relation_terms.specs.declared.terms.numbers.UniverseIndex.{UniverseIndex}
-use Rattle.relation_terms.specs.declared.terms.keys.TyKey.{TyKey}
 use Rattle.type_relations.specs.Stores.{Store, Entry, unbound, same_as, bound_to, entry_of, universe_of, IsMade, IsSound}
-use Rattle.type_relations.specs.Steps.{WritesEntry, StandsBeside, as_it_was, led_on, Equates, BindsTo}
+use Rattle.type_relations.specs.Steps.{WritesEntry, StandsBeside, as_it_was, led_on, Equates, BindsTo, InstantiatesNumber, IsNumberFor}
 use Rattle.type_relations.proofs.Equating.{equated_sound}
-use Rattle.relation_reference.specs.declared.context.inner.TypeVariableValue.{TypeVariableValue}
-use Rattle.relation_reference.specs.declared.context.inner.TypeVariableValue.TheVariants.{Unknown, SameAs, Known}
+use Rattle.relation_reference.specs.declared.context.inner.VariableValue.{VariableValue}
+use Rattle.relation_reference.specs.declared.context.inner.VariableValue.TheVariants.{Unknown, SameAs, Known}
+use Rattle.relation_reference.specs.declared.context.inner.Variable.{Variable}
 use Rattle.relation_reference.specs.declared.context.inner.InferCtxtInner.{InferCtxtInner}
-use Rattle.relation_reference.specs.Tables.{entry_of_value, store_of, MayBeBoundTo, IsLawful}
-use Rattle.type_relations.specs.Constraints.{constraint_of}
-use Rattle.relation_reference.proofs.Grows.{map-map}
+use Rattle.relation_reference.specs.Variables.{values_of, universes_of, universe_at, led, entry_of_value, entries_of}
+use Rattle.relation_reference.specs.Tables.{store_of, keys_in, MayBeBoundTo, IsRooted, IsFilled, IsLawful}
+use Rattle.relation_reference.proofs.Beside.{Beside, lawful_beside, keyed_still}
 
--- The lists of a table after what is recorded of a variable was written.
-module _ {Key Id Name : Type 0} (m : Meaning Key Id Name) (x y : InferCtxtInner Key) (n : ℕ) (v : TypeVariableValue Key) (u : UniverseIndex)
-    (keys : map (λ t. t.key) y.types.items ≡ map (λ t. t.key) x.types.items)
-    (values : map (λ t. t.value) y.types.items ≡ set (map (λ t. t.value) x.types.items) n v)
-    (universes : map (λ t. t.universe) y.types.items ≡ set (map (λ t. t.universe) x.types.items) n u) where
-  pub entries_set : (store_of m y).entries type_var ≡ set ((store_of m x).entries type_var) n (entry_of_value m v)
-  entries_set = map-map (entry_of_value m) (λ t. t.value) y.types.items ∙ ap (map (entry_of_value m)) values
-      ∙ map-set (entry_of_value m) (map (λ t. t.value) x.types.items) n v
-      ∙ ap (λ l. set l n (entry_of_value m v)) (sym (map-map (entry_of_value m) (λ t. t.value) x.types.items))
+eqb-same : (a : ℕ) → eqb a a ≡ true
+eqb-same a = eq-eqb a a refl
 
-  pub universes_set : (store_of m y).universes type_var ≡ set ((store_of m x).universes type_var) n (u.0)
-  universes_set = map-map (λ i. i.0) (λ t. t.universe) y.types.items ∙ ap (map (λ i. i.0)) universes
-      ∙ map-set (λ i. i.0) (map (λ t. t.universe) x.types.items) n u
-      ∙ ap (λ l. set l n (u.0)) (sym (map-map (λ i. i.0) (λ t. t.universe) x.types.items))
+eqb-differs : (a b : ℕ) → (a ≡ b → ⊥) → eqb a b ≡ false
+eqb-differs a b o = go (eqb a b) refl
+  where
+    go : (c : Bool) → eqb a b ≡ c → eqb a b ≡ false
+    go true e = absurd (o (eqb-true a b e))
+    go false e = e
 
-  pub keys_stand : map (λ t. m.ty t.key) y.types.items ≡ map (λ t. m.ty t.key) x.types.items
-  keys_stand = map-map m.ty (λ t. t.key) y.types.items ∙ ap (map m.ty) keys ∙ sym (map-map m.ty (λ t. t.key) x.types.items)
+map_itself : {A : Type 0} (xs : List A) → map (λ x. x) xs ≡ xs
+map_itself [] = refl
+map_itself (x ∷ xs) = ap (λ ys. x ∷ ys) (map_itself xs)
 
-  pub as_long : length y.types.items ≡ length x.types.items
-  as_long = sym (length-map y.types.items (λ t. t.key)) ∙ ap length keys ∙ length-map x.types.items (λ t. t.key)
+-- What leading on makes of an entry.
+abbrev pub led_entry : ℕ → ℕ → Entry → Entry
+led_entry child root unbound = unbound
+led_entry child root (same_as m) = same_as (cond (eqb m child) root m)
+led_entry child root (bound_to t) = bound_to t
 
--- A context is lawful after a sound writing.
-module _ {Key Id Name : Type 0} (m : Meaning Key Id Name) (x y : InferCtxtInner Key) (n : ℕ) (e : Entry) (w : WritesEntry (store_of m x) (store_of m y) type_var n e) (l : IsLawful m x)
-    (keys : map (λ t. m.ty t.key) y.types.items ≡ map (λ t. m.ty t.key) x.types.items)
-    (universe : y.universe ≡ x.universe) where
-  long : length y.types.items ≡ length x.types.items
-  long = sym (length-map y.types.items (λ t. m.ty t.key)) ∙ ap length keys ∙ length-map x.types.items (λ t. m.ty t.key)
+led_value : {K : Type 0} (tree : K → Tree) (child root : ℕ) (v : VariableValue K) → entry_of_value tree (led child root v) ≡ led_entry child root (entry_of_value tree v)
+led_value tree child root Unknown = refl
+led_value tree child root (SameAs m) = refl
+led_value tree child root (Known t) = refl
 
-  pub written_lawful : ((t : Tree) → e ≡ bound_to t → MayBeBoundTo t) → IsSound (store_of m y) → IsLawful m y
-  written_lawful f g = record {
-    sound = g;
-    keyed = λ i h. ap (λ ts. get_or ts i nil) keys ∙ l.keyed i (omega (arith, long));
-    formed = λ i t h. go i t h (ℕ_discrete i n);
-    first_universe = ap (λ u. u.0) universe ∙ l.first_universe;
+led_values : {K : Type 0} (tree : K → Tree) (child root : ℕ) (vs : List (VariableValue K)) → map (entry_of_value tree) (map (led child root) vs) ≡ map (led_entry child root) (map (entry_of_value tree) vs)
+led_values tree child root [] = refl
+led_values tree child root (v ∷ vs) = ap (λ es. entry_of_value tree (led child root v) ∷ es) (led_values tree child root vs) ∙ ap (λ e. e ∷ map (led_entry child root) (map (entry_of_value tree) vs)) (led_value tree child root v)
+
+-- The entries of a table whose values were written.
+pub linked_entries : {K : Type 0} (tree : K → Tree) (xs ys : List (Variable K)) (child root : ℕ) → values_of ys ≡ set (map (led child root) (values_of xs)) child (SameAs root) →
+    entries_of tree ys ≡ set (map (led_entry child root) (entries_of tree xs)) child (same_as root)
+linked_entries tree xs ys child root e = ap (map (entry_of_value tree)) e ∙ map-set (entry_of_value tree) (map (led child root) (values_of xs)) child (SameAs root)
+    ∙ ap (λ es. set es child (same_as root)) (led_values tree child root (values_of xs))
+
+pub bound_entries : {K : Type 0} (tree : K → Tree) (xs ys : List (Variable K)) (n : ℕ) (t : K) → values_of ys ≡ set (values_of xs) n (Known t) → entries_of tree ys ≡ set (entries_of tree xs) n (bound_to (tree t))
+bound_entries tree xs ys n t e = ap (map (entry_of_value tree)) e ∙ map-set (entry_of_value tree) (values_of xs) n (Known t)
+
+pub table_made : {K : Type 0} (tree : K → Tree) (vs : List (Variable K)) (n : ℕ) → n < length vs → n < length (entries_of tree vs)
+table_made tree vs n h = let a = length-map (values_of vs) (entry_of_value tree) in let b = length-map vs (λ v. v.value) in omega (arith, h, a, b)
+
+pub table_of_entries : {K : Type 0} (tree : K → Tree) (vs : List (Variable K)) (n : ℕ) → n < length (entries_of tree vs) → n < length vs
+table_of_entries tree vs n h = let a = length-map (values_of vs) (entry_of_value tree) in let b = length-map vs (λ v. v.value) in omega (arith, h, a, b)
+
+-- A store of which all but one kind's entries and universes, and the budget, stands.
+pub record OtherKinds (before after : Store) (k : VarKind) : Type 0 where
+  pub entries : (j : VarKind) → (j ≡ k → ⊥) → after.entries j ≡ before.entries j
+  pub universes : (j : VarKind) → (j ≡ k → ⊥) → after.universes j ≡ before.universes j
+  pub constraints : after.constraints ≡ before.constraints
+  pub universe : after.universe ≡ before.universe
+  pub taint : after.tainted ≡ before.tainted
+
+-- One entry of the kind was written over others that stand or were led on.
+module _ (before after : Store) (k : VarKind) (n : ℕ) (x : Entry) (o : OtherKinds before after k) (f : Entry → Entry)
+    (entries : after.entries k ≡ set (map f (before.entries k)) n x) (free : f unbound ≡ unbound)
+    (universes : length (after.universes k) ≡ length (before.universes k))
+    (made : IsMade before k n) (was_unbound : entry_of before k n ≡ unbound) where
+  written : entry_of after k n ≡ x
+  written = ap (λ es. get_or es n unbound) entries ∙ get_or-set_same (map f (before.entries k)) n x unbound (let a = length-map (before.entries k) f in omega (arith, made, a))
+
+  pub other_entry : (i : ℕ) → (i ≡ n → ⊥) → entry_of after k i ≡ f (entry_of before k i)
+  other_entry i d = ap (λ es. get_or es i unbound) entries ∙ get_or-set_other (map f (before.entries k)) n i x unbound d
+      ∙ ap (get_or (map f (before.entries k)) i) (sym free) ∙ get_or-map f (before.entries k) i unbound
+
+  as_many : (j : VarKind) → length (after.entries j) ≡ length (before.entries j)
+  as_many j = go (VarKind_discrete j k)
+    where
+      go : Dec (j ≡ k) → length (after.entries j) ≡ length (before.entries j)
+      go (yes e) = subst (λ i. length (after.entries i) ≡ length (before.entries i)) (sym e) (ap length entries ∙ length-set (map f (before.entries k)) n x ∙ length-map (before.entries k) f)
+      go (no d) = ap length (o.entries j d)
+
+  many_universes : (j : VarKind) → length (after.universes j) ≡ length (before.universes j)
+  many_universes j = go (VarKind_discrete j k)
+    where
+      go : Dec (j ≡ k) → length (after.universes j) ≡ length (before.universes j)
+      go (yes e) = subst (λ i. length (after.universes i) ≡ length (before.universes i)) (sym e) universes
+      go (no d) = ap length (o.universes j d)
+
+  pub writes_entry : ((i : ℕ) → (i ≡ n → ⊥) → StandsBeside before after k n x k i) → WritesEntry before after k n x
+  writes_entry stand = record {
+    made = made;
+    was_unbound = was_unbound;
+    written = written;
+    others_stand = others;
+    as_many = as_many;
+    as_many_universes = many_universes;
+    same_constraints = o.constraints;
+    same_universe = o.universe;
+    same_taint = o.taint;
   }
     where
-      go : (i : ℕ) (t : Tree) → entry_of (store_of m y) type_var i ≡ bound_to t → Dec (i ≡ n) → MayBeBoundTo t
-      go i t h (yes q) = f t (sym w.written ∙ sym (ap (entry_of (store_of m y) type_var) q) ∙ h)
-      go i t h (no o) = other (w.others_stand type_var i (λ _ q. o q))
+      others : (j : VarKind) (i : ℕ) → (j ≡ k → i ≡ n → ⊥) → StandsBeside before after k n x j i
+      others j i d = go (VarKind_discrete j k)
         where
-          other : StandsBeside (store_of m x) (store_of m y) type_var n e type_var i → MayBeBoundTo t
-          other (as_it_was r) = l.formed i t (sym r ∙ h)
-          other (led_on r a b c d) = absurd (cc (d, h))
+          go : Dec (j ≡ k) → StandsBeside before after k n x j i
+          go (yes e) = subst (λ q. StandsBeside before after k n x q i) (sym e) (stand i (d e))
+          go (no c) = as_it_was (ap (λ es. get_or es i unbound) (o.entries j c))
 
--- Entries of two writings in a row.
-at_first : (es : List Entry) (n r : ℕ) (e : Entry) → n < length es → (n ≡ r → ⊥) → get_or (set (set es n e) r unbound) n unbound ≡ e
-at_first es n r e h o = get_or-set_other (set es n e) r n unbound unbound o ∙ get_or-set_same es n e unbound h
+-- Universes of a kind, of which one was lowered, or none.
+other_universe : (before after : Store) (k : VarKind) (n u : ℕ) → OtherKinds before after k → after.universes k ≡ set (before.universes k) n u →
+    (j : VarKind) (i : ℕ) → (j ≡ k → i ≡ n → ⊥) → universe_of after j i ≡ universe_of before j i
+other_universe before after k n u o e j i d = go (VarKind_discrete j k)
+  where
+    go : Dec (j ≡ k) → universe_of after j i ≡ universe_of before j i
+    go (yes q) = subst (λ z. universe_of after z i ≡ universe_of before z i) (sym q) (ap (λ us. get_or us i 0) e ∙ get_or-set_other (before.universes k) n i u 0 (d q))
+    go (no c) = ap (λ us. get_or us i 0) (o.universes j c)
 
-elsewhere : (es : List Entry) (n r i : ℕ) (e : Entry) → r < length es → get_or es r unbound ≡ unbound → (i ≡ n → ⊥) → Dec (i ≡ r) → get_or (set (set es n e) r unbound) i unbound ≡ get_or es i unbound
-elsewhere es n r i e h f o (yes q) = subst (λ j. get_or (set (set es n e) r unbound) j unbound ≡ get_or es j unbound) (sym q) (get_or-set_same (set es n e) r unbound unbound (let l = length-set es n e in omega arith) ∙ sym f)
-elsewhere es n r i e h f o (no q) = get_or-set_other (set es n e) r i unbound unbound q ∙ get_or-set_other es n i e unbound o
+same_universes : (before after : Store) (k : VarKind) → OtherKinds before after k → after.universes k ≡ before.universes k → (j : VarKind) (i : ℕ) → universe_of after j i ≡ universe_of before j i
+same_universes before after k o e j i = go (VarKind_discrete j k)
+  where
+    go : Dec (j ≡ k) → universe_of after j i ≡ universe_of before j i
+    go (yes q) = subst (λ z. universe_of after z i ≡ universe_of before z i) (sym q) (ap (λ us. get_or us i 0) e)
+    go (no c) = ap (λ us. get_or us i 0) (o.universes j c)
 
--- A free variable was made to lead to one of a smaller number.
-module _ {Key Id Name : Type 0} (m : Meaning Key Id Name) (x z y : InferCtxtInner Key) (child root : ℕ)
-    (entries-z : (store_of m z).entries type_var ≡ set ((store_of m x).entries type_var) child (same_as root))
-    (entries-y : (store_of m y).entries type_var ≡ set ((store_of m z).entries type_var) root unbound)
-    (universes-z : (store_of m z).universes type_var ≡ set ((store_of m x).universes type_var) child (universe_of (store_of m x) type_var child))
-    (universes-y : (store_of m y).universes type_var ≡ set ((store_of m z).universes type_var) root (min (universe_of (store_of m x) type_var child) (universe_of (store_of m x) type_var root)))
-    (regions : y.regions.items ≡ x.regions.items)
-    (constraints : y.constraints.items ≡ x.constraints.items)
-    (universe : y.universe ≡ x.universe)
-    (budget : y.budget ≡ x.budget)
-    (g : IsSound (store_of m x))
-    (made : IsMade (store_of m x) type_var child) (smaller : root < child)
-    (child_unbound : entry_of (store_of m x) type_var child ≡ unbound)
-    (root_unbound : entry_of (store_of m x) type_var root ≡ unbound) where
-  abbrev old : Store
-  old = store_of m x
+-- A root was made to lead to another, with all of its class.
+module _ (before after : Store) (k : VarKind) (child root : ℕ) (o : OtherKinds before after k)
+    (entries : after.entries k ≡ set (map (led_entry child root) (before.entries k)) child (same_as root))
+    (universes : after.universes k ≡ set (before.universes k) root (min (universe_of before k child) (universe_of before k root)))
+    (budget : after.budget ≡ before.budget) (g : IsSound before) (rooted : IsRooted before)
+    (made : IsMade before k child) (smaller : root < child)
+    (child_unbound : entry_of before k child ≡ unbound) (root_unbound : entry_of before k root ≡ unbound) where
+  many : length (after.universes k) ≡ length (before.universes k)
+  many = ap length universes ∙ length-set (before.universes k) root (min (universe_of before k child) (universe_of before k root))
 
-  abbrev new : Store
-  new = store_of m y
+  other : (i : ℕ) → (i ≡ child → ⊥) → entry_of after k i ≡ led_entry child root (entry_of before k i)
+  other = other_entry before after k child (same_as root) o (led_entry child root) entries refl many made child_unbound
 
-  entries : new.entries type_var ≡ set (set (old.entries type_var) child (same_as root)) root unbound
-  entries = entries-y ∙ ap (λ l. set l root unbound) entries-z
+  to_root : (i : ℕ) → (i ≡ child → ⊥) → entry_of before k i ≡ same_as child → entry_of after k i ≡ same_as root
+  to_root i d e = other i d ∙ ap (led_entry child root) e ∙ ap (λ b. same_as (cond b root child)) (eqb-same child)
 
-  abbrev low : ℕ
-  low = min (universe_of old type_var child) (universe_of old type_var root)
+  to_other : (i r : ℕ) → (i ≡ child → ⊥) → (r ≡ child → ⊥) → entry_of before k i ≡ same_as r → entry_of after k i ≡ same_as r
+  to_other i r d c e = other i d ∙ ap (led_entry child root) e ∙ ap (λ b. same_as (cond b root r)) (eqb-differs r child c)
 
-  universes : new.universes type_var ≡ set (set (old.universes type_var) child (universe_of old type_var child)) root low
-  universes = universes-y ∙ ap (λ l. set l root low) universes-z
+  stand : (i : ℕ) → (i ≡ child → ⊥) → StandsBeside before after k child (same_as root) k i
+  stand i d = go (entry_of before k i) refl
+    where
+      led_to : (r : ℕ) → entry_of before k i ≡ same_as r → Dec (r ≡ child) → StandsBeside before after k child (same_as root) k i
+      led_to r e (yes q) = led_on root refl (e ∙ ap same_as q) refl (to_root i d (e ∙ ap same_as q))
+      led_to r e (no c) = as_it_was (to_other i r d c e ∙ sym e)
 
-  differ : child ≡ root → ⊥
-  differ e = omega (arith, smaller, e)
+      go : (e : Entry) → entry_of before k i ≡ e → StandsBeside before after k child (same_as root) k i
+      go unbound e = as_it_was (other i d ∙ ap (led_entry child root) e ∙ sym e)
+      go (same_as r) e = led_to r e (ℕ_discrete r child)
+      go (bound_to t) e = as_it_was (other i d ∙ ap (led_entry child root) e ∙ sym e)
 
-  root_made : IsMade old type_var root
-  root_made = omega (arith, smaller, made)
-
-  region_entries : new.entries region_var ≡ old.entries region_var
-  region_entries = ap (map (λ u. unbound)) regions
-
-  region_universes : new.universes region_var ≡ old.universes region_var
-  region_universes = ap (map (λ u. u.0)) regions
-
-  others : (j : VarKind) (i : ℕ) → (j ≡ type_var → i ≡ child → ⊥) → entry_of new j i ≡ entry_of old j i
-  others type_var i o = ap (λ es. get_or es i unbound) entries ∙ elsewhere (old.entries type_var) child root i (same_as root) root_made root_unbound (o refl) (ℕ_discrete i root)
-  others region_var i o = ap (λ es. get_or es i unbound) region_entries
-  others int_var i o = refl
-  others float_var i o = refl
-  others const_var i o = refl
-
-  many : (j : VarKind) → length (new.entries j) ≡ length (old.entries j)
-  many type_var = ap length entries ∙ length-set (set (old.entries type_var) child (same_as root)) root unbound ∙ length-set (old.entries type_var) child (same_as root)
-  many region_var = ap length region_entries
-  many int_var = refl
-  many float_var = refl
-  many const_var = refl
-
-  many_universes : (j : VarKind) → length (new.universes j) ≡ length (old.universes j)
-  many_universes type_var = ap length universes ∙ length-set (set (old.universes type_var) child (universe_of old type_var child)) root low ∙ length-set (old.universes type_var) child (universe_of old type_var child)
-  many_universes region_var = ap length region_universes
-  many_universes int_var = refl
-  many_universes float_var = refl
-  many_universes const_var = refl
-
-  links : WritesEntry old new type_var child (same_as root)
-  links = record {
-    made = made;
-    was_unbound = child_unbound;
-    written = ap (λ es. get_or es child unbound) entries ∙ at_first (old.entries type_var) child root (same_as root) made differ;
-    others_stand = λ j i o. as_it_was (others j i o);
-    as_many = many;
-    as_many_universes = many_universes;
-    same_constraints = ap (map (constraint_of m)) constraints;
-    same_universe = ap (λ u. u.0) universe;
-    same_taint = refl;
-  }
-
-  root_universe : root < length (old.universes type_var)
-  root_universe = let e = g.one_universe_each type_var in omega (arith, root_made, e)
-
-  other_universes : (j : VarKind) (i : ℕ) → (j ≡ type_var → i ≡ root → ⊥) → universe_of new j i ≡ universe_of old j i
-  other_universes type_var i o = ap (λ us. get_or us i 0) universes ∙ get_or-set_other (set (old.universes type_var) child (universe_of old type_var child)) root i low 0 (o refl)
-      ∙ ap (λ us. get_or us i 0) (set-get_or (old.universes type_var) child 0)
-  other_universes region_var i o = ap (λ us. get_or us i 0) region_universes
-  other_universes int_var i o = refl
-  other_universes float_var i o = refl
-  other_universes const_var i o = refl
-
-  pub linked : Equates old new type_var child root
+  pub linked : Equates before after k child root
   linked = record {
-    links = links;
+    links = writes_entry before after k child (same_as root) o (led_entry child root) entries refl many made child_unbound stand;
     smaller = smaller;
     root_unbound = root_unbound;
-    lowered = ap (λ us. get_or us root 0) universes
-        ∙ get_or-set_same (set (old.universes type_var) child (universe_of old type_var child)) root low 0 (let e = length-set (old.universes type_var) child (universe_of old type_var child) in let h = root_universe in omega arith);
-    other_universes = other_universes;
+    lowered = ap (λ us. get_or us root 0) universes ∙ get_or-set_same (before.universes k) root (min (universe_of before k child) (universe_of before k root)) 0
+        (let e = g.one_universe_each k in omega (arith, made, smaller, e));
+    other_universes = other_universe before after k root (min (universe_of before k child) (universe_of before k root)) o universes;
     same_budget = budget;
   }
 
-  pub linked_lawful : IsLawful m x → map (λ t. m.ty t.key) y.types.items ≡ map (λ t. m.ty t.key) x.types.items → IsLawful m y
-  linked_lawful l keys = written_lawful m x y child (same_as root) links l keys universe (λ t e. absurd (cc)) (equated_sound old new type_var child root linked g (λ e. cc))
+  root_after : entry_of after k root ≡ unbound
+  root_after = other root (λ e. omega (arith, smaller, e)) ∙ ap (led_entry child root) root_unbound
 
--- What a writing of what is recorded of a variable leaves.
-pub record Recorded {Key : Type 0} (x y : InferCtxtInner Key) (n : ℕ) (v : TypeVariableValue Key) (u : UniverseIndex) : Type 0 where
-  pub keys : map (λ t. t.key) y.types.items ≡ map (λ t. t.key) x.types.items
-  pub values : map (λ t. t.value) y.types.items ≡ set (map (λ t. t.value) x.types.items) n v
-  pub universes : map (λ t. t.universe) y.types.items ≡ set (map (λ t. t.universe) x.types.items) n u
-  pub regions : y.regions.items ≡ x.regions.items
-  pub constraints : y.constraints.items ≡ x.constraints.items
-  pub universe : y.universe ≡ x.universe
-  pub budget : y.budget ≡ x.budget
-
-module _ {Key Id Name : Type 0} (m : Meaning Key Id Name) (x z y : InferCtxtInner Key) (child root : ℕ) (below lower : UniverseIndex)
-    (first : Recorded x z child (SameAs (record { 0 = root })) below) (second : Recorded z y root Unknown lower)
-    (l : IsLawful m x) (made : child < length x.types.items) (smaller : root < child)
-    (child_unbound : entry_of (store_of m x) type_var child ≡ unbound)
-    (root_unbound : entry_of (store_of m x) type_var root ≡ unbound)
-    (below_is : below.0 ≡ universe_of (store_of m x) type_var child)
-    (lower_is : lower.0 ≡ min (universe_of (store_of m x) type_var child) (universe_of (store_of m x) type_var root)) where
-  is_made : IsMade (store_of m x) type_var child
-  is_made = subst (λ i. child < i) (sym (length-map x.types.items (λ t. entry_of_value m t.value))) made
-
-  entries-first : (store_of m z).entries type_var ≡ set ((store_of m x).entries type_var) child (same_as root)
-  entries-first = entries_set m x z child (SameAs (record { 0 = root })) below first.keys first.values first.universes
-
-  entries-second : (store_of m y).entries type_var ≡ set ((store_of m z).entries type_var) root unbound
-  entries-second = entries_set m z y root Unknown lower second.keys second.values second.universes
-
-  universes-first : (store_of m z).universes type_var ≡ set ((store_of m x).universes type_var) child (universe_of (store_of m x) type_var child)
-  universes-first = universes_set m x z child (SameAs (record { 0 = root })) below first.keys first.values first.universes ∙ ap (set ((store_of m x).universes type_var) child) below_is
-
-  universes-second : (store_of m y).universes type_var ≡ set ((store_of m z).universes type_var) root (min (universe_of (store_of m x) type_var child) (universe_of (store_of m x) type_var root))
-  universes-second = universes_set m z y root Unknown lower second.keys second.values second.universes ∙ ap (set ((store_of m z).universes type_var) root) lower_is
-
-  pub link_equates : Equates (store_of m x) (store_of m y) type_var child root
-  link_equates = linked m x z y child root entries-first entries-second universes-first universes-second (second.regions ∙ first.regions) (second.constraints ∙ first.constraints)
-      (second.universe ∙ first.universe) (second.budget ∙ first.budget) l.sound is_made smaller child_unbound root_unbound
-
-  pub link_lawful : IsLawful m y
-  link_lawful = linked_lawful m x z y child root entries-first entries-second universes-first universes-second (second.regions ∙ first.regions) (second.constraints ∙ first.constraints)
-      (second.universe ∙ first.universe) (second.budget ∙ first.budget) l.sound is_made smaller child_unbound root_unbound l
-      (keys_stand m z y root Unknown lower second.keys second.values second.universes ∙ keys_stand m x z child (SameAs (record { 0 = root })) below first.keys first.values first.universes)
-
--- A free variable was bound to a type.
-module _ {Key Id Name : Type 0} (m : Meaning Key Id Name) (x y : InferCtxtInner Key) (n : ℕ) (t : TyKey Key) (u : UniverseIndex)
-    (keys : map (λ t. t.key) y.types.items ≡ map (λ t. t.key) x.types.items)
-    (values : map (λ t. t.value) y.types.items ≡ set (map (λ t. t.value) x.types.items) n (Known t))
-    (universes : map (λ t. t.universe) y.types.items ≡ set (map (λ t. t.universe) x.types.items) n u)
-    (regions : y.regions.items ≡ x.regions.items)
-    (constraints : y.constraints.items ≡ x.constraints.items)
-    (universe : y.universe ≡ x.universe)
-    (budget : x.budget ≡ suc y.budget)
-    (l : IsLawful m x) (made : n < length x.types.items)
-    (free : entry_of (store_of m x) type_var n ≡ unbound)
-    (universe_is : u.0 ≡ universe_of (store_of m x) type_var n) where
-  bind_made : IsMade (store_of m x) type_var n
-  bind_made = subst (λ i. n < i) (sym (length-map x.types.items (λ t. entry_of_value m t.value))) made
-
-  bind_entries : (store_of m y).entries type_var ≡ set ((store_of m x).entries type_var) n (bound_to (m.ty t))
-  bind_entries = entries_set m x y n (Known t) u keys values universes
-
-  bind_universes : (store_of m y).universes type_var ≡ (store_of m x).universes type_var
-  bind_universes = universes_set m x y n (Known t) u keys values universes ∙ ap (set ((store_of m x).universes type_var) n) universe_is ∙ set-get_or ((store_of m x).universes type_var) n 0
-
-  bind_region_entries : (store_of m y).entries region_var ≡ (store_of m x).entries region_var
-  bind_region_entries = ap (map (λ u. unbound)) regions
-
-  bind_others : (j : VarKind) (i : ℕ) → (j ≡ type_var → i ≡ n → ⊥) → entry_of (store_of m y) j i ≡ entry_of (store_of m x) j i
-  bind_others type_var i o = ap (λ es. get_or es i unbound) bind_entries ∙ get_or-set_other ((store_of m x).entries type_var) n i (bound_to (m.ty t)) unbound (o refl)
-  bind_others region_var i o = ap (λ es. get_or es i unbound) bind_region_entries
-  bind_others int_var i o = refl
-  bind_others float_var i o = refl
-  bind_others const_var i o = refl
-
-  bind_many : (j : VarKind) → length ((store_of m y).entries j) ≡ length ((store_of m x).entries j)
-  bind_many type_var = ap length bind_entries ∙ length-set ((store_of m x).entries type_var) n (bound_to (m.ty t))
-  bind_many region_var = ap length bind_region_entries
-  bind_many int_var = refl
-  bind_many float_var = refl
-  bind_many const_var = refl
-
-  bind_many_universes : (j : VarKind) → length ((store_of m y).universes j) ≡ length ((store_of m x).universes j)
-  bind_many_universes type_var = ap length bind_universes
-  bind_many_universes region_var = ap (λ rs. length (map (λ u. u.0) rs)) regions
-  bind_many_universes int_var = refl
-  bind_many_universes float_var = refl
-  bind_many_universes const_var = refl
-
-  bind_same_universes : (j : VarKind) (i : ℕ) → universe_of (store_of m y) j i ≡ universe_of (store_of m x) j i
-  bind_same_universes type_var i = ap (λ us. get_or us i 0) bind_universes
-  bind_same_universes region_var i = ap (λ rs. get_or (map (λ u. u.0) rs) i 0) regions
-  bind_same_universes int_var i = refl
-  bind_same_universes float_var i = refl
-  bind_same_universes const_var i = refl
-
-  bind_writes : WritesEntry (store_of m x) (store_of m y) type_var n (bound_to (m.ty t))
-  bind_writes = record {
-    made = bind_made;
-    was_unbound = free;
-    written = ap (λ es. get_or es n unbound) bind_entries ∙ get_or-set_same ((store_of m x).entries type_var) n (bound_to (m.ty t)) unbound bind_made;
-    others_stand = λ j i o. as_it_was (bind_others j i o);
-    as_many = bind_many;
-    as_many_universes = bind_many_universes;
-    same_constraints = ap (map (constraint_of m)) constraints;
-    same_universe = ap (λ u. u.0) universe;
-    same_taint = refl;
-  }
-
-  pub binds_to : BindsTo (store_of m x) (store_of m y) type_var n (m.ty t)
-  binds_to = record { writes = bind_writes; same_universes = bind_same_universes; one_spent = budget }
-
-  pub bind_lawful : MayBeBoundTo (m.ty t) → IsSound (store_of m y) → IsLawful m y
-  bind_lawful f g = written_lawful m x y n (bound_to (m.ty t)) bind_writes l (keys_stand m x y n (Known t) u keys values universes) universe (λ v e. subst MayBeBoundTo (as_bound e) f) g
+  -- What leads to the root leads no further.
+  no_further : (r p : ℕ) → (r ≡ child → ⊥) → ((q : ℕ) → entry_of before k r ≡ same_as q → ⊥) → entry_of after k r ≡ same_as p → ⊥
+  no_further r p d f h = go (entry_of before k r) refl
     where
-      as_bound : {v : Tree} → bound_to (m.ty t) ≡ bound_to v → m.ty t ≡ v
-      as_bound e = cc
+      go : (e : Entry) → entry_of before k r ≡ e → ⊥
+      go unbound e = let z = other r d ∙ ap (led_entry child root) e in cc (z, h)
+      go (same_as q) e = f q e
+      go (bound_to t) e = let z = other r d ∙ ap (led_entry child root) e in cc (z, h)
+
+  pub linked_rooted : IsRooted after
+  linked_rooted j n r p a b = go (VarKind_discrete j k)
+    where
+      to : (i q : ℕ) → entry_of after k i ≡ same_as q → (w : ℕ) → entry_of after k q ≡ same_as w → ⊥
+      to i q e w h = at (ℕ_discrete i child)
+        where
+          of_other : (d : i ≡ child → ⊥) (v : Entry) → entry_of before k i ≡ v → ⊥
+          of_other d unbound f = let z = other i d ∙ ap (led_entry child root) f in cc (z, e)
+          of_other d (bound_to t) f = let z = other i d ∙ ap (led_entry child root) f in cc (z, e)
+          of_other d (same_as v) f = by (ℕ_discrete v child)
+            where
+              by : Dec (v ≡ child) → ⊥
+              by (yes c) =
+                  let z = to_root i d (f ∙ ap same_as c) in
+                  let s : q ≡ root = cc (z, e) in
+                  let y = ap (entry_of after k) s in
+                  cc (y, root_after, h)
+              by (no c) =
+                  let z = to_other i v d c f in
+                  let s : v ≡ q = cc (z, e) in
+                  no_further v w c (λ u. rooted k i v u f) (ap (entry_of after k) s ∙ h)
+
+          at : Dec (i ≡ child) → ⊥
+          at (yes c) =
+              let z = linked.links.written in
+              let y = ap (entry_of after k) c in
+              let s : q ≡ root = cc (z, y, e) in
+              let x = ap (entry_of after k) s in
+              cc (x, root_after, h)
+          at (no d) = of_other d (entry_of before k i) refl
+
+      go : Dec (j ≡ k) → ⊥
+      go (yes e) = to n r (subst (λ i. entry_of after i n ≡ same_as r) e a) p (subst (λ i. entry_of after i r ≡ same_as p) e b)
+      go (no c) = rooted j n r p (sym (ap (λ es. get_or es n unbound) (o.entries j c)) ∙ a) (sym (ap (λ es. get_or es r unbound) (o.entries j c)) ∙ b)
+
+-- What was bound is so still, after a writing of what leads to another.
+filled_after : (before after : Store) (k : VarKind) (n : ℕ) (x : Entry) → WritesEntry before after k n x → ((t : Tree) → x ≡ bound_to t → MayBeBoundTo k t) → IsFilled before → IsFilled after
+filled_after before after k n x w f l j i t h = go (VarKind_discrete j k) (ℕ_discrete i n)
+  where
+    other : StandsBeside before after k n x j i → MayBeBoundTo j t
+    other (as_it_was r) = l j i t (sym r ∙ h)
+    other (led_on r a b c d) = absurd (cc (d, h))
+
+    go : Dec (j ≡ k) → Dec (i ≡ n) → MayBeBoundTo j t
+    go (yes e) (yes q) = subst (λ z. MayBeBoundTo z t) (sym e) (f t (sym w.written ∙ sym (ap (entry_of after k) q) ∙ sym (ap (λ z. entry_of after z i) e) ∙ h))
+    go (no o) q = other (w.others_stand j i (λ e z. o e))
+    go e (no o) = other (w.others_stand j i (λ z q. o q))
+
+-- A root was bound to a term.
+module _ (before after : Store) (k : VarKind) (n : ℕ) (t : Tree) (o : OtherKinds before after k)
+    (entries : after.entries k ≡ set (before.entries k) n (bound_to t)) (universes : after.universes k ≡ before.universes k)
+    (made : IsMade before k n) (was_unbound : entry_of before k n ≡ unbound) where
+  through : after.entries k ≡ set (map (λ e. e) (before.entries k)) n (bound_to t)
+  through = entries ∙ ap (λ es. set es n (bound_to t)) (sym (map_itself (before.entries k)))
+
+  stays : (i : ℕ) → (i ≡ n → ⊥) → entry_of after k i ≡ entry_of before k i
+  stays i d = other_entry before after k n (bound_to t) o (λ e. e) through refl (ap length universes) made was_unbound i d
+
+  pub bound_writes : WritesEntry before after k n (bound_to t)
+  bound_writes = writes_entry before after k n (bound_to t) o (λ e. e) through refl (ap length universes) made was_unbound (λ i d. as_it_was (stays i d))
+
+  pub binds_to : before.budget ≡ suc after.budget → BindsTo before after k n t
+  binds_to b = record { writes = bound_writes; same_universes = same_universes before after k o universes; one_spent = b }
+
+  pub instantiates_number : after.budget ≡ before.budget → IsNumberFor k t → InstantiatesNumber before after k n t
+  instantiates_number b f = record { writes = bound_writes; fits = f; same_universes = same_universes before after k o universes; same_budget = b }
+
+  pub bound_rooted : IsRooted before → IsRooted after
+  bound_rooted rooted j i r p a b = go (VarKind_discrete j k)
+    where
+      back : (q w : ℕ) → entry_of after k q ≡ same_as w → entry_of before k q ≡ same_as w
+      back q w h = at (ℕ_discrete q n)
+        where
+          at : Dec (q ≡ n) → entry_of before k q ≡ same_as w
+          at (yes c) = absurd (let y = ap (entry_of after k) c in let z = bound_writes.written in cc (y, z, h))
+          at (no d) = sym (stays q d) ∙ h
+
+      go : Dec (j ≡ k) → ⊥
+      go (yes e) = rooted k i r p (back i r (subst (λ z. entry_of after z i ≡ same_as r) e a)) (back r p (subst (λ z. entry_of after z r ≡ same_as p) e b))
+      go (no c) = rooted j i r p (sym (ap (λ es. get_or es i unbound) (o.entries j c)) ∙ a) (sym (ap (λ es. get_or es r unbound) (o.entries j c)) ∙ b)
+
+-- The same of the tables of a context.
+module _ {Key Id Name : Type 0} (m : Meaning Key Id Name) (x y : InferCtxtInner Key) (k : VarKind) (b : Beside m x y k) where
+  abbrev others : OtherKinds (store_of m x) (store_of m y) k
+  others = record { entries = b.entries; universes = b.universes; constraints = b.constraints; universe = b.universe; taint = refl }
+
+  module _ (keys : keys_in m y k ≡ keys_in m x k) (l : IsLawful m x) where
+    written_lawful : (n : ℕ) (e : Entry) → WritesEntry (store_of m x) (store_of m y) k n e → ((t : Tree) → e ≡ bound_to t → MayBeBoundTo k t) → IsSound (store_of m y) → IsRooted (store_of m y) → IsLawful m y
+    written_lawful n e w f g r = lawful_beside m x y k b (keyed_still m x y k keys l) g r (filled_after (store_of m x) (store_of m y) k n e w f l.formed) l
+
+    -- `entries` and `universes` are what linking writes.
+    module _ (child root : ℕ) (entries : (store_of m y).entries k ≡ set (map (led_entry child root) ((store_of m x).entries k)) child (same_as root))
+        (universes : (store_of m y).universes k ≡ set ((store_of m x).universes k) root (min (universe_of (store_of m x) k child) (universe_of (store_of m x) k root)))
+        (budget : (store_of m y).budget ≡ (store_of m x).budget) (made : IsMade (store_of m x) k child) (smaller : root < child)
+        (child_unbound : entry_of (store_of m x) k child ≡ unbound) (root_unbound : entry_of (store_of m x) k root ≡ unbound) where
+      pub link_equates : Equates (store_of m x) (store_of m y) k child root
+      link_equates = linked (store_of m x) (store_of m y) k child root others entries universes budget l.sound l.rooted made smaller child_unbound root_unbound
+
+      pub link_lawful : (k ≡ region_var → ⊥) → IsLawful m y
+      link_lawful not_region = written_lawful child (same_as root) link_equates.links (λ t e. absurd (cc)) (equated_sound (store_of m x) (store_of m y) k child root link_equates l.sound not_region)
+          (linked_rooted (store_of m x) (store_of m y) k child root others entries universes budget l.sound l.rooted made smaller child_unbound root_unbound)
+
+    module _ (n : ℕ) (t : Tree) (entries : (store_of m y).entries k ≡ set ((store_of m x).entries k) n (bound_to t)) (universes : (store_of m y).universes k ≡ (store_of m x).universes k)
+        (made : IsMade (store_of m x) k n) (was_unbound : entry_of (store_of m x) k n ≡ unbound) where
+      pub bind_binds : x.budget ≡ suc y.budget → BindsTo (store_of m x) (store_of m y) k n t
+      bind_binds s = binds_to (store_of m x) (store_of m y) k n t others entries universes made was_unbound s
+
+      pub bind_number : y.budget ≡ x.budget → IsNumberFor k t → InstantiatesNumber (store_of m x) (store_of m y) k n t
+      bind_number s f = instantiates_number (store_of m x) (store_of m y) k n t others entries universes made was_unbound s f
+
+      pub bind_lawful : MayBeBoundTo k t → IsSound (store_of m y) → IsLawful m y
+      bind_lawful f g = written_lawful n (bound_to t) (bound_writes (store_of m x) (store_of m y) k n t others entries universes made was_unbound) may g
+          (bound_rooted (store_of m x) (store_of m y) k n t others entries universes made was_unbound l.rooted)
+        where
+          may : (u : Tree) → bound_to t ≡ bound_to u → MayBeBoundTo k u
+          may u e = subst (MayBeBoundTo k) (let q : t ≡ u = cc in q) f

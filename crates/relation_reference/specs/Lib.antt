@@ -1,5 +1,8 @@
+pub mod Variables
+pub mod Numbers
 pub mod Tables
 pub mod RefCtxt
 pub mod Remembering
+pub mod NumberVars
 pub mod Solving
 pub mod Answers

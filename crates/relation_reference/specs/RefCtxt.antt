@@ -1,10 +1,21 @@
 -- What contracts see of a `RefCtxt`, by what the keys of its interner mean.
+use Rattle.std.specs.Prelude.{◌≡◌, []}
 use Rattle.relation_terms.specs.Trees.{Tree, apply}
 use Rattle.relation_terms.specs.Meaning.{Meaning}
 use Rattle.type_relations.specs.Stores.{Store, resolved}
 use Rattle.type_relations.specs.Contexts.{Context}
 use Rattle.relation_reference.specs.declared.context.variables.RefCtxt.{RefCtxt}
+use Rattle.relation_reference.specs.declared.context.inner.InferCtxtInner.{InferCtxtInner}
 use Rattle.relation_reference.specs.Tables.{store_of, context_of}
+
+-- It has no variable and no constraint.
+pub record IsNew {Key : Type 0} (x : InferCtxtInner Key) : Type 0 where
+  pub types : x.types.items ≡ []
+  pub ints : x.ints.items ≡ []
+  pub floats : x.floats.items ≡ []
+  pub consts : x.consts.items ≡ []
+  pub regions : x.regions.items ≡ []
+  pub constraints : x.constraints.items ≡ []
 
 module _ {I Key Id Name Span : Type 0} (meaning : I → Meaning Key Id Name) where
   -- The store that its tables record.

@@ -13,6 +13,7 @@ use Rattle.type_relations.specs.declared.relate.StructurallyRelateAliases.TheVar
 use Rattle.type_relations.specs.Lawful.{State, Settings, Manners, TakesParts}
 use Rattle.relation_reference.specs.declared.context.inner.InferCtxtInner.{InferCtxtInner}
 use Rattle.relation_reference.specs.declared.context.variables.RefCtxt.{RefCtxt}
+use Rattle.relation_reference.specs.declared.context.solver_relating.SolverRelating.{SolverRelating}
 use Rattle.relation_reference.specs.Tables.{store_of, IsLawful}
 
 -- Aliases are left to goals, which the next solver answers.
@@ -39,7 +40,14 @@ abbrev pub solving_in : {I Key Id Name Span : Type 0} → (I → Meaning Key Id 
     RefCtxt I Key Id Name Span → Variance → ParamEnvKey Key → State Key Id Name
 solving_in meaning c v e = solving 0 (meaning c.interner) c.inner v e
 
--- It takes terms with variables at invariance alone, it is exact, and it records just what is asked of regions.
+-- The same of a relation.
+abbrev pub relation_in : {I Key Id Name Span : Type 0} → (I → Meaning Key Id Name) →
+    SolverRelating I Key Id Name Span → State Key Id Name
+relation_in meaning r = let c = r.infcx.now in
+    solving r.infcx.ghost_name (meaning c.interner) c.inner r.ambient_variance r.param_env
+
+-- It takes terms with type or constant variables at invariance alone, it is exact, and it records just what is asked of
+-- regions.
 abbrev pub solver_manner : Manners
 solver_manner k = record {
   takes = IsTakenLeaf;
@@ -48,7 +56,7 @@ solver_manner k = record {
   records_asked = Unit {0};
 }
 
--- What has no variable but a region's is taken everywhere.
+-- What has no type or constant variable is taken everywhere.
 fixed_taken : (v : Variance) (l : Leaf) → IsFixedLeaf l → IsTakenLeaf v l
 fixed_taken Covariant l h = h
 fixed_taken Contravariant l h = h

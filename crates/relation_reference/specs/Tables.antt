@@ -1,55 +1,69 @@
 -- What the tables of a context mean: the store that they record, and the invariant of a context.
-use Rattle.std.specs.Prelude.{◌≡◌, ℕ, ◌<◌, false, [], map, length, get_or}
+use Rattle.std.specs.Prelude.{◌≡◌, ◌≢◌, ℕ, ◌<◌, false, List, [], map, length, get_or}
 use Rattle.relation_terms.specs.Heads.{VarKind, type_var, int_var, float_var, const_var, region_var, variable}
 use Rattle.relation_terms.specs.Trees.{Tree, leaf, nil}
 use Rattle.relation_terms.specs.Meaning.{Meaning}
 use Rattle.type_relations.specs.Stores.{Store, Entry, entry_of, unbound, same_as, bound_to, IsSound}
 use Rattle.type_relations.specs.Constraints.{constraint_of}
-use Rattle.type_relations.specs.Parts.{IsFormed}
+use Rattle.type_relations.specs.Parts.{IsFormed, IsFormedConst}
 use Rattle.type_relations.specs.Covered.{IsCovered}
 use Rattle.type_relations.specs.Contexts.{Context}
-use Rattle.relation_reference.specs.declared.context.inner.TypeVariableValue.{TypeVariableValue}
-use Rattle.relation_reference.specs.declared.context.inner.TypeVariableValue.TheVariants.{Unknown, SameAs, Known}
 use Rattle.relation_reference.specs.declared.context.inner.InferCtxtInner.{InferCtxtInner}
+use Rattle.relation_reference.specs.Variables.{entries_of, universes_of, trees_of}
+use Rattle.relation_reference.specs.Numbers.{number_trees}
 
--- One thing for type variables, one for region variables, one for the kinds that the context has none of.
-abbrev pub by_kind : {A : Type 0} → A → A → A → VarKind → A
-by_kind t r d type_var = t
-by_kind t r d region_var = r
-by_kind t r d int_var = d
-by_kind t r d float_var = d
-by_kind t r d const_var = d
+-- One thing for each kind of variables: types, integers, floats, constants, regions.
+abbrev pub by_kind : {A : Type 0} → A → A → A → A → A → VarKind → A
+by_kind t i f c r type_var = t
+by_kind t i f c r int_var = i
+by_kind t i f c r float_var = f
+by_kind t i f c r const_var = c
+by_kind t i f c r region_var = r
 
--- What a variable may be bound to: a type that is no variable, of forms that relating has rules for.
-abbrev pub MayBeBoundTo : Tree → Type 0
-MayBeBoundTo t = IsFormed t × IsCovered t
+-- What a variable of a kind may be bound to, of forms that relating has rules for: a type variable to what is no type
+-- variable, so that also to one of integers or floats; any other to a term that is no variable.
+abbrev pub MayBeBoundTo : VarKind → Tree → Type 0
+MayBeBoundTo type_var t = ((n : ℕ) → t ≢ leaf (variable type_var n)) × IsCovered t
+MayBeBoundTo const_var t = IsFormedConst t × IsCovered t
+MayBeBoundTo k t = IsFormed t × IsCovered t
+
+-- No entry leads to one that leads on: each names a root.
+abbrev pub IsRooted : Store → Type 0
+IsRooted st = (k : VarKind) (n r p : ℕ) → entry_of st k n ≡ same_as r → entry_of st k r ≡ same_as p → ⊥
+
+-- What is bound may be bound.
+abbrev pub IsFilled : Store → Type 0
+IsFilled st = (k : VarKind) (n : ℕ) (t : Tree) → entry_of st k n ≡ bound_to t → MayBeBoundTo k t
 
 module _ {Key Id Name : Type 0} (m : Meaning Key Id Name) where
-  -- What is recorded of a variable.
-  abbrev pub entry_of_value : TypeVariableValue Key → Entry
-  entry_of_value Unknown = unbound
-  entry_of_value (SameAs v) = same_as v.0
-  entry_of_value (Known t) = bound_to (m.ty t)
-
   -- The store that the tables record.
   abbrev pub store_of : InferCtxtInner Key → Store
   store_of x = record {
-    entries = by_kind (map (λ v. entry_of_value v.value) x.types.items) (map (λ u. unbound) x.regions.items) [];
-    universes = by_kind (map (λ v. (v.universe).0) x.types.items) (map (λ u. u.0) x.regions.items) [];
+    entries = by_kind (entries_of m.ty x.types.items) (entries_of m.ty x.ints.items) (entries_of m.ty x.floats.items)
+        (entries_of m.const_ x.consts.items) (map (λ u. unbound) x.regions.items);
+    universes = by_kind (universes_of x.types.items) (universes_of x.ints.items) (universes_of x.floats.items)
+        (universes_of x.consts.items) (map (λ u. u.0) x.regions.items);
     universe = (x.universe).0;
     constraints = map (constraint_of m) x.constraints.items;
     tainted = false;
     budget = x.budget;
   }
 
-  -- The invariant of a context: its store is sound; the key beside each variable is the variable's; what variables are
-  -- bound to is no variable, and may be related; and there is no universe yet but the first.
+  -- The trees of the keys beside the variables. Beside region variables there are none.
+  abbrev pub keys_in : InferCtxtInner Key → VarKind → List Tree
+  keys_in x = by_kind (trees_of m.ty x.types.items) (trees_of m.ty x.ints.items) (trees_of m.ty x.floats.items)
+      (trees_of m.const_ x.consts.items) []
+
+  -- The invariant of a context: its store is sound; each entry of another variable names a root; what variables are
+  -- bound to is no variable, and may be related; there is no universe yet but the first; the key beside each variable is
+  -- the variable's; and the keys of integer and float types are theirs.
   pub record IsLawful (x : InferCtxtInner Key) : Type 0 where
     pub sound : IsSound (store_of x)
-    pub keyed : (n : ℕ) → n < length x.types.items →
-        get_or (map (λ v. m.ty v.key) x.types.items) n nil ≡ leaf (variable type_var n)
-    pub formed : (n : ℕ) (t : Tree) → entry_of (store_of x) type_var n ≡ bound_to t → MayBeBoundTo t
+    pub rooted : IsRooted (store_of x)
+    pub formed : IsFilled (store_of x)
     pub first_universe : (x.universe).0 ≡ 0
+    pub keyed : (k : VarKind) (n : ℕ) → n < length (keys_in x k) → get_or (keys_in x k) n nil ≡ leaf (variable k n)
+    pub numbers : map m.ty x.numbers.items ≡ number_trees
 
   -- A context of these tables, as contracts see it.
   abbrev pub context_of : InferCtxtInner Key → Context Key Id Name

@@ -49,7 +49,7 @@ fn recorded_in<I: Interner + Drop>(
     requires rhs { IsConcrete ((I.meaning cx).ty b.now) }
 {
     let param_env = cx.empty_param_env()?;
-    let mut ctx = RefCtxt::new(cx, 0);
+    let mut ctx = RefCtxt::new(cx, 0)?;
     recorded(&mut ctx, variance, param_env, a, b, asks)
 }
 

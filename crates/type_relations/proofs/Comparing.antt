@@ -347,8 +347,8 @@ module _ {Key Id Name : Type 0} (m : Meaning Key Id Name) where
   alone_kind (Ref r x u) o i a b c d e f = absurd (e r x u refl)
   alone_kind (TyParam p) o i a b c d e f = absurd (f p refl)
   alone_kind (Infer (TyVar v)) o i a b c d e f = (_, refl, tt)
-  alone_kind (Infer (IntVar v)) o i a b c d e f = absurd o
-  alone_kind (Infer (FloatVar v)) o i a b c d e f = absurd o
+  alone_kind (Infer (IntVar v)) o i a b c d e f = (_, refl, tt)
+  alone_kind (Infer (FloatVar v)) o i a b c d e f = (_, refl, tt)
   alone_kind (Infer (FreshTy n)) o i a b c d e f = absurd o
   alone_kind (Infer (FreshIntTy n)) o i a b c d e f = absurd o
   alone_kind (Infer (FreshFloatTy n)) o i a b c d e f = absurd o
@@ -470,19 +470,19 @@ module _ {Key Id Name : Type 0} (m : Meaning Key Id Name) where
   form_known x y e a b h (Err z) q = subst (KnowsFault m) (sym q.1) (known_error x y e a b h)
 
   -- Constants.
-  pub formed_const : (k : ConstKind Key Id Name) (x : ConstKey Key) → m.const_ x ≡ const_tree m k → IsCovered (m.const_ x) → IsFormedConst (m.const_ x)
-  formed_const k x e c = subst IsFormedConst (sym e) (go k (subst IsCovered e c))
+  pub formed_const : (k : ConstKind Key Id Name) (x : ConstKey Key) → m.const_ x ≡ const_tree m k → IsCovered (m.const_ x) → ((n : ℕ) → m.const_ x ≡ leaf (variable const_var n) → ⊥) → IsFormedConst (m.const_ x)
+  formed_const k x e c o = subst IsFormedConst (sym e) (go k (subst IsCovered e c) (λ n q. o n (e ∙ q)))
     where
-      go : (k : ConstKind Key Id Name) → IsCovered (const_tree m k) → IsFormedConst (const_tree m k)
-      go (ConstParam p) c = refl
-      go (ConstInfer (Var v)) c = absurd c
-      go (ConstInfer (Fresh n)) c = absurd c
-      go (ConstBound d b) c = absurd c
-      go (ConstPlaceholder p) c = refl
-      go (Unevaluated u) c = absurd c.0
-      go (Value t v) c = tt
-      go (ConstError z) c = absurd c
-      go (Expr x a) c = tt
+      go : (k : ConstKind Key Id Name) → IsCovered (const_tree m k) → ((n : ℕ) → const_tree m k ≡ leaf (variable const_var n) → ⊥) → IsFormedConst (const_tree m k)
+      go (ConstParam p) c o = refl
+      go (ConstInfer (Var v)) c o = absurd (o v.0 refl)
+      go (ConstInfer (Fresh n)) c o = absurd c
+      go (ConstBound d b) c o = absurd c
+      go (ConstPlaceholder p) c o = refl
+      go (Unevaluated u) c o = absurd c.0
+      go (Value t v) c o = tt
+      go (ConstError z) c o = absurd c
+      go (Expr x a) c o = tt
 
   -- The error of two constants that are of unlike forms.
   unlike_consts_as : (x y : ConstKey Key) (t u : Tree) (e : TypeError Key Id Name) → m.const_ x ≡ t → m.const_ y ≡ u → HaveNoError t u → (ConstsAlike t u → ⊥) → e ≡ ConstMismatch (record { expected = x; found = y }) → ConstFormError m x y e

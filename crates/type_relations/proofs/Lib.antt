@@ -49,3 +49,6 @@ pub mod Making
 pub mod Answering
 pub mod Unifying
 pub mod Rejected
+pub mod Roots
+pub mod Binding
+pub mod Numbers

@@ -1,5 +1,4 @@
 -- The terms that relating has rules for so far.
-use Rattle.relation_terms.specs.Heads.{VarKind, type_var, int_var, float_var, const_var, region_var}
 use Rattle.relation_terms.specs.Heads.{Atom, bool_type, char_type, str_type, never_type, type_error, int_type}
 use Rattle.relation_terms.specs.Heads.{uint_type, float_type, foreign, fresh_type, fresh_int, fresh_float, type_param}
 use Rattle.relation_terms.specs.Heads.{static_region, early_region, const_error, fresh_const, const_param, value_leaf}
@@ -13,14 +12,6 @@ use Rattle.relation_terms.specs.Heads.{alias_term, region_outlives, type_outlive
 use Rattle.relation_terms.specs.Heads.{well_formed, const_evaluatable, coerce, normalizes_to, alias_relate}
 use Rattle.relation_terms.specs.Heads.{environment, Leaf, variable, bound, placeholder, atom, unknown}
 use Rattle.relation_terms.specs.Trees.{Tree, leaf, node, bind, nil, cons}
-
--- Variables of types and of regions.
-abbrev pub IsCoveredVariable : VarKind → Type 0
-IsCoveredVariable type_var = Unit {0}
-IsCoveredVariable int_var = ⊥
-IsCoveredVariable float_var = ⊥
-IsCoveredVariable const_var = ⊥
-IsCoveredVariable region_var = Unit {0}
 
 -- Types, regions, constants and value trees without parts: no error, and nothing that stands for a variable.
 abbrev pub IsCoveredAtom : Atom → Type 0
@@ -48,9 +39,9 @@ IsCoveredAtom (existential_auto d) = ⊥
 IsCoveredAtom (unstable_feature d) = ⊥
 IsCoveredAtom ambiguous = ⊥
 
--- No bound variable.
+-- No bound variable. Variables of all kinds.
 abbrev pub IsCoveredLeaf : Leaf → Type 0
-IsCoveredLeaf (variable k n) = IsCoveredVariable k
+IsCoveredLeaf (variable k n) = Unit {0}
 IsCoveredLeaf (bound k d i) = ⊥
 IsCoveredLeaf (placeholder k u n) = Unit {0}
 IsCoveredLeaf (atom x) = IsCoveredAtom x

@@ -1,33 +1,37 @@
 //! The tables of a context.
 use relation_terms::predicate::RegionConstraint;
-use relation_terms::terms::{TyKey, TyVid, UniverseIndex};
+use relation_terms::terms::{ConstKey, TyKey, UniverseIndex};
 
-/// What is recorded of a type variable.
+/// What is recorded of a variable, whose terms are `K`.
 #[derive(Clone, Copy)]
-pub enum TypeVariableValue<X> {
+pub enum VariableValue<K> {
     /// Nothing.
     Unknown,
-    /// That it is the same as another of a smaller number.
-    SameAs(TyVid),
-    /// The type that it is bound to.
-    Known(TyKey<X>),
+    /// That it is the same as another of a smaller number, the root of its class.
+    SameAs(usize),
+    /// The term that it is bound to.
+    Known(K),
 }
 
-/// A type variable: its key, what is recorded of it, and its universe.
+/// A variable: its key, what is recorded of it, and its universe.
 #[derive(Clone, Copy)]
-pub struct TypeVariable<X> {
-    pub key: TyKey<X>,
-    pub value: TypeVariableValue<X>,
+pub struct Variable<K> {
+    pub key: K,
+    pub value: VariableValue<K>,
     pub universe: UniverseIndex,
 }
 
-/// What a context has recorded: its variables by their numbers, the constraints on regions in order, the current
-/// universe, and how many instantiations may still be made.
+/// What a context has recorded: its variables of each kind by their numbers, the constraints on regions in order, the
+/// current universe, and how many instantiations may still be made; and the keys of all integer and float types.
 #[derive(Drop)]
 pub struct InferCtxtInner<X> {
-    pub types: Vec<TypeVariable<X>>,
+    pub types: Vec<Variable<TyKey<X>>>,
+    pub ints: Vec<Variable<TyKey<X>>>,
+    pub floats: Vec<Variable<TyKey<X>>>,
+    pub consts: Vec<Variable<ConstKey<X>>>,
     pub regions: Vec<UniverseIndex>,
     pub constraints: Vec<RegionConstraint<X>>,
     pub universe: UniverseIndex,
     pub budget: usize,
+    pub numbers: Vec<TyKey<X>>,
 }

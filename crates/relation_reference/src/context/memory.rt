@@ -1,13 +1,13 @@
 //! What walks through terms have met: a part that was met is not gone through again.
 ghost use Rattle.std.specs.Prelude.{◌≡◌, IsTrue, IfSome, OnOk};
 ghost use Rattle.std.specs.HashMap.{IsEmpty};
-ghost use Rattle.relation_terms.specs.Heads.{type_var};
 ghost use Rattle.relation_terms.specs.Trees.{known, Occurs};
 ghost use Rattle.relation_terms.specs.Parts.{part_tree};
 ghost use Rattle.relation_reference.specs.Remembering.{ComesTo, Remembers, Lacks, IsWithout, key_of as the_key};
+ghost use Rattle.relation_reference.specs.Remembering.{vid_kind, vid_number};
 
 use crate::context::RefCtxt;
-use relation_terms::terms::{Interner, OutOfMemory, Part, PartOf, TyVid};
+use relation_terms::terms::{ConstVid, Interner, OutOfMemory, Part, PartOf, TyVid};
 use std::collections::{HashMap, HashSet};
 
 /// A part as it is looked for: of which sort it is, and its key.
@@ -15,6 +15,13 @@ use std::collections::{HashMap, HashSet};
 pub struct PartKey<X> {
     pub sort: u8,
     pub key: X,
+}
+
+/// A variable for a type or for a constant.
+#[derive(Clone, Copy)]
+pub enum TermVid {
+    Ty(TyVid),
+    Const(ConstVid),
 }
 
 /// What parts that were met were resolved to.
@@ -46,12 +53,12 @@ fn key_of<X: Copy, D: Copy>(part: &Part<X, D>) -> Option<PartKey<X>>
 pub(crate) fn is_lacking<I: Interner>(
     cx: &I,
     part: &PartOf<I>,
-    var: TyVid,
+    var: TermVid,
     lacking: &Lacking<I::Key>,
 ) -> bool
     requires known { IsTrue (known (part_tree (I.meaning cx.now) part.now)) }
-    requires lacks { Lacks (I.meaning cx.now) var.0 ⟦<PartKey<I::Key> as PartialEq>⟧.eq lacking.now }
-    ensures { IsTrue result → Occurs type_var var.0 (part_tree (I.meaning cx.now) part.now) → ⊥ }
+    requires lacks { Lacks (I.meaning cx.now) (vid_kind var) (vid_number var) ⟦<PartKey<I::Key> as PartialEq>⟧.eq lacking.now }
+    ensures { IsTrue result → Occurs (vid_kind var) (vid_number var) (part_tree (I.meaning cx.now) part.now) → ⊥ }
 {
     let _ = cx;
     let _ = var;
@@ -65,12 +72,12 @@ pub(crate) fn is_lacking<I: Interner>(
 pub(crate) fn keep_lacking<I: Interner>(
     cx: &I,
     part: &PartOf<I>,
-    var: TyVid,
+    var: TermVid,
     lacking: &mut Lacking<I::Key>,
 ) -> Result<(), OutOfMemory>
-    requires without { IsWithout (I.meaning cx.now) var.0 part.now }
-    requires lacks { Lacks (I.meaning cx.now) var.0 ⟦<PartKey<I::Key> as PartialEq>⟧.eq lacking.old }
-    ensures { OnOk result (Lacks (I.meaning cx.now) var.0 ⟦<PartKey<I::Key> as PartialEq>⟧.eq lacking.new) }
+    requires without { IsWithout (I.meaning cx.now) (vid_kind var) (vid_number var) part.now }
+    requires lacks { Lacks (I.meaning cx.now) (vid_kind var) (vid_number var) ⟦<PartKey<I::Key> as PartialEq>⟧.eq lacking.old }
+    ensures { OnOk result (Lacks (I.meaning cx.now) (vid_kind var) (vid_number var) ⟦<PartKey<I::Key> as PartialEq>⟧.eq lacking.new) }
 {
     let _ = cx;
     let _ = var;

@@ -1,24 +1,28 @@
 //! Relating as a solver does: by what a context has recorded, and by recording more.
-ghost use Rattle.std.specs.Prelude.{◌≡◌, ◌≢◌, IsTrue};
-ghost use Rattle.relation_terms.specs.Heads.{arguments};
-ghost use Rattle.relation_terms.specs.Trees.{known};
+ghost use Rattle.std.specs.Prelude.{◌≡◌, ◌≢◌, ℕ, IsTrue};
+ghost use Rattle.relation_terms.specs.Heads.{arguments, type_var, variable};
+ghost use Rattle.relation_terms.specs.Trees.{leaf, known};
 ghost use Rattle.relation_terms.specs.declared.terms.enums.Variance.TheVariants.{Bivariant};
 ghost use Rattle.type_relations.specs.Lawful.{Asked, Related};
-ghost use Rattle.type_relations.specs.Keyed.{AreAsMany, AskedLists, RelatedLists};
+ghost use Rattle.relation_tools.specs.declared.error.TypeError.TheVariants.{Sorts};
+ghost use Rattle.relation_tools.specs.declared.error.RelateFault.TheVariants.{Unrelated};
+ghost use Rattle.type_relations.specs.Keyed.{AreAsMany, AskedLists, RelatedLists, AskedTys, AskedConsts, SteppedTys};
+ghost use Rattle.type_relations.specs.Keyed.{SteppedConsts};
 ghost use Rattle.relation_reference.specs.Tables.{IsLawful};
-ghost use Rattle.relation_reference.specs.Solving.{solving, solving_in, solver_manner};
+ghost use Rattle.relation_reference.specs.Answers.{IsShallow, IsShallowConst};
+ghost use Rattle.relation_reference.specs.Solving.{solving_in, relation_in, solver_manner};
 
 use crate::context::RefCtxt;
 use relation_terms::terms::{Const, GenericArgs, Interner, ItemOf, ParamEnv, Region, Ty, Variance};
-use relation_tools::error::RelateResult;
+use relation_tools::error::{ExpectedFound, RelateFault, RelateFaultOf, RelateResult, TypeError};
 use type_relations::relate::structural::tys;
 use type_relations::relate::{Step, TypeRelation, relate_args_invariantly};
 
 /// Relates the terms of a context, at an ambient variance and in an environment.
 ///
-/// Types are read by what is recorded of variables. A variable and a type that it is related with are made one; of two
-/// regions it is recorded which has to outlive the other. Terms with other variables than regions' are related at
-/// `Invariant` alone.
+/// Types and constants are read by what is recorded of variables. A variable and a term that it is related with are made
+/// one, an integer or float variable and a type only where that is a type of its kind; of two regions it is recorded
+/// which has to outlive the other. Terms with type or constant variables are related at `Invariant` alone.
 #[derive(Drop)]
 pub struct SolverRelating<'a, I: Interner> {
     infcx: &'a mut RefCtxt<I>,
@@ -99,6 +103,146 @@ impl<'a, I: Interner> SolverRelating<'a, I> {
         relate_args_invariantly(self, a, b)
     }
 
+    // What comes of two types that were resolved shallowly: a type variable is made one with another, or bound to a type,
+    // which is then related with that.
+    fn combine_tys(&mut self, a: &Ty<I>, b: &Ty<I>) -> RelateResult<I, Step<Ty<I>>>
+        requires lawful { (relation_in I.meaning self.old).lawful }
+        requires decides { self.old.ambient_variance ≢ Bivariant }
+        requires asked { AskedTys solver_manner (relation_in I.meaning self.old) a.now b.now }
+        requires a_shallow { let r = relation_in I.meaning self.old in IsShallow r.store (r.meaning.ty a.now) }
+        requires b_shallow { let r = relation_in I.meaning self.old in IsShallow r.store (r.meaning.ty b.now) }
+        ensures { SteppedTys solver_manner (relation_in I.meaning self.old) (relation_in I.meaning self.new)
+            a.now b.now result }
+    {
+        match self.infcx.ty_var(a) {
+            Some(x) => match self.infcx.ty_var(b) {
+                Some(y) => {
+                    self.infcx.equate_ty_vids_raw(x, y);
+                    Ok(Step::Done(*a))
+                }
+                None => {
+                    let bound = self.infcx.instantiate_ty_var_raw(x, b)?;
+                    Ok(Step::Again {
+                        a: *a,
+                        b: *b,
+                        x: bound,
+                        y: *b,
+                        variance: Variance::Covariant,
+                        answer: *a,
+                    })
+                }
+            },
+            None => match self.infcx.ty_var(b) {
+                Some(y) => {
+                    let bound = self.infcx.instantiate_ty_var_raw(y, a)?;
+                    Ok(Step::Again {
+                        a: *a,
+                        b: *b,
+                        x: *a,
+                        y: bound,
+                        variance: Variance::Covariant,
+                        answer: *a,
+                    })
+                }
+                None => self.super_combine_tys(a, b),
+            },
+        }
+    }
+
+    // The same of types of which none is a type variable: number variables are made one, or bound to a type of theirs;
+    // all others are left to be related by their parts.
+    fn super_combine_tys(&mut self, a: &Ty<I>, b: &Ty<I>) -> RelateResult<I, Step<Ty<I>>>
+        requires lawful { (relation_in I.meaning self.old).lawful }
+        requires decides { self.old.ambient_variance ≢ Bivariant }
+        requires asked { AskedTys solver_manner (relation_in I.meaning self.old) a.now b.now }
+        requires a_shallow { let r = relation_in I.meaning self.old in IsShallow r.store (r.meaning.ty a.now) }
+        requires b_shallow { let r = relation_in I.meaning self.old in IsShallow r.store (r.meaning.ty b.now) }
+        requires a_no_ty_var { let r = relation_in I.meaning self.old in
+            (n : ℕ) → r.meaning.ty a.now ≢ leaf (variable type_var n) }
+        requires b_no_ty_var { let r = relation_in I.meaning self.old in
+            (n : ℕ) → r.meaning.ty b.now ≢ leaf (variable type_var n) }
+        ensures { SteppedTys solver_manner (relation_in I.meaning self.old) (relation_in I.meaning self.new)
+            a.now b.now result }
+    {
+        match self.infcx.number_var(a) {
+            Some(x) => match self.infcx.number_var(b) {
+                Some(y) => {
+                    if !self.infcx.equate_numbers(x, y) {
+                        return Err(unlike::<I>(a, b));
+                    }
+                    Ok(Step::Done(*a))
+                }
+                None => {
+                    if !self.infcx.bind_number(x, b) {
+                        return Err(unlike::<I>(a, b));
+                    }
+                    Ok(Step::Done(*b))
+                }
+            },
+            None => match self.infcx.number_var(b) {
+                Some(y) => {
+                    if !self.infcx.bind_number(y, a) {
+                        return Err(unlike::<I>(a, b));
+                    }
+                    Ok(Step::Done(*a))
+                }
+                None => Ok(Step::Parts { a: *a, b: *b }),
+            },
+        }
+    }
+
+    // What comes of two constants that were resolved shallowly: a variable is made one with another, or bound to a
+    // constant, which is then related with that; all others are left to be related by their parts.
+    fn super_combine_consts(
+        &mut self,
+        a: &Const<I>,
+        b: &Const<I>,
+    ) -> RelateResult<I, Step<Const<I>>>
+        requires lawful { (relation_in I.meaning self.old).lawful }
+        requires decides { self.old.ambient_variance ≢ Bivariant }
+        requires asked { AskedConsts solver_manner (relation_in I.meaning self.old) a.now b.now }
+        requires a_shallow { let r = relation_in I.meaning self.old in
+            IsShallowConst r.store (r.meaning.const_ a.now) }
+        requires b_shallow { let r = relation_in I.meaning self.old in
+            IsShallowConst r.store (r.meaning.const_ b.now) }
+        ensures { SteppedConsts solver_manner (relation_in I.meaning self.old) (relation_in I.meaning self.new)
+            a.now b.now result }
+    {
+        match self.infcx.const_var(a) {
+            Some(x) => match self.infcx.const_var(b) {
+                Some(y) => {
+                    self.infcx.equate_const_vids_raw(x, y);
+                    Ok(Step::Done(*a))
+                }
+                None => {
+                    let bound = self.infcx.instantiate_const_var_raw(x, b)?;
+                    Ok(Step::Again {
+                        a: *a,
+                        b: *b,
+                        x: bound,
+                        y: *b,
+                        variance: Variance::Invariant,
+                        answer: *b,
+                    })
+                }
+            },
+            None => match self.infcx.const_var(b) {
+                Some(y) => {
+                    let bound = self.infcx.instantiate_const_var_raw(y, a)?;
+                    Ok(Step::Again {
+                        a: *a,
+                        b: *b,
+                        x: *a,
+                        y: bound,
+                        variance: Variance::Invariant,
+                        answer: *a,
+                    })
+                }
+                None => Ok(Step::Parts { a: *a, b: *b }),
+            },
+        }
+    }
+
     /// The context, with all that was recorded.
     pub fn into_infcx(self) -> &'a mut RefCtxt<I>
         ensures same_reference { result.ghost_name ≡ self.entry.infcx.ghost_name }
@@ -111,6 +255,13 @@ impl<'a, I: Interner> SolverRelating<'a, I> {
         } = self;
         infcx
     }
+}
+
+// Two types of which one is a number variable that can't be bound to the other.
+fn unlike<I: Interner>(a: &Ty<I>, b: &Ty<I>) -> RelateFaultOf<I>
+    ensures { result ≡ Unrelated (Sorts (record { expected = a.now; found = b.now })) }
+{
+    RelateFault::Unrelated(TypeError::Sorts(ExpectedFound::new(*a, *b)))
 }
 
 // Relates two types of a context at a variance, in an environment.
@@ -146,8 +297,7 @@ impl<'a, I: Interner> TypeRelation<I> for SolverRelating<'a, I> {
     ghost use Rattle.std.specs.Prelude.{refl};
     ghost use Rattle.relation_reference.specs.Solving.{solver_takes};
 
-    ghost state = { λ r. let x = r.infcx.now in
-        solving r.infcx.ghost_name (I.meaning x.interner) x.inner r.ambient_variance r.param_env };
+    ghost state = { λ r. relation_in I.meaning r };
 
     ghost interner = { λ r. r.infcx.now.interner };
 
@@ -187,46 +337,16 @@ impl<'a, I: Interner> TypeRelation<I> for SolverRelating<'a, I> {
         }
         let left = self.infcx.shallow_resolve(a);
         let right = self.infcx.shallow_resolve(b);
-        match self.infcx.ty_var(&left) {
-            Some(x) => match self.infcx.ty_var(&right) {
-                Some(y) => {
-                    self.infcx.equate_ty_vids_raw(x, y);
-                    Ok(Step::Done(left))
-                }
-                None => {
-                    let bound = self.infcx.instantiate_ty_var_raw(x, &right)?;
-                    Ok(Step::Again {
-                        x: bound,
-                        y: right,
-                        a: left,
-                        b: right,
-                        variance: Variance::Covariant,
-                        answer: left,
-                    })
-                }
-            },
-            None => match self.infcx.ty_var(&right) {
-                Some(y) => {
-                    let bound = self.infcx.instantiate_ty_var_raw(y, &left)?;
-                    Ok(Step::Again {
-                        x: left,
-                        y: bound,
-                        a: left,
-                        b: right,
-                        variance: Variance::Covariant,
-                        answer: left,
-                    })
-                }
-                None => Ok(Step::Parts { a: left, b: right }),
-            },
-        }
+        self.combine_tys(&left, &right)
     }
 
     fn consts(&mut self, a: &Const<I>, b: &Const<I>) -> RelateResult<I, Step<Const<I>>> {
-        // Reading shows that both are of forms that are related by their parts.
-        let _a = self.infcx.interner.const_kind(a);
-        let _b = self.infcx.interner.const_kind(b);
-        Ok(Step::Parts { a: *a, b: *b })
+        if a == b {
+            return Ok(Step::Done(*a));
+        }
+        let left = self.infcx.shallow_resolve_const(a);
+        let right = self.infcx.shallow_resolve_const(b);
+        self.super_combine_consts(&left, &right)
     }
 
     fn regions(&mut self, a: &Region<I>, b: &Region<I>) -> RelateResult<I, Region<I>> {

@@ -126,23 +126,22 @@ fn compare_items<I: Interner>(
 /// are of one form where they have one index, values where their value trees are one or have as many branches. The
 /// types of values are not looked at.
 ///
-/// The interner has to know both constants, which may not be one and are of forms that relating has rules for; it is
-/// only read.
+/// The interner has to know both constants, which may not be one, are no variables and are of forms that relating has
+/// rules for; it is only read.
 ///
 /// Answers `Mismatch` for two expressions of unlike operations or with unlike numbers of arguments, and
 /// `ConstMismatch`, which names the left one first, for all other constants that differ. Upstream these cases stand in
 /// `structurally_relate_consts`, which relates the parts too.
-#[tactic(auto, using(crate::proofs::Comparing::formed_const))]
 pub fn compare_consts<I: Interner>(cx: &I, a: &Const<I>, b: &Const<I>) -> Result<(), TypeErrorOf<I>>
     requires a_known { IsTrue (known ((I.meaning cx.now).const_ a.now)) }
     requires b_known { IsTrue (known ((I.meaning cx.now).const_ b.now)) }
     requires a_covered { IsCovered ((I.meaning cx.now).const_ a.now) }
     requires b_covered { IsCovered ((I.meaning cx.now).const_ b.now) }
+    requires a_formed { IsFormedConst ((I.meaning cx.now).const_ a.now) }
+    requires b_formed { IsFormedConst ((I.meaning cx.now).const_ b.now) }
     requires differ { (I.meaning cx.now).const_ a.now ≢ (I.meaning cx.now).const_ b.now }
     ensures alike { OnOk result (AreOfOneConst ((I.meaning cx.now).const_ a.now) ((I.meaning cx.now).const_ b.now)) }
     ensures errors { IfErr result (ConstFormError (I.meaning cx.now) a.now b.now) }
-    ensures a_formed { IsFormedConst ((I.meaning cx.now).const_ a.now) }
-    ensures b_formed { IsFormedConst ((I.meaning cx.now).const_ b.now) }
 {
     let right = cx.const_kind(b);
     match cx.const_kind(a) {

@@ -6,7 +6,7 @@ ghost use Rattle.relation_terms.specs.Variances.{xform};
 ghost use Rattle.relation_terms.specs.Meaning.{arg_tree};
 ghost use Rattle.type_relations.specs.Relation.{part_at, pointee_variance};
 ghost use Rattle.type_relations.specs.Errors.{FormError, ConstFormError, AreOfOneForm, AreOfOneConst};
-ghost use Rattle.type_relations.specs.Parts.{parts_of, const_parts_of, head_of, const_head_of};
+ghost use Rattle.type_relations.specs.Parts.{IsFormedConst, parts_of, const_parts_of, head_of, const_head_of};
 ghost use Rattle.type_relations.specs.Covered.{IsCovered};
 ghost use Rattle.type_relations.specs.Lawful.{Noted, items_in};
 ghost use Rattle.type_relations.specs.Keyed.{AskedTys, RelatesTys, AreOver, part_in};
@@ -45,6 +45,8 @@ pub(crate) fn compare_consts_of<I: Interner, R: TypeRelation<I>>(
     requires b_known { IsTrue (known ((R.state r.now).meaning.const_ b.now)) }
     requires a_covered { IsCovered ((R.state r.now).meaning.const_ a.now) }
     requires b_covered { IsCovered ((R.state r.now).meaning.const_ b.now) }
+    requires a_formed { IsFormedConst ((R.state r.now).meaning.const_ a.now) }
+    requires b_formed { IsFormedConst ((R.state r.now).meaning.const_ b.now) }
     requires differ { (R.state r.now).meaning.const_ a.now ≢ (R.state r.now).meaning.const_ b.now }
     ensures alike { let m = (R.state r.now).meaning in OnOk result (AreOfOneConst (m.const_ a.now) (m.const_ b.now)) }
     ensures errors { IfErr result (ConstFormError (R.state r.now).meaning a.now b.now) }

@@ -27,10 +27,10 @@ pub trait RelateExt {
 
     /// Relates two types at a variance, and answers the goals under which they are related.
     ///
-    /// Both types and the environment are the interner's, and the variables in them are the context's. Types with other
-    /// variables than regions' are related at `Invariant`, all others at each variance but `Bivariant`. Not related yet,
-    /// at any variance, are types in which an alias stands, an unevaluated constant, a pattern type, an error, a binder or
-    /// what it binds, a stand-in, or a variable that is neither a type's nor a region's.
+    /// Both types and the environment are the interner's, and the variables in them are the context's. Types with type or
+    /// constant variables are related at `Invariant`, all others at each variance but `Bivariant`. Not related yet, at any
+    /// variance, are types in which an alias stands, an unevaluated constant, a pattern type, an error, a binder or what
+    /// it binds, or a stand-in.
     ///
     /// After `Ok`, each assignment that satisfies what is recorded and makes the goals true relates the types; and each
     /// that satisfied what was recorded and made them one extends to such a one. No goal is answered yet. Equal types record

@@ -1,12 +1,13 @@
 use Rattle.std.proofs.Common.{rules, ◌≡◌, ◌∙◌, sym, ap, subst, arith, ◌<◌, IsTrue, true, cond}
 use Rattle.std.proofs.lemmas.Bool.{false≢true}
 use Rattle.std.specs.HashSet.{contains}
-use Rattle.relation_terms.specs.Heads.{type_var, variable}
+use Rattle.relation_terms.specs.Heads.{variable}
 use Rattle.relation_terms.specs.Trees.{size, count, Occurs}
 use Rattle.relation_terms.specs.Parts.{part_tree, parts_of}
 use Rattle.type_relations.specs.Errors.{StandsOutside}
 use Rattle.relation_terms.proofs.Sorted.{Sorted}
 use Rattle.relation_terms.proofs.Parts.{sort_known, same_part}
+use Rattle.relation_reference.specs.Remembering.{vid_kind, vid_number}
 use Rattle.relation_reference.proofs.Outside.{outside_nth, occurs_nowhere, part_smaller}
 use Rattle.type_relations.specs.Covered.{IsCovered}
 use Rattle.relation_reference.proofs.Covering.{part_covered, covered_open}
@@ -37,7 +38,7 @@ pub returns-then-stands-clause-stands : goal.returns-then-stands-clause-stands
 returns-then-stands-clause-stands g t c = λ h.
     let m = g.I.Interner.meaning c.args.cx.now in
     let u = part_tree m c.args.term.now in
-    let l = variable type_var c.args.var.0 in
+    let l = variable (vid_kind c.args.var) (vid_number c.args.var) in
     let i = c.loop-i.i in
     let counted = c.parts_count-i-end.ensures.counts in
     let test = c.loop-i-test.true in
@@ -63,8 +64,8 @@ keep_lacking-requires-clause-without g t c =
     } in
     let counted = c.parts_count-i-end.ensures.counts in
     let test = c.loop-i-test.false in
-    let absent : Occurs type_var c.args.var.0 (part_tree m p) → ⊥ =
-    occurs_nowhere c.args.var.0 (part_tree m p) (c.in_default.ensures.is_none c.args.var.0)
+    let absent : Occurs (vid_kind c.args.var) (vid_number c.args.var) (part_tree m p) → ⊥ =
+    occurs_nowhere (vid_kind c.args.var) (vid_number c.args.var) (part_tree m p) (c.in_default.ensures.is_none c.args.var)
     (λ s. some_sort p (sym (sort_known m sorted p c.requires.term_known) ∙ s)) c.parts_count-i-end.ensures.is_list
     (λ i j. c.loop-i.invariant.absent i (omega (arith, j, test, counted))) in
     record { there = c.requires.term_known; absent = absent }
@@ -87,8 +88,8 @@ returns g t c =
     } in
     let counted = c.parts_count-i-end.ensures.counts in
     let test = c.loop-i-test.false in
-    let absent : Occurs type_var c.args.var.0 (part_tree m p) → ⊥ =
-    occurs_nowhere c.args.var.0 (part_tree m p) (c.in_default.ensures.is_none c.args.var.0)
+    let absent : Occurs (vid_kind c.args.var) (vid_number c.args.var) (part_tree m p) → ⊥ =
+    occurs_nowhere (vid_kind c.args.var) (vid_number c.args.var) (part_tree m p) (c.in_default.ensures.is_none c.args.var)
     (λ s. some_sort p (sym (sort_known m sorted p c.requires.term_known) ∙ s)) c.parts_count-i-end.ensures.is_list
     (λ i j. c.loop-i.invariant.absent i (omega (arith, j, test, counted))) in
     record {

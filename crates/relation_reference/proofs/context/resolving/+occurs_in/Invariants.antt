@@ -1,8 +1,7 @@
 use Rattle.std.proofs.Common.{ℕ, ◌<◌}
-use Rattle.relation_terms.specs.Heads.{type_var}
 use Rattle.relation_terms.specs.Trees.{size, Occurs, nth}
 use Rattle.relation_terms.specs.Parts.{part_tree, parts_of}
-use Rattle.relation_reference.specs.Remembering.{Lacks}
+use Rattle.relation_reference.specs.Remembering.{Lacks, vid_kind, vid_number}
 use Rattle.relation_reference.proofs.Remembering.{key_eq}
 use Rattle.relation_reference.proofs.context.resolving.+occurs_in.Given as goal
 
@@ -13,6 +12,6 @@ abbrev pub invariant-loop-i : goal.invariant-loop-i
 invariant-loop-i g l =
     let m = g.I.Interner.meaning l.cx in
     record {
-      lacks : Lacks m l.var.0 (key_eq g.I.Key.PartialEq.eq) l.lacking;
-      absent : (j : ℕ) → j < l.i → Occurs type_var l.var.0 (nth j (parts_of (part_tree m l.term))) → ⊥;
+      lacks : Lacks m (vid_kind l.var) (vid_number l.var) (key_eq g.I.Key.PartialEq.eq) l.lacking;
+      absent : (j : ℕ) → j < l.i → Occurs (vid_kind l.var) (vid_number l.var) (nth j (parts_of (part_tree m l.term))) → ⊥;
     }

@@ -4,39 +4,24 @@ use Rattle.relation_terms.specs.Meaning.{const_tree, arg_tree}
 use Rattle.relation_terms.specs.Trees.{node, count}
 use Rattle.relation_terms.specs.declared.terms.const_kind.ConstKind.TheVariants.{Param, Placeholder, Value, Expr}
 use Rattle.type_relations.specs.Errors.{values, expressions, const_parameters, operations}
-use Rattle.type_relations.proofs.Comparing.{unlike_const, formed_const, param_const, value_const, expr_const}
+use Rattle.type_relations.proofs.Comparing.{unlike_const, param_const, value_const, expr_const}
 use Rattle.type_relations.proofs.Lists.{list_count}
 use Rattle.type_relations.proofs.relate.comparing.compare_consts.Goals as goal
 
 pub returns-in_default : goal.returns-in_default
 returns-in_default g c =
     let m = g.I.Interner.meaning c.args.cx.now in
-    record {
-      alike = tt;
-      errors = unlike_const m (Param c.in-Param.parameter) c.const_kind-right.result c.args.a.now c.args.b.now c.unlike_consts.result (c.const_kind.ensures ∙ ap (const_tree m) c.in-Param.is) c.const_kind-right.ensures c.requires.a_covered c.requires.b_covered (param_const m c.in-Param.parameter c.const_kind-right.result (λ q e i. c.in_default.not-Param q e)) c.unlike_consts.ensures;
-      a_formed = formed_const m c.const_kind.result c.args.a.now c.const_kind.ensures c.requires.a_covered;
-      b_formed = formed_const m c.const_kind-right.result c.args.b.now c.const_kind-right.ensures c.requires.b_covered;
-    }
+    record { alike = tt; errors = unlike_const m (Param c.in-Param.parameter) c.const_kind-right.result c.args.a.now c.args.b.now c.unlike_consts.result (c.const_kind.ensures ∙ ap (const_tree m) c.in-Param.is) c.const_kind-right.ensures c.requires.a_covered c.requires.b_covered (param_const m c.in-Param.parameter c.const_kind-right.result (λ q e i. c.in_default.not-Param q e)) c.unlike_consts.ensures }
 
 pub returns-in_default-right : goal.returns-in_default-right
 returns-in_default-right g c =
     let m = g.I.Interner.meaning c.args.cx.now in
-    record {
-      alike = tt;
-      errors = unlike_const m (Value c.in-Value.field-0 c.in-Value.value) c.const_kind-right.result c.args.a.now c.args.b.now c.unlike_consts-in_default-right.result (c.const_kind.ensures ∙ ap (const_tree m) c.in-Value.is) c.const_kind-right.ensures c.requires.a_covered c.requires.b_covered (value_const m c.in-Value.field-0 c.in-Value.value c.const_kind-right.result (λ u w e i. c.in_default-right.not-Value u w e)) c.unlike_consts-in_default-right.ensures;
-      a_formed = formed_const m c.const_kind.result c.args.a.now c.const_kind.ensures c.requires.a_covered;
-      b_formed = formed_const m c.const_kind-right.result c.args.b.now c.const_kind-right.ensures c.requires.b_covered;
-    }
+    record { alike = tt; errors = unlike_const m (Value c.in-Value.field-0 c.in-Value.value) c.const_kind-right.result c.args.a.now c.args.b.now c.unlike_consts-in_default-right.result (c.const_kind.ensures ∙ ap (const_tree m) c.in-Value.is) c.const_kind-right.ensures c.requires.a_covered c.requires.b_covered (value_const m c.in-Value.field-0 c.in-Value.value c.const_kind-right.result (λ u w e i. c.in_default-right.not-Value u w e)) c.unlike_consts-in_default-right.ensures }
 
 pub returns-in_default-right-2 : goal.returns-in_default-right-2
 returns-in_default-right-2 g c =
     let m = g.I.Interner.meaning c.args.cx.now in
-    record {
-      alike = tt;
-      errors = unlike_const m (Expr c.in-Expr.kind c.in-Expr.args) c.const_kind-right.result c.args.a.now c.args.b.now c.unlike_consts-in_default-right-2.result (c.const_kind.ensures ∙ ap (const_tree m) c.in-Expr.is) c.const_kind-right.ensures c.requires.a_covered c.requires.b_covered (expr_const m c.in-Expr.kind c.in-Expr.args c.const_kind-right.result c.in_default-right-2.not-Expr) c.unlike_consts-in_default-right-2.ensures;
-      a_formed = formed_const m c.const_kind.result c.args.a.now c.const_kind.ensures c.requires.a_covered;
-      b_formed = formed_const m c.const_kind-right.result c.args.b.now c.const_kind-right.ensures c.requires.b_covered;
-    }
+    record { alike = tt; errors = unlike_const m (Expr c.in-Expr.kind c.in-Expr.args) c.const_kind-right.result c.args.a.now c.args.b.now c.unlike_consts-in_default-right-2.result (c.const_kind.ensures ∙ ap (const_tree m) c.in-Expr.is) c.const_kind-right.ensures c.requires.a_covered c.requires.b_covered (expr_const m c.in-Expr.kind c.in-Expr.args c.const_kind-right.result c.in_default-right-2.not-Expr) c.unlike_consts-in_default-right-2.ensures }
 
 pub returns-then-parameter-other-clause-errors : goal.returns-then-parameter-other-clause-errors
 returns-then-parameter-other-clause-errors g c =

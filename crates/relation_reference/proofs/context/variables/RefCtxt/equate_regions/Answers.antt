@@ -9,7 +9,7 @@ pub returns-in_err-push-clause-lawful : goal.returns-in_err-push-clause-lawful
 returns-in_err-push-clause-lawful g c =
     let x = c.args.self.now.inner in
     same_lawful (g.I.Interner.meaning c.args.self.now.interner) x (record x { constraints = c.push.new.self })
-    (record { types = refl; regions = refl; constraints = c.in_err-push.ensures.items; universe = refl; budget = refl })
+    (record { types = refl; ints = refl; floats = refl; consts = refl; regions = refl; constraints = c.in_err-push.ensures.items; universe = refl; budget = refl; numbers = refl })
     c.requires.lawful
 
 pub returns-in_err-push-clause-goes : goal.returns-in_err-push-clause-goes
@@ -19,23 +19,26 @@ returns-in_err-push-clause-goes g c =
     let y = record x { constraints = c.push.new.self } in
     goes_same 0 (store_of m x) (store_of m y) (same_store m x y (record {
       types = refl;
+      ints = refl;
+      floats = refl;
+      consts = refl;
       regions = refl;
       constraints = c.in_err-push.ensures.items;
       universe = refl;
       budget = refl;
+      numbers = refl;
     }))
 
 pub returns : goal.returns
 returns g c =
     let m = g.I.Interner.meaning c.args.self.now.interner in
     let x = c.args.self.now.inner in
-    let y = record x { constraints = c.push.new.self } in
     let r : RegionConstraint g.row.I-Key.Denot = Eq (record { 0 = c.args.a.now; 1 = c.args.b.now }) in
     let more = c.in_ok-push.ensures.items in
     record {
       interner = refl;
-      lawful = constraint_lawful m x y c.requires.lawful r (c.requires.a_in, c.requires.b_in) refl refl more refl refl;
-      adds = constraint_added m x y c.requires.lawful r (c.requires.a_in, c.requires.b_in) refl refl more refl refl;
+      lawful = constraint_lawful m x c.requires.lawful r (c.requires.a_in, c.requires.b_in) c.push.new.self more;
+      adds = constraint_added m x c.requires.lawful r (c.requires.a_in, c.requires.b_in) c.push.new.self more;
       refused = tt;
-      goes = constraint_goes m x y c.requires.lawful r (c.requires.a_in, c.requires.b_in) refl refl more refl refl;
+      goes = constraint_goes m x c.requires.lawful r (c.requires.a_in, c.requires.b_in) c.push.new.self more;
     }

@@ -7,19 +7,19 @@ pub returns-in_err-key-clause-later : goal.returns-in_err-key-clause-later
 returns-in_err-key-clause-later g c = later_same _ _ (ap (λ m. store_of m c.args.self.now.inner) c.in_err-key.ensures.refused)
 
 pub returns-in_err-push-clause-lawful : goal.returns-in_err-push-clause-lawful
-returns-in_err-push-clause-lawful g c = refused_lawful c.in_ok-key.ensures.grown c.args.self.now.inner (record c.args.self.now.inner { regions = c.push.new.self }) (record { types = refl; regions = c.in_err-push.ensures.items; constraints = refl; universe = refl; budget = refl }) c.requires
+returns-in_err-push-clause-lawful g c = refused_lawful c.in_ok-key.ensures.grown c.args.self.now.inner (record c.args.self.now.inner { regions = c.push.new.self }) (record { types = refl; ints = refl; floats = refl; consts = refl; regions = c.in_err-push.ensures.items; constraints = refl; universe = refl; budget = refl; numbers = refl }) c.requires
 
 pub returns-in_err-push-clause-later : goal.returns-in_err-push-clause-later
-returns-in_err-push-clause-later g c = refused_later c.in_ok-key.ensures.grown c.args.self.now.inner (record c.args.self.now.inner { regions = c.push.new.self }) (record { types = refl; regions = c.in_err-push.ensures.items; constraints = refl; universe = refl; budget = refl }) c.requires
+returns-in_err-push-clause-later g c = refused_later c.in_ok-key.ensures.grown c.args.self.now.inner (record c.args.self.now.inner { regions = c.push.new.self }) (record { types = refl; ints = refl; floats = refl; consts = refl; regions = c.in_err-push.ensures.items; constraints = refl; universe = refl; budget = refl; numbers = refl }) c.requires
 
 pub returns-in_err-push-clause-refused : goal.returns-in_err-push-clause-refused
-returns-in_err-push-clause-refused g c = on_err c.from_residual-in_err-push.result _ (refused_store c.in_ok-key.ensures.grown c.args.self.now.inner (record c.args.self.now.inner { regions = c.push.new.self }) (record { types = refl; regions = c.in_err-push.ensures.items; constraints = refl; universe = refl; budget = refl }) c.requires)
+returns-in_err-push-clause-refused g c = on_err c.from_residual-in_err-push.result _ (refused_store c.in_ok-key.ensures.grown c.args.self.now.inner (record c.args.self.now.inner { regions = c.push.new.self }) (record { types = refl; ints = refl; floats = refl; consts = refl; regions = c.in_err-push.ensures.items; constraints = refl; universe = refl; budget = refl; numbers = refl }) c.requires)
 
 pub returns-clause-lawful : goal.returns-clause-lawful
-returns-clause-lawful g c = region_made_lawful c.in_ok-key.ensures.grown c.args.self.now.inner (record c.args.self.now.inner { regions = c.push.new.self }) c.requires refl c.in_ok-push.ensures.items refl refl refl
+returns-clause-lawful g c = region_made_lawful c.in_ok-key.ensures.grown c.args.self.now.inner c.requires c.push.new.self c.in_ok-push.ensures.items
 
 pub returns-clause-later : goal.returns-clause-later
-returns-clause-later g c = region_made_later c.in_ok-key.ensures.grown c.args.self.now.inner (record c.args.self.now.inner { regions = c.push.new.self }) c.requires refl c.in_ok-push.ensures.items refl refl refl
+returns-clause-later g c = region_made_later c.in_ok-key.ensures.grown c.args.self.now.inner c.requires c.push.new.self c.in_ok-push.ensures.items
 
 pub returns-clause-makes : goal.returns-clause-makes
-returns-clause-makes g c = region_made c.in_ok-key.ensures.grown c.args.self.now.inner (record c.args.self.now.inner { regions = c.push.new.self }) c.requires refl c.in_ok-push.ensures.items refl refl refl
+returns-clause-makes g c = region_made c.in_ok-key.ensures.grown c.args.self.now.inner c.requires c.push.new.self c.in_ok-push.ensures.items

@@ -1,0 +1,59 @@
+use Rattle.std.proofs.Common.{◌≡◌, refl, ap, map, max, min, subst₂, arith}
+use Rattle.relation_terms.specs.Heads.{float_var}
+use Rattle.type_relations.specs.Steps.{Equates}
+use Rattle.relation_reference.specs.Tables.{store_of}
+use Rattle.relation_reference.proofs.Beside.{floats_beside}
+use Rattle.relation_reference.proofs.Writing.{linked_entries, link_equates, link_lawful, table_made}
+use Rattle.relation_reference.proofs.context.variables.RefCtxt.equate_float_vids_raw.Goals as goal
+
+pub returns-then-a-b-clause-lawful : goal.returns-then-a-b-clause-lawful
+returns-then-a-b-clause-lawful g c =
+    let m = g.I.Interner.meaning c.args.self.now.interner in
+    let x = c.args.self.now.inner in
+    let ts = c.link.new.table in
+    let e = c.link.ensures in
+    link_lawful m x (record x { floats = ts }) float_var (floats_beside m x ts x.budget) (ap (map m.ty) e.keys)
+    c.requires.lawful c.args.b.0 c.args.a.0 (linked_entries m.ty x.floats.items ts.items c.args.b.0 c.args.a.0 e.values)
+    e.universes refl (table_made m.ty x.floats.items c.args.b.0 c.requires.b_made) c.if-a-b.true c.requires.b_unbound
+    c.requires.a_unbound (λ z. cc)
+
+pub returns-then-a-b-clause-equates : goal.returns-then-a-b-clause-equates
+returns-then-a-b-clause-equates g c = λ o.
+    let m = g.I.Interner.meaning c.args.self.now.interner in
+    let x = c.args.self.now.inner in
+    let ts = c.link.new.table in
+    let e = c.link.ensures in
+    let less = c.if-a-b.true in
+    let top : c.args.b.0 ≡ max c.args.a.0 c.args.b.0 = omega (arith, less) in
+    let low : c.args.a.0 ≡ min c.args.a.0 c.args.b.0 = omega (arith, less) in
+    subst₂ (Equates (store_of m x) (store_of m (record x { floats = ts })) float_var) top low
+    (link_equates m x (record x { floats = ts }) float_var (floats_beside m x ts x.budget) (ap (map m.ty) e.keys)
+    c.requires.lawful c.args.b.0 c.args.a.0 (linked_entries m.ty x.floats.items ts.items c.args.b.0 c.args.a.0 e.values)
+    e.universes refl (table_made m.ty x.floats.items c.args.b.0 c.requires.b_made) less c.requires.b_unbound
+    c.requires.a_unbound)
+
+pub returns-then-b-a-clause-lawful : goal.returns-then-b-a-clause-lawful
+returns-then-b-a-clause-lawful g c =
+    let m = g.I.Interner.meaning c.args.self.now.interner in
+    let x = c.args.self.now.inner in
+    let ts = c.link-then-b-a.new.table in
+    let e = c.link-then-b-a.ensures in
+    link_lawful m x (record x { floats = ts }) float_var (floats_beside m x ts x.budget) (ap (map m.ty) e.keys)
+    c.requires.lawful c.args.a.0 c.args.b.0 (linked_entries m.ty x.floats.items ts.items c.args.a.0 c.args.b.0 e.values)
+    e.universes refl (table_made m.ty x.floats.items c.args.a.0 c.requires.a_made) c.if-b-a.true c.requires.a_unbound
+    c.requires.b_unbound (λ z. cc)
+
+pub returns-then-b-a-clause-equates : goal.returns-then-b-a-clause-equates
+returns-then-b-a-clause-equates g c = λ o.
+    let m = g.I.Interner.meaning c.args.self.now.interner in
+    let x = c.args.self.now.inner in
+    let ts = c.link-then-b-a.new.table in
+    let e = c.link-then-b-a.ensures in
+    let less = c.if-b-a.true in
+    let top : c.args.a.0 ≡ max c.args.a.0 c.args.b.0 = omega (arith, less) in
+    let low : c.args.b.0 ≡ min c.args.a.0 c.args.b.0 = omega (arith, less) in
+    subst₂ (Equates (store_of m x) (store_of m (record x { floats = ts })) float_var) top low
+    (link_equates m x (record x { floats = ts }) float_var (floats_beside m x ts x.budget) (ap (map m.ty) e.keys)
+    c.requires.lawful c.args.a.0 c.args.b.0 (linked_entries m.ty x.floats.items ts.items c.args.a.0 c.args.b.0 e.values)
+    e.universes refl (table_made m.ty x.floats.items c.args.a.0 c.requires.a_made) less c.requires.a_unbound
+    c.requires.b_unbound)

@@ -1,0 +1,23 @@
+use Rattle.std.proofs.Common.{◌<◌, refl, sym, subst, length}
+use Rattle.relation_terms.specs.Heads.{int_var}
+use Rattle.type_relations.specs.Steps.{LeadsTo}
+use Rattle.relation_reference.specs.Tables.{store_of}
+use Rattle.relation_reference.specs.Answers.{IsRoot}
+use Rattle.relation_reference.proofs.Reading.{root_leads, root_stands, root_made}
+use Rattle.relation_reference.proofs.Writing.{table_made, table_of_entries}
+use Rattle.relation_reference.proofs.context.variables.RefCtxt.root_int_var.Goals as goal
+
+pub returns : goal.returns
+returns g c =
+    let m = g.I.Interner.meaning c.args.self.now.interner in
+    let x = c.args.self.now.inner in
+    let st = store_of m x in
+    let l = c.requires.lawful in
+    let v = c.args.var.0 in
+    let is = sym c.root_of.ensures in
+    let there = root_made m.ty x.ints.items st int_var refl l.sound v (table_made m.ty x.ints.items v c.requires.made) in
+    record {
+      made = subst (λ r. r < length x.ints.items) is (table_of_entries m.ty x.ints.items _ there);
+      leads = subst (LeadsTo st int_var v) is (root_leads m.ty x.ints.items st int_var refl v);
+      root = subst (λ r. IsRoot st int_var r) is (root_stands m.ty x.ints.items st int_var refl l.rooted v);
+    }

@@ -1,0 +1,139 @@
+//! Making variables of a context one, and binding number variables.
+ghost use Rattle.std.specs.Prelude.{◌≡◌, ◌≢◌, ℕ, ◌<◌, length, min, max};
+ghost use Rattle.relation_terms.specs.Heads.{type_var, int_var, float_var, const_var};
+ghost use Rattle.relation_terms.specs.declared.terms.ty_kind.IntVarValue.TheVariants.{Unknown};
+ghost use Rattle.relation_terms.specs.declared.terms.ty_kind.FloatVarValue.TheVariants.{Unknown as UnknownFloat};
+ghost use Rattle.type_relations.specs.Stores.{unbound, entry_of};
+ghost use Rattle.type_relations.specs.Steps.{Equates, InstantiatesNumber};
+ghost use Rattle.relation_reference.specs.Tables.{store_of, IsLawful};
+ghost use Rattle.relation_reference.specs.RefCtxt.{store_in};
+ghost use Rattle.relation_reference.specs.Numbers.{int_value_tree, float_value_tree};
+
+use crate::context::RefCtxt;
+use crate::context::numbers::{float_value_place, int_value_place};
+use crate::context::table::{bind, link};
+use relation_terms::terms::{
+    ConstVid, FloatVarValue, FloatVid, IntVarValue, IntVid, Interner, TyVid,
+};
+
+impl<I: Interner> RefCtxt<I> {
+    /// Makes two roots of type variables one: the one of the larger number leads to the other, with all of its class, and
+    /// the other gets the smaller of both universes. A root with itself changes nothing.
+    pub fn equate_ty_vids_raw(&mut self, a: TyVid, b: TyVid)
+        requires lawful { IsLawful (I.meaning self.old.interner) self.old.inner }
+        requires a_made { a.0 < length self.old.inner.types.items }
+        requires b_made { b.0 < length self.old.inner.types.items }
+        requires a_unbound { entry_of (store_in I.meaning self.old) type_var a.0 ≡ unbound }
+        requires b_unbound { entry_of (store_in I.meaning self.old) type_var b.0 ≡ unbound }
+        ensures interner { self.new.interner ≡ self.old.interner }
+        ensures lawful { IsLawful (I.meaning self.old.interner) self.new.inner }
+        ensures same { a.0 ≡ b.0 → self.new.inner ≡ self.old.inner }
+        ensures equates { let m = I.meaning self.old.interner in
+            (a.0 ≡ b.0 → ⊥) →
+            Equates (store_of m self.old.inner) (store_of m self.new.inner) type_var (max a.0 b.0) (min a.0 b.0) }
+    {
+        if a.0 < b.0 {
+            link(&mut self.inner.types, b.0, a.0);
+        } else if b.0 < a.0 {
+            link(&mut self.inner.types, a.0, b.0);
+        }
+    }
+
+    /// Makes two roots of integer variables one: the one of the larger number leads to the other, with all of its class, and
+    /// the other gets the smaller of both universes. A root with itself changes nothing.
+    pub fn equate_int_vids_raw(&mut self, a: IntVid, b: IntVid)
+        requires lawful { IsLawful (I.meaning self.old.interner) self.old.inner }
+        requires a_made { a.0 < length self.old.inner.ints.items }
+        requires b_made { b.0 < length self.old.inner.ints.items }
+        requires a_unbound { entry_of (store_in I.meaning self.old) int_var a.0 ≡ unbound }
+        requires b_unbound { entry_of (store_in I.meaning self.old) int_var b.0 ≡ unbound }
+        ensures interner { self.new.interner ≡ self.old.interner }
+        ensures lawful { IsLawful (I.meaning self.old.interner) self.new.inner }
+        ensures same { a.0 ≡ b.0 → self.new.inner ≡ self.old.inner }
+        ensures equates { let m = I.meaning self.old.interner in
+            (a.0 ≡ b.0 → ⊥) →
+            Equates (store_of m self.old.inner) (store_of m self.new.inner) int_var (max a.0 b.0) (min a.0 b.0) }
+    {
+        if a.0 < b.0 {
+            link(&mut self.inner.ints, b.0, a.0);
+        } else if b.0 < a.0 {
+            link(&mut self.inner.ints, a.0, b.0);
+        }
+    }
+
+    /// Makes two roots of float variables one: the one of the larger number leads to the other, with all of its class, and
+    /// the other gets the smaller of both universes. A root with itself changes nothing.
+    pub fn equate_float_vids_raw(&mut self, a: FloatVid, b: FloatVid)
+        requires lawful { IsLawful (I.meaning self.old.interner) self.old.inner }
+        requires a_made { a.0 < length self.old.inner.floats.items }
+        requires b_made { b.0 < length self.old.inner.floats.items }
+        requires a_unbound { entry_of (store_in I.meaning self.old) float_var a.0 ≡ unbound }
+        requires b_unbound { entry_of (store_in I.meaning self.old) float_var b.0 ≡ unbound }
+        ensures interner { self.new.interner ≡ self.old.interner }
+        ensures lawful { IsLawful (I.meaning self.old.interner) self.new.inner }
+        ensures same { a.0 ≡ b.0 → self.new.inner ≡ self.old.inner }
+        ensures equates { let m = I.meaning self.old.interner in
+            (a.0 ≡ b.0 → ⊥) →
+            Equates (store_of m self.old.inner) (store_of m self.new.inner) float_var (max a.0 b.0) (min a.0 b.0) }
+    {
+        if a.0 < b.0 {
+            link(&mut self.inner.floats, b.0, a.0);
+        } else if b.0 < a.0 {
+            link(&mut self.inner.floats, a.0, b.0);
+        }
+    }
+
+    /// Makes two roots of constant variables one: the one of the larger number leads to the other, with all of its class, and
+    /// the other gets the smaller of both universes. A root with itself changes nothing.
+    pub fn equate_const_vids_raw(&mut self, a: ConstVid, b: ConstVid)
+        requires lawful { IsLawful (I.meaning self.old.interner) self.old.inner }
+        requires a_made { a.0 < length self.old.inner.consts.items }
+        requires b_made { b.0 < length self.old.inner.consts.items }
+        requires a_unbound { entry_of (store_in I.meaning self.old) const_var a.0 ≡ unbound }
+        requires b_unbound { entry_of (store_in I.meaning self.old) const_var b.0 ≡ unbound }
+        ensures interner { self.new.interner ≡ self.old.interner }
+        ensures lawful { IsLawful (I.meaning self.old.interner) self.new.inner }
+        ensures same { a.0 ≡ b.0 → self.new.inner ≡ self.old.inner }
+        ensures equates { let m = I.meaning self.old.interner in
+            (a.0 ≡ b.0 → ⊥) →
+            Equates (store_of m self.old.inner) (store_of m self.new.inner) const_var (max a.0 b.0) (min a.0 b.0) }
+    {
+        if a.0 < b.0 {
+            link(&mut self.inner.consts, b.0, a.0);
+        } else if b.0 < a.0 {
+            link(&mut self.inner.consts, a.0, b.0);
+        }
+    }
+
+    /// Binds the root of an integer variable to an integer type, for nothing of the budget.
+    pub fn instantiate_int_var_raw(&mut self, var: IntVid, value: IntVarValue)
+        requires lawful { IsLawful (I.meaning self.old.interner) self.old.inner }
+        requires made { var.0 < length self.old.inner.ints.items }
+        requires unbound { entry_of (store_in I.meaning self.old) int_var var.0 ≡ unbound }
+        requires value_known { value ≢ Unknown }
+        ensures interner { self.new.interner ≡ self.old.interner }
+        ensures lawful { IsLawful (I.meaning self.old.interner) self.new.inner }
+        ensures binds { let m = I.meaning self.old.interner in
+            InstantiatesNumber (store_of m self.old.inner) (store_of m self.new.inner)
+            int_var var.0 (int_value_tree value) }
+    {
+        let key = self.inner.numbers[int_value_place(value)];
+        bind(&mut self.inner.ints, var.0, key);
+    }
+
+    /// Binds the root of a float variable to a float type, for nothing of the budget.
+    pub fn instantiate_float_var_raw(&mut self, var: FloatVid, value: FloatVarValue)
+        requires lawful { IsLawful (I.meaning self.old.interner) self.old.inner }
+        requires made { var.0 < length self.old.inner.floats.items }
+        requires unbound { entry_of (store_in I.meaning self.old) float_var var.0 ≡ unbound }
+        requires value_known { value ≢ UnknownFloat }
+        ensures interner { self.new.interner ≡ self.old.interner }
+        ensures lawful { IsLawful (I.meaning self.old.interner) self.new.inner }
+        ensures binds { let m = I.meaning self.old.interner in
+            InstantiatesNumber (store_of m self.old.inner) (store_of m self.new.inner)
+            float_var var.0 (float_value_tree value) }
+    {
+        let key = self.inner.numbers[float_value_place(value)];
+        bind(&mut self.inner.floats, var.0, key);
+    }
+}

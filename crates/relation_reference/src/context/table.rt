@@ -1,0 +1,95 @@
+//! One table of variables: reading and writing what is recorded of them.
+ghost use Rattle.std.specs.Prelude.{◌≡◌, ◌<◌, length, get_or, map, min, slice_set};
+ghost use Rattle.relation_reference.specs.declared.context.inner.VariableValue.TheVariants.{SameAs, Known};
+ghost use Rattle.relation_reference.specs.Variables.{keys_of, values_of, universes_of, value_at, root_at};
+ghost use Rattle.relation_reference.specs.Variables.{universe_at, term_at, led, led_variable};
+
+use crate::context::{Variable, VariableValue};
+use relation_terms::terms::UniverseIndex;
+
+// What is recorded of a variable.
+pub(crate) fn probe<K: Copy>(table: &Vec<Variable<K>>, v: usize) -> VariableValue<K>
+    requires { v < length table.now.items }
+    ensures { result ≡ value_at table.now.items v }
+{
+    table[v].value
+}
+
+// The root of a variable's class.
+pub(crate) fn root_of<K: Copy>(table: &Vec<Variable<K>>, v: usize) -> usize
+    requires { v < length table.now.items }
+    ensures { result ≡ root_at table.now.items v }
+{
+    match &table[v].value {
+        VariableValue::SameAs(root) => *root,
+        VariableValue::Unknown => v,
+        VariableValue::Known(_) => v,
+    }
+}
+
+// The term that a variable's class is bound to, or else the key of its root.
+pub(crate) fn term_of<K: Copy>(table: &Vec<Variable<K>>, v: usize) -> K
+    requires made { v < length table.now.items }
+    requires root_made { root_at table.now.items v < length table.now.items }
+    ensures { (d : _) → result ≡ term_at (get_or table.now.items (root_at table.now.items v) d) }
+{
+    let root = root_of(table, v);
+    match &table[root].value {
+        VariableValue::Known(term) => *term,
+        VariableValue::Unknown => table[root].key,
+        VariableValue::SameAs(_) => table[root].key,
+    }
+}
+
+// The variable, led to the root where it led to the child.
+fn led_to<K: Copy>(entry: &Variable<K>, child: usize, root: usize) -> Variable<K>
+    ensures { result ≡ led_variable child root entry.now }
+{
+    let mut led = *entry;
+    if let VariableValue::SameAs(other) = &entry.value {
+        if *other == child {
+            led.value = VariableValue::SameAs(root);
+        }
+    }
+    led
+}
+
+// Leads each variable that led to the child to the root.
+fn lead_all<K: Copy>(table: &mut [Variable<K>], child: usize, root: usize)
+    ensures { table.new ≡ map (led_variable child root) table.old }
+{
+    for entry in table.iter_mut() {
+        *entry = led_to(entry, child, root);
+    }
+}
+
+fn smaller(a: usize, b: usize) -> usize
+    ensures { result ≡ min a b }
+{
+    if a < b { a } else { b }
+}
+
+// Makes a root and all of its class lead to one of a smaller number, which gets the smaller of both universes.
+pub(crate) fn link<K: Copy>(table: &mut Vec<Variable<K>>, child: usize, root: usize)
+    requires made { child < length table.old.items }
+    requires smaller { root < child }
+    ensures keys { keys_of table.new.items ≡ keys_of table.old.items }
+    ensures values { values_of table.new.items ≡ slice_set (map (led child root) (values_of table.old.items)) child (SameAs root) }
+    ensures universes { let lowered = min (universe_at table.old.items child) (universe_at table.old.items root) in
+        universes_of table.new.items ≡ slice_set (universes_of table.old.items) root lowered }
+{
+    let universe = smaller(table[child].universe.0, table[root].universe.0);
+    lead_all(table.as_mut_slice(), child, root);
+    table[child].value = VariableValue::SameAs(root);
+    table[root].universe = UniverseIndex(universe);
+}
+
+// Binds a root to a term.
+pub(crate) fn bind<K: Copy>(table: &mut Vec<Variable<K>>, v: usize, term: K)
+    requires { v < length table.old.items }
+    ensures keys { keys_of table.new.items ≡ keys_of table.old.items }
+    ensures values { values_of table.new.items ≡ slice_set (values_of table.old.items) v (Known term) }
+    ensures universes { universes_of table.new.items ≡ universes_of table.old.items }
+{
+    table[v].value = VariableValue::Known(term);
+}
