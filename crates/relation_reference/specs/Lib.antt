@@ -6,3 +6,4 @@ pub mod Remembering
 pub mod NumberVars
 pub mod Solving
 pub mod Answers
+pub mod Generalises

@@ -10,14 +10,17 @@ ghost use Rattle.type_relations.specs.Parts.{IsFormedConst};
 ghost use Rattle.type_relations.specs.Covered.{IsCovered};
 ghost use Rattle.relation_reference.specs.Tables.{IsLawful};
 ghost use Rattle.relation_reference.specs.RefCtxt.{store_in};
-ghost use Rattle.relation_reference.specs.Answers.{Instantiated, StepsByInstantiating};
+ghost use Rattle.relation_terms.specs.declared.terms.enums.Variance.TheVariants.{Invariant};
+ghost use Rattle.relation_reference.specs.Answers.{StepsByInstantiating};
+ghost use Rattle.relation_reference.specs.Generalises.{InstantiatesOr};
 
 use crate::context::RefCtxt;
+use crate::context::generalising::Target;
 use crate::context::memory::TermVid;
-use crate::context::resolving::occurs;
 use crate::context::table::bind;
-use relation_terms::terms::{Const, ConstVid, Interner, Part, Ty, TyVid};
-use relation_tools::error::{RelateFault, RelateFaultOf, TypeError};
+use relation_terms::terms::parts::{the_const, the_ty};
+use relation_terms::terms::{Const, ConstVid, Interner, Part, Ty, TyVid, Variance};
+use relation_tools::error::{RelateFault, RelateFaultOf};
 
 impl<I: Interner> RefCtxt<I> {
     /// Binds the root of a type variable to what a type comes to, for one of the budget, and answers that. The type does
@@ -29,6 +32,7 @@ impl<I: Interner> RefCtxt<I> {
     pub fn instantiate_ty_var_raw(
         &mut self,
         target: TyVid,
+        variance: Variance,
         source: &Ty<I>,
     ) -> Result<Ty<I>, RelateFaultOf<I>>
         requires lawful { IsLawful (I.meaning self.old.interner) self.old.inner }
@@ -43,7 +47,7 @@ impl<I: Interner> RefCtxt<I> {
         ensures grown { Extends (I.meaning self.old.interner) (I.meaning self.new.interner) }
         ensures sure { IfOk result (λ t. IsTrue (known ((I.meaning self.new.interner).ty t))) }
         ensures answers { let t = (I.meaning self.old.interner).ty source.now in
-            Instantiated (I.meaning self.new.interner).ty CyclicTy type_var
+            InstantiatesOr (I.meaning self.new.interner) (I.meaning self.new.interner).ty CyclicTy type_var variance
             (store_in I.meaning self.old) (store_in I.meaning self.new) target.0 t result }
         ensures steps { let t = (I.meaning self.old.interner).ty source.now in
             StepsByInstantiating (I.meaning self.new.interner).ty type_var
@@ -53,11 +57,11 @@ impl<I: Interner> RefCtxt<I> {
         if self.inner.budget == 0 {
             return Err(RelateFault::Budget);
         }
-        let bound = self.resolve_vars_if_possible(source)?;
-        let cyclic = occurs(&self.interner, &Part::Ty(bound), TermVid::Ty(target))?;
-        if cyclic {
-            return Err(RelateFault::Unrelated(TypeError::CyclicTy(bound)));
-        }
+        let resolved = self.resolve_vars_if_possible(source)?;
+        let universe = self.inner.types[target.0].universe;
+        let vid = TermVid::Ty(target);
+        let goal = Target { vid, universe, source: Part::Ty(resolved) };
+        let bound = the_ty(&self.generalise(&goal, variance)?);
         bind(&mut self.inner.types, target.0, bound);
         self.inner.budget -= 1;
         Ok(bound)
@@ -85,7 +89,7 @@ impl<I: Interner> RefCtxt<I> {
         ensures grown { Extends (I.meaning self.old.interner) (I.meaning self.new.interner) }
         ensures sure { IfOk result (λ t. IsTrue (known ((I.meaning self.new.interner).const_ t))) }
         ensures answers { let t = (I.meaning self.old.interner).const_ source.now in
-            Instantiated (I.meaning self.new.interner).const_ CyclicConst const_var
+            InstantiatesOr (I.meaning self.new.interner) (I.meaning self.new.interner).const_ CyclicConst const_var Invariant
             (store_in I.meaning self.old) (store_in I.meaning self.new) target.0 t result }
         ensures steps { let t = (I.meaning self.old.interner).const_ source.now in
             StepsByInstantiating (I.meaning self.new.interner).const_ const_var
@@ -95,11 +99,11 @@ impl<I: Interner> RefCtxt<I> {
         if self.inner.budget == 0 {
             return Err(RelateFault::Budget);
         }
-        let bound = self.resolve_const_vars_if_possible(source)?;
-        let cyclic = occurs(&self.interner, &Part::Const(bound), TermVid::Const(target))?;
-        if cyclic {
-            return Err(RelateFault::Unrelated(TypeError::CyclicConst(bound)));
-        }
+        let resolved = self.resolve_const_vars_if_possible(source)?;
+        let universe = self.inner.consts[target.0].universe;
+        let vid = TermVid::Const(target);
+        let goal = Target { vid, universe, source: Part::Const(resolved) };
+        let bound = the_const(&self.generalise(&goal, Variance::Invariant)?);
         bind(&mut self.inner.consts, target.0, bound);
         self.inner.budget -= 1;
         Ok(bound)

@@ -34,7 +34,7 @@ fn variable_of<I: Interner>(cx: &I, term: &PartOf<I>) -> Option<TermVid>
 }
 
 // Whether two variables are one.
-fn is_same_vid(a: TermVid, b: TermVid) -> bool
+pub(crate) fn is_same_vid(a: TermVid, b: TermVid) -> bool
     ensures { IsTrue result ↔ (a ≡ b) }
 {
     match a {

@@ -121,7 +121,7 @@ impl<'a, I: Interner> SolverRelating<'a, I> {
                     Ok(Step::Done(*a))
                 }
                 None => {
-                    let bound = self.infcx.instantiate_ty_var_raw(x, b)?;
+                    let bound = self.infcx.instantiate_ty_var_raw(x, self.ambient_variance, b)?;
                     Ok(Step::Again {
                         a: *a,
                         b: *b,
@@ -134,7 +134,7 @@ impl<'a, I: Interner> SolverRelating<'a, I> {
             },
             None => match self.infcx.ty_var(b) {
                 Some(y) => {
-                    let bound = self.infcx.instantiate_ty_var_raw(y, a)?;
+                    let bound = self.infcx.instantiate_ty_var_raw(y, self.ambient_variance, a)?;
                     Ok(Step::Again {
                         a: *a,
                         b: *b,
