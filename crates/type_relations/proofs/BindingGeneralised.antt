@@ -1,24 +1,24 @@
 -- Binding a variable to what a term comes to, generalised for it: the assignments that are left, and that the store stays
 -- sound.
-use Rattle.std.proofs.Common.{◌≡◌, ◌≢◌, ◌⊎◌, ℕ, suc, ◌≤◌, ◌<◌, refl, sym, ap, ap₂, ◌∙◌, arith, inl, inr, subst, subst₂, [], Some, length, le_of_eq}
+use Rattle.std.proofs.Common.{◌≡◌, ◌≢◌, ◌⊎◌, ℕ, suc, ◌≤◌, refl, sym, ap, ap₂, ◌∙◌, arith, inl, inr, subst, subst₂, [], Some, length, le_of_eq}
 use native.Mathlib.Decide.{dec_le}
 use Rattle.relation_terms.specs.declared.terms.enums.Variance.{Variance}
 use Rattle.relation_terms.specs.declared.terms.enums.Variance.TheVariants.{Invariant}
-use Rattle.relation_terms.specs.Heads.{region_sort, type_sort, const_sort, term_of, one, region_kind, type_kind, const_kind, BoundKind, bound_kind, bound_sort, VarKind, type_var, int_var, float_var, const_var, region_var, static_region, early_region, value_type, Head, Leaf, variable, bound, placeholder, atom, unknown}
+use Rattle.relation_terms.specs.Heads.{region_sort, type_sort, const_sort, term_of, one, region_kind, bound_kind, VarKind, type_var, int_var, float_var, const_var, region_var, static_region, early_region, value_type, Head, Leaf, variable, bound, placeholder, atom, unknown}
 use Rattle.relation_terms.specs.Trees.{Tree, leaf, node, bind, nil, cons, Assign, assigned, apply, Leaves, Occurs, IsTerm, IsList, size}
 use Rattle.relation_terms.specs.Erasure.{erase}
 use Rattle.type_relations.specs.Relation.{Items, Interpretation, IsValueLeaf, StaysWithin, sort_of}
 use Rattle.type_relations.specs.Stores.{Store, entry_term, bound_to, bound_term, universe_of, IsMade, IsFree, IsMadeLeaf, InContext, IsInScope, IsNamable, IsAssignment, MayStandFor, IsTermIn, IsSound, Satisfies, resolved, weight}
 use Rattle.type_relations.specs.FirstOrder.{IsFirstOrder, IsFirstOrderStore, IsClosedLeaf, IsTypeClosed, Unifies, IsErasedSolution}
-use Rattle.type_relations.specs.StoreLaws.{GeneralisingInstantiates, GeneralisingRefuses}
-use Rattle.type_relations.specs.Steps.{IsLater, AgreeOn, AgreeErased, Extends, ExtendsErased, IsGeneralised, kept, replaced, in_form, in_binder, in_list, IsNamedBy, Instantiates, RefusesToInstantiate}
+use Rattle.type_relations.specs.StoreLaws.{GeneralisingInstantiates}
+use Rattle.type_relations.specs.Steps.{IsLater, AgreeOn, AgreeErased, Extends, ExtendsErased, IsGeneralised, kept, replaced, in_form, in_binder, in_list, IsNamedBy, Instantiates}
 use Rattle.type_relations.specs.ErasureLaws.{IsTypeOrConst}
 use Rattle.type_relations.specs.Measures.{Goes}
-use Rattle.type_relations.specs.Generalising.{gives_way_to, any_part, variance_for, InstantiatesBy, NumbersNameNothing, Obstacle, cycle, beyond, StopsAt, at_itself, at_placeholder, in_parts, in_body, in_first, in_others, RefusesBy}
+use Rattle.type_relations.specs.Generalising.{gives_way_to, any_part, variance_for, InstantiatesBy, NumbersNameNothing}
 use Rattle.type_relations.proofs.Trees.{Leaves_map, Leaves_map₂, Leaves-replace, apply-apply, apply_alike}
 use Rattle.type_relations.proofs.Only.{which, absent as absent_stays}
 use Rattle.type_relations.proofs.Values.{in_context}
-use Rattle.type_relations.proofs.Resolved.{resolved_value, resolved_free, over_free, settled_term, cycles_do_not_unify}
+use Rattle.type_relations.proofs.Resolved.{resolved_value, resolved_free, over_free, settled_term}
 use Rattle.type_relations.proofs.Standing.{later_term, namable_mono, scope_namable, term_in, term_within, term_context}
 use Rattle.type_relations.proofs.Written.{made_after, others_bound, now_bound, resolved_later}
 use Rattle.type_relations.proofs.Equating.{bound_sound, bound_later, bound_keeps, bound_goes}
@@ -26,7 +26,6 @@ use Rattle.type_relations.proofs.Exactness.{entry_is_exact, erased_through}
 use Rattle.type_relations.proofs.Going.{later_through, goes_then, goes_within, le_grown}
 use Rattle.type_relations.proofs.StoreCalls.{resolved_in, resolved_unifies}
 use Rattle.type_relations.proofs.Instantiating.{stands_resolved, resolved_first_order}
-use Rattle.type_relations.proofs.Erased.{erased_occurs_check}
 use Rattle.type_relations.proofs.NewVariables.{Adds, adds, adds_goes, IsValueFor, satisfies_after, assigns_after, erased_after, erased_agrees}
 use Rattle.type_relations.proofs.Leafwise.{StandsIn, each_stands, one_of_all, replaced_leaves, absent_of_leaves, KeepsSort, within_back, fits_back, size_back, tamed, tamed_fits, tamed_values, tamed_named, tamed_within, tamed_erased, erased_named}
 use Rattle.type_relations.proofs.Generalising.{gives_sort, LeadsBack, IsBoundLeaf, IsSourceLeaf, Came, came_from_start}
@@ -209,8 +208,12 @@ module _ (c : Items) (before after : Store) (v : Variance) (k : VarKind) (n : �
     bound_value = sym (agrees k n f.made) ∙ target_value ∙ ap (apply s) (sym value) ∙ apply-apply s back term
 
     keeps : Extends before s (λ s'. Satisfies w after s')
-    keeps = (extended, agrees, bound_keeps middle after k n term f.binds a.sound not_region term_stands bound_in absent in_scope w extended
-        (satisfies_after u before middle g a extended new_value w s sat agrees) bound_value)
+    keeps = (
+      extended,
+      agrees,
+      bound_keeps middle after k n term f.binds a.sound not_region term_stands bound_in absent in_scope w extended
+          (satisfies_after u before middle g a extended new_value w s sat agrees) bound_value,
+    )
 
   -- Up to erasure it takes that without what the universe can't name.
   module _ (s : Assign) (sol : IsErasedSolution before s) (e : Unifies s (leaf (variable k n)) source) where
@@ -399,89 +402,3 @@ module _ (c : Items) (before after : Store) (v : Variance) (k : VarKind) (n : �
 
 pub generalising_instantiates : GeneralisingInstantiates
 generalising_instantiates c before after v k n source term kind f numbers g is_in stands = (generalised_instantiates c before after v k n source term kind f numbers g is_in stands, generalised_goes c before after v k n source term kind f numbers g is_in stands)
-
--- An obstacle in a term.
-stops_occurs : {before : Store} {k : VarKind} {n : ℕ} {o : Obstacle} {t : Tree} → o ≡ cycle → StopsAt before k n o t → Occurs k n t
-stops_occurs e (at_itself p q) = ap leaf q
-stops_occurs e (at_placeholder p q l) = absurd cc
-stops_occurs e (in_parts p h) = stops_occurs e h
-stops_occurs e (in_body h) = stops_occurs e h
-stops_occurs e (in_first h) = inl (stops_occurs e h)
-stops_occurs e (in_others l h) = inr (stops_occurs e h)
-
--- No value of such a term is named by the variable's universe.
-stops_unnamed : {before : Store} {k : VarKind} {n : ℕ} {o : Obstacle} {t : Tree} → o ≡ beyond → StopsAt before k n o t → (s : Assign) → Leaves (IsNamable (universe_of before k n)) (apply s t) → ⊥
-stops_unnamed e (at_itself p q) s h = absurd cc
-stops_unnamed e (at_placeholder p q l) s h = omega (arith, l, h)
-stops_unnamed e (in_parts p f) s h = stops_unnamed e f s h
-stops_unnamed e (in_body f) s h = stops_unnamed e f s h
-stops_unnamed e (in_first f) s h = stops_unnamed e f s h.0
-stops_unnamed e (in_others l f) s h = stops_unnamed e f s h.1
-
--- Nor is its erasure, where it is first-order.
-kind_beyond : (q : BoundKind) (w i u : ℕ) → bound_sort q ≢ region_sort → u < w → Leaves (IsNamable u) (erase (leaf (placeholder q w i))) → ⊥
-kind_beyond (bound_kind region_kind x) w i u o l h = o refl
-kind_beyond (bound_kind type_kind x) w i u o l h = omega (arith, l, h)
-kind_beyond (bound_kind const_kind x) w i u o l h = omega (arith, l, h)
-
-closed_stops : {before : Store} {k : VarKind} {n : ℕ} {o : Obstacle} {t : Tree} → o ≡ beyond → StopsAt before k n o t → Leaves IsClosedLeaf t → ⊥
-closed_stops e (at_itself p q) h = absurd cc
-closed_stops e (at_placeholder p q l) h = q h
-closed_stops e (in_parts p f) h = closed_stops e f h
-closed_stops e (in_body f) h = closed_stops e f h
-closed_stops e (in_first f) h = closed_stops e f h.0
-closed_stops e (in_others l f) h = closed_stops e f h.1
-
-erased_unnamed : {before : Store} {k : VarKind} {n : ℕ} {o : Obstacle} {t : Tree} → o ≡ beyond → StopsAt before k n o t → IsFirstOrder t → (s : Assign) → Leaves (IsNamable (universe_of before k n)) (erase (apply s t)) → ⊥
-erased_unnamed e (at_itself p q) d s h = absurd cc
-erased_unnamed {before = before} {k = k} {n = n} e (at_placeholder {q = q} {w = w} {i = i} p o l) d s h = kind_beyond q w i (universe_of before k n) o l h
-erased_unnamed e (in_parts {h = value_type} p f) d s h = closed_stops e f d.2
-erased_unnamed e (in_parts p f) d s h = erased_unnamed e f d.3 s h
-erased_unnamed e (in_body f) d s h = absurd d
-erased_unnamed e (in_first f) d s h = erased_unnamed e f d.0 s h.0
-erased_unnamed e (in_others l f) d s h = erased_unnamed e f d.1 s h.1
-
-module _ (before after : Store) (v : Variance) (k : VarKind) (n : ℕ) (source : Tree) (o : Obstacle) (kind : IsTypeOrConst k) (f : RefusesBy before after k n source o) (g : IsSound before)
-    (other : apply (resolved before) source ≢ leaf (variable k n)) where
-  abbrev whole : Tree
-  whole = apply (resolved before) source
-
-  same : Adds (universe_of before k n) before after
-  same = adds g (g.below_current k n) f.makes
-
-  apart : (w : Interpretation) (s : Assign) → Satisfies w before s → s k n ≡ apply s source → ⊥
-  apart w s sat e = go o refl
-    where
-      go : (p : Obstacle) → o ≡ p → ⊥
-      go cycle q = cycles_do_not_unify before k n source (stops_occurs q f.stops) other s sat.bindings e
-      go beyond q = stops_unnamed q f.stops s (subst (Leaves (IsNamable (universe_of before k n))) (e ∙ resolved_value before s sat.bindings source) (sat.assigns k n f.made).3)
-
-  apart_erased : IsFirstOrder source → IsFirstOrderStore before → (s : Assign) → IsErasedSolution before s → Unifies s (leaf (variable k n)) source → ⊥
-  apart_erased d h s sol e = go o refl
-    where
-      unified : erase (s k n) ≡ erase (apply s whole)
-      unified = e ∙ sym (resolved_unifies before g s sol.1 source)
-
-      first_order : IsFirstOrder whole
-      first_order = resolved_first_order before g h source d
-
-      go : (p : Obstacle) → o ≡ p → ⊥
-      go cycle q = erased_occurs_check s k n whole kind first_order (stops_occurs q f.stops) other unified
-      go beyond q = erased_unnamed q f.stops first_order s (subst (Leaves (IsNamable (universe_of before k n))) unified (erased_named (universe_of before k n) (s k n) (sol.0 k n f.made).3))
-
-  pub refused : RefusesToInstantiate before after v k n source
-  refused = record {
-    later = same.later;
-    same_entries = same.entries;
-    same_universes = same.universes;
-    same_constraints = same.constraints;
-    same_universe = same.universe;
-    same_taint = same.tainted;
-    same_budget = same.budget;
-    stays_sound = λ h. same.sound;
-    apart = apart;
-    apart_erased = λ p d h s sol e. apart_erased d h s sol e;
-  }
-
-pub generalising_refuses : GeneralisingRefuses
-generalising_refuses before after v k n source o kind f g other = (refused before after v k n source o kind f g other, adds_goes (same before after v k n source o kind f g other))

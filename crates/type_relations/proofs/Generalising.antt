@@ -5,7 +5,7 @@ use Rattle.std.proofs.lemmas.List.Elements.{All-nil, All-cons}
 use Rattle.relation_terms.specs.declared.terms.enums.Variance.{Variance}
 use Rattle.relation_terms.specs.declared.terms.enums.Variance.TheVariants.{Invariant}
 use Rattle.relation_terms.specs.Heads.{leaf_sort, region_kind, type_kind, const_kind, bound_kind, VarKind, type_var, int_var, float_var, const_var, region_var, var_sort, static_region, early_region, Head, Leaf, variable, bound, placeholder, atom, unknown}
-use Rattle.relation_terms.specs.Trees.{Tree, leaf, node, bind, cons, Assign, apply, Leaves, count}
+use Rattle.relation_terms.specs.Trees.{Tree, leaf, node, bind, cons, Assign, apply, Leaves}
 use Rattle.relation_terms.specs.Erasure.{erase}
 use Rattle.type_relations.specs.Relation.{Items, part_at}
 use Rattle.type_relations.specs.Stores.{Store, entry_term, universe_of, IsMade, IsFree, IsMadeLeaf, IsInScope, IsSound}
@@ -261,16 +261,16 @@ module _ (c : Items) (start : Store) (g : IsSound start) (numbers : NumbersNameN
   next_came h i v back r q p t x ts xs at f s = let b = s.became in
       let a = between r.store q.store at.makes f.makes in
       let d = became_later q.store p.store (between q.store p.store (f.reached).makes s.makes) f.further s.further s.agrees (any_part (part_at c h i v)) t x f.became in record {
-    further = s.further;
-    agrees = λ j m z. f.agrees j m z ∙ s.agrees j m ((a.later).grows j m z);
-    makes = makes_then f.makes s.makes;
-    reached = s.reached;
-    became = record {
-      value = ap₂ cons d.value b.value;
-      leaves = (d.leaves, b.leaves);
-      alike = λ e z. parts_next c h i v x t xs ts e (λ y. d.alike y z.0) (b.alike e z.1);
-    };
-  }
+        further = s.further;
+        agrees = λ j m z. f.agrees j m z ∙ s.agrees j m ((a.later).grows j m z);
+        makes = makes_then f.makes s.makes;
+        reached = s.reached;
+        became = record {
+          value = ap₂ cons d.value b.value;
+          leaves = (d.leaves, b.leaves);
+          alike = λ e z. parts_next c h i v x t xs ts e (λ y. d.alike y z.0) (b.alike e z.1);
+        };
+      }
 
   form_came : (h : Head) (v : Variance) (back : Assign) (r q : Stage) (ts xs : Tree) → Came Q start k n back r q (parts_from h 0 v) ts xs → Came Q start k n back r q (new_part v) (node h ts) (node h xs)
   form_came h v back r q ts xs f = let b = f.became in record {

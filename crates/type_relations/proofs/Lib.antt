@@ -38,6 +38,7 @@ pub mod Instantiating
 pub mod Leafwise
 pub mod Generalising
 pub mod BindingGeneralised
+pub mod BindingRefused
 pub mod GeneralisingErrors
 pub mod GeneralisingParts
 pub mod Assigning
