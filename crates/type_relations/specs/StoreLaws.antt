@@ -9,7 +9,7 @@ use Rattle.type_relations.specs.Stores.{Store, universe_of, MayStandFor, IsNamab
 use Rattle.type_relations.specs.Stores.{Satisfies, ConstraintHolds, ConstraintIn, Constraint, resolved}
 use Rattle.type_relations.specs.Steps.{Equates, BindsTo, Instantiates, RefusesToInstantiate, MakesVariable}
 use Rattle.type_relations.specs.Steps.{AddsConstraint, ChangesNothing, InstantiatesNumber, Resolves, Extends, Makes}
-use Rattle.type_relations.specs.Generalising.{InstantiatesBy, NumbersNameNothing, Obstacle, RefusesBy}
+use Rattle.type_relations.specs.Generalising.{Stage, any_part, Generalised, InstantiatesBy, NumbersNameNothing, Obstacle, RefusesBy}
 use Rattle.type_relations.specs.Outcomes.{Exact}
 use Rattle.type_relations.specs.ErasureLaws.{IsTypeOrConst}
 
@@ -50,6 +50,12 @@ abbrev pub CyclesRefuse : Type 0
 CyclesRefuse = (st : Store) (v : Variance) (k : VarKind) (n : ℕ) (source : Tree) → IsTypeOrConst k → IsSound st →
     Occurs k n (apply (resolved st) source) → apply (resolved st) source ≢ leaf (variable k n) →
     RefusesToInstantiate st st v k n source
+
+-- What a term is generalised to is one term.
+abbrev pub GeneralisingIsOne : Type 0
+GeneralisingIsOne = (c : Items) (start : Store) (k : VarKind) (n : ℕ) (v : Variance) (r q : Stage) (t x y : Tree) →
+    Generalised c start k n (any_part v) (record { store = start; met = [] }) t r x →
+    Generalised c start k n (any_part v) (record { store = start; met = [] }) t q y → x ≡ y
 
 -- Binding a variable of a type or a constant to what a term comes to, generalised for it, instantiates it.
 abbrev pub GeneralisingInstantiates : Type 0
