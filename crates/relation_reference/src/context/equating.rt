@@ -17,8 +17,8 @@ use relation_terms::terms::{
 };
 
 impl<I: Interner> RefCtxt<I> {
-    /// Makes two roots of type variables one: the one of the larger number leads to the other, with all of its class, and
-    /// the other gets the smaller of both universes. A root with itself changes nothing.
+    /// Makes two roots of type variables one: the one of the larger number leads to the other, with all of its class,
+    /// and the other gets the smaller of both universes. A root with itself changes nothing.
     pub fn equate_ty_vids_raw(&mut self, a: TyVid, b: TyVid)
         requires lawful { IsLawful (I.meaning self.old.interner) self.old.inner }
         requires a_made { a.0 < length self.old.inner.types.items }
@@ -39,8 +39,8 @@ impl<I: Interner> RefCtxt<I> {
         }
     }
 
-    /// Makes two roots of integer variables one: the one of the larger number leads to the other, with all of its class, and
-    /// the other gets the smaller of both universes. A root with itself changes nothing.
+    /// Makes two roots of integer variables one: the one of the larger number leads to the other, with all of its
+    /// class, and the other gets the smaller of both universes. A root with itself changes nothing.
     pub fn equate_int_vids_raw(&mut self, a: IntVid, b: IntVid)
         requires lawful { IsLawful (I.meaning self.old.interner) self.old.inner }
         requires a_made { a.0 < length self.old.inner.ints.items }
@@ -61,8 +61,8 @@ impl<I: Interner> RefCtxt<I> {
         }
     }
 
-    /// Makes two roots of float variables one: the one of the larger number leads to the other, with all of its class, and
-    /// the other gets the smaller of both universes. A root with itself changes nothing.
+    /// Makes two roots of float variables one: the one of the larger number leads to the other, with all of its
+    /// class, and the other gets the smaller of both universes. A root with itself changes nothing.
     pub fn equate_float_vids_raw(&mut self, a: FloatVid, b: FloatVid)
         requires lawful { IsLawful (I.meaning self.old.interner) self.old.inner }
         requires a_made { a.0 < length self.old.inner.floats.items }
@@ -83,8 +83,8 @@ impl<I: Interner> RefCtxt<I> {
         }
     }
 
-    /// Makes two roots of constant variables one: the one of the larger number leads to the other, with all of its class, and
-    /// the other gets the smaller of both universes. A root with itself changes nothing.
+    /// Makes two roots of constant variables one: the one of the larger number leads to the other, with all of its
+    /// class, and the other gets the smaller of both universes. A root with itself changes nothing.
     pub fn equate_const_vids_raw(&mut self, a: ConstVid, b: ConstVid)
         requires lawful { IsLawful (I.meaning self.old.interner) self.old.inner }
         requires a_made { a.0 < length self.old.inner.consts.items }

@@ -20,8 +20,8 @@ use relation_terms::terms::{Const, ConstVid, Interner, Part, Ty, TyVid};
 use relation_tools::error::{RelateFault, RelateFaultOf, TypeError};
 
 impl<I: Interner> RefCtxt<I> {
-    /// Binds the root of a type variable to what a type comes to, for one of the budget, and answers that. The type does
-    /// not come to the root itself.
+    /// Binds the root of a type variable to what a type comes to, for one of the budget, and answers that. The type
+    /// does not come to the root itself.
     ///
     /// # Errors
     /// `Budget` where no instantiation is left, `CyclicTy` where the root stands in what the type comes to, `Memory`
@@ -63,12 +63,12 @@ impl<I: Interner> RefCtxt<I> {
         Ok(bound)
     }
 
-    /// Binds the root of a constant variable to what a constant comes to, for one of the budget, and answers that. The constant does
-    /// not come to the root itself.
+    /// Binds the root of a constant variable to what a constant comes to, for one of the budget, and answers that.
+    /// The constant does not come to the root itself.
     ///
     /// # Errors
-    /// `Budget` where no instantiation is left, `CyclicConst` where the root stands in what the constant comes to, `Memory`
-    /// where a growth was refused. Then nothing is bound.
+    /// `Budget` where no instantiation is left, `CyclicConst` where the root stands in what the constant comes to,
+    /// `Memory` where a growth was refused. Then nothing is bound.
     pub fn instantiate_const_var_raw(
         &mut self,
         target: ConstVid,

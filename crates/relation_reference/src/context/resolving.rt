@@ -99,8 +99,8 @@ pub(crate) fn occurs<I: Interner>(
 }
 
 impl<I: Interner> RefCtxt<I> {
-    // The term itself, or for a type or a constant what it is resolved to shallowly. What that comes to is the form over what its
-    // parts come to.
+    // The term itself, or for a type or a constant what it is resolved to shallowly. What that comes to is the form
+    // over what its parts come to.
     fn shallow_part(&self, term: &PartOf<I>) -> PartOf<I>
         requires lawful { IsLawful (I.meaning self.now.interner) self.now.inner }
         requires term_known { IsTrue (known (part_tree (I.meaning self.now.interner) term.now)) }
@@ -152,8 +152,8 @@ impl<I: Interner> RefCtxt<I> {
         Ok(resolved)
     }
 
-    // The same of a term that comes to the form over what its parts come to. Where they come to what they are, nothing is
-    // made.
+    // The same of a term that comes to the form over what its parts come to. Where they come to what they are,
+    // nothing is made.
     #[cycle(resolve)]
     fn resolve_inside(
         &mut self,
