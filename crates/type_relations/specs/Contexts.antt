@@ -88,6 +88,6 @@ module _ {Key Id Name : Type 0} (c d : Context Key Id Name) where
       IsFirstOrderPair c.store ((c.meaning).ty a) ((c.meaning).ty b) →
       NoUnifier c.store ((c.meaning).ty a) ((c.meaning).ty b))
 
-  -- Each variable newly bound to a type has taken one instantiation, and nothing else has.
+  -- Each variable of a type or a constant that was newly bound has taken one instantiation, and nothing else has.
   abbrev pub SpendsByBinding : Type 0
   SpendsByBinding = (c.store).budget + all_bound c.store ≡ (d.store).budget + all_bound d.store

@@ -43,8 +43,8 @@ pub trait RelateExt {
     /// instantiation is left, and `Memory` where a growth was refused.
     ///
     /// On each outcome all that was recorded stands. It makes no variable, and binds only what was the context's and
-    /// unbound, each for one instantiation; so no error and no spent budget comes of variables of its own. After an
-    /// error more may have been recorded on the way.
+    /// unbound: variables of types and constants each for one instantiation, those of numbers for none. So no error and
+    /// no spent budget comes of variables of its own. After an error more may have been recorded on the way.
     fn relate(
         &mut self,
         param_env: ParamEnv<Self::Interner>,
