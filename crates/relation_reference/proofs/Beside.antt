@@ -1,5 +1,5 @@
 -- Tables that differ in what is recorded of one kind of variables, and in the budget.
-use Rattle.std.proofs.Common.{◌≡◌, ℕ, ◌<◌, refl, sym, ◌∙◌, subst, map, length, get_or}
+use Rattle.std.proofs.Common.{◌≡◌, ℕ, ◌<◌, refl, sym, ap, ◌∙◌, subst, map, length, get_or}
 use Rattle.std.specs.Global.{Vec}
 use Rattle.relation_terms.specs.Heads.{VarKind, VarKind_discrete, type_var, int_var, float_var, const_var, region_var, variable}
 use Rattle.relation_terms.specs.Trees.{leaf, nil}
@@ -7,10 +7,10 @@ use Rattle.relation_terms.specs.Meaning.{Meaning}
 use Rattle.relation_terms.specs.declared.terms.keys.TyKey.{TyKey}
 use Rattle.relation_terms.specs.declared.terms.keys.ConstKey.{ConstKey}
 use Rattle.relation_terms.specs.declared.terms.numbers.UniverseIndex.{UniverseIndex}
-use Rattle.type_relations.specs.Stores.{IsSound}
+use Rattle.type_relations.specs.Stores.{IsSound, universe_of}
 use Rattle.relation_reference.specs.declared.context.inner.Variable.{Variable}
 use Rattle.relation_reference.specs.declared.context.inner.InferCtxtInner.{InferCtxtInner}
-use Rattle.relation_reference.specs.Tables.{store_of, keys_in, IsRooted, IsFilled, IsLawful}
+use Rattle.relation_reference.specs.Tables.{store_of, keys_in, IsRooted, IsFilled, IsNumberKind, IsLawful}
 
 module _ {Key Id Name : Type 0} (m : Meaning Key Id Name) where
   -- All but the table of one kind, and the budget, stands.
@@ -150,11 +150,13 @@ module _ {Key Id Name : Type 0} (m : Meaning Key Id Name) where
   -- So the context is lawful where its table is.
   pub lawful_beside : (x y : InferCtxtInner Key) (k : VarKind) → Beside x y k →
       ((n : ℕ) → n < length (keys_in m y k) → get_or (keys_in m y k) n nil ≡ leaf (variable k n)) →
-      IsSound (store_of m y) → IsRooted (store_of m y) → IsFilled (store_of m y) → IsLawful m x → IsLawful m y
-  lawful_beside x y k b keyed sound rooted filled l = record {
+      IsSound (store_of m y) → IsRooted (store_of m y) → IsFilled (store_of m y) →
+      (IsNumberKind k → (n : ℕ) → universe_of (store_of m y) k n ≡ 0) → IsLawful m x → IsLawful m y
+  lawful_beside x y k b keyed sound rooted filled first l = record {
     sound = sound;
     rooted = rooted;
     formed = filled;
+    numbers_name_nothing = λ j i f. below j i f (VarKind_discrete j k);
     first_universe = b.universe ∙ l.first_universe;
     keyed = λ j. go j (VarKind_discrete j k);
     numbers = b.numbers ∙ l.numbers;
@@ -163,6 +165,10 @@ module _ {Key Id Name : Type 0} (m : Meaning Key Id Name) where
       go : (j : VarKind) → Dec (j ≡ k) → (n : ℕ) → n < length (keys_in m y j) → get_or (keys_in m y j) n nil ≡ leaf (variable j n)
       go j (yes e) = subst (λ i. (n : ℕ) → n < length (keys_in m y i) → get_or (keys_in m y i) n nil ≡ leaf (variable i n)) (sym e) keyed
       go j (no o) = subst (λ ts. (n : ℕ) → n < length ts → get_or ts n nil ≡ leaf (variable j n)) (sym (b.keys j o)) (l.keyed j)
+
+      below : (j : VarKind) (i : ℕ) → IsNumberKind j → Dec (j ≡ k) → universe_of (store_of m y) j i ≡ 0
+      below j i f (yes e) = subst (λ z. IsNumberKind z → universe_of (store_of m y) z i ≡ 0) (sym e) (λ g. first g i) f
+      below j i f (no o) = ap (λ us. get_or us i 0) (b.universes j o) ∙ l.numbers_name_nothing j i f
 
   -- Where its keys stand, they are theirs.
   pub keyed_still : (x y : InferCtxtInner Key) (k : VarKind) → keys_in m y k ≡ keys_in m x k → IsLawful m x →

@@ -49,6 +49,7 @@ budget_lawful m x b l = record {
   sound = budget_sound (store_of m x) b l.sound;
   rooted = l.rooted;
   formed = l.formed;
+  numbers_name_nothing = l.numbers_name_nothing;
   first_universe = l.first_universe;
   keyed = l.keyed;
   numbers = l.numbers;

@@ -1,5 +1,5 @@
 -- New variables, new constraints, and growths that were refused.
-use Rattle.std.proofs.Common.{◌≡◌, ℕ, ◌<◌, ◌≤◌, refl, sym, ap, ap₂, ◌∙◌, arith, subst, List, [], ◌∷◌, ◌++◌, length, map, get_or, length-append, le_refl, false, Result, Ok, Err, OnErr}
+use Rattle.std.proofs.Common.{◌≡◌, ℕ, zero, suc, ◌<◌, ◌≤◌, refl, sym, ap, ap₂, ◌∙◌, arith, subst, List, [], ◌∷◌, ◌++◌, length, map, get_or, length-append, le_refl, false, Result, Ok, Err, OnErr}
 use Rattle.std.proofs.lemmas.List.{map-append, length-map, get_or_append_left}
 use Rattle.std.proofs.Math.Seq.{get_or-append_seam}
 use native.Mathlib.Decide.{ℕ_discrete}
@@ -22,7 +22,7 @@ use Rattle.relation_reference.specs.declared.context.inner.VariableValue.TheVari
 use Rattle.relation_reference.specs.declared.context.inner.Variable.{Variable}
 use Rattle.relation_reference.specs.declared.context.inner.InferCtxtInner.{InferCtxtInner}
 use Rattle.relation_reference.specs.Variables.{keys_of, values_of, universes_of, entry_of_value, entries_of, trees_of}
-use Rattle.relation_reference.specs.Tables.{by_kind, store_of, keys_in, IsRooted, IsFilled, IsLawful}
+use Rattle.relation_reference.specs.Tables.{by_kind, store_of, keys_in, IsRooted, IsFilled, IsNumberKind, NumbersNameNothing, IsLawful}
 use Rattle.type_relations.specs.Constraints.{constraint_of}
 use Rattle.relation_reference.proofs.Grows.{store_grows, lawful_grows}
 use Rattle.relation_reference.proofs.Beside.{Beside, types_beside, ints_beside, floats_beside, consts_beside, regions_beside, lawful_beside, keyed_still}
@@ -80,6 +80,7 @@ module _ {Key Id Name : Type 0} (m : Meaning Key Id Name) (x y : InferCtxtInner 
     sound = subst IsSound (sym same_store) l.sound;
     rooted = subst IsRooted (sym same_store) l.rooted;
     formed = subst IsFilled (sym same_store) l.formed;
+    numbers_name_nothing = subst NumbersNameNothing (sym same_store) l.numbers_name_nothing;
     first_universe = ap (λ u. u.0) s.universe ∙ l.first_universe;
     keyed = λ k. keyed_still m x y k (same_keys k) l;
     numbers = ap (map m.ty) s.numbers ∙ l.numbers;
@@ -93,8 +94,8 @@ pub made_entries : {K : Type 0} (tree : K → Tree) (xs ys : List (Variable K)) 
 made_entries tree xs ys v e f = ap (entries_of tree) e ∙ ap (map (entry_of_value tree)) (map-append (λ w. w.value) xs (v ∷ [])) ∙ map-append (entry_of_value tree) (values_of xs) (v.value ∷ [])
     ∙ ap (λ w. entries_of tree xs ++ entry_of_value tree w ∷ []) f
 
-pub made_universes : {K : Type 0} (xs ys : List (Variable K)) (v : Variable K) (u : UniverseIndex) → ys ≡ xs ++ v ∷ [] → v.universe ≡ u → universes_of ys ≡ universes_of xs ++ u.0 ∷ []
-made_universes xs ys v u e f = ap universes_of e ∙ map-append (λ w. (w.universe).0) xs (v ∷ []) ∙ ap (λ z. universes_of xs ++ z.0 ∷ []) f
+pub made_universes : {K : Type 0} (xs ys : List (Variable K)) (v : Variable K) (u : ℕ) → ys ≡ xs ++ v ∷ [] → (v.universe).0 ≡ u → universes_of ys ≡ universes_of xs ++ u ∷ []
+made_universes xs ys v u e f = ap universes_of e ∙ map-append (λ w. (w.universe).0) xs (v ∷ []) ∙ ap (λ z. universes_of xs ++ z ∷ []) f
 
 pub made_keys : {K : Type 0} (tree : K → Tree) (xs ys : List (Variable K)) (v : Variable K) (t : Tree) → ys ≡ xs ++ v ∷ [] → tree v.key ≡ t → trees_of tree ys ≡ trees_of tree xs ++ t ∷ []
 made_keys tree xs ys v t e f = ap (trees_of tree) e ∙ ap (map tree) (map-append (λ w. w.key) xs (v ∷ [])) ∙ map-append tree (keys_of xs) (v.key ∷ []) ∙ ap (λ z. trees_of tree xs ++ z ∷ []) f
@@ -113,13 +114,20 @@ keyed_one ts k f i h = go (ℕ_discrete i (length ts))
     go (no o) = let within : i < length ts = (let a = length-append ts (leaf (variable k (length ts)) ∷ []) in omega (arith, h, a, o)) in
         get_or_append_left ts (leaf (variable k (length ts)) ∷ []) nil i within ∙ f i within
 
+-- One more universe, the first, in a list that has no other.
+zero_more : (us : List ℕ) (u : ℕ) → u ≡ 0 → ((j : ℕ) → get_or us j 0 ≡ 0) → (i : ℕ) → get_or (us ++ u ∷ []) i 0 ≡ 0
+zero_more [] u e f zero = e
+zero_more [] u e f (suc i) = refl
+zero_more (w ∷ us) u e f zero = f 0
+zero_more (w ∷ us) u e f (suc i) = zero_more us u e (λ j. f (suc j)) i
+
 -- A new variable of a kind. `y` has it, by what keys mean after its key was made.
-module _ {Key Id Name : Type 0} {m n : Meaning Key Id Name} (e : Extends m n) (x y : InferCtxtInner Key) (l : IsLawful m x) (k : VarKind) (number : ℕ) (b : Beside n x y k)
+module _ {Key Id Name : Type 0} {m n : Meaning Key Id Name} (e : Extends m n) (x y : InferCtxtInner Key) (l : IsLawful m x) (k : VarKind) (number u : ℕ) (below : u ≤ (x.universe).0) (b : Beside n x y k)
     (numbered : number ≡ length ((store_of m x).entries k))
     (entries : (store_of n y).entries k ≡ (store_of n x).entries k ++ unbound ∷ [])
-    (universes : (store_of n y).universes k ≡ (store_of n x).universes k ++ (x.universe).0 ∷ [])
+    (universes : (store_of n y).universes k ≡ (store_of n x).universes k ++ u ∷ [])
     (budget : (store_of n y).budget ≡ (store_of n x).budget) where
-  made_now : MakesVariable (store_of n x) (store_of n y) k number ((x.universe).0)
+  made_now : MakesVariable (store_of n x) (store_of n y) k number u
   made_now = record {
     number = numbered ∙ ap (λ st. length (st.entries k)) (sym (store_grows e x l));
     entries_grow = entries;
@@ -132,21 +140,22 @@ module _ {Key Id Name : Type 0} {m n : Meaning Key Id Name} (e : Extends m n) (x
     same_budget = budget;
   }
 
-  pub variable_made : MakesVariable (store_of m x) (store_of n y) k number ((x.universe).0)
-  variable_made = subst (λ st. MakesVariable st (store_of n y) k number ((x.universe).0)) (store_grows e x l) made_now
+  pub variable_made : MakesVariable (store_of m x) (store_of n y) k number u
+  variable_made = subst (λ st. MakesVariable st (store_of n y) k number u) (store_grows e x l) made_now
 
   pub variable_later : IsLater (store_of m x) (store_of n y)
-  variable_later = made_is_later (store_of m x) (store_of n y) k number ((x.universe).0) variable_made l.sound
+  variable_later = made_is_later (store_of m x) (store_of n y) k number u variable_made l.sound
 
   entry_still : (j : VarKind) (i : ℕ) → entry_of (store_of n y) j i ≡ entry_of (store_of m x) j i
-  entry_still = same_entries (store_of m x) (store_of n y) k number ((x.universe).0) variable_made
+  entry_still = same_entries (store_of m x) (store_of n y) k number u variable_made
 
   -- `keyed` says that the key beside each variable of the kind is its own.
-  pub variable_lawful : ((i : ℕ) → i < length (keys_in n y k) → get_or (keys_in n y k) i nil ≡ leaf (variable k i)) → IsLawful n y
-  variable_lawful keyed = lawful_beside n x y k b keyed
-      (made_sound (store_of m x) (store_of n y) k number ((x.universe).0) variable_made l.sound (le_refl ((x.universe).0)))
+  pub variable_lawful : (IsNumberKind k → u ≡ 0) → ((i : ℕ) → i < length (keys_in n y k) → get_or (keys_in n y k) i nil ≡ leaf (variable k i)) → IsLawful n y
+  variable_lawful first keyed = lawful_beside n x y k b keyed
+      (made_sound (store_of m x) (store_of n y) k number u variable_made l.sound below)
       (λ j i r p c d. l.rooted j i r p (sym (entry_still j i) ∙ c) (sym (entry_still j r) ∙ d))
       (λ j i t h. l.formed j i t (sym (entry_still j i) ∙ h))
+      (λ f i. ap (λ us. get_or us i 0) universes ∙ zero_more ((store_of n x).universes k) u (first f) (λ j. (lawful_grows e x l).numbers_name_nothing k j f) i)
       (lawful_grows e x l)
 
   pub keyed_more : keys_in n y k ≡ keys_in n x k ++ leaf (variable k number) ∷ [] → number ≡ length (keys_in n x k) → (i : ℕ) → i < length (keys_in n y k) → get_or (keys_in n y k) i nil ≡ leaf (variable k i)
@@ -155,121 +164,121 @@ module _ {Key Id Name : Type 0} {m n : Meaning Key Id Name} (e : Extends m n) (x
 
 -- A new variable in the table of `types`.
 module _ {Key Id Name : Type 0} {m n : Meaning Key Id Name} (e : Extends m n) (x : InferCtxtInner Key) (l : IsLawful m x) (ts : Vec (Variable (TyKey Key))) (v : Variable (TyKey Key))
-    (more : ts.items ≡ x.types.items ++ v ∷ []) (free : v.value ≡ Unknown) (universe_is : v.universe ≡ x.universe)
+    (more : ts.items ≡ x.types.items ++ v ∷ []) (free : v.value ≡ Unknown) (u : ℕ) (below : u ≤ (x.universe).0) (universe_is : (v.universe).0 ≡ u)
     (key : n.ty v.key ≡ leaf (variable type_var (length x.types.items))) where
   abbrev type_entries : (store_of n (record x { types = ts })).entries type_var ≡ (store_of n x).entries type_var ++ unbound ∷ []
   type_entries = made_entries n.ty x.types.items ts.items v more free
 
-  abbrev type_universes : (store_of n (record x { types = ts })).universes type_var ≡ (store_of n x).universes type_var ++ (x.universe).0 ∷ []
-  type_universes = made_universes x.types.items ts.items v x.universe more universe_is
+  abbrev type_universes : (store_of n (record x { types = ts })).universes type_var ≡ (store_of n x).universes type_var ++ u ∷ []
+  type_universes = made_universes x.types.items ts.items v u more universe_is
 
   abbrev type_numbered : length x.types.items ≡ length ((store_of m x).entries type_var)
   type_numbered = sym (entries_long m.ty x.types.items)
 
-  pub type_made : MakesVariable (store_of m x) (store_of n (record x { types = ts })) type_var (length x.types.items) ((x.universe).0)
-  type_made = variable_made e x (record x { types = ts }) l type_var (length x.types.items) (types_beside n x ts x.budget) type_numbered type_entries type_universes refl
+  pub type_made : MakesVariable (store_of m x) (store_of n (record x { types = ts })) type_var (length x.types.items) u
+  type_made = variable_made e x (record x { types = ts }) l type_var (length x.types.items) u below (types_beside n x ts x.budget) type_numbered type_entries type_universes refl
 
   pub type_made_later : IsLater (store_of m x) (store_of n (record x { types = ts }))
-  type_made_later = variable_later e x (record x { types = ts }) l type_var (length x.types.items) (types_beside n x ts x.budget) type_numbered type_entries type_universes refl
+  type_made_later = variable_later e x (record x { types = ts }) l type_var (length x.types.items) u below (types_beside n x ts x.budget) type_numbered type_entries type_universes refl
 
   pub type_made_lawful : IsLawful n (record x { types = ts })
   type_made_lawful =
-      let keyed = keyed_more e x (record x { types = ts }) l type_var (length x.types.items) (types_beside n x ts x.budget) type_numbered type_entries type_universes refl
+      let keyed = keyed_more e x (record x { types = ts }) l type_var (length x.types.items) u below (types_beside n x ts x.budget) type_numbered type_entries type_universes refl
       (made_keys n.ty x.types.items ts.items v (leaf (variable type_var (length x.types.items))) more key) (sym (keys_long n.ty x.types.items)) in
-      variable_lawful e x (record x { types = ts }) l type_var (length x.types.items) (types_beside n x ts x.budget) type_numbered type_entries type_universes refl keyed
+      variable_lawful e x (record x { types = ts }) l type_var (length x.types.items) u below (types_beside n x ts x.budget) type_numbered type_entries type_universes refl (λ f. absurd f) keyed
 
 -- A new variable in the table of `ints`.
 module _ {Key Id Name : Type 0} {m n : Meaning Key Id Name} (e : Extends m n) (x : InferCtxtInner Key) (l : IsLawful m x) (ts : Vec (Variable (TyKey Key))) (v : Variable (TyKey Key))
-    (more : ts.items ≡ x.ints.items ++ v ∷ []) (free : v.value ≡ Unknown) (universe_is : v.universe ≡ x.universe)
+    (more : ts.items ≡ x.ints.items ++ v ∷ []) (free : v.value ≡ Unknown) (universe_is : (v.universe).0 ≡ 0)
     (key : n.ty v.key ≡ leaf (variable int_var (length x.ints.items))) where
   abbrev int_entries : (store_of n (record x { ints = ts })).entries int_var ≡ (store_of n x).entries int_var ++ unbound ∷ []
   int_entries = made_entries n.ty x.ints.items ts.items v more free
 
-  abbrev int_universes : (store_of n (record x { ints = ts })).universes int_var ≡ (store_of n x).universes int_var ++ (x.universe).0 ∷ []
-  int_universes = made_universes x.ints.items ts.items v x.universe more universe_is
+  abbrev int_universes : (store_of n (record x { ints = ts })).universes int_var ≡ (store_of n x).universes int_var ++ 0 ∷ []
+  int_universes = made_universes x.ints.items ts.items v 0 more universe_is
 
   abbrev int_numbered : length x.ints.items ≡ length ((store_of m x).entries int_var)
   int_numbered = sym (entries_long m.ty x.ints.items)
 
-  pub int_made : MakesVariable (store_of m x) (store_of n (record x { ints = ts })) int_var (length x.ints.items) ((x.universe).0)
-  int_made = variable_made e x (record x { ints = ts }) l int_var (length x.ints.items) (ints_beside n x ts x.budget) int_numbered int_entries int_universes refl
+  pub int_made : MakesVariable (store_of m x) (store_of n (record x { ints = ts })) int_var (length x.ints.items) 0
+  int_made = variable_made e x (record x { ints = ts }) l int_var (length x.ints.items) 0 (omega arith) (ints_beside n x ts x.budget) int_numbered int_entries int_universes refl
 
   pub int_made_later : IsLater (store_of m x) (store_of n (record x { ints = ts }))
-  int_made_later = variable_later e x (record x { ints = ts }) l int_var (length x.ints.items) (ints_beside n x ts x.budget) int_numbered int_entries int_universes refl
+  int_made_later = variable_later e x (record x { ints = ts }) l int_var (length x.ints.items) 0 (omega arith) (ints_beside n x ts x.budget) int_numbered int_entries int_universes refl
 
   pub int_made_lawful : IsLawful n (record x { ints = ts })
   int_made_lawful =
-      let keyed = keyed_more e x (record x { ints = ts }) l int_var (length x.ints.items) (ints_beside n x ts x.budget) int_numbered int_entries int_universes refl
+      let keyed = keyed_more e x (record x { ints = ts }) l int_var (length x.ints.items) 0 (omega arith) (ints_beside n x ts x.budget) int_numbered int_entries int_universes refl
       (made_keys n.ty x.ints.items ts.items v (leaf (variable int_var (length x.ints.items))) more key) (sym (keys_long n.ty x.ints.items)) in
-      variable_lawful e x (record x { ints = ts }) l int_var (length x.ints.items) (ints_beside n x ts x.budget) int_numbered int_entries int_universes refl keyed
+      variable_lawful e x (record x { ints = ts }) l int_var (length x.ints.items) 0 (omega arith) (ints_beside n x ts x.budget) int_numbered int_entries int_universes refl (λ f. refl) keyed
 
 -- A new variable in the table of `floats`.
 module _ {Key Id Name : Type 0} {m n : Meaning Key Id Name} (e : Extends m n) (x : InferCtxtInner Key) (l : IsLawful m x) (ts : Vec (Variable (TyKey Key))) (v : Variable (TyKey Key))
-    (more : ts.items ≡ x.floats.items ++ v ∷ []) (free : v.value ≡ Unknown) (universe_is : v.universe ≡ x.universe)
+    (more : ts.items ≡ x.floats.items ++ v ∷ []) (free : v.value ≡ Unknown) (universe_is : (v.universe).0 ≡ 0)
     (key : n.ty v.key ≡ leaf (variable float_var (length x.floats.items))) where
   abbrev float_entries : (store_of n (record x { floats = ts })).entries float_var ≡ (store_of n x).entries float_var ++ unbound ∷ []
   float_entries = made_entries n.ty x.floats.items ts.items v more free
 
-  abbrev float_universes : (store_of n (record x { floats = ts })).universes float_var ≡ (store_of n x).universes float_var ++ (x.universe).0 ∷ []
-  float_universes = made_universes x.floats.items ts.items v x.universe more universe_is
+  abbrev float_universes : (store_of n (record x { floats = ts })).universes float_var ≡ (store_of n x).universes float_var ++ 0 ∷ []
+  float_universes = made_universes x.floats.items ts.items v 0 more universe_is
 
   abbrev float_numbered : length x.floats.items ≡ length ((store_of m x).entries float_var)
   float_numbered = sym (entries_long m.ty x.floats.items)
 
-  pub float_made : MakesVariable (store_of m x) (store_of n (record x { floats = ts })) float_var (length x.floats.items) ((x.universe).0)
-  float_made = variable_made e x (record x { floats = ts }) l float_var (length x.floats.items) (floats_beside n x ts x.budget) float_numbered float_entries float_universes refl
+  pub float_made : MakesVariable (store_of m x) (store_of n (record x { floats = ts })) float_var (length x.floats.items) 0
+  float_made = variable_made e x (record x { floats = ts }) l float_var (length x.floats.items) 0 (omega arith) (floats_beside n x ts x.budget) float_numbered float_entries float_universes refl
 
   pub float_made_later : IsLater (store_of m x) (store_of n (record x { floats = ts }))
-  float_made_later = variable_later e x (record x { floats = ts }) l float_var (length x.floats.items) (floats_beside n x ts x.budget) float_numbered float_entries float_universes refl
+  float_made_later = variable_later e x (record x { floats = ts }) l float_var (length x.floats.items) 0 (omega arith) (floats_beside n x ts x.budget) float_numbered float_entries float_universes refl
 
   pub float_made_lawful : IsLawful n (record x { floats = ts })
   float_made_lawful =
-      let keyed = keyed_more e x (record x { floats = ts }) l float_var (length x.floats.items) (floats_beside n x ts x.budget) float_numbered float_entries float_universes refl
+      let keyed = keyed_more e x (record x { floats = ts }) l float_var (length x.floats.items) 0 (omega arith) (floats_beside n x ts x.budget) float_numbered float_entries float_universes refl
       (made_keys n.ty x.floats.items ts.items v (leaf (variable float_var (length x.floats.items))) more key) (sym (keys_long n.ty x.floats.items)) in
-      variable_lawful e x (record x { floats = ts }) l float_var (length x.floats.items) (floats_beside n x ts x.budget) float_numbered float_entries float_universes refl keyed
+      variable_lawful e x (record x { floats = ts }) l float_var (length x.floats.items) 0 (omega arith) (floats_beside n x ts x.budget) float_numbered float_entries float_universes refl (λ f. refl) keyed
 
 -- A new variable in the table of `consts`.
 module _ {Key Id Name : Type 0} {m n : Meaning Key Id Name} (e : Extends m n) (x : InferCtxtInner Key) (l : IsLawful m x) (ts : Vec (Variable (ConstKey Key))) (v : Variable (ConstKey Key))
-    (more : ts.items ≡ x.consts.items ++ v ∷ []) (free : v.value ≡ Unknown) (universe_is : v.universe ≡ x.universe)
+    (more : ts.items ≡ x.consts.items ++ v ∷ []) (free : v.value ≡ Unknown) (u : ℕ) (below : u ≤ (x.universe).0) (universe_is : (v.universe).0 ≡ u)
     (key : n.const_ v.key ≡ leaf (variable const_var (length x.consts.items))) where
   abbrev const_entries : (store_of n (record x { consts = ts })).entries const_var ≡ (store_of n x).entries const_var ++ unbound ∷ []
   const_entries = made_entries n.const_ x.consts.items ts.items v more free
 
-  abbrev const_universes : (store_of n (record x { consts = ts })).universes const_var ≡ (store_of n x).universes const_var ++ (x.universe).0 ∷ []
-  const_universes = made_universes x.consts.items ts.items v x.universe more universe_is
+  abbrev const_universes : (store_of n (record x { consts = ts })).universes const_var ≡ (store_of n x).universes const_var ++ u ∷ []
+  const_universes = made_universes x.consts.items ts.items v u more universe_is
 
   abbrev const_numbered : length x.consts.items ≡ length ((store_of m x).entries const_var)
   const_numbered = sym (entries_long m.const_ x.consts.items)
 
-  pub const_made : MakesVariable (store_of m x) (store_of n (record x { consts = ts })) const_var (length x.consts.items) ((x.universe).0)
-  const_made = variable_made e x (record x { consts = ts }) l const_var (length x.consts.items) (consts_beside n x ts x.budget) const_numbered const_entries const_universes refl
+  pub const_made : MakesVariable (store_of m x) (store_of n (record x { consts = ts })) const_var (length x.consts.items) u
+  const_made = variable_made e x (record x { consts = ts }) l const_var (length x.consts.items) u below (consts_beside n x ts x.budget) const_numbered const_entries const_universes refl
 
   pub const_made_later : IsLater (store_of m x) (store_of n (record x { consts = ts }))
-  const_made_later = variable_later e x (record x { consts = ts }) l const_var (length x.consts.items) (consts_beside n x ts x.budget) const_numbered const_entries const_universes refl
+  const_made_later = variable_later e x (record x { consts = ts }) l const_var (length x.consts.items) u below (consts_beside n x ts x.budget) const_numbered const_entries const_universes refl
 
   pub const_made_lawful : IsLawful n (record x { consts = ts })
   const_made_lawful =
-      let keyed = keyed_more e x (record x { consts = ts }) l const_var (length x.consts.items) (consts_beside n x ts x.budget) const_numbered const_entries const_universes refl
+      let keyed = keyed_more e x (record x { consts = ts }) l const_var (length x.consts.items) u below (consts_beside n x ts x.budget) const_numbered const_entries const_universes refl
       (made_keys n.const_ x.consts.items ts.items v (leaf (variable const_var (length x.consts.items))) more key) (sym (keys_long n.const_ x.consts.items)) in
-      variable_lawful e x (record x { consts = ts }) l const_var (length x.consts.items) (consts_beside n x ts x.budget) const_numbered const_entries const_universes refl keyed
+      variable_lawful e x (record x { consts = ts }) l const_var (length x.consts.items) u below (consts_beside n x ts x.budget) const_numbered const_entries const_universes refl (λ f. absurd f) keyed
 
 -- A new region variable.
 module _ {Key Id Name : Type 0} {m n : Meaning Key Id Name} (e : Extends m n) (x : InferCtxtInner Key) (l : IsLawful m x) (rs : Vec UniverseIndex)
-    (more : rs.items ≡ x.regions.items ++ x.universe ∷ []) where
+    (u : UniverseIndex) (below : u.0 ≤ (x.universe).0) (more : rs.items ≡ x.regions.items ++ u ∷ []) where
   abbrev region_entries : (store_of n (record x { regions = rs })).entries region_var ≡ (store_of n x).entries region_var ++ unbound ∷ []
-  region_entries = ap (map (λ u. unbound)) more ∙ map-append (λ u. unbound) x.regions.items (x.universe ∷ [])
+  region_entries = ap (map (λ w. unbound)) more ∙ map-append (λ w. unbound) x.regions.items (u ∷ [])
 
-  abbrev region_universes : (store_of n (record x { regions = rs })).universes region_var ≡ (store_of n x).universes region_var ++ (x.universe).0 ∷ []
-  region_universes = ap (map (λ u. u.0)) more ∙ map-append (λ u. u.0) x.regions.items (x.universe ∷ [])
+  abbrev region_universes : (store_of n (record x { regions = rs })).universes region_var ≡ (store_of n x).universes region_var ++ u.0 ∷ []
+  region_universes = ap (map (λ w. w.0)) more ∙ map-append (λ w. w.0) x.regions.items (u ∷ [])
 
-  pub region_made : MakesVariable (store_of m x) (store_of n (record x { regions = rs })) region_var (length x.regions.items) ((x.universe).0)
-  region_made = variable_made e x (record x { regions = rs }) l region_var (length x.regions.items) (regions_beside n x rs x.budget) (sym (length-map x.regions.items (λ u. unbound))) region_entries region_universes refl
+  pub region_made : MakesVariable (store_of m x) (store_of n (record x { regions = rs })) region_var (length x.regions.items) (u.0)
+  region_made = variable_made e x (record x { regions = rs }) l region_var (length x.regions.items) (u.0) below (regions_beside n x rs x.budget) (sym (length-map x.regions.items (λ w. unbound))) region_entries region_universes refl
 
   pub region_made_later : IsLater (store_of m x) (store_of n (record x { regions = rs }))
-  region_made_later = variable_later e x (record x { regions = rs }) l region_var (length x.regions.items) (regions_beside n x rs x.budget) (sym (length-map x.regions.items (λ u. unbound))) region_entries region_universes refl
+  region_made_later = variable_later e x (record x { regions = rs }) l region_var (length x.regions.items) (u.0) below (regions_beside n x rs x.budget) (sym (length-map x.regions.items (λ w. unbound))) region_entries region_universes refl
 
   pub region_made_lawful : IsLawful n (record x { regions = rs })
-  region_made_lawful = variable_lawful e x (record x { regions = rs }) l region_var (length x.regions.items) (regions_beside n x rs x.budget) (sym (length-map x.regions.items (λ u. unbound))) region_entries region_universes refl
+  region_made_lawful = variable_lawful e x (record x { regions = rs }) l region_var (length x.regions.items) (u.0) below (regions_beside n x rs x.budget) (sym (length-map x.regions.items (λ w. unbound))) region_entries region_universes refl (λ f. absurd f)
       (λ i h. absurd (omega (arith, h)))
 
 -- The value of a region of the context is a region.
@@ -315,6 +324,7 @@ module _ {Key Id Name : Type 0} (m : Meaning Key Id Name) (x : InferCtxtInner Ke
     sound = constraint_sound (store_of m x) (store_of m y) asked constraint_added l.sound is_in;
     rooted = l.rooted;
     formed = l.formed;
+    numbers_name_nothing = l.numbers_name_nothing;
     first_universe = l.first_universe;
     keyed = l.keyed;
     numbers = l.numbers;

@@ -39,6 +39,7 @@ module _ {Key Id Name : Type 0} (m : Meaning Key Id Name) (x : InferCtxtInner Ke
     sound = empty_sound (store_of m x) entries universes (ap (map (constraint_of m)) n.constraints);
     rooted = λ k i r p h. absurd (let e = ap (λ es. get_or es i unbound) (entries k) in cc (e, h));
     formed = λ k i t h. absurd (let e = ap (λ es. get_or es i unbound) (entries k) in cc (e, h));
+    numbers_name_nothing = λ k i h. ap (λ us. get_or us i 0) (universes k);
     first_universe = first;
     keyed = λ k i h. absurd (let e = ap length (keys k) in omega (arith, h, e));
     numbers = numbers;

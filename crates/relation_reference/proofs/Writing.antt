@@ -1,5 +1,5 @@
 -- Writing what is recorded of variables of a kind: two were made one, or one was bound.
-use Rattle.std.proofs.Common.{◌≡◌, ℕ, zero, suc, ◌<◌, refl, sym, ap, ◌∙◌, arith, subst, List, [], ◌∷◌, length, map, get_or, set, min, eqb, cond, Bool, true, false}
+use Rattle.std.proofs.Common.{◌≡◌, ℕ, zero, suc, ◌<◌, refl, sym, ap, ap₂, ◌∙◌, arith, subst, List, [], ◌∷◌, length, map, get_or, set, min, eqb, cond, Bool, true, false}
 use Rattle.std.proofs.lemmas.Bool.{eqb-true, eq-eqb}
 use Rattle.std.proofs.lemmas.List.{map-set, length-set, length-map, get_or-set_same, get_or-set_other}
 use Rattle.std.proofs.Math.ListN.{get_or-map}
@@ -15,7 +15,7 @@ use Rattle.relation_reference.specs.declared.context.inner.VariableValue.TheVari
 use Rattle.relation_reference.specs.declared.context.inner.Variable.{Variable}
 use Rattle.relation_reference.specs.declared.context.inner.InferCtxtInner.{InferCtxtInner}
 use Rattle.relation_reference.specs.Variables.{values_of, universes_of, universe_at, led, entry_of_value, entries_of}
-use Rattle.relation_reference.specs.Tables.{store_of, keys_in, MayBeBoundTo, IsRooted, IsFilled, IsLawful}
+use Rattle.relation_reference.specs.Tables.{store_of, keys_in, MayBeBoundTo, IsRooted, IsFilled, IsNumberKind, IsLawful}
 use Rattle.relation_reference.proofs.Beside.{Beside, lawful_beside, keyed_still}
 
 eqb-same : (a : ℕ) → eqb a a ≡ true
@@ -273,8 +273,8 @@ module _ {Key Id Name : Type 0} (m : Meaning Key Id Name) (x y : InferCtxtInner 
   others = record { entries = b.entries; universes = b.universes; constraints = b.constraints; universe = b.universe; taint = refl }
 
   module _ (keys : keys_in m y k ≡ keys_in m x k) (l : IsLawful m x) where
-    written_lawful : (n : ℕ) (e : Entry) → WritesEntry (store_of m x) (store_of m y) k n e → ((t : Tree) → e ≡ bound_to t → MayBeBoundTo k t) → IsSound (store_of m y) → IsRooted (store_of m y) → IsLawful m y
-    written_lawful n e w f g r = lawful_beside m x y k b (keyed_still m x y k keys l) g r (filled_after (store_of m x) (store_of m y) k n e w f l.formed) l
+    written_lawful : (n : ℕ) (e : Entry) → WritesEntry (store_of m x) (store_of m y) k n e → ((t : Tree) → e ≡ bound_to t → MayBeBoundTo k t) → IsSound (store_of m y) → IsRooted (store_of m y) → (IsNumberKind k → (i : ℕ) → universe_of (store_of m y) k i ≡ 0) → IsLawful m y
+    written_lawful n e w f g r first = lawful_beside m x y k b (keyed_still m x y k keys l) g r (filled_after (store_of m x) (store_of m y) k n e w f l.formed) first l
 
     -- `entries` and `universes` are what linking writes.
     module _ (child root : ℕ) (entries : (store_of m y).entries k ≡ set (map (led_entry child root) ((store_of m x).entries k)) child (same_as root))
@@ -287,6 +287,11 @@ module _ {Key Id Name : Type 0} (m : Meaning Key Id Name) (x y : InferCtxtInner 
       pub link_lawful : (k ≡ region_var → ⊥) → IsLawful m y
       link_lawful not_region = written_lawful child (same_as root) link_equates.links (λ t e. absurd (cc)) (equated_sound (store_of m x) (store_of m y) k child root link_equates l.sound not_region)
           (linked_rooted (store_of m x) (store_of m y) k child root others entries universes budget l.sound l.rooted made smaller child_unbound root_unbound)
+          (λ f i. still f i (ℕ_discrete i root))
+        where
+          still : IsNumberKind k → (i : ℕ) → Dec (i ≡ root) → universe_of (store_of m y) k i ≡ 0
+          still f i (yes e) = ap (universe_of (store_of m y) k) e ∙ link_equates.lowered ∙ ap₂ min (l.numbers_name_nothing k child f) (l.numbers_name_nothing k root f)
+          still f i (no o) = link_equates.other_universes k i (λ e q. o q) ∙ l.numbers_name_nothing k i f
 
     module _ (n : ℕ) (t : Tree) (entries : (store_of m y).entries k ≡ set ((store_of m x).entries k) n (bound_to t)) (universes : (store_of m y).universes k ≡ (store_of m x).universes k)
         (made : IsMade (store_of m x) k n) (was_unbound : entry_of (store_of m x) k n ≡ unbound) where
@@ -299,6 +304,7 @@ module _ {Key Id Name : Type 0} (m : Meaning Key Id Name) (x y : InferCtxtInner 
       pub bind_lawful : MayBeBoundTo k t → IsSound (store_of m y) → IsLawful m y
       bind_lawful f g = written_lawful n (bound_to t) (bound_writes (store_of m x) (store_of m y) k n t others entries universes made was_unbound) may g
           (bound_rooted (store_of m x) (store_of m y) k n t others entries universes made was_unbound l.rooted)
+          (λ h i. ap (λ us. get_or us i 0) universes ∙ l.numbers_name_nothing k i h)
         where
           may : (u : Tree) → bound_to t ≡ bound_to u → MayBeBoundTo k u
           may u e = subst (MayBeBoundTo k) (let q : t ≡ u = cc in q) f

@@ -3,7 +3,7 @@ use Rattle.std.specs.Prelude.{◌≡◌, ◌≢◌, ℕ, ◌<◌, false, List, [
 use Rattle.relation_terms.specs.Heads.{VarKind, type_var, int_var, float_var, const_var, region_var, variable}
 use Rattle.relation_terms.specs.Trees.{Tree, leaf, nil}
 use Rattle.relation_terms.specs.Meaning.{Meaning}
-use Rattle.type_relations.specs.Stores.{Store, Entry, entry_of, unbound, same_as, bound_to, IsSound}
+use Rattle.type_relations.specs.Stores.{Store, Entry, entry_of, universe_of, unbound, same_as, bound_to, IsSound}
 use Rattle.type_relations.specs.Constraints.{constraint_of}
 use Rattle.type_relations.specs.Parts.{IsFormed, IsFormedConst}
 use Rattle.type_relations.specs.Covered.{IsCovered}
@@ -35,6 +35,16 @@ IsRooted st = (k : VarKind) (n r p : ℕ) → entry_of st k n ≡ same_as r → 
 abbrev pub IsFilled : Store → Type 0
 IsFilled st = (k : VarKind) (n : ℕ) (t : Tree) → entry_of st k n ≡ bound_to t → MayBeBoundTo k t
 
+-- A kind of number variables.
+abbrev pub IsNumberKind : VarKind → Type 0
+IsNumberKind int_var = Unit {0}
+IsNumberKind float_var = Unit {0}
+IsNumberKind k = ⊥
+
+-- Variables of numbers name nothing: their universe is the first.
+abbrev pub NumbersNameNothing : Store → Type 0
+NumbersNameNothing st = (k : VarKind) (n : ℕ) → IsNumberKind k → universe_of st k n ≡ 0
+
 module _ {Key Id Name : Type 0} (m : Meaning Key Id Name) where
   -- The store that the tables record.
   abbrev pub store_of : InferCtxtInner Key → Store
@@ -55,12 +65,13 @@ module _ {Key Id Name : Type 0} (m : Meaning Key Id Name) where
       (trees_of m.const_ x.consts.items) []
 
   -- The invariant of a context: its store is sound; each entry of another variable names a root; what variables are
-  -- bound to is no variable, and may be related; there is no universe yet but the first; the key beside each variable is
-  -- the variable's; and the keys of integer and float types are theirs.
+  -- bound to is no variable, and may be related; variables of numbers stand in the first universe; there is no universe
+  -- yet but that one; the key beside each variable is the variable's; and the keys of integer and float types are theirs.
   pub record IsLawful (x : InferCtxtInner Key) : Type 0 where
     pub sound : IsSound (store_of x)
     pub rooted : IsRooted (store_of x)
     pub formed : IsFilled (store_of x)
+    pub numbers_name_nothing : NumbersNameNothing (store_of x)
     pub first_universe : (x.universe).0 ≡ 0
     pub keyed : (k : VarKind) (n : ℕ) → n < length (keys_in x k) → get_or (keys_in x k) n nil ≡ leaf (variable k n)
     pub numbers : map m.ty x.numbers.items ≡ number_trees

@@ -1,5 +1,5 @@
 //! Recording in a context: new variables, constraints on regions.
-ghost use Rattle.std.specs.Prelude.{◌≡◌, ◌≢◌, IfSome, IsTrue, IfOk, OnErr, OnOk, length};
+ghost use Rattle.std.specs.Prelude.{◌≡◌, ◌≢◌, ◌≤◌, IfSome, IsTrue, IfOk, OnErr, OnOk, length};
 ghost use Rattle.relation_terms.specs.Heads.{type_var, int_var, float_var, const_var, region_var, variable};
 ghost use Rattle.relation_terms.specs.Trees.{leaf, known};
 ghost use Rattle.relation_terms.specs.Meaning.{Extends};
@@ -16,10 +16,40 @@ use crate::context::{RefCtxt, Variable, VariableValue};
 use relation_terms::predicate::{OutlivesPredicate, RegionConstraint, RegionEqPredicate};
 use relation_terms::terms::{
     Const, ConstKind, ConstVid, FloatVid, GenericArgKind, InferConst, InferTy, IntVid, Interner,
-    OutOfMemory, Region, RegionKind, RegionVid, Ty, TyKind, TyVid, Variance,
+    OutOfMemory, Region, RegionKind, RegionVid, Ty, TyKind, TyVid, UniverseIndex, Variance,
 };
 
 impl<I: Interner> RefCtxt<I> {
+    /// A new type variable in a universe, the current one or an earlier. Variables are numbered from 0 as they are
+    /// made.
+    ///
+    /// After `OutOfMemory` no variable was made.
+    pub fn next_ty_var_in(&mut self, universe: UniverseIndex) -> Result<Ty<I>, OutOfMemory>
+        requires lawful { IsLawful (I.meaning self.old.interner) self.old.inner }
+        requires below { universe.0 ≤ self.old.inner.universe.0 }
+        ensures lawful { IsLawful (I.meaning self.new.interner) self.new.inner }
+        ensures grown { Extends (I.meaning self.old.interner) (I.meaning self.new.interner) }
+        ensures later { IsLater (store_in I.meaning self.old) (store_in I.meaning self.new) }
+        ensures sure { IfOk result (λ t. IsTrue (known ((I.meaning self.new.interner).ty t))) }
+        ensures means { let number = length self.old.inner.types.items in
+            IfOk result (λ t. (I.meaning self.new.interner).ty t ≡ leaf (variable type_var number)) }
+        ensures makes { let number = length self.old.inner.types.items in
+            OnOk result (MakesVariable (store_in I.meaning self.old) (store_in I.meaning self.new)
+            type_var number universe.0) }
+        ensures refused { OnErr result (store_in I.meaning self.new ≡ store_in I.meaning self.old) }
+    {
+        let number = self.inner.types.len();
+        let key = self
+            .interner
+            .mk_ty(TyKind::Infer(InferTy::TyVar(TyVid(number))))?;
+        self.inner.types.push(Variable {
+            key,
+            value: VariableValue::Unknown,
+            universe,
+        })?;
+        Ok(key)
+    }
+
     /// A new type variable in the current universe. Variables are numbered from 0 as they are made.
     ///
     /// After `OutOfMemory` no variable was made.
@@ -36,20 +66,11 @@ impl<I: Interner> RefCtxt<I> {
             type_var number self.old.inner.universe.0) }
         ensures refused { OnErr result (store_in I.meaning self.new ≡ store_in I.meaning self.old) }
     {
-        let number = self.inner.types.len();
-        let universe = self.inner.universe;
-        let key = self
-            .interner
-            .mk_ty(TyKind::Infer(InferTy::TyVar(TyVid(number))))?;
-        self.inner.types.push(Variable {
-            key,
-            value: VariableValue::Unknown,
-            universe,
-        })?;
-        Ok(key)
+        self.next_ty_var_in(self.inner.universe)
     }
 
-    /// A new integer variable in the current universe. Variables are numbered from 0 as they are made.
+    /// A new integer variable, in the first universe, since it names nothing. Variables are numbered from 0 as they are
+    /// made.
     ///
     /// After `OutOfMemory` no variable was made.
     pub fn next_int_var(&mut self) -> Result<Ty<I>, OutOfMemory>
@@ -62,23 +83,23 @@ impl<I: Interner> RefCtxt<I> {
             IfOk result (λ t. (I.meaning self.new.interner).ty t ≡ leaf (variable int_var number)) }
         ensures makes { let number = length self.old.inner.ints.items in
             OnOk result (MakesVariable (store_in I.meaning self.old) (store_in I.meaning self.new)
-            int_var number self.old.inner.universe.0) }
+            int_var number 0) }
         ensures refused { OnErr result (store_in I.meaning self.new ≡ store_in I.meaning self.old) }
     {
         let number = self.inner.ints.len();
-        let universe = self.inner.universe;
         let key = self
             .interner
             .mk_ty(TyKind::Infer(InferTy::IntVar(IntVid(number))))?;
         self.inner.ints.push(Variable {
             key,
             value: VariableValue::Unknown,
-            universe,
+            universe: UniverseIndex(0),
         })?;
         Ok(key)
     }
 
-    /// A new float variable in the current universe. Variables are numbered from 0 as they are made.
+    /// A new float variable, in the first universe, since it names nothing. Variables are numbered from 0 as they are
+    /// made.
     ///
     /// After `OutOfMemory` no variable was made.
     pub fn next_float_var(&mut self) -> Result<Ty<I>, OutOfMemory>
@@ -91,15 +112,44 @@ impl<I: Interner> RefCtxt<I> {
             IfOk result (λ t. (I.meaning self.new.interner).ty t ≡ leaf (variable float_var number)) }
         ensures makes { let number = length self.old.inner.floats.items in
             OnOk result (MakesVariable (store_in I.meaning self.old) (store_in I.meaning self.new)
-            float_var number self.old.inner.universe.0) }
+            float_var number 0) }
         ensures refused { OnErr result (store_in I.meaning self.new ≡ store_in I.meaning self.old) }
     {
         let number = self.inner.floats.len();
-        let universe = self.inner.universe;
         let key = self
             .interner
             .mk_ty(TyKind::Infer(InferTy::FloatVar(FloatVid(number))))?;
         self.inner.floats.push(Variable {
+            key,
+            value: VariableValue::Unknown,
+            universe: UniverseIndex(0),
+        })?;
+        Ok(key)
+    }
+
+    // A new constant variable in a universe, the current one or an earlier. After `OutOfMemory` none was made.
+    pub(crate) fn next_const_var_in(
+        &mut self,
+        universe: UniverseIndex,
+    ) -> Result<Const<I>, OutOfMemory>
+        requires lawful { IsLawful (I.meaning self.old.interner) self.old.inner }
+        requires below { universe.0 ≤ self.old.inner.universe.0 }
+        ensures lawful { IsLawful (I.meaning self.new.interner) self.new.inner }
+        ensures grown { Extends (I.meaning self.old.interner) (I.meaning self.new.interner) }
+        ensures later { IsLater (store_in I.meaning self.old) (store_in I.meaning self.new) }
+        ensures sure { IfOk result (λ t. IsTrue (known ((I.meaning self.new.interner).const_ t))) }
+        ensures means { let number = length self.old.inner.consts.items in
+            IfOk result (λ t. (I.meaning self.new.interner).const_ t ≡ leaf (variable const_var number)) }
+        ensures makes { let number = length self.old.inner.consts.items in
+            OnOk result (MakesVariable (store_in I.meaning self.old) (store_in I.meaning self.new)
+            const_var number universe.0) }
+        ensures refused { OnErr result (store_in I.meaning self.new ≡ store_in I.meaning self.old) }
+    {
+        let number = self.inner.consts.len();
+        let key = self
+            .interner
+            .mk_const(ConstKind::Infer(InferConst::Var(ConstVid(number))))?;
+        self.inner.consts.push(Variable {
             key,
             value: VariableValue::Unknown,
             universe,
@@ -123,16 +173,32 @@ impl<I: Interner> RefCtxt<I> {
             const_var number self.old.inner.universe.0) }
         ensures refused { OnErr result (store_in I.meaning self.new ≡ store_in I.meaning self.old) }
     {
-        let number = self.inner.consts.len();
-        let universe = self.inner.universe;
+        self.next_const_var_in(self.inner.universe)
+    }
+
+    // A new region variable in a universe, the current one or an earlier. After `OutOfMemory` none was made.
+    pub(crate) fn next_region_var_in(
+        &mut self,
+        universe: UniverseIndex,
+    ) -> Result<Region<I>, OutOfMemory>
+        requires lawful { IsLawful (I.meaning self.old.interner) self.old.inner }
+        requires below { universe.0 ≤ self.old.inner.universe.0 }
+        ensures lawful { IsLawful (I.meaning self.new.interner) self.new.inner }
+        ensures grown { Extends (I.meaning self.old.interner) (I.meaning self.new.interner) }
+        ensures later { IsLater (store_in I.meaning self.old) (store_in I.meaning self.new) }
+        ensures sure { IfOk result (λ r. IsTrue (known ((I.meaning self.new.interner).region r))) }
+        ensures means { let number = length self.old.inner.regions.items in
+            IfOk result (λ r. (I.meaning self.new.interner).region r ≡ leaf (variable region_var number)) }
+        ensures makes { let number = length self.old.inner.regions.items in
+            OnOk result (MakesVariable (store_in I.meaning self.old) (store_in I.meaning self.new)
+            region_var number universe.0) }
+        ensures refused { OnErr result (store_in I.meaning self.new ≡ store_in I.meaning self.old) }
+    {
+        let number = self.inner.regions.len();
         let key = self
             .interner
-            .mk_const(ConstKind::Infer(InferConst::Var(ConstVid(number))))?;
-        self.inner.consts.push(Variable {
-            key,
-            value: VariableValue::Unknown,
-            universe,
-        })?;
+            .mk_region(RegionKind::ReVar(RegionVid(number)))?;
+        self.inner.regions.push(universe)?;
         Ok(key)
     }
 
@@ -152,13 +218,7 @@ impl<I: Interner> RefCtxt<I> {
             region_var number self.old.inner.universe.0) }
         ensures refused { OnErr result (store_in I.meaning self.new ≡ store_in I.meaning self.old) }
     {
-        let number = self.inner.regions.len();
-        let universe = self.inner.universe;
-        let key = self
-            .interner
-            .mk_region(RegionKind::ReVar(RegionVid(number)))?;
-        self.inner.regions.push(universe)?;
-        Ok(key)
+        self.next_region_var_in(self.inner.universe)
     }
 
     // Records that two regions outlive each other, also where both are one.

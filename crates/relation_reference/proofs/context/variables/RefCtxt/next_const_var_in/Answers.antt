@@ -3,7 +3,7 @@ use Rattle.relation_terms.specs.Heads.{const_var, variable}
 use Rattle.relation_terms.specs.Trees.{leaf}
 use Rattle.relation_reference.specs.Tables.{store_of}
 use Rattle.relation_reference.proofs.Making.{on_err, later_same, refused_lawful, refused_later, refused_store, const_made, const_made_later, const_made_lawful}
-use Rattle.relation_reference.proofs.context.variables.RefCtxt.next_const_infer.Goals as goal
+use Rattle.relation_reference.proofs.context.variables.RefCtxt.next_const_var_in.Goals as goal
 
 pub returns-in_err-key-clause-later : goal.returns-in_err-key-clause-later
 returns-in_err-key-clause-later g c = later_same _ _ (ap (λ m. store_of m c.args.self.now.inner) c.in_err-key.ensures.refused)
@@ -12,22 +12,22 @@ pub returns-in_err-key-clause-refused : goal.returns-in_err-key-clause-refused
 returns-in_err-key-clause-refused g c = on_err c.from_residual.result _ (ap (λ m. store_of m c.args.self.now.inner) c.in_err-key.ensures.refused)
 
 pub returns-in_err-push-clause-lawful : goal.returns-in_err-push-clause-lawful
-returns-in_err-push-clause-lawful g c = refused_lawful c.in_ok-key.ensures.grown c.args.self.now.inner (record c.args.self.now.inner { consts = c.push.new.self }) (record { types = refl; ints = refl; floats = refl; consts = c.in_err-push.ensures.items; regions = refl; constraints = refl; universe = refl; budget = refl; numbers = refl }) c.requires
+returns-in_err-push-clause-lawful g c = refused_lawful c.in_ok-key.ensures.grown c.args.self.now.inner (record c.args.self.now.inner { consts = c.push.new.self }) (record { types = refl; ints = refl; floats = refl; consts = c.in_err-push.ensures.items; regions = refl; constraints = refl; universe = refl; budget = refl; numbers = refl }) c.requires.lawful
 
 pub returns-in_err-push-clause-later : goal.returns-in_err-push-clause-later
-returns-in_err-push-clause-later g c = refused_later c.in_ok-key.ensures.grown c.args.self.now.inner (record c.args.self.now.inner { consts = c.push.new.self }) (record { types = refl; ints = refl; floats = refl; consts = c.in_err-push.ensures.items; regions = refl; constraints = refl; universe = refl; budget = refl; numbers = refl }) c.requires
+returns-in_err-push-clause-later g c = refused_later c.in_ok-key.ensures.grown c.args.self.now.inner (record c.args.self.now.inner { consts = c.push.new.self }) (record { types = refl; ints = refl; floats = refl; consts = c.in_err-push.ensures.items; regions = refl; constraints = refl; universe = refl; budget = refl; numbers = refl }) c.requires.lawful
 
 pub returns-in_err-push-clause-refused : goal.returns-in_err-push-clause-refused
-returns-in_err-push-clause-refused g c = on_err c.from_residual-in_err-push.result _ (refused_store c.in_ok-key.ensures.grown c.args.self.now.inner (record c.args.self.now.inner { consts = c.push.new.self }) (record { types = refl; ints = refl; floats = refl; consts = c.in_err-push.ensures.items; regions = refl; constraints = refl; universe = refl; budget = refl; numbers = refl }) c.requires)
+returns-in_err-push-clause-refused g c = on_err c.from_residual-in_err-push.result _ (refused_store c.in_ok-key.ensures.grown c.args.self.now.inner (record c.args.self.now.inner { consts = c.push.new.self }) (record { types = refl; ints = refl; floats = refl; consts = c.in_err-push.ensures.items; regions = refl; constraints = refl; universe = refl; budget = refl; numbers = refl }) c.requires.lawful)
 
 pub returns-clause-lawful : goal.returns-clause-lawful
-returns-clause-lawful g c = const_made_lawful c.in_ok-key.ensures.grown c.args.self.now.inner c.requires c.push.new.self _ c.in_ok-push.ensures.items refl refl
+returns-clause-lawful g c = const_made_lawful c.in_ok-key.ensures.grown c.args.self.now.inner c.requires.lawful c.push.new.self _ c.in_ok-push.ensures.items refl (c.args.universe).0 c.requires.below refl
     (c.in_ok-key.ensures.made ∙ ap (λ n. leaf (variable const_var n)) (let e : c.len-number.result ≡ length c.args.self.now.inner.consts.items = omega (arith, c.len-number.ensures, c.args.self.now.inner.consts.ok.0) in e))
 
 pub returns-clause-later : goal.returns-clause-later
-returns-clause-later g c = const_made_later c.in_ok-key.ensures.grown c.args.self.now.inner c.requires c.push.new.self _ c.in_ok-push.ensures.items refl refl
+returns-clause-later g c = const_made_later c.in_ok-key.ensures.grown c.args.self.now.inner c.requires.lawful c.push.new.self _ c.in_ok-push.ensures.items refl (c.args.universe).0 c.requires.below refl
     (c.in_ok-key.ensures.made ∙ ap (λ n. leaf (variable const_var n)) (let e : c.len-number.result ≡ length c.args.self.now.inner.consts.items = omega (arith, c.len-number.ensures, c.args.self.now.inner.consts.ok.0) in e))
 
 pub returns-clause-makes : goal.returns-clause-makes
-returns-clause-makes g c = const_made c.in_ok-key.ensures.grown c.args.self.now.inner c.requires c.push.new.self _ c.in_ok-push.ensures.items refl refl
+returns-clause-makes g c = const_made c.in_ok-key.ensures.grown c.args.self.now.inner c.requires.lawful c.push.new.self _ c.in_ok-push.ensures.items refl (c.args.universe).0 c.requires.below refl
     (c.in_ok-key.ensures.made ∙ ap (λ n. leaf (variable const_var n)) (let e : c.len-number.result ≡ length c.args.self.now.inner.consts.items = omega (arith, c.len-number.ensures, c.args.self.now.inner.consts.ok.0) in e))
