@@ -38,9 +38,15 @@ pub record IsLater (before after : Store) : Type 0 where
   pub universe_stands : before.universe ≤ after.universe
   pub shrinks : OnlyShrinks before after
 
--- No variable was made: there are as many of each kind.
-abbrev pub MakesNone : Store → Store → Type 0
-MakesNone before after = (k : VarKind) → length (after.entries k) ≡ length (before.entries k)
+-- A kind of number variables.
+abbrev pub IsNumberKind : VarKind → Type 0
+IsNumberKind int_var = Unit {0}
+IsNumberKind float_var = Unit {0}
+IsNumberKind k = ⊥
+
+-- No variable of a number was made: there are as many of each kind.
+abbrev pub MakesNoNumber : Store → Store → Type 0
+MakesNoNumber before after = (k : VarKind) → IsNumberKind k → length (after.entries k) ≡ length (before.entries k)
 
 -- Each variable that was newly bound to a term was the context's and unbound; or it was made on the way, and then an
 -- instantiation took one of the budget, or a universe was entered.
