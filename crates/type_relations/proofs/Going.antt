@@ -6,7 +6,8 @@ use Rattle.std.proofs.lemmas.List.{append-nil, get_or_past}
 use Rattle.relation_terms.specs.Heads.{VarKind, type_var, int_var, float_var, const_var, region_var}
 use Rattle.relation_terms.specs.Trees.{Tree, cons}
 use Rattle.type_relations.specs.Stores.{Store, Entry, unbound, same_as, bound_to, entry_of, IsMade, weight, counts_bound, tally, all_bound}
-use Rattle.type_relations.specs.Steps.{IsLater, BindsItsOwn}
+use Rattle.type_relations.specs.Steps.{IsLater, InstantiatesNone, BindsItsOwn}
+use Rattle.type_relations.specs.ErasureLaws.{IsTypeOrConst}
 use Rattle.type_relations.specs.Measures.{grown, depth, Goes}
 use Rattle.type_relations.proofs.Classes.{entry_kept, stands_from, stands_through}
 
@@ -133,15 +134,29 @@ pub under : (k m n : ℕ) → m < n → 4 * depth k m + 3 < 4 * depth k n + 1
 under k m n h = let d : depth k m < depth k n = depth-strict k m n h in omega arith
 
 pub goes_nowhere : (n : ℕ) (r : Store) → Goes n r r
-goes_nowhere n r = record { later = later_itself r; no_number_made = λ k h. refl; spent = 0; counts = omega arith; binds = omega arith; grows = λ m t above below. below }
+goes_nowhere n r = record { later = later_itself r; no_number_made = λ k h. refl; none_made = λ h k. refl; spent = 0; counts = omega arith; binds = omega arith; grows = λ m t above below. below }
 
 pub goes_within : {n m : ℕ} {r q : Store} → n ≤ m → Goes n r q → Goes m r q
-goes_within {n} {m} h g = record { later = g.later; no_number_made = g.no_number_made; spent = g.spent; counts = g.counts; binds = g.binds; grows = λ k t above below. g.grows k t (omega arith) below }
+goes_within {n} {m} h g = record { later = g.later; no_number_made = g.no_number_made; none_made = g.none_made; spent = g.spent; counts = g.counts; binds = g.binds; grows = λ k t above below. g.grows k t (omega arith) below }
+
+-- Where nothing could be instantiated, nothing can later.
+instantiates_none_still : {n : ℕ} {r q : Store} → Goes n r q → InstantiatesNone r → InstantiatesNone q
+instantiates_none_still {r = r} {q = q} g (inl b) = inl (let c = g.counts in omega (arith, b, c))
+instantiates_none_still {r = r} {q = q} g (inr o) = inr still
+  where
+    was : (k : VarKind) (n : ℕ) (x : Entry) → entry_of r k n ≡ x → entry_of q k n ≡ unbound → entry_of r k n ≡ unbound
+    was k n unbound e free = e
+    was k n (same_as m) e free = absurd (let s = stands_from r q g.later k n (same_as m) e in let d = s.1 in cc (d, free))
+    was k n (bound_to t) e free = absurd (let d : entry_of q k n ≡ bound_to t = stands_from r q g.later k n (bound_to t) e in cc (d, free))
+
+    still : (k : VarKind) (n : ℕ) → IsTypeOrConst k → IsMade q k n → entry_of q k n ≡ unbound → ⊥
+    still k n kind made free = o k n kind (subst (λ z. n < z) (g.none_made (inr o) k) made) (was k n (entry_of r k n) refl free)
 
 pub goes_then : {n m : ℕ} {r q p : Store} → (g : Goes n r q) → Goes m q p → m ≤ grown g.spent n → Goes n r p
 goes_then {n} {m} {r} {q} {p} g f h = record {
   later = later_through g.later f.later;
   no_number_made = λ k h. f.no_number_made k h ∙ g.no_number_made k h;
+  none_made = λ o k. f.none_made (instantiates_none_still g o) k ∙ g.none_made o k;
   spent = g.spent + f.spent;
   counts = let e = g.counts in let d = f.counts in omega arith;
   binds = let e = g.binds in let d = f.binds in omega arith;

@@ -9,7 +9,7 @@ use Rattle.relation_terms.specs.Heads.{static_region, early_region, Head, alias,
 use Rattle.relation_terms.specs.Heads.{atom, unknown}
 use Rattle.relation_terms.specs.Trees.{Tree, leaf, node, bind, nil, cons, apply, Leaves}
 use Rattle.type_relations.specs.Relation.{Items, part_at, sort_of}
-use Rattle.type_relations.specs.Stores.{Store, universe_of, IsMade, resolved}
+use Rattle.type_relations.specs.Stores.{Store, unbound, entry_of, universe_of, IsMade, resolved}
 use Rattle.type_relations.specs.Steps.{MakesVariable, BindsTo, IsNumberKind}
 
 -- A leaf of a term, seen at a variance, stands in the bound term too where the variable can name universes up to `u`.
@@ -149,10 +149,12 @@ pub data MakesUnbound (u : ℕ) (before : Store) : Store → Type 0 where
   makes_one : {middle after : Store} {k : VarKind} {n : ℕ} → MakesUnbound u before middle →
       (IsNumberKind k → ⊥) → MakesVariable middle after k n u → MakesUnbound u before after
 
--- A variable of the context was not bound to what a term comes to, since an obstacle stands in that. Variables that were
--- made on the way stay unbound.
+-- An unbound variable of the context was not bound to what a term comes to, since an obstacle stands in that, and not
+-- for want of budget. Variables that were made on the way stay unbound.
 pub record RefusesBy (before after : Store) (k : VarKind) (n : ℕ) (source : Tree) (o : Obstacle) : Type 0 where
   pub made : IsMade before k n
+  pub was_unbound : entry_of before k n ≡ unbound
+  pub may_spend : before.budget ≢ 0
   pub makes : MakesUnbound (universe_of before k n) before after
   pub stops : StopsAt before k n o (apply (resolved before) source)
 

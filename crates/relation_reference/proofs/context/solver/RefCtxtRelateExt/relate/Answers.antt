@@ -44,6 +44,15 @@ pub returns-then-eq-clause-later : goal.returns-then-eq-clause-later
 returns-then-eq-clause-later g c =
     later_itself (store_of (g.I.Interner.meaning c.args.self.now.interner) c.args.self.now.inner)
 
+pub returns-then-eq-clause-none_made : goal.returns-then-eq-clause-none_made
+returns-then-eq-clause-none_made g c = λ h k. refl
+
+pub returns-in_err-relate_in-clause-none_made : goal.returns-in_err-relate_in-clause-none_made
+returns-in_err-relate_in-clause-none_made g c = (((c.in_err-relate_in.ensures).passes).goes).none_made
+
+pub returns-clause-none_made : goal.returns-clause-none_made
+returns-clause-none_made g c = (((c.in_ok-relate_in.ensures).passes).goes).none_made
+
 pub returns-then-eq-clause-bound : goal.returns-then-eq-clause-bound
 returns-then-eq-clause-bound g c =
     let st = store_of (g.I.Interner.meaning c.args.self.now.interner) c.args.self.now.inner in
