@@ -72,7 +72,7 @@ erasure_assigns s nil r = refl
 erasure_assigns s (cons t ts) r = ap₂ cons (erasure_assigns s t r) (erasure_assigns s ts r)
 
 -- In a closed type no variable of a type or a constant stands.
-leaf_path : {l m : Leaf} → leaf l ≡ leaf m → l ≡ m
+pub leaf_path : {l m : Leaf} → leaf l ≡ leaf m → l ≡ m
 leaf_path e = cc
 
 not_closed : (k : VarKind) (n : ℕ) → IsTypeOrConst k → IsClosedLeaf (variable k n) → ⊥
@@ -138,24 +138,24 @@ erase_plain (type_param i n) = refl
 erase_plain (const_param i n) = refl
 erase_plain x = refl
 
-xform_invariant : (v w : Variance) → v ≡ Invariant → xform v w ≡ Invariant
+pub xform_invariant : (v w : Variance) → v ≡ Invariant → xform v w ≡ Invariant
 xform_invariant Invariant w p = refl
 xform_invariant v w p = absurd cc
 
 -- What the parts of a form are up to erasure: all one for types of values, else equal.
-abbrev PartsErased : Head → Tree → Tree → Type 0
+abbrev pub PartsErased : Head → Tree → Tree → Type 0
 PartsErased value_type xs ys = Unit {0}
 PartsErased h xs ys = erase xs ≡ erase ys
 
-parts_done : (h : Head) → PartsErased h nil nil
+pub parts_done : (h : Head) → PartsErased h nil nil
 parts_done value_type = tt
 parts_done h = refl
 
-parts_next : (c : Items) (h : Head) (i : ℕ) (v : Variance) (a b xs ys : Tree) → v ≡ Invariant → IsFirstOrderHead h → (part_at c h i v ≡ Invariant → erase a ≡ erase b) → PartsErased h xs ys → PartsErased h (cons a xs) (cons b ys)
-parts_next c value_type i v a b xs ys p f first rest = tt
-parts_next c h i v a b xs ys p f first rest = ap₂ cons (first (xform_invariant v _ p)) rest
+pub parts_next : (c : Items) (h : Head) (i : ℕ) (v : Variance) (a b xs ys : Tree) → v ≡ Invariant → (part_at c h i v ≡ Invariant → erase a ≡ erase b) → PartsErased h xs ys → PartsErased h (cons a xs) (cons b ys)
+parts_next c value_type i v a b xs ys p first rest = tt
+parts_next c h i v a b xs ys p first rest = ap₂ cons (first (xform_invariant v _ p)) rest
 
-parts_form : (h : Head) (xs ys : Tree) → PartsErased h xs ys → erase (node h xs) ≡ erase (node h ys)
+pub parts_form : (h : Head) (xs ys : Tree) → PartsErased h xs ys → erase (node h xs) ≡ erase (node h ys)
 parts_form value_type xs ys r = refl
 parts_form h xs ys r = ap (node h) r
 
@@ -180,7 +180,7 @@ mutual
 
   erased_parts : {c : Items} {w : Interpretation} {e : Tree} {h : Head} {i : ℕ} {v : Variance} {xs ys : Tree} → v ≡ Invariant → Rel c w e (parts h i v) xs ys → IsFirstOrderHead h → IsFirstOrder xs → IsFirstOrder ys → PartsErased h xs ys
   erased_parts {h = h} q no_parts k f g = parts_done h
-  erased_parts {c = c} {h = h} {i = i} {v = v} q (next_part r rs) k f g = parts_next c h i v _ _ _ _ q k (λ p. erased p r f.0 g.0) (erased_parts q rs k f.1 g.1)
+  erased_parts {c = c} {h = h} {i = i} {v = v} q (next_part r rs) k f g = parts_next c h i v _ _ _ _ q (λ p. erased p r f.0 g.0) (erased_parts q rs k f.1 g.1)
 
 pub invariant_terms_are_alike : InvariantTermsAreAlike
 invariant_terms_are_alike c w e a b r f g = erased refl r f g

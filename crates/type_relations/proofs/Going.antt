@@ -1,11 +1,13 @@
 -- States in a row, what is made and bound between them, and sizes and budgets over parts of the work.
-use Rattle.std.proofs.Common.{ℕ, suc, zero, ◌+◌, ◌*◌, ◌≤◌, ◌<◌, ◌≡◌, refl, arith, ap, sym, ◌∙◌, subst, zero-add, le_trans, inl, [], ◌++◌, append_assoc, length}
+use Rattle.std.proofs.Common.{ℕ, suc, zero, ◌+◌, ◌*◌, ◌≤◌, ◌<◌, ◌≡◌, ◌⊎◌, refl, arith, ap, sym, ◌∙◌, subst, zero-add, le_trans, inl, inr, List, [], ◌∷◌, ◌++◌, append_assoc, length, get_or}
 use native.Mathlib.Decide.{dec_le}
 use Rattle.std.proofs.Math.Nat.{suc-add, mul-le-mul}
 use Rattle.std.proofs.lemmas.List.{append-nil, get_or_past}
+use Rattle.relation_terms.specs.Heads.{VarKind, type_var, int_var, float_var, const_var, region_var}
 use Rattle.relation_terms.specs.Trees.{Tree, cons}
-use Rattle.type_relations.specs.Stores.{Store, Entry, unbound, same_as, bound_to, entry_of, IsMade, weight}
-use Rattle.type_relations.specs.Steps.{IsLater, MakesNone, BindsItsOwn}
+use Rattle.type_relations.specs.Stores.{Store, Entry, unbound, same_as, bound_to, entry_of, IsMade, weight, counts_bound, tally, all_bound}
+use Rattle.type_relations.specs.Steps.{IsLater, InstantiatesNone, BindsItsOwn}
+use Rattle.type_relations.specs.ErasureLaws.{IsTypeOrConst}
 use Rattle.type_relations.specs.Measures.{grown, depth, Goes}
 use Rattle.type_relations.proofs.Classes.{entry_kept, stands_from, stands_through}
 
@@ -32,21 +34,63 @@ later_through {r} {q} {p} a b = record {
   shrinks = λ w s h. a.shrinks w s (b.shrinks w s h);
 }
 
--- Where no variable was made, each that was newly bound was there and unbound.
-pub binds_its_own : (before after : Store) → IsLater before after → MakesNone before after → BindsItsOwn before after
-binds_its_own before after l none k n t now new = inl (made, free (entry_of before k n) refl)
+-- What is counted of entries does not fall in a later state, and rises where a variable was newly bound.
+tally_below : (f : Entry → ℕ) → f unbound ≡ 0 → (es ds : List Entry) → ((m : ℕ) → f (get_or es m unbound) ≤ f (get_or ds m unbound)) → tally f es ≤ tally f ds
+tally_below f z [] ds h = omega arith
+tally_below f z (e ∷ es) [] h = let first : f e ≤ f unbound = h 0 in let rest : tally f es ≤ tally f [] = tally_below f z es [] (λ m. h (suc m)) in omega (arith, z, first, rest)
+tally_below f z (e ∷ es) (d ∷ ds) h = let first : f e ≤ f d = h 0 in let rest = tally_below f z es ds (λ m. h (suc m)) in omega (arith, first, rest)
+
+tally_less : (f : Entry → ℕ) → f unbound ≡ 0 → (es ds : List Entry) → ((m : ℕ) → f (get_or es m unbound) ≤ f (get_or ds m unbound)) → (n : ℕ) → f (get_or es n unbound) < f (get_or ds n unbound) → tally f es < tally f ds
+tally_less f z [] [] h n l = absurd (omega (arith, l))
+tally_less f z [] (d ∷ ds) h zero l = let first : f unbound < f d = l in omega (arith, first)
+tally_less f z [] (d ∷ ds) h (suc n) l = let rest : tally f [] < tally f ds = tally_less f z [] ds (λ m. h (suc m)) n l in omega (arith, rest)
+tally_less f z (e ∷ es) [] h zero l = let first : f e < f unbound = l in absurd (omega (arith, z, first))
+tally_less f z (e ∷ es) [] h (suc n) l = let rest : tally f es < tally f [] = tally_less f z es [] (λ m. h (suc m)) n l in absurd (omega (arith, rest))
+tally_less f z (e ∷ es) (d ∷ ds) h zero l = let first : f e < f d = l in let rest = tally_below f z es ds (λ m. h (suc m)) in omega (arith, first, rest)
+tally_less f z (e ∷ es) (d ∷ ds) h (suc n) l = let first : f e ≤ f d = h 0 in let rest = tally_less f z es ds (λ m. h (suc m)) n l in omega (arith, first, rest)
+
+-- Each variable that was newly bound was there and unbound; or it was made on the way, and one of the budget was taken.
+pub binds_its_own : {n : ℕ} {before after : Store} → Goes n before after → ((m : ℕ) → entry_of after region_var m ≡ unbound) → BindsItsOwn before after
+binds_its_own {before = before} {after = after} g regions k i t now new = go (dec_le (suc i) (length (before.entries k)))
   where
-    then_made : Dec (suc n ≤ length (after.entries k)) → IsMade before k n
-    then_made (yes h) = let e = none k in omega arith
-    then_made (no h) = absurd (let e : entry_of after k n ≡ unbound = get_or_past (after.entries k) n unbound (omega arith) in cc)
-
-    made : IsMade before k n
-    made = then_made (dec_le (suc n) (length (after.entries k)))
-
-    free : (e : Entry) → entry_of before k n ≡ e → entry_of before k n ≡ unbound
+    free : (e : Entry) → entry_of before k i ≡ e → entry_of before k i ≡ unbound
     free unbound q = q
-    free (same_as m) q = absurd (let s = stands_from before after l k n (same_as m) q in let e = s.1 in cc (e, now))
+    free (same_as m) q = absurd (let s = stands_from before after g.later k i (same_as m) q in let e = s.1 in cc (e, now))
     free (bound_to u) q = absurd (new u q)
+
+    was_free : entry_of before k i ≡ unbound
+    was_free = free (entry_of before k i) refl
+
+    made_after : Dec (suc i ≤ length (after.entries k)) → i < length (after.entries k)
+    made_after (yes h) = h
+    made_after (no h) = absurd (let e : entry_of after k i ≡ unbound = get_or_past (after.entries k) i unbound (omega arith) in cc (e, now))
+
+    counts : (j : VarKind) (m : ℕ) (x : Entry) → entry_of before j m ≡ x → counts_bound x ≤ counts_bound (entry_of after j m)
+    counts j m unbound q = omega arith
+    counts j m (same_as p) q = omega arith
+    counts j m (bound_to u) q = let e : entry_of after j m ≡ bound_to u = stands_from before after g.later j m (bound_to u) q in let c = ap counts_bound e in omega (arith, c)
+
+    below : (j : VarKind) (m : ℕ) → counts_bound (entry_of before j m) ≤ counts_bound (entry_of after j m)
+    below j m = counts j m (entry_of before j m) refl
+
+    less : (j : VarKind) → j ≡ k → tally counts_bound (before.entries j) < tally counts_bound (after.entries j)
+    less j e = tally_less counts_bound refl (before.entries j) (after.entries j) (below j) i
+        (subst (λ z. counts_bound (entry_of before z i) < counts_bound (entry_of after z i)) (sym e)
+        (let a = ap counts_bound was_free in let b = ap counts_bound now in omega (arith, a, b)))
+
+    each : (j : VarKind) → tally counts_bound (before.entries j) ≤ tally counts_bound (after.entries j)
+    each j = tally_below counts_bound refl (before.entries j) (after.entries j) (below j)
+
+    more_bound : (j : VarKind) → j ≡ k → (i < length (before.entries k) → ⊥) → all_bound before < all_bound after
+    more_bound type_var e o = let a = less type_var e in let b = each const_var in omega (arith, a, b)
+    more_bound const_var e o = let a = less const_var e in let b = each type_var in omega (arith, a, b)
+    more_bound int_var e o = absurd (o (subst (λ z. i < length (before.entries z)) e (let l : i < length (after.entries int_var) = subst (λ z. i < length (after.entries z)) (sym e) (made_after (dec_le (suc i) (length (after.entries k)))) in let q = g.no_number_made int_var tt in omega (arith, l, q))))
+    more_bound float_var e o = absurd (o (subst (λ z. i < length (before.entries z)) e (let l : i < length (after.entries float_var) = subst (λ z. i < length (after.entries z)) (sym e) (made_after (dec_le (suc i) (length (after.entries k)))) in let q = g.no_number_made float_var tt in omega (arith, l, q))))
+    more_bound region_var e o = absurd (let f : entry_of after k i ≡ unbound = subst (λ z. entry_of after z i ≡ unbound) e (regions i) in cc (f, now))
+
+    go : Dec (suc i ≤ length (before.entries k)) → (IsMade before k i × (entry_of before k i ≡ unbound)) ⊎ ((IsMade before k i → ⊥) × ((after.budget < before.budget) ⊎ (before.universe < after.universe)))
+    go (yes h) = inl (h, was_free)
+    go (no o) = inr (o, inl (let m = more_bound k refl o in let b = g.binds in let c = g.counts in omega (arith, m, b, c)))
 
 le_refl_at : (n : ℕ) → n ≤ n
 le_refl_at n = omega arith
@@ -90,15 +134,29 @@ pub under : (k m n : ℕ) → m < n → 4 * depth k m + 3 < 4 * depth k n + 1
 under k m n h = let d : depth k m < depth k n = depth-strict k m n h in omega arith
 
 pub goes_nowhere : (n : ℕ) (r : Store) → Goes n r r
-goes_nowhere n r = record { later = later_itself r; none_made = λ k. refl; spent = 0; counts = omega arith; binds = omega arith; grows = λ m t above below. below }
+goes_nowhere n r = record { later = later_itself r; no_number_made = λ k h. refl; none_made = λ h k. refl; spent = 0; counts = omega arith; binds = omega arith; grows = λ m t above below. below }
 
 pub goes_within : {n m : ℕ} {r q : Store} → n ≤ m → Goes n r q → Goes m r q
-goes_within {n} {m} h g = record { later = g.later; none_made = g.none_made; spent = g.spent; counts = g.counts; binds = g.binds; grows = λ k t above below. g.grows k t (omega arith) below }
+goes_within {n} {m} h g = record { later = g.later; no_number_made = g.no_number_made; none_made = g.none_made; spent = g.spent; counts = g.counts; binds = g.binds; grows = λ k t above below. g.grows k t (omega arith) below }
+
+-- Where nothing could be instantiated, nothing can later.
+instantiates_none_still : {n : ℕ} {r q : Store} → Goes n r q → InstantiatesNone r → InstantiatesNone q
+instantiates_none_still {r = r} {q = q} g (inl b) = inl (let c = g.counts in omega (arith, b, c))
+instantiates_none_still {r = r} {q = q} g (inr o) = inr still
+  where
+    was : (k : VarKind) (n : ℕ) (x : Entry) → entry_of r k n ≡ x → entry_of q k n ≡ unbound → entry_of r k n ≡ unbound
+    was k n unbound e free = e
+    was k n (same_as m) e free = absurd (let s = stands_from r q g.later k n (same_as m) e in let d = s.1 in cc (d, free))
+    was k n (bound_to t) e free = absurd (let d : entry_of q k n ≡ bound_to t = stands_from r q g.later k n (bound_to t) e in cc (d, free))
+
+    still : (k : VarKind) (n : ℕ) → IsTypeOrConst k → IsMade q k n → entry_of q k n ≡ unbound → ⊥
+    still k n kind made free = o k n kind (subst (λ z. n < z) (g.none_made (inr o) k) made) (was k n (entry_of r k n) refl free)
 
 pub goes_then : {n m : ℕ} {r q p : Store} → (g : Goes n r q) → Goes m q p → m ≤ grown g.spent n → Goes n r p
 goes_then {n} {m} {r} {q} {p} g f h = record {
   later = later_through g.later f.later;
-  none_made = λ k. f.none_made k ∙ g.none_made k;
+  no_number_made = λ k h. f.no_number_made k h ∙ g.no_number_made k h;
+  none_made = λ o k. f.none_made (instantiates_none_still g o) k ∙ g.none_made o k;
   spent = g.spent + f.spent;
   counts = let e = g.counts in let d = f.counts in omega arith;
   binds = let e = g.binds in let d = f.binds in omega arith;

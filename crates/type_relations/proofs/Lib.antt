@@ -11,6 +11,7 @@ pub mod Standing
 pub mod Tallies
 pub mod Written
 pub mod Growing
+pub mod NewVariables
 pub mod Erased
 pub mod Composing
 pub mod Opening
@@ -36,6 +37,13 @@ pub mod Equating
 pub mod Empty
 pub mod StoreCalls
 pub mod Instantiating
+pub mod Leafwise
+pub mod Generalising
+pub mod BindingGeneralised
+pub mod BindingRefused
+pub mod GeneralisingErrors
+pub mod GeneralisingParts
+pub mod GeneralisingOnce
 pub mod Assigning
 pub mod RegionTerms
 pub mod Deciding

@@ -107,7 +107,7 @@ numbers_stay_sound before after k n t q g = sound_after before after k n (bound_
 pub making_stays_sound : MakingStaysSound
 making_stays_sound before after k n u q low g = made_sound before after k n u q g low
 
-get_or_past : (us : List ℕ) (u : ℕ) → get_or (us ++ u ∷ []) (length us) 0 ≡ u
+pub get_or_past : (us : List ℕ) (u : ℕ) → get_or (us ++ u ∷ []) (length us) 0 ≡ u
 get_or_past [] u = refl
 get_or_past (x ∷ us) u = get_or_past us u
 

@@ -4,6 +4,7 @@ pub mod Forms
 pub mod Goals
 pub mod FirstOrder
 pub mod Steps
+pub mod Generalising
 pub mod Outcomes
 pub mod Headline
 pub mod Errors

@@ -11,6 +11,7 @@ use Rattle.type_relations.specs.Stores.{Store, Entry, unbound, same_as, bound_to
 use Rattle.type_relations.specs.Stores.{IsNamable, IsSound, IsIntegerAtom, IsFloatAtom, IsTermIn, Satisfies}
 use Rattle.type_relations.specs.Stores.{OnlyShrinks, Constraint, resolved}
 use Rattle.type_relations.specs.FirstOrder.{IsFirstOrder, IsFirstOrderStore, IsRegionLeaf, Unifies, IsErasedSolution}
+use Rattle.type_relations.specs.ErasureLaws.{IsTypeOrConst}
 
 -- The entries lead from a variable to another of its kind, or to itself.
 pub data LeadsTo (st : Store) (k : VarKind) : ℕ → ℕ → Type 0 where
@@ -38,9 +39,28 @@ pub record IsLater (before after : Store) : Type 0 where
   pub universe_stands : before.universe ≤ after.universe
   pub shrinks : OnlyShrinks before after
 
+-- A kind of number variables.
+abbrev pub IsNumberKind : VarKind → Type 0
+IsNumberKind int_var = Unit {0}
+IsNumberKind float_var = Unit {0}
+IsNumberKind k = ⊥
+
 -- No variable was made: there are as many of each kind.
 abbrev pub MakesNone : Store → Store → Type 0
 MakesNone before after = (k : VarKind) → length (after.entries k) ≡ length (before.entries k)
+
+-- No variable of a number was made.
+abbrev pub MakesNoNumber : Store → Store → Type 0
+MakesNoNumber before after = (k : VarKind) → IsNumberKind k → length (after.entries k) ≡ length (before.entries k)
+
+-- Nothing can be instantiated: nothing is left of the budget, or no variable of a type or a constant is unbound.
+abbrev pub InstantiatesNone : Store → Type 0
+InstantiatesNone st = (st.budget ≡ 0) ⊎
+    ((k : VarKind) (n : ℕ) → IsTypeOrConst k → IsMade st k n → entry_of st k n ≡ unbound → ⊥)
+
+-- Where nothing can be instantiated, no variable was made.
+abbrev pub MakesToInstantiate : Store → Store → Type 0
+MakesToInstantiate before after = InstantiatesNone before → MakesNone before after
 
 -- Each variable that was newly bound to a term was the context's and unbound; or it was made on the way, and then an
 -- instantiation took one of the budget, or a universe was entered.

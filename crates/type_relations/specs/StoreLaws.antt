@@ -4,11 +4,14 @@ use Rattle.relation_terms.specs.declared.terms.enums.Variance.{Variance}
 use Rattle.relation_terms.specs.Heads.{BoundKind, bound_sort, VarKind, int_var, float_var, region_var, var_sort}
 use Rattle.relation_terms.specs.Heads.{variable}
 use Rattle.relation_terms.specs.Trees.{Tree, leaf, Assign, apply, Leaves, Occurs}
-use Rattle.type_relations.specs.Relation.{Interpretation, IsValueLeaf, StaysWithin}
+use Rattle.type_relations.specs.Relation.{Items, Interpretation, IsValueLeaf, StaysWithin}
 use Rattle.type_relations.specs.Stores.{Store, universe_of, MayStandFor, IsNamable, IsInScope, IsTermIn, IsSound}
-use Rattle.type_relations.specs.Stores.{Satisfies, ConstraintHolds, ConstraintIn, Constraint, resolved}
+use Rattle.type_relations.specs.Stores.{Satisfies, ConstraintHolds, ConstraintIn, Constraint, resolved, weight}
 use Rattle.type_relations.specs.Steps.{Equates, BindsTo, Instantiates, RefusesToInstantiate, MakesVariable}
 use Rattle.type_relations.specs.Steps.{AddsConstraint, ChangesNothing, InstantiatesNumber, Resolves, Extends, Makes}
+use Rattle.type_relations.specs.Measures.{Goes}
+use Rattle.type_relations.specs.Generalising.{Stage, any_part, Generalised, InstantiatesBy, NumbersNameNothing}
+use Rattle.type_relations.specs.Generalising.{Obstacle, RefusesBy}
 use Rattle.type_relations.specs.Outcomes.{Exact}
 use Rattle.type_relations.specs.ErasureLaws.{IsTypeOrConst}
 
@@ -49,6 +52,28 @@ abbrev pub CyclesRefuse : Type 0
 CyclesRefuse = (st : Store) (v : Variance) (k : VarKind) (n : ℕ) (source : Tree) → IsTypeOrConst k → IsSound st →
     Occurs k n (apply (resolved st) source) → apply (resolved st) source ≢ leaf (variable k n) →
     RefusesToInstantiate st st v k n source
+
+-- What a term is generalised to is one term.
+abbrev pub GeneralisingIsOne : Type 0
+GeneralisingIsOne = (c : Items) (start : Store) (k : VarKind) (n : ℕ) (v : Variance) (r q : Stage) (t x y : Tree) →
+    Generalised c start k n (any_part v) (record { store = start; met = [] }) t r x →
+    Generalised c start k n (any_part v) (record { store = start; met = [] }) t q y → x ≡ y
+
+-- Binding a variable of a type or a constant to what a term comes to, generalised for it, instantiates it; new variables
+-- on the way cost nothing, and the binding squares sizes at most.
+abbrev pub GeneralisingInstantiates : Type 0
+GeneralisingInstantiates = (c : Items) (before after : Store) (v : Variance) (k : VarKind) (n : ℕ)
+    (source term : Tree) → IsTypeOrConst k → InstantiatesBy c before after v k n source term →
+    NumbersNameNothing before → IsSound before → IsTermIn before source → MayStandFor k source →
+    Instantiates before after v k n source term × Goes (weight before source) before after
+
+-- Where an obstacle stands in what a term comes to, and that is not the variable itself, new variables alone refuse to
+-- instantiate the variable.
+abbrev pub GeneralisingRefuses : Type 0
+GeneralisingRefuses = (before after : Store) (v : Variance) (k : VarKind) (n : ℕ) (source : Tree) (o : Obstacle) →
+    IsTypeOrConst k → RefusesBy before after k n source o → IsSound before →
+    apply (resolved before) source ≢ leaf (variable k n) → RefusesToInstantiate before after v k n source ×
+    Goes 0 before after
 
 -- A number variable bound to a type of its kind: what holds of any binding.
 abbrev pub NumbersStaySound : Type 0

@@ -6,7 +6,7 @@ use Rattle.type_relations.specs.Relation.{same}
 use Rattle.type_relations.specs.Goals.{goals_of, MakesOneTree}
 use Rattle.type_relations.specs.Headline.{AnswersGoals, KeepsEqualTerms}
 use Rattle.type_relations.specs.Lawful.{items_of}
-use Rattle.type_relations.proofs.Going.{later_itself, binds_its_own}
+use Rattle.type_relations.proofs.Going.{later_itself, goes_nowhere, binds_its_own}
 use Rattle.type_relations.proofs.Unifying.{exact_itself}
 use Rattle.type_relations.proofs.Passing.{as_err}
 use Rattle.relation_reference.proofs.Exactly.{unrelated_apart}
@@ -44,20 +44,31 @@ pub returns-then-eq-clause-later : goal.returns-then-eq-clause-later
 returns-then-eq-clause-later g c =
     later_itself (store_of (g.I.Interner.meaning c.args.self.now.interner) c.args.self.now.inner)
 
+pub returns-then-eq-clause-none_made : goal.returns-then-eq-clause-none_made
+returns-then-eq-clause-none_made g c = λ h k. refl
+
+pub returns-in_err-relate_in-clause-none_made : goal.returns-in_err-relate_in-clause-none_made
+returns-in_err-relate_in-clause-none_made g c = (((c.in_err-relate_in.ensures).passes).goes).none_made
+
+pub returns-clause-none_made : goal.returns-clause-none_made
+returns-clause-none_made g c = (((c.in_ok-relate_in.ensures).passes).goes).none_made
+
 pub returns-then-eq-clause-bound : goal.returns-then-eq-clause-bound
 returns-then-eq-clause-bound g c =
     let st = store_of (g.I.Interner.meaning c.args.self.now.interner) c.args.self.now.inner in
-    binds_its_own st st (later_itself st) (λ k. refl)
+    binds_its_own (goes_nowhere 0 st) (λ m. ((c.requires.lawful).sound).regions_unbound m)
 
 pub returns-in_err-relate_in-clause-bound : goal.returns-in_err-relate_in-clause-bound
 returns-in_err-relate_in-clause-bound g c =
-    let goes = ((c.in_err-relate_in.ensures).passes).goes in
-    binds_its_own _ _ goes.later goes.none_made
+    let passes = (c.in_err-relate_in.ensures).passes in
+    let lawful = (passes.lawful (c.requires.lawful, c.requires.env_known)).0 in
+    binds_its_own passes.goes (λ m. (lawful.sound).regions_unbound m)
 
 pub returns-clause-bound : goal.returns-clause-bound
 returns-clause-bound g c =
-    let goes = ((c.in_ok-relate_in.ensures).passes).goes in
-    binds_its_own _ _ goes.later goes.none_made
+    let passes = (c.in_ok-relate_in.ensures).passes in
+    let lawful = (passes.lawful (c.requires.lawful, c.requires.env_known)).0 in
+    binds_its_own passes.goes (λ m. (lawful.sound).regions_unbound m)
 
 pub returns-in_err-relate_in-clause-same : goal.returns-in_err-relate_in-clause-same
 returns-in_err-relate_in-clause-same g c = λ e. absurd (false≢true (c.if-eq.ensures
