@@ -64,15 +64,15 @@ Within (parts_from h i v) u t = size u < size t
 
 small : {c : Items} {start : Store} {k : VarKind} {n : ℕ} {turn : Turn} {r q : Stage} {t x : Tree} → Generalised c start k n turn r t q x → (a : Met) → Contains q.met a → Contains r.met a ⊎ Within turn a.type t
 small (met_before s c) a h = inl h
-small (met_first {v = v} {r = r} {q = q} {t = t} {x = x} s new f e d) a h = first (first_or_later (met_as v t x) a q.met (subst (λ es. Contains es a) d h))
+small (met_first {v = v} {r = r} {q = q} {t = t} {x = x} s new f e d) a h = first (λ b. small f a b) (first_or_later (met_as v t x) a q.met (subst (λ es. Contains es a) d h))
   where
     then : Contains r.met a ⊎ (size a.type < size t) → Contains r.met a ⊎ (size a.type ≤ size t)
     then (inl b) = inl b
     then (inr b) = inr (omega (arith, b))
 
-    first : (met_as v t x ≡ a) ⊎ Contains q.met a → Contains r.met a ⊎ (size a.type ≤ size t)
-    first (inl b) = inr (let l = ap (λ m. size m.type) b in omega (arith, l))
-    first (inr b) = then (small f a b)
+    first : (Contains q.met a → Contains r.met a ⊎ (size a.type < size t)) → (met_as v t x ≡ a) ⊎ Contains q.met a → Contains r.met a ⊎ (size a.type ≤ size t)
+    first i (inl b) = inr (let l = ap (λ m. size m.type) b in omega (arith, l))
+    first i (inr b) = then (i b)
 small (no_type {r = r} {t = t} o f) a h = then (small f a h)
   where
     then : Contains r.met a ⊎ (size a.type < size t) → Contains r.met a ⊎ (size a.type ≤ size t)

@@ -4,7 +4,7 @@
 ghost use Rattle.type_relations.specs.SmallTerms.{IsReflexive, AnythingAtBivariance, ErrorsAreRelated, ParametersByIndex, ValuesByTheirTrees, ConstantsAtEachVariance, ReferencesByRegions, MutablePointeesAreFixed, InputsTurnRound, BivariantArguments, UnlikeHeadsAreUnrelated, UnlikeAtomsAreUnrelated, AtomsAreNoForms, FormsByParts, PredicatesWithThemselvesAlone, AnyIsStatic, StaticIsNotAny, PlaceholderIsNotAny, OneRegionIsNotTwo, AnyIsNotInvariantlyStatic};
 ghost use Rattle.type_relations.specs.StepLaws.{AssigningTwice, InstantiatingAssigns, OccursCheck, CyclesDoNotUnify, ValuesAreNamable, RelatesLater, RelatesUnderMore, PartsCompose, NoPartsRelate, FormsRelate, StepsCompose, InstantiatingSteps, OpeningSteps, OneRoundRelates, TwoRoundsRelate, UnusedBindersRelate, FrontBegins, FrontGoesOn, FrontEnds, ExactsCompose, ExactStepsCompose, InstantiatingIsExactStep, ExactFrontGoesOn, ExactFrontEnds, ExactKeepsUnifiers};
 ghost use Rattle.type_relations.specs.ErasureLaws.{ErasureAssigns, FormsUnifyByParts, TypesOfValuesUnify, ListsUnifyByItems, UnlikeFormsDoNotUnify, ErasedOccursCheck, InvariantTermsAreAlike};
-ghost use Rattle.type_relations.specs.StoreLaws.{EquatingStaysSound, EquatingIsExact, BindingStaysSound, BindingIsExact, BindingInstantiates, CyclesRefuse, GeneralisingInstantiates, GeneralisingRefuses, NumbersStaySound, NumbersAreExact, MakingStaysSound, MadeIsUnconstrained, ConstrainingIsExact, NothingIsSeen, ResolvedResolves, MakingOneMakes};
+ghost use Rattle.type_relations.specs.StoreLaws.{EquatingStaysSound, EquatingIsExact, BindingStaysSound, BindingIsExact, BindingInstantiates, CyclesRefuse, GeneralisingIsOne, GeneralisingInstantiates, GeneralisingRefuses, NumbersStaySound, NumbersAreExact, MakingStaysSound, MadeIsUnconstrained, ConstrainingIsExact, NothingIsSeen, ResolvedResolves, MakingOneMakes};
 ghost use Rattle.type_relations.specs.Stores.{BindingsAreMet};
 ghost use Rattle.type_relations.specs.RejectionLaws.{ClashesDoNotUnify, ClashesAreNotRelated};
 ghost use Rattle.type_relations.specs.RegionTerms.{RelatedTermsAgree, RelatedIffAgree};
@@ -106,6 +106,7 @@ pub fn stores()
     ensures bound { BindingStaysSound }
     ensures instantiating { BindingInstantiates }
     ensures refusing { CyclesRefuse }
+    ensures generalised { GeneralisingIsOne }
     ensures generalising { GeneralisingInstantiates }
     ensures stopping { GeneralisingRefuses }
     ensures numbers { NumbersAreExact }
