@@ -10,7 +10,8 @@ use Rattle.relation_terms.specs.declared.terms.numbers.UniverseIndex.{UniverseIn
 use Rattle.type_relations.specs.Stores.{IsSound, universe_of}
 use Rattle.relation_reference.specs.declared.context.inner.Variable.{Variable}
 use Rattle.relation_reference.specs.declared.context.inner.InferCtxtInner.{InferCtxtInner}
-use Rattle.relation_reference.specs.Tables.{store_of, keys_in, IsRooted, IsFilled, IsNumberKind, IsLawful}
+use Rattle.type_relations.specs.Steps.{IsNumberKind}
+use Rattle.relation_reference.specs.Tables.{store_of, keys_in, IsRooted, IsFilled, IsLawful}
 
 module _ {Key Id Name : Type 0} (m : Meaning Key Id Name) where
   -- All but the table of one kind, and the budget, stands.

@@ -11,7 +11,7 @@ use Rattle.relation_terms.specs.declared.predicate.RegionConstraint.{RegionConst
 use Rattle.relation_terms.specs.declared.terms.numbers.UniverseIndex.{UniverseIndex}
 use Rattle.type_relations.specs.Relation.{sort_of}
 use Rattle.type_relations.specs.Stores.{Store, unbound, entry_of, IsSound, IsAssignment, IsTermIn, Constraint, ConstraintIn}
-use Rattle.type_relations.specs.Steps.{MakesVariable, AddsConstraint, IsLater}
+use Rattle.type_relations.specs.Steps.{IsNumberKind, MakesVariable, AddsConstraint, IsLater}
 use Rattle.type_relations.specs.Measures.{Goes}
 use Rattle.type_relations.proofs.Standing.{made_of_term, stands_term, term_sort_of}
 use Rattle.type_relations.proofs.Growing.{same_entries, made_sound, made_is_later, constraint_sound, constraint_is_later, constraint_bound, constraint_weight}
@@ -22,7 +22,8 @@ use Rattle.relation_reference.specs.declared.context.inner.VariableValue.TheVari
 use Rattle.relation_reference.specs.declared.context.inner.Variable.{Variable}
 use Rattle.relation_reference.specs.declared.context.inner.InferCtxtInner.{InferCtxtInner}
 use Rattle.relation_reference.specs.Variables.{keys_of, values_of, universes_of, entry_of_value, entries_of, trees_of}
-use Rattle.relation_reference.specs.Tables.{by_kind, store_of, keys_in, IsRooted, IsFilled, IsNumberKind, NumbersNameNothing, IsLawful}
+use Rattle.relation_reference.specs.Tables.{by_kind, store_of, keys_in, IsRooted, IsFilled, IsLawful}
+use Rattle.type_relations.specs.Generalising.{NumbersNameNothing}
 use Rattle.type_relations.specs.Constraints.{constraint_of}
 use Rattle.relation_reference.proofs.Grows.{store_grows, lawful_grows}
 use Rattle.relation_reference.proofs.Beside.{Beside, types_beside, ints_beside, floats_beside, consts_beside, regions_beside, lawful_beside, keyed_still}

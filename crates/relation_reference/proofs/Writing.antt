@@ -8,14 +8,14 @@ use Rattle.relation_terms.specs.Heads.{VarKind, VarKind_discrete, region_var}
 use Rattle.relation_terms.specs.Trees.{Tree}
 use Rattle.relation_terms.specs.Meaning.{Meaning}
 use Rattle.type_relations.specs.Stores.{Store, Entry, unbound, same_as, bound_to, entry_of, universe_of, IsMade, IsSound}
-use Rattle.type_relations.specs.Steps.{WritesEntry, StandsBeside, as_it_was, led_on, Equates, BindsTo, InstantiatesNumber, IsNumberFor}
+use Rattle.type_relations.specs.Steps.{IsNumberKind, WritesEntry, StandsBeside, as_it_was, led_on, Equates, BindsTo, InstantiatesNumber, IsNumberFor}
 use Rattle.type_relations.proofs.Equating.{equated_sound}
 use Rattle.relation_reference.specs.declared.context.inner.VariableValue.{VariableValue}
 use Rattle.relation_reference.specs.declared.context.inner.VariableValue.TheVariants.{Unknown, SameAs, Known}
 use Rattle.relation_reference.specs.declared.context.inner.Variable.{Variable}
 use Rattle.relation_reference.specs.declared.context.inner.InferCtxtInner.{InferCtxtInner}
 use Rattle.relation_reference.specs.Variables.{values_of, universes_of, universe_at, led, entry_of_value, entries_of}
-use Rattle.relation_reference.specs.Tables.{store_of, keys_in, MayBeBoundTo, IsRooted, IsFilled, IsNumberKind, IsLawful}
+use Rattle.relation_reference.specs.Tables.{store_of, keys_in, MayBeBoundTo, IsRooted, IsFilled, IsLawful}
 use Rattle.relation_reference.proofs.Beside.{Beside, lawful_beside, keyed_still}
 
 eqb-same : (a : ℕ) → eqb a a ≡ true

@@ -4,5 +4,6 @@ pub mod Tables
 pub mod RefCtxt
 pub mod Remembering
 pub mod NumberVars
+pub mod Generalises
 pub mod Solving
 pub mod Answers

@@ -3,7 +3,8 @@ use Rattle.std.specs.Prelude.{◌≡◌, ◌≢◌, ℕ, ◌<◌, false, List, [
 use Rattle.relation_terms.specs.Heads.{VarKind, type_var, int_var, float_var, const_var, region_var, variable}
 use Rattle.relation_terms.specs.Trees.{Tree, leaf, nil}
 use Rattle.relation_terms.specs.Meaning.{Meaning}
-use Rattle.type_relations.specs.Stores.{Store, Entry, entry_of, universe_of, unbound, same_as, bound_to, IsSound}
+use Rattle.type_relations.specs.Stores.{Store, Entry, entry_of, unbound, same_as, bound_to, IsSound}
+use Rattle.type_relations.specs.Generalising.{NumbersNameNothing}
 use Rattle.type_relations.specs.Constraints.{constraint_of}
 use Rattle.type_relations.specs.Parts.{IsFormed, IsFormedConst}
 use Rattle.type_relations.specs.Covered.{IsCovered}
@@ -34,16 +35,6 @@ IsRooted st = (k : VarKind) (n r p : ℕ) → entry_of st k n ≡ same_as r → 
 -- What is bound may be bound.
 abbrev pub IsFilled : Store → Type 0
 IsFilled st = (k : VarKind) (n : ℕ) (t : Tree) → entry_of st k n ≡ bound_to t → MayBeBoundTo k t
-
--- A kind of number variables.
-abbrev pub IsNumberKind : VarKind → Type 0
-IsNumberKind int_var = Unit {0}
-IsNumberKind float_var = Unit {0}
-IsNumberKind k = ⊥
-
--- Variables of numbers name nothing: their universe is the first.
-abbrev pub NumbersNameNothing : Store → Type 0
-NumbersNameNothing st = (k : VarKind) (n : ℕ) → IsNumberKind k → universe_of st k n ≡ 0
 
 module _ {Key Id Name : Type 0} (m : Meaning Key Id Name) where
   -- The store that the tables record.

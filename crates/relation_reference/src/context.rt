@@ -1,6 +1,7 @@
 //! An inference context over plain tables, and relating in it.
 
 mod equating;
+mod generalising;
 mod inner;
 mod instantiating;
 mod memory;

@@ -19,7 +19,7 @@ use relation_terms::terms::{Const, Interner, OutOfMemory, Part, PartOf, Ty};
 use std::collections::{HashMap, HashSet};
 
 // The type or constant variable that a term is, or none.
-fn variable_of<I: Interner>(cx: &I, term: &PartOf<I>) -> Option<TermVid>
+pub(crate) fn variable_of<I: Interner>(cx: &I, term: &PartOf<I>) -> Option<TermVid>
     requires { IsTrue (known (part_tree (I.meaning cx.now) term.now)) }
     ensures is { IfSome result (λ v.
         part_tree (I.meaning cx.now) term.now ≡ leaf (variable (vid_kind v) (vid_number v))) }
@@ -34,7 +34,7 @@ fn variable_of<I: Interner>(cx: &I, term: &PartOf<I>) -> Option<TermVid>
 }
 
 // Whether two variables are one.
-fn is_same_vid(a: TermVid, b: TermVid) -> bool
+pub(crate) fn is_same_vid(a: TermVid, b: TermVid) -> bool
     ensures { IsTrue result ↔ (a ≡ b) }
 {
     match a {

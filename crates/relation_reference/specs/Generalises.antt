@@ -1,0 +1,126 @@
+-- What a context generalises, and which types it has met on the way.
+use Rattle.std.specs.Prelude.{◌≡◌, ◌≢◌, ℕ, ◌<◌, Bool, IsTrue, List, Contains, All, Option, Some, None, Result, Ok, Err}
+use Rattle.std.specs.HashMap.{HashMap, get}
+use Rattle.relation_terms.specs.declared.terms.enums.Variance.{Variance}
+use Rattle.relation_terms.specs.declared.terms.keys.TyKey.{TyKey}
+use Rattle.relation_terms.specs.declared.terms.part_kind.Part.{Part}
+use Rattle.relation_terms.specs.declared.terms.part_kind.Part.TheVariants.{Region, Ty, Const}
+use Rattle.relation_terms.specs.Heads.{region_sort, BoundKind, bound_sort, VarKind, type_var, const_var, region_var}
+use Rattle.relation_terms.specs.Heads.{Leaf, variable, placeholder}
+use Rattle.relation_terms.specs.Trees.{Tree, leaf, Leaves, known}
+use Rattle.relation_terms.specs.Meaning.{Meaning, Extends}
+use Rattle.relation_terms.specs.Parts.{part_tree, part_sort}
+use Rattle.relation_tools.specs.declared.error.TypeError.{TypeError}
+use Rattle.relation_tools.specs.declared.error.TypeError.TheVariants.{Mismatch}
+use Rattle.relation_tools.specs.declared.error.RelateFault.{RelateFault}
+use Rattle.relation_tools.specs.declared.error.RelateFault.TheVariants.{Memory, Budget, Unrelated}
+use Rattle.type_relations.specs.Relation.{Items}
+use Rattle.type_relations.specs.Lawful.{items_of}
+use Rattle.type_relations.specs.Stores.{Store, universe_of, InContext, IsSound}
+use Rattle.type_relations.specs.Generalising.{Stays, gives_way_to, Met, Turn, Generalised, MakesUnbound}
+use Rattle.type_relations.specs.Generalising.{Obstacle, cycle, beyond, IsNoObstacle, StopsAt}
+use Rattle.relation_reference.specs.declared.context.generalising.MetKey.{MetKey}
+use Rattle.relation_reference.specs.declared.context.generalising.Fate.{Fate}
+use Rattle.relation_reference.specs.declared.context.generalising.Fate.TheVariants.{ByParts, GivesWay, Cycle, Beyond}
+use Rattle.relation_reference.specs.declared.context.variables.RefCtxt.{RefCtxt}
+use Rattle.relation_reference.specs.Tables.{store_of, IsLawful}
+
+-- Of which kind the variable is that may take the place of a part.
+abbrev pub new_kind : {Key Id : Type 0} → Part Key Id → Option VarKind
+new_kind (Region r) = Some region_var
+new_kind (Ty t) = Some type_var
+new_kind (Const c) = Some const_var
+new_kind p = None
+
+-- What becomes of a term at a variance, for variable `n` of kind `k` in universe `u`.
+abbrev pub IsFate : Store → VarKind → ℕ → ℕ → Variance → Tree → Option VarKind → Fate → Type 0
+IsFate st k n u v t o ByParts = (l : Leaf) → t ≡ leaf l → (l ≢ variable k n) × Stays st u v l
+IsFate st k n u v t o GivesWay = (l : Leaf) × (j : VarKind) × (t ≡ leaf l) × (l ≢ variable k n) ×
+    (Stays st u v l → ⊥) × (gives_way_to l ≡ Some j) × (o ≡ Some j)
+IsFate st k n u v t o Cycle = t ≡ leaf (variable k n)
+IsFate st k n u v t o Beyond = (q : BoundKind) × (w : ℕ) × (i : ℕ) × (t ≡ leaf (placeholder q w i)) ×
+    (bound_sort q ≢ region_sort) × (u < w)
+
+module _ {Key Id Name S : Type 0} (eq : MetKey Key → MetKey Key → Bool) (m : Meaning Key Id Name)
+    (memory : HashMap (MetKey Key) (TyKey Key) S) where
+  -- What is found at a key was met.
+  pub record WasMet (es : List Met) (q : MetKey Key) (became : TyKey Key) : Type 0 where
+    pub key : MetKey Key
+    pub same : IsTrue (eq key q)
+    pub there : IsTrue (known (m.ty key.ty))
+    pub sure : IsTrue (known (m.ty became))
+    pub met : Contains es (record { variance = key.variance; type = m.ty key.ty; term = m.ty became })
+
+  -- What was met is found.
+  pub record IsFound (e : Met) : Type 0 where
+    pub key : MetKey Key
+    pub became : TyKey Key
+    pub variance : key.variance ≡ e.variance
+    pub there : IsTrue (known (m.ty key.ty))
+    pub type : m.ty key.ty ≡ e.type
+    pub found : get eq memory key ≡ Some became
+    pub sure : IsTrue (known (m.ty became))
+    pub term : m.ty became ≡ e.term
+
+  -- The types that were met so far, as a memory keeps them.
+  pub record Keeps (es : List Met) : Type 0 where
+    pub found : (q : MetKey Key) (became : TyKey Key) → get eq memory q ≡ Some became → WasMet es q became
+    pub kept : (e : Met) → Contains es e → IsFound e
+
+  -- How far generalising has come for variable `n` of kind `k` in universe `u`, from a sound start: variables were made,
+  -- and types were met in which no obstacle stands.
+  pub record HasCome (c : Items) (start : Store) (k : VarKind) (n u : ℕ) (st : Store) (es : List Met) : Type 0 where
+    pub items : items_of m ≡ c
+    pub sound : IsSound start
+    pub universe : universe_of start k n ≡ u
+    pub makes : MakesUnbound u start st
+    pub keeps : Keeps es
+    pub clear : All (λ e. Leaves (IsNoObstacle start k n) e.type) es
+
+-- The error that an obstacle makes; a variable that stands in its own source makes the given one.
+abbrev pub ObstacleError : {Key Id Name : Type 0} → TypeError Key Id Name → TypeError Key Id Name → Obstacle → Type 0
+ObstacleError cyclic e cycle = e ≡ cyclic
+ObstacleError cyclic e beyond = e ≡ Mismatch
+
+module _ {Key Id Name S : Type 0} (eq : MetKey Key → MetKey Key → Bool) (m n : Meaning Key Id Name)
+    (before after : Store) (k : VarKind) (i u : ℕ) (turn : Turn) (old new : HashMap (MetKey Key) (TyKey Key) S)
+    (t : Tree) where
+  -- A term became another.
+  pub record Becomes (c : Items) (start : Store) (es : List Met) (x : Tree) : Type 0 where
+    pub met : List Met
+    pub come : HasCome eq n new c start k i u after met
+    pub generalised : Generalised c start k i turn (record { store = before; met = es }) t
+        (record { store = after; met = met }) x
+    pub clear : Leaves (IsNoObstacle start k i) t
+
+  -- The same from wherever generalising may have come; or an obstacle stands in the term.
+  abbrev pub BecomesAlways : Tree → Type 0
+  BecomesAlways x = (c : Items) (start : Store) (es : List Met) → HasCome eq m old c start k i u before es →
+      InContext start t → Becomes c start es x
+
+  abbrev pub StopsAlways : TypeError Key Id Name → TypeError Key Id Name → Type 0
+  StopsAlways cyclic e = (c : Items) (start : Store) (es : List Met) → HasCome eq m old c start k i u before es →
+      InContext start t → (o : Obstacle) × StopsAt start k i o t × ObstacleError cyclic e o
+
+  -- A part became another of its sort; or an obstacle stands in it; or memory ran out.
+  abbrev pub GeneralisesTo : TypeError Key Id Name → Part Key Id → Result (Part Key Id) (RelateFault Key Id Name) → Type 0
+  GeneralisesTo cyclic p (Ok x) = IsTrue (known (part_tree n x)) × (part_sort x ≡ part_sort p) ×
+      BecomesAlways (part_tree n x)
+  GeneralisesTo cyclic p (Err (Unrelated e)) = StopsAlways cyclic e
+  GeneralisesTo cyclic p (Err Budget) = ⊥
+  GeneralisesTo cyclic p (Err Memory) = Unit {0}
+
+-- A part was generalised in a context, for variable `i` of kind `k` in universe `u`; unbound variables may have been made,
+-- also where that failed.
+pub record Generalises {I Key Id Name Span S : Type 0} (meaning : I → Meaning Key Id Name)
+    (eq : MetKey Key → MetKey Key → Bool) (before after : RefCtxt I Key Id Name Span) (k : VarKind) (i u : ℕ)
+    (cyclic : TypeError Key Id Name) (turn : Turn) (old new : HashMap (MetKey Key) (TyKey Key) S) (p : Part Key Id)
+    (result : Result (Part Key Id) (RelateFault Key Id Name)) : Type 0 where
+  pub lawful : IsLawful (meaning after.interner) after.inner
+  pub grown : Extends (meaning before.interner) (meaning after.interner)
+  pub universe : (after.inner.universe).0 ≡ (before.inner.universe).0
+  pub makes : MakesUnbound u (store_of (meaning before.interner) before.inner)
+      (store_of (meaning after.interner) after.inner)
+  pub answers : GeneralisesTo eq (meaning before.interner) (meaning after.interner)
+      (store_of (meaning before.interner) before.inner) (store_of (meaning after.interner) after.inner) k i u turn old new
+      (part_tree (meaning before.interner) p) cyclic p result

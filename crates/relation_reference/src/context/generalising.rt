@@ -1,0 +1,393 @@
+//! Generalising what a variable is bound to: new variables take the places of what the variable can't name, and of what
+//! may still vary. A type that was met before, at the same variance, is not gone through again.
+ghost use Rattle.std.specs.Prelude.{◌≡◌, ◌≢◌, ◌≤◌, ◌<◌, ℕ, IsTrue, IfOk, IfSome, IfNone, OnOk, OnErr, List, ◌∷◌, Contains, Some};
+ghost use Rattle.relation_terms.specs.Heads.{VarKind, Leaf, variable, placeholder, BoundKind, bound_sort, region_sort, region_var};
+ghost use Rattle.relation_terms.specs.Trees.{Tree, leaf, known, count};
+ghost use Rattle.relation_terms.specs.Meaning.{Extends};
+ghost use Rattle.relation_terms.specs.Parts.{part_tree, part_sort, parts_of};
+ghost use Rattle.relation_terms.specs.Variances.{xform};
+ghost use Rattle.type_relations.specs.Relation.{pointee_variance};
+ghost use Rattle.type_relations.specs.Lawful.{items_of};
+ghost use Rattle.type_relations.specs.Covered.{IsCovered};
+ghost use Rattle.type_relations.specs.Stores.{InContext, IsMade};
+ghost use Rattle.type_relations.specs.Steps.{MakesVariable};
+ghost use Rattle.type_relations.specs.Generalising.{Met, Stays, any_part, new_part, variance_of_part};
+ghost use Rattle.relation_reference.specs.Tables.{IsLawful};
+ghost use Rattle.relation_reference.specs.RefCtxt.{store_in};
+ghost use Rattle.relation_reference.specs.Remembering.{vid_kind, vid_number};
+ghost use Rattle.relation_reference.specs.Generalises.{new_kind, IsFate, Keeps, Generalises};
+ghost use Rattle.relation_reference.specs.declared.context.generalising.Fate.TheVariants.{ByParts};
+
+use crate::context::RefCtxt;
+use crate::context::memory::TermVid;
+use crate::context::resolving::{is_same_vid, variable_of};
+use relation_terms::terms::parts::{is_same, part, parts_count, the_ty, with_parts};
+use relation_terms::terms::{
+    Const, ConstKind, DefId, Interner, ItemOf, Keys, Mutability, OutOfMemory, Part, PartOf, Region,
+    RegionKind, Ty, TyKey, TyKind, UniverseIndex, Variance,
+};
+use relation_tools::error::{RelateFault, RelateFaultOf, TypeError};
+use std::collections::HashMap;
+
+/// A type as it is looked for: the variance at which it stands, and its key.
+#[derive(Clone, Copy, PartialEq, Eq, Hash)]
+pub struct MetKey<X> {
+    pub variance: Variance,
+    pub ty: TyKey<X>,
+}
+
+/// What types that were met became.
+pub type MetTypes<X> = HashMap<MetKey<X>, TyKey<X>>;
+
+// A variable that is bound, its universe, and the error where it stands in what it is to be bound to.
+#[derive(Clone, Copy)]
+pub(crate) struct Target<X, D, N> {
+    pub vid: TermVid,
+    pub universe: UniverseIndex,
+    pub cyclic: TypeError<X, D, N>,
+}
+
+pub(crate) type TargetOf<I> = Target<<I as Keys>::Key, <I as Keys>::Id, <I as Keys>::Name>;
+
+// What becomes of a term.
+#[derive(Clone, Copy)]
+pub(crate) enum Fate {
+    // It is the same over what its parts become; without parts, it stays.
+    ByParts,
+    // It is a leaf that gives way to a new variable of its sort.
+    GivesWay,
+    // It is the variable itself.
+    Cycle,
+    // It is a placeholder that the variable can't name.
+    Beyond,
+}
+
+// Whether a variance leaves nothing to vary.
+fn is_invariant(variance: Variance) -> bool {
+    match variance {
+        Variance::Invariant => true,
+        Variance::Covariant | Variance::Contravariant | Variance::Bivariant => false,
+    }
+}
+
+fn stays_if(stays: bool) -> Fate {
+    if stays { Fate::ByParts } else { Fate::GivesWay }
+}
+
+// What the type became at the variance, if it was met before.
+fn recall<I: Interner>(cx: &I, ty: &Ty<I>, variance: Variance, met: &MetTypes<I::Key>) -> Option<Ty<I>>
+    requires { IsTrue (known ((I.meaning cx.now).ty ty.now)) }
+    ensures met { IfSome result (λ x. (es : List Met) →
+        Keeps ⟦<MetKey<I::Key> as PartialEq>⟧.eq (I.meaning cx.now) met.now es →
+        IsTrue (known ((I.meaning cx.now).ty x)) × Contains es (record { variance = variance;
+        type = (I.meaning cx.now).ty ty.now; term = (I.meaning cx.now).ty x })) }
+    ensures not_met { IfNone result ((es : List Met) →
+        Keeps ⟦<MetKey<I::Key> as PartialEq>⟧.eq (I.meaning cx.now) met.now es → (x : Tree) →
+        Contains es (record { variance = variance; type = (I.meaning cx.now).ty ty.now; term = x }) → ⊥) }
+{
+    let _ = cx;
+    met.get(&MetKey { variance, ty: *ty }).copied()
+}
+
+// Keeps what the type became at the variance.
+fn keep<I: Interner>(
+    cx: &I,
+    ty: &Ty<I>,
+    variance: Variance,
+    became: Ty<I>,
+    met: &mut MetTypes<I::Key>,
+) -> Result<(), OutOfMemory>
+    requires ty_known { IsTrue (known ((I.meaning cx.now).ty ty.now)) }
+    requires became_known { IsTrue (known ((I.meaning cx.now).ty became)) }
+    ensures { OnOk result ((es : List Met) →
+        Keeps ⟦<MetKey<I::Key> as PartialEq>⟧.eq (I.meaning cx.now) met.old es →
+        ((x : Tree) → Contains es (record { variance = variance; type = (I.meaning cx.now).ty ty.now; term = x }) → ⊥) →
+        Keeps ⟦<MetKey<I::Key> as PartialEq>⟧.eq (I.meaning cx.now) met.new (record { variance = variance;
+        type = (I.meaning cx.now).ty ty.now; term = (I.meaning cx.now).ty became } ∷ es)) }
+{
+    let _ = cx;
+    met.insert(MetKey { variance, ty: *ty }, became)?;
+    Ok(())
+}
+
+// The variance that an item declares for a parameter.
+fn declared_by<I: Interner>(cx: &I, def_id: &ItemOf<I>, i: usize) -> Variance
+    ensures { let m = I.meaning cx.now in result ≡ (items_of m).declared (m.id (def_id.now).0) i }
+{
+    match cx.variances_of(def_id).get(i) {
+        Some(variance) => *variance,
+        None => Variance::Invariant,
+    }
+}
+
+fn pointee(mutability: Mutability) -> Variance
+    ensures { result ≡ pointee_variance mutability }
+{
+    match mutability {
+        Mutability::Not => Variance::Covariant,
+        Mutability::Mut => Variance::Invariant,
+    }
+}
+
+// How the part of a type at a place varies with the type.
+fn mode_in_ty<I: Interner>(cx: &I, ty: &Ty<I>, i: usize) -> Variance
+    requires ty_known { IsTrue (known ((I.meaning cx.now).ty ty.now)) }
+    requires ty_covered { IsCovered ((I.meaning cx.now).ty ty.now) }
+    requires in_bounds { i < count (parts_of ((I.meaning cx.now).ty ty.now)) }
+    ensures { (v : Variance) → variance_of_part (items_of (I.meaning cx.now)) ((I.meaning cx.now).ty ty.now) i v ≡ xform v result }
+{
+    match &cx.ty_kind(ty) {
+        TyKind::Adt(def, _) => declared_by(cx, &DefId(def.0), i),
+        TyKind::FnDef(def, _) => declared_by(cx, &DefId(def.0), i),
+        TyKind::Closure(..)
+        | TyKind::CoroutineClosure(..)
+        | TyKind::Coroutine(..)
+        | TyKind::CoroutineWitness(..) => Variance::Invariant,
+        TyKind::RawPtr(_, mutability) => pointee(*mutability),
+        TyKind::Ref(_, _, mutability) if i > 0 => pointee(*mutability),
+        _ => Variance::Covariant,
+    }
+}
+
+// How the parts of a constant vary with the constant.
+fn mode_in_const<I: Interner>(cx: &I, constant: &Const<I>) -> Variance {
+    match cx.const_kind(constant) {
+        ConstKind::Expr(..) | ConstKind::Unevaluated(_) => Variance::Invariant,
+        ConstKind::Value(..)
+        | ConstKind::Param(_)
+        | ConstKind::Infer(_)
+        | ConstKind::Bound(..)
+        | ConstKind::Placeholder(_)
+        | ConstKind::Error(_) => Variance::Covariant,
+    }
+}
+
+// The variance of the part of a term at a place, the term being at a variance. The type of a value is never related.
+fn variance_of<I: Interner>(cx: &I, term: &PartOf<I>, i: usize, variance: Variance) -> Variance
+    requires term_known { IsTrue (known (part_tree (I.meaning cx.now) term.now)) }
+    requires term_covered { IsCovered (part_tree (I.meaning cx.now) term.now) }
+    requires in_bounds { i < count (parts_of (part_tree (I.meaning cx.now) term.now)) }
+    ensures { result ≡ variance_of_part (items_of (I.meaning cx.now)) (part_tree (I.meaning cx.now) term.now) i variance }
+{
+    match term {
+        Part::Ty(ty) => variance.xform(mode_in_ty(cx, ty, i)),
+        Part::Const(constant) => variance.xform(mode_in_const(cx, constant)),
+        Part::ValueType(_) => Variance::Bivariant,
+        Part::Signature(_) if i == 0 => variance.xform(Variance::Contravariant),
+        Part::Existential(_) => variance.xform(Variance::Invariant),
+        Part::Region(_)
+        | Part::ValTree(_)
+        | Part::Pat(_)
+        | Part::Binder(..)
+        | Part::Signature(_)
+        | Part::Inputs(_)
+        | Part::Object(_) => variance,
+    }
+}
+
+// The universe of a type or a constant that is a placeholder.
+fn placeholder_universe<I: Interner>(cx: &I, term: &PartOf<I>) -> Option<UniverseIndex>
+    requires { IsTrue (known (part_tree (I.meaning cx.now) term.now)) }
+    ensures is { IfSome result (λ w. (q : BoundKind) × (i : ℕ) ×
+        (part_tree (I.meaning cx.now) term.now ≡ leaf (placeholder q w.0 i)) × (bound_sort q ≢ region_sort)) }
+    ensures is_none { IfNone result ((q : BoundKind) (w i : ℕ) →
+        part_tree (I.meaning cx.now) term.now ≡ leaf (placeholder q w i) → bound_sort q ≡ region_sort) }
+{
+    match term {
+        Part::Ty(ty) => match cx.ty_kind(ty) {
+            TyKind::Placeholder(placeholder) => Some(placeholder.universe),
+            _ => None,
+        },
+        Part::Const(constant) => match cx.const_kind(constant) {
+            ConstKind::Placeholder(placeholder) => Some(placeholder.universe),
+            _ => None,
+        },
+        _ => None,
+    }
+}
+
+impl<I: Interner> RefCtxt<I> {
+    // What becomes of a region for a target, at a variance.
+    fn fate_of_region(&self, region: &Region<I>, variance: Variance, target: &TargetOf<I>) -> Fate
+        requires lawful { IsLawful (I.meaning self.now.interner) self.now.inner }
+        requires term_known { IsTrue (known ((I.meaning self.now.interner).region region.now)) }
+        requires term_in { InContext (store_in I.meaning self.now) ((I.meaning self.now.interner).region region.now) }
+        ensures { IsFate (store_in I.meaning self.now) (vid_kind target.now.vid) (vid_number target.now.vid)
+            target.now.universe.0 variance ((I.meaning self.now.interner).region region.now) (Some region_var) result }
+    {
+        match self.interner.region_kind(region) {
+            RegionKind::ReBound(..) => Fate::ByParts,
+            RegionKind::ReVar(vid) => {
+                let named = self.inner.regions[vid.0].0 <= target.universe.0;
+                stays_if(is_invariant(variance) && named)
+            }
+            RegionKind::RePlaceholder(placeholder) => {
+                let named = placeholder.universe.0 <= target.universe.0;
+                stays_if(is_invariant(variance) && named)
+            }
+            RegionKind::ReStatic => stays_if(is_invariant(variance)),
+            RegionKind::ReEarlyParam(_) => stays_if(is_invariant(variance)),
+        }
+    }
+
+    // What becomes of another variable than the target, at a variance.
+    fn fate_of_variable(&self, vid: TermVid, variance: Variance, target: &TargetOf<I>) -> Fate
+        requires lawful { IsLawful (I.meaning self.now.interner) self.now.inner }
+        requires made { IsMade (store_in I.meaning self.now) (vid_kind vid) (vid_number vid) }
+        requires other { vid ≢ target.now.vid }
+        ensures { IsFate (store_in I.meaning self.now) (vid_kind target.now.vid) (vid_number target.now.vid)
+            target.now.universe.0 variance (leaf (variable (vid_kind vid) (vid_number vid))) (Some (vid_kind vid)) result }
+    {
+        match vid {
+            TermVid::Ty(vid) => {
+                let named = self.inner.types[vid.0].universe.0 <= target.universe.0;
+                stays_if(is_invariant(variance) && named)
+            }
+            TermVid::Const(vid) => {
+                stays_if(self.inner.consts[vid.0].universe.0 <= target.universe.0)
+            }
+        }
+    }
+
+    // What becomes of a term for a target, at a variance.
+    fn fate_of(&self, term: &PartOf<I>, variance: Variance, target: &TargetOf<I>) -> Fate
+        requires lawful { IsLawful (I.meaning self.now.interner) self.now.inner }
+        requires term_known { IsTrue (known (part_tree (I.meaning self.now.interner) term.now)) }
+        requires term_in { let m = I.meaning self.now.interner in
+            InContext (store_in I.meaning self.now) (part_tree m term.now) }
+        requires term_covered { IsCovered (part_tree (I.meaning self.now.interner) term.now) }
+        ensures { IsFate (store_in I.meaning self.now) (vid_kind target.now.vid) (vid_number target.now.vid)
+            target.now.universe.0 variance (part_tree (I.meaning self.now.interner) term.now) (new_kind term.now) result }
+    {
+        if let Part::Region(region) = term {
+            return self.fate_of_region(region, variance, target);
+        }
+        if let Some(vid) = variable_of(&self.interner, term) {
+            if is_same_vid(vid, target.vid) {
+                return Fate::Cycle;
+            }
+            return self.fate_of_variable(vid, variance, target);
+        }
+        if let Some(universe) = placeholder_universe(&self.interner, term) {
+            if universe.0 > target.universe.0 {
+                return Fate::Beyond;
+            }
+        }
+        Fate::ByParts
+    }
+
+    // A new variable for a part, in a universe.
+    fn next_for(&mut self, term: &PartOf<I>, universe: UniverseIndex) -> Result<PartOf<I>, OutOfMemory>
+        requires lawful { IsLawful (I.meaning self.old.interner) self.old.inner }
+        requires below { universe.0 ≤ self.old.inner.universe.0 }
+        requires has { (j : VarKind) × (new_kind term.now ≡ Some j) }
+        ensures lawful { IsLawful (I.meaning self.new.interner) self.new.inner }
+        ensures grown { Extends (I.meaning self.old.interner) (I.meaning self.new.interner) }
+        ensures sure { IfOk result (λ x. IsTrue (known (part_tree (I.meaning self.new.interner) x))) }
+        ensures sort { IfOk result (λ x. part_sort x ≡ part_sort term.now) }
+        ensures makes { IfOk result (λ x. (j : VarKind) → new_kind term.now ≡ Some j → (n : ℕ) ×
+            MakesVariable (store_in I.meaning self.old) (store_in I.meaning self.new) j n universe.0 ×
+            (part_tree (I.meaning self.new.interner) x ≡ leaf (variable j n))) }
+        ensures refused { OnErr result (store_in I.meaning self.new ≡ store_in I.meaning self.old) }
+    {
+        match term {
+            Part::Ty(_) => Ok(Part::Ty(self.next_ty_var_in(universe)?)),
+            Part::Const(_) => Ok(Part::Const(self.next_const_var_in(universe)?)),
+            Part::Region(_) => Ok(Part::Region(self.next_region_var_in(universe)?)),
+            _ => unreachable!(),
+        }
+    }
+
+    // The term as a target is bound to it at a variance. A type that was met before becomes what it became then.
+    #[cycle(generalise)]
+    fn generalise_part(
+        &mut self,
+        term: &PartOf<I>,
+        variance: Variance,
+        target: &TargetOf<I>,
+        met: &mut MetTypes<I::Key>,
+    ) -> Result<PartOf<I>, RelateFaultOf<I>>
+        requires lawful { IsLawful (I.meaning self.old.interner) self.old.inner }
+        requires below { target.now.universe.0 ≤ self.old.inner.universe.0 }
+        requires term_known { IsTrue (known (part_tree (I.meaning self.old.interner) term.now)) }
+        requires term_in { let m = I.meaning self.old.interner in
+            InContext (store_in I.meaning self.old) (part_tree m term.now) }
+        requires term_covered { IsCovered (part_tree (I.meaning self.old.interner) term.now) }
+        ensures { Generalises I.meaning ⟦<MetKey<I::Key> as PartialEq>⟧.eq self.old self.new
+            (vid_kind target.now.vid) (vid_number target.now.vid) target.now.universe.0 target.now.cyclic
+            (any_part variance) met.old met.new term.now result }
+    {
+        let Part::Ty(ty) = term else {
+            return self.generalise_new(term, variance, target, met);
+        };
+        if let Some(became) = recall(&self.interner, ty, variance, met) {
+            return Ok(Part::Ty(became));
+        }
+        let became = self.generalise_new(term, variance, target, met)?;
+        keep(&self.interner, ty, variance, the_ty(&became), met)?;
+        Ok(became)
+    }
+
+    // The same of a term that was not met.
+    #[cycle(generalise)]
+    fn generalise_new(
+        &mut self,
+        term: &PartOf<I>,
+        variance: Variance,
+        target: &TargetOf<I>,
+        met: &mut MetTypes<I::Key>,
+    ) -> Result<PartOf<I>, RelateFaultOf<I>>
+        requires lawful { IsLawful (I.meaning self.old.interner) self.old.inner }
+        requires below { target.now.universe.0 ≤ self.old.inner.universe.0 }
+        requires term_known { IsTrue (known (part_tree (I.meaning self.old.interner) term.now)) }
+        requires term_in { let m = I.meaning self.old.interner in
+            InContext (store_in I.meaning self.old) (part_tree m term.now) }
+        requires term_covered { IsCovered (part_tree (I.meaning self.old.interner) term.now) }
+        ensures { Generalises I.meaning ⟦<MetKey<I::Key> as PartialEq>⟧.eq self.old self.new
+            (vid_kind target.now.vid) (vid_number target.now.vid) target.now.universe.0 target.now.cyclic
+            (new_part variance) met.old met.new term.now result }
+    {
+        match self.fate_of(term, variance, target) {
+            Fate::Cycle => Err(RelateFault::Unrelated(target.cyclic)),
+            Fate::Beyond => Err(RelateFault::Unrelated(TypeError::Mismatch)),
+            Fate::GivesWay => Ok(self.next_for(term, target.universe)?),
+            Fate::ByParts => self.generalise_parts(term, variance, target, met),
+        }
+    }
+
+    // The same of a term that stays as a form. Where its parts become what they are, nothing is made.
+    #[cycle(generalise)]
+    fn generalise_parts(
+        &mut self,
+        term: &PartOf<I>,
+        variance: Variance,
+        target: &TargetOf<I>,
+        met: &mut MetTypes<I::Key>,
+    ) -> Result<PartOf<I>, RelateFaultOf<I>>
+        requires lawful { IsLawful (I.meaning self.old.interner) self.old.inner }
+        requires below { target.now.universe.0 ≤ self.old.inner.universe.0 }
+        requires term_known { IsTrue (known (part_tree (I.meaning self.old.interner) term.now)) }
+        requires term_in { let m = I.meaning self.old.interner in
+            InContext (store_in I.meaning self.old) (part_tree m term.now) }
+        requires term_covered { IsCovered (part_tree (I.meaning self.old.interner) term.now) }
+        requires stays { IsFate (store_in I.meaning self.old) (vid_kind target.now.vid) (vid_number target.now.vid)
+            target.now.universe.0 variance (part_tree (I.meaning self.old.interner) term.now) (new_kind term.now) ByParts }
+        ensures { Generalises I.meaning ⟦<MetKey<I::Key> as PartialEq>⟧.eq self.old self.new
+            (vid_kind target.now.vid) (vid_number target.now.vid) target.now.universe.0 target.now.cyclic
+            (new_part variance) met.old met.new term.now result }
+    {
+        let mut parts = Vec::new(self.interner.alloc());
+        let mut same = true;
+        for i in 0..parts_count(&self.interner, term) {
+            let next = part(&self.interner, term, i);
+            let at = variance_of(&self.interner, term, i, variance);
+            let became = self.generalise_part(&next, at, target, met)?;
+            same &= is_same(&self.interner, &became, &next);
+            parts.push(became)?;
+        }
+        if same {
+            return Ok(*term);
+        }
+        Ok(with_parts(&mut self.interner, term, parts.as_slice())?)
+    }
+}
