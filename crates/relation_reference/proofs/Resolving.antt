@@ -131,7 +131,7 @@ context_list st (bind ks t) p = (p, tt)
 context_list st nil p = tt
 context_list st (cons t ts) p = tt
 
-context_part : (st : Store) (t : Tree) (i : ℕ) → IsList (parts_of t) → InContext st t → InContext st (nth i (parts_of t))
+pub context_part : (st : Store) (t : Tree) (i : ℕ) → IsList (parts_of t) → InContext st t → InContext st (nth i (parts_of t))
 context_part st t i l p = nth_in st i (parts_of t) l (context_list st t p)
 
 size_falls : (s : Assign) (t : Tree) (i : ℕ) → i < count (parts_of t) →

@@ -32,6 +32,10 @@ new_kind (Ty t) = Some type_var
 new_kind (Const c) = Some const_var
 new_kind p = None
 
+-- A type that became a term at a variance.
+abbrev pub met_at : Variance → Tree → Tree → Met
+met_at v t x = record { variance = v; type = t; term = x }
+
 -- What becomes of a term at a variance, for variable `n` of kind `k` in universe `u`.
 abbrev pub IsFate : Store → VarKind → ℕ → ℕ → Variance → Tree → Option VarKind → Fate → Type 0
 IsFate st k n u v t o ByParts = (l : Leaf) → t ≡ leaf l → (l ≢ variable k n) × Stays st u v l
@@ -43,13 +47,16 @@ IsFate st k n u v t o Beyond = (q : BoundKind) × (w : ℕ) × (i : ℕ) × (t �
 
 module _ {Key Id Name S : Type 0} (eq : MetKey Key → MetKey Key → Bool) (m : Meaning Key Id Name)
     (memory : HashMap (MetKey Key) (TyKey Key) S) where
+  -- What is found is known.
+  abbrev pub IsSure : Type 0
+  IsSure = (q : MetKey Key) (became : TyKey Key) → get eq memory q ≡ Some became → IsTrue (known (m.ty became))
+
   -- What is found at a key was met.
   pub record WasMet (es : List Met) (q : MetKey Key) (became : TyKey Key) : Type 0 where
     pub key : MetKey Key
     pub same : IsTrue (eq key q)
     pub there : IsTrue (known (m.ty key.ty))
-    pub sure : IsTrue (known (m.ty became))
-    pub met : Contains es (record { variance = key.variance; type = m.ty key.ty; term = m.ty became })
+    pub met : Contains es (met_at key.variance (m.ty key.ty) (m.ty became))
 
   -- What was met is found.
   pub record IsFound (e : Met) : Type 0 where
@@ -104,7 +111,7 @@ module _ {Key Id Name S : Type 0} (eq : MetKey Key → MetKey Key → Bool) (m n
 
   -- A part became another of its sort; or an obstacle stands in it; or memory ran out.
   abbrev pub GeneralisesTo : TypeError Key Id Name → Part Key Id → Result (Part Key Id) (RelateFault Key Id Name) → Type 0
-  GeneralisesTo cyclic p (Ok x) = IsTrue (known (part_tree n x)) × (part_sort x ≡ part_sort p) ×
+  GeneralisesTo cyclic p (Ok x) = IsTrue (known (part_tree n x)) × (part_sort x ≡ part_sort p) × IsSure eq n new ×
       BecomesAlways (part_tree n x)
   GeneralisesTo cyclic p (Err (Unrelated e)) = StopsAlways cyclic e
   GeneralisesTo cyclic p (Err Budget) = ⊥

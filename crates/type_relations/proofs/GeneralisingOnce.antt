@@ -102,7 +102,7 @@ small (next_part {r = r} {q = q} {t = t} {ts = ts} f s) a h = then (λ b. small 
     then i (inr b) = inr (omega (arith, b))
 
 -- So a type that was not met is not while it is gone through.
-still_new : {c : Items} {start : Store} {k : VarKind} {n : ℕ} {v : Variance} {r q : Stage} {t x : Tree} → Generalised c start k n (new_part v) r t q x → ((y : Tree) → Contains r.met (met_as v t y) → ⊥) → (y : Tree) → Contains q.met (met_as v t y) → ⊥
+pub still_new : {c : Items} {start : Store} {k : VarKind} {n : ℕ} {v : Variance} {r q : Stage} {t x : Tree} → Generalised c start k n (new_part v) r t q x → ((y : Tree) → Contains r.met (met_as v t y) → ⊥) → (y : Tree) → Contains q.met (met_as v t y) → ⊥
 still_new {v = v} {r = r} {t = t} f new y h = go (small f (met_as v t y) h)
   where
     go : Contains r.met (met_as v t y) ⊎ (size t < size t) → ⊥

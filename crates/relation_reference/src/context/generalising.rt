@@ -1,22 +1,23 @@
 //! Generalising what a variable is bound to: new variables take the places of what the variable can't name, and of what
 //! may still vary. A type that was met before, at the same variance, is not gone through again.
-ghost use Rattle.std.specs.Prelude.{◌≡◌, ◌≢◌, ◌≤◌, ◌<◌, ℕ, IsTrue, IfOk, IfSome, IfNone, OnOk, OnErr, List, ◌∷◌, Contains, Some};
-ghost use Rattle.relation_terms.specs.Heads.{VarKind, Leaf, variable, placeholder, BoundKind, bound_sort, region_sort, region_var};
-ghost use Rattle.relation_terms.specs.Trees.{Tree, leaf, known, count};
+ghost use Rattle.std.specs.Prelude.{◌≡◌, ◌≢◌, ◌≤◌, ◌<◌, ℕ, IsTrue, IsFalse, IfOk, IfSome, IfNone, OnOk, OnErr, List, ◌∷◌, Contains, Some, length};
+ghost use Rattle.relation_terms.specs.Heads.{VarKind, Leaf, variable, placeholder, BoundKind, bound_sort, region_sort, const_sort, region_var};
+ghost use Rattle.relation_terms.specs.Trees.{Tree, leaf, known, count, IsTerm};
 ghost use Rattle.relation_terms.specs.Meaning.{Extends};
 ghost use Rattle.relation_terms.specs.Parts.{part_tree, part_sort, parts_of};
 ghost use Rattle.relation_terms.specs.Variances.{xform};
 ghost use Rattle.type_relations.specs.Relation.{pointee_variance};
 ghost use Rattle.type_relations.specs.Lawful.{items_of};
 ghost use Rattle.type_relations.specs.Covered.{IsCovered};
-ghost use Rattle.type_relations.specs.Stores.{InContext, IsMade};
+ghost use Rattle.type_relations.specs.Stores.{InContext, IsMade, universe_of};
 ghost use Rattle.type_relations.specs.Steps.{MakesVariable};
 ghost use Rattle.type_relations.specs.Generalising.{Met, Stays, any_part, new_part, variance_of_part};
 ghost use Rattle.relation_reference.specs.Tables.{IsLawful};
 ghost use Rattle.relation_reference.specs.RefCtxt.{store_in};
 ghost use Rattle.relation_reference.specs.Remembering.{vid_kind, vid_number};
-ghost use Rattle.relation_reference.specs.Generalises.{new_kind, IsFate, Keeps, Generalises};
-ghost use Rattle.relation_reference.specs.declared.context.generalising.Fate.TheVariants.{ByParts};
+ghost use Rattle.relation_reference.specs.Generalises.{new_kind, met_at, IsFate, IsSure, Keeps, Generalises};
+ghost use Rattle.relation_reference.specs.declared.context.generalising.Fate.TheVariants.{ByParts, GivesWay};
+ghost use Rattle.relation_terms.specs.declared.terms.enums.Variance.TheVariants.{Invariant};
 
 use crate::context::RefCtxt;
 use crate::context::memory::TermVid;
@@ -24,7 +25,7 @@ use crate::context::resolving::{is_same_vid, variable_of};
 use relation_terms::terms::parts::{is_same, part, parts_count, the_ty, with_parts};
 use relation_terms::terms::{
     Const, ConstKind, DefId, Interner, ItemOf, Keys, Mutability, OutOfMemory, Part, PartOf, Region,
-    RegionKind, Ty, TyKey, TyKind, UniverseIndex, Variance,
+    RegionKind, RegionVid, Ty, TyKey, TyKind, UniverseIndex, Variance,
 };
 use relation_tools::error::{RelateFault, RelateFaultOf, TypeError};
 use std::collections::HashMap;
@@ -40,7 +41,6 @@ pub struct MetKey<X> {
 pub type MetTypes<X> = HashMap<MetKey<X>, TyKey<X>>;
 
 // A variable that is bound, its universe, and the error where it stands in what it is to be bound to.
-#[derive(Clone, Copy)]
 pub(crate) struct Target<X, D, N> {
     pub vid: TermVid,
     pub universe: UniverseIndex,
@@ -63,27 +63,38 @@ pub(crate) enum Fate {
 }
 
 // Whether a variance leaves nothing to vary.
-fn is_invariant(variance: Variance) -> bool {
+fn is_invariant(variance: Variance) -> bool
+    ensures is { IsTrue result → variance ≡ Invariant }
+    ensures is_not { IsFalse result → variance ≢ Invariant }
+{
     match variance {
         Variance::Invariant => true,
         Variance::Covariant | Variance::Contravariant | Variance::Bivariant => false,
     }
 }
 
-fn stays_if(stays: bool) -> Fate {
+// A leaf stays, or gives way.
+fn stays_if(stays: bool) -> Fate
+    ensures stays { IsTrue stays → result ≡ ByParts }
+    ensures gives_way { IsFalse stays → result ≡ GivesWay }
+{
     if stays { Fate::ByParts } else { Fate::GivesWay }
 }
 
 // What the type became at the variance, if it was met before.
-fn recall<I: Interner>(cx: &I, ty: &Ty<I>, variance: Variance, met: &MetTypes<I::Key>) -> Option<Ty<I>>
-    requires { IsTrue (known ((I.meaning cx.now).ty ty.now)) }
-    ensures met { IfSome result (λ x. (es : List Met) →
-        Keeps ⟦<MetKey<I::Key> as PartialEq>⟧.eq (I.meaning cx.now) met.now es →
-        IsTrue (known ((I.meaning cx.now).ty x)) × Contains es (record { variance = variance;
-        type = (I.meaning cx.now).ty ty.now; term = (I.meaning cx.now).ty x })) }
-    ensures not_met { IfNone result ((es : List Met) →
-        Keeps ⟦<MetKey<I::Key> as PartialEq>⟧.eq (I.meaning cx.now) met.now es → (x : Tree) →
-        Contains es (record { variance = variance; type = (I.meaning cx.now).ty ty.now; term = x }) → ⊥) }
+fn recall<I: Interner>(
+    cx: &I,
+    ty: &Ty<I>,
+    variance: Variance,
+    met: &MetTypes<I::Key>,
+) -> Option<Ty<I>>
+    requires known { IsTrue (known ((I.meaning cx.now).ty ty.now)) }
+    requires sure { IsSure ⟦<MetKey<I::Key> as PartialEq>⟧.eq (I.meaning cx.now) met.now }
+    ensures sure { IfSome result (λ x. IsTrue (known ((I.meaning cx.now).ty x))) }
+    ensures met { IfSome result (λ x. (es : List Met) → Keeps ⟦<MetKey<I::Key> as PartialEq>⟧.eq (I.meaning cx.now) met.now es →
+        Contains es (met_at variance ((I.meaning cx.now).ty ty.now) ((I.meaning cx.now).ty x))) }
+    ensures not_met { IfNone result ((es : List Met) → Keeps ⟦<MetKey<I::Key> as PartialEq>⟧.eq (I.meaning cx.now) met.now es →
+        (x : Tree) → Contains es (met_at variance ((I.meaning cx.now).ty ty.now) x) → ⊥) }
 {
     let _ = cx;
     met.get(&MetKey { variance, ty: *ty }).copied()
@@ -99,11 +110,12 @@ fn keep<I: Interner>(
 ) -> Result<(), OutOfMemory>
     requires ty_known { IsTrue (known ((I.meaning cx.now).ty ty.now)) }
     requires became_known { IsTrue (known ((I.meaning cx.now).ty became)) }
-    ensures { OnOk result ((es : List Met) →
-        Keeps ⟦<MetKey<I::Key> as PartialEq>⟧.eq (I.meaning cx.now) met.old es →
-        ((x : Tree) → Contains es (record { variance = variance; type = (I.meaning cx.now).ty ty.now; term = x }) → ⊥) →
-        Keeps ⟦<MetKey<I::Key> as PartialEq>⟧.eq (I.meaning cx.now) met.new (record { variance = variance;
-        type = (I.meaning cx.now).ty ty.now; term = (I.meaning cx.now).ty became } ∷ es)) }
+    requires sure { IsSure ⟦<MetKey<I::Key> as PartialEq>⟧.eq (I.meaning cx.now) met.old }
+    ensures sure { OnOk result (IsSure ⟦<MetKey<I::Key> as PartialEq>⟧.eq (I.meaning cx.now) met.new) }
+    ensures keeps { OnOk result ((es : List Met) → Keeps ⟦<MetKey<I::Key> as PartialEq>⟧.eq (I.meaning cx.now) met.old es →
+        ((x : Tree) → Contains es (met_at variance ((I.meaning cx.now).ty ty.now) x) → ⊥) →
+        Keeps ⟦<MetKey<I::Key> as PartialEq>⟧.eq (I.meaning cx.now) met.new
+        (met_at variance ((I.meaning cx.now).ty ty.now) ((I.meaning cx.now).ty became) ∷ es)) }
 {
     let _ = cx;
     met.insert(MetKey { variance, ty: *ty }, became)?;
@@ -134,7 +146,8 @@ fn mode_in_ty<I: Interner>(cx: &I, ty: &Ty<I>, i: usize) -> Variance
     requires ty_known { IsTrue (known ((I.meaning cx.now).ty ty.now)) }
     requires ty_covered { IsCovered ((I.meaning cx.now).ty ty.now) }
     requires in_bounds { i < count (parts_of ((I.meaning cx.now).ty ty.now)) }
-    ensures { (v : Variance) → variance_of_part (items_of (I.meaning cx.now)) ((I.meaning cx.now).ty ty.now) i v ≡ xform v result }
+    ensures { let t = (I.meaning cx.now).ty ty.now in
+        (v : Variance) → variance_of_part (items_of (I.meaning cx.now)) t i v ≡ xform v result }
 {
     match &cx.ty_kind(ty) {
         TyKind::Adt(def, _) => declared_by(cx, &DefId(def.0), i),
@@ -150,7 +163,11 @@ fn mode_in_ty<I: Interner>(cx: &I, ty: &Ty<I>, i: usize) -> Variance
 }
 
 // How the parts of a constant vary with the constant.
-fn mode_in_const<I: Interner>(cx: &I, constant: &Const<I>) -> Variance {
+fn mode_in_const<I: Interner>(cx: &I, constant: &Const<I>) -> Variance
+    requires { IsTrue (known ((I.meaning cx.now).const_ constant.now)) }
+    ensures { let t = (I.meaning cx.now).const_ constant.now in (i : ℕ) (v : Variance) → IsTerm const_sort t → i < count (parts_of t) →
+        variance_of_part (items_of (I.meaning cx.now)) t i v ≡ xform v result }
+{
     match cx.const_kind(constant) {
         ConstKind::Expr(..) | ConstKind::Unevaluated(_) => Variance::Invariant,
         ConstKind::Value(..)
@@ -207,6 +224,14 @@ fn placeholder_universe<I: Interner>(cx: &I, term: &PartOf<I>) -> Option<Univers
 }
 
 impl<I: Interner> RefCtxt<I> {
+    // The universe of a region variable.
+    fn region_universe(&self, vid: RegionVid) -> usize
+        requires { vid.0 < length self.now.inner.regions.items }
+        ensures { result ≡ universe_of (store_in I.meaning self.now) region_var vid.0 }
+    {
+        self.inner.regions[vid.0].0
+    }
+
     // What becomes of a region for a target, at a variance.
     fn fate_of_region(&self, region: &Region<I>, variance: Variance, target: &TargetOf<I>) -> Fate
         requires lawful { IsLawful (I.meaning self.now.interner) self.now.inner }
@@ -218,7 +243,7 @@ impl<I: Interner> RefCtxt<I> {
         match self.interner.region_kind(region) {
             RegionKind::ReBound(..) => Fate::ByParts,
             RegionKind::ReVar(vid) => {
-                let named = self.inner.regions[vid.0].0 <= target.universe.0;
+                let named = self.region_universe(vid) <= target.universe.0;
                 stays_if(is_invariant(variance) && named)
             }
             RegionKind::RePlaceholder(placeholder) => {
@@ -277,7 +302,11 @@ impl<I: Interner> RefCtxt<I> {
     }
 
     // A new variable for a part, in a universe.
-    fn next_for(&mut self, term: &PartOf<I>, universe: UniverseIndex) -> Result<PartOf<I>, OutOfMemory>
+    fn next_for(
+        &mut self,
+        term: &PartOf<I>,
+        universe: UniverseIndex,
+    ) -> Result<PartOf<I>, OutOfMemory>
         requires lawful { IsLawful (I.meaning self.old.interner) self.old.inner }
         requires below { universe.0 ≤ self.old.inner.universe.0 }
         requires has { (j : VarKind) × (new_kind term.now ≡ Some j) }
@@ -300,6 +329,7 @@ impl<I: Interner> RefCtxt<I> {
 
     // The term as a target is bound to it at a variance. A type that was met before becomes what it became then.
     #[cycle(generalise)]
+    #[tactic(none)]
     fn generalise_part(
         &mut self,
         term: &PartOf<I>,
@@ -313,6 +343,7 @@ impl<I: Interner> RefCtxt<I> {
         requires term_in { let m = I.meaning self.old.interner in
             InContext (store_in I.meaning self.old) (part_tree m term.now) }
         requires term_covered { IsCovered (part_tree (I.meaning self.old.interner) term.now) }
+        requires sure { IsSure ⟦<MetKey<I::Key> as PartialEq>⟧.eq (I.meaning self.old.interner) met.old }
         ensures { Generalises I.meaning ⟦<MetKey<I::Key> as PartialEq>⟧.eq self.old self.new
             (vid_kind target.now.vid) (vid_number target.now.vid) target.now.universe.0 target.now.cyclic
             (any_part variance) met.old met.new term.now result }
@@ -330,6 +361,7 @@ impl<I: Interner> RefCtxt<I> {
 
     // The same of a term that was not met.
     #[cycle(generalise)]
+    #[tactic(none)]
     fn generalise_new(
         &mut self,
         term: &PartOf<I>,
@@ -343,6 +375,7 @@ impl<I: Interner> RefCtxt<I> {
         requires term_in { let m = I.meaning self.old.interner in
             InContext (store_in I.meaning self.old) (part_tree m term.now) }
         requires term_covered { IsCovered (part_tree (I.meaning self.old.interner) term.now) }
+        requires sure { IsSure ⟦<MetKey<I::Key> as PartialEq>⟧.eq (I.meaning self.old.interner) met.old }
         ensures { Generalises I.meaning ⟦<MetKey<I::Key> as PartialEq>⟧.eq self.old self.new
             (vid_kind target.now.vid) (vid_number target.now.vid) target.now.universe.0 target.now.cyclic
             (new_part variance) met.old met.new term.now result }
@@ -357,6 +390,7 @@ impl<I: Interner> RefCtxt<I> {
 
     // The same of a term that stays as a form. Where its parts become what they are, nothing is made.
     #[cycle(generalise)]
+    #[tactic(none)]
     fn generalise_parts(
         &mut self,
         term: &PartOf<I>,
@@ -370,6 +404,7 @@ impl<I: Interner> RefCtxt<I> {
         requires term_in { let m = I.meaning self.old.interner in
             InContext (store_in I.meaning self.old) (part_tree m term.now) }
         requires term_covered { IsCovered (part_tree (I.meaning self.old.interner) term.now) }
+        requires sure { IsSure ⟦<MetKey<I::Key> as PartialEq>⟧.eq (I.meaning self.old.interner) met.old }
         requires stays { IsFate (store_in I.meaning self.old) (vid_kind target.now.vid) (vid_number target.now.vid)
             target.now.universe.0 variance (part_tree (I.meaning self.old.interner) term.now) (new_kind term.now) ByParts }
         ensures { Generalises I.meaning ⟦<MetKey<I::Key> as PartialEq>⟧.eq self.old self.new

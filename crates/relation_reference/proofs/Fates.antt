@@ -1,0 +1,137 @@
+-- What becomes of leaves.
+use Rattle.std.proofs.Common.{◌≡◌, ◌≢◌, ℕ, ◌<◌, ◌≤◌, refl, sym, ap, ◌∙◌, arith, subst, Bool, true, false, IsTrue, IsFalse, Option, Some, None, IfNone}
+use Rattle.relation_terms.specs.declared.terms.enums.Variance.{Variance}
+use Rattle.relation_terms.specs.declared.terms.part_kind.Part.{Part}
+use Rattle.relation_terms.specs.declared.terms.keys.TyKey.{TyKey}
+use Rattle.relation_terms.specs.declared.terms.keys.ConstKey.{ConstKey}
+use Rattle.relation_terms.specs.declared.terms.part_kind.Part.TheVariants.{Region, Ty, Const, ValTree, Pat, ValueType, Binder, Signature, Inputs, Existential, Object}
+use Rattle.relation_terms.specs.declared.terms.keys.RegionKey.{RegionKey}
+use Rattle.relation_terms.specs.declared.terms.numbers.UniverseIndex.{UniverseIndex}
+use Rattle.relation_terms.specs.declared.terms.ty_kind.TyKind.{TyKind}
+use Rattle.relation_terms.specs.declared.terms.ty_kind.TyKind.TheVariants.{Infer, Placeholder as TyPlaceholder}
+use Rattle.relation_terms.specs.declared.terms.ty_kind.InferTy.{InferTy}
+use Rattle.relation_terms.specs.declared.terms.ty_kind.InferTy.TheVariants.{TyVar, IntVar, FloatVar, FreshTy, FreshIntTy, FreshFloatTy}
+use Rattle.relation_terms.specs.declared.terms.const_kind.ConstKind.{ConstKind}
+use Rattle.relation_terms.specs.declared.terms.const_kind.ConstKind.TheVariants.{Infer as ConstInfer, Placeholder as ConstPlaceholder}
+use Rattle.relation_terms.specs.declared.terms.const_kind.InferConst.{InferConst}
+use Rattle.relation_terms.specs.declared.terms.const_kind.InferConst.TheVariants.{Var, Fresh}
+use Rattle.relation_terms.specs.declared.terms.placeholder.Placeholder.{Placeholder}
+use Rattle.relation_terms.specs.declared.terms.placeholder.BoundTy.{BoundTy}
+use Rattle.relation_terms.specs.declared.terms.placeholder.BoundConst.{BoundConst}
+use Rattle.relation_terms.specs.Heads.{Kind, region_kind, type_kind, const_kind, region_sort, type_sort, const_sort, BoundKind, bound_kind, bound_sort, VarKind, type_var, int_var, float_var, const_var, region_var, static_region, early_region, Atom, Leaf, leaf_sort, var_sort, variable, bound, placeholder, atom, unknown}
+use Rattle.relation_terms.specs.Trees.{Tree, leaf, node, bind, nil, cons, known}
+use Rattle.relation_terms.specs.Meaning.{Meaning, kind_tree, infer_tree, const_tree, infer_const_tree}
+use Rattle.relation_terms.specs.Parts.{part_tree, part_sort, tree_sort}
+use Rattle.type_relations.specs.Stores.{Store, universe_of}
+use Rattle.type_relations.specs.Generalising.{Stays, gives_way_to}
+use Rattle.type_relations.specs.Steps.{MakesVariable}
+use Rattle.type_relations.specs.Covered.{IsCovered}
+use Rattle.relation_reference.specs.declared.context.generalising.Fate.{Fate}
+use Rattle.relation_reference.specs.declared.context.generalising.Fate.TheVariants.{ByParts, GivesWay}
+use Rattle.relation_reference.specs.declared.context.memory.TermVid.{TermVid}
+use Rattle.relation_reference.specs.declared.context.memory.TermVid.TheVariants.{Ty as TyTerm, Const as ConstTerm}
+use Rattle.relation_reference.specs.Remembering.{vid_kind, vid_number}
+use Rattle.relation_reference.specs.Generalises.{new_kind, IsFate}
+use Rattle.relation_reference.proofs.Resolving.{not_type, not_const}
+
+leaf_path : {l m : Leaf} → leaf l ≡ leaf m → l ≡ m
+leaf_path e = cc
+
+-- A leaf that stays.
+pub stays_fate : (st : Store) (k : VarKind) (n u : ℕ) (v : Variance) (t : Tree) (o : Option VarKind) (l : Leaf) → t ≡ leaf l → l ≢ variable k n → Stays st u v l → IsFate st k n u v t o ByParts
+stays_fate st k n u v t o l e d s = λ x f. let p : l ≡ x = leaf_path (sym e ∙ f) in (λ q. d (p ∙ q), subst (Stays st u v) p s)
+
+-- A leaf that stays or gives way, by a test.
+pub tested_fate : (st : Store) (k : VarKind) (n u : ℕ) (v : Variance) (t : Tree) (o : Option VarKind) (l : Leaf) (j : VarKind) → t ≡ leaf l → l ≢ variable k n → gives_way_to l ≡ Some j → o ≡ Some j →
+    (b : Bool) → (IsTrue b → Stays st u v l) → (IsFalse b → Stays st u v l → ⊥) → (f : Fate) → (IsTrue b → f ≡ ByParts) → (IsFalse b → f ≡ GivesWay) → IsFate st k n u v t o f
+tested_fate st k n u v t o l j e d g h true yes no f a b = subst (IsFate st k n u v t o) (sym (a refl)) (stays_fate st k n u v t o l e d (yes refl))
+tested_fate st k n u v t o l j e d g h false yes no f a b = subst (IsFate st k n u v t o) (sym (b refl)) (l, j, e, d, no refl, g, h)
+
+-- A term that is neither a type or constant variable nor a placeholder beyond the universe, nor a region.
+infer_placeholder : (i : InferTy) (q : BoundKind) (w d : ℕ) → infer_tree i ≡ leaf (placeholder q w d) → ⊥
+infer_placeholder (TyVar v) q w d e = cc
+infer_placeholder (IntVar v) q w d e = cc
+infer_placeholder (FloatVar v) q w d e = cc
+infer_placeholder (FreshTy k) q w d e = cc
+infer_placeholder (FreshIntTy k) q w d e = cc
+infer_placeholder (FreshFloatTy k) q w d e = cc
+
+pub kind_placeholder : {Key Id Name : Type 0} (m : Meaning Key Id Name) (k : TyKind Key Id Name) → ((p : Placeholder (BoundTy Name)) → k ≡ TyPlaceholder p → ⊥) → (q : BoundKind) (w d : ℕ) → kind_tree m k ≡ leaf (placeholder q w d) → ⊥
+kind_placeholder m (TyPlaceholder p) h q w d e = h p refl
+kind_placeholder m (Infer i) h q w d e = infer_placeholder i q w d e
+kind_placeholder m k h q w d e = cc
+
+infer_const_placeholder : (i : InferConst) (q : BoundKind) (w d : ℕ) → infer_const_tree i ≡ leaf (placeholder q w d) → ⊥
+infer_const_placeholder (Var v) q w d e = cc
+infer_const_placeholder (Fresh k) q w d e = cc
+
+pub const_placeholder : {Key Id Name : Type 0} (m : Meaning Key Id Name) (k : ConstKind Key Id Name) → ((p : Placeholder (BoundConst Name)) → k ≡ ConstPlaceholder p → ⊥) → (q : BoundKind) (w d : ℕ) → const_tree m k ≡ leaf (placeholder q w d) → ⊥
+const_placeholder m (ConstPlaceholder p) h q w d e = h p refl
+const_placeholder m (ConstInfer i) h q w d e = infer_const_placeholder i q w d e
+const_placeholder m k h q w d e = cc
+
+-- A part that is no type and no constant is no placeholder but a region's.
+pub other_placeholder : {Key Id : Type 0} (p : Part Key Id) → ((t : TyKey Key) → p ≡ Ty t → ⊥) → ((c : ConstKey Key) → p ≡ Const c → ⊥) → (t : Tree) → tree_sort t ≡ part_sort p → (q : BoundKind) (w i : ℕ) → t ≡ leaf (placeholder q w i) → bound_sort q ≡ region_sort
+other_placeholder p a b t s (bound_kind region_kind x) w i e = refl
+other_placeholder p a b t s (bound_kind type_kind x) w i e = absurd (not_type p a (sym s ∙ ap tree_sort e))
+other_placeholder p a b t s (bound_kind const_kind x) w i e = absurd (not_const p b (sym s ∙ ap tree_sort e))
+
+-- All that is left stays.
+pub left_stays : (st : Store) (k : VarKind) (n u : ℕ) (v : Variance) (t : Tree) → IsCovered t → (tree_sort t ≡ region_sort → ⊥) →
+    ((j : TermVid) → t ≡ leaf (variable (vid_kind j) (vid_number j)) → ⊥) →
+    ((q : BoundKind) (w i : ℕ) → t ≡ leaf (placeholder q w i) → bound_sort q ≢ region_sort → w ≤ u) →
+    ((i : ℕ) → k ≡ int_var → ⊥) → ((i : ℕ) → k ≡ float_var → ⊥) → (o : Option VarKind) → IsFate st k n u v t o ByParts
+left_stays st k n u v t c s no_var no_place no_int no_float o = λ l e. go l (subst IsCovered e c) (λ q. s (ap tree_sort e ∙ q)) (λ j q. no_var j (e ∙ q)) (λ q w i p d. no_place q w i (e ∙ p) d)
+  where
+    go : (l : Leaf) → IsCovered (leaf l) → (leaf_sort l ≡ region_sort → ⊥) → ((j : TermVid) → leaf l ≡ leaf (variable (vid_kind j) (vid_number j)) → ⊥) →
+        ((q : BoundKind) (w i : ℕ) → leaf l ≡ leaf (placeholder q w i) → bound_sort q ≢ region_sort → w ≤ u) → (l ≢ variable k n) × Stays st u v l
+    go (variable type_var m) c r a b = absurd (a (TyTerm (record { 0 = m })) refl)
+    go (variable int_var m) c r a b = (λ q. no_int 0 (let z : k ≡ int_var = cc in z), tt)
+    go (variable float_var m) c r a b = (λ q. no_float 0 (let z : k ≡ float_var = cc in z), tt)
+    go (variable const_var m) c r a b = absurd (a (ConstTerm (record { 0 = m })) refl)
+    go (variable region_var m) c r a b = absurd (r refl)
+    go (bound q d i) c r a b = absurd c
+    go (placeholder (bound_kind region_kind x) w i) c r a b = absurd (r refl)
+    go (placeholder (bound_kind type_kind x) w i) c r a b = (λ q. absurd (cc), b (bound_kind type_kind x) w i refl (λ z. absurd (cc)))
+    go (placeholder (bound_kind const_kind x) w i) c r a b = (λ q. absurd (cc), b (bound_kind const_kind x) w i refl (λ z. absurd (cc)))
+    go (atom static_region) c r a b = absurd (r refl)
+    go (atom (early_region i x)) c r a b = absurd (r refl)
+    go (atom x) c r a b = (λ q. absurd (cc), tt)
+    go unknown c r a b = absurd c
+
+-- A part that is no region.
+pub not_region : {Key Id : Type 0} (p : Part Key Id) → ((r : RegionKey Key) → p ≡ Region r → ⊥) → part_sort p ≡ region_sort → ⊥
+not_region (Region r) n e = n r refl
+not_region (Ty t) n e = cc
+not_region (Const c) n e = cc
+not_region (ValTree v) n e = cc
+not_region (Pat v) n e = cc
+not_region (ValueType t) n e = cc
+not_region (Binder vs b) n e = cc
+not_region (Signature s) n e = cc
+not_region (Inputs t) n e = cc
+not_region (Existential p) n e = cc
+not_region (Object k) n e = cc
+
+-- Of which kind variables for terms are.
+pub vid_no_int : (v : TermVid) → vid_kind v ≡ int_var → ⊥
+vid_no_int (TyTerm v) e = cc
+vid_no_int (ConstTerm v) e = cc
+
+pub vid_no_float : (v : TermVid) → vid_kind v ≡ float_var → ⊥
+vid_no_float (TyTerm v) e = cc
+vid_no_float (ConstTerm v) e = cc
+
+pub new_kind_of : {Key Id : Type 0} (p : Part Key Id) (v : TermVid) → part_sort p ≡ var_sort (vid_kind v) → new_kind p ≡ Some (vid_kind v)
+new_kind_of (Ty t) (TyTerm v) e = refl
+new_kind_of (Const c) (ConstTerm v) e = refl
+new_kind_of p v e = absurd (cc)
+
+-- A variable that was made is of the kind that was asked for.
+some_path : {i j : VarKind} → Some i ≡ Some j → i ≡ j
+some_path e = cc
+
+pub made_as : (was now : Store) (u : ℕ) (x : Tree) (o : Option VarKind) (k : VarKind) (n : ℕ) → o ≡ Some k → MakesVariable was now k n u → x ≡ leaf (variable k n) →
+    (j : VarKind) → o ≡ Some j → (m : ℕ) × MakesVariable was now j m u × (x ≡ leaf (variable j m))
+made_as was now u x o k n e g q j f = let p : k ≡ j = some_path (sym e ∙ f) in
+    (n, subst (λ z. MakesVariable was now z n u) p g, q ∙ ap (λ z. leaf (variable z n)) p)

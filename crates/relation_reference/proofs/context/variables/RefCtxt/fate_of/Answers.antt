@@ -1,0 +1,70 @@
+use Rattle.std.proofs.Common.{◌≡◌, sym, ap, ◌∙◌, subst, subst₂}
+use Rattle.std.proofs.lemmas.Bool.{false≢true}
+use Rattle.relation_terms.specs.Parts.{part_tree, tree_sort}
+use Rattle.relation_terms.proofs.Sorted.{Sorted}
+use Rattle.relation_terms.proofs.Parts.{sort_known}
+use Rattle.relation_reference.specs.Tables.{store_of}
+use Rattle.relation_reference.specs.Remembering.{vid_kind, vid_number}
+use Rattle.relation_reference.specs.Generalises.{new_kind, IsFate}
+use Rattle.relation_reference.proofs.Reading.{made_in_context}
+use Rattle.relation_reference.proofs.Fates.{left_stays, not_region, vid_no_int, vid_no_float, new_kind_of}
+use Rattle.relation_reference.proofs.context.variables.RefCtxt.fate_of.Goals as goal
+
+pub returns-in-Region : goal.returns-in-Region
+returns-in-Region g c =
+    let m = g.I.Interner.meaning c.args.self.now.interner in
+    subst (λ p. IsFate (store_of m c.args.self.now.inner) (vid_kind c.args.target.now.vid) (vid_number c.args.target.now.vid)
+    c.args.target.now.universe.0 c.args.variance (part_tree m p) (new_kind p) c.fate_of_region.result) (sym c.in-Region.is)
+    c.fate_of_region.ensures
+
+pub fate_of_variable-requires : goal.fate_of_variable-requires
+fate_of_variable-requires g c =
+    let m = g.I.Interner.meaning c.args.self.now.interner in
+    record {
+      lawful = c.requires.lawful;
+      made = made_in_context (store_of m c.args.self.now.inner) (vid_kind c.in-Some.vid) (part_tree m c.args.term.now)
+          (vid_number c.in-Some.vid) c.in-Some.ensures.is c.requires.term_in;
+      other = λ e. false≢true (sym c.if-is_same_vid.false ∙ c.is_same_vid.ensures.1 e);
+    }
+
+pub returns-in-Some : goal.returns-in-Some
+returns-in-Some g c =
+    let m = g.I.Interner.meaning c.args.self.now.interner in
+    let sorted : Sorted m = record {
+      ty = g.met.I.Interner.is_ty c.args.self.now.interner;
+      region = g.met.I.Interner.is_region c.args.self.now.interner;
+      tys = g.met.I.Interner.are_tys c.args.self.now.interner;
+      const_ = g.met.I.Interner.is_const c.args.self.now.interner;
+      valtree = g.met.I.Interner.is_valtree c.args.self.now.interner;
+      args = g.met.I.Interner.are_args c.args.self.now.interner;
+      branches = g.met.I.Interner.are_branches c.args.self.now.interner;
+      pat = g.met.I.Interner.is_pat c.args.self.now.interner;
+      alternatives = g.met.I.Interner.are_alternatives c.args.self.now.interner;
+      existential_predicates = g.met.I.Interner.are_existential_predicates c.args.self.now.interner;
+    } in
+    let sort = sym (sort_known m sorted c.args.term.now c.requires.term_known) ∙ ap tree_sort c.in-Some.ensures.is in
+    subst₂ (λ t o. IsFate (store_of m c.args.self.now.inner) (vid_kind c.args.target.now.vid) (vid_number c.args.target.now.vid)
+    c.args.target.now.universe.0 c.args.variance t o c.fate_of_variable.result) (sym c.in-Some.ensures.is)
+    (sym (new_kind_of c.args.term.now c.in-Some.vid sort)) c.fate_of_variable.ensures
+
+pub returns-in_default-placeholder_universe : goal.returns-in_default-placeholder_universe
+returns-in_default-placeholder_universe g c =
+    let m = g.I.Interner.meaning c.args.self.now.interner in
+    let sorted : Sorted m = record {
+      ty = g.met.I.Interner.is_ty c.args.self.now.interner;
+      region = g.met.I.Interner.is_region c.args.self.now.interner;
+      tys = g.met.I.Interner.are_tys c.args.self.now.interner;
+      const_ = g.met.I.Interner.is_const c.args.self.now.interner;
+      valtree = g.met.I.Interner.is_valtree c.args.self.now.interner;
+      args = g.met.I.Interner.are_args c.args.self.now.interner;
+      branches = g.met.I.Interner.are_branches c.args.self.now.interner;
+      pat = g.met.I.Interner.is_pat c.args.self.now.interner;
+      alternatives = g.met.I.Interner.are_alternatives c.args.self.now.interner;
+      existential_predicates = g.met.I.Interner.are_existential_predicates c.args.self.now.interner;
+    } in
+    left_stays (store_of m c.args.self.now.inner) (vid_kind c.args.target.now.vid) (vid_number c.args.target.now.vid)
+    c.args.target.now.universe.0 c.args.variance (part_tree m c.args.term.now) c.requires.term_covered
+    (λ e. not_region c.args.term.now c.in_default.not-Region (sym (sort_known m sorted c.args.term.now c.requires.term_known) ∙ e))
+    c.in_default-variable_of.ensures.is_none
+    (λ q w i e o. absurd (o (c.in_default-placeholder_universe.ensures.is_none q w i e)))
+    (λ i. vid_no_int c.args.target.now.vid) (λ i. vid_no_float c.args.target.now.vid) (new_kind c.args.term.now)

@@ -1,0 +1,24 @@
+use Rattle.std.proofs.Common.{ap}
+use Rattle.relation_terms.specs.Heads.{type_var, const_var, region_var}
+use Rattle.relation_reference.specs.Generalises.{new_kind}
+use Rattle.relation_reference.proofs.Making.{on_err}
+use Rattle.relation_reference.proofs.Fates.{made_as}
+use Rattle.relation_reference.proofs.context.variables.RefCtxt.next_for.Goals as goal
+
+pub returns-in_err-next_ty_var_in-in-Ty-clause-refused : goal.returns-in_err-next_ty_var_in-in-Ty-clause-refused
+returns-in_err-next_ty_var_in-in-Ty-clause-refused g c = on_err _ _ c.in_err-next_ty_var_in-in-Ty.ensures.refused
+
+pub returns-in_ok-next_ty_var_in-in-Ty-clause-makes : goal.returns-in_ok-next_ty_var_in-in-Ty-clause-makes
+returns-in_ok-next_ty_var_in-in-Ty-clause-makes g c = made_as _ _ _ _ _ type_var _ (ap new_kind c.in-Ty.is) c.in_ok-next_ty_var_in-in-Ty.ensures.makes c.in_ok-next_ty_var_in-in-Ty.ensures.means
+
+pub returns-in_err-next_const_var_in-in-Const-clause-refused : goal.returns-in_err-next_const_var_in-in-Const-clause-refused
+returns-in_err-next_const_var_in-in-Const-clause-refused g c = on_err _ _ c.in_err-next_const_var_in-in-Const.ensures.refused
+
+pub returns-in_ok-next_const_var_in-in-Const-clause-makes : goal.returns-in_ok-next_const_var_in-in-Const-clause-makes
+returns-in_ok-next_const_var_in-in-Const-clause-makes g c = made_as _ _ _ _ _ const_var _ (ap new_kind c.in-Const.is) c.in_ok-next_const_var_in-in-Const.ensures.makes c.in_ok-next_const_var_in-in-Const.ensures.means
+
+pub returns-in_err-next_region_var_in-in-Region-clause-refused : goal.returns-in_err-next_region_var_in-in-Region-clause-refused
+returns-in_err-next_region_var_in-in-Region-clause-refused g c = on_err _ _ c.in_err-next_region_var_in-in-Region.ensures.refused
+
+pub returns-in_ok-next_region_var_in-in-Region-clause-makes : goal.returns-in_ok-next_region_var_in-in-Region-clause-makes
+returns-in_ok-next_region_var_in-in-Region-clause-makes g c = made_as _ _ _ _ _ region_var _ (ap new_kind c.in-Region.is) c.in_ok-next_region_var_in-in-Region.ensures.makes c.in_ok-next_region_var_in-in-Region.ensures.means
