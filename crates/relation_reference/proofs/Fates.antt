@@ -34,48 +34,6 @@ use Rattle.relation_reference.specs.Remembering.{vid_kind, vid_number}
 use Rattle.relation_reference.specs.Generalises.{new_kind, IsFate}
 use Rattle.relation_reference.proofs.Resolving.{not_type, not_const}
 
-leaf_path : {l m : Leaf} → leaf l ≡ leaf m → l ≡ m
-leaf_path e = cc
-
--- A leaf that stays.
-pub stays_fate : (st : Store) (k : VarKind) (n u : ℕ) (v : Variance) (t : Tree) (o : Option VarKind) (l : Leaf) → t ≡ leaf l → l ≢ variable k n → Stays st u v l → IsFate st k n u v t o ByParts
-stays_fate st k n u v t o l e d s = λ x f. let p : l ≡ x = leaf_path (sym e ∙ f) in (λ q. d (p ∙ q), subst (Stays st u v) p s)
-
--- A leaf that stays or gives way, by a test.
-pub tested_fate : (st : Store) (k : VarKind) (n u : ℕ) (v : Variance) (t : Tree) (o : Option VarKind) (l : Leaf) (j : VarKind) → t ≡ leaf l → l ≢ variable k n → gives_way_to l ≡ Some j → o ≡ Some j →
-    (b : Bool) → (IsTrue b → Stays st u v l) → (IsFalse b → Stays st u v l → ⊥) → (f : Fate) → (IsTrue b → f ≡ ByParts) → (IsFalse b → f ≡ GivesWay) → IsFate st k n u v t o f
-tested_fate st k n u v t o l j e d g h true yes no f a b = subst (IsFate st k n u v t o) (sym (a refl)) (stays_fate st k n u v t o l e d (yes refl))
-tested_fate st k n u v t o l j e d g h false yes no f a b = subst (IsFate st k n u v t o) (sym (b refl)) (l, j, e, d, no refl, g, h)
-
--- A term that is neither a type or constant variable nor a placeholder beyond the universe, nor a region.
-infer_placeholder : (i : InferTy) (q : BoundKind) (w d : ℕ) → infer_tree i ≡ leaf (placeholder q w d) → ⊥
-infer_placeholder (TyVar v) q w d e = cc
-infer_placeholder (IntVar v) q w d e = cc
-infer_placeholder (FloatVar v) q w d e = cc
-infer_placeholder (FreshTy k) q w d e = cc
-infer_placeholder (FreshIntTy k) q w d e = cc
-infer_placeholder (FreshFloatTy k) q w d e = cc
-
-pub kind_placeholder : {Key Id Name : Type 0} (m : Meaning Key Id Name) (k : TyKind Key Id Name) → ((p : Placeholder (BoundTy Name)) → k ≡ TyPlaceholder p → ⊥) → (q : BoundKind) (w d : ℕ) → kind_tree m k ≡ leaf (placeholder q w d) → ⊥
-kind_placeholder m (TyPlaceholder p) h q w d e = h p refl
-kind_placeholder m (Infer i) h q w d e = infer_placeholder i q w d e
-kind_placeholder m k h q w d e = cc
-
-infer_const_placeholder : (i : InferConst) (q : BoundKind) (w d : ℕ) → infer_const_tree i ≡ leaf (placeholder q w d) → ⊥
-infer_const_placeholder (Var v) q w d e = cc
-infer_const_placeholder (Fresh k) q w d e = cc
-
-pub const_placeholder : {Key Id Name : Type 0} (m : Meaning Key Id Name) (k : ConstKind Key Id Name) → ((p : Placeholder (BoundConst Name)) → k ≡ ConstPlaceholder p → ⊥) → (q : BoundKind) (w d : ℕ) → const_tree m k ≡ leaf (placeholder q w d) → ⊥
-const_placeholder m (ConstPlaceholder p) h q w d e = h p refl
-const_placeholder m (ConstInfer i) h q w d e = infer_const_placeholder i q w d e
-const_placeholder m k h q w d e = cc
-
--- A part that is no type and no constant is no placeholder but a region's.
-pub other_placeholder : {Key Id : Type 0} (p : Part Key Id) → ((t : TyKey Key) → p ≡ Ty t → ⊥) → ((c : ConstKey Key) → p ≡ Const c → ⊥) → (t : Tree) → tree_sort t ≡ part_sort p → (q : BoundKind) (w i : ℕ) → t ≡ leaf (placeholder q w i) → bound_sort q ≡ region_sort
-other_placeholder p a b t s (bound_kind region_kind x) w i e = refl
-other_placeholder p a b t s (bound_kind type_kind x) w i e = absurd (not_type p a (sym s ∙ ap tree_sort e))
-other_placeholder p a b t s (bound_kind const_kind x) w i e = absurd (not_const p b (sym s ∙ ap tree_sort e))
-
 -- All that is left stays.
 pub left_stays : (st : Store) (k : VarKind) (n u : ℕ) (v : Variance) (t : Tree) → IsCovered t → (tree_sort t ≡ region_sort → ⊥) →
     ((j : TermVid) → t ≡ leaf (variable (vid_kind j) (vid_number j)) → ⊥) →
@@ -125,7 +83,8 @@ vid_no_float (ConstTerm v) e = cc
 pub new_kind_of : {Key Id : Type 0} (p : Part Key Id) (v : TermVid) → part_sort p ≡ var_sort (vid_kind v) → new_kind p ≡ Some (vid_kind v)
 new_kind_of (Ty t) (TyTerm v) e = refl
 new_kind_of (Const c) (ConstTerm v) e = refl
-new_kind_of p v e = absurd (cc)
+new_kind_of p (TyTerm v) e = absurd (cc)
+new_kind_of p (ConstTerm v) e = absurd (cc)
 
 -- A variable that was made is of the kind that was asked for.
 some_path : {i j : VarKind} → Some i ≡ Some j → i ≡ j

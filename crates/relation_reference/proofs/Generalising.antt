@@ -36,7 +36,7 @@ use Rattle.relation_reference.specs.Tables.{store_of, IsLawful}
 use Rattle.relation_reference.specs.Generalises.{met_at, IsFate, IsSure, Keeps, HasCome, ObstacleError, Becomes, StopsAlways, BecomesAlways, GeneralisesTo, Generalises}
 use Rattle.relation_reference.proofs.Grows.{store_grows, lawful_grows}
 use Rattle.relation_reference.proofs.Resolving.{context_part}
-use Rattle.relation_reference.proofs.Met.{sure_grows, keeps_grows}
+use Rattle.relation_reference.proofs.Recalling.{sure_grows, keeps_grows}
 
 -- A leaf that is in the context from the start stays by what is recorded at the start.
 module _ (start st : Store) (u : ℕ) (v : Variance) (still : (j : VarKind) (m : ℕ) → IsMade start j m → universe_of st j m ≡ universe_of start j m) where
@@ -219,9 +219,9 @@ module _ {I Key Id Name Span S : Type 0} (meaning : I → Meaning Key Id Name) (
           new_one = still_new q.generalised (λ y z. not_met es a.keeps y (subst (λ w. Contains es (met_at v w y)) (ap (part_tree m) e) z))
 
   -- A type was met before.
-  pub recalled_answers : (v : Variance) (x : Part Key Id) (ty became : TyKey Key) → before ≡ after → p ≡ Ty ty → x ≡ Ty became → tree_sort t ≡ type_sort → IsTrue (known (m.ty became)) → IsSure eq m old →
+  pub recalled_answers : (v : Variance) (x : Part Key Id) (ty became : TyKey Key) → p ≡ Ty ty → x ≡ Ty became → tree_sort t ≡ type_sort → IsTrue (known (m.ty became)) → IsSure eq m old →
       ((es : List Met) → Keeps eq m old es → Contains es (met_at v (m.ty ty) (m.ty became))) → GeneralisesTo eq m m was was k i u (any_part v) old old t cyclic p (Ok x)
-  recalled_answers v x ty became same e f sorted sure all found = (
+  recalled_answers v x ty became e f sorted sure all found = (
     subst (λ z. IsTrue (known (part_tree m z))) (sym f) sure,
     ap part_sort f ∙ sym (ap part_sort e),
     all,
@@ -264,13 +264,13 @@ plain_of_covered : (h : Head) → IsCoveredHead h → IsPlainHead h
 plain_of_covered (alias k d) c = absurd c
 plain_of_covered h c = tt
 
-clear_next : {P : Leaf → Type 0} (j : ℕ) (ts : Tree) → j < count ts → Leaves P (firsts j ts) → Leaves P (nth j ts) → Leaves P (firsts (suc j) ts)
-clear_next zero (cons t ts) h a b = (b, tt)
-clear_next (suc j) (cons t ts) h a b = (a.0, clear_next j ts (omega (arith, h)) a.1 b)
-clear_next j (leaf l) h a b = absurd (omega (arith, h))
-clear_next j (node g ts) h a b = absurd (omega (arith, h))
-clear_next j (bind ks t) h a b = absurd (omega (arith, h))
-clear_next j nil h a b = absurd (omega (arith, h))
+clear_next : (P : Leaf → Type 0) (j : ℕ) (ts : Tree) → j < count ts → Leaves P (firsts j ts) → Leaves P (nth j ts) → Leaves P (firsts (suc j) ts)
+clear_next P zero (cons t ts) h a b = (b, tt)
+clear_next P (suc j) (cons t ts) h a b = (a.0, clear_next P j ts (omega (arith, h)) a.1 b)
+clear_next P j (leaf l) h a b = absurd (omega (arith, h))
+clear_next P j (node g ts) h a b = absurd (omega (arith, h))
+clear_next P j (bind ks t) h a b = absurd (omega (arith, h))
+clear_next P j nil h a b = absurd (omega (arith, h))
 
 stops_nth : {st : Store} {k : VarKind} {n : ℕ} {o : Obstacle} (j : ℕ) (ts : Tree) → j < count ts → Leaves (IsNoObstacle st k n) (firsts j ts) → StopsAt st k n o (nth j ts) → StopsAt st k n o ts
 stops_nth zero (cons t ts) h a s = in_first s
@@ -318,7 +318,7 @@ module _ {Key Id Name S : Type 0} (eq : MetKey Key → MetKey Key → Bool) (m n
         come = r.come;
         done = subst₂ (λ y d. PartsDone c start k i t v (record { store = was; met = es }) y (record { store = then; met = r.met }) d) (sym le) (sym ve)
             (one_done q.done (subst₂ (λ y d. Generalised c start k i (any_part y) (record { store = now; met = q.met }) d (record { store = then; met = r.met }) x) (va ∙ ap (λ y. variance_of_part y t j v) (q.come).items) at r.generalised));
-        clear = subst (λ y. Leaves (IsNoObstacle start k i) (firsts y (parts_of t))) (sym le) (clear_next j (parts_of t) below q.clear (subst (Leaves (IsNoObstacle start k i)) at r.clear));
+        clear = subst (λ y. Leaves (IsNoObstacle start k i) (firsts y (parts_of t))) (sym le) (clear_next (IsNoObstacle start k i) j (parts_of t) below q.clear (subst (Leaves (IsNoObstacle start k i)) at r.clear));
       }
 
   -- An obstacle stands in the next.
@@ -327,6 +327,10 @@ module _ {Key Id Name S : Type 0} (eq : MetKey Key → MetKey Key → Bool) (m n
       let q = w c start es h inside in
       let s = b c start q.met q.come (part_in_start start inside) in
       (s.0, stops_whole t j covered below q.clear (subst (StopsAt start k i s.0) at s.1), s.2)
+
+-- Without parts nothing was done.
+of_none : {c : Items} {start : Store} {k : VarKind} {n : ℕ} {t x y : Tree} {v : Variance} {r q : Stage} {us : Tree} {turn : Turn} → PartsDone c start k n t v r 0 q us → Generalised c start k n turn r x r y → Generalised c start k n turn r x q y
+of_none none_done g = g
 
 -- All were.
 module _ {Key Id Name S : Type 0} (eq : MetKey Key → MetKey Key → Bool) (m n : Meaning Key Id Name) (was now : Store) (k : VarKind) (i u : ℕ) (v : Variance)
@@ -348,13 +352,9 @@ module _ {Key Id Name S : Type 0} (eq : MetKey Key → MetKey Key → Bool) (m n
       record {
         met = q.met;
         come = q.come;
-        generalised = of_none d start es q.met us (subst (λ y. PartsDone d start k i (leaf x) v (record { store = was; met = es }) y (record { store = now; met = q.met }) us) e q.done) (stays g.0 st);
+        generalised = of_none (subst (λ y. PartsDone d start k i (leaf x) v (record { store = was; met = es }) y (record { store = now; met = q.met }) us) e q.done) (stays g.0 st);
         clear = clear_stays start k i v x g.0 st;
       }
-    where
-      of_none : (d : Items) (start : Store) (es met : List Met) (us : Tree) → PartsDone d start k i (leaf x) v (record { store = was; met = es }) 0 (record { store = now; met = met }) us →
-          Generalised d start k i (new_part v) (record { store = was; met = es }) (leaf x) (record { store = was; met = es }) (leaf x) → Generalised d start k i (new_part v) (record { store = was; met = es }) (leaf x) (record { store = now; met = met }) (leaf x)
-      of_none d start es met us none_done g = g
   went_whole (bind ks t) j us c s l e f w = absurd c
   went_whole nil j us c s l e f w = absurd (s refl)
   went_whole (cons t ts) j us c s l e f w = absurd (s refl)

@@ -193,7 +193,7 @@ done_none s f ts xs e = subst (Done s f 0 ts) (sym e) (record { same = refl; sur
 -- One more, in an interner that has grown.
 module _ {Key Id : Type 0} (s : Assign) (f g : Part Key Id → Tree) (stay : (x : Part Key Id) → IsTrue (known (f x)) → g x ≡ f x)
     (y : Part Key Id) where
-  fit_next : (i : ℕ) (ts : Tree) (xs : List (Part Key Id)) → i < count ts → Fit xs (firsts i ts) →
+  pub fit_next : (i : ℕ) (ts : Tree) (xs : List (Part Key Id)) → i < count ts → Fit xs (firsts i ts) →
       part_sort y ≡ tree_sort (nth i ts) → Fit (xs ++ y ∷ []) (firsts (suc i) ts)
   fit_next zero (cons t ts) [] h a q = (q, tt)
   fit_next zero (cons t ts) (x ∷ xs) h a q = absurd a
