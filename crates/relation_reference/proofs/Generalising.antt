@@ -10,7 +10,7 @@ use Rattle.relation_terms.specs.declared.terms.part_kind.Part.TheVariants.{Ty}
 use Rattle.relation_terms.specs.Heads.{region_kind, type_kind, const_kind, region_sort, type_sort, no_sort, BoundKind, bound_kind, bound_sort, VarKind, type_var, int_var, float_var, const_var, region_var, static_region, early_region, Atom, alias, Head, Leaf, variable, bound, placeholder, atom, unknown}
 use Rattle.relation_terms.specs.Trees.{Tree, leaf, node, bind, nil, cons, Leaves, known, IsList, count, nth, list_tree}
 use Rattle.relation_terms.specs.Meaning.{Meaning, Extends}
-use Rattle.relation_terms.specs.Parts.{part_tree, part_sort, tree_sort, parts_of, over}
+use Rattle.relation_terms.specs.Parts.{part_tree, part_sort, tree_sort, parts_of, over, Fit}
 use Rattle.relation_terms.proofs.Stays.{stays_same, extends_on}
 use Rattle.relation_tools.specs.declared.error.TypeError.{TypeError}
 use Rattle.relation_tools.specs.declared.error.TypeError.TheVariants.{Mismatch}
@@ -370,3 +370,37 @@ made_context u was now g low f t h = Leaves_map (IsMadeLeaf was) (IsMadeLeaf now
     each (placeholder q w e) p = tt
     each (atom x) p = p
     each unknown p = absurd p
+
+-- One more part, of the sort of the one at its place.
+pub fit_push : {Key Id : Type 0} (y : Part Key Id) (j : ℕ) (ts : Tree) (xs : List (Part Key Id)) → j < count ts → Fit xs (firsts j ts) → part_sort y ≡ tree_sort (nth j ts) → Fit (xs ++ y ∷ []) (firsts (suc j) ts)
+fit_push y zero (cons t ts) [] h a q = (q, tt)
+fit_push y zero (cons t ts) (x ∷ xs) h a q = absurd a
+fit_push y (suc j) (cons t ts) [] h a q = absurd a
+fit_push y (suc j) (cons t ts) (x ∷ xs) h a q = (a.0, fit_push y j ts xs (omega (arith, h)) a.1 q)
+fit_push y j (leaf l) xs h a q = absurd (omega (arith, h))
+fit_push y j (node b l) xs h a q = absurd (omega (arith, h))
+fit_push y j (bind ks l) xs h a q = absurd (omega (arith, h))
+fit_push y j nil xs h a q = absurd (omega (arith, h))
+
+-- An error of a part is one of the term.
+pub fails_on : {Key Id Name S : Type 0} (eq : MetKey Key → MetKey Key → Bool) (m n o : Meaning Key Id Name) (was now then : Store) (k : VarKind) (i u : ℕ) (cyclic : TypeError Key Id Name) (one other : Turn)
+    (old mid new : HashMap (MetKey Key) (TyKey Key) S) (z t : Tree) (p q : Part Key Id) (f : RelateFault Key Id Name) →
+    GeneralisesTo eq n o now then k i u one mid new z cyclic q (Err f) → ((e : TypeError Key Id Name) → StopsAlways eq n o now then k i u one mid new z cyclic e → StopsAlways eq m o was then k i u other old new t cyclic e) →
+    (r : Result (Part Key Id) (RelateFault Key Id Name)) → r ≡ Err f → GeneralisesTo eq m o was then k i u other old new t cyclic p r
+fails_on {Key = Key} {Id = Id} {Name = Name} eq m n o was now then k i u cyclic one other old mid new z t p q f h g r e = subst (GeneralisesTo eq m o was then k i u other old new t cyclic p) (sym e) (go f h)
+  where
+    go : (f : RelateFault Key Id Name) → GeneralisesTo eq n o now then k i u one mid new z cyclic q (Err f) → GeneralisesTo eq m o was then k i u other old new t cyclic p (Err f)
+    go (Unrelated e) h = g e h
+    go Budget h = h
+    go Memory h = tt
+
+-- What a term became it is while the interner grows.
+pub becomes_grows : {Key Id Name S : Type 0} (eq : MetKey Key → MetKey Key → Bool) {m n o : Meaning Key Id Name} (grown : Extends n o) (was now later : Store) (k : VarKind) (i u : ℕ) (turn : Turn)
+    (old new : HashMap (MetKey Key) (TyKey Key) S) (t x y : Tree) → IsSure eq n new → later ≡ now → y ≡ x → BecomesAlways eq m n was now k i u turn old new t x → BecomesAlways eq m o was later k i u turn old new t y
+becomes_grows eq {m = m} {n = n} {o = o} grown was now later k i u turn old new t x y sure st same h = λ c start es a b.
+    let q = h c start es a b in
+    subst₂ (λ s z. Becomes eq m o was s k i u turn old new t c start es z) (sym st) (sym same)
+    (becomes c start es q)
+  where
+    becomes : (c : Items) (start : Store) (es : List Met) → Becomes eq m n was now k i u turn old new t c start es x → Becomes eq m o was now k i u turn old new t c start es x
+    becomes c start es q = record { met = q.met; come = come_grows eq k i u c start grown new sure now q.met q.come; generalised = q.generalised; clear = q.clear }

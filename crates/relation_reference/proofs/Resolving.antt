@@ -193,7 +193,7 @@ done_none s f ts xs e = subst (Done s f 0 ts) (sym e) (record { same = refl; sur
 -- One more, in an interner that has grown.
 module _ {Key Id : Type 0} (s : Assign) (f g : Part Key Id → Tree) (stay : (x : Part Key Id) → IsTrue (known (f x)) → g x ≡ f x)
     (y : Part Key Id) where
-  pub fit_next : (i : ℕ) (ts : Tree) (xs : List (Part Key Id)) → i < count ts → Fit xs (firsts i ts) →
+  fit_next : (i : ℕ) (ts : Tree) (xs : List (Part Key Id)) → i < count ts → Fit xs (firsts i ts) →
       part_sort y ≡ tree_sort (nth i ts) → Fit (xs ++ y ∷ []) (firsts (suc i) ts)
   fit_next zero (cons t ts) [] h a q = (q, tt)
   fit_next zero (cons t ts) (x ∷ xs) h a q = absurd a
@@ -240,7 +240,7 @@ pub unchanged_all : (s : Assign) (i : ℕ) (ts : Tree) → IsList ts → i ≡ c
 unchanged_all s i ts l e h =
     subst (λ z. apply s z ≡ z) (ap (λ n. firsts n ts) e ∙ firsts_all ts l) h
 
-over_itself : (t : Tree) → over t (parts_of t) ≡ t
+pub over_itself : (t : Tree) → over t (parts_of t) ≡ t
 over_itself (leaf l) = refl
 over_itself (node h ts) = refl
 over_itself (bind ks t) = refl

@@ -329,7 +329,6 @@ impl<I: Interner> RefCtxt<I> {
 
     // The term as a target is bound to it at a variance. A type that was met before becomes what it became then.
     #[cycle(generalise)]
-    #[tactic(none)]
     fn generalise_part(
         &mut self,
         term: &PartOf<I>,
@@ -361,7 +360,6 @@ impl<I: Interner> RefCtxt<I> {
 
     // The same of a term that was not met.
     #[cycle(generalise)]
-    #[tactic(none)]
     fn generalise_new(
         &mut self,
         term: &PartOf<I>,
@@ -390,7 +388,6 @@ impl<I: Interner> RefCtxt<I> {
 
     // The same of a term that stays as a form. Where its parts become what they are, nothing is made.
     #[cycle(generalise)]
-    #[tactic(none)]
     fn generalise_parts(
         &mut self,
         term: &PartOf<I>,

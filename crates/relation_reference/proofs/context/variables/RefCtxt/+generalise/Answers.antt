@@ -1,25 +1,30 @@
-use Rattle.std.proofs.Common.{rules, arith, refl, sym, ap, ap₂, ◌∙◌, ◌≡◌, ◌<◌, ◌≤◌, ◌+◌, ◌*◌, suc, subst, subst₂, IsTrue, []}
+use Rattle.std.proofs.Common.{rules, arith, refl, sym, ap, ap₂, ◌∙◌, Err, ◌≡◌, ◌<◌, ◌≤◌, ◌+◌, ◌*◌, suc, subst, subst₂, IsTrue, []}
 use Rattle.std.proofs.lemmas.Bool.{and_parts}
 use Rattle.relation_terms.specs.Trees.{size, known, count, nth, list_tree}
-use Rattle.relation_terms.specs.Parts.{part_tree, parts_of, tree_sort, over, Fit}
+use Rattle.relation_terms.specs.Parts.{part_tree, part_sort, parts_of, tree_sort, over, Fit}
 use Rattle.relation_terms.proofs.Stays.{knows_as, extends_on, stays_same, stays_list}
 use Rattle.relation_terms.proofs.Sorted.{Sorted}
 use Rattle.relation_terms.proofs.Members.{if_ok}
 use Rattle.relation_terms.proofs.Parts.{sort_known, stays_part}
+use Rattle.relation_terms.specs.declared.terms.part_kind.Part.TheVariants.{Ty}
 use Rattle.type_relations.specs.Covered.{IsCovered}
+use Rattle.type_relations.specs.Lawful.{items_of}
+use Rattle.type_relations.proofs.Passing.{as_err}
 use Rattle.type_relations.specs.Stores.{InContext}
-use Rattle.type_relations.specs.Generalising.{any_part, new_part, MakesUnbound, makes_none, makes_one}
+use Rattle.type_relations.specs.Generalising.{any_part, new_part, variance_of_part, MakesUnbound, makes_none, makes_one}
 use Rattle.type_relations.proofs.Generalising.{gives_no_number}
 use Rattle.type_relations.proofs.NewVariables.{makes_then}
-use Rattle.type_relations.proofs.Lists.{firsts, firsts_more, snoc, list_push, push_known}
+use Rattle.type_relations.proofs.Lists.{firsts, firsts_more, firsts_all, snoc, list_push, push_known}
 use Rattle.relation_reference.specs.Tables.{store_of}
 use Rattle.relation_reference.specs.Remembering.{vid_kind, vid_number}
 use Rattle.relation_reference.specs.declared.context.generalising.MetKey.{MetKey}
-use Rattle.relation_reference.proofs.Recalling.{met_eq}
-use Rattle.relation_reference.proofs.Resolving.{not_type, context_part, fit_next}
+use Rattle.relation_reference.proofs.Recalling.{met_eq, sure_grows}
+use Rattle.relation_reference.proofs.Resolving.{not_type, some_sort, over_itself, context_part}
+use Rattle.relation_reference.proofs.Grows.{store_grows, lawful_grows}
+use Rattle.relation_reference.specs.Generalises.{new_kind, BecomesAlways}
 use Rattle.relation_reference.proofs.Outside.{part_smaller}
 use Rattle.relation_reference.proofs.Covering.{part_covered}
-use Rattle.relation_reference.proofs.Generalising.{memory_answers, stops_cycle, stops_beyond, gives_answers, generalises_no_type, not_type_sort, went_none, went_next, went_stops, went_whole, made_context, recalled_answers, met_answers, fails_any}
+use Rattle.relation_reference.proofs.Generalising.{memory_answers, stops_cycle, stops_beyond, gives_answers, generalises_no_type, not_type_sort, went_none, went_next, went_stops, went_whole, made_context, recalled_answers, met_answers, fails_any, fails_on, fit_push, becomes_grows}
 use Rattle.relation_reference.proofs.context.variables.RefCtxt.+generalise.Goals as goal
 
 pub generalise_new-next_for-requires-clause-has : goal.generalise_new-next_for-requires-clause-has
@@ -375,3 +380,568 @@ generalise_parts-generalise_part-requires g t' c κs within =
     let covered = subst IsCovered (sym at) (part_covered t j below c.requires.term_covered) in
     let sure = inv.all in
     search rules
+
+pub generalise_new-fate_of-requires-clause-lawful : goal.generalise_new-fate_of-requires-clause-lawful
+generalise_new-fate_of-requires-clause-lawful g t' c =
+    c.requires.lawful
+
+pub generalise_new-fate_of-requires-clause-term_known : goal.generalise_new-fate_of-requires-clause-term_known
+generalise_new-fate_of-requires-clause-term_known g t' c =
+    c.requires.term_known
+
+pub generalise_new-fate_of-requires-clause-term_in : goal.generalise_new-fate_of-requires-clause-term_in
+generalise_new-fate_of-requires-clause-term_in g t' c =
+    c.requires.term_in
+
+pub generalise_new-fate_of-requires-clause-term_covered : goal.generalise_new-fate_of-requires-clause-term_covered
+generalise_new-fate_of-requires-clause-term_covered g t' c =
+    c.requires.term_covered
+
+pub generalise_new-next_for-requires-clause-lawful : goal.generalise_new-next_for-requires-clause-lawful
+generalise_new-next_for-requires-clause-lawful g t' c =
+    c.requires.lawful
+
+pub generalise_new-next_for-requires-clause-below : goal.generalise_new-next_for-requires-clause-below
+generalise_new-next_for-requires-clause-below g t' c =
+    c.requires.below
+
+pub generalise_new-returns-in-ByParts : goal.generalise_new-returns-in-ByParts
+generalise_new-returns-in-ByParts g t' c =
+    c.generalise_parts.ensures
+
+pub generalise_part-recall-requires-clause-known : goal.generalise_part-recall-requires-clause-known
+generalise_part-recall-requires-clause-known g t' c =
+    let m = g.I.Interner.meaning c.args.self.now.interner in
+    subst (λ q. IsTrue (known (part_tree m q))) c.in-Ty.is c.requires.term_known
+
+pub generalise_part-recall-requires-clause-sure : goal.generalise_part-recall-requires-clause-sure
+generalise_part-recall-requires-clause-sure g t' c =
+    c.requires.sure
+
+pub generalise_part-returns-in-Some : goal.generalise_part-returns-in-Some
+generalise_part-returns-in-Some g t' c =
+    let meaning = g.I.Interner.meaning in
+    let m = meaning c.args.self.now.interner in
+    let eq = met_eq g.I.Key.PartialEq.eq in
+    let k = vid_kind c.args.target.now.vid in
+    let i = vid_number c.args.target.now.vid in
+    let u = c.args.target.now.universe.0 in
+    let was = store_of m c.args.self.now.inner in
+    let p = c.args.term.now in
+    let t = part_tree m p in
+    let v = c.args.variance in
+    let sorted : Sorted m = record {
+      ty = g.met.I.Interner.is_ty c.args.self.now.interner;
+      region = g.met.I.Interner.is_region c.args.self.now.interner;
+      tys = g.met.I.Interner.are_tys c.args.self.now.interner;
+      const_ = g.met.I.Interner.is_const c.args.self.now.interner;
+      valtree = g.met.I.Interner.is_valtree c.args.self.now.interner;
+      args = g.met.I.Interner.are_args c.args.self.now.interner;
+      branches = g.met.I.Interner.are_branches c.args.self.now.interner;
+      pat = g.met.I.Interner.is_pat c.args.self.now.interner;
+      alternatives = g.met.I.Interner.are_alternatives c.args.self.now.interner;
+      existential_predicates = g.met.I.Interner.are_existential_predicates c.args.self.now.interner;
+    } in
+    let sort = sort_known m sorted p c.requires.term_known ∙ ap part_sort c.in-Ty.is in
+    record {
+      lawful = c.requires.lawful;
+      grown = stays_same m;
+      universe = refl;
+      makes = makes_none;
+      answers = recalled_answers meaning eq c.args.self.now c.args.self.now k i u c.args.target.now.cyclic c.args.met.now c.args.met.now p v (Ty c.in-Some.became) c.in-Ty.ty c.in-Some.became
+          c.in-Ty.is refl sort c.in-Some.ensures.sure c.requires.sure c.in-Some.ensures.met;
+    }
+
+pub generalise_part-returns-in_err-became : goal.generalise_part-returns-in_err-became
+generalise_part-returns-in_err-became g t' c =
+    let meaning = g.I.Interner.meaning in
+    let m = meaning c.args.self.now.interner in
+    let eq = met_eq g.I.Key.PartialEq.eq in
+    let k = vid_kind c.args.target.now.vid in
+    let i = vid_number c.args.target.now.vid in
+    let u = c.args.target.now.universe.0 in
+    let was = store_of m c.args.self.now.inner in
+    let p = c.args.term.now in
+    let t = part_tree m p in
+    let v = c.args.variance in
+    let h = c.in_err-became.ensures in
+    let f = c.in_err-became.field-0.0 in
+    record {
+      lawful = h.lawful;
+      grown = h.grown;
+      universe = h.universe;
+      makes = h.makes;
+      answers = fails_any meaning eq c.args.self.now c.generalise_new-2.new.self k i u c.args.target.now.cyclic c.args.met.now c.generalise_new-2.new.met p (new_part v) (any_part v) (Err f)
+          c.from_residual.result f refl (as_err c.from_residual.result f c.from_residual.ensures.0 c.from_residual.ensures.1) h.answers;
+    }
+
+pub generalise_part-the_ty-requires : goal.generalise_part-the_ty-requires
+generalise_part-the_ty-requires g t' c =
+    c.in_ok-became.ensures.answers.1 ∙ ap part_sort c.in-Ty.is
+
+pub generalise_part-keep-requires-clause-ty_known : goal.generalise_part-keep-requires-clause-ty_known
+generalise_part-keep-requires-clause-ty_known g t' c =
+    let meaning = g.I.Interner.meaning in
+    let m = meaning c.args.self.now.interner in
+    let eq = met_eq g.I.Key.PartialEq.eq in
+    let k = vid_kind c.args.target.now.vid in
+    let i = vid_number c.args.target.now.vid in
+    let u = c.args.target.now.universe.0 in
+    let was = store_of m c.args.self.now.inner in
+    let p = c.args.term.now in
+    let t = part_tree m p in
+    let v = c.args.variance in
+    let n = meaning c.generalise_new-2.new.self.interner in
+    let h = c.in_ok-became.ensures in
+    let there = subst (λ q. IsTrue (known (part_tree m q))) c.in-Ty.is c.requires.term_known in
+    knows_as (m.ty c.in-Ty.ty) (n.ty c.in-Ty.ty) (h.grown.ty c.in-Ty.ty there) there
+
+pub generalise_part-keep-requires-clause-became_known : goal.generalise_part-keep-requires-clause-became_known
+generalise_part-keep-requires-clause-became_known g t' c =
+    let meaning = g.I.Interner.meaning in
+    let m = meaning c.args.self.now.interner in
+    let eq = met_eq g.I.Key.PartialEq.eq in
+    let k = vid_kind c.args.target.now.vid in
+    let i = vid_number c.args.target.now.vid in
+    let u = c.args.target.now.universe.0 in
+    let was = store_of m c.args.self.now.inner in
+    let p = c.args.term.now in
+    let t = part_tree m p in
+    let v = c.args.variance in
+    let n = meaning c.generalise_new-2.new.self.interner in
+    let h = c.in_ok-became.ensures in
+    let there = subst (λ q. IsTrue (known (part_tree m q))) c.in-Ty.is c.requires.term_known in
+    subst (λ q. IsTrue (known (part_tree n q))) (sym c.the_ty.ensures) h.answers.0
+
+pub generalise_part-keep-requires-clause-sure : goal.generalise_part-keep-requires-clause-sure
+generalise_part-keep-requires-clause-sure g t' c =
+    let meaning = g.I.Interner.meaning in
+    let m = meaning c.args.self.now.interner in
+    let eq = met_eq g.I.Key.PartialEq.eq in
+    let k = vid_kind c.args.target.now.vid in
+    let i = vid_number c.args.target.now.vid in
+    let u = c.args.target.now.universe.0 in
+    let was = store_of m c.args.self.now.inner in
+    let p = c.args.term.now in
+    let t = part_tree m p in
+    let v = c.args.variance in
+    let n = meaning c.generalise_new-2.new.self.interner in
+    let h = c.in_ok-became.ensures in
+    let there = subst (λ q. IsTrue (known (part_tree m q))) c.in-Ty.is c.requires.term_known in
+    h.answers.2
+
+pub generalise_part-returns-in_err-keep : goal.generalise_part-returns-in_err-keep
+generalise_part-returns-in_err-keep g t' c =
+    let meaning = g.I.Interner.meaning in
+    let m = meaning c.args.self.now.interner in
+    let eq = met_eq g.I.Key.PartialEq.eq in
+    let k = vid_kind c.args.target.now.vid in
+    let i = vid_number c.args.target.now.vid in
+    let u = c.args.target.now.universe.0 in
+    let was = store_of m c.args.self.now.inner in
+    let p = c.args.term.now in
+    let t = part_tree m p in
+    let v = c.args.variance in
+    let n = meaning c.generalise_new-2.new.self.interner in
+    let h = c.in_ok-became.ensures in
+    let there = subst (λ q. IsTrue (known (part_tree m q))) c.in-Ty.is c.requires.term_known in
+    record {
+      lawful = h.lawful;
+      grown = h.grown;
+      universe = h.universe;
+      makes = h.makes;
+      answers = memory_answers meaning eq c.args.self.now c.generalise_new-2.new.self k i u c.args.target.now.cyclic c.args.met.now c.keep.new.met p (any_part v) c.from_residual-in_err-keep.result
+          c.from_residual-in_err-keep.ensures.0 c.from_residual-in_err-keep.ensures.1;
+    }
+
+pub generalise_part-returns : goal.generalise_part-returns
+generalise_part-returns g t' c =
+    let meaning = g.I.Interner.meaning in
+    let m = meaning c.args.self.now.interner in
+    let eq = met_eq g.I.Key.PartialEq.eq in
+    let k = vid_kind c.args.target.now.vid in
+    let i = vid_number c.args.target.now.vid in
+    let u = c.args.target.now.universe.0 in
+    let was = store_of m c.args.self.now.inner in
+    let p = c.args.term.now in
+    let t = part_tree m p in
+    let v = c.args.variance in
+    let n = meaning c.generalise_new-2.new.self.interner in
+    let h = c.in_ok-became.ensures in
+    let there = subst (λ q. IsTrue (known (part_tree m q))) c.in-Ty.is c.requires.term_known in
+    let sorted : Sorted m = record {
+      ty = g.met.I.Interner.is_ty c.args.self.now.interner;
+      region = g.met.I.Interner.is_region c.args.self.now.interner;
+      tys = g.met.I.Interner.are_tys c.args.self.now.interner;
+      const_ = g.met.I.Interner.is_const c.args.self.now.interner;
+      valtree = g.met.I.Interner.is_valtree c.args.self.now.interner;
+      args = g.met.I.Interner.are_args c.args.self.now.interner;
+      branches = g.met.I.Interner.are_branches c.args.self.now.interner;
+      pat = g.met.I.Interner.is_pat c.args.self.now.interner;
+      alternatives = g.met.I.Interner.are_alternatives c.args.self.now.interner;
+      existential_predicates = g.met.I.Interner.are_existential_predicates c.args.self.now.interner;
+    } in
+    let sort = sort_known m sorted p c.requires.term_known ∙ ap part_sort c.in-Ty.is in
+    record {
+      lawful = h.lawful;
+      grown = h.grown;
+      universe = h.universe;
+      makes = h.makes;
+      answers = met_answers meaning eq c.args.self.now c.generalise_new-2.new.self k i u c.args.target.now.cyclic c.args.met.now c.generalise_new-2.new.met p v c.keep.new.met c.in_ok-became.became
+          c.in-Ty.ty c.the_ty.result c.in-Ty.is (sym c.the_ty.ensures) sort (h.grown.ty c.in-Ty.ty there) c.in_ok-keep.ensures.sure
+          c.in_ok-keep.ensures.keeps c.in_default-recall.ensures.not_met h.answers;
+    }
+
+pub generalise_parts-parts_count-i-end-requires : goal.generalise_parts-parts_count-i-end-requires
+generalise_parts-parts_count-i-end-requires g t' c =
+    c.requires.term_known
+
+pub generalise_parts-returns-in_err-became : goal.generalise_parts-returns-in_err-became
+generalise_parts-returns-in_err-became g t' c =
+    let meaning = g.I.Interner.meaning in
+    let m = meaning c.args.self.now.interner in
+    let eq = met_eq g.I.Key.PartialEq.eq in
+    let k = vid_kind c.args.target.now.vid in
+    let i = vid_number c.args.target.now.vid in
+    let u = c.args.target.now.universe.0 in
+    let was = store_of m c.args.self.now.inner in
+    let p = c.args.term.now in
+    let t = part_tree m p in
+    let v = c.args.variance in
+    let n = meaning c.loop-i.self.interner in
+    let now = store_of n c.loop-i.self.inner in
+    let inv = c.loop-i.invariant in
+    let e : part_tree n p ≡ t = stays_part inv.grown p c.requires.term_known in
+    let j = c.loop-i.i in
+    let us = list_tree (part_tree n) c.loop-i.parts.items in
+    let counted = c.parts_count-i-end.ensures.counts in
+    let test = c.loop-i-test.true in
+    let below : j < count (parts_of t) = omega (arith, counted, test) in
+    let z = c.part-next.result in
+    let at : part_tree n z ≡ nth j (parts_of t) = c.part-next.ensures.means ∙ ap (λ w. nth j (parts_of w)) e in
+    let o = meaning c.generalise_part.new.self.interner in
+    let then = store_of o c.generalise_part.new.self.inner in
+    let h = c.in_err-became.ensures in
+    let f = c.in_err-became.field-0.0 in
+    record {
+      lawful = h.lawful;
+      grown = extends_on inv.grown h.grown;
+      universe = h.universe ∙ inv.universe;
+      makes = makes_then inv.makes h.makes;
+      answers = fails_on eq m n o was now then k i u c.args.target.now.cyclic (any_part c.variance_of-at.result) (new_part v) c.args.met.now c.loop-i.met
+          c.generalise_part.new.met (part_tree n z) t p z f h.answers
+          (λ e2. went_stops eq m n o was now then k i u v c.args.met.now c.loop-i.met c.generalise_part.new.met t
+          c.parts_count-i-end.ensures.is_list j below us inv.went inv.grown (part_tree n z) at c.variance_of-at.result c.requires.term_covered)
+          c.from_residual.result (as_err c.from_residual.result f c.from_residual.ensures.0 c.from_residual.ensures.1);
+    }
+
+pub generalise_parts-is_same-requires-clause-part_known : goal.generalise_parts-is_same-requires-clause-part_known
+generalise_parts-is_same-requires-clause-part_known g t' c =
+    c.in_ok-became.ensures.answers.0
+
+pub generalise_parts-is_same-requires-clause-other_known : goal.generalise_parts-is_same-requires-clause-other_known
+generalise_parts-is_same-requires-clause-other_known g t' c =
+    let n = g.I.Interner.meaning c.loop-i.self.interner in
+    let o = g.I.Interner.meaning c.generalise_part.new.self.interner in
+    let z = c.part-next.result in
+    knows_as (part_tree n z) (part_tree o z) (stays_part c.in_ok-became.ensures.grown z c.part-next.ensures.sure)
+    c.part-next.ensures.sure
+
+pub generalise_parts-is_same-requires-clause-same_sort : goal.generalise_parts-is_same-requires-clause-same_sort
+generalise_parts-is_same-requires-clause-same_sort g t' c =
+    sym c.in_ok-became.ensures.answers.1
+
+pub generalise_parts-returns-in_err-push : goal.generalise_parts-returns-in_err-push
+generalise_parts-returns-in_err-push g t' c =
+    let meaning = g.I.Interner.meaning in
+    let m = meaning c.args.self.now.interner in
+    let eq = met_eq g.I.Key.PartialEq.eq in
+    let k = vid_kind c.args.target.now.vid in
+    let i = vid_number c.args.target.now.vid in
+    let u = c.args.target.now.universe.0 in
+    let was = store_of m c.args.self.now.inner in
+    let p = c.args.term.now in
+    let t = part_tree m p in
+    let v = c.args.variance in
+    let n = meaning c.loop-i.self.interner in
+    let now = store_of n c.loop-i.self.inner in
+    let inv = c.loop-i.invariant in
+    let e : part_tree n p ≡ t = stays_part inv.grown p c.requires.term_known in
+    let j = c.loop-i.i in
+    let us = list_tree (part_tree n) c.loop-i.parts.items in
+    let h = c.in_ok-became.ensures in
+    record {
+      lawful = h.lawful;
+      grown = extends_on inv.grown h.grown;
+      universe = h.universe ∙ inv.universe;
+      makes = makes_then inv.makes h.makes;
+      answers = memory_answers meaning eq c.args.self.now c.generalise_part.new.self k i u c.args.target.now.cyclic c.args.met.now c.generalise_part.new.met p (new_part v) c.from_residual-in_err-push.result
+          c.from_residual-in_err-push.ensures.0 c.from_residual-in_err-push.ensures.1;
+    }
+
+pub generalise_parts-loop-i-preserved : goal.generalise_parts-loop-i-preserved
+generalise_parts-loop-i-preserved g t' c =
+    let meaning = g.I.Interner.meaning in
+    let m = meaning c.args.self.now.interner in
+    let eq = met_eq g.I.Key.PartialEq.eq in
+    let k = vid_kind c.args.target.now.vid in
+    let i = vid_number c.args.target.now.vid in
+    let u = c.args.target.now.universe.0 in
+    let was = store_of m c.args.self.now.inner in
+    let p = c.args.term.now in
+    let t = part_tree m p in
+    let v = c.args.variance in
+    let n = meaning c.loop-i.self.interner in
+    let now = store_of n c.loop-i.self.inner in
+    let inv = c.loop-i.invariant in
+    let e : part_tree n p ≡ t = stays_part inv.grown p c.requires.term_known in
+    let j = c.loop-i.i in
+    let us = list_tree (part_tree n) c.loop-i.parts.items in
+    let counted = c.parts_count-i-end.ensures.counts in
+    let test = c.loop-i-test.true in
+    let below : j < count (parts_of t) = omega (arith, counted, test) in
+    let z = c.part-next.result in
+    let at : part_tree n z ≡ nth j (parts_of t) = c.part-next.ensures.means ∙ ap (λ w. nth j (parts_of w)) e in
+    let o = meaning c.generalise_part.new.self.interner in
+    let then = store_of o c.generalise_part.new.self.inner in
+    let sorted : Sorted n = record {
+      ty = g.met.I.Interner.is_ty c.loop-i.self.interner;
+      region = g.met.I.Interner.is_region c.loop-i.self.interner;
+      tys = g.met.I.Interner.are_tys c.loop-i.self.interner;
+      const_ = g.met.I.Interner.is_const c.loop-i.self.interner;
+      valtree = g.met.I.Interner.is_valtree c.loop-i.self.interner;
+      args = g.met.I.Interner.are_args c.loop-i.self.interner;
+      branches = g.met.I.Interner.are_branches c.loop-i.self.interner;
+      pat = g.met.I.Interner.is_pat c.loop-i.self.interner;
+      alternatives = g.met.I.Interner.are_alternatives c.loop-i.self.interner;
+      existential_predicates = g.met.I.Interner.are_existential_predicates c.loop-i.self.interner;
+    } in
+    let h = c.in_ok-became.ensures in
+    let a = h.answers in
+    let w = c.in_ok-became.became in
+    let xs = c.loop-i.parts.items in
+    let stay = stays_list (part_tree n) (part_tree o) xs (stays_part h.grown) inv.sure in
+    let next : j + 1 ≡ suc j = omega arith in
+    let items = c.in_ok-push.ensures.items in
+    let stays : part_tree o z ≡ part_tree n z = stays_part h.grown z c.part-next.ensures.sure in
+    let sort = a.1 ∙ sym (sort_known n sorted z c.part-next.ensures.sure) ∙ ap tree_sort at in
+    let pushed = ap (list_tree (part_tree o)) items ∙ list_push (part_tree o) xs w ∙ ap (λ y. snoc y (part_tree o w)) stay in
+    record {
+      lawful = h.lawful;
+      grown = extends_on inv.grown h.grown;
+      universe = h.universe ∙ inv.universe;
+      makes = makes_then inv.makes h.makes;
+      all = a.2;
+      sure = subst (λ ys. IsTrue (known (list_tree (part_tree o) ys))) (sym items)
+          (push_known (part_tree o) xs w (knows_as us (list_tree (part_tree o) xs) stay inv.sure) a.0);
+      fit = subst₂ (λ ys d. Fit ys (firsts d (parts_of t))) (sym items) (sym next) (fit_push w j (parts_of t) xs below inv.fit sort);
+      went = went_next eq m n o was now then k i u v c.args.met.now c.loop-i.met c.generalise_part.new.met t
+          c.parts_count-i-end.ensures.is_list j below us inv.went inv.grown (part_tree n z) at c.variance_of-at.result
+          (c.variance_of-at.ensures ∙ ap (λ y. variance_of_part (items_of n) y j v) e) (part_tree o w) a.3 (j + 1)
+          (list_tree (part_tree o) c.push.new.self.items) next pushed;
+      unchanged = λ q.
+          let both = and_parts c.loop-i.same c.is_same.result q in
+          pushed ∙ ap₂ snoc (inv.unchanged both.0) (c.is_same.ensures.one both.1 ∙ stays ∙ at) ∙ sym (firsts_more j (parts_of t) below)
+          ∙ ap (λ d. firsts d (parts_of t)) (sym next);
+    }
+
+pub generalise_parts-returns-then-same : goal.generalise_parts-returns-then-same
+generalise_parts-returns-then-same g t' c =
+    let meaning = g.I.Interner.meaning in
+    let m = meaning c.args.self.now.interner in
+    let eq = met_eq g.I.Key.PartialEq.eq in
+    let k = vid_kind c.args.target.now.vid in
+    let i = vid_number c.args.target.now.vid in
+    let u = c.args.target.now.universe.0 in
+    let was = store_of m c.args.self.now.inner in
+    let p = c.args.term.now in
+    let t = part_tree m p in
+    let v = c.args.variance in
+    let n = meaning c.loop-i.self.interner in
+    let now = store_of n c.loop-i.self.inner in
+    let inv = c.loop-i.invariant in
+    let e : part_tree n p ≡ t = stays_part inv.grown p c.requires.term_known in
+    let j = c.loop-i.i in
+    let us = list_tree (part_tree n) c.loop-i.parts.items in
+    let counted = c.parts_count-i-end.ensures.counts in
+    let test = c.loop-i-test.false in
+    let end = c.loop-i.auto.i-end in
+    let all : j ≡ count (parts_of t) = omega (arith, counted, test, end) in
+    let sorted : Sorted m = record {
+      ty = g.met.I.Interner.is_ty c.args.self.now.interner;
+      region = g.met.I.Interner.is_region c.args.self.now.interner;
+      tys = g.met.I.Interner.are_tys c.args.self.now.interner;
+      const_ = g.met.I.Interner.is_const c.args.self.now.interner;
+      valtree = g.met.I.Interner.is_valtree c.args.self.now.interner;
+      args = g.met.I.Interner.are_args c.args.self.now.interner;
+      branches = g.met.I.Interner.are_branches c.args.self.now.interner;
+      pat = g.met.I.Interner.is_pat c.args.self.now.interner;
+      alternatives = g.met.I.Interner.are_alternatives c.args.self.now.interner;
+      existential_predicates = g.met.I.Interner.are_existential_predicates c.args.self.now.interner;
+    } in
+    let whole : firsts j (parts_of t) ≡ parts_of t = ap (λ d. firsts d (parts_of t)) all ∙ firsts_all (parts_of t) c.parts_count-i-end.ensures.is_list in
+    let became = went_whole eq m n was now k i u v c.args.met.now c.loop-i.met (new_kind p) t j us c.requires.term_covered (λ s. some_sort p (sym (sort_known m sorted p c.requires.term_known) ∙ s))
+    c.parts_count-i-end.ensures.is_list all c.requires.stays inv.went in
+    record {
+      lawful = inv.lawful;
+      grown = inv.grown;
+      universe = inv.universe;
+      makes = inv.makes;
+      answers = (
+        knows_as t (part_tree n p) e c.requires.term_known,
+        refl,
+        inv.all,
+        subst (BecomesAlways eq m n was now k i u (new_part v) c.args.met.now c.loop-i.met t)
+            (ap (over t) (inv.unchanged c.if-same.true ∙ whole) ∙ over_itself t ∙ sym e) became,
+      );
+    }
+
+pub generalise_parts-with_parts-requires-clause-term_known : goal.generalise_parts-with_parts-requires-clause-term_known
+generalise_parts-with_parts-requires-clause-term_known g t' c =
+    let meaning = g.I.Interner.meaning in
+    let m = meaning c.args.self.now.interner in
+    let eq = met_eq g.I.Key.PartialEq.eq in
+    let k = vid_kind c.args.target.now.vid in
+    let i = vid_number c.args.target.now.vid in
+    let u = c.args.target.now.universe.0 in
+    let was = store_of m c.args.self.now.inner in
+    let p = c.args.term.now in
+    let t = part_tree m p in
+    let v = c.args.variance in
+    let n = meaning c.loop-i.self.interner in
+    let now = store_of n c.loop-i.self.inner in
+    let inv = c.loop-i.invariant in
+    let e : part_tree n p ≡ t = stays_part inv.grown p c.requires.term_known in
+    let j = c.loop-i.i in
+    let us = list_tree (part_tree n) c.loop-i.parts.items in
+    knows_as t (part_tree n p) e c.requires.term_known
+
+pub generalise_parts-with_parts-requires-clause-parts_known : goal.generalise_parts-with_parts-requires-clause-parts_known
+generalise_parts-with_parts-requires-clause-parts_known g t' c =
+    let meaning = g.I.Interner.meaning in
+    let m = meaning c.args.self.now.interner in
+    let eq = met_eq g.I.Key.PartialEq.eq in
+    let k = vid_kind c.args.target.now.vid in
+    let i = vid_number c.args.target.now.vid in
+    let u = c.args.target.now.universe.0 in
+    let was = store_of m c.args.self.now.inner in
+    let p = c.args.term.now in
+    let t = part_tree m p in
+    let v = c.args.variance in
+    let n = meaning c.loop-i.self.interner in
+    let now = store_of n c.loop-i.self.inner in
+    let inv = c.loop-i.invariant in
+    let e : part_tree n p ≡ t = stays_part inv.grown p c.requires.term_known in
+    let j = c.loop-i.i in
+    let us = list_tree (part_tree n) c.loop-i.parts.items in
+    subst (λ ys. IsTrue (known (list_tree (part_tree n) ys))) (sym c.as_slice.ensures.value) inv.sure
+
+pub generalise_parts-with_parts-requires-clause-fits : goal.generalise_parts-with_parts-requires-clause-fits
+generalise_parts-with_parts-requires-clause-fits g t' c =
+    let meaning = g.I.Interner.meaning in
+    let m = meaning c.args.self.now.interner in
+    let eq = met_eq g.I.Key.PartialEq.eq in
+    let k = vid_kind c.args.target.now.vid in
+    let i = vid_number c.args.target.now.vid in
+    let u = c.args.target.now.universe.0 in
+    let was = store_of m c.args.self.now.inner in
+    let p = c.args.term.now in
+    let t = part_tree m p in
+    let v = c.args.variance in
+    let n = meaning c.loop-i.self.interner in
+    let now = store_of n c.loop-i.self.inner in
+    let inv = c.loop-i.invariant in
+    let e : part_tree n p ≡ t = stays_part inv.grown p c.requires.term_known in
+    let j = c.loop-i.i in
+    let us = list_tree (part_tree n) c.loop-i.parts.items in
+    let counted = c.parts_count-i-end.ensures.counts in
+    let test = c.loop-i-test.false in
+    let end = c.loop-i.auto.i-end in
+    let all : j ≡ count (parts_of t) = omega (arith, counted, test, end) in
+    let whole : firsts j (parts_of t) ≡ parts_of t = ap (λ d. firsts d (parts_of t)) all ∙ firsts_all (parts_of t) c.parts_count-i-end.ensures.is_list in
+    subst (λ ys. Fit ys (parts_of (part_tree n p))) (sym c.as_slice.ensures.value)
+    (subst (λ y. Fit c.loop-i.parts.items (parts_of y)) (sym e) (subst (Fit c.loop-i.parts.items) whole inv.fit))
+
+pub generalise_parts-returns-in_err-with_parts : goal.generalise_parts-returns-in_err-with_parts
+generalise_parts-returns-in_err-with_parts g t' c =
+    let meaning = g.I.Interner.meaning in
+    let m = meaning c.args.self.now.interner in
+    let eq = met_eq g.I.Key.PartialEq.eq in
+    let k = vid_kind c.args.target.now.vid in
+    let i = vid_number c.args.target.now.vid in
+    let u = c.args.target.now.universe.0 in
+    let was = store_of m c.args.self.now.inner in
+    let p = c.args.term.now in
+    let t = part_tree m p in
+    let v = c.args.variance in
+    let n = meaning c.loop-i.self.interner in
+    let now = store_of n c.loop-i.self.inner in
+    let inv = c.loop-i.invariant in
+    let e : part_tree n p ≡ t = stays_part inv.grown p c.requires.term_known in
+    let j = c.loop-i.i in
+    let us = list_tree (part_tree n) c.loop-i.parts.items in
+    let h = c.in_err-with_parts.ensures in
+    record {
+      lawful = lawful_grows h.grown c.loop-i.self.inner inv.lawful;
+      grown = extends_on inv.grown h.grown;
+      universe = inv.universe;
+      makes = subst (MakesUnbound u was) (sym (store_grows h.grown c.loop-i.self.inner inv.lawful)) inv.makes;
+      answers = memory_answers meaning eq c.args.self.now (record { interner = c.with_parts.new.cx; inner = c.loop-i.self.inner }) k i u c.args.target.now.cyclic c.args.met.now c.loop-i.met p (new_part v) c.from_residual-in_err-with_parts.result
+          c.from_residual-in_err-with_parts.ensures.0 c.from_residual-in_err-with_parts.ensures.1;
+    }
+
+pub generalise_parts-returns : goal.generalise_parts-returns
+generalise_parts-returns g t' c =
+    let meaning = g.I.Interner.meaning in
+    let m = meaning c.args.self.now.interner in
+    let eq = met_eq g.I.Key.PartialEq.eq in
+    let k = vid_kind c.args.target.now.vid in
+    let i = vid_number c.args.target.now.vid in
+    let u = c.args.target.now.universe.0 in
+    let was = store_of m c.args.self.now.inner in
+    let p = c.args.term.now in
+    let t = part_tree m p in
+    let v = c.args.variance in
+    let n = meaning c.loop-i.self.interner in
+    let now = store_of n c.loop-i.self.inner in
+    let inv = c.loop-i.invariant in
+    let e : part_tree n p ≡ t = stays_part inv.grown p c.requires.term_known in
+    let j = c.loop-i.i in
+    let us = list_tree (part_tree n) c.loop-i.parts.items in
+    let counted = c.parts_count-i-end.ensures.counts in
+    let test = c.loop-i-test.false in
+    let end = c.loop-i.auto.i-end in
+    let all : j ≡ count (parts_of t) = omega (arith, counted, test, end) in
+    let sorted : Sorted m = record {
+      ty = g.met.I.Interner.is_ty c.args.self.now.interner;
+      region = g.met.I.Interner.is_region c.args.self.now.interner;
+      tys = g.met.I.Interner.are_tys c.args.self.now.interner;
+      const_ = g.met.I.Interner.is_const c.args.self.now.interner;
+      valtree = g.met.I.Interner.is_valtree c.args.self.now.interner;
+      args = g.met.I.Interner.are_args c.args.self.now.interner;
+      branches = g.met.I.Interner.are_branches c.args.self.now.interner;
+      pat = g.met.I.Interner.is_pat c.args.self.now.interner;
+      alternatives = g.met.I.Interner.are_alternatives c.args.self.now.interner;
+      existential_predicates = g.met.I.Interner.are_existential_predicates c.args.self.now.interner;
+    } in
+    let whole : firsts j (parts_of t) ≡ parts_of t = ap (λ d. firsts d (parts_of t)) all ∙ firsts_all (parts_of t) c.parts_count-i-end.ensures.is_list in
+    let became = went_whole eq m n was now k i u v c.args.met.now c.loop-i.met (new_kind p) t j us c.requires.term_covered (λ s. some_sort p (sym (sort_known m sorted p c.requires.term_known) ∙ s))
+    c.parts_count-i-end.ensures.is_list all c.requires.stays inv.went in
+    let h = c.in_ok-with_parts.ensures in
+    let o = meaning c.with_parts.new.cx in
+    let x = c.in_ok-with_parts.field-0 in
+    let kept = store_grows h.grown c.loop-i.self.inner inv.lawful in
+    record {
+      lawful = lawful_grows h.grown c.loop-i.self.inner inv.lawful;
+      grown = extends_on inv.grown h.grown;
+      universe = inv.universe;
+      makes = subst (MakesUnbound u was) (sym kept) inv.makes;
+      answers = (
+        h.sure,
+        h.sort,
+        sure_grows h.grown eq c.loop-i.met inv.all,
+        becomes_grows eq h.grown was now (store_of o c.loop-i.self.inner) k i u (new_part v) c.args.met.now c.loop-i.met t (over t us)
+            (part_tree o x) inv.all kept
+            (h.made ∙ ap₂ over e (ap (list_tree (part_tree n)) c.as_slice.ensures.value)) became,
+      );
+    }
