@@ -1,8 +1,8 @@
 -- Generalising in a context: what each way out of it answers.
-use Rattle.std.proofs.Common.{◌≡◌, ◌≢◌, ℕ, zero, suc, ◌<◌, ◌≤◌, refl, sym, ap, ap₂, ◌∙◌, arith, subst, subst₂, Bool, IsTrue, Option, Some, None, List, [], ◌∷◌, ◌++◌, Contains, All, Result, Ok, Err}
+use Rattle.std.proofs.Common.{◌≡◌, ◌≢◌, ℕ, zero, suc, ◌<◌, ◌≤◌, refl, sym, ap, ap₂, ◌∙◌, arith, subst, subst₂, Bool, IsTrue, Option, Some, None, List, [], ◌∷◌, ◌++◌, length, Contains, All, Result, Ok, Err}
 use Rattle.std.proofs.lemmas.List.Elements.{All-nil, All-cons, All-contains}
 use Rattle.std.specs.Result.{IsErr, IsErrAnd}
-use Rattle.std.specs.HashMap.{HashMap}
+use Rattle.std.specs.HashMap.{HashMap, IsEmpty}
 use Rattle.relation_terms.specs.declared.terms.enums.Variance.{Variance}
 use Rattle.relation_terms.specs.declared.terms.keys.TyKey.{TyKey}
 use Rattle.relation_terms.specs.declared.terms.part_kind.Part.{Part}
@@ -21,7 +21,7 @@ use Rattle.type_relations.specs.Lawful.{declared_by, items_of}
 use Rattle.type_relations.specs.Covered.{IsCovered, IsCoveredHead}
 use Rattle.type_relations.specs.Stores.{Store, universe_of, IsMade, IsMadeLeaf, InContext, IsSound}
 use Rattle.type_relations.specs.Steps.{MakesVariable, IsNumberKind}
-use Rattle.type_relations.specs.Generalising.{Stays, gives_way_to, Met, Stage, Turn, any_part, new_part, variance_of_part, IsPlainHead, Generalised, met_before, met_first, no_type, stays, gives_way, MakesUnbound, makes_none, makes_one, Obstacle, cycle, beyond, IsNoObstacle, StopsAt, at_itself, at_placeholder, in_parts, in_body, in_first, in_others}
+use Rattle.type_relations.specs.Generalising.{Stays, gives_way_to, Met, Stage, Turn, any_part, new_part, variance_of_part, IsPlainHead, Generalised, met_before, met_first, no_type, stays, gives_way, by_parts, in_binder, no_parts, next_part, MakesUnbound, makes_none, makes_one, Obstacle, cycle, beyond, IsNoObstacle, StopsAt, at_itself, at_placeholder, in_parts, in_body, in_first, in_others}
 use Rattle.type_relations.proofs.Trees.{Leaves_map}
 use Rattle.type_relations.proofs.NewVariables.{Adds, adds, makes_then}
 use Rattle.type_relations.proofs.Generalising.{gives_no_number}
@@ -33,10 +33,10 @@ use Rattle.relation_reference.specs.declared.context.generalising.Fate.TheVarian
 use Rattle.relation_reference.specs.declared.context.inner.InferCtxtInner.{InferCtxtInner}
 use Rattle.relation_reference.specs.declared.context.variables.RefCtxt.{RefCtxt}
 use Rattle.relation_reference.specs.Tables.{store_of, IsLawful}
-use Rattle.relation_reference.specs.Generalises.{met_at, IsFate, IsSure, Keeps, HasCome, ObstacleError, Becomes, StopsAlways, BecomesAlways, GeneralisesTo, Generalises}
+use Rattle.relation_reference.specs.Generalises.{met_at, IsFate, IsSure, Keeps, HasCome, ObstacleError, Becomes, StopsAlways, BecomesAlways, GeneralisesTo, Generalises, IsGeneralisedFor}
 use Rattle.relation_reference.proofs.Grows.{store_grows, lawful_grows}
 use Rattle.relation_reference.proofs.Resolving.{context_part}
-use Rattle.relation_reference.proofs.Recalling.{sure_grows, keeps_grows}
+use Rattle.relation_reference.proofs.Recalling.{sure_grows, keeps_none, keeps_grows}
 
 -- A leaf that is in the context from the start stays by what is recorded at the start.
 module _ (start st : Store) (u : ℕ) (v : Variance) (still : (j : VarKind) (m : ℕ) → IsMade start j m → universe_of st j m ≡ universe_of start j m) where
@@ -404,3 +404,67 @@ becomes_grows eq {m = m} {n = n} {o = o} grown was now later k i u turn old new 
   where
     becomes : (c : Items) (start : Store) (es : List Met) → Becomes eq m n was now k i u turn old new t c start es x → Becomes eq m o was now k i u turn old new t c start es x
     becomes c start es q = record { met = q.met; come = come_grows eq k i u c start grown new sure now q.met q.come; generalised = q.generalised; clear = q.clear }
+
+-- From the start on.
+pub generalised_first : {Key Id Name S : Type 0} (eq : MetKey Key → MetKey Key → Bool) (m n : Meaning Key Id Name) (was now : Store) (k : VarKind) (i u : ℕ) (v : Variance) (cyclic : TypeError Key Id Name)
+    (old new : HashMap (MetKey Key) (TyKey Key) S) (p : Part Key Id) → IsEmpty old → IsSound was → universe_of was k i ≡ u → InContext was (part_tree m p) → (r : Result (Part Key Id) (RelateFault Key Id Name)) →
+    GeneralisesTo eq m n was now k i u (any_part v) old new (part_tree m p) cyclic p r → IsGeneralisedFor m n was now k i v cyclic p r
+generalised_first {Key = Key} {Id = Id} {Name = Name} eq m n was now k i u v cyclic old new p empty g e b r h = go r h
+  where
+    first : HasCome eq m old (items_of m) was k i u was []
+    first = record { items = refl; sound = g; universe = e; makes = makes_none; keeps = keeps_none eq m old empty; clear = All-nil _ }
+
+    go : (r : Result (Part Key Id) (RelateFault Key Id Name)) → GeneralisesTo eq m n was now k i u (any_part v) old new (part_tree m p) cyclic p r → IsGeneralisedFor m n was now k i v cyclic p r
+    go (Ok x) h = let q = h.3 (items_of m) was [] first b in (h.0, h.1, (record { store = now; met = q.met }, refl, q.generalised))
+    go (Err (Unrelated f)) h = h (items_of m) was [] first b
+    go (Err Budget) h = h
+    go (Err Memory) h = tt
+
+-- What a covered term became is covered, where the types that were met became such.
+gives_covered : (l : Leaf) (j : VarKind) (d : ℕ) → IsCovered (leaf (variable j d))
+gives_covered l j d = tt
+
+stays_covered : {c : Items} {start : Store} {k : VarKind} {n : ℕ} {turn : Turn} {r q : Stage} {t x : Tree} → Generalised c start k n turn r t q x → IsCovered t → All (λ e. IsCovered e.term) r.met → IsCovered x × All (λ e. IsCovered e.term) q.met
+stays_covered (met_before {v = v} {r = r} {t = t} {x = x} s h) cov all = (All-contains (λ e. IsCovered e.term) r.met (met_at v t x) all h, all)
+stays_covered (met_first {v = v} {q = q} {t = t} {x = x} s o g a b) cov all = let h = stays_covered g cov all in
+    (h.0, subst (All (λ e. IsCovered e.term)) (sym b) (All-cons (λ e. IsCovered e.term) (met_at v t x) q.met h.0 h.1))
+stays_covered (no_type s g) cov all = stays_covered g cov all
+stays_covered (stays o s) cov all = (cov, all)
+stays_covered (gives_way {l = l} {j = j} {m = m} o s e f b) cov all = (gives_covered l j m, subst (All (λ e. IsCovered e.term)) (sym b) all)
+stays_covered (by_parts h g) cov all = let i = stays_covered g cov.1 all in ((cov.0, i.0), i.1)
+stays_covered (in_binder g) cov all = absurd cov
+stays_covered no_parts cov all = (tt, all)
+stays_covered (next_part g f) cov all = let a = stays_covered g cov.0 all in let b = stays_covered f cov.1 a.1 in ((a.0, b.0), b.1)
+
+pub generalised_covered : {c : Items} {start st : Store} {k : VarKind} {n : ℕ} {turn : Turn} {q : Stage} {t x : Tree} → Generalised c start k n turn (record { store = st; met = [] }) t q x → IsCovered t → IsCovered x
+generalised_covered g cov = (stays_covered g cov (All-nil _)).0
+
+-- Only a type variable becomes one.
+gives_type : (l : Leaf) (j : VarKind) (d e : ℕ) → gives_way_to l ≡ Some j → ((m : ℕ) → leaf l ≢ leaf (variable type_var m)) → leaf (variable j d) ≢ leaf (variable type_var e)
+gives_type (variable type_var m) j d e g o h = o m refl
+gives_type (variable int_var m) j d e g o h = absurd (cc)
+gives_type (variable float_var m) j d e g o h = absurd (cc)
+gives_type (variable const_var m) j d e g o h = absurd (cc)
+gives_type (variable region_var m) j d e g o h = absurd (cc)
+gives_type (bound q b m) j d e g o h = absurd (cc)
+gives_type (placeholder (bound_kind region_kind x) w m) j d e g o h = absurd (cc)
+gives_type (placeholder (bound_kind type_kind x) w m) j d e g o h = absurd (cc)
+gives_type (placeholder (bound_kind const_kind x) w m) j d e g o h = absurd (cc)
+gives_type (atom static_region) j d e g o h = absurd (cc)
+gives_type (atom (early_region b x)) j d e g o h = absurd (cc)
+gives_type (atom x) j d e g o h = absurd (cc)
+gives_type unknown j d e g o h = absurd (cc)
+
+new_no_type : {c : Items} {start : Store} {k : VarKind} {n : ℕ} {v : Variance} {r q : Stage} {t x : Tree} → Generalised c start k n (new_part v) r t q x → ((m : ℕ) → t ≢ leaf (variable type_var m)) → (m : ℕ) → x ≢ leaf (variable type_var m)
+new_no_type (stays o s) f m h = f m h
+new_no_type (gives_way {l = l} {j = j} {m = d} o s e g b) f m h = gives_type l j d m e f h
+new_no_type (by_parts p g) f m h = cc
+new_no_type (in_binder g) f m h = cc
+
+none_met : (es : List Met) (d : Met) → es ≡ [] → Contains es d → ⊥
+none_met es d e h = let l = h.1 in let z = ap length e in omega (arith, l, z)
+
+pub generalised_no_type : {c : Items} {start : Store} {k : VarKind} {n : ℕ} {v : Variance} {r q : Stage} {t x : Tree} → Generalised c start k n (any_part v) r t q x → r.met ≡ [] → ((m : ℕ) → t ≢ leaf (variable type_var m)) → (m : ℕ) → x ≢ leaf (variable type_var m)
+generalised_no_type (met_before {r = r} s h) e f = absurd (none_met r.met _ e h)
+generalised_no_type (met_first s o g a b) e f = new_no_type g f
+generalised_no_type (no_type s g) e f = new_no_type g f

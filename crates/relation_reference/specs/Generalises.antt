@@ -1,5 +1,5 @@
 -- What a context generalises, and which types it has met on the way.
-use Rattle.std.specs.Prelude.{◌≡◌, ◌≢◌, ℕ, ◌<◌, Bool, IsTrue, List, Contains, All, Option, Some, None, Result, Ok, Err}
+use Rattle.std.specs.Prelude.{◌≡◌, ◌≢◌, ℕ, ◌<◌, Bool, IsTrue, List, [], Contains, All, Option, Some, None, Result, Ok, Err}
 use Rattle.std.specs.HashMap.{HashMap, get}
 use Rattle.relation_terms.specs.declared.terms.enums.Variance.{Variance}
 use Rattle.relation_terms.specs.declared.terms.keys.TyKey.{TyKey}
@@ -17,7 +17,7 @@ use Rattle.relation_tools.specs.declared.error.RelateFault.TheVariants.{Memory, 
 use Rattle.type_relations.specs.Relation.{Items}
 use Rattle.type_relations.specs.Lawful.{items_of}
 use Rattle.type_relations.specs.Stores.{Store, universe_of, InContext, IsSound}
-use Rattle.type_relations.specs.Generalising.{Stays, gives_way_to, Met, Turn, Generalised, MakesUnbound}
+use Rattle.type_relations.specs.Generalising.{Stays, gives_way_to, Met, Stage, Turn, any_part, Generalised, MakesUnbound}
 use Rattle.type_relations.specs.Generalising.{Obstacle, cycle, beyond, IsNoObstacle, StopsAt}
 use Rattle.relation_reference.specs.declared.context.generalising.MetKey.{MetKey}
 use Rattle.relation_reference.specs.declared.context.generalising.Fate.{Fate}
@@ -131,3 +131,15 @@ pub record Generalises {I Key Id Name Span S : Type 0} (meaning : I → Meaning 
   pub answers : GeneralisesTo eq (meaning before.interner) (meaning after.interner)
       (store_of (meaning before.interner) before.inner) (store_of (meaning after.interner) after.inner) k i u turn old new
       (part_tree (meaning before.interner) p) cyclic p result
+
+-- What generalising a part for a variable answers: what it became by the rules; or the error of the first obstacle; or that
+-- memory ran out.
+abbrev pub IsGeneralisedFor : {Key Id Name : Type 0} → Meaning Key Id Name → Meaning Key Id Name → Store → Store → VarKind →
+    ℕ → Variance → TypeError Key Id Name → Part Key Id → Result (Part Key Id) (RelateFault Key Id Name) → Type 0
+IsGeneralisedFor m n before after k i v cyclic p (Ok x) = IsTrue (known (part_tree n x)) × (part_sort x ≡ part_sort p) ×
+    ((last : Stage) × (last.store ≡ after) × Generalised (items_of m) before k i (any_part v)
+    (record { store = before; met = [] }) (part_tree m p) last (part_tree n x))
+IsGeneralisedFor m n before after k i v cyclic p (Err (Unrelated e)) = (o : Obstacle) × StopsAt before k i o (part_tree m p) ×
+    ObstacleError cyclic e o
+IsGeneralisedFor m n before after k i v cyclic p (Err Budget) = ⊥
+IsGeneralisedFor m n before after k i v cyclic p (Err Memory) = Unit {0}

@@ -11,11 +11,12 @@ ghost use Rattle.type_relations.specs.Lawful.{items_of};
 ghost use Rattle.type_relations.specs.Covered.{IsCovered};
 ghost use Rattle.type_relations.specs.Stores.{InContext, IsMade, universe_of};
 ghost use Rattle.type_relations.specs.Steps.{MakesVariable};
-ghost use Rattle.type_relations.specs.Generalising.{Met, Stays, any_part, new_part, variance_of_part};
+ghost use Rattle.type_relations.specs.Generalising.{Met, Stays, any_part, new_part, variance_of_part, MakesUnbound};
 ghost use Rattle.relation_reference.specs.Tables.{IsLawful};
 ghost use Rattle.relation_reference.specs.RefCtxt.{store_in};
 ghost use Rattle.relation_reference.specs.Remembering.{vid_kind, vid_number};
 ghost use Rattle.relation_reference.specs.Generalises.{new_kind, met_at, IsFate, IsSure, Keeps, Generalises};
+ghost use Rattle.relation_reference.specs.Generalises.{IsGeneralisedFor};
 ghost use Rattle.relation_reference.specs.declared.context.generalising.Fate.TheVariants.{ByParts, GivesWay};
 ghost use Rattle.relation_terms.specs.declared.terms.enums.Variance.TheVariants.{Invariant};
 
@@ -421,5 +422,30 @@ impl<I: Interner> RefCtxt<I> {
             return Ok(*term);
         }
         Ok(with_parts(&mut self.interner, term, parts.as_slice())?)
+    }
+
+    // What a target is bound to for its source, at a variance. The source is what it comes to.
+    pub(crate) fn generalise(
+        &mut self,
+        source: &PartOf<I>,
+        variance: Variance,
+        target: &TargetOf<I>,
+    ) -> Result<PartOf<I>, RelateFaultOf<I>>
+        requires lawful { IsLawful (I.meaning self.old.interner) self.old.inner }
+        requires universe { universe_of (store_in I.meaning self.old) (vid_kind target.now.vid)
+            (vid_number target.now.vid) ≡ target.now.universe.0 }
+        requires source_known { IsTrue (known (part_tree (I.meaning self.old.interner) source.now)) }
+        requires source_in { let m = I.meaning self.old.interner in
+            InContext (store_in I.meaning self.old) (part_tree m source.now) }
+        requires source_covered { IsCovered (part_tree (I.meaning self.old.interner) source.now) }
+        ensures lawful { IsLawful (I.meaning self.new.interner) self.new.inner }
+        ensures grown { Extends (I.meaning self.old.interner) (I.meaning self.new.interner) }
+        ensures makes { MakesUnbound target.now.universe.0 (store_in I.meaning self.old) (store_in I.meaning self.new) }
+        ensures generalised { IsGeneralisedFor (I.meaning self.old.interner) (I.meaning self.new.interner)
+            (store_in I.meaning self.old) (store_in I.meaning self.new) (vid_kind target.now.vid)
+            (vid_number target.now.vid) variance target.now.cyclic source.now result }
+    {
+        let mut met = HashMap::new(self.interner.alloc());
+        self.generalise_part(source, variance, target, &mut met)
     }
 }
