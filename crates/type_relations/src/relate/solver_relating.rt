@@ -42,10 +42,10 @@ pub trait RelateExt {
     /// record at `Invariant` no solution up to erasure unifies them then. Answers `Budget` only where no
     /// instantiation is left, and `Memory` where a growth was refused.
     ///
-    /// On each outcome all that was recorded stands. It makes no variable of a number, and others only to instantiate one:
-    /// none where nothing was left of the budget, or no variable of a type or a constant was unbound. It binds only what was
-    /// the context's and unbound, or was made on the way: variables of types and constants each for one instantiation, those
-    /// of numbers for none. After an error more may have been recorded and made on the way.
+    /// On each outcome all that was recorded stands. It makes no variable of a number, and others only to instantiate
+    /// one: none where nothing was left of the budget, or no variable of a type or a constant was unbound. It binds only
+    /// what was the context's and unbound, or was made on the way: variables of types and constants each for one
+    /// instantiation, those of numbers for none. After an error more may have been recorded and made on the way.
     fn relate(
         &mut self,
         param_env: ParamEnv<Self::Interner>,
