@@ -3,7 +3,7 @@ ghost use Rattle.std.specs.Prelude.{◌≡◌, ◌≢◌, IfOk, IfErr, []};
 ghost use Rattle.relation_terms.specs.Meaning.{Extends};
 ghost use Rattle.relation_tools.specs.Faults.{KnowsFault, IfSpent};
 ghost use Rattle.type_relations.specs.Stores.{IsSound};
-ghost use Rattle.type_relations.specs.Steps.{IsLater, MakesNoNumber, MakesToInstantiate, BindsItsOwn};
+ghost use Rattle.type_relations.specs.Steps.{IsLater, MakesToInstantiate, BindsItsOwn};
 ghost use Rattle.type_relations.specs.Contexts.{Context, KnowsEnv, KnowsTy, TakesTy, HasTy, AreOneTy, AnswersTys};
 ghost use Rattle.type_relations.specs.Contexts.{KeepsEqualTys, TellsApart, AnswersError, DoesNothing, AnswersExactly};
 ghost use Rattle.type_relations.specs.Contexts.{ProvesApart, SpendsByBinding};
@@ -73,8 +73,7 @@ pub trait RelateExt {
         ensures exact { AnswersExactly (state self.old) (state self.new) variance lhs rhs result }
         ensures no_unifier { ProvesApart (state self.old) (state self.new) variance lhs rhs result }
         ensures later { IsLater (state self.old).store (state self.new).store }
-        ensures made { MakesNoNumber (state self.old).store (state self.new).store }
-        ensures none_made { MakesToInstantiate (state self.old).store (state self.new).store }
+        ensures made { MakesToInstantiate (state self.old).store (state self.new).store }
         ensures bound { BindsItsOwn (state self.old).store (state self.new).store }
         ensures sound { IsSound (state self.new).store }
         ensures budget { SpendsByBinding (state self.old) (state self.new) }

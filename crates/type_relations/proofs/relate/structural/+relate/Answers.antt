@@ -745,14 +745,6 @@ structurally_relate_consts-relate_with_variance-related-requires g t c κs withi
     let d = c.decreases in
     search rules
 
-pub structurally_relate_consts-in_const-requires : goal.structurally_relate_consts-in_const-requires
-structurally_relate_consts-in_const-requires g t c =
-    let k = c.requires.asked in
-    let same = (((c.loop-i.invariant.fronted).passes).extends).const_ c.args.a.now k.left_known in
-    let later = (((c.relate_with_variance-related.ensures).related).passes).extends in
-    let then = later.const_ c.args.a.now (subst (λ z. IsTrue (known z)) (sym same) k.left_known) ∙ same in
-    subst (λ z. IsTrue (known z)) (sym then) k.left_known
-
 pub structurally_relate_consts-returns-in_err-answer : goal.structurally_relate_consts-returns-in_err-answer
 structurally_relate_consts-returns-in_err-answer g t c =
     let r = g.R.TypeRelation.state c.args.r.now in
