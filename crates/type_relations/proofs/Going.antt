@@ -84,8 +84,8 @@ binds_its_own {before = before} {after = after} g regions k i t now new = go (de
     more_bound : (j : VarKind) → j ≡ k → (i < length (before.entries k) → ⊥) → all_bound before < all_bound after
     more_bound type_var e o = let a = less type_var e in let b = each const_var in omega (arith, a, b)
     more_bound const_var e o = let a = less const_var e in let b = each type_var in omega (arith, a, b)
-    more_bound int_var e o = absurd (o (subst (λ z. i < length (before.entries z)) e (let l : i < length (after.entries int_var) = subst (λ z. i < length (after.entries z)) (sym e) (made_after (dec_le (suc i) (length (after.entries k)))) in let q = g.no_number_made int_var tt in omega (arith, l, q))))
-    more_bound float_var e o = absurd (o (subst (λ z. i < length (before.entries z)) e (let l : i < length (after.entries float_var) = subst (λ z. i < length (after.entries z)) (sym e) (made_after (dec_le (suc i) (length (after.entries k)))) in let q = g.no_number_made float_var tt in omega (arith, l, q))))
+    more_bound int_var e o = absurd (o (subst (λ z. i < length (before.entries z)) e (let l : i < length (after.entries int_var) = subst (λ z. i < length (after.entries z)) (sym e) (made_after (dec_le (suc i) (length (after.entries k)))) in let q = (g.made).no_number int_var tt in omega (arith, l, q))))
+    more_bound float_var e o = absurd (o (subst (λ z. i < length (before.entries z)) e (let l : i < length (after.entries float_var) = subst (λ z. i < length (after.entries z)) (sym e) (made_after (dec_le (suc i) (length (after.entries k)))) in let q = (g.made).no_number float_var tt in omega (arith, l, q))))
     more_bound region_var e o = absurd (let f : entry_of after k i ≡ unbound = subst (λ z. entry_of after z i ≡ unbound) e (regions i) in cc (f, now))
 
     go : Dec (suc i ≤ length (before.entries k)) → (IsMade before k i × (entry_of before k i ≡ unbound)) ⊎ ((IsMade before k i → ⊥) × ((after.budget < before.budget) ⊎ (before.universe < after.universe)))
@@ -134,10 +134,10 @@ pub under : (k m n : ℕ) → m < n → 4 * depth k m + 3 < 4 * depth k n + 1
 under k m n h = let d : depth k m < depth k n = depth-strict k m n h in omega arith
 
 pub goes_nowhere : (n : ℕ) (r : Store) → Goes n r r
-goes_nowhere n r = record { later = later_itself r; no_number_made = λ k h. refl; none_made = λ h k. refl; spent = 0; counts = omega arith; binds = omega arith; grows = λ m t above below. below }
+goes_nowhere n r = record { later = later_itself r; made = record { no_number = λ k h. refl; none = λ h k. refl }; spent = 0; counts = omega arith; binds = omega arith; grows = λ m t above below. below }
 
 pub goes_within : {n m : ℕ} {r q : Store} → n ≤ m → Goes n r q → Goes m r q
-goes_within {n} {m} h g = record { later = g.later; no_number_made = g.no_number_made; none_made = g.none_made; spent = g.spent; counts = g.counts; binds = g.binds; grows = λ k t above below. g.grows k t (omega arith) below }
+goes_within {n} {m} h g = record { later = g.later; made = g.made; spent = g.spent; counts = g.counts; binds = g.binds; grows = λ k t above below. g.grows k t (omega arith) below }
 
 -- Where nothing could be instantiated, nothing can later.
 instantiates_none_still : {n : ℕ} {r q : Store} → Goes n r q → InstantiatesNone r → InstantiatesNone q
@@ -150,13 +150,15 @@ instantiates_none_still {r = r} {q = q} g (inr o) = inr still
     was k n (bound_to t) e free = absurd (let d : entry_of q k n ≡ bound_to t = stands_from r q g.later k n (bound_to t) e in cc (d, free))
 
     still : (k : VarKind) (n : ℕ) → IsTypeOrConst k → IsMade q k n → entry_of q k n ≡ unbound → ⊥
-    still k n kind made free = o k n kind (subst (λ z. n < z) (g.none_made (inr o) k) made) (was k n (entry_of r k n) refl free)
+    still k n kind made free = o k n kind (subst (λ z. n < z) ((g.made).none (inr o) k) made) (was k n (entry_of r k n) refl free)
 
 pub goes_then : {n m : ℕ} {r q p : Store} → (g : Goes n r q) → Goes m q p → m ≤ grown g.spent n → Goes n r p
 goes_then {n} {m} {r} {q} {p} g f h = record {
   later = later_through g.later f.later;
-  no_number_made = λ k h. f.no_number_made k h ∙ g.no_number_made k h;
-  none_made = λ o k. f.none_made (instantiates_none_still g o) k ∙ g.none_made o k;
+  made = record {
+    no_number = λ k h. (f.made).no_number k h ∙ (g.made).no_number k h;
+    none = λ o k. (f.made).none (instantiates_none_still g o) k ∙ (g.made).none o k;
+  };
   spent = g.spent + f.spent;
   counts = let e = g.counts in let d = f.counts in omega arith;
   binds = let e = g.binds in let d = f.binds in omega arith;

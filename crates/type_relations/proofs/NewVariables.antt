@@ -109,8 +109,7 @@ adds {u} {before} {after} g low (makes_one {middle = middle} {k = k} {n = n} f o
 pub adds_goes : {u : ℕ} {before after : Store} → (InstantiatesNone before → ⊥) → Adds u before after → Goes 0 before after
 adds_goes {u} {before} {after} some a = record {
   later = a.later;
-  no_number_made = a.numbers;
-  none_made = λ h. absurd (some h);
+  made = record { no_number = a.numbers; none = λ h. absurd (some h) };
   spent = 0;
   counts = let e = a.budget in omega arith;
   binds = let e = a.none_bound in omega arith;

@@ -2,7 +2,7 @@
 use Rattle.std.specs.Prelude.{◌≡◌, ℕ, zero, suc, ◌+◌, ◌*◌, ◌≤◌}
 use Rattle.relation_terms.specs.Trees.{Tree}
 use Rattle.type_relations.specs.Stores.{Store, weight, all_bound}
-use Rattle.type_relations.specs.Steps.{IsLater, MakesNoNumber, MakesToInstantiate}
+use Rattle.type_relations.specs.Steps.{IsLater, MakesToInstantiate}
 
 -- The bound on sizes after `j` instantiations, each of which squares it at most.
 abbrev pub grown : ℕ → ℕ → ℕ
@@ -19,8 +19,7 @@ depth (suc k) n = suc (depth k (n * n))
 -- number was made, and none at all where nothing could be instantiated.
 pub record Goes (n : ℕ) (before after : Store) : Type 0 where
   pub later : IsLater before after
-  pub no_number_made : MakesNoNumber before after
-  pub none_made : MakesToInstantiate before after
+  pub made : MakesToInstantiate before after
   pub spent : ℕ
   pub counts : before.budget ≡ spent + after.budget
   pub binds : all_bound after ≡ spent + all_bound before

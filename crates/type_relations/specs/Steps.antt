@@ -58,9 +58,10 @@ abbrev pub InstantiatesNone : Store → Type 0
 InstantiatesNone st = (st.budget ≡ 0) ⊎
     ((k : VarKind) (n : ℕ) → IsTypeOrConst k → IsMade st k n → entry_of st k n ≡ unbound → ⊥)
 
--- Where nothing can be instantiated, no variable was made.
-abbrev pub MakesToInstantiate : Store → Store → Type 0
-MakesToInstantiate before after = InstantiatesNone before → MakesNone before after
+-- No variable of a number was made, and none at all where nothing could be instantiated.
+pub record MakesToInstantiate (before after : Store) : Type 0 where
+  pub no_number : MakesNoNumber before after
+  pub none : InstantiatesNone before → MakesNone before after
 
 -- Each variable that was newly bound to a term was the context's and unbound; or it was made on the way, and then an
 -- instantiation took one of the budget, or a universe was entered.

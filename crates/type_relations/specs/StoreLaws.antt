@@ -55,7 +55,8 @@ CyclesRefuse = (st : Store) (v : Variance) (k : VarKind) (n : ℕ) (source : Tre
 
 -- What a term is generalised to is one term.
 abbrev pub GeneralisingIsOne : Type 0
-GeneralisingIsOne = (c : Items) (start : Store) (k : VarKind) (n : ℕ) (v : Variance) (r q : Stage) (t x y : Tree) →
+GeneralisingIsOne = (c : Items) (start : Store) (k : VarKind) (n : ℕ) (v : Variance) (r q : Stage)
+    (t x y : Tree) →
     Generalised c start k n (any_part v) (record { store = start; met = [] }) t r x →
     Generalised c start k n (any_part v) (record { store = start; met = [] }) t q y → x ≡ y
 

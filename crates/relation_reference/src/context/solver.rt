@@ -11,7 +11,7 @@ impl<I: Interner> RelateExt for RefCtxt<I> {
     ghost use Rattle.relation_terms.specs.Meaning.{Extends};
     ghost use Rattle.relation_tools.specs.Faults.{KnowsFault, IfSpent};
     ghost use Rattle.type_relations.specs.Stores.{IsSound};
-    ghost use Rattle.type_relations.specs.Steps.{IsLater, MakesNoNumber, MakesToInstantiate, BindsItsOwn};
+    ghost use Rattle.type_relations.specs.Steps.{IsLater, MakesToInstantiate, BindsItsOwn};
     ghost use Rattle.type_relations.specs.Contexts.{KnowsEnv, KnowsTy, TakesTy, HasTy, AreOneTy, AnswersTys};
     ghost use Rattle.type_relations.specs.Contexts.{KeepsEqualTys, TellsApart, AnswersError, DoesNothing};
     ghost use Rattle.type_relations.specs.Contexts.{AnswersExactly, ProvesApart, SpendsByBinding};
@@ -53,8 +53,7 @@ impl<I: Interner> RelateExt for RefCtxt<I> {
         ensures no_unifier { ProvesApart (context_in I.meaning self.old) (context_in I.meaning self.new)
             variance lhs rhs result }
         ensures later { IsLater (context_in I.meaning self.old).store (context_in I.meaning self.new).store }
-        ensures made { MakesNoNumber (context_in I.meaning self.old).store (context_in I.meaning self.new).store }
-        ensures none_made { MakesToInstantiate (context_in I.meaning self.old).store
+        ensures made { MakesToInstantiate (context_in I.meaning self.old).store
             (context_in I.meaning self.new).store }
         ensures bound { BindsItsOwn (context_in I.meaning self.old).store (context_in I.meaning self.new).store }
         ensures sound { IsSound (context_in I.meaning self.new).store }

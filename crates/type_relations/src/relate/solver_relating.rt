@@ -3,7 +3,7 @@ ghost use Rattle.std.specs.Prelude.{◌≡◌, ◌≢◌, IfOk, IfErr, []};
 ghost use Rattle.relation_terms.specs.Meaning.{Extends};
 ghost use Rattle.relation_tools.specs.Faults.{KnowsFault, IfSpent};
 ghost use Rattle.type_relations.specs.Stores.{IsSound};
-ghost use Rattle.type_relations.specs.Steps.{IsLater, MakesNoNumber, MakesToInstantiate, BindsItsOwn};
+ghost use Rattle.type_relations.specs.Steps.{IsLater, MakesToInstantiate, BindsItsOwn};
 ghost use Rattle.type_relations.specs.Contexts.{Context, KnowsEnv, KnowsTy, TakesTy, HasTy, AreOneTy, AnswersTys};
 ghost use Rattle.type_relations.specs.Contexts.{KeepsEqualTys, TellsApart, AnswersError, DoesNothing, AnswersExactly};
 ghost use Rattle.type_relations.specs.Contexts.{ProvesApart, SpendsByBinding};
@@ -42,10 +42,10 @@ pub trait RelateExt {
     /// record at `Invariant` no solution up to erasure unifies them then. Answers `Budget` only where no
     /// instantiation is left, and `Memory` where a growth was refused.
     ///
-    /// On each outcome all that was recorded stands. It makes no variable of a number, and others only to instantiate one:
-    /// none where nothing was left of the budget, or no variable of a type or a constant was unbound. It binds only what was
-    /// the context's and unbound, or was made on the way: variables of types and constants each for one instantiation, those
-    /// of numbers for none. After an error more may have been recorded and made on the way.
+    /// On each outcome all that was recorded stands. It makes no variable of a number, and others only to instantiate
+    /// one: none where nothing was left of the budget, or no variable of a type or a constant was unbound. It binds only
+    /// what was the context's and unbound, or was made on the way: variables of types and constants each for one
+    /// instantiation, those of numbers for none. After an error more may have been recorded and made on the way.
     fn relate(
         &mut self,
         param_env: ParamEnv<Self::Interner>,
@@ -73,8 +73,7 @@ pub trait RelateExt {
         ensures exact { AnswersExactly (state self.old) (state self.new) variance lhs rhs result }
         ensures no_unifier { ProvesApart (state self.old) (state self.new) variance lhs rhs result }
         ensures later { IsLater (state self.old).store (state self.new).store }
-        ensures made { MakesNoNumber (state self.old).store (state self.new).store }
-        ensures none_made { MakesToInstantiate (state self.old).store (state self.new).store }
+        ensures made { MakesToInstantiate (state self.old).store (state self.new).store }
         ensures bound { BindsItsOwn (state self.old).store (state self.new).store }
         ensures sound { IsSound (state self.new).store }
         ensures budget { SpendsByBinding (state self.old) (state self.new) }

@@ -925,6 +925,12 @@ structurally_relate_consts-returns-in_err-push g t c =
     (stopped M r.ambient a b (p.meaning).const_ (passes_within (omega (arith, weight_const_parts_most r.store a, weight_const_parts_most r.store b))
     next.passes))
 
+pub structurally_relate_consts-make_const-requires-clause-constant_known : goal.structurally_relate_consts-make_const-requires-clause-constant_known
+structurally_relate_consts-make_const-requires-clause-constant_known g t c =
+    let k = c.requires.asked in
+    let same = (((c.loop-i.invariant.fronted).passes).extends).const_ c.args.a.now k.left_known in
+    subst (λ z. IsTrue (known z)) (sym same) k.left_known
+
 pub structurally_relate_consts-make_const-requires-clause-fits : goal.structurally_relate_consts-make_const-requires-clause-fits
 structurally_relate_consts-make_const-requires-clause-fits g t c =
     let r = g.R.TypeRelation.state c.args.r.now in
@@ -1114,6 +1120,14 @@ structurally_relate_tys-relate_with_variance-related-requires g t c κs within =
     let under = next_under M takes r q a b i x y kx ky k inv.fronted lx ly ex ey in
     let d = c.decreases in
     search rules
+
+pub structurally_relate_tys-in_ty-requires : goal.structurally_relate_tys-in_ty-requires
+structurally_relate_tys-in_ty-requires g t c =
+    let k = c.requires.asked in
+    let same = (((c.loop-i.invariant.fronted).passes).extends).ty c.args.a.now k.left_known in
+    let later = (((c.relate_with_variance-related.ensures).related).passes).extends in
+    let then = later.ty c.args.a.now (subst (λ z. IsTrue (known z)) (sym same) k.left_known) ∙ same in
+    subst (λ z. IsTrue (known z)) (sym then) k.left_known
 
 pub structurally_relate_tys-returns-in_err-answer : goal.structurally_relate_tys-returns-in_err-answer
 structurally_relate_tys-returns-in_err-answer g t c =

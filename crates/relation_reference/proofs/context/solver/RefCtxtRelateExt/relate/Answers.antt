@@ -44,14 +44,14 @@ pub returns-then-eq-clause-later : goal.returns-then-eq-clause-later
 returns-then-eq-clause-later g c =
     later_itself (store_of (g.I.Interner.meaning c.args.self.now.interner) c.args.self.now.inner)
 
-pub returns-then-eq-clause-none_made : goal.returns-then-eq-clause-none_made
-returns-then-eq-clause-none_made g c = λ h k. refl
+pub returns-then-eq-clause-made : goal.returns-then-eq-clause-made
+returns-then-eq-clause-made g c = record { no_number = λ k h. refl; none = λ h k. refl }
 
-pub returns-in_err-relate_in-clause-none_made : goal.returns-in_err-relate_in-clause-none_made
-returns-in_err-relate_in-clause-none_made g c = (((c.in_err-relate_in.ensures).passes).goes).none_made
+pub returns-in_err-relate_in-clause-made : goal.returns-in_err-relate_in-clause-made
+returns-in_err-relate_in-clause-made g c = (((c.in_err-relate_in.ensures).passes).goes).made
 
-pub returns-clause-none_made : goal.returns-clause-none_made
-returns-clause-none_made g c = (((c.in_ok-relate_in.ensures).passes).goes).none_made
+pub returns-clause-made : goal.returns-clause-made
+returns-clause-made g c = (((c.in_ok-relate_in.ensures).passes).goes).made
 
 pub returns-then-eq-clause-bound : goal.returns-then-eq-clause-bound
 returns-then-eq-clause-bound g c =
