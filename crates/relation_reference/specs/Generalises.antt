@@ -7,7 +7,7 @@ use Rattle.relation_terms.specs.declared.terms.part_kind.Part.{Part}
 use Rattle.relation_terms.specs.declared.terms.part_kind.Part.TheVariants.{Region, Ty, Const}
 use Rattle.relation_terms.specs.Heads.{region_sort, BoundKind, bound_sort, VarKind, type_var, const_var, region_var}
 use Rattle.relation_terms.specs.Heads.{Leaf, variable, placeholder}
-use Rattle.relation_terms.specs.Trees.{Tree, leaf, Leaves, known}
+use Rattle.relation_terms.specs.Trees.{Tree, leaf, Leaves, known, apply}
 use Rattle.relation_terms.specs.Meaning.{Meaning, Extends}
 use Rattle.relation_terms.specs.Parts.{part_tree, part_sort}
 use Rattle.relation_tools.specs.declared.error.TypeError.{TypeError}
@@ -16,9 +16,10 @@ use Rattle.relation_tools.specs.declared.error.RelateFault.{RelateFault}
 use Rattle.relation_tools.specs.declared.error.RelateFault.TheVariants.{Memory, Budget, Unrelated}
 use Rattle.type_relations.specs.Relation.{Items}
 use Rattle.type_relations.specs.Lawful.{items_of}
-use Rattle.type_relations.specs.Stores.{Store, universe_of, InContext, IsSound}
+use Rattle.type_relations.specs.Stores.{Store, universe_of, InContext, IsSound, resolved}
 use Rattle.type_relations.specs.Generalising.{Stays, gives_way_to, Met, Stage, Turn, any_part, Generalised, MakesUnbound}
 use Rattle.type_relations.specs.Generalising.{Obstacle, cycle, beyond, IsNoObstacle, StopsAt}
+use Rattle.type_relations.specs.Generalising.{InstantiatesBy, RefusesBy}
 use Rattle.relation_reference.specs.declared.context.generalising.MetKey.{MetKey}
 use Rattle.relation_reference.specs.declared.context.generalising.Fate.{Fate}
 use Rattle.relation_reference.specs.declared.context.generalising.Fate.TheVariants.{ByParts, GivesWay, Cycle, Beyond}
@@ -143,3 +144,13 @@ IsGeneralisedFor m n before after k i v cyclic p (Err (Unrelated e)) = (o : Obst
     ObstacleError cyclic e o
 IsGeneralisedFor m n before after k i v cyclic p (Err Budget) = ⊥
 IsGeneralisedFor m n before after k i v cyclic p (Err Memory) = Unit {0}
+
+-- What instantiating a variable answers, in keys that mean trees: the term that it is bound to by the rules; the error of the
+-- first obstacle; that no instantiation is left; or that memory ran out, and then variables may have been made.
+abbrev pub InstantiatesOr : {Key Id Name K : Type 0} → Items → (K → Tree) → (K → TypeError Key Id Name) → VarKind → Variance →
+    Store → Store → ℕ → Tree → Result K (RelateFault Key Id Name) → Type 0
+InstantiatesOr c tree cyclic k v before after n t (Ok x) = InstantiatesBy c before after v k n t (tree x)
+InstantiatesOr {K = K} c tree cyclic k v before after n t (Err (Unrelated e)) = (o : Obstacle) ×
+    RefusesBy before after k n t o × (x : K) × (tree x ≡ apply (resolved before) t) × ObstacleError (cyclic x) e o
+InstantiatesOr c tree cyclic k v before after n t (Err Budget) = (before.budget ≡ 0) × (after ≡ before)
+InstantiatesOr c tree cyclic k v before after n t (Err Memory) = MakesUnbound (universe_of before k n) before after
