@@ -15,7 +15,8 @@ ghost use Rattle.type_relations.specs.Parts.{IsFormedConst};
 ghost use Rattle.type_relations.specs.Resolving.{IsShallow, IsShallowTy, IsShallowConst};
 ghost use Rattle.type_relations.specs.NumberValues.{int_value_tree, float_value_tree};
 ghost use Rattle.type_relations.specs.ContextCalls.{IsUnresolved, IsRootOf, Reads, Knows, Stands, Grows, MakesNext};
-ghost use Rattle.type_relations.specs.ContextCalls.{EquatesTwo, BindsNumber, Constrains, Instantiated, HasCoveredBindings};
+ghost use Rattle.type_relations.specs.ContextCalls.{EquatesTwo, BindsNumber, Constrains, Instantiated};
+ghost use Rattle.type_relations.specs.ContextCalls.{HasCoveredBindings};
 
 use crate::relate::StructurallyRelateAliases;
 use relation_terms::terms::{
@@ -54,7 +55,8 @@ pub trait InferCtxtLike {
 
     /// The interner, to make terms.
     fn cx_mut(&mut self) -> &mut Self::Interner
-        ensures* writes_back { sem 𝓛 (Lends Self.row Self.Interner.row self.entry result (with_interner self.entry.now)) }
+        ensures* writes_back { sem 𝓛 (Lends Self.row Self.Interner.row self.entry result
+            (with_interner self.entry.now)) }
         ensures value { Self.Interner.meaning result.now ≡ (state self.old).meaning };
 
     /// Does nothing: it shows that making terms changes nothing of the context but what its interner knows.
@@ -108,7 +110,8 @@ pub trait InferCtxtLike {
     fn opportunistic_resolve_ct_var(&self, vid: ConstVid) -> Const<Self::Interner>
         requires lawful { (state self.now).lawful }
         requires made { IsMade (state self.now).store const_var vid.0 }
-        ensures reads { let c = state self.now in Reads c (leaf (variable const_var vid.0)) ((c.meaning).const_ result) }
+        ensures reads { let c = state self.now in
+            Reads c (leaf (variable const_var vid.0)) ((c.meaning).const_ result) }
         ensures shallow { let c = state self.now in IsShallowConst c.store ((c.meaning).const_ result) };
 
     /// The type itself, or for a variable what its class is bound to, or else its root. It takes no memory.
@@ -187,12 +190,13 @@ pub trait InferCtxtLike {
         requires value_known { value ≢ UnknownFloat }
         ensures { BindsNumber (state self.old) (state self.new) float_var vid.0 (float_value_tree value) };
 
-    /// Binds an unresolved type variable, at a variance, to what a type comes to, for one of the budget, and answers the
-    /// bound type. Both may be related at the variance, so that it is `Invariant` yet; and the type is no type variable.
+    /// Binds an unresolved type variable, at a variance, to what a type comes to, for one of the budget, and answers
+    /// the bound type. Both may be related at the variance, so that it is `Invariant` yet; and the type is no type
+    /// variable.
     ///
     /// # Errors
-    /// `Budget` where no instantiation is left, `Unrelated` where the variable can't be bound to the type, `Memory` where
-    /// a growth was refused. Then nothing was recorded.
+    /// `Budget` where no instantiation is left, `Unrelated` where the variable can't be bound to the type, `Memory`
+    /// where a growth was refused. Then nothing was recorded.
     fn instantiate_ty_var_raw(
         &mut self,
         structurally_relate_aliases: StructurallyRelateAliases,
@@ -211,7 +215,8 @@ pub trait InferCtxtLike {
             ((state self.old).meaning).ty source_ty.now ≢ leaf (variable type_var n) }
         ensures grows { Grows (state self.old) (state self.new) }
         ensures instantiates { let t = ((state self.old).meaning).ty source_ty.now in
-            Instantiated (state self.old) (state self.new) instantiation_variance type_var target_vid.0 t (λ m. m.ty) result };
+            Instantiated (state self.old) (state self.new) instantiation_variance type_var target_vid.0 t (λ m. m.ty)
+            result };
 
     /// The same of a constant variable and a constant, at `Invariant`.
     fn instantiate_const_var_raw(
@@ -243,7 +248,8 @@ pub trait InferCtxtLike {
         requires sup_in { HasRegion (state self.old) sup.now }
         ensures stands { Stands (state self.old) (state self.new) }
         ensures constrains { let m = (state self.old).meaning in
-            Constrains (state self.old) (state self.new) (outlives_constraint (m.region sup.now) (m.region sub.now)) result };
+            Constrains (state self.old) (state self.new) (outlives_constraint (m.region sup.now) (m.region sub.now))
+            result };
 
     /// Records that two regions outlive each other, also where both are one. After `OutOfMemory` nothing was recorded.
     fn equate_regions(

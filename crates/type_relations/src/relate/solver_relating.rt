@@ -63,7 +63,8 @@ pub trait RelateExt: InferCtxtLike {
         ensures apart { TellsApart (Self.state self.old) (Self.state self.new) lhs rhs result }
         ensures errors { AnswersError (Self.state self.old) (Self.state self.new) variance lhs rhs result }
         ensures spent { IfSpent result ((Self.state self.new).store.budget ≡ 0) }
-        ensures same { AreOneTy (Self.state self.old) lhs rhs → DoesNothing (Self.state self.old) (Self.state self.new) result }
+        ensures same { AreOneTy (Self.state self.old) lhs rhs →
+            DoesNothing (Self.state self.old) (Self.state self.new) result }
         ensures goals { IfOk result (λ goals. goals.items ≡ []) }
         ensures exact { AnswersExactly (Self.state self.old) (Self.state self.new) variance lhs rhs result }
         ensures no_unifier { ProvesApart (Self.state self.old) (Self.state self.new) variance lhs rhs result }
@@ -100,7 +101,8 @@ impl<Infcx: InferCtxtLike> RelateExt for Infcx {
         ensures apart { TellsApart (Infcx.state self.old) (Infcx.state self.new) lhs rhs result }
         ensures errors { AnswersError (Infcx.state self.old) (Infcx.state self.new) variance lhs rhs result }
         ensures spent { IfSpent result ((Infcx.state self.new).store.budget ≡ 0) }
-        ensures same { AreOneTy (Infcx.state self.old) lhs rhs → DoesNothing (Infcx.state self.old) (Infcx.state self.new) result }
+        ensures same { AreOneTy (Infcx.state self.old) lhs rhs →
+            DoesNothing (Infcx.state self.old) (Infcx.state self.new) result }
         ensures goals { IfOk result (λ goals. goals.items ≡ []) }
         ensures exact { AnswersExactly (Infcx.state self.old) (Infcx.state self.new) variance lhs rhs result }
         ensures no_unifier { ProvesApart (Infcx.state self.old) (Infcx.state self.new) variance lhs rhs result }

@@ -125,8 +125,8 @@ impl<'a, Infcx: InferCtxtLike> SolverRelating<'a, Infcx> {
         requires env_known { KnowsEnv (Infcx.state self.old.infcx.now) self.old.param_env }
         requires decides { self.old.ambient_variance ≢ Bivariant }
         requires asked { let r = self.old in
-            AskedTys solver_manner (solving_through r.infcx.ghost_name (Infcx.state r.infcx.now) r.ambient_variance r.param_env)
-            a.now b.now }
+            let before = solving_through r.infcx.ghost_name (Infcx.state r.infcx.now) r.ambient_variance r.param_env in
+            AskedTys solver_manner before a.now b.now }
         requires a_shallow { let r = Infcx.state self.old.infcx.now in IsShallow r.store ((r.meaning).ty a.now) }
         requires b_shallow { let r = Infcx.state self.old.infcx.now in IsShallow r.store ((r.meaning).ty b.now) }
         ensures { let r = self.old in let q = self.new in
@@ -186,8 +186,8 @@ impl<'a, Infcx: InferCtxtLike> SolverRelating<'a, Infcx> {
         requires env_known { KnowsEnv (Infcx.state self.old.infcx.now) self.old.param_env }
         requires decides { self.old.ambient_variance ≢ Bivariant }
         requires asked { let r = self.old in
-            AskedTys solver_manner (solving_through r.infcx.ghost_name (Infcx.state r.infcx.now) r.ambient_variance r.param_env)
-            a.now b.now }
+            let before = solving_through r.infcx.ghost_name (Infcx.state r.infcx.now) r.ambient_variance r.param_env in
+            AskedTys solver_manner before a.now b.now }
         requires a_shallow { let r = Infcx.state self.old.infcx.now in IsShallow r.store ((r.meaning).ty a.now) }
         requires b_shallow { let r = Infcx.state self.old.infcx.now in IsShallow r.store ((r.meaning).ty b.now) }
         requires a_no_ty_var { let r = Infcx.state self.old.infcx.now in
@@ -237,8 +237,8 @@ impl<'a, Infcx: InferCtxtLike> SolverRelating<'a, Infcx> {
         requires env_known { KnowsEnv (Infcx.state self.old.infcx.now) self.old.param_env }
         requires decides { self.old.ambient_variance ≢ Bivariant }
         requires asked { let r = self.old in
-            AskedConsts solver_manner (solving_through r.infcx.ghost_name (Infcx.state r.infcx.now) r.ambient_variance r.param_env)
-            a.now b.now }
+            let before = solving_through r.infcx.ghost_name (Infcx.state r.infcx.now) r.ambient_variance r.param_env in
+            AskedConsts solver_manner before a.now b.now }
         requires a_shallow { let r = Infcx.state self.old.infcx.now in
             IsShallowConst r.store ((r.meaning).const_ a.now) }
         requires b_shallow { let r = Infcx.state self.old.infcx.now in
