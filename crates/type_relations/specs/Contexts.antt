@@ -40,9 +40,12 @@ module _ {Key Id Name : Type 0} where
   abbrev pub KnowsConst : Context Key Id Name → ConstKey Key → Type 0
   KnowsConst c t = IsTrue (known ((c.meaning).const_ t))
 
-  -- The type may be related at a variance.
+  -- The type, or the constant, may be related at a variance.
   abbrev pub TakesTy : Context Key Id Name → Variance → TyKey Key → Type 0
   TakesTy c v t = IsTaken v ((c.meaning).ty t)
+
+  abbrev pub TakesConst : Context Key Id Name → Variance → ConstKey Key → Type 0
+  TakesConst c v t = IsTaken v ((c.meaning).const_ t)
 
   -- The variables in the type, or the constant, are the context's, and nothing in it is of a later universe or escapes
   -- a binder.

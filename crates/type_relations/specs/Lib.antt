@@ -29,3 +29,5 @@ pub mod Contexts
 pub mod Resolving
 pub mod NumberValues
 pub mod ContextCalls
+pub mod NumberVars
+pub mod Solving

@@ -1,22 +1,29 @@
 //! Inference contexts, by what each of their calls does.
-ghost use Rattle.std.specs.Prelude.{◌≡◌, ◌≢◌};
+ghost use Rattle.std.specs.Prelude.{◌≡◌, ◌≢◌, ℕ};
 ghost use Rattle.std.specs.Borrow.{sem, Lends};
+ghost use Rattle.relation_terms.specs.declared.terms.enums.Variance.TheVariants.{Invariant, Bivariant};
 ghost use Rattle.relation_terms.specs.declared.terms.ty_kind.IntVarValue.TheVariants.{Unknown};
 ghost use Rattle.relation_terms.specs.declared.terms.ty_kind.FloatVarValue.TheVariants.{Unknown as UnknownFloat};
 ghost use Rattle.relation_terms.specs.Heads.{type_var, int_var, float_var, const_var, region_var, variable};
 ghost use Rattle.relation_terms.specs.Meaning.{Extends};
 ghost use Rattle.relation_terms.specs.Trees.{leaf};
 ghost use Rattle.type_relations.specs.Stores.{IsSound, IsMade, equal_constraint, outlives_constraint};
-ghost use Rattle.type_relations.specs.Contexts.{Context, KnowsTy, KnowsConst, HasTy, HasConst, HasRegion};
+ghost use Rattle.type_relations.specs.Contexts.{Context, KnowsTy, KnowsConst, HasTy, HasConst, HasRegion, TakesTy};
+ghost use Rattle.type_relations.specs.Contexts.{TakesConst};
+ghost use Rattle.type_relations.specs.Taken.{IsTaken};
+ghost use Rattle.type_relations.specs.Parts.{IsFormedConst};
 ghost use Rattle.type_relations.specs.Resolving.{IsShallow, IsShallowTy, IsShallowConst};
 ghost use Rattle.type_relations.specs.NumberValues.{int_value_tree, float_value_tree};
-ghost use Rattle.type_relations.specs.ContextCalls.{IsUnresolved, IsRootOf, Reads, Stands, Grows, MakesNext, EquatesTwo};
-ghost use Rattle.type_relations.specs.ContextCalls.{BindsNumber, Constrains};
+ghost use Rattle.type_relations.specs.ContextCalls.{IsUnresolved, IsRootOf, Reads, Knows, Stands, Grows, MakesNext};
+ghost use Rattle.type_relations.specs.ContextCalls.{EquatesTwo, BindsNumber, Constrains, Instantiated};
+ghost use Rattle.type_relations.specs.ContextCalls.{HasCoveredBindings};
 
+use crate::relate::StructurallyRelateAliases;
 use relation_terms::terms::{
     Const, ConstVid, FloatVarValue, FloatVid, IntVarValue, IntVid, Interner, OutOfMemory, Region,
-    Span, Ty, TyVid, UniverseIndex,
+    Span, Ty, TyVid, UniverseIndex, Variance,
 };
+use relation_tools::error::RelateResult;
 
 /// Whether a constraint on regions is seen where placeholders are checked for leaks. No answer of relating looks at it.
 #[derive(Clone, Copy, PartialEq, Eq)]
@@ -48,16 +55,15 @@ pub trait InferCtxtLike {
 
     /// The interner, to make terms.
     fn cx_mut(&mut self) -> &mut Self::Interner
-        ensures* writes_back { sem 𝓛 (Lends Self.row Self.Interner.row self.entry result (with_interner self.entry.now)) }
+        ensures* writes_back { sem 𝓛 (Lends Self.row Self.Interner.row self.entry result
+            (with_interner self.entry.now)) }
         ensures value { Self.Interner.meaning result.now ≡ (state self.old).meaning };
 
     /// Does nothing: it shows that making terms changes nothing of the context but what its interner knows.
     fn interner_grows(&self)
-        requires lawful { (state self.now).lawful }
-        ensures grows { (cx : Self.Interner) → Extends (state self.now).meaning (Self.Interner.meaning cx) →
-            Grows (state self.now) (state (with_interner self.now cx)) }
-        ensures same { (cx : Self.Interner) → Extends (state self.now).meaning (Self.Interner.meaning cx) →
-            (state (with_interner self.now cx)).store ≡ (state self.now).store };
+        ensures { (cx : Self.Interner) → Extends (state self.now).meaning (Self.Interner.meaning cx) →
+            (state self.now).lawful →
+            Knows (state self.now) (Self.Interner.meaning cx) (state (with_interner self.now cx)) };
 
     /// The current universe.
     fn universe(&self) -> UniverseIndex
@@ -104,7 +110,8 @@ pub trait InferCtxtLike {
     fn opportunistic_resolve_ct_var(&self, vid: ConstVid) -> Const<Self::Interner>
         requires lawful { (state self.now).lawful }
         requires made { IsMade (state self.now).store const_var vid.0 }
-        ensures reads { let c = state self.now in Reads c (leaf (variable const_var vid.0)) ((c.meaning).const_ result) }
+        ensures reads { let c = state self.now in
+            Reads c (leaf (variable const_var vid.0)) ((c.meaning).const_ result) }
         ensures shallow { let c = state self.now in IsShallowConst c.store ((c.meaning).const_ result) };
 
     /// The type itself, or for a variable what its class is bound to, or else its root. It takes no memory.
@@ -183,6 +190,51 @@ pub trait InferCtxtLike {
         requires value_known { value ≢ UnknownFloat }
         ensures { BindsNumber (state self.old) (state self.new) float_var vid.0 (float_value_tree value) };
 
+    /// Binds an unresolved type variable, at a variance, to what a type comes to, for one of the budget, and answers
+    /// the bound type. Both may be related at the variance, so that it is `Invariant` yet; and the type is no type
+    /// variable.
+    ///
+    /// # Errors
+    /// `Budget` where no instantiation is left, `Unrelated` where the variable can't be bound to the type, `Memory`
+    /// where a growth was refused. Then nothing was recorded.
+    fn instantiate_ty_var_raw(
+        &mut self,
+        structurally_relate_aliases: StructurallyRelateAliases,
+        target_vid: TyVid,
+        instantiation_variance: Variance,
+        source_ty: &Ty<Self::Interner>,
+    ) -> RelateResult<Self::Interner, Ty<Self::Interner>>
+        requires lawful { (state self.old).lawful }
+        requires decides { instantiation_variance ≢ Bivariant }
+        requires target_unresolved { IsUnresolved (state self.old) type_var target_vid.0 }
+        requires target_taken { IsTaken instantiation_variance (leaf (variable type_var target_vid.0)) }
+        requires source_known { KnowsTy (state self.old) source_ty.now }
+        requires source_in { HasTy (state self.old) source_ty.now }
+        requires source_taken { TakesTy (state self.old) instantiation_variance source_ty.now }
+        requires source_no_variable { (n : ℕ) →
+            ((state self.old).meaning).ty source_ty.now ≢ leaf (variable type_var n) }
+        ensures grows { Grows (state self.old) (state self.new) }
+        ensures instantiates { let t = ((state self.old).meaning).ty source_ty.now in
+            Instantiated (state self.old) (state self.new) instantiation_variance type_var target_vid.0 t (λ m. m.ty)
+            result };
+
+    /// The same of a constant variable and a constant, at `Invariant`.
+    fn instantiate_const_var_raw(
+        &mut self,
+        structurally_relate_aliases: StructurallyRelateAliases,
+        target_vid: ConstVid,
+        source_ct: &Const<Self::Interner>,
+    ) -> RelateResult<Self::Interner, Const<Self::Interner>>
+        requires lawful { (state self.old).lawful }
+        requires target_unresolved { IsUnresolved (state self.old) const_var target_vid.0 }
+        requires source_known { KnowsConst (state self.old) source_ct.now }
+        requires source_in { HasConst (state self.old) source_ct.now }
+        requires source_taken { TakesConst (state self.old) Invariant source_ct.now }
+        requires source_formed { IsFormedConst (((state self.old).meaning).const_ source_ct.now) }
+        ensures grows { Grows (state self.old) (state self.new) }
+        ensures instantiates { let t = ((state self.old).meaning).const_ source_ct.now in
+            Instantiated (state self.old) (state self.new) Invariant const_var target_vid.0 t (λ m. m.const_) result };
+
     /// Records that `sup` outlives `sub`. After `OutOfMemory` nothing was recorded.
     fn sub_regions(
         &mut self,
@@ -196,7 +248,8 @@ pub trait InferCtxtLike {
         requires sup_in { HasRegion (state self.old) sup.now }
         ensures stands { Stands (state self.old) (state self.new) }
         ensures constrains { let m = (state self.old).meaning in
-            Constrains (state self.old) (state self.new) (outlives_constraint (m.region sup.now) (m.region sub.now)) result };
+            Constrains (state self.old) (state self.new) (outlives_constraint (m.region sup.now) (m.region sub.now))
+            result };
 
     /// Records that two regions outlive each other, also where both are one. After `OutOfMemory` nothing was recorded.
     fn equate_regions(
@@ -218,4 +271,7 @@ pub trait InferCtxtLike {
 
     // What a lawful context has recorded is sound.
     ghost sound: { (c : Self) → (state c).lawful → IsSound (state c).store };
+
+    // What its variables are bound to is of forms that relating has rules for.
+    ghost covered: { (c : Self) → (state c).lawful → HasCoveredBindings (state c).store };
 }

@@ -2,14 +2,17 @@
 use crate::context::RefCtxt;
 use relation_terms::terms::{
     Const, ConstVid, FloatVarValue, FloatVid, IntVarValue, IntVid, Interner, OutOfMemory, Region,
-    Span, Ty, TyVid, UniverseIndex,
+    Span, Ty, TyVid, UniverseIndex, Variance,
 };
+use relation_tools::error::RelateResult;
 use type_relations::infer_ctxt::{InferCtxtLike, VisibleForLeakCheck};
+use type_relations::relate::StructurallyRelateAliases;
 
 impl<I: Interner> InferCtxtLike for RefCtxt<I> {
     type Interner = I;
 
     ghost use Rattle.std.specs.Prelude.{refl};
+    ghost use Rattle.relation_reference.specs.Tables.{covered_bindings};
     ghost use Rattle.relation_reference.specs.RefCtxt.{context_in};
 
     ghost state = { λ c. context_in I.meaning c };
@@ -104,6 +107,25 @@ impl<I: Interner> InferCtxtLike for RefCtxt<I> {
         self.instantiate_float_var_raw(vid, value);
     }
 
+    fn instantiate_ty_var_raw(
+        &mut self,
+        _structurally_relate_aliases: StructurallyRelateAliases,
+        target_vid: TyVid,
+        _instantiation_variance: Variance,
+        source_ty: &Ty<I>,
+    ) -> RelateResult<I, Ty<I>> {
+        self.instantiate_ty_var_raw(target_vid, source_ty)
+    }
+
+    fn instantiate_const_var_raw(
+        &mut self,
+        _structurally_relate_aliases: StructurallyRelateAliases,
+        target_vid: ConstVid,
+        source_ct: &Const<I>,
+    ) -> RelateResult<I, Const<I>> {
+        self.instantiate_const_var_raw(target_vid, source_ct)
+    }
+
     fn sub_regions(
         &mut self,
         sub: &Region<I>,
@@ -127,4 +149,6 @@ impl<I: Interner> InferCtxtLike for RefCtxt<I> {
     ghost reads = { λ c. refl };
 
     ghost sound = { λ c l. l.sound };
+
+    ghost covered = { λ c l. covered_bindings (I.meaning c.interner) c.inner l };
 }

@@ -1,8 +1,8 @@
+use Rattle.std.proofs.Common.{refl}
 use Rattle.relation_reference.proofs.Grows.{store_grows, lawful_grows}
 use Rattle.relation_reference.proofs.context.infer_ctxt.RefCtxtInferCtxtLike.interner_grows.Goals as goal
 
-pub returns-clause-grows : goal.returns-clause-grows
-returns-clause-grows g c = λ cx e. record { extends = e; lawful = lawful_grows e c.args.self.now.inner c.requires.lawful }
-
-pub returns-clause-same : goal.returns-clause-same
-returns-clause-same g c = λ cx e. store_grows e c.args.self.now.inner c.requires.lawful
+pub returns : goal.returns
+returns g c = λ cx e l.
+    let x = c.args.self.now.inner in
+    record { meaning = refl; store = store_grows e x l; lawful = lawful_grows e x l }
