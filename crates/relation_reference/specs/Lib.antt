@@ -3,6 +3,4 @@ pub mod Numbers
 pub mod Tables
 pub mod RefCtxt
 pub mod Remembering
-pub mod NumberVars
-pub mod Solving
 pub mod Answers
