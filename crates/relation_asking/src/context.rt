@@ -14,6 +14,7 @@ use relation_reference::context::RefCtxt;
 use relation_terms::terms::{Interner, OutOfMemory, ParamEnv, Span, Ty, Variance};
 use relation_text::naming::Question;
 use std::fmt::{self, Write};
+use type_relations::infer_ctxt::InferCtxtLike;
 use type_relations::relate::solver_relating::{RelateExt, RelateGoals};
 
 /// Why a question is not asked.
@@ -194,7 +195,7 @@ pub(super) fn refusal<I: Interner>(
 
 /// Relates two types at a variance in any context that can. What is answered is what the context promises: after `Ok`
 /// what is recorded and the goals relate the types, and no equal pair is lost; `Unrelated` says that nothing made them one.
-pub(super) fn relate<C: RelateExt>(
+pub(super) fn relate<C: InferCtxtLike>(
     ctx: &mut C,
     param_env: ParamEnv<C::Interner>,
     lhs: Ty<C::Interner>,

@@ -6,20 +6,21 @@ ghost use Rattle.relation_terms.specs.Trees.{known, count};
 ghost use Rattle.relation_terms.specs.Meaning.{Extends};
 ghost use Rattle.relation_tools.specs.Faults.{KnowsFault};
 ghost use Rattle.type_relations.specs.Keyed.{AreAsMany, AskedLists, RelatedLists};
-ghost use Rattle.relation_reference.specs.Solving.{solving_in, solver_manner};
+ghost use Rattle.type_relations.specs.Solving.{solving_in, solver_manner};
 ghost use Rattle.relation_reference.specs.Tables.{IsLawful};
+ghost use Rattle.relation_reference.specs.RefCtxt.{context_in};
 ghost use Rattle.relation_asking.specs.Asking.{AreReady, IsReady};
 
 use crate::context::{NotAsked, have_variables, refusal};
 use crate::needs::{Needs, both, parts_need};
 use crate::question::{Ready, Unasked};
-use relation_reference::context::{RefCtxt, SolverRelating};
+use relation_reference::context::RefCtxt;
 use relation_terms::terms::parts::member_count;
 use relation_terms::terms::{GenericArgs, Interner, ParamEnv, Parts as PartsOfTerm, Variance};
 use relation_text::building::keys_at;
 use relation_text::naming::{Parts, Question};
 use relation_tools::error::RelateResult;
-use type_relations::relate::solver_relating::RelateGoals;
+use type_relations::relate::solver_relating::{RelateGoals, SolverRelating};
 
 // The arguments of a list of terms, and what they need.
 pub(super) fn args_of<I: Interner>(
@@ -63,14 +64,15 @@ fn relate_args<I: Interner>(
 ) -> RelateResult<I, GenericArgs<I>>
     requires lawful { IsLawful (I.meaning ctx.old.interner) ctx.old.inner }
     requires env_known { IsTrue (known ((I.meaning ctx.old.interner).param_env param_env)) }
-    requires asked { let before = solving_in I.meaning ctx.old Invariant param_env in
+    requires asked { let before = solving_in (context_in I.meaning ctx.old) Invariant param_env in
         AskedLists solver_manner before (λ m. arguments) lhs.now rhs.now }
-    requires as_many { AreAsMany (solving_in I.meaning ctx.old Invariant param_env) lhs.now rhs.now }
-    ensures { let before = solving_in I.meaning ctx.old Invariant param_env in
-        let after = solving_in I.meaning ctx.new Invariant param_env in
+    requires as_many { AreAsMany (solving_in (context_in I.meaning ctx.old) Invariant param_env) lhs.now rhs.now }
+    ensures { let before = solving_in (context_in I.meaning ctx.old) Invariant param_env in
+        let after = solving_in (context_in I.meaning ctx.new) Invariant param_env in
         RelatedLists solver_manner before after (λ m. arguments) lhs.now rhs.now result }
 {
-    let mut relation = SolverRelating::new(ctx, Variance::Invariant, param_env);
+    let span = ctx.interner.dummy_span();
+    let mut relation = SolverRelating::new(ctx, Variance::Invariant, param_env, span);
     let related = relation.relate_args(lhs, rhs);
     let _ctx = relation.into_infcx();
     related

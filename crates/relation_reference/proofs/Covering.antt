@@ -31,29 +31,6 @@ covered_open l (node h ts) c o = o
 covered_open l (bind ks t) c o = absurd c
 covered_open l t c o = absurd o
 
--- A covered constant that is no variable is of a form.
-const_admitted : (s : Sort) → Admits const_sort s → s ≡ const_sort
-const_admitted const_sort a = refl
-const_admitted s a = absurd a
-
-form_of_const : (h : Head) (ts : Tree) → head_sort h ≡ const_sort → IsCoveredHead h → IsFormedConst (node h ts)
-form_of_const (expression k) ts e c = tt
-form_of_const value ts e c = tt
-form_of_const (unevaluated d) ts e c = absurd c
-form_of_const h ts e c = absurd (cc)
-
-pub covered_formed_const : (t : Tree) → IsTerm const_sort t → IsCovered t → ((k : VarKind) (n : ℕ) → t ≡ leaf (variable k n) → ⊥) →
-    IsFormedConst t
-covered_formed_const (leaf (variable k n)) s c o = absurd (o k n refl)
-covered_formed_const (leaf (bound k d i)) s c o = absurd c
-covered_formed_const (leaf (placeholder k u n)) s c o = const_admitted (bound_sort k) s
-covered_formed_const (leaf (atom x)) s c o = const_admitted (atom_sort x) s
-covered_formed_const (leaf unknown) s c o = absurd c
-covered_formed_const (node h ts) s c o = form_of_const h ts (const_admitted (head_sort h) s.0) c.0
-covered_formed_const (bind ks t) s c o = absurd c
-covered_formed_const nil s c o = absurd s
-covered_formed_const (cons t ts) s c o = absurd s
-
 -- What a covered term comes to is covered, where each binding is.
 covered_apply : (s : Assign) → ((k : VarKind) (n : ℕ) → IsCovered (leaf (variable k n)) → IsCovered (s k n)) →
     (t : Tree) → IsCovered t → IsCovered (apply s t)

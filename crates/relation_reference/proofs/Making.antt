@@ -282,25 +282,6 @@ module _ {Key Id Name : Type 0} {m n : Meaning Key Id Name} (e : Extends m n) (x
   region_made_lawful = variable_lawful e x (record x { regions = rs }) l region_var (length x.regions.items) (u.0) below (regions_beside n x rs x.budget) (sym (length-map x.regions.items (λ w. unbound))) region_entries region_universes refl (λ f. absurd f)
       (λ i h. absurd (omega (arith, h)))
 
--- The value of a region of the context is a region.
-region_kind_only : (k : VarKind) → Admits region_sort (var_sort k) → var_sort k ≡ region_sort
-region_kind_only region_var h = refl
-region_kind_only type_var h = absurd h
-region_kind_only int_var h = absurd h
-region_kind_only float_var h = absurd h
-region_kind_only const_var h = absurd h
-
-pub region_value : (st : Store) (s : Assign) (r : Tree) → IsAssignment st s → IsTerm region_sort r → IsTermIn st r → sort_of (apply s r) ≡ region_sort
-region_value st s (leaf (variable k n)) a h i = term_sort_of k (s k n) (stands_term k (s k n) (a k n (made_of_term st k n i)).0) ∙ region_kind_only k h
-region_value st s (leaf (bound k d n)) a h i = term_sort_of region_var (leaf (bound k d n)) h
-region_value st s (leaf (placeholder k u n)) a h i = term_sort_of region_var (leaf (placeholder k u n)) h
-region_value st s (leaf (atom y)) a h i = term_sort_of region_var (leaf (atom y)) h
-region_value st s (leaf unknown) a h i = absurd h
-region_value st s (node g ts) a h i = term_sort_of region_var (node g ts) h
-region_value st s (bind ks t) a h i = absurd h
-region_value st s nil a h i = absurd h
-region_value st s (cons t u) a h i = absurd h
-
 -- A new constraint.
 module _ {Key Id Name : Type 0} (m : Meaning Key Id Name) (x : InferCtxtInner Key) (l : IsLawful m x) (r : RegionConstraint Key)
     (is_in : ConstraintIn (store_of m x) (constraint_of m r)) (qs : Vec (RegionConstraint Key)) (more : qs.items ≡ x.constraints.items ++ r ∷ []) where

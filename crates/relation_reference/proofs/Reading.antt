@@ -33,9 +33,11 @@ use Rattle.relation_reference.specs.declared.context.memory.TermVid.TheVariants.
 use Rattle.relation_reference.specs.Remembering.{vid_kind, vid_number}
 use Rattle.relation_reference.specs.Variables.{value_at, root_by, root_at, term_by, term_at, entry_of_value, entries_of, trees_of, keys_of}
 use Rattle.relation_reference.specs.Tables.{store_of, keys_in, MayBeBoundTo, IsRooted, IsLawful}
-use Rattle.relation_reference.specs.Answers.{IsRoot, IsShallow, root, stays_bound, formed, IsShallowTy, ty_root, no_ty_variable, IsShallowConst, const_root, no_variable, HasBinding, HasNoBinding}
+use Rattle.type_relations.specs.Resolving.{IsRoot, IsShallow, root, stays_bound, formed, IsShallowTy, ty_root, no_ty_variable, IsShallowConst, const_root, no_variable}
+use Rattle.relation_reference.specs.Answers.{HasBinding, HasNoBinding}
 use Rattle.relation_reference.proofs.Grows.{entry_at, bound_known}
-use Rattle.relation_reference.proofs.Covering.{covered_formed_const, may_covered}
+use Rattle.relation_reference.proofs.Covering.{may_covered}
+use Rattle.type_relations.proofs.Variables.{kind_variable, kind_no_const, const_no_variable}
 
 -- The other is a variable of the context.
 pub leads_made : (st : Store) → IsSound st → (k : VarKind) (n p : ℕ) → entry_of st k n ≡ same_as p → IsMade st k p
@@ -141,54 +143,8 @@ kind_shallow m st (Infer i) a b c = infer_shallow st i a (λ v e. b v (ap Infer 
 kind_shallow m st (TyBound d b) a e c = stays_bound _ _ _ refl
 kind_shallow m st k a b c = formed refl
 
--- A type variable is the form of none but a type variable, and a type is no variable of a constant.
-infer_variable : (i : InferTy) (n : ℕ) → ((v : TyVid) → i ≡ TyVar v → ⊥) → infer_tree i ≡ leaf (variable type_var n) → ⊥
-infer_variable (TyVar v) n h e = h v refl
-infer_variable (IntVar v) n h e = cc
-infer_variable (FloatVar v) n h e = cc
-infer_variable (FreshTy k) n h e = cc
-infer_variable (FreshIntTy k) n h e = cc
-infer_variable (FreshFloatTy k) n h e = cc
-
-infer_no_const : (i : InferTy) (n : ℕ) → infer_tree i ≡ leaf (variable const_var n) → ⊥
-infer_no_const (TyVar v) n e = cc
-infer_no_const (IntVar v) n e = cc
-infer_no_const (FloatVar v) n e = cc
-infer_no_const (FreshTy k) n e = cc
-infer_no_const (FreshIntTy k) n e = cc
-infer_no_const (FreshFloatTy k) n e = cc
-
-pub kind_variable : {Key Id Name : Type 0} (m : Meaning Key Id Name) (k : TyKind Key Id Name) (n : ℕ) →
-    ((v : TyVid) → k ≡ Infer (TyVar v) → ⊥) → kind_tree m k ≡ leaf (variable type_var n) → ⊥
-kind_variable m (Infer i) n h e = infer_variable i n (λ v q. h v (ap Infer q)) e
-kind_variable m k n h e = cc
-
-kind_no_const : {Key Id Name : Type 0} (m : Meaning Key Id Name) (k : TyKind Key Id Name) (n : ℕ) → kind_tree m k ≡ leaf (variable const_var n) → ⊥
-kind_no_const m (Infer i) n e = infer_no_const i n e
-kind_no_const m k n e = cc
-
--- A variable is the form of no constant but a constant variable.
-infer_const_variable : (i : InferConst) (j : VarKind) (n : ℕ) → ((v : ConstVid) → i ≡ Var v → ⊥) → infer_const_tree i ≡ leaf (variable j n) → ⊥
-infer_const_variable (Var v) j n h e = h v refl
-infer_const_variable (Fresh k) j n h e = cc
-
-const_no_variable : {Key Id Name : Type 0} (m : Meaning Key Id Name) (k : ConstKind Key Id Name) (j : VarKind) (n : ℕ) →
-    ((v : ConstVid) → k ≡ ConstInfer (Var v) → ⊥) → const_tree m k ≡ leaf (variable j n) → ⊥
-const_no_variable m (ConstInfer i) j n h e = infer_const_variable i j n (λ v q. h v (ap ConstInfer q)) e
-const_no_variable m k j n h e = cc
-
 -- What a type is by whether its form is a type variable.
 module _ {Key Id Name : Type 0} (m : Meaning Key Id Name) (k : TyKind Key Id Name) (t : Tree) (e : t ≡ kind_tree m k) where
-  pub some_variable : (o : Option TyVid) → IfSome o (λ v. k ≡ Infer (TyVar v)) →
-      IfSome o (λ v. t ≡ leaf (variable type_var v.0))
-  some_variable (Some v) h = e ∙ ap (kind_tree m) h
-  some_variable None h = h
-
-  pub no_type_variable : (o : Option TyVid) → IfNone o ((v : TyVid) → k ≡ Infer (TyVar v) → ⊥) →
-      IfNone o ((n : ℕ) → t ≡ leaf (variable type_var n) → ⊥)
-  no_type_variable (Some v) h = h
-  no_type_variable None h = λ n q. kind_variable m k n h (sym e ∙ q)
-
   pub type_shallow : (st : Store) → ((v : TyVid) → k ≡ Infer (TyVar v) → ⊥) → IsShallowTy st t
   type_shallow st h = no_ty_variable (λ n q. kind_variable m k n h (sym e ∙ q))
 
@@ -206,16 +162,6 @@ module _ {Key Id Name : Type 0} (m : Meaning Key Id Name) (k : ConstKind Key Id 
 
   pub const_no_vid : ((v : ConstVid) → k ≡ ConstInfer (Var v) → ⊥) → (v : TermVid) → t ≡ leaf (variable (vid_kind v) (vid_number v)) → ⊥
   const_no_vid h v q = const_no_variable m k (vid_kind v) (vid_number v) h (sym e ∙ q)
-
-  pub some_const_variable : (o : Option ConstVid) → IfSome o (λ v. k ≡ ConstInfer (Var v)) →
-      IfSome o (λ v. t ≡ leaf (variable const_var v.0))
-  some_const_variable (Some v) h = e ∙ ap (const_tree m) h
-  some_const_variable None h = h
-
-  pub no_const_variable : IsTerm const_sort t → (o : Option ConstVid) → IfNone o ((v : ConstVid) → k ≡ ConstInfer (Var v) → ⊥) →
-      IfNone o (IsCovered t → IsFormedConst t)
-  no_const_variable s (Some v) h = h
-  no_const_variable s None h = λ c. covered_formed_const t s c (λ j n q. const_no_variable m k j n h (sym e ∙ q))
 
 -- A variable of the context; and what a term of it is read as is of it.
 made_of_context : (st : Store) (k : VarKind) (n : ℕ) → InContext st (leaf (variable k n)) → IsMade st k n

@@ -3,7 +3,5 @@ pub mod Numbers
 pub mod Tables
 pub mod RefCtxt
 pub mod Remembering
-pub mod NumberVars
 pub mod Generalises
-pub mod Solving
 pub mod Answers

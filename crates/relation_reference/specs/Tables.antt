@@ -9,6 +9,7 @@ use Rattle.type_relations.specs.Constraints.{constraint_of}
 use Rattle.type_relations.specs.Parts.{IsFormed, IsFormedConst}
 use Rattle.type_relations.specs.Covered.{IsCovered}
 use Rattle.type_relations.specs.Contexts.{Context}
+use Rattle.type_relations.specs.ContextCalls.{HasCoveredBindings}
 use Rattle.relation_reference.specs.declared.context.inner.InferCtxtInner.{InferCtxtInner}
 use Rattle.relation_reference.specs.Variables.{entries_of, universes_of, trees_of}
 use Rattle.relation_reference.specs.Numbers.{number_trees}
@@ -66,6 +67,14 @@ module _ {Key Id Name : Type 0} (m : Meaning Key Id Name) where
     pub first_universe : (x.universe).0 ≡ 0
     pub keyed : (k : VarKind) (n : ℕ) → n < length (keys_in x k) → get_or (keys_in x k) n nil ≡ leaf (variable k n)
     pub numbers : map m.ty x.numbers.items ≡ number_trees
+
+  -- So all that is bound is of forms that relating has rules for.
+  pub covered_bindings : (x : InferCtxtInner Key) → IsLawful x → HasCoveredBindings (store_of x)
+  covered_bindings x l type_var n t e = (l.formed type_var n t e).1
+  covered_bindings x l int_var n t e = (l.formed int_var n t e).1
+  covered_bindings x l float_var n t e = (l.formed float_var n t e).1
+  covered_bindings x l const_var n t e = (l.formed const_var n t e).1
+  covered_bindings x l region_var n t e = (l.formed region_var n t e).1
 
   -- A context of these tables, as contracts see it.
   abbrev pub context_of : InferCtxtInner Key → Context Key Id Name

@@ -17,10 +17,9 @@ use Rattle.type_relations.specs.Covered.{IsCovered, IsCoveredAtom}
 use Rattle.relation_terms.specs.Heads.{fresh_type, fresh_int, fresh_float, fresh_const}
 use Rattle.type_relations.specs.Lawful.{Asked}
 use Rattle.relation_tests.specs.Plain.{plain_store, plain_state, plain_manner}
-use Rattle.relation_reference.specs.declared.context.inner.InferCtxtInner.{InferCtxtInner}
 use Rattle.relation_tests.specs.Concrete.{IsConcrete}
-use Rattle.relation_reference.specs.Solving.{solving, solver_manner}
-use Rattle.relation_reference.specs.Tables.{store_of}
+use Rattle.type_relations.specs.Contexts.{Context}
+use Rattle.type_relations.specs.Solving.{solving_in, solver_manner}
 use Rattle.relation_reference.proofs.Grows.{known_of_term}
 
 -- A covered atom is no stand-in.
@@ -103,14 +102,13 @@ concrete_asked m v a b h k = record {
 }
 
 -- Also in a context.
-pub concrete_solved : {Key Id Name : Type 0} (m : Meaning Key Id Name) (x : InferCtxtInner Key) (v : Variance)
-    (e : ParamEnvKey Key) (a b : Tree) → IsConcrete a → IsConcrete b →
-    Asked solver_manner (solving 0 m x v e) v a b
-concrete_solved m x v e a b h k = record {
+pub concrete_solved : {Key Id Name : Type 0} (c : Context Key Id Name) (v : Variance) (e : ParamEnvKey Key)
+    (a b : Tree) → IsConcrete a → IsConcrete b → Asked solver_manner (solving_in c v e) v a b
+concrete_solved c v e a b h k = record {
   left_known = concrete_known a h;
   right_known = concrete_known b k;
-  left_in = concrete_in (store_of m x) a h;
-  right_in = concrete_in (store_of m x) b k;
+  left_in = concrete_in c.store a h;
+  right_in = concrete_in c.store b k;
   left_taken = concrete_taken v a h;
   right_taken = concrete_taken v b k;
 }

@@ -4,16 +4,18 @@ ghost use Rattle.relation_terms.specs.Trees.{known};
 ghost use Rattle.relation_terms.specs.declared.terms.enums.Variance.TheVariants.{Bivariant};
 ghost use Rattle.type_relations.specs.Lawful.{Asked};
 ghost use Rattle.relation_tests.specs.Concrete.{IsConcrete};
-ghost use Rattle.relation_reference.specs.Solving.{solving_in, solver_manner};
+ghost use Rattle.type_relations.specs.Solving.{solving_in, solver_manner};
+ghost use Rattle.relation_reference.specs.RefCtxt.{context_in};
 ghost use Rattle.relation_reference.specs.Tables.{IsLawful};
 
 use crate::relating::{make_two, only, outlives};
 use reference_interner::{RefInterner, SymbolId};
-use relation_reference::context::{RefCtxt, SolverRelating};
+use relation_reference::context::RefCtxt;
 use relation_terms::predicate::RegionConstraint;
 use relation_terms::terms::{Interner, ParamEnv, Ty, Variance};
 use relation_tools::error::RelateResult;
 use std::test::Fail;
+use type_relations::relate::solver_relating::SolverRelating;
 
 // What relating two types answers, and whether the context that is given back has just these constraints.
 fn recorded<I: Interner>(
@@ -27,10 +29,11 @@ fn recorded<I: Interner>(
     requires lawful { IsLawful (I.meaning ctx.old.interner) ctx.old.inner }
     requires env_known { IsTrue (known ((I.meaning ctx.old.interner).param_env param_env)) }
     requires decides { variance ≢ Bivariant }
-    requires asked { Asked solver_manner (solving_in I.meaning ctx.old variance param_env) variance
+    requires asked { Asked solver_manner (solving_in (context_in I.meaning ctx.old) variance param_env) variance
         ((I.meaning ctx.old.interner).ty a.now) ((I.meaning ctx.old.interner).ty b.now) }
 {
-    let mut relation = SolverRelating::new(ctx, variance, param_env);
+    let span = ctx.interner.dummy_span();
+    let mut relation = SolverRelating::new(ctx, variance, param_env, span);
     let answer = relation.relate_tys(a, b)?;
     let infcx = relation.into_infcx();
     Ok((answer, infcx.region_constraints() == asks))

@@ -56,3 +56,8 @@ pub mod Rejected
 pub mod Roots
 pub mod Binding
 pub mod Numbers
+pub mod Variables
+pub mod Exactly
+pub mod Shallowly
+pub mod NumberVars
+pub mod Solving

@@ -27,3 +27,8 @@ pub mod Arguments
 pub mod Making
 pub mod Keyed
 pub mod Contexts
+pub mod Resolving
+pub mod NumberValues
+pub mod ContextCalls
+pub mod NumberVars
+pub mod Solving

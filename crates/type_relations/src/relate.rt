@@ -7,12 +7,14 @@ pub mod comparing;
 mod forms;
 pub mod handing;
 mod making;
+mod number_vars;
 mod parts;
 mod reading;
 mod relatable;
 pub mod solver_relating;
 pub mod structural;
 mod type_relation;
+pub mod variables;
 
 pub use args::{relate_args_invariantly, relate_args_with_variances, relate_ty_args};
 pub use relatable::Relate;

@@ -1,69 +1,20 @@
 //! Reading what a context has recorded of its variables.
-ghost use Rattle.std.specs.Prelude.{◌≡◌, ℕ, ◌<◌, IsTrue, IfSome, IfNone, length};
+ghost use Rattle.std.specs.Prelude.{◌<◌, IsTrue, IfSome, IfNone, length};
 ghost use Rattle.relation_terms.specs.Heads.{type_var, int_var, float_var, const_var, variable};
 ghost use Rattle.relation_terms.specs.Trees.{leaf, known};
-ghost use Rattle.relation_terms.specs.declared.terms.ty_kind.TyKind.TheVariants.{Infer};
-ghost use Rattle.relation_terms.specs.declared.terms.ty_kind.InferTy.TheVariants.{TyVar, IntVar, FloatVar};
-ghost use Rattle.relation_terms.specs.declared.terms.const_kind.ConstKind.TheVariants.{Infer as ConstInfer};
-ghost use Rattle.relation_terms.specs.declared.terms.const_kind.InferConst.TheVariants.{Var};
 ghost use Rattle.type_relations.specs.Covered.{IsCovered};
 ghost use Rattle.type_relations.specs.Stores.{InContext};
 ghost use Rattle.type_relations.specs.Steps.{LeadsTo, Resolves};
 ghost use Rattle.type_relations.specs.Errors.{IsReadAs};
-ghost use Rattle.type_relations.specs.Parts.{IsFormedConst};
+ghost use Rattle.type_relations.specs.Resolving.{IsRoot, IsShallow, IsShallowTy, IsShallowConst};
 ghost use Rattle.relation_reference.specs.Tables.{IsLawful};
 ghost use Rattle.relation_reference.specs.RefCtxt.{store_in};
-ghost use Rattle.relation_reference.specs.Answers.{IsRoot, IsShallow, IsShallowTy, IsShallowConst, HasBinding, HasNoBinding};
+ghost use Rattle.relation_reference.specs.Answers.{HasBinding, HasNoBinding};
 
 use crate::context::table::{probe, root_of, term_of};
 use crate::context::{RefCtxt, VariableValue};
-use relation_terms::terms::{
-    Const, ConstKind, ConstVid, FloatVid, InferConst, InferTy, IntVid, Interner, Ty, TyKind, TyVid,
-};
-
-// The type variable that a form is, or none.
-pub(crate) fn ty_vid<X, D, N>(kind: &TyKind<X, D, N>) -> Option<TyVid>
-    ensures is { IfSome result (λ v. kind.now ≡ Infer (TyVar v)) }
-    ensures is_none { IfNone result ((v : _) → kind.now ≡ Infer (TyVar v) → ⊥) }
-{
-    match kind {
-        TyKind::Infer(InferTy::TyVar(vid)) => Some(*vid),
-        _ => None,
-    }
-}
-
-// The integer variable that a form is, or none.
-pub(crate) fn int_vid<X, D, N>(kind: &TyKind<X, D, N>) -> Option<IntVid>
-    ensures is { IfSome result (λ v. kind.now ≡ Infer (IntVar v)) }
-    ensures is_none { IfNone result ((v : _) → kind.now ≡ Infer (IntVar v) → ⊥) }
-{
-    match kind {
-        TyKind::Infer(InferTy::IntVar(vid)) => Some(*vid),
-        _ => None,
-    }
-}
-
-// The float variable that a form is, or none.
-pub(crate) fn float_vid<X, D, N>(kind: &TyKind<X, D, N>) -> Option<FloatVid>
-    ensures is { IfSome result (λ v. kind.now ≡ Infer (FloatVar v)) }
-    ensures is_none { IfNone result ((v : _) → kind.now ≡ Infer (FloatVar v) → ⊥) }
-{
-    match kind {
-        TyKind::Infer(InferTy::FloatVar(vid)) => Some(*vid),
-        _ => None,
-    }
-}
-
-// The variable that a form of a constant is, or none.
-pub(crate) fn const_vid<X, D, N>(kind: &ConstKind<X, D, N>) -> Option<ConstVid>
-    ensures is { IfSome result (λ v. kind.now ≡ ConstInfer (Var v)) }
-    ensures is_none { IfNone result ((v : _) → kind.now ≡ ConstInfer (Var v) → ⊥) }
-{
-    match kind {
-        ConstKind::Infer(InferConst::Var(vid)) => Some(*vid),
-        _ => None,
-    }
-}
+use relation_terms::terms::{Const, ConstVid, FloatVid, IntVid, Interner, Ty, TyVid};
+use type_relations::relate::variables::{const_vid, float_vid, int_vid, ty_vid};
 
 impl<I: Interner> RefCtxt<I> {
     /// The root of a type variable's class.
@@ -253,26 +204,5 @@ impl<I: Interner> RefCtxt<I> {
             return *constant;
         };
         self.opportunistic_resolve_ct_var(var)
-    }
-
-    // The type variable that a type is, or none.
-    pub(crate) fn ty_var(&self, ty: &Ty<I>) -> Option<TyVid>
-        requires { IsTrue (known ((I.meaning self.now.interner).ty ty.now)) }
-        ensures is { IfSome result (λ v. (I.meaning self.now.interner).ty ty.now ≡ leaf (variable type_var v.0)) }
-        ensures is_none { IfNone result ((n : ℕ) →
-            (I.meaning self.now.interner).ty ty.now ≡ leaf (variable type_var n) → ⊥) }
-    {
-        ty_vid(&self.interner.ty_kind(ty))
-    }
-
-    // The constant variable that a constant is, or none.
-    pub(crate) fn const_var(&self, constant: &Const<I>) -> Option<ConstVid>
-        requires const_known { IsTrue (known ((I.meaning self.now.interner).const_ constant.now)) }
-        ensures is { IfSome result (λ v.
-            (I.meaning self.now.interner).const_ constant.now ≡ leaf (variable const_var v.0)) }
-        ensures formed { IfNone result (IsCovered ((I.meaning self.now.interner).const_ constant.now) →
-            IsFormedConst ((I.meaning self.now.interner).const_ constant.now)) }
-    {
-        const_vid(&self.interner.const_kind(constant))
     }
 }

@@ -7,8 +7,6 @@ ghost use Rattle.type_relations.specs.Stores.{IsRegionIn, equal_constraint};
 ghost use Rattle.type_relations.specs.Stores.{outlives_constraint};
 ghost use Rattle.type_relations.specs.Steps.{MakesVariable, AddsConstraint, IsLater};
 ghost use Rattle.type_relations.specs.Measures.{Goes};
-ghost use Rattle.type_relations.specs.Constraints.{constraint_at, constraint_of};
-ghost use Rattle.relation_terms.specs.declared.terms.enums.Variance.TheVariants.{Bivariant};
 ghost use Rattle.relation_reference.specs.Tables.{store_of, IsLawful};
 ghost use Rattle.relation_reference.specs.RefCtxt.{store_in};
 
@@ -16,7 +14,7 @@ use crate::context::{RefCtxt, Variable, VariableValue};
 use relation_terms::predicate::{OutlivesPredicate, RegionConstraint, RegionEqPredicate};
 use relation_terms::terms::{
     Const, ConstKind, ConstVid, FloatVid, GenericArgKind, InferConst, InferTy, IntVid, Interner,
-    OutOfMemory, Region, RegionKind, RegionVid, Ty, TyKind, TyVid, UniverseIndex, Variance,
+    OutOfMemory, Region, RegionKind, RegionVid, Ty, TyKind, TyVid, UniverseIndex,
 };
 
 impl<I: Interner> RefCtxt<I> {
@@ -265,32 +263,5 @@ impl<I: Interner> RefCtxt<I> {
             .constraints
             .push(RegionConstraint::Outlives(outlives))?;
         Ok(())
-    }
-
-    // Records what two regions that are related at a variance are asked for.
-    pub(crate) fn relate_regions(
-        &mut self,
-        variance: Variance,
-        a: &Region<I>,
-        b: &Region<I>,
-    ) -> Result<(), OutOfMemory>
-        requires lawful { IsLawful (I.meaning self.old.interner) self.old.inner }
-        requires decides { variance ≢ Bivariant }
-        requires a_in { IsRegionIn (store_in I.meaning self.old) ((I.meaning self.old.interner).region a.now) }
-        requires b_in { IsRegionIn (store_in I.meaning self.old) ((I.meaning self.old.interner).region b.now) }
-        ensures interner { self.new.interner ≡ self.old.interner }
-        ensures lawful { IsLawful (I.meaning self.old.interner) self.new.inner }
-        ensures adds { let m = I.meaning self.old.interner in
-            OnOk result (IfSome (constraint_at variance a.now b.now) (λ c.
-            AddsConstraint (store_of m self.old.inner) (store_of m self.new.inner) (constraint_of m c))) }
-        ensures goes { let m = I.meaning self.old.interner in
-            Goes 0 (store_of m self.old.inner) (store_of m self.new.inner) }
-    {
-        match variance {
-            Variance::Covariant => self.sub_regions(b, a),
-            Variance::Contravariant => self.sub_regions(a, b),
-            Variance::Invariant => self.equate_regions(a, b),
-            Variance::Bivariant => unreachable!(),
-        }
     }
 }

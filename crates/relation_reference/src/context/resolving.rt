@@ -13,10 +13,10 @@ ghost use Rattle.relation_reference.specs.Remembering.{Remembers, Lacks, vid_kin
 
 use crate::context::RefCtxt;
 use crate::context::memory::{Lacking, PartKey, Resolutions, TermVid, is_lacking, keep_lacking};
-use crate::context::reading::{const_vid, ty_vid};
 use relation_terms::terms::parts::{is_same, part, parts_count, the_const, the_ty, with_parts};
 use relation_terms::terms::{Const, Interner, OutOfMemory, Part, PartOf, Ty};
 use std::collections::{HashMap, HashSet};
+use type_relations::relate::variables::{const_vid, ty_vid};
 
 // The type or constant variable that a term is, or none.
 pub(crate) fn variable_of<I: Interner>(cx: &I, term: &PartOf<I>) -> Option<TermVid>

@@ -1,13 +1,18 @@
-//! The relation that a solver asks of its inference context.
+//! Relating as a solver does: by what a context has recorded, and by recording more.
 ghost use Rattle.std.specs.Prelude.{◌≡◌, ◌≢◌, IfOk, IfErr, []};
 ghost use Rattle.relation_terms.specs.Meaning.{Extends};
 ghost use Rattle.relation_tools.specs.Faults.{KnowsFault, IfSpent};
 ghost use Rattle.type_relations.specs.Stores.{IsSound};
 ghost use Rattle.type_relations.specs.Steps.{IsLater, MakesToInstantiate, BindsItsOwn};
-ghost use Rattle.type_relations.specs.Contexts.{Context, KnowsEnv, KnowsTy, TakesTy, HasTy, AreOneTy, AnswersTys};
+ghost use Rattle.type_relations.specs.Contexts.{KnowsEnv, KnowsTy, TakesTy, HasTy, AreOneTy, AnswersTys};
 ghost use Rattle.type_relations.specs.Contexts.{KeepsEqualTys, TellsApart, AnswersError, DoesNothing, AnswersExactly};
 ghost use Rattle.type_relations.specs.Contexts.{ProvesApart, SpendsByBinding};
 
+mod relation;
+
+use crate::infer_ctxt::InferCtxtLike;
+pub use relation::SolverRelating;
+use relation::relate_in;
 use relation_terms::terms::{Goal, Interner, Keys, ParamEnv, Predicate, Span, Ty, Variance};
 use relation_tools::error::RelateResult;
 
@@ -15,16 +20,7 @@ use relation_tools::error::RelateResult;
 pub type RelateGoals<I> = RelateResult<I, Vec<Goal<<I as Keys>::Key, Predicate<I>>>>;
 
 /// An inference context that relates terms.
-pub trait RelateExt {
-    /// The interner of the context's terms.
-    type Interner: Interner;
-
-    // The context as it stands.
-    ghost state: { Self → Context Self.Interner.Key Self.Interner.Id Self.Interner.Name };
-
-    // The interner of its terms.
-    ghost interner: { Self → Self.Interner };
-
+pub trait RelateExt: InferCtxtLike {
     /// Relates two types at a variance, and answers the goals under which they are related.
     ///
     /// Both types and the environment are the interner's, and the variables in them are the context's. Types with type or
@@ -54,36 +50,76 @@ pub trait RelateExt {
         rhs: Ty<Self::Interner>,
         span: Span<Self::Interner>,
     ) -> RelateGoals<Self::Interner>
-        requires lawful { (state self.old).lawful }
+        requires lawful { (Self.state self.old).lawful }
         requires decides { variance ≢ Variance.Bivariant }
-        requires env_known { KnowsEnv (state self.old) param_env }
-        requires lhs_known { KnowsTy (state self.old) lhs }
-        requires rhs_known { KnowsTy (state self.old) rhs }
-        requires lhs_taken { TakesTy (state self.old) variance lhs }
-        requires rhs_taken { TakesTy (state self.old) variance rhs }
-        requires lhs_in { HasTy (state self.old) lhs }
-        requires rhs_in { HasTy (state self.old) rhs }
-        ensures answers { AnswersTys (state self.old) (state self.new) param_env variance lhs rhs result }
-        ensures keeps { KeepsEqualTys (state self.old) (state self.new) lhs rhs result }
-        ensures apart { TellsApart (state self.old) (state self.new) lhs rhs result }
-        ensures errors { AnswersError (state self.old) (state self.new) variance lhs rhs result }
-        ensures spent { IfSpent result ((state self.new).store.budget ≡ 0) }
-        ensures same { AreOneTy (state self.old) lhs rhs → DoesNothing (state self.old) (state self.new) result }
+        requires env_known { KnowsEnv (Self.state self.old) param_env }
+        requires lhs_known { KnowsTy (Self.state self.old) lhs }
+        requires rhs_known { KnowsTy (Self.state self.old) rhs }
+        requires lhs_taken { TakesTy (Self.state self.old) variance lhs }
+        requires rhs_taken { TakesTy (Self.state self.old) variance rhs }
+        requires lhs_in { HasTy (Self.state self.old) lhs }
+        requires rhs_in { HasTy (Self.state self.old) rhs }
+        ensures answers { AnswersTys (Self.state self.old) (Self.state self.new) param_env variance lhs rhs result }
+        ensures keeps { KeepsEqualTys (Self.state self.old) (Self.state self.new) lhs rhs result }
+        ensures apart { TellsApart (Self.state self.old) (Self.state self.new) lhs rhs result }
+        ensures errors { AnswersError (Self.state self.old) (Self.state self.new) variance lhs rhs result }
+        ensures spent { IfSpent result ((Self.state self.new).store.budget ≡ 0) }
+        ensures same { AreOneTy (Self.state self.old) lhs rhs →
+            DoesNothing (Self.state self.old) (Self.state self.new) result }
         ensures goals { IfOk result (λ goals. goals.items ≡ []) }
-        ensures exact { AnswersExactly (state self.old) (state self.new) variance lhs rhs result }
-        ensures no_unifier { ProvesApart (state self.old) (state self.new) variance lhs rhs result }
-        ensures later { IsLater (state self.old).store (state self.new).store }
-        ensures made { MakesToInstantiate (state self.old).store (state self.new).store }
-        ensures bound { BindsItsOwn (state self.old).store (state self.new).store }
-        ensures sound { IsSound (state self.new).store }
-        ensures budget { SpendsByBinding (state self.old) (state self.new) }
-        ensures lawful { (state self.new).lawful }
-        ensures grown { Extends (state self.old).meaning (state self.new).meaning }
-        ensures why_known { IfErr result (λ e. KnowsFault (state self.new).meaning e) };
+        ensures exact { AnswersExactly (Self.state self.old) (Self.state self.new) variance lhs rhs result }
+        ensures no_unifier { ProvesApart (Self.state self.old) (Self.state self.new) variance lhs rhs result }
+        ensures later { IsLater (Self.state self.old).store (Self.state self.new).store }
+        ensures made { MakesToInstantiate (Self.state self.old).store (Self.state self.new).store }
+        ensures bound { BindsItsOwn (Self.state self.old).store (Self.state self.new).store }
+        ensures sound { IsSound (Self.state self.new).store }
+        ensures budget { SpendsByBinding (Self.state self.old) (Self.state self.new) }
+        ensures lawful { (Self.state self.new).lawful }
+        ensures grown { Extends (Self.state self.old).meaning (Self.state self.new).meaning }
+        ensures why_known { IfErr result (λ e. KnowsFault (Self.state self.new).meaning e) };
+}
 
-    // Its keys mean what they mean to the interner.
-    ghost reads: { (c : Self) → (state c).meaning ≡ Self.Interner.meaning (interner c) };
-
-    // What a lawful context has recorded is sound.
-    ghost sound: { (c : Self) → (state c).lawful → IsSound (state c).store };
+impl<Infcx: InferCtxtLike> RelateExt for Infcx {
+    fn relate(
+        &mut self,
+        param_env: ParamEnv<Infcx::Interner>,
+        lhs: Ty<Infcx::Interner>,
+        variance: Variance,
+        rhs: Ty<Infcx::Interner>,
+        span: Span<Infcx::Interner>,
+    ) -> RelateGoals<Infcx::Interner>
+        requires lawful { (Infcx.state self.old).lawful }
+        requires decides { variance ≢ Variance.Bivariant }
+        requires env_known { KnowsEnv (Infcx.state self.old) param_env }
+        requires lhs_known { KnowsTy (Infcx.state self.old) lhs }
+        requires rhs_known { KnowsTy (Infcx.state self.old) rhs }
+        requires lhs_taken { TakesTy (Infcx.state self.old) variance lhs }
+        requires rhs_taken { TakesTy (Infcx.state self.old) variance rhs }
+        requires lhs_in { HasTy (Infcx.state self.old) lhs }
+        requires rhs_in { HasTy (Infcx.state self.old) rhs }
+        ensures answers { AnswersTys (Infcx.state self.old) (Infcx.state self.new) param_env variance lhs rhs result }
+        ensures keeps { KeepsEqualTys (Infcx.state self.old) (Infcx.state self.new) lhs rhs result }
+        ensures apart { TellsApart (Infcx.state self.old) (Infcx.state self.new) lhs rhs result }
+        ensures errors { AnswersError (Infcx.state self.old) (Infcx.state self.new) variance lhs rhs result }
+        ensures spent { IfSpent result ((Infcx.state self.new).store.budget ≡ 0) }
+        ensures same { AreOneTy (Infcx.state self.old) lhs rhs →
+            DoesNothing (Infcx.state self.old) (Infcx.state self.new) result }
+        ensures goals { IfOk result (λ goals. goals.items ≡ []) }
+        ensures exact { AnswersExactly (Infcx.state self.old) (Infcx.state self.new) variance lhs rhs result }
+        ensures no_unifier { ProvesApart (Infcx.state self.old) (Infcx.state self.new) variance lhs rhs result }
+        ensures later { IsLater (Infcx.state self.old).store (Infcx.state self.new).store }
+        ensures made { MakesToInstantiate (Infcx.state self.old).store (Infcx.state self.new).store }
+        ensures bound { BindsItsOwn (Infcx.state self.old).store (Infcx.state self.new).store }
+        ensures sound { IsSound (Infcx.state self.new).store }
+        ensures budget { SpendsByBinding (Infcx.state self.old) (Infcx.state self.new) }
+        ensures lawful { (Infcx.state self.new).lawful }
+        ensures grown { Extends (Infcx.state self.old).meaning (Infcx.state self.new).meaning }
+        ensures why_known { IfErr result (λ e. KnowsFault (Infcx.state self.new).meaning e) }
+    {
+        if lhs == rhs {
+            return Ok(Vec::new(self.cx().alloc()));
+        }
+        relate_in(self, param_env, &lhs, variance, &rhs, span)?;
+        Ok(Vec::new(self.cx().alloc()))
+    }
 }

@@ -1,6 +1,7 @@
 use Rattle.std.proofs.Common.{sym, subst}
 use Rattle.type_relations.specs.Lawful.{Asked}
-use Rattle.relation_reference.specs.Solving.{solving, solver_manner}
+use Rattle.type_relations.specs.Solving.{solving_in, solver_manner}
+use Rattle.relation_reference.specs.RefCtxt.{context_in}
 use Rattle.relation_tests.proofs.solving.recorded.Goals as goal
 
 -- The relation is over the context that was lent, as it stands.
@@ -8,14 +9,14 @@ pub relate_tys-requires-clause-asked : goal.relate_tys-requires-clause-asked
 relate_tys-requires-clause-asked g c =
     let r = c.new-relation.ensures in
     subst (λ x. Asked solver_manner
-    (solving 0 (g.I.Interner.meaning x.interner) x.inner c.new-relation.result.ambient_variance
+    (solving_in (context_in g.I.Interner.meaning x) c.new-relation.result.ambient_variance
     c.new-relation.result.param_env) c.new-relation.result.ambient_variance
     ((g.I.Interner.meaning x.interner).ty c.args.a.now) ((g.I.Interner.meaning x.interner).ty c.args.b.now)) (sym r.infcx)
     (subst (λ v. Asked solver_manner
-    (solving 0 (g.I.Interner.meaning c.args.ctx.now.interner) c.args.ctx.now.inner v c.new-relation.result.param_env) v
+    (solving_in (context_in g.I.Interner.meaning c.args.ctx.now) v c.new-relation.result.param_env) v
     ((g.I.Interner.meaning c.args.ctx.now.interner).ty c.args.a.now)
     ((g.I.Interner.meaning c.args.ctx.now.interner).ty c.args.b.now)) (sym r.ambient_variance)
     (subst (λ e. Asked solver_manner
-    (solving 0 (g.I.Interner.meaning c.args.ctx.now.interner) c.args.ctx.now.inner c.args.variance e) c.args.variance
+    (solving_in (context_in g.I.Interner.meaning c.args.ctx.now) c.args.variance e) c.args.variance
     ((g.I.Interner.meaning c.args.ctx.now.interner).ty c.args.a.now)
     ((g.I.Interner.meaning c.args.ctx.now.interner).ty c.args.b.now)) (sym r.param_env) c.requires.asked))

@@ -1,6 +1,7 @@
-use Rattle.std.proofs.Common.{◌≡◌, refl, sym, ap, ◌∙◌, subst, subst₂, IsTrue, Ok, Err}
+use Rattle.std.proofs.Common.{◌≡◌, refl, sym, ap, ◌∙◌, subst, subst₂, IfOk, IsTrue, Ok, Err}
 use Rattle.relation_terms.specs.declared.terms.keys.ArgsKey.{ArgsKey}
 use Rattle.relation_terms.specs.Trees.{Tree, node, known}
+use Rattle.relation_terms.proofs.Stays.{extends_on}
 use Rattle.type_relations.specs.Parts.{head_of}
 use Rattle.type_relations.specs.Arguments.{args_head}
 use Rattle.type_relations.specs.Lawful.{Asked, Related, MayAnswer, items_in}
@@ -97,6 +98,22 @@ returns-in_err-note_declared g c =
     (noted_refused M r.ambient (m.ty c.args.a_ty.now) (m.ty c.args.b_ty.now)
     (λ k. node (args_head (q.meaning) v) ((q.meaning).args k)) args done (Err n.field-0.0) n.ensures
     (λ k. node (args_head (q.meaning) v) ((q.meaning).args k)) n.field-0.0 refl))
+
+pub make_over-requires-clause-callable : goal.make_over-requires-clause-callable
+make_over-requires-clause-callable g c cx list e known =
+    let on = extends_on (extends_on ((c.in_ok-args.ensures).passes).extends ((c.in_ok-note_declared.ensures).passes).extends) e in
+    c.requires.callable cx list on known
+
+pub make_over-requires-clause-makes : goal.make_over-requires-clause-makes
+make_over-requires-clause-makes g c cx list res left e post =
+    let r = g.R.TypeRelation.state c.args.r.now in
+    let p = g.R.TypeRelation.state c.note_declared.new.r in
+    let n = g.I.Interner.meaning left.now in
+    let us = (g.I.Interner.meaning cx.now).args list in
+    let through = extends_on ((c.in_ok-args.ensures).passes).extends ((c.in_ok-note_declared.ensures).passes).extends in
+    let same : (p.meaning).ty c.args.a_ty.now ≡ (r.meaning).ty c.args.a_ty.now = through.ty c.args.a_ty.now (c.requires.asked).left_known in
+    subst (λ t. IfOk res (λ k. IsTrue (known (n.ty k)) × (n.ty k ≡ node (head_of t) us))) (sym same)
+    (c.requires.makes cx list res left (extends_on through e) post)
 
 pub returns : goal.returns
 returns g c =

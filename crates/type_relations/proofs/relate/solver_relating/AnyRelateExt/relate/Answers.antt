@@ -1,0 +1,120 @@
+use Rattle.std.proofs.Common.{◌≡◌, refl, sym, ap, ◌∙◌, subst, All, IsTrue}
+use Rattle.std.proofs.lemmas.Bool.{false≢true}
+use Rattle.std.proofs.lemmas.List.Elements.{All-nil}
+use Rattle.relation_terms.specs.Trees.{apply, known}
+use Rattle.type_relations.specs.Relation.{same}
+use Rattle.type_relations.specs.Goals.{goals_of, MakesOneTree}
+use Rattle.type_relations.specs.Headline.{AnswersGoals, KeepsEqualTerms}
+use Rattle.type_relations.specs.Lawful.{items_of}
+use Rattle.type_relations.proofs.Going.{later_itself, goes_nowhere, binds_its_own}
+use Rattle.type_relations.proofs.Unifying.{exact_itself}
+use Rattle.type_relations.proofs.Passing.{as_err}
+use Rattle.type_relations.proofs.Exactly.{unrelated_apart}
+use Rattle.type_relations.proofs.Solving.{answers_goals, keeps_equal, one_ty}
+use Rattle.type_relations.proofs.relate.solver_relating.AnyRelateExt.relate.Goals as goal
+
+pub returns-then-eq-clause-answers : goal.returns-then-eq-clause-answers
+returns-then-eq-clause-answers g c =
+    let one = one_ty (g.met.Infcx.InferCtxtLike.reads c.args.self.now) c.args.lhs c.args.rhs (λ h i.
+    (g.met.Infcx.Interner.Interner.same_ty (g.Infcx.InferCtxtLike.interner c.args.self.now) c.args.lhs c.args.rhs h i).0
+    (sym c.if-eq.ensures)) c.requires.lhs_known c.requires.rhs_known in
+    (λ w s sat all. same (ap (apply s) one), λ w s sat. sat)
+
+pub returns-then-eq-clause-exact : goal.returns-then-eq-clause-exact
+returns-then-eq-clause-exact g c = λ is pair.
+    let s = g.Infcx.InferCtxtLike.state c.args.self.now in
+    let one = one_ty (g.met.Infcx.InferCtxtLike.reads c.args.self.now) c.args.lhs c.args.rhs (λ h i.
+    (g.met.Infcx.Interner.Interner.same_ty (g.Infcx.InferCtxtLike.interner c.args.self.now) c.args.lhs c.args.rhs h i).0
+    (sym c.if-eq.ensures)) c.requires.lhs_known c.requires.rhs_known in
+    (exact_itself s.store ((s.meaning).ty c.args.lhs) ((s.meaning).ty c.args.rhs) one, pair.bindings)
+
+pub returns-then-eq-clause-keeps : goal.returns-then-eq-clause-keeps
+returns-then-eq-clause-keeps g c = λ w s sat one. (
+  s,
+  λ k n h. refl,
+  (
+    sat,
+    subst (λ gs. All (MakesOneTree s) (goals_of (g.Infcx.InferCtxtLike.state c.args.self.now).meaning gs))
+        (sym c.new.ensures.items) (All-nil (MakesOneTree s)),
+  ),
+)
+
+pub returns-then-eq-clause-later : goal.returns-then-eq-clause-later
+returns-then-eq-clause-later g c = later_itself (g.Infcx.InferCtxtLike.state c.args.self.now).store
+
+pub returns-then-eq-clause-made : goal.returns-then-eq-clause-made
+returns-then-eq-clause-made g c = record { no_number = λ k h. refl; none = λ h k. refl }
+
+pub returns-then-eq-clause-bound : goal.returns-then-eq-clause-bound
+returns-then-eq-clause-bound g c =
+    let st = (g.Infcx.InferCtxtLike.state c.args.self.now).store in
+    binds_its_own (goes_nowhere 0 st) (λ m. (g.met.Infcx.InferCtxtLike.sound c.args.self.now c.requires.lawful).regions_unbound m)
+
+pub returns-in_err-relate_in-clause-bound : goal.returns-in_err-relate_in-clause-bound
+returns-in_err-relate_in-clause-bound g c =
+    let passes = (c.in_err-relate_in.ensures).passes in
+    let lawful = (passes.lawful (c.requires.lawful, c.requires.env_known)).0 in
+    binds_its_own passes.goes (λ m. (g.met.Infcx.InferCtxtLike.sound c.relate_in.new.infcx lawful).regions_unbound m)
+
+pub returns-clause-bound : goal.returns-clause-bound
+returns-clause-bound g c =
+    let passes = (c.in_ok-relate_in.ensures).passes in
+    let lawful = (passes.lawful (c.requires.lawful, c.requires.env_known)).0 in
+    binds_its_own passes.goes (λ m. (g.met.Infcx.InferCtxtLike.sound c.relate_in.new.infcx lawful).regions_unbound m)
+
+pub returns-in_err-relate_in-clause-same : goal.returns-in_err-relate_in-clause-same
+returns-in_err-relate_in-clause-same g c =
+    let of = g.met.Infcx.InferCtxtLike.reads c.args.self.now in
+    λ e. absurd (false≢true (c.if-eq.ensures
+    ∙ (g.met.Infcx.Interner.Interner.same_ty (g.Infcx.InferCtxtLike.interner c.args.self.now) c.args.lhs c.args.rhs
+    (subst (λ m. IsTrue (known (m.ty c.args.lhs))) of c.requires.lhs_known)
+    (subst (λ m. IsTrue (known (m.ty c.args.rhs))) of c.requires.rhs_known)).1
+    (subst (λ m. m.ty c.args.lhs ≡ m.ty c.args.rhs) of e)))
+
+pub returns-clause-same : goal.returns-clause-same
+returns-clause-same g c =
+    let of = g.met.Infcx.InferCtxtLike.reads c.args.self.now in
+    λ e. absurd (false≢true (c.if-eq.ensures
+    ∙ (g.met.Infcx.Interner.Interner.same_ty (g.Infcx.InferCtxtLike.interner c.args.self.now) c.args.lhs c.args.rhs
+    (subst (λ m. IsTrue (known (m.ty c.args.lhs))) of c.requires.lhs_known)
+    (subst (λ m. IsTrue (known (m.ty c.args.rhs))) of c.requires.rhs_known)).1
+    (subst (λ m. m.ty c.args.lhs ≡ m.ty c.args.rhs) of e)))
+
+pub returns-clause-answers : goal.returns-clause-answers
+returns-clause-answers g c =
+    let s = g.Infcx.InferCtxtLike.state c.args.self.now in
+    let d = g.Infcx.InferCtxtLike.state c.relate_in.new.infcx in
+    let a = (s.meaning).ty c.args.lhs in
+    let b = (s.meaning).ty c.args.rhs in
+    subst (λ gs. AnswersGoals (items_of s.meaning) s.store d.store (goals_of d.meaning gs)
+    ((s.meaning).param_env c.args.param_env) c.args.variance a b) (sym c.new-2.ensures.items)
+    (answers_goals 0 s.meaning d.meaning s.store d.store s.lawful d.lawful c.args.variance c.args.param_env a b
+    (d.meaning).ty c.in_ok-relate_in.field-0 c.in_ok-relate_in.ensures)
+
+pub returns-clause-keeps : goal.returns-clause-keeps
+returns-clause-keeps g c =
+    let s = g.Infcx.InferCtxtLike.state c.args.self.now in
+    let d = g.Infcx.InferCtxtLike.state c.relate_in.new.infcx in
+    let a = (s.meaning).ty c.args.lhs in
+    let b = (s.meaning).ty c.args.rhs in
+    subst (λ gs. KeepsEqualTerms s.store d.store (goals_of d.meaning gs) a b) (sym c.new-2.ensures.items)
+    (keeps_equal 0 s.meaning d.meaning s.store d.store s.lawful d.lawful c.args.variance c.args.param_env a b
+    (d.meaning).ty c.in_ok-relate_in.field-0 c.in_ok-relate_in.ensures)
+
+pub returns-clause-exact : goal.returns-clause-exact
+returns-clause-exact g c = λ is pair. let o = (c.in_ok-relate_in.ensures).exact tt is pair in (o.1, o.0)
+
+pub returns-in_err-relate_in-clause-no_unifier : goal.returns-in_err-relate_in-clause-no_unifier
+returns-in_err-relate_in-clause-no_unifier g c =
+    let s = g.Infcx.InferCtxtLike.state c.args.self.now in
+    let d = g.Infcx.InferCtxtLike.state c.relate_in.new.infcx in
+    let a = (s.meaning).ty c.args.lhs in
+    let b = (s.meaning).ty c.args.rhs in
+    let f = c.in_err-relate_in.field-0.0 in
+    unrelated_apart c.args.variance s.store d.store a b (d.meaning).ty c.from_residual.result f
+    (as_err c.from_residual.result f c.from_residual.ensures.0 c.from_residual.ensures.1)
+    (λ is pair. (c.in_err-relate_in.ensures).exact tt is pair)
+
+pub returns-clause-sound : goal.returns-clause-sound
+returns-clause-sound g c = g.met.Infcx.InferCtxtLike.sound c.relate_in.new.infcx
+    (((c.in_ok-relate_in.ensures).passes).lawful (c.requires.lawful, c.requires.env_known)).0

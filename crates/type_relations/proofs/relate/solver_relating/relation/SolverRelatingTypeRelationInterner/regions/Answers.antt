@@ -1,0 +1,59 @@
+use Rattle.std.proofs.Common.{◌∙◌, refl, ap}
+use Rattle.relation_tools.specs.declared.error.RelateFault.TheVariants.{Memory}
+use Rattle.type_relations.proofs.Passing.{as_err}
+use Rattle.type_relations.proofs.Solving.{regions_recorded, memory_refused, asked_recorded, region_sorted}
+use Rattle.type_relations.proofs.relate.solver_relating.relation.SolverRelatingTypeRelationInterner.regions.Goals as goal
+
+pub returns-in_err-relate_regions-clause-related : goal.returns-in_err-relate_regions-clause-related
+returns-in_err-relate_regions-clause-related g c =
+    let r = c.args.self.now in
+    let s = g.Infcx.InferCtxtLike.state r.infcx.now in
+    let d = g.Infcx.InferCtxtLike.state c.relate_regions.new.infcx in
+    let f = c.relate_regions.ensures in
+    memory_refused r.infcx.ghost_name _ s.meaning d.meaning s.store d.store s.lawful d.lawful r.ambient_variance
+    r.param_env c.requires.lawful.1 f.stands.meaning f.stands.lawful ((s.meaning).region c.args.a.now)
+    ((s.meaning).region c.args.b.now) (d.meaning).region c.from_residual.result
+    (as_err c.from_residual.result Memory c.from_residual.ensures.0 c.from_residual.ensures.1) f.goes
+
+pub returns-clause-related : goal.returns-clause-related
+returns-clause-related g c =
+    let r = c.args.self.now in
+    let s = g.Infcx.InferCtxtLike.state r.infcx.now in
+    let cx = g.Infcx.InferCtxtLike.interner r.infcx.now in
+    let of = g.met.Infcx.InferCtxtLike.reads r.infcx.now in
+    let d = g.Infcx.InferCtxtLike.state c.relate_regions.new.infcx in
+    let f = c.relate_regions.ensures in
+    let k = c.requires.asked in
+    let is = g.met.Infcx.Interner.Interner.is_region cx in
+    regions_recorded r.infcx.ghost_name s.meaning s.store d.store s.lawful d.lawful r.ambient_variance r.param_env
+    c.args.a.now c.args.b.now c.requires.decides
+    (region_sorted of c.args.a.now (is c.args.a.now) k.left_known, k.left_in)
+    (region_sorted of c.args.b.now (is c.args.b.now) k.right_known, k.right_in) f.goes
+    c.in_ok-relate_regions.ensures.adds d.meaning c.args.a.now f.stands.meaning refl f.stands.lawful
+    c.requires.lawful.1 k.left_known
+
+pub relate_regions-requires-clause-a_in : goal.relate_regions-requires-clause-a_in
+relate_regions-requires-clause-a_in g c =
+    let r = c.args.self.now in
+    let s = g.Infcx.InferCtxtLike.state r.infcx.now in
+    let cx = g.Infcx.InferCtxtLike.interner r.infcx.now in
+    let of = g.met.Infcx.InferCtxtLike.reads r.infcx.now in
+    let k = c.requires.asked in
+    (region_sorted of c.args.a.now (g.met.Infcx.Interner.Interner.is_region cx c.args.a.now) k.left_known, k.left_in)
+
+pub relate_regions-requires-clause-b_in : goal.relate_regions-requires-clause-b_in
+relate_regions-requires-clause-b_in g c =
+    let r = c.args.self.now in
+    let s = g.Infcx.InferCtxtLike.state r.infcx.now in
+    let cx = g.Infcx.InferCtxtLike.interner r.infcx.now in
+    let of = g.met.Infcx.InferCtxtLike.reads r.infcx.now in
+    let k = c.requires.asked in
+    (region_sorted of c.args.b.now (g.met.Infcx.Interner.Interner.is_region cx c.args.b.now) k.right_known, k.right_in)
+
+pub returns-clause-recorded : goal.returns-clause-recorded
+returns-clause-recorded g c = λ p.
+    let r = c.args.self.now in
+    let s = g.Infcx.InferCtxtLike.state r.infcx.now in
+    let d = g.Infcx.InferCtxtLike.state c.relate_regions.new.infcx in
+    asked_recorded s.meaning s.store d.store r.ambient_variance c.args.a.now c.args.b.now c.requires.decides
+    c.in_ok-relate_regions.ensures.adds

@@ -1,0 +1,60 @@
+use Rattle.std.proofs.Common.{refl, sym}
+use Rattle.type_relations.specs.Parts.{IsFormed}
+use Rattle.type_relations.specs.Solving.{solving_through, solver_manner}
+use Rattle.type_relations.proofs.StructuralConsts.{itself_related}
+use Rattle.type_relations.proofs.Shallowly.{read_step}
+use Rattle.type_relations.proofs.Solving.{answered_step, read_taken, read_covered, one_ty}
+use Rattle.type_relations.proofs.relate.solver_relating.relation.SolverRelatingTypeRelationInterner.tys.Goals as goal
+
+pub returns-then-eq : goal.returns-then-eq
+returns-then-eq g c =
+    let r = c.args.self.now in
+    let s = g.Infcx.InferCtxtLike.state r.infcx.now in
+    let cx = g.Infcx.InferCtxtLike.interner r.infcx.now in
+    let of = g.met.Infcx.InferCtxtLike.reads r.infcx.now in
+    let k = c.requires.asked in
+    let same = one_ty of c.args.a.now c.args.b.now (λ h i.
+    (g.met.Infcx.Interner.Interner.same_ty cx c.args.a.now c.args.b.now h i).0 (sym c.if-eq.ensures)) k.left_known
+    k.right_known in
+    answered_step r.infcx.ghost_name IsFormed s.meaning s.meaning s.store s.store s.lawful s.lawful r.ambient_variance
+    r.param_env ((s.meaning).ty c.args.a.now) ((s.meaning).ty c.args.b.now) (s.meaning).ty c.args.a.now
+    (itself_related solver_manner (solving_through r.infcx.ghost_name s r.ambient_variance r.param_env)
+    r.ambient_variance (s.meaning).ty ((s.meaning).ty c.args.a.now) ((s.meaning).ty c.args.b.now) c.args.a.now same
+    refl k.left_known)
+
+pub combine_tys-requires-clause-asked : goal.combine_tys-requires-clause-asked
+combine_tys-requires-clause-asked g c =
+    let r = c.args.self.now in
+    let s = g.Infcx.InferCtxtLike.state r.infcx.now in
+    let sound = g.met.Infcx.InferCtxtLike.sound r.infcx.now c.requires.lawful.0 in
+    let all = g.met.Infcx.InferCtxtLike.covered r.infcx.now c.requires.lawful.0 in
+    let k = c.requires.asked in
+    let a = (s.meaning).ty c.args.a.now in
+    let b = (s.meaning).ty c.args.b.now in
+    let l = (s.meaning).ty c.shallow_resolve-left.result in
+    let t = (s.meaning).ty c.shallow_resolve-right.result in
+    let p = c.shallow_resolve-left.ensures.reads in
+    let q = c.shallow_resolve-right.ensures.reads in
+    record {
+      left_known = p.sure;
+      right_known = q.sure;
+      left_in = (p.resolves).is_in k.left_in;
+      right_in = (q.resolves).is_in k.right_in;
+      left_taken = read_taken s.store sound r.ambient_variance a l p.reads (read_covered s.store all a l p.reads)
+          k.left_taken;
+      right_taken = read_taken s.store sound r.ambient_variance b t q.reads (read_covered s.store all b t q.reads)
+          k.right_taken;
+    }
+
+pub returns : goal.returns
+returns g c =
+    let r = c.args.self.now in
+    let s = g.Infcx.InferCtxtLike.state r.infcx.now in
+    let q = c.combine_tys.new.self in
+    let d = g.Infcx.InferCtxtLike.state q.infcx.now in
+    read_step (solving_through r.infcx.ghost_name s r.ambient_variance r.param_env)
+    (solving_through q.infcx.ghost_name d q.ambient_variance q.param_env)
+    (g.met.Infcx.InferCtxtLike.sound r.infcx.now c.requires.lawful.0) ((s.meaning).ty c.args.a.now)
+    ((s.meaning).ty c.args.b.now) ((s.meaning).ty c.shallow_resolve-left.result)
+    ((s.meaning).ty c.shallow_resolve-right.result) c.shallow_resolve-left.ensures.reads.reads
+    c.shallow_resolve-right.ensures.reads.reads IsFormed (d.meaning).ty c.combine_tys.result c.combine_tys.ensures

@@ -1,0 +1,464 @@
+//! The relation of a context.
+ghost use Rattle.std.specs.Prelude.{◌≡◌, ◌≢◌, ℕ, IfSome, IfOk, OnOk};
+ghost use Rattle.relation_terms.specs.Heads.{arguments, type_var, variable};
+ghost use Rattle.relation_terms.specs.Trees.{leaf};
+ghost use Rattle.relation_terms.specs.declared.terms.enums.Variance.TheVariants.{Bivariant};
+ghost use Rattle.relation_tools.specs.declared.error.TypeError.TheVariants.{Sorts};
+ghost use Rattle.relation_tools.specs.declared.error.RelateFault.TheVariants.{Unrelated};
+ghost use Rattle.type_relations.specs.Steps.{AddsConstraint};
+ghost use Rattle.type_relations.specs.Measures.{Goes};
+ghost use Rattle.type_relations.specs.Contexts.{KnowsEnv, HasRegion};
+ghost use Rattle.type_relations.specs.ContextCalls.{Stands};
+ghost use Rattle.type_relations.specs.Constraints.{constraint_at, constraint_of};
+ghost use Rattle.type_relations.specs.Keyed.{AreAsMany, AskedLists, RelatedLists, AskedTys, AskedConsts, RelatedTys};
+ghost use Rattle.type_relations.specs.Keyed.{SteppedTys, SteppedConsts};
+ghost use Rattle.type_relations.specs.Resolving.{IsShallow, IsShallowConst};
+ghost use Rattle.type_relations.specs.Solving.{solving_in, solving_through, solver_manner};
+
+use crate::infer_ctxt::{InferCtxtLike, VisibleForLeakCheck};
+use crate::relate::number_vars::{bind_number, equate_numbers, number_var};
+use crate::relate::structural::tys;
+use crate::relate::variables::{const_var, ty_var};
+use crate::relate::{Step, StructurallyRelateAliases, TypeRelation, relate_args_invariantly};
+use relation_terms::terms::{
+    Const, GenericArgs, Interner, ItemOf, OutOfMemory, ParamEnv, Region, Span, Ty, Variance,
+};
+use relation_tools::error::{ExpectedFound, RelateFault, RelateFaultOf, RelateResult, TypeError};
+
+/// Relates the terms of a context, at an ambient variance and in an environment.
+///
+/// Types and constants are read by what is recorded of variables. A variable and a term that it is related with are made
+/// one, an integer or float variable and a type only where that is a type of its kind; of two regions it is recorded
+/// which has to outlive the other. Terms with type or constant variables are related at `Invariant` alone.
+#[derive(Drop)]
+pub struct SolverRelating<'a, Infcx: InferCtxtLike> {
+    infcx: &'a mut Infcx,
+    ambient_variance: Variance,
+    param_env: ParamEnv<Infcx::Interner>,
+    span: Span<Infcx::Interner>,
+}
+
+impl<'a, Infcx: InferCtxtLike> SolverRelating<'a, Infcx> {
+    /// The relation of a context. Constraints on regions are recorded with the span.
+    pub fn new(
+        infcx: &'a mut Infcx,
+        ambient_variance: Variance,
+        param_env: ParamEnv<Infcx::Interner>,
+        span: Span<Infcx::Interner>,
+    ) -> SolverRelating<'a, Infcx>
+        ensures same_reference { result.infcx.ghost_name ≡ infcx.entry.ghost_name }
+        ensures infcx { result.infcx.now ≡ infcx.entry.now }
+        ensures ambient_variance { result.ambient_variance ≡ ambient_variance }
+        ensures param_env { result.param_env ≡ param_env }
+        ensures span { result.span ≡ span }
+    {
+        SolverRelating {
+            infcx,
+            ambient_variance,
+            param_env,
+            span,
+        }
+    }
+
+    /// Relates two types at the ambient variance, and answers what they are related as. The interner knows both, and
+    /// they are types of the context. What was recorded is in the context, also after an error.
+    ///
+    /// # Errors
+    /// `Unrelated` where the types do not become one, `Budget` where no instantiation is left, `Memory` where a growth
+    /// was refused.
+    pub fn relate_tys(
+        &mut self,
+        a: &Ty<Infcx::Interner>,
+        b: &Ty<Infcx::Interner>,
+    ) -> RelateResult<Infcx::Interner, Ty<Infcx::Interner>>
+        requires lawful { (Infcx.state self.old.infcx.now).lawful }
+        requires env_known { KnowsEnv (Infcx.state self.old.infcx.now) self.old.param_env }
+        requires decides { self.old.ambient_variance ≢ Bivariant }
+        requires asked { let before = Infcx.state self.old.infcx.now in
+            AskedTys solver_manner (solving_in before self.old.ambient_variance self.old.param_env) a.now b.now }
+        ensures same_reference { self.new.infcx.ghost_name ≡ self.old.infcx.ghost_name }
+        ensures related { let v = self.old.ambient_variance in
+            let before = solving_in (Infcx.state self.old.infcx.now) v self.old.param_env in
+            let after = solving_in (Infcx.state self.new.infcx.now) v self.old.param_env in
+            RelatedTys solver_manner before after a.now b.now result }
+    {
+        tys(self, a, b)
+    }
+
+    /// Relates two lists of as many arguments, each pair at `Invariant` seen from the ambient variance, and answers the
+    /// list of what they are related as. The interner knows both, and they are arguments of the context. What was recorded
+    /// is in the context, also after an error.
+    ///
+    /// # Errors
+    /// `Unrelated` where the arguments of a pair do not become one, `Budget` where no instantiation is left, `Memory`
+    /// where a growth was refused.
+    pub fn relate_args(
+        &mut self,
+        a: &GenericArgs<Infcx::Interner>,
+        b: &GenericArgs<Infcx::Interner>,
+    ) -> RelateResult<Infcx::Interner, GenericArgs<Infcx::Interner>>
+        requires lawful { (Infcx.state self.old.infcx.now).lawful }
+        requires env_known { KnowsEnv (Infcx.state self.old.infcx.now) self.old.param_env }
+        requires decides { self.old.ambient_variance ≢ Bivariant }
+        requires asked { let v = self.old.ambient_variance in
+            let before = solving_in (Infcx.state self.old.infcx.now) v self.old.param_env in
+            AskedLists solver_manner before (λ m. arguments) a.now b.now }
+        requires as_many { let v = self.old.ambient_variance in
+            AreAsMany (solving_in (Infcx.state self.old.infcx.now) v self.old.param_env) a.now b.now }
+        ensures same_reference { self.new.infcx.ghost_name ≡ self.old.infcx.ghost_name }
+        ensures related { let v = self.old.ambient_variance in
+            let before = solving_in (Infcx.state self.old.infcx.now) v self.old.param_env in
+            let after = solving_in (Infcx.state self.new.infcx.now) v self.old.param_env in
+            RelatedLists solver_manner before after (λ m. arguments) a.now b.now result }
+    {
+        relate_args_invariantly(self, a, b)
+    }
+
+    // What comes of two types that were resolved shallowly: a type variable is made one with another, or bound to a type,
+    // which is then related with that.
+    fn combine_tys(
+        &mut self,
+        a: &Ty<Infcx::Interner>,
+        b: &Ty<Infcx::Interner>,
+    ) -> RelateResult<Infcx::Interner, Step<Ty<Infcx::Interner>>>
+        requires lawful { (Infcx.state self.old.infcx.now).lawful }
+        requires env_known { KnowsEnv (Infcx.state self.old.infcx.now) self.old.param_env }
+        requires decides { self.old.ambient_variance ≢ Bivariant }
+        requires asked { let r = self.old in
+            let before = solving_through r.infcx.ghost_name (Infcx.state r.infcx.now) r.ambient_variance r.param_env in
+            AskedTys solver_manner before a.now b.now }
+        requires a_shallow { let r = Infcx.state self.old.infcx.now in IsShallow r.store ((r.meaning).ty a.now) }
+        requires b_shallow { let r = Infcx.state self.old.infcx.now in IsShallow r.store ((r.meaning).ty b.now) }
+        ensures { let r = self.old in let q = self.new in
+            let before = solving_through r.infcx.ghost_name (Infcx.state r.infcx.now) r.ambient_variance r.param_env in
+            let after = solving_through q.infcx.ghost_name (Infcx.state q.infcx.now) q.ambient_variance q.param_env in
+            SteppedTys solver_manner before after a.now b.now result }
+    {
+        match ty_var(&*self.infcx, a) {
+            Some(x) => match ty_var(&*self.infcx, b) {
+                Some(y) => {
+                    self.infcx.equate_ty_vids_raw(x, y);
+                    Ok(Step::Done(*a))
+                }
+                None => {
+                    let variance = self.ambient_variance;
+                    let bound = self
+                        .infcx
+                        .instantiate_ty_var_raw(StructurallyRelateAliases::No, x, variance, b)?;
+                    Ok(Step::Again {
+                        a: *a,
+                        b: *b,
+                        x: bound,
+                        y: *b,
+                        variance: Variance::Covariant,
+                        answer: *a,
+                    })
+                }
+            },
+            None => match ty_var(&*self.infcx, b) {
+                Some(y) => {
+                    let variance = self.ambient_variance.xform(Variance::Contravariant);
+                    let bound = self
+                        .infcx
+                        .instantiate_ty_var_raw(StructurallyRelateAliases::No, y, variance, a)?;
+                    Ok(Step::Again {
+                        a: *a,
+                        b: *b,
+                        x: *a,
+                        y: bound,
+                        variance: Variance::Covariant,
+                        answer: *a,
+                    })
+                }
+                None => self.super_combine_tys(a, b),
+            },
+        }
+    }
+
+    // The same of types of which none is a type variable: number variables are made one, or bound to a type of theirs;
+    // all others are left to be related by their parts.
+    fn super_combine_tys(
+        &mut self,
+        a: &Ty<Infcx::Interner>,
+        b: &Ty<Infcx::Interner>,
+    ) -> RelateResult<Infcx::Interner, Step<Ty<Infcx::Interner>>>
+        requires lawful { (Infcx.state self.old.infcx.now).lawful }
+        requires env_known { KnowsEnv (Infcx.state self.old.infcx.now) self.old.param_env }
+        requires decides { self.old.ambient_variance ≢ Bivariant }
+        requires asked { let r = self.old in
+            let before = solving_through r.infcx.ghost_name (Infcx.state r.infcx.now) r.ambient_variance r.param_env in
+            AskedTys solver_manner before a.now b.now }
+        requires a_shallow { let r = Infcx.state self.old.infcx.now in IsShallow r.store ((r.meaning).ty a.now) }
+        requires b_shallow { let r = Infcx.state self.old.infcx.now in IsShallow r.store ((r.meaning).ty b.now) }
+        requires a_no_ty_var { let r = Infcx.state self.old.infcx.now in
+            (n : ℕ) → (r.meaning).ty a.now ≢ leaf (variable type_var n) }
+        requires b_no_ty_var { let r = Infcx.state self.old.infcx.now in
+            (n : ℕ) → (r.meaning).ty b.now ≢ leaf (variable type_var n) }
+        ensures { let r = self.old in let q = self.new in
+            let before = solving_through r.infcx.ghost_name (Infcx.state r.infcx.now) r.ambient_variance r.param_env in
+            let after = solving_through q.infcx.ghost_name (Infcx.state q.infcx.now) q.ambient_variance q.param_env in
+            SteppedTys solver_manner before after a.now b.now result }
+    {
+        match number_var(&*self.infcx, a) {
+            Some(x) => match number_var(&*self.infcx, b) {
+                Some(y) => {
+                    if !equate_numbers(&mut *self.infcx, x, y) {
+                        return Err(unlike::<Infcx::Interner>(a, b));
+                    }
+                    Ok(Step::Done(*a))
+                }
+                None => {
+                    if !bind_number(&mut *self.infcx, x, b) {
+                        return Err(unlike::<Infcx::Interner>(a, b));
+                    }
+                    Ok(Step::Done(*b))
+                }
+            },
+            None => match number_var(&*self.infcx, b) {
+                Some(y) => {
+                    if !bind_number(&mut *self.infcx, y, a) {
+                        return Err(unlike::<Infcx::Interner>(a, b));
+                    }
+                    Ok(Step::Done(*a))
+                }
+                None => Ok(Step::Parts { a: *a, b: *b }),
+            },
+        }
+    }
+
+    // What comes of two constants that were resolved shallowly: a variable is made one with another, or bound to a
+    // constant, which is then related with that; all others are left to be related by their parts.
+    fn super_combine_consts(
+        &mut self,
+        a: &Const<Infcx::Interner>,
+        b: &Const<Infcx::Interner>,
+    ) -> RelateResult<Infcx::Interner, Step<Const<Infcx::Interner>>>
+        requires lawful { (Infcx.state self.old.infcx.now).lawful }
+        requires env_known { KnowsEnv (Infcx.state self.old.infcx.now) self.old.param_env }
+        requires decides { self.old.ambient_variance ≢ Bivariant }
+        requires asked { let r = self.old in
+            let before = solving_through r.infcx.ghost_name (Infcx.state r.infcx.now) r.ambient_variance r.param_env in
+            AskedConsts solver_manner before a.now b.now }
+        requires a_shallow { let r = Infcx.state self.old.infcx.now in
+            IsShallowConst r.store ((r.meaning).const_ a.now) }
+        requires b_shallow { let r = Infcx.state self.old.infcx.now in
+            IsShallowConst r.store ((r.meaning).const_ b.now) }
+        ensures { let r = self.old in let q = self.new in
+            let before = solving_through r.infcx.ghost_name (Infcx.state r.infcx.now) r.ambient_variance r.param_env in
+            let after = solving_through q.infcx.ghost_name (Infcx.state q.infcx.now) q.ambient_variance q.param_env in
+            SteppedConsts solver_manner before after a.now b.now result }
+    {
+        match const_var(&*self.infcx, a) {
+            Some(x) => match const_var(&*self.infcx, b) {
+                Some(y) => {
+                    self.infcx.equate_const_vids_raw(x, y);
+                    Ok(Step::Done(*a))
+                }
+                None => {
+                    let value = self
+                        .infcx
+                        .instantiate_const_var_raw(StructurallyRelateAliases::No, x, b)?;
+                    Ok(Step::Again {
+                        a: *a,
+                        b: *b,
+                        x: value,
+                        y: *b,
+                        variance: Variance::Invariant,
+                        answer: *b,
+                    })
+                }
+            },
+            None => match const_var(&*self.infcx, b) {
+                Some(y) => {
+                    let value = self
+                        .infcx
+                        .instantiate_const_var_raw(StructurallyRelateAliases::No, y, a)?;
+                    Ok(Step::Again {
+                        a: *a,
+                        b: *b,
+                        x: *a,
+                        y: value,
+                        variance: Variance::Invariant,
+                        answer: *a,
+                    })
+                }
+                None => Ok(Step::Parts { a: *a, b: *b }),
+            },
+        }
+    }
+
+    /// The context, with all that was recorded.
+    pub fn into_infcx(self) -> &'a mut Infcx
+        ensures same_reference { result.ghost_name ≡ self.entry.infcx.ghost_name }
+        ensures value { result.now ≡ self.entry.infcx.now }
+    {
+        let SolverRelating {
+            infcx,
+            ambient_variance: _,
+            param_env: _,
+            span: _,
+        } = self;
+        infcx
+    }
+}
+
+// Two types of which one is a number variable that can't be bound to the other.
+fn unlike<I: Interner>(a: &Ty<I>, b: &Ty<I>) -> RelateFaultOf<I>
+    ensures { result ≡ Unrelated (Sorts (record { expected = a.now; found = b.now })) }
+{
+    RelateFault::Unrelated(TypeError::Sorts(ExpectedFound::new(*a, *b)))
+}
+
+// Records what two regions that are related at a variance are asked for.
+fn relate_regions<Infcx: InferCtxtLike>(
+    infcx: &mut Infcx,
+    variance: Variance,
+    a: &Region<Infcx::Interner>,
+    b: &Region<Infcx::Interner>,
+    span: Span<Infcx::Interner>,
+) -> Result<(), OutOfMemory>
+    requires lawful { (Infcx.state infcx.old).lawful }
+    requires decides { variance ≢ Bivariant }
+    requires a_in { HasRegion (Infcx.state infcx.old) a.now }
+    requires b_in { HasRegion (Infcx.state infcx.old) b.now }
+    ensures stands { Stands (Infcx.state infcx.old) (Infcx.state infcx.new) }
+    ensures adds { let c = Infcx.state infcx.old in
+        OnOk result (IfSome (constraint_at variance a.now b.now) (λ q.
+        AddsConstraint c.store (Infcx.state infcx.new).store (constraint_of c.meaning q))) }
+    ensures goes { Goes 0 (Infcx.state infcx.old).store (Infcx.state infcx.new).store }
+{
+    match variance {
+        Variance::Covariant => infcx.sub_regions(b, a, VisibleForLeakCheck::Yes, span),
+        Variance::Contravariant => infcx.sub_regions(a, b, VisibleForLeakCheck::Yes, span),
+        Variance::Invariant => infcx.equate_regions(a, b, VisibleForLeakCheck::Yes, span),
+        Variance::Bivariant => unreachable!(),
+    }
+}
+
+// Relates two types of a context at a variance, in an environment.
+pub(crate) fn relate_in<Infcx: InferCtxtLike>(
+    infcx: &mut Infcx,
+    param_env: ParamEnv<Infcx::Interner>,
+    a: &Ty<Infcx::Interner>,
+    variance: Variance,
+    b: &Ty<Infcx::Interner>,
+    span: Span<Infcx::Interner>,
+) -> RelateResult<Infcx::Interner, Ty<Infcx::Interner>>
+    requires lawful { (Infcx.state infcx.old).lawful }
+    requires env_known { KnowsEnv (Infcx.state infcx.old) param_env }
+    requires decides { variance ≢ Bivariant }
+    requires asked { AskedTys solver_manner (solving_in (Infcx.state infcx.old) variance param_env) a.now b.now }
+    ensures { let before = solving_in (Infcx.state infcx.old) variance param_env in
+        RelatedTys solver_manner before (solving_in (Infcx.state infcx.new) variance param_env) a.now b.now result }
+{
+    let mut relation = SolverRelating {
+        infcx,
+        ambient_variance: variance,
+        param_env,
+        span,
+    };
+    let related = relation.relate_tys(a, b);
+    let _infcx = relation.into_infcx();
+    related
+}
+
+impl<'a, Infcx: InferCtxtLike> TypeRelation<Infcx::Interner> for SolverRelating<'a, Infcx> {
+    ghost use Rattle.std.specs.Prelude.{refl};
+    ghost use Rattle.type_relations.specs.Solving.{solving_through, solver_manner, solver_takes};
+
+    ghost state = { λ r. solving_through r.infcx.ghost_name (Infcx.state r.infcx.now) r.ambient_variance r.param_env };
+
+    ghost interner = { λ r. Infcx.interner r.infcx.now };
+
+    ghost with_interner = { λ r cx.
+        record r { infcx = record r.infcx { now = Infcx.with_interner r.infcx.now cx } } };
+
+    ghost manner = { solver_manner };
+
+    fn cx(&self) -> &Infcx::Interner {
+        self.infcx.cx()
+    }
+
+    fn cx_mut(&mut self) -> &mut Infcx::Interner {
+        self.infcx.cx_mut()
+    }
+
+    fn interner_grows(&self) {
+        self.infcx.interner_grows();
+    }
+
+    fn ambient(&self) -> Variance {
+        self.ambient_variance
+    }
+
+    fn set_ambient(&mut self, v: Variance) {
+        self.ambient_variance = v;
+    }
+
+    fn item_variances(&self, def_id: &ItemOf<Infcx::Interner>) -> Option<&[Variance]> {
+        if let Variance::Invariant = self.ambient_variance {
+            return None;
+        }
+        Some(self.infcx.cx().variances_of(def_id))
+    }
+
+    fn tys(
+        &mut self,
+        a: &Ty<Infcx::Interner>,
+        b: &Ty<Infcx::Interner>,
+    ) -> RelateResult<Infcx::Interner, Step<Ty<Infcx::Interner>>> {
+        if a == b {
+            return Ok(Step::Done(*a));
+        }
+        let left = self.infcx.shallow_resolve(a);
+        let right = self.infcx.shallow_resolve(b);
+        self.combine_tys(&left, &right)
+    }
+
+    fn consts(
+        &mut self,
+        a: &Const<Infcx::Interner>,
+        b: &Const<Infcx::Interner>,
+    ) -> RelateResult<Infcx::Interner, Step<Const<Infcx::Interner>>> {
+        if a == b {
+            return Ok(Step::Done(*a));
+        }
+        let left = self.infcx.shallow_resolve_const(a);
+        let right = self.infcx.shallow_resolve_const(b);
+        self.super_combine_consts(&left, &right)
+    }
+
+    fn regions(
+        &mut self,
+        a: &Region<Infcx::Interner>,
+        b: &Region<Infcx::Interner>,
+    ) -> RelateResult<Infcx::Interner, Region<Infcx::Interner>> {
+        relate_regions(&mut *self.infcx, self.ambient_variance, a, b, self.span)?;
+        Ok(*a)
+    }
+
+    fn tys_done(
+        &mut self,
+        _a: &Ty<Infcx::Interner>,
+        _b: &Ty<Infcx::Interner>,
+    ) -> RelateResult<Infcx::Interner, ()> {
+        Ok(())
+    }
+
+    fn ty_args_done(
+        &mut self,
+        _a_ty: &Ty<Infcx::Interner>,
+        _b_ty: &Ty<Infcx::Interner>,
+        _def_id: &ItemOf<Infcx::Interner>,
+        _a_args: &GenericArgs<Infcx::Interner>,
+        _b_args: &GenericArgs<Infcx::Interner>,
+    ) -> RelateResult<Infcx::Interner, ()> {
+        Ok(())
+    }
+
+    ghost reads = { λ r. Infcx.reads r.infcx.now };
+
+    ghost sound = { λ r l. Infcx.sound r.infcx.now l.0 };
+
+    ghost takes_parts = { solver_takes };
+}

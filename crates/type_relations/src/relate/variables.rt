@@ -1,0 +1,85 @@
+//! Which variable a form is, and which a term of a context is.
+ghost use Rattle.std.specs.Prelude.{◌≡◌, ℕ, IfSome, IfNone};
+ghost use Rattle.relation_terms.specs.Heads.{type_var, const_var, variable};
+ghost use Rattle.relation_terms.specs.Trees.{leaf};
+ghost use Rattle.relation_terms.specs.declared.terms.ty_kind.TyKind.TheVariants.{Infer};
+ghost use Rattle.relation_terms.specs.declared.terms.ty_kind.InferTy.TheVariants.{TyVar, IntVar, FloatVar};
+ghost use Rattle.relation_terms.specs.declared.terms.const_kind.ConstKind.TheVariants.{Infer as ConstInfer};
+ghost use Rattle.relation_terms.specs.declared.terms.const_kind.InferConst.TheVariants.{Var};
+ghost use Rattle.type_relations.specs.Contexts.{KnowsTy, KnowsConst};
+ghost use Rattle.type_relations.specs.Covered.{IsCovered};
+ghost use Rattle.type_relations.specs.Parts.{IsFormedConst};
+
+use crate::infer_ctxt::InferCtxtLike;
+use relation_terms::terms::{
+    Const, ConstKind, ConstVid, FloatVid, InferConst, InferTy, IntVid, Interner, Ty, TyKind, TyVid,
+};
+
+/// The type variable that a form is, or none.
+pub fn ty_vid<X, D, N>(kind: &TyKind<X, D, N>) -> Option<TyVid>
+    ensures is { IfSome result (λ v. kind.now ≡ Infer (TyVar v)) }
+    ensures is_none { IfNone result ((v : _) → kind.now ≡ Infer (TyVar v) → ⊥) }
+{
+    match kind {
+        TyKind::Infer(InferTy::TyVar(vid)) => Some(*vid),
+        _ => None,
+    }
+}
+
+/// The integer variable that a form is, or none.
+pub fn int_vid<X, D, N>(kind: &TyKind<X, D, N>) -> Option<IntVid>
+    ensures is { IfSome result (λ v. kind.now ≡ Infer (IntVar v)) }
+    ensures is_none { IfNone result ((v : _) → kind.now ≡ Infer (IntVar v) → ⊥) }
+{
+    match kind {
+        TyKind::Infer(InferTy::IntVar(vid)) => Some(*vid),
+        _ => None,
+    }
+}
+
+/// The float variable that a form is, or none.
+pub fn float_vid<X, D, N>(kind: &TyKind<X, D, N>) -> Option<FloatVid>
+    ensures is { IfSome result (λ v. kind.now ≡ Infer (FloatVar v)) }
+    ensures is_none { IfNone result ((v : _) → kind.now ≡ Infer (FloatVar v) → ⊥) }
+{
+    match kind {
+        TyKind::Infer(InferTy::FloatVar(vid)) => Some(*vid),
+        _ => None,
+    }
+}
+
+/// The variable that a form of a constant is, or none.
+pub fn const_vid<X, D, N>(kind: &ConstKind<X, D, N>) -> Option<ConstVid>
+    ensures is { IfSome result (λ v. kind.now ≡ ConstInfer (Var v)) }
+    ensures is_none { IfNone result ((v : _) → kind.now ≡ ConstInfer (Var v) → ⊥) }
+{
+    match kind {
+        ConstKind::Infer(InferConst::Var(vid)) => Some(*vid),
+        _ => None,
+    }
+}
+
+// The type variable that a type is, or none.
+pub(crate) fn ty_var<Infcx: InferCtxtLike>(infcx: &Infcx, ty: &Ty<Infcx::Interner>) -> Option<TyVid>
+    requires { KnowsTy (Infcx.state infcx.now) ty.now }
+    ensures is { let m = (Infcx.state infcx.now).meaning in
+        IfSome result (λ v. m.ty ty.now ≡ leaf (variable type_var v.0)) }
+    ensures is_none { let m = (Infcx.state infcx.now).meaning in
+        IfNone result ((n : ℕ) → m.ty ty.now ≡ leaf (variable type_var n) → ⊥) }
+{
+    ty_vid(&infcx.cx().ty_kind(ty))
+}
+
+// The constant variable that a constant is, or none.
+pub(crate) fn const_var<Infcx: InferCtxtLike>(
+    infcx: &Infcx,
+    constant: &Const<Infcx::Interner>,
+) -> Option<ConstVid>
+    requires { KnowsConst (Infcx.state infcx.now) constant.now }
+    ensures is { let m = (Infcx.state infcx.now).meaning in
+        IfSome result (λ v. m.const_ constant.now ≡ leaf (variable const_var v.0)) }
+    ensures formed { let m = (Infcx.state infcx.now).meaning in
+        IfNone result (IsCovered (m.const_ constant.now) → IsFormedConst (m.const_ constant.now)) }
+{
+    const_vid(&infcx.cx().const_kind(constant))
+}
