@@ -22,7 +22,7 @@ compare_leaves-requires-clause-leaf g c =
     let o = c.outline_of-left.result in
     let p = c.outline_of-right.result in
     let left : named_outline m.id o ≡ tree_outline (m.ty x) =
-    c.outline_of-left.ensures ∙ ap tree_outline (sym c.ty_kind.ensures) in
+    c.outline_of-left.ensures ∙ ap tree_outline (sym c.ty_kind-a_kind.ensures) in
     sym (ap (λ z. z.form) left) ∙ c.is_same_form.ensures.0 c.if-is_same_form.true
 
 pub compare_leaves-requires-clause-differ : goal.compare_leaves-requires-clause-differ
@@ -38,9 +38,9 @@ returns-then-not-is_same_form-clause-errors g c =
     let o = c.outline_of-left.result in
     let p = c.outline_of-right.result in
     let left : named_outline m.id o ≡ tree_outline (m.ty x) =
-    c.outline_of-left.ensures ∙ ap tree_outline (sym c.ty_kind.ensures) in
+    c.outline_of-left.ensures ∙ ap tree_outline (sym c.ty_kind-a_kind.ensures) in
     let right : named_outline m.id p ≡ tree_outline (m.ty y) =
-    c.outline_of-right.ensures ∙ ap tree_outline (sym c.ty_kind-2.ensures) in
+    c.outline_of-right.ensures ∙ ap tree_outline (sym c.ty_kind-b_kind.ensures) in
     unlike_forms m x y o p left right c.requires.a_covered c.requires.b_covered
     (λ e. (let t = c.if-not-is_same_form.true in let one = c.is_same_form-2.ensures.1 e in search rules))
     c.unlike.result c.unlike.ensures
@@ -53,9 +53,9 @@ returns-then-not-is_same_item-clause-errors g c =
     let o = c.outline_of-left.result in
     let p = c.outline_of-right.result in
     let left : named_outline m.id o ≡ tree_outline (m.ty x) =
-    c.outline_of-left.ensures ∙ ap tree_outline (sym c.ty_kind.ensures) in
+    c.outline_of-left.ensures ∙ ap tree_outline (sym c.ty_kind-a_kind.ensures) in
     let right : named_outline m.id p ≡ tree_outline (m.ty y) =
-    c.outline_of-right.ensures ∙ ap tree_outline (sym c.ty_kind-2.ensures) in
+    c.outline_of-right.ensures ∙ ap tree_outline (sym c.ty_kind-b_kind.ensures) in
     unlike_items m x y o p left right c.requires.a_covered c.requires.b_covered
     (λ e. (let t = c.if-not-is_same_item.true in let one = c.is_same_item.ensures.1 e in search rules))
     c.unlike-then-not-is_same_item.result c.unlike-then-not-is_same_item.ensures
@@ -68,9 +68,9 @@ returns-then-ne-clause-errors g c =
     let o = c.outline_of-left.result in
     let p = c.outline_of-right.result in
     let left : named_outline m.id o ≡ tree_outline (m.ty x) =
-    c.outline_of-left.ensures ∙ ap tree_outline (sym c.ty_kind.ensures) in
+    c.outline_of-left.ensures ∙ ap tree_outline (sym c.ty_kind-a_kind.ensures) in
     let right : named_outline m.id p ≡ tree_outline (m.ty y) =
-    c.outline_of-right.ensures ∙ ap tree_outline (sym c.ty_kind-2.ensures) in
+    c.outline_of-right.ensures ∙ ap tree_outline (sym c.ty_kind-b_kind.ensures) in
     let parted : o.form ≡ Leaf → ⊥ = (λ e. (let t = c.if-is_same_form.false in
     let one = c.is_same_form.ensures.1 e in search rules)) in
     let form : o.form ≡ p.form = c.is_same_form-2.ensures.0 (let t = c.if-not-is_same_form.false in search rules) in
@@ -85,9 +85,9 @@ returns-then-n-m-clause-errors g c =
     let o = c.outline_of-left.result in
     let p = c.outline_of-right.result in
     let left : named_outline m.id o ≡ tree_outline (m.ty x) =
-    c.outline_of-left.ensures ∙ ap tree_outline (sym c.ty_kind.ensures) in
+    c.outline_of-left.ensures ∙ ap tree_outline (sym c.ty_kind-a_kind.ensures) in
     let right : named_outline m.id p ≡ tree_outline (m.ty y) =
-    c.outline_of-right.ensures ∙ ap tree_outline (sym c.ty_kind-2.ensures) in
+    c.outline_of-right.ensures ∙ ap tree_outline (sym c.ty_kind-b_kind.ensures) in
     let parted : o.form ≡ Leaf → ⊥ = (λ e. (let t = c.if-is_same_form.false in
     let one = c.is_same_form.ensures.1 e in search rules)) in
     let form : o.form ≡ p.form = c.is_same_form-2.ensures.0 (let t = c.if-not-is_same_form.false in search rules) in
@@ -95,7 +95,7 @@ returns-then-n-m-clause-errors g c =
     let same : o.mutability ≡ p.mutability =
     (let t = c.if-ne.false in let h = c.ne.ensures in let k = c.if-ne.ensures in search rules) in
     unlike_counts m x y o p left right c.requires.a_covered c.requires.b_covered parted form item same
-    c.parts_count-n.result c.parts_count-m.result c.parts_count-n.ensures.counts c.parts_count-m.ensures.counts
+    c.parts_count_in-n.result c.parts_count_in-m.result c.parts_count_in-n.ensures.counts c.parts_count_in-m.ensures.counts
     c.if-n-m.true c.unlike_counts.result c.unlike_counts.ensures.sizes c.unlike_counts.ensures.empty
     c.unlike_counts.ensures.others
 
@@ -107,9 +107,9 @@ returns-clause-alike g c =
     let o = c.outline_of-left.result in
     let p = c.outline_of-right.result in
     let left : named_outline m.id o ≡ tree_outline (m.ty x) =
-    c.outline_of-left.ensures ∙ ap tree_outline (sym c.ty_kind.ensures) in
+    c.outline_of-left.ensures ∙ ap tree_outline (sym c.ty_kind-a_kind.ensures) in
     let right : named_outline m.id p ≡ tree_outline (m.ty y) =
-    c.outline_of-right.ensures ∙ ap tree_outline (sym c.ty_kind-2.ensures) in
+    c.outline_of-right.ensures ∙ ap tree_outline (sym c.ty_kind-b_kind.ensures) in
     let parted : o.form ≡ Leaf → ⊥ = (λ e. (let t = c.if-is_same_form.false in
     let one = c.is_same_form.ensures.1 e in search rules)) in
     let form : o.form ≡ p.form = c.is_same_form-2.ensures.0 (let t = c.if-not-is_same_form.false in search rules) in
@@ -117,4 +117,4 @@ returns-clause-alike g c =
     let same : o.mutability ≡ p.mutability =
     (let t = c.if-ne.false in let h = c.ne.ensures in let k = c.if-ne.ensures in search rules) in
     forms_alike m x y o p left right c.requires.a_covered c.requires.b_covered parted form item same
-    (sym c.parts_count-n.ensures.counts ∙ c.if-n-m.false ∙ c.parts_count-m.ensures.counts)
+    (sym c.parts_count_in-n.ensures.counts ∙ c.if-n-m.false ∙ c.parts_count_in-m.ensures.counts)
