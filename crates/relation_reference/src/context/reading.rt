@@ -267,8 +267,10 @@ impl<I: Interner> RefCtxt<I> {
     pub(crate) fn have_no_variable(&self, a: &Ty<I>, b: &Ty<I>) -> bool
         requires a_known { IsTrue (known ((I.meaning self.now.interner).ty a.now)) }
         requires b_known { IsTrue (known ((I.meaning self.now.interner).ty b.now)) }
-        ensures a_formed { let t = (I.meaning self.now.interner).ty a.now in IsTrue result → IsCovered t → IsFormed t }
-        ensures b_formed { let t = (I.meaning self.now.interner).ty b.now in IsTrue result → IsCovered t → IsFormed t }
+        ensures a_formed { let t = (I.meaning self.now.interner).ty a.now in
+            IsTrue result → IsCovered t → IsFormed t }
+        ensures b_formed { let t = (I.meaning self.now.interner).ty b.now in
+            IsTrue result → IsCovered t → IsFormed t }
     {
         if !self.has_no_variable(a) {
             return false;

@@ -8,7 +8,7 @@ ghost use Rattle.type_relations.specs.declared.relate.forms.Form.TheVariants.{Le
 ghost use Rattle.type_relations.specs.Parts.{IsFormedConst};
 ghost use Rattle.type_relations.specs.Covered.{IsCovered};
 
-use crate::relate::forms::{Form, is_same_form, is_same_item, outline_of};
+use crate::relate::forms::{Form, has_fixed_parts, is_same_form, is_same_item, outline_of};
 use crate::relate::parts::parts_count_in;
 use relation_terms::terms::{Const, ConstKind, Interner, Ty, TyKind, ValTree, ValTreeKind};
 use relation_tools::error::{ExpectedFound, TypeError, TypeErrorOf};
@@ -47,6 +47,9 @@ pub fn compare_tys<I: Interner>(cx: &I, a: &Ty<I>, b: &Ty<I>) -> Result<(), Type
     }
     if left.mutability != right.mutability {
         return Err(TypeError::Mutability);
+    }
+    if has_fixed_parts(left.form) {
+        return Ok(());
     }
     let n = parts_count_in(cx, a, &a_kind);
     let m = parts_count_in(cx, b, &b_kind);

@@ -70,7 +70,8 @@ fn are_its_parts<I: Interner>(cx: &I, ty: &Ty<I>, args: &[GenericArg<I>]) -> boo
     requires ty_known { IsTrue (known ((I.meaning cx.now).ty ty.now)) }
     requires args_known { IsTrue (known (list_tree (arg_tree (I.meaning cx.now)) args.now)) }
     requires fits { Fit args.now (parts_of ((I.meaning cx.now).ty ty.now)) }
-    ensures { IsTrue result → list_tree (arg_tree (I.meaning cx.now)) args.now ≡ parts_of ((I.meaning cx.now).ty ty.now) }
+    ensures { let m = I.meaning cx.now in
+        IsTrue result → list_tree (arg_tree m) args.now ≡ parts_of (m.ty ty.now) }
 {
     let parts = parts_in(cx, ty, &cx.ty_kind(ty));
     for i in 0..args.len() {

@@ -3,7 +3,7 @@ use Rattle.std.proofs.lemmas.Bool.{false≢true}
 use Rattle.type_relations.specs.declared.relate.forms.Form.TheVariants.{Leaf}
 use Rattle.type_relations.specs.Forms.{named_outline, tree_outline}
 use Rattle.type_relations.proofs.Forms.{itself_alike, unlike_forms, unlike_items, unlike_mutability}
-use Rattle.type_relations.proofs.Forms.{forms_alike, unlike_counts}
+use Rattle.type_relations.proofs.Forms.{forms_alike, unlike_counts, fixed_counts}
 use Rattle.type_relations.proofs.relate.comparing.compare_tys.Goals as goal
 
 pub returns-then-eq-clause-alike : goal.returns-then-eq-clause-alike
@@ -98,6 +98,28 @@ returns-then-n-m-clause-errors g c =
     c.parts_count_in-n.result c.parts_count_in-m.result c.parts_count_in-n.ensures.counts c.parts_count_in-m.ensures.counts
     c.if-n-m.true c.unlike_counts.result c.unlike_counts.ensures.sizes c.unlike_counts.ensures.empty
     c.unlike_counts.ensures.others
+
+pub returns-then-has_fixed_parts-clause-alike : goal.returns-then-has_fixed_parts-clause-alike
+returns-then-has_fixed_parts-clause-alike g c =
+    let m = g.I.Interner.meaning c.args.cx.now in
+    let x = c.args.a.now in
+    let y = c.args.b.now in
+    let o = c.outline_of-left.result in
+    let p = c.outline_of-right.result in
+    let left : named_outline m.id o ≡ tree_outline (m.ty x) =
+    c.outline_of-left.ensures ∙ ap tree_outline (sym c.ty_kind-a_kind.ensures) in
+    let right : named_outline m.id p ≡ tree_outline (m.ty y) =
+    c.outline_of-right.ensures ∙ ap tree_outline (sym c.ty_kind-b_kind.ensures) in
+    let parted : o.form ≡ Leaf → ⊥ = (λ e. (let t = c.if-is_same_form.false in
+    let one = c.is_same_form.ensures.1 e in search rules)) in
+    let form : o.form ≡ p.form = c.is_same_form-2.ensures.0 (let t = c.if-not-is_same_form.false in search rules) in
+    let item = c.is_same_item.ensures.0 (let t = c.if-not-is_same_item.false in search rules) in
+    let same : o.mutability ≡ p.mutability =
+    (let t = c.if-ne.false in let h = c.ne.ensures in let k = c.if-ne.ensures in search rules) in
+    forms_alike m x y o p left right c.requires.a_covered c.requires.b_covered parted form item same
+    (fixed_counts (m.ty x) (m.ty y) o.form (g.met.I.Interner.is_ty c.args.cx.now x c.requires.a_known)
+    (g.met.I.Interner.is_ty c.args.cx.now y c.requires.b_known) (sym (ap (λ z. z.form) left))
+    (sym (ap (λ z. z.form) right) ∙ sym form) (c.has_fixed_parts.ensures c.if-has_fixed_parts.true))
 
 pub returns-clause-alike : goal.returns-clause-alike
 returns-clause-alike g c =

@@ -39,8 +39,8 @@ loop-i-preserved g c =
     let next : suc i ≡ i + 1 = omega arith in
     let x = c.index-args-i.result in
     let same : arg_tree m (get_or xs i x) ≡ nth i ts = ap (arg_tree m) (sym c.index-args-i.is)
-        ∙ c.is_part.ensures (let t = c.if-not-is_part.false in search rules) ∙ c.member.ensures.means
-        ∙ ap (nth i) c.parts_in-parts.ensures.means in
+    ∙ c.is_part.ensures (let t = c.if-not-is_part.false in search rules) ∙ c.member.ensures.means
+    ∙ ap (nth i) c.parts_in-parts.ensures.means in
     subst (λ j. AreFirst (arg_tree m) j xs ts) next
     (first_next (arg_tree m) i xs ts x below c.requires.fits c.loop-i.invariant same)
 
