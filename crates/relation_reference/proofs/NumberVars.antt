@@ -48,11 +48,12 @@ not_true true h = absurd (false≢true h)
 -- So is a covered type in which no variable but of regions stands.
 pub free_formed : (t : Tree) (f : TypeFlags) → f ≡ flags_of t → IsTrue (not f.has_non_region_infer) →
     IsTerm type_sort t → IsCovered t → IsFormed t
-free_formed t f e no s c = type_formed t s c (λ n. apart (variable type_var n) refl) (λ n. apart (variable int_var n) refl)
+free_formed t f e without s c = type_formed t s c (λ n. apart (variable type_var n) refl) (λ n. apart (variable int_var n) refl)
     (λ n. apart (variable float_var n) refl)
   where
     free : has_non_region_infer t ≡ false
-    free = sym (ap (λ g. g.has_non_region_infer) e) ∙ not_true f.has_non_region_infer no
+    free = sym (ap (λ g. g.has_non_region_infer) e) ∙ not_true f.has_non_region_infer without
+
     apart : (l : Leaf) → is_non_region_variable l ≡ true → t ≢ leaf l
     apart l y o = false≢true (sym free ∙ ap has_non_region_infer o ∙ y)
 
