@@ -1,14 +1,14 @@
 //! Which variable a form is, and which a term of a context is.
-ghost use Rattle.std.specs.Prelude.{◌≡◌, ℕ, IfSome, IfNone};
+ghost use Rattle.std.specs.Prelude.{◌≡◌, ℕ, IsTrue, IfSome, IfNone};
 ghost use Rattle.relation_terms.specs.Heads.{type_var, const_var, variable};
-ghost use Rattle.relation_terms.specs.Trees.{leaf};
+ghost use Rattle.relation_terms.specs.Trees.{leaf, known};
 ghost use Rattle.relation_terms.specs.declared.terms.ty_kind.TyKind.TheVariants.{Infer};
 ghost use Rattle.relation_terms.specs.declared.terms.ty_kind.InferTy.TheVariants.{TyVar, IntVar, FloatVar};
 ghost use Rattle.relation_terms.specs.declared.terms.const_kind.ConstKind.TheVariants.{Infer as ConstInfer};
 ghost use Rattle.relation_terms.specs.declared.terms.const_kind.InferConst.TheVariants.{Var};
 ghost use Rattle.type_relations.specs.Contexts.{KnowsTy, KnowsConst};
 ghost use Rattle.type_relations.specs.Covered.{IsCovered};
-ghost use Rattle.type_relations.specs.Parts.{IsFormedConst};
+ghost use Rattle.type_relations.specs.Parts.{IsFormed, IsFormedConst};
 
 use crate::infer_ctxt::InferCtxtLike;
 use relation_terms::terms::{
@@ -82,4 +82,32 @@ pub(crate) fn const_var<Infcx: InferCtxtLike>(
         IfNone result (IsCovered (m.const_ constant.now) → IsFormedConst (m.const_ constant.now)) }
 {
     const_vid(&infcx.cx().const_kind(constant))
+}
+
+// Whether no variable but of regions stands in a type, so that it has a form.
+fn has_no_variable<I: Interner>(cx: &I, ty: &Ty<I>) -> bool
+    requires { IsTrue (known ((I.meaning cx.now).ty ty.now)) }
+    ensures { let t = (I.meaning cx.now).ty ty.now in IsTrue result → IsCovered t → IsFormed t }
+{
+    !cx.ty_flags(ty).has_non_region_infer
+}
+
+// The same of two types of a context.
+pub(crate) fn have_no_variable<Infcx: InferCtxtLike>(
+    infcx: &Infcx,
+    a: &Ty<Infcx::Interner>,
+    b: &Ty<Infcx::Interner>,
+) -> bool
+    requires a_known { KnowsTy (Infcx.state infcx.now) a.now }
+    requires b_known { KnowsTy (Infcx.state infcx.now) b.now }
+    ensures a_formed { let t = ((Infcx.state infcx.now).meaning).ty a.now in
+        IsTrue result → IsCovered t → IsFormed t }
+    ensures b_formed { let t = ((Infcx.state infcx.now).meaning).ty b.now in
+        IsTrue result → IsCovered t → IsFormed t }
+{
+    let cx = infcx.cx();
+    if !has_no_variable(cx, a) {
+        return false;
+    }
+    has_no_variable(cx, b)
 }

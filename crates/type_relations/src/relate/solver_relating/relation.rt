@@ -18,7 +18,7 @@ ghost use Rattle.type_relations.specs.Solving.{solving_in, solving_through, solv
 use crate::infer_ctxt::{InferCtxtLike, VisibleForLeakCheck};
 use crate::relate::number_vars::{bind_number, equate_numbers, number_var};
 use crate::relate::structural::tys;
-use crate::relate::variables::{const_var, ty_var};
+use crate::relate::variables::{const_var, have_no_variable, ty_var};
 use crate::relate::{Step, StructurallyRelateAliases, TypeRelation, relate_args_invariantly};
 use relation_terms::terms::{
     Const, GenericArgs, Interner, ItemOf, OutOfMemory, ParamEnv, Region, Span, Ty, Variance,
@@ -409,6 +409,9 @@ impl<'a, Infcx: InferCtxtLike> TypeRelation<Infcx::Interner> for SolverRelating<
     ) -> RelateResult<Infcx::Interner, Step<Ty<Infcx::Interner>>> {
         if a == b {
             return Ok(Step::Done(*a));
+        }
+        if have_no_variable(&*self.infcx, a, b) {
+            return Ok(Step::Parts { a: *a, b: *b });
         }
         let left = self.infcx.shallow_resolve(a);
         let right = self.infcx.shallow_resolve(b);

@@ -1,9 +1,10 @@
 use Rattle.std.proofs.Common.{refl, sym}
+use Rattle.type_relations.specs.Errors.{itself}
 use Rattle.type_relations.specs.Parts.{IsFormed}
 use Rattle.type_relations.specs.Solving.{solving_through, solver_manner}
 use Rattle.type_relations.proofs.StructuralConsts.{itself_related}
 use Rattle.type_relations.proofs.Shallowly.{read_step}
-use Rattle.type_relations.proofs.Solving.{answered_step, read_taken, read_covered, one_ty}
+use Rattle.type_relations.proofs.Solving.{answered_step, read_taken, read_covered, one_ty, parts_step}
 use Rattle.type_relations.proofs.relate.solver_relating.relation.SolverRelatingTypeRelationInterner.tys.Goals as goal
 
 pub returns-then-eq : goal.returns-then-eq
@@ -58,3 +59,14 @@ returns g c =
     ((s.meaning).ty c.args.b.now) ((s.meaning).ty c.shallow_resolve-left.result)
     ((s.meaning).ty c.shallow_resolve-right.result) c.shallow_resolve-left.ensures.reads.reads
     c.shallow_resolve-right.ensures.reads.reads IsFormed (d.meaning).ty c.combine_tys.result c.combine_tys.ensures
+
+pub returns-then-have_no_variable : goal.returns-then-have_no_variable
+returns-then-have_no_variable g c =
+    let r = c.args.self.now in
+    let s = g.Infcx.InferCtxtLike.state r.infcx.now in
+    let k = c.requires.asked in
+    let none = c.have_no_variable.ensures in
+    parts_step r.infcx.ghost_name s.meaning s.store s.lawful r.ambient_variance r.param_env IsFormed
+    ((s.meaning).ty c.args.a.now) ((s.meaning).ty c.args.b.now) (s.meaning).ty c.args.a.now c.args.b.now
+    (g.met.Infcx.InferCtxtLike.sound r.infcx.now c.requires.lawful.0) (itself refl) (itself refl) k
+    (none.a_formed c.if-have_no_variable.true k.left_taken.1) (none.b_formed c.if-have_no_variable.true k.right_taken.1)
