@@ -12,6 +12,8 @@ pub mod Placing
 mod Pulling
 pub mod Clashing
 pub mod Outlining
+mod Pairing
+mod Unlike
 pub mod Instancing
 pub mod Rejecting
 pub mod KeysApart
