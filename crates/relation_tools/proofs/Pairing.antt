@@ -33,6 +33,10 @@ use Rattle.relation_tools.specs.declared.fast_reject.pairs.Pair.TheVariants.{Apa
 use Rattle.relation_tools.proofs.Clashing.{cons_clash, nil_left, quiet_clash, between_clash, is_quiet, forms_clash}
 use Rattle.relation_tools.proofs.Clashing.{parts_decide, moved}
 
+front_nil : (b : Bool) → IsTrue (known (cond b nil (leaf unknown))) → cond b nil (leaf unknown) ≡ nil
+front_nil true k = refl
+front_nil false k = absurd (false≢true k)
+
 -- Lists of one term, and of two of which one or none can clash.
 module _ (l r : Bool) (d : ℕ) where
   one : (x y : Tree) → Clash l r d (cons x nil) (cons y nil) ↔ Clash l r d x y
@@ -80,10 +84,6 @@ module _ (l r : Bool) (d : ℕ) where
       (λ c. (one x y).0 (between_clash ((one (bind ks x) (bind js y)).0 c) refl), λ c. here (between refl (here c)))
 
   -- All of a list but the last, or the last.
-  front_nil : (b : Bool) → IsTrue (known (cond b nil (leaf unknown))) → cond b nil (leaf unknown) ≡ nil
-  front_nil true k = refl
-  front_nil false k = absurd (false≢true k)
-
   ends_more : (t u f g o p vs ws : Tree) → (Clash l r d f g ⊎ Clash l r d o p) ↔ Clash l r d vs ws →
       (Clash l r d (cons t f) (cons u g) ⊎ Clash l r d o p) ↔ Clash l r d (cons t vs) (cons u ws)
   ends_more t u f g o p vs ws i = (there, λ c. back (cons_clash c))

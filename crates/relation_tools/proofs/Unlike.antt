@@ -130,22 +130,22 @@ module _ {Key Id Name : Type 0} (m : Meaning Key Id Name) where
 
   -- A type that is of none of the forms over parts.
   pub record IsOfNone (k : TyKind Key Id Name) : Type 0 where
-    no_adt : (d : AdtId Id) (a : ArgsKey Key) → k ≡ AdtTy d a → ⊥
-    no_fn_def : (d : FunctionId Id) (a : ArgsKey Key) → k ≡ FnDefTy d a → ⊥
-    no_closure : (d : ClosureId Id) (a : ArgsKey Key) → k ≡ ClosureTy d a → ⊥
-    no_coroutine_closure : (d : CoroutineClosureId Id) (a : ArgsKey Key) → k ≡ CoroutineClosureTy d a → ⊥
-    no_coroutine : (d : CoroutineId Id) (a : ArgsKey Key) → k ≡ CoroutineTy d a → ⊥
-    no_coroutine_witness : (d : CoroutineId Id) (a : ArgsKey Key) → k ≡ CoroutineWitnessTy d a → ⊥
-    no_array : (t : TyKey Key) (n : ConstKey Key) → k ≡ ArrayTy t n → ⊥
-    no_pat : (t : TyKey Key) (p : PatKey Key) → k ≡ PatTy t p → ⊥
-    no_slice : (t : TyKey Key) → k ≡ SliceTy t → ⊥
-    no_raw_ptr : (t : TyKey Key) (u : Mutability) → k ≡ RawPtrTy t u → ⊥
-    no_ref : (r : RegionKey Key) (t : TyKey Key) (u : Mutability) → k ≡ RefTy r t u → ⊥
-    no_unsafe_binder : (b : Binder Key (TyKey Key)) → k ≡ UnsafeBinderTy b → ⊥
-    no_tuple : (ts : TysKey Key) → k ≡ TupleTy ts → ⊥
-    no_fn_ptr : (b : Binder Key (FnSigTys Key)) (h : FnHeader) → k ≡ FnPtrTy b h → ⊥
-    no_dynamic : (p : ExistentialPredicatesKey Key) (r : RegionKey Key) → k ≡ DynamicTy p r → ⊥
-    no_alias : (a : AliasTy Key Id) → k ≡ AliasKindTy a → ⊥
+    pub no_adt : (d : AdtId Id) (a : ArgsKey Key) → k ≡ AdtTy d a → ⊥
+    pub no_fn_def : (d : FunctionId Id) (a : ArgsKey Key) → k ≡ FnDefTy d a → ⊥
+    pub no_closure : (d : ClosureId Id) (a : ArgsKey Key) → k ≡ ClosureTy d a → ⊥
+    pub no_coroutine_closure : (d : CoroutineClosureId Id) (a : ArgsKey Key) → k ≡ CoroutineClosureTy d a → ⊥
+    pub no_coroutine : (d : CoroutineId Id) (a : ArgsKey Key) → k ≡ CoroutineTy d a → ⊥
+    pub no_coroutine_witness : (d : CoroutineId Id) (a : ArgsKey Key) → k ≡ CoroutineWitnessTy d a → ⊥
+    pub no_array : (t : TyKey Key) (n : ConstKey Key) → k ≡ ArrayTy t n → ⊥
+    pub no_pat : (t : TyKey Key) (p : PatKey Key) → k ≡ PatTy t p → ⊥
+    pub no_slice : (t : TyKey Key) → k ≡ SliceTy t → ⊥
+    pub no_raw_ptr : (t : TyKey Key) (u : Mutability) → k ≡ RawPtrTy t u → ⊥
+    pub no_ref : (r : RegionKey Key) (t : TyKey Key) (u : Mutability) → k ≡ RefTy r t u → ⊥
+    pub no_unsafe_binder : (b : Binder Key (TyKey Key)) → k ≡ UnsafeBinderTy b → ⊥
+    pub no_tuple : (ts : TysKey Key) → k ≡ TupleTy ts → ⊥
+    pub no_fn_ptr : (b : Binder Key (FnSigTys Key)) (h : FnHeader) → k ≡ FnPtrTy b h → ⊥
+    pub no_dynamic : (p : ExistentialPredicatesKey Key) (r : RegionKey Key) → k ≡ DynamicTy p r → ⊥
+    pub no_alias : (a : AliasTy Key Id) → k ≡ AliasKindTy a → ⊥
 
   pub no_parts : (k : TyKind Key Id Name) → IsOfNone k → (tree_outline (kind_tree m k)).form ≡ Leaf
   no_parts (AdtTy d a) n = absurd (n.no_adt d a refl)

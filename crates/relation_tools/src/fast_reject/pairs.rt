@@ -93,52 +93,96 @@ pub fn paired<I: Interner>(cx: &I, left: &TyForm<I>, right: &TyForm<I>) -> Pair<
     requires differ { kind_tree (I.meaning cx.now) left.now ≢ kind_tree (I.meaning cx.now) right.now }
     ensures { let m = I.meaning cx.now in Pairs m (kind_tree m left.now) (kind_tree m right.now) result }
 {
-    match (left, right) {
-        (TyKind::Adt(def, args), TyKind::Adt(other, others)) => {
-            if_alike(is_same_id(cx, &def.0, &other.0), Pair::Args(*args, *others))
-        }
-        (TyKind::FnDef(def, args), TyKind::FnDef(other, others)) => {
-            if_alike(is_same_id(cx, &def.0, &other.0), Pair::Args(*args, *others))
-        }
-        (TyKind::Closure(def, args), TyKind::Closure(other, others)) => {
-            if_alike(is_same_id(cx, &def.0, &other.0), Pair::Args(*args, *others))
-        }
-        (TyKind::CoroutineClosure(def, args), TyKind::CoroutineClosure(other, others)) => {
-            if_alike(is_same_id(cx, &def.0, &other.0), Pair::Args(*args, *others))
-        }
-        (TyKind::Coroutine(def, args), TyKind::Coroutine(other, others)) => {
-            if_alike(is_same_id(cx, &def.0, &other.0), Pair::Args(*args, *others))
-        }
-        (TyKind::CoroutineWitness(def, args), TyKind::CoroutineWitness(other, others)) => {
-            if_alike(is_same_id(cx, &def.0, &other.0), Pair::Args(*args, *others))
-        }
-        (TyKind::Array(ty, len), TyKind::Array(other, length)) => {
-            Pair::Arrays(*ty, *other, *len, *length)
-        }
-        (TyKind::Pat(ty, _), TyKind::Pat(other, _)) => Pair::Types(*ty, *other),
-        (TyKind::Slice(ty), TyKind::Slice(other)) => Pair::Types(*ty, *other),
-        (TyKind::RawPtr(ty, mutability), TyKind::RawPtr(other, others)) => {
-            if_alike(is_same_mutability(*mutability, *others), Pair::Types(*ty, *other))
-        }
-        (TyKind::Ref(_, ty, mutability), TyKind::Ref(_, other, others)) => {
-            if_alike(is_same_mutability(*mutability, *others), Pair::Types(*ty, *other))
-        }
-        (TyKind::UnsafeBinder(ty), TyKind::UnsafeBinder(other)) => {
-            Pair::Types(ty.value, other.value)
-        }
-        (TyKind::Tuple(tys), TyKind::Tuple(others)) => {
-            if_alike(is_same_count(cx, tys, others), Pair::Lists(*tys, *others))
-        }
-        (TyKind::FnPtr(types, header), TyKind::FnPtr(others, other)) => {
-            let tys = types.value.inputs_and_output;
-            let others = others.value.inputs_and_output;
-            let pair = if_alike(is_same_count(cx, &tys, &others), Pair::Lists(tys, others));
-            if_alike(is_same_header(header, other), pair)
-        }
-        (TyKind::Dynamic(predicates, _), TyKind::Dynamic(others, _)) => {
-            if_alike(is_same_principal(cx, *predicates, *others), Pair::Nothing)
-        }
-        (TyKind::Alias(alias), TyKind::Alias(other)) => Pair::Args(alias.args, other.args),
+    match left {
+        TyKind::Adt(def, args) => match right {
+            TyKind::Adt(other, others) => {
+                if_alike(is_same_id(cx, &def.0, &other.0), Pair::Args(*args, *others))
+            }
+            _ => Pair::Apart,
+        },
+        TyKind::FnDef(def, args) => match right {
+            TyKind::FnDef(other, others) => {
+                if_alike(is_same_id(cx, &def.0, &other.0), Pair::Args(*args, *others))
+            }
+            _ => Pair::Apart,
+        },
+        TyKind::Closure(def, args) => match right {
+            TyKind::Closure(other, others) => {
+                if_alike(is_same_id(cx, &def.0, &other.0), Pair::Args(*args, *others))
+            }
+            _ => Pair::Apart,
+        },
+        TyKind::CoroutineClosure(def, args) => match right {
+            TyKind::CoroutineClosure(other, others) => {
+                if_alike(is_same_id(cx, &def.0, &other.0), Pair::Args(*args, *others))
+            }
+            _ => Pair::Apart,
+        },
+        TyKind::Coroutine(def, args) => match right {
+            TyKind::Coroutine(other, others) => {
+                if_alike(is_same_id(cx, &def.0, &other.0), Pair::Args(*args, *others))
+            }
+            _ => Pair::Apart,
+        },
+        TyKind::CoroutineWitness(def, args) => match right {
+            TyKind::CoroutineWitness(other, others) => {
+                if_alike(is_same_id(cx, &def.0, &other.0), Pair::Args(*args, *others))
+            }
+            _ => Pair::Apart,
+        },
+        TyKind::Array(ty, len) => match right {
+            TyKind::Array(other, length) => Pair::Arrays(*ty, *other, *len, *length),
+            _ => Pair::Apart,
+        },
+        TyKind::Pat(ty, _) => match right {
+            TyKind::Pat(other, _) => Pair::Types(*ty, *other),
+            _ => Pair::Apart,
+        },
+        TyKind::Slice(ty) => match right {
+            TyKind::Slice(other) => Pair::Types(*ty, *other),
+            _ => Pair::Apart,
+        },
+        TyKind::RawPtr(ty, mutability) => match right {
+            TyKind::RawPtr(other, others) => {
+                if_alike(is_same_mutability(*mutability, *others), Pair::Types(*ty, *other))
+            }
+            _ => Pair::Apart,
+        },
+        TyKind::Ref(_, ty, mutability) => match right {
+            TyKind::Ref(_, other, others) => {
+                if_alike(is_same_mutability(*mutability, *others), Pair::Types(*ty, *other))
+            }
+            _ => Pair::Apart,
+        },
+        TyKind::UnsafeBinder(ty) => match right {
+            TyKind::UnsafeBinder(other) => Pair::Types(ty.value, other.value),
+            _ => Pair::Apart,
+        },
+        TyKind::Tuple(tys) => match right {
+            TyKind::Tuple(others) => {
+                if_alike(is_same_count(cx, tys, others), Pair::Lists(*tys, *others))
+            }
+            _ => Pair::Apart,
+        },
+        TyKind::FnPtr(types, header) => match right {
+            TyKind::FnPtr(others, other) => {
+                let tys = types.value.inputs_and_output;
+                let others = others.value.inputs_and_output;
+                let pair = if_alike(is_same_count(cx, &tys, &others), Pair::Lists(tys, others));
+                if_alike(is_same_header(header, other), pair)
+            }
+            _ => Pair::Apart,
+        },
+        TyKind::Dynamic(predicates, _) => match right {
+            TyKind::Dynamic(others, _) => {
+                if_alike(is_same_principal(cx, *predicates, *others), Pair::Nothing)
+            }
+            _ => Pair::Apart,
+        },
+        TyKind::Alias(alias) => match right {
+            TyKind::Alias(other) => Pair::Args(alias.args, other.args),
+            _ => Pair::Apart,
+        },
         _ => Pair::Apart,
     }
 }

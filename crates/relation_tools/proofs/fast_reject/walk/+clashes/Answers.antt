@@ -166,8 +166,8 @@ pair_may_unify-consts_may_unify-requires-clause-rhs_known g t c =
     let m = g.I.Interner.meaning c.args.cx.now in
     (subst (λ p. KnownPair m p) c.in-Arrays.is c.requires).1.1
 
-pub pair_may_unify-returns-in-Arrays : goal.pair_may_unify-returns-in-Arrays
-pair_may_unify-returns-in-Arrays g t c =
+pub pair_may_unify-returns : goal.pair_may_unify-returns
+pair_may_unify-returns g t c =
     let m = g.I.Interner.meaning c.args.cx.now in
     let none : Clash c.args.sides.left c.args.sides.right c.args.depth (m.ty c.in-Arrays.lhs) (m.ty c.in-Arrays.rhs) → ⊥ =
     (λ k. (let no = c.types_may_unify-in-Arrays.ensures.1 k in let n = c.if-not-types_may_unify.false in search rules)) in
@@ -179,8 +179,8 @@ pair_may_unify-tys-requires g t c =
     let m = g.I.Interner.meaning c.args.cx.now in
     (subst (λ p. KnownPair m p) c.in-Lists.is c.requires).0
 
-pub pair_may_unify-tys-requires-2 : goal.pair_may_unify-tys-requires-2
-pair_may_unify-tys-requires-2 g t c =
+pub pair_may_unify-tys-requires-in-Lists : goal.pair_may_unify-tys-requires-in-Lists
+pair_may_unify-tys-requires-in-Lists g t c =
     let m = g.I.Interner.meaning c.args.cx.now in
     (subst (λ p. KnownPair m p) c.in-Lists.is c.requires).1
 
@@ -194,21 +194,21 @@ pair_may_unify-tys_may_unify-requires g t' c κs within =
     let both : IsTrue (known (m.tys c.in-Lists.tys)) × IsTrue (known (m.tys c.in-Lists.others)) =
     subst (λ p. KnownPair m p) c.in-Lists.is c.requires in
     let k = subst (λ x. IsTrue (known x)) c.tys.ensures both.0 in
-    let n = subst (λ x. IsTrue (known x)) c.tys-2.ensures both.1 in
+    let n = subst (λ x. IsTrue (known x)) c.tys-in-Lists.ensures both.1 in
     search rules
 
 pub pair_may_unify-returns-in-Lists : goal.pair_may_unify-returns-in-Lists
 pair_may_unify-returns-in-Lists g t c =
     lists_clash (g.I.Interner.meaning c.args.cx.now) c.args.sides.left c.args.sides.right c.tys_may_unify.result c.args.depth
-    c.args.pair c.in-Lists.tys c.in-Lists.others c.in-Lists.is _ _ c.tys.ensures c.tys-2.ensures c.tys_may_unify.ensures
+    c.args.pair c.in-Lists.tys c.in-Lists.others c.in-Lists.is _ _ c.tys.ensures c.tys-in-Lists.ensures c.tys_may_unify.ensures
 
-pub pair_may_unify-args-requires : goal.pair_may_unify-args-requires
-pair_may_unify-args-requires g t c =
+pub pair_may_unify-args-list-requires : goal.pair_may_unify-args-list-requires
+pair_may_unify-args-list-requires g t c =
     let m = g.I.Interner.meaning c.args.cx.now in
     (subst (λ p. KnownPair m p) c.in-Args.is c.requires).0
 
-pub pair_may_unify-args-requires-2 : goal.pair_may_unify-args-requires-2
-pair_may_unify-args-requires-2 g t c =
+pub pair_may_unify-args-other_list-requires : goal.pair_may_unify-args-other_list-requires
+pair_may_unify-args-other_list-requires g t c =
     let m = g.I.Interner.meaning c.args.cx.now in
     (subst (λ p. KnownPair m p) c.in-Args.is c.requires).1
 
