@@ -115,7 +115,7 @@ module _ (l r : Bool) (d : ℕ) where
   ends (cons t (cons v vs)) (cons u (cons w ws)) k j e =
       ends_more t u (front (cons v vs)) (front (cons w ws)) (last (cons v vs)) (last (cons w ws)) (cons v vs) (cons w ws)
       (ends (cons v vs) (cons w ws) (and_parts (known t) (known (front (cons v vs))) k).1
-          (and_parts (known u) (known (front (cons w ws))) j).1 (omega (arith, e)))
+      (and_parts (known u) (known (front (cons w ws))) j).1 (omega (arith, e)))
   ends (cons t nil) (cons u (cons w ws)) k j e = absurd (omega (arith, e))
   ends (cons t (cons v vs)) (cons u nil) k j e = absurd (omega (arith, e))
   ends (cons t (leaf x)) ys k j e = absurd (false≢true (and_parts (known t) false k).1)
@@ -214,8 +214,10 @@ module _ {Key Id Name : Type 0} (m : Meaning Key Id Name) where
       (xs ys : ArgsKey Key) → IsTrue (known (m.args xs)) → IsTrue (known (m.args ys)) → (w : Bool) (q : Pair Key) →
       q ≡ cond w (Args xs ys) Apart → (IsTrue w ↔ (n ≡ k)) → Pairs m (node (h n) (m.args xs)) (node (h k) (m.args ys)) q
   items h f is n k xs ys a b w q e i = chosen (node (h n) (m.args xs)) (node (h k) (m.args ys)) w (Args xs ys) q e i
-      (λ s. (is n (m.args xs) ∙ ap (λ x. of_item {D = ℕ} f x) s ∙ sym (is k (m.args ys)),
-          ((a, b), (omega arith, λ l r d. (λ c. c, λ c. c)))))
+      (λ s. (
+        is n (m.args xs) ∙ ap (λ x. of_item {D = ℕ} f x) s ∙ sym (is k (m.args ys)),
+        ((a, b), (omega arith, λ l r d. (λ c. c, λ c. c))),
+      ))
       (λ o s. o (one_number (sym (is n (m.args xs)) ∙ s ∙ is k (m.args ys))))
     where
       one_number : of_item {D = ℕ} f n ≡ of_item f k → n ≡ k
@@ -230,25 +232,40 @@ module _ {Key Id Name : Type 0} (m : Meaning Key Id Name) where
       IsTrue (known (cons (m.ty u) (cons (m.const_ k) nil))) →
       Pairs m (node array (cons (m.ty t) (cons (m.const_ n) nil))) (node array (cons (m.ty u) (cons (m.const_ k) nil)))
       (Arrays t u n k)
-  arrays t u n k a b =
-      (refl, (((known_first (m.ty t) (m.const_ n) a, known_first (m.ty u) (m.const_ k) b),
-          (known_second (m.ty t) (m.const_ n) a, known_second (m.ty u) (m.const_ k) b)),
-          (omega arith, λ l r d. both l r d (m.ty t) (m.ty u) (m.const_ n) (m.const_ k))))
+  arrays t u n k a b = (
+    refl,
+    (
+      (
+        (known_first (m.ty t) (m.const_ n) a, known_first (m.ty u) (m.const_ k) b),
+        (known_second (m.ty t) (m.const_ n) a, known_second (m.ty u) (m.const_ k) b),
+      ),
+      (omega arith, λ l r d. both l r d (m.ty t) (m.ty u) (m.const_ n) (m.const_ k)),
+    ),
+  )
 
   pub patterns : (t u : TyKey Key) (p q : Tree) → is_quiet (tree_sort p) ≡ true →
       IsTrue (known (cons (m.ty t) (cons p nil))) → IsTrue (known (cons (m.ty u) (cons q nil))) →
       Pairs m (node pattern_type (cons (m.ty t) (cons p nil))) (node pattern_type (cons (m.ty u) (cons q nil))) (Types t u)
-  patterns t u p q h a b =
-      (refl, ((known_first (m.ty t) p a, known_first (m.ty u) q b),
-          (omega arith, λ l r d. first l r d (m.ty t) (m.ty u) p q h)))
+  patterns t u p q h a b = (
+    refl,
+    (
+      (known_first (m.ty t) p a, known_first (m.ty u) q b),
+      (omega arith, λ l r d. first l r d (m.ty t) (m.ty u) p q h),
+    ),
+  )
 
   pub pointers : (v w : Mutability) (t u : TyKey Key) → IsTrue (known (cons (m.ty t) nil)) →
       IsTrue (known (cons (m.ty u) nil)) → (y : Bool) (z : Pair Key) → z ≡ cond y (Types t u) Apart →
       (IsTrue y ↔ (v ≡ w)) → Pairs m (node (raw_ptr v) (cons (m.ty t) nil)) (node (raw_ptr w) (cons (m.ty u) nil)) z
   pointers v w t u a b y z e i =
       chosen (node (raw_ptr v) (cons (m.ty t) nil)) (node (raw_ptr w) (cons (m.ty u) nil)) y (Types t u) z e i
-      (λ s. (ap (λ x. plain {D = ℕ} (pointer_form x)) s, ((known_only (m.ty t) a, known_only (m.ty u) b),
-          (omega arith, λ l r d. one l r d (m.ty t) (m.ty u)))))
+      (λ s. (
+        ap (λ x. plain {D = ℕ} (pointer_form x)) s,
+        (
+          (known_only (m.ty t) a, known_only (m.ty u) b),
+          (omega arith, λ l r d. one l r d (m.ty t) (m.ty u)),
+        ),
+      ))
       (λ o s. o (one_pointer v w (ap (λ x. x.form) s)))
 
   pub references : (v w : Mutability) (t u : TyKey Key) (p q : Tree) → is_quiet (tree_sort p) ≡ true →
@@ -257,17 +274,26 @@ module _ {Key Id Name : Type 0} (m : Meaning Key Id Name) where
       Pairs m (node (ref v) (cons p (cons (m.ty t) nil))) (node (ref w) (cons q (cons (m.ty u) nil))) z
   references v w t u p q h a b y z e i =
       chosen (node (ref v) (cons p (cons (m.ty t) nil))) (node (ref w) (cons q (cons (m.ty u) nil))) y (Types t u) z e i
-      (λ s. (ap (λ x. plain {D = ℕ} (reference_form x)) s, ((known_second p (m.ty t) a, known_second q (m.ty u) b),
-          (omega arith, λ l r d. second l r d (m.ty t) (m.ty u) p q h))))
+      (λ s. (
+        ap (λ x. plain {D = ℕ} (reference_form x)) s,
+        (
+          (known_second p (m.ty t) a, known_second q (m.ty u) b),
+          (omega arith, λ l r d. second l r d (m.ty t) (m.ty u) p q h),
+        ),
+      ))
       (λ o s. o (one_reference v w (ap (λ x. x.form) s)))
 
   pub unsafe_binders : (o g : Option (List BoundKind)) (t u : TyKey Key) → IsTrue (known (cons (under o (m.ty t)) nil)) →
       IsTrue (known (cons (under g (m.ty u)) nil)) →
       Pairs m (node unsafe_binder (cons (under o (m.ty t)) nil)) (node unsafe_binder (cons (under g (m.ty u)) nil))
       (Types t u)
-  unsafe_binders (Some ks) (Some js) t u a b =
-      (refl, ((known_only (m.ty t) a, known_only (m.ty u) b),
-          (omega arith, λ l r d. bound l r d ks js (m.ty t) (m.ty u))))
+  unsafe_binders (Some ks) (Some js) t u a b = (
+    refl,
+    (
+      (known_only (m.ty t) a, known_only (m.ty u) b),
+      (omega arith, λ l r d. bound l r d ks js (m.ty t) (m.ty u)),
+    ),
+  )
   unsafe_binders None g t u a b = absurd (false≢true a)
   unsafe_binders (Some ks) None t u a b = absurd (false≢true b)
 
@@ -284,8 +310,17 @@ module _ {Key Id Name : Type 0} (m : Meaning Key Id Name) where
   objects xs ys p q h y z e i =
       chosen (node dynamic (cons (node object xs) (cons p nil))) (node dynamic (cons (node object ys) (cons q nil))) y
       Nothing z e i
-      (λ s. (ap (λ x. of_object {D = ℕ} x) s, (tt, (omega arith, λ l r d.
-          neither l r d (node object xs) (node object ys) p q refl h))))
+      (λ s. (
+        ap (λ x. of_object {D = ℕ} x) s,
+        (
+          tt,
+          (
+            omega arith,
+            λ l r d.
+                neither l r d (node object xs) (node object ys) p q refl h,
+          ),
+        ),
+      ))
       (λ o s. o (ap (λ x. x.item) s))
 
   -- Function pointers, by the lists of their types.
@@ -300,7 +335,7 @@ module _ {Key Id Name : Type 0} (m : Meaning Key Id Name) where
       Pairs m (node fn_ptr (cons (under o (signed_tree ts h)) nil)) (node fn_ptr (cons (under g (signed_tree us j)) nil)) z
   fn_ptrs (Some ks) (Some js) ts us h j a b x y p z e f i s = chosen left right y p z f s
       (λ one_header. chosen left right x (Lists ts us) p e i (λ counts. inside one_header counts)
-          (λ o k. o (counted_same (ap (λ v. v.parts) k))))
+      (λ o k. o (counted_same (ap (λ v. v.parts) k))))
       (λ o k. o (header_same (ap (λ v. v.header) k)))
     where
       left : Tree
@@ -337,11 +372,17 @@ module _ {Key Id Name : Type 0} (m : Meaning Key Id Name) where
 
       inside : h ≡ j → count (m.tys ts) ≡ count (m.tys us) → Pairs m left right (Lists ts us)
       inside k n =
-          let size_is = front_size (m.tys ts) left_known in
-          (ap₂ (λ v w. made v w) (ap some k) (fronts n),
-              ((front_known (m.tys ts) left_known, front_known (m.tys us) right_known),
-              (omega (arith, size_is), λ l r d. signed l r d ks js (signature h.c_variadic h.safety h.abi)
-                  (signature j.c_variadic j.safety j.abi) (m.tys ts) (m.tys us) left_known right_known n refl)))
+          let size_is = front_size (m.tys ts) left_known in (
+            ap₂ (λ v w. made v w) (ap some k) (fronts n),
+            (
+              (front_known (m.tys ts) left_known, front_known (m.tys us) right_known),
+              (
+                omega (arith, size_is),
+                λ l r d. signed l r d ks js (signature h.c_variadic h.safety h.abi)
+                    (signature j.c_variadic j.safety j.abi) (m.tys ts) (m.tys us) left_known right_known n refl,
+              ),
+            ),
+          )
   fn_ptrs None g ts us h j a b x y p z e f i s = absurd (false≢true a)
   fn_ptrs (Some ks) None ts us h j a b x y p z e f i s = absurd (false≢true b)
 
@@ -351,7 +392,7 @@ module _ {Key Id Name : Type 0} (m : Meaning Key Id Name) where
       let ts = m.tys (b.value).inputs_and_output in
       let under_vars = under (m.bound_vars b.bound_vars) (signed_tree (b.value).inputs_and_output h) in
       let body = (under_known (m.bound_vars b.bound_vars) (signed_tree (b.value).inputs_and_output h)
-          (known_only under_vars k)).1 in
+      (known_only under_vars k)).1 in
       front_known ts (known_first (node inputs (front ts)) (last ts) body)
 
   -- Two aliases are alike, whatever they are of.

@@ -84,7 +84,6 @@ fn if_alike<X: Copy>(alike: bool, pair: Pair<X>) -> Pair<X>
     if alike { pair } else { Pair::Apart }
 }
 
-#[tactic(none)]
 /// What is compared inside of two types that differ, or that they are apart by their forms alone.
 #[inline(always)]
 pub fn paired<I: Interner>(cx: &I, left: &TyForm<I>, right: &TyForm<I>) -> Pair<I::Key>
@@ -144,13 +143,19 @@ pub fn paired<I: Interner>(cx: &I, left: &TyForm<I>, right: &TyForm<I>) -> Pair<
         },
         TyKind::RawPtr(ty, mutability) => match right {
             TyKind::RawPtr(other, others) => {
-                if_alike(is_same_mutability(*mutability, *others), Pair::Types(*ty, *other))
+                if_alike(
+                    is_same_mutability(*mutability, *others),
+                    Pair::Types(*ty, *other),
+                )
             }
             _ => Pair::Apart,
         },
         TyKind::Ref(_, ty, mutability) => match right {
             TyKind::Ref(_, other, others) => {
-                if_alike(is_same_mutability(*mutability, *others), Pair::Types(*ty, *other))
+                if_alike(
+                    is_same_mutability(*mutability, *others),
+                    Pair::Types(*ty, *other),
+                )
             }
             _ => Pair::Apart,
         },

@@ -44,12 +44,7 @@ pub fn types_may_unify<I: Interner>(
 
 // Whether what is compared inside of two types may unify.
 #[cycle(clashes)]
-fn pair_may_unify<I: Interner>(
-    cx: &I,
-    sides: Sides,
-    pair: Pair<I::Key>,
-    depth: usize,
-) -> bool
+fn pair_may_unify<I: Interner>(cx: &I, sides: Sides, pair: Pair<I::Key>, depth: usize) -> bool
     requires { KnownPair (I.meaning cx.now) pair }
     ensures { IsFalse result ↔ ClashIn (I.meaning cx.now) sides.left sides.right depth pair }
 {

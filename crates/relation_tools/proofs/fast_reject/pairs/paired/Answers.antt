@@ -19,7 +19,7 @@ returns-in-Adt-right g c =
     let m = g.I.Interner.meaning c.args.cx.now in
     at_kinds m c.args.left.now c.args.right.now _ _ _ c.in-Adt.is c.in-Adt-right.is c.requires.left_known
     c.requires.right_known (λ a b. items m (λ n. adt n) Adt (λ n ts. refl) _ _ _ _ a b
-        c.is_same_id.result c.if_alike.result c.if_alike.ensures c.is_same_id.ensures)
+    c.is_same_id.result c.if_alike.result c.if_alike.ensures c.is_same_id.ensures)
 
 pub returns-in_default-right : goal.returns-in_default-right
 returns-in_default-right g c =
@@ -32,7 +32,7 @@ returns-in-FnDef-right g c =
     let m = g.I.Interner.meaning c.args.cx.now in
     at_kinds m c.args.left.now c.args.right.now _ _ _ c.in-FnDef.is c.in-FnDef-right.is c.requires.left_known
     c.requires.right_known (λ a b. items m (λ n. fn_def n) FnDef (λ n ts. refl) _ _ _ _ a b
-        c.is_same_id-in-FnDef-right.result c.if_alike-in-FnDef-right.result c.if_alike-in-FnDef-right.ensures c.is_same_id-in-FnDef-right.ensures)
+    c.is_same_id-in-FnDef-right.result c.if_alike-in-FnDef-right.result c.if_alike-in-FnDef-right.ensures c.is_same_id-in-FnDef-right.ensures)
 
 pub returns-in_default-right-2 : goal.returns-in_default-right-2
 returns-in_default-right-2 g c =
@@ -45,7 +45,7 @@ returns-in-Closure-right g c =
     let m = g.I.Interner.meaning c.args.cx.now in
     at_kinds m c.args.left.now c.args.right.now _ _ _ c.in-Closure.is c.in-Closure-right.is c.requires.left_known
     c.requires.right_known (λ a b. items m (λ n. closure n) Closure (λ n ts. refl) _ _ _ _ a b
-        c.is_same_id-in-Closure-right.result c.if_alike-in-Closure-right.result c.if_alike-in-Closure-right.ensures c.is_same_id-in-Closure-right.ensures)
+    c.is_same_id-in-Closure-right.result c.if_alike-in-Closure-right.result c.if_alike-in-Closure-right.ensures c.is_same_id-in-Closure-right.ensures)
 
 pub returns-in_default-right-3 : goal.returns-in_default-right-3
 returns-in_default-right-3 g c =
@@ -58,7 +58,7 @@ returns-in-CoroutineClosure-right g c =
     let m = g.I.Interner.meaning c.args.cx.now in
     at_kinds m c.args.left.now c.args.right.now _ _ _ c.in-CoroutineClosure.is c.in-CoroutineClosure-right.is c.requires.left_known
     c.requires.right_known (λ a b. items m (λ n. coroutine_closure n) CoroutineClosure (λ n ts. refl) _ _ _ _ a b
-        c.is_same_id-in-CoroutineClosure-right.result c.if_alike-in-CoroutineClosure-right.result c.if_alike-in-CoroutineClosure-right.ensures c.is_same_id-in-CoroutineClosure-right.ensures)
+    c.is_same_id-in-CoroutineClosure-right.result c.if_alike-in-CoroutineClosure-right.result c.if_alike-in-CoroutineClosure-right.ensures c.is_same_id-in-CoroutineClosure-right.ensures)
 
 pub returns-in_default-right-4 : goal.returns-in_default-right-4
 returns-in_default-right-4 g c =
@@ -71,7 +71,7 @@ returns-in-Coroutine-right g c =
     let m = g.I.Interner.meaning c.args.cx.now in
     at_kinds m c.args.left.now c.args.right.now _ _ _ c.in-Coroutine.is c.in-Coroutine-right.is c.requires.left_known
     c.requires.right_known (λ a b. items m (λ n. coroutine n) Coroutine (λ n ts. refl) _ _ _ _ a b
-        c.is_same_id-in-Coroutine-right.result c.if_alike-in-Coroutine-right.result c.if_alike-in-Coroutine-right.ensures c.is_same_id-in-Coroutine-right.ensures)
+    c.is_same_id-in-Coroutine-right.result c.if_alike-in-Coroutine-right.result c.if_alike-in-Coroutine-right.ensures c.is_same_id-in-Coroutine-right.ensures)
 
 pub returns-in_default-right-5 : goal.returns-in_default-right-5
 returns-in_default-right-5 g c =
@@ -84,7 +84,7 @@ returns-in-CoroutineWitness-right g c =
     let m = g.I.Interner.meaning c.args.cx.now in
     at_kinds m c.args.left.now c.args.right.now _ _ _ c.in-CoroutineWitness.is c.in-CoroutineWitness-right.is c.requires.left_known
     c.requires.right_known (λ a b. items m (λ n. coroutine_witness n) CoroutineWitness (λ n ts. refl) _ _ _ _ a b
-        c.is_same_id-in-CoroutineWitness-right.result c.if_alike-in-CoroutineWitness-right.result c.if_alike-in-CoroutineWitness-right.ensures c.is_same_id-in-CoroutineWitness-right.ensures)
+    c.is_same_id-in-CoroutineWitness-right.result c.if_alike-in-CoroutineWitness-right.result c.if_alike-in-CoroutineWitness-right.ensures c.is_same_id-in-CoroutineWitness-right.ensures)
 
 pub returns-in_default-right-6 : goal.returns-in_default-right-6
 returns-in_default-right-6 g c =
@@ -109,8 +109,8 @@ returns-in-Pat-right g c =
     let m = g.I.Interner.meaning c.args.cx.now in
     at_kinds m c.args.left.now c.args.right.now _ _ (Types c.in-Pat.ty c.in-Pat-right.other) c.in-Pat.is c.in-Pat-right.is c.requires.left_known
     c.requires.right_known (λ a b. patterns m c.in-Pat.ty c.in-Pat-right.other (m.pat c.in-Pat.field-1) (m.pat c.in-Pat-right.field-1)
-        (ap is_quiet (pattern_term (m.pat c.in-Pat.field-1) (g.met.I.Interner.is_pat c.args.cx.now c.in-Pat.field-1
-        (known_second (m.ty c.in-Pat.ty) (m.pat c.in-Pat.field-1) a)))) a b)
+    (ap is_quiet (pattern_term (m.pat c.in-Pat.field-1) (g.met.I.Interner.is_pat c.args.cx.now c.in-Pat.field-1
+    (known_second (m.ty c.in-Pat.ty) (m.pat c.in-Pat.field-1) a)))) a b)
 
 pub returns-in_default-right-8 : goal.returns-in_default-right-8
 returns-in_default-right-8 g c =
@@ -135,37 +135,37 @@ returns-in-RawPtr-right g c =
     let m = g.I.Interner.meaning c.args.cx.now in
     at_kinds m c.args.left.now c.args.right.now _ _ _ c.in-RawPtr.is c.in-RawPtr-right.is c.requires.left_known
     c.requires.right_known (λ a b. pointers m _ _ _ _ a b
-        c.is_same_mutability.result c.if_alike-in-RawPtr-right.result c.if_alike-in-RawPtr-right.ensures c.is_same_mutability.ensures)
+    c.is_same_mutability.result c.if_alike-in-RawPtr-right.result c.if_alike-in-RawPtr-right.ensures c.is_same_mutability.ensures)
 
 pub returns-in_default-right-10 : goal.returns-in_default-right-10
 returns-in_default-right-10 g c =
     let m = g.I.Interner.meaning c.args.cx.now in
     unlike m c.args.left.now c.args.right.now c.requires.differ (pointer_form c.in-RawPtr.mutability)
     (ap (λ k. (tree_outline (kind_tree m k)).form) c.in-RawPtr.is) (λ h.
-        let p = has_pointer m c.in-RawPtr.mutability c.args.right.now h in c.in_default-right-10.not-RawPtr p.0 p.1.0 p.1.1)
+    let p = has_pointer m c.in-RawPtr.mutability c.args.right.now h in c.in_default-right-10.not-RawPtr p.0 p.1.0 p.1.1)
 
 pub returns-in-Ref-right : goal.returns-in-Ref-right
 returns-in-Ref-right g c =
     let m = g.I.Interner.meaning c.args.cx.now in
     at_kinds m c.args.left.now c.args.right.now _ _ _ c.in-Ref.is c.in-Ref-right.is c.requires.left_known
     c.requires.right_known (λ a b. references m _ _ c.in-Ref.ty c.in-Ref-right.other (m.region c.in-Ref.field-0) (m.region c.in-Ref-right.field-0)
-        (ap is_quiet (region_term (m.region c.in-Ref.field-0) (g.met.I.Interner.is_region c.args.cx.now c.in-Ref.field-0
-        (known_first (m.region c.in-Ref.field-0) (m.ty c.in-Ref.ty) a)))) a b c.is_same_mutability-in-Ref-right.result
-        c.if_alike-in-Ref-right.result c.if_alike-in-Ref-right.ensures c.is_same_mutability-in-Ref-right.ensures)
+    (ap is_quiet (region_term (m.region c.in-Ref.field-0) (g.met.I.Interner.is_region c.args.cx.now c.in-Ref.field-0
+    (known_first (m.region c.in-Ref.field-0) (m.ty c.in-Ref.ty) a)))) a b c.is_same_mutability-in-Ref-right.result
+    c.if_alike-in-Ref-right.result c.if_alike-in-Ref-right.ensures c.is_same_mutability-in-Ref-right.ensures)
 
 pub returns-in_default-right-11 : goal.returns-in_default-right-11
 returns-in_default-right-11 g c =
     let m = g.I.Interner.meaning c.args.cx.now in
     unlike m c.args.left.now c.args.right.now c.requires.differ (reference_form c.in-Ref.mutability)
     (ap (λ k. (tree_outline (kind_tree m k)).form) c.in-Ref.is) (λ h.
-        let p = has_reference m c.in-Ref.mutability c.args.right.now h in c.in_default-right-11.not-Ref p.0 p.1.0 p.1.1.0 p.1.1.1)
+    let p = has_reference m c.in-Ref.mutability c.args.right.now h in c.in_default-right-11.not-Ref p.0 p.1.0 p.1.1.0 p.1.1.1)
 
 pub returns-in-UnsafeBinder-right : goal.returns-in-UnsafeBinder-right
 returns-in-UnsafeBinder-right g c =
     let m = g.I.Interner.meaning c.args.cx.now in
     at_kinds m c.args.left.now c.args.right.now _ _ (Types c.in-UnsafeBinder.ty.value c.in-UnsafeBinder-right.other.value) c.in-UnsafeBinder.is c.in-UnsafeBinder-right.is c.requires.left_known
     c.requires.right_known (λ a b. unsafe_binders m (m.bound_vars c.in-UnsafeBinder.ty.bound_vars) (m.bound_vars c.in-UnsafeBinder-right.other.bound_vars)
-        c.in-UnsafeBinder.ty.value c.in-UnsafeBinder-right.other.value a b)
+    c.in-UnsafeBinder.ty.value c.in-UnsafeBinder-right.other.value a b)
 
 pub returns-in_default-right-12 : goal.returns-in_default-right-12
 returns-in_default-right-12 g c =
@@ -178,7 +178,7 @@ returns-in-Tuple-right g c =
     let m = g.I.Interner.meaning c.args.cx.now in
     at_kinds m c.args.left.now c.args.right.now _ _ _ c.in-Tuple.is c.in-Tuple-right.is c.requires.left_known
     c.requires.right_known (λ a b. tuples m _ _ a b
-        c.is_same_count.result c.if_alike-in-Tuple-right.result c.if_alike-in-Tuple-right.ensures c.is_same_count.ensures)
+    c.is_same_count.result c.if_alike-in-Tuple-right.result c.if_alike-in-Tuple-right.ensures c.is_same_count.ensures)
 
 pub returns-in_default-right-13 : goal.returns-in_default-right-13
 returns-in_default-right-13 g c =
@@ -191,10 +191,10 @@ returns-in-FnPtr-right g c =
     let m = g.I.Interner.meaning c.args.cx.now in
     at_kinds m c.args.left.now c.args.right.now _ _ _ c.in-FnPtr.is c.in-FnPtr-right.is c.requires.left_known
     c.requires.right_known (λ a b. fn_ptrs m (m.bound_vars c.in-FnPtr.types.bound_vars) (m.bound_vars c.in-FnPtr-right.others.bound_vars)
-        (c.in-FnPtr.types.value).inputs_and_output (c.in-FnPtr-right.others.value).inputs_and_output c.in-FnPtr.header c.in-FnPtr-right.other a b
-        c.is_same_count-in-FnPtr-right.result c.is_same_header.result c.if_alike-pair.result c.if_alike-in-FnPtr-right.result
-        c.if_alike-pair.ensures c.if_alike-in-FnPtr-right.ensures c.is_same_count-in-FnPtr-right.ensures
-        c.is_same_header.ensures)
+    (c.in-FnPtr.types.value).inputs_and_output (c.in-FnPtr-right.others.value).inputs_and_output c.in-FnPtr.header c.in-FnPtr-right.other a b
+    c.is_same_count-in-FnPtr-right.result c.is_same_header.result c.if_alike-pair.result c.if_alike-in-FnPtr-right.result
+    c.if_alike-pair.ensures c.if_alike-in-FnPtr-right.ensures c.is_same_count-in-FnPtr-right.ensures
+    c.is_same_header.ensures)
 
 pub returns-in_default-right-14 : goal.returns-in_default-right-14
 returns-in_default-right-14 g c =
@@ -207,11 +207,11 @@ returns-in-Dynamic-right g c =
     let m = g.I.Interner.meaning c.args.cx.now in
     at_kinds m c.args.left.now c.args.right.now _ _ _ c.in-Dynamic.is c.in-Dynamic-right.is c.requires.left_known
     c.requires.right_known (λ a b. objects m (m.existential_predicates c.in-Dynamic.predicates) (m.existential_predicates c.in-Dynamic-right.others)
-        (m.region c.in-Dynamic.field-1) (m.region c.in-Dynamic-right.field-1) (ap is_quiet (region_term (m.region c.in-Dynamic.field-1)
-        (g.met.I.Interner.is_region c.args.cx.now c.in-Dynamic.field-1
-        (known_second (node object (m.existential_predicates c.in-Dynamic.predicates)) (m.region c.in-Dynamic.field-1) a))))
-        c.is_same_principal.result c.if_alike-in-Dynamic-right.result c.if_alike-in-Dynamic-right.ensures
-        c.is_same_principal.ensures)
+    (m.region c.in-Dynamic.field-1) (m.region c.in-Dynamic-right.field-1) (ap is_quiet (region_term (m.region c.in-Dynamic.field-1)
+    (g.met.I.Interner.is_region c.args.cx.now c.in-Dynamic.field-1
+    (known_second (node object (m.existential_predicates c.in-Dynamic.predicates)) (m.region c.in-Dynamic.field-1) a))))
+    c.is_same_principal.result c.if_alike-in-Dynamic-right.result c.if_alike-in-Dynamic-right.ensures
+    c.is_same_principal.ensures)
 
 pub returns-in_default-right-15 : goal.returns-in_default-right-15
 returns-in_default-right-15 g c =

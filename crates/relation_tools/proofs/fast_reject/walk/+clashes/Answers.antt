@@ -143,7 +143,7 @@ pair_may_unify-types_may_unify-requires-in-Arrays g t' c κs within =
     ap (λ p. pair_size m p) c.in-Arrays.is in
     let small : 3 * size (m.ty c.in-Arrays.lhs) + 1 < 3 * pair_size m c.args.pair + 2 = omega (arith, is) in
     let all : (IsTrue (known (m.ty c.in-Arrays.lhs)) × IsTrue (known (m.ty c.in-Arrays.rhs))) ×
-        (IsTrue (known (m.const_ c.in-Arrays.len)) × IsTrue (known (m.const_ c.in-Arrays.length))) =
+    (IsTrue (known (m.const_ c.in-Arrays.len)) × IsTrue (known (m.const_ c.in-Arrays.length))) =
     subst (λ p. KnownPair m p) c.in-Arrays.is c.requires in
     let k = all.0.0 in
     let n = all.0.1 in
