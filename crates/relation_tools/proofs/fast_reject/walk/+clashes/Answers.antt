@@ -166,14 +166,6 @@ pair_may_unify-consts_may_unify-requires-clause-rhs_known g t c =
     let m = g.I.Interner.meaning c.args.cx.now in
     (subst (λ p. KnownPair m p) c.in-Arrays.is c.requires).1.1
 
-pub pair_may_unify-returns : goal.pair_may_unify-returns
-pair_may_unify-returns g t c =
-    let m = g.I.Interner.meaning c.args.cx.now in
-    let none : Clash c.args.sides.left c.args.sides.right c.args.depth (m.ty c.in-Arrays.lhs) (m.ty c.in-Arrays.rhs) → ⊥ =
-    (λ k. (let no = c.types_may_unify-in-Arrays.ensures.1 k in let n = c.if-not-types_may_unify.false in search rules)) in
-    second_clash m c.args.sides.left c.args.sides.right c.consts_may_unify.result c.args.depth c.args.pair c.in-Arrays.lhs
-    c.in-Arrays.rhs c.in-Arrays.len c.in-Arrays.length c.in-Arrays.is none c.consts_may_unify.ensures
-
 pub pair_may_unify-tys-requires : goal.pair_may_unify-tys-requires
 pair_may_unify-tys-requires g t c =
     let m = g.I.Interner.meaning c.args.cx.now in
