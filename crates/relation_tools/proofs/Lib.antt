@@ -13,6 +13,7 @@ mod Pulling
 pub mod Clashing
 pub mod Outlining
 mod Pairing
+mod PairTests
 mod Unlike
 pub mod Instancing
 pub mod Rejecting

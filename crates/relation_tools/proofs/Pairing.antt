@@ -1,6 +1,6 @@
 -- What the depth test goes on to inside of two types of one form.
-use Rattle.std.proofs.Common.{◌≡◌, ◌⊎◌, ◌↔◌, ℕ, zero, suc, ◌<◌, ◌+◌, Bool, true, false, ◌&&◌, IsTrue, Option, Some, None, List, cond, refl, sym, ap, ap₂, ◌∙◌, subst, subst₂, inl, inr, arith}
-use Rattle.std.proofs.lemmas.Bool.{and_parts, false≢true}
+use Rattle.std.proofs.Common.{◌≡◌, ◌⊎◌, ◌↔◌, ℕ, zero, suc, ◌<◌, ◌+◌, Bool, true, false, ◌&&◌, IsTrue, Option, Some, None, List, cond, nat_eq, refl, sym, ap, ap₂, ◌∙◌, subst, subst₂, inl, inr, arith}
+use Rattle.std.proofs.lemmas.Bool.{and_parts, false≢true, eq-eqb, eqb-true}
 use Rattle.relation_terms.specs.Heads.{BoundKind, Head, signature, inputs, fn_ptr, unsafe_binder, tuple, dynamic, object}
 use Rattle.relation_terms.specs.Heads.{array, slice, pattern_type, raw_ptr, ref, head_sort, type_sort, const_sort}
 use Rattle.relation_terms.specs.Heads.{region_sort, unknown}
@@ -202,6 +202,12 @@ known_second x y k = (and_parts (known y) true ((and_parts (known x) (known y &&
 known_only : (x : Tree) → IsTrue (known (cons x nil)) → IsTrue (known x)
 known_only x k = (and_parts (known x) true k).0
 
+-- One truth, where one holds just where the other does.
+pub one_truth : (w v : Bool) → (IsTrue w ↔ IsTrue v) → w ≡ v
+one_truth true v i = sym (i.0 refl)
+one_truth false true i = i.1 refl
+one_truth false false i = refl
+
 module _ {Key Id Name : Type 0} (m : Meaning Key Id Name) where
   -- A pair that is chosen by a test.
   pub chosen : {P : Type 0} (a b : Tree) (w : Bool) (p q : Pair Key) → q ≡ cond w p Apart → (IsTrue w ↔ P) →
@@ -211,9 +217,11 @@ module _ {Key Id Name : Type 0} (m : Meaning Key Id Name) where
 
   -- Of forms over an item.
   pub items : (h : ℕ → Head) (f : Form) → ((n : ℕ) (ts : Tree) → outline (h n) ts ≡ of_item f n) → (n k : ℕ)
-      (xs ys : ArgsKey Key) → IsTrue (known (m.args xs)) → IsTrue (known (m.args ys)) → (w : Bool) (q : Pair Key) →
-      q ≡ cond w (Args xs ys) Apart → (IsTrue w ↔ (n ≡ k)) → Pairs m (node (h n) (m.args xs)) (node (h k) (m.args ys)) q
-  items h f is n k xs ys a b w q e i = chosen (node (h n) (m.args xs)) (node (h k) (m.args ys)) w (Args xs ys) q e i
+      (xs ys : ArgsKey Key) → IsTrue (known (m.args xs)) → IsTrue (known (m.args ys)) → (q : Pair Key) →
+      q ≡ cond (nat_eq n k) (Args xs ys) Apart → Pairs m (node (h n) (m.args xs)) (node (h k) (m.args ys)) q
+  items h f is n k xs ys a b q e =
+      chosen (node (h n) (m.args xs)) (node (h k) (m.args ys)) (nat_eq n k) (Args xs ys) q e
+      (λ i. eqb-true n k i, λ s. eq-eqb n k s)
       (λ s. (
         is n (m.args xs) ∙ ap (λ x. of_item {D = ℕ} f x) s ∙ sym (is k (m.args ys)),
         ((a, b), (omega arith, λ l r d. (λ c. c, λ c. c))),
@@ -408,98 +416,3 @@ module _ {Key Id Name : Type 0} (m : Meaning Key Id Name) where
   at_kinds left right k j q e f a b s =
       subst₂ (λ x y. Pairs m (kind_tree m x) (kind_tree m y) q) (sym e) (sym f)
       (s (subst (λ x. IsTrue (known (kind_tree m x))) e a) (subst (λ x. IsTrue (known (kind_tree m x))) f b))
-
-  -- What a test of a pair answers of two types.
-  size_some : (a : Tree) → 0 < size a
-  size_some (leaf l) = omega arith
-  size_some (node h ts) = omega arith
-  size_some (bind ks t) = omega arith
-  size_some nil = omega arith
-  size_some (cons t ts) = omega arith
-
-  pub pair_known : (a b : Tree) (p : Pair Key) → Pairs m a b p → KnownPair m p
-  pair_known a b Apart s = tt
-  pair_known a b Nothing s = s.1.0
-  pair_known a b (Types t u) s = s.1.0
-  pair_known a b (Arrays t u n k) s = s.1.0
-  pair_known a b (Lists ts us) s = s.1.0
-  pair_known a b (Args xs ys) s = s.1.0
-
-  pub pair_small : (a b : Tree) (p : Pair Key) → Pairs m a b p → pair_size m p < size a
-  pair_small a b Apart s = size_some a
-  pair_small a b Nothing s = s.1.1.0
-  pair_small a b (Types t u) s = s.1.1.0
-  pair_small a b (Arrays t u n k) s = s.1.1.0
-  pair_small a b (Lists ts us) s = s.1.1.0
-  pair_small a b (Args xs ys) s = s.1.1.0
-
-  -- A test of two types answers what one of their pair does.
-  module _ (l r : Bool) (d : ℕ) (a b : Tree) (ta : tree_sort a ≡ type_sort) (tb : tree_sort b ≡ type_sort) (e : ℕ)
-      (w : Bool) (z : d ≡ suc e) (f : flexible r b ≡ false) (g : flexible l a ≡ false) where
-    inside_decides : (p : Pair Key) → IsInside m a b p → ((w ≡ false) ↔ ClashIn m l r (depth_inside a e) p) →
-        (w ≡ false) ↔ Clash l r d a b
-    inside_decides p s o =
-        let clash = s.1.1.1 l r (depth_inside a e) in
-        parts_decide l r d a b ta tb e w z f g s.0 (λ i. clash.1 (o.0 i), λ c. o.1 (clash.0 c))
-
-    pub pair_decides : (p : Pair Key) → Pairs m a b p → ((w ≡ false) ↔ ClashIn m l r (depth_inside a e) p) →
-        (w ≡ false) ↔ Clash l r d a b
-    pair_decides Apart s o = (λ i. forms_clash l r d a b ta tb e z f g s, λ c. o.1 tt)
-    pair_decides Nothing s o = inside_decides Nothing s o
-    pair_decides (Types t u) s o = inside_decides (Types t u) s o
-    pair_decides (Arrays t u n k) s o = inside_decides (Arrays t u n k) s o
-    pair_decides (Lists ts us) s o = inside_decides (Lists ts us) s o
-    pair_decides (Args xs ys) s o = inside_decides (Args xs ys) s o
-
-  -- What a test of a pair answers.
-  pub apart_clash : (l r : Bool) (d : ℕ) (p : Pair Key) → p ≡ Apart → (false ≡ false) ↔ ClashIn m l r d p
-  apart_clash l r d p e = subst (λ x. (false ≡ false) ↔ ClashIn m l r d x) (sym e) (λ i. tt, λ c. refl)
-
-  pub no_pair_clash : (l r : Bool) (d : ℕ) (p : Pair Key) → p ≡ Nothing → (true ≡ false) ↔ ClashIn m l r d p
-  no_pair_clash l r d p e = subst (λ x. (true ≡ false) ↔ ClashIn m l r d x) (sym e) (λ i. absurd (cc), λ c. absurd c)
-
-  pub types_clash : (l r w : Bool) (d : ℕ) (p : Pair Key) (t u : TyKey Key) → p ≡ Types t u →
-      ((w ≡ false) ↔ Clash l r d (m.ty t) (m.ty u)) → (w ≡ false) ↔ ClashIn m l r d p
-  types_clash l r w d p t u e o = subst (λ x. (w ≡ false) ↔ ClashIn m l r d x) (sym e) o
-
-  pub lists_clash : (l r w : Bool) (d : ℕ) (p : Pair Key) (ts us : TysKey Key) → p ≡ Lists ts us → (xs ys : Tree) →
-      m.tys ts ≡ xs → m.tys us ≡ ys → ((w ≡ false) ↔ Clash l r d xs ys) → (w ≡ false) ↔ ClashIn m l r d p
-  lists_clash l r w d p ts us e xs ys f g o =
-      subst (λ x. (w ≡ false) ↔ ClashIn m l r d x) (sym e) (moved l r w refl (sym f) (sym g) o)
-
-  pub args_clash : (l r w : Bool) (d : ℕ) (p : Pair Key) (gs hs : ArgsKey Key) → p ≡ Args gs hs → (xs ys : Tree) →
-      m.args gs ≡ xs → m.args hs ≡ ys → ((w ≡ false) ↔ Clash l r d xs ys) → (w ≡ false) ↔ ClashIn m l r d p
-  args_clash l r w d p gs hs e xs ys f g o =
-      subst (λ x. (w ≡ false) ↔ ClashIn m l r d x) (sym e) (moved l r w refl (sym f) (sym g) o)
-
-  pub first_clash : (l r : Bool) (d : ℕ) (p : Pair Key) (t u : TyKey Key) (n k : ConstKey Key) → p ≡ Arrays t u n k →
-      Clash l r d (m.ty t) (m.ty u) → (false ≡ false) ↔ ClashIn m l r d p
-  first_clash l r d p t u n k e c =
-      subst (λ x. (false ≡ false) ↔ ClashIn m l r d x) (sym e) (λ i. inl c, λ o. refl)
-
-  pub second_clash : (l r w : Bool) (d : ℕ) (p : Pair Key) (t u : TyKey Key) (n k : ConstKey Key) →
-      p ≡ Arrays t u n k → (Clash l r d (m.ty t) (m.ty u) → ⊥) →
-      ((w ≡ false) ↔ Clash l r d (m.const_ n) (m.const_ k)) → (w ≡ false) ↔ ClashIn m l r d p
-  second_clash l r w d p t u n k e z o =
-      subst (λ x. (w ≡ false) ↔ ClashIn m l r d x) (sym e) (λ i. inr (o.0 i), back)
-    where
-      back : Clash l r d (m.ty t) (m.ty u) ⊎ Clash l r d (m.const_ n) (m.const_ k) → w ≡ false
-      back (inl c) = absurd (z c)
-      back (inr c) = o.1 c
-
-  -- Arguments of another sort.
-  pub other_than_ty : ((r : RegionKey Key) → IsTrue (known (m.region r)) → tree_sort (m.region r) ≡ region_sort) →
-      ((n : ConstKey Key) → IsTrue (known (m.const_ n)) → tree_sort (m.const_ n) ≡ const_sort) →
-      (x : GenericArgKind Key) → IsTrue (known (arg_tree m x)) → ((t : TyKey Key) → x ≡ TyArg t → ⊥) →
-      tree_sort (arg_tree m x) ≡ type_sort → ⊥
-  other_than_ty r n (Lifetime x) k z e = let q = sym (r x k) ∙ e in cc
-  other_than_ty r n (TyArg x) k z e = z x refl
-  other_than_ty r n (ConstArg x) k z e = let q = sym (n x k) ∙ e in cc
-
-  pub other_than_const : ((r : RegionKey Key) → IsTrue (known (m.region r)) → tree_sort (m.region r) ≡ region_sort) →
-      ((t : TyKey Key) → IsTrue (known (m.ty t)) → tree_sort (m.ty t) ≡ type_sort) →
-      (x : GenericArgKind Key) → IsTrue (known (arg_tree m x)) → ((n : ConstKey Key) → x ≡ ConstArg n → ⊥) →
-      tree_sort (arg_tree m x) ≡ const_sort → ⊥
-  other_than_const r t (Lifetime x) k z e = let q = sym (r x k) ∙ e in cc
-  other_than_const r t (TyArg x) k z e = let q = sym (t x k) ∙ e in cc
-  other_than_const r t (ConstArg x) k z e = z x refl

@@ -1,5 +1,6 @@
 -- Which types are of unlike forms.
-use Rattle.std.proofs.Common.{◌≡◌, refl, sym, ap, ◌∙◌, subst}
+use Rattle.std.proofs.Common.{◌≡◌, IsTrue, refl, sym, ap, ◌∙◌, subst}
+use Rattle.std.proofs.lemmas.Bool.{false≢true}
 use Rattle.relation_terms.specs.Meaning.{Meaning, kind_tree}
 use Rattle.relation_terms.specs.declared.terms.enums.Mutability.{Mutability}
 use Rattle.relation_terms.specs.declared.terms.enums.Mutability.TheVariants.{Not, Mut}
@@ -39,6 +40,7 @@ use Rattle.relation_tools.specs.Forms.{Form, Leaf, Adt, FnDef, Closure, Coroutin
 use Rattle.relation_tools.specs.Forms.{Array, Slice, Pat, ConstPtr, MutPtr, SharedRef, MutRef, Tuple, FnPtr}
 use Rattle.relation_tools.specs.Forms.{UnsafeBinder, Dynamic, Alias, Value, Branch}
 use Rattle.relation_tools.specs.Outlines.{tree_outline}
+use Rattle.relation_tools.specs.Pairs.{is_of_item, is_of_list, IsOfItem, IsOfList}
 use Rattle.relation_tools.specs.Clashes.{Alike, pointer_form, reference_form}
 use Rattle.relation_tools.proofs.Outlining.{alike_outlines, leaf_unlike}
 
@@ -64,8 +66,8 @@ module _ {Key Id Name : Type 0} (m : Meaning Key Id Name) where
   Has UnsafeBinder k = (b : Binder Key (TyKey Key)) × (k ≡ UnsafeBinderTy b)
   Has Dynamic k = (p : ExistentialPredicatesKey Key) × ((r : RegionKey Key) × (k ≡ DynamicTy p r))
   Has Alias k = (a : AliasTy Key Id) × (k ≡ AliasKindTy a)
-  Has Value k = Unit {0}
-  Has Branch k = Unit {0}
+  Has Value k = ⊥
+  Has Branch k = ⊥
 
   -- A type is of the form of its outline.
   tells : (k : TyKind Key Id Name) → Has (tree_outline (kind_tree m k)).form k
@@ -118,67 +120,116 @@ module _ {Key Id Name : Type 0} (m : Meaning Key Id Name) where
 
   -- A type that is not of the form of another is not like it.
   module _ (k j : TyKind Key Id Name) (n : kind_tree m k ≡ kind_tree m j → ⊥) where
-    pub unlike : (f : Form) → (tree_outline (kind_tree m k)).form ≡ f → (Has f j → ⊥) →
+    pub unlike : (x : TyKind Key Id Name) → k ≡ x → (Has (tree_outline (kind_tree m x)).form j → ⊥) →
         Alike (kind_tree m k) (kind_tree m j) → ⊥
-    unlike f e z s =
+    unlike x e z s =
         let one = ap (λ o. o.form) (alike_outlines (kind_tree m k) (kind_tree m j) n s) in
-        z (subst (λ x. Has x j) (sym one ∙ e) (tells j))
+        let is = ap (λ y. (tree_outline (kind_tree m y)).form) e in
+        z (subst (λ f. Has f j) (sym one ∙ is) (tells j))
 
     -- Nor is a type without parts like another.
     pub without_parts : (tree_outline (kind_tree m k)).form ≡ Leaf → Alike (kind_tree m k) (kind_tree m j) → ⊥
     without_parts e s = leaf_unlike (kind_tree m k) (kind_tree m j) n e s
 
-  -- A type that is of none of the forms over parts.
-  pub record IsOfNone (k : TyKind Key Id Name) : Type 0 where
-    pub no_adt : (d : AdtId Id) (a : ArgsKey Key) → k ≡ AdtTy d a → ⊥
-    pub no_fn_def : (d : FunctionId Id) (a : ArgsKey Key) → k ≡ FnDefTy d a → ⊥
-    pub no_closure : (d : ClosureId Id) (a : ArgsKey Key) → k ≡ ClosureTy d a → ⊥
-    pub no_coroutine_closure : (d : CoroutineClosureId Id) (a : ArgsKey Key) → k ≡ CoroutineClosureTy d a → ⊥
-    pub no_coroutine : (d : CoroutineId Id) (a : ArgsKey Key) → k ≡ CoroutineTy d a → ⊥
-    pub no_coroutine_witness : (d : CoroutineId Id) (a : ArgsKey Key) → k ≡ CoroutineWitnessTy d a → ⊥
+  -- Types of none of some forms over parts: of those over types, over lists, over items.
+  pub record IsOfNoTypes (k : TyKind Key Id Name) : Type 0 where
     pub no_array : (t : TyKey Key) (n : ConstKey Key) → k ≡ ArrayTy t n → ⊥
     pub no_pat : (t : TyKey Key) (p : PatKey Key) → k ≡ PatTy t p → ⊥
     pub no_slice : (t : TyKey Key) → k ≡ SliceTy t → ⊥
     pub no_raw_ptr : (t : TyKey Key) (u : Mutability) → k ≡ RawPtrTy t u → ⊥
     pub no_ref : (r : RegionKey Key) (t : TyKey Key) (u : Mutability) → k ≡ RefTy r t u → ⊥
     pub no_unsafe_binder : (b : Binder Key (TyKey Key)) → k ≡ UnsafeBinderTy b → ⊥
+
+  pub record IsOfNoList (k : TyKind Key Id Name) : Type 0 where
     pub no_tuple : (ts : TysKey Key) → k ≡ TupleTy ts → ⊥
     pub no_fn_ptr : (b : Binder Key (FnSigTys Key)) (h : FnHeader) → k ≡ FnPtrTy b h → ⊥
     pub no_dynamic : (p : ExistentialPredicatesKey Key) (r : RegionKey Key) → k ≡ DynamicTy p r → ⊥
     pub no_alias : (a : AliasTy Key Id) → k ≡ AliasKindTy a → ⊥
 
-  pub no_parts : (k : TyKind Key Id Name) → IsOfNone k → (tree_outline (kind_tree m k)).form ≡ Leaf
-  no_parts (AdtTy d a) n = absurd (n.no_adt d a refl)
-  no_parts (FnDefTy d a) n = absurd (n.no_fn_def d a refl)
-  no_parts (ClosureTy d a) n = absurd (n.no_closure d a refl)
-  no_parts (CoroutineClosureTy d a) n = absurd (n.no_coroutine_closure d a refl)
-  no_parts (CoroutineTy d a) n = absurd (n.no_coroutine d a refl)
-  no_parts (CoroutineWitnessTy d a) n = absurd (n.no_coroutine_witness d a refl)
-  no_parts (ArrayTy t x) n = absurd (n.no_array t x refl)
-  no_parts (PatTy t p) n = absurd (n.no_pat t p refl)
-  no_parts (SliceTy t) n = absurd (n.no_slice t refl)
-  no_parts (RawPtrTy t u) n = absurd (n.no_raw_ptr t u refl)
-  no_parts (RefTy r t u) n = absurd (n.no_ref r t u refl)
-  no_parts (UnsafeBinderTy b) n = absurd (n.no_unsafe_binder b refl)
-  no_parts (TupleTy ts) n = absurd (n.no_tuple ts refl)
-  no_parts (FnPtrTy b h) n = absurd (n.no_fn_ptr b h refl)
-  no_parts (DynamicTy p r) n = absurd (n.no_dynamic p r refl)
-  no_parts (AliasKindTy a) n = absurd (n.no_alias a refl)
-  no_parts Bool n = refl
-  no_parts Char n = refl
-  no_parts (Int w) n = refl
-  no_parts (Uint w) n = refl
-  no_parts (Float w) n = refl
-  no_parts (Foreign d) n = refl
-  no_parts Str n = refl
-  no_parts Never n = refl
-  no_parts (Param p) n = refl
-  no_parts (Bound d b) n = refl
-  no_parts (Placeholder p) n = refl
-  no_parts (Infer (TyVar v)) n = refl
-  no_parts (Infer (IntVar v)) n = refl
-  no_parts (Infer (FloatVar v)) n = refl
-  no_parts (Infer (FreshTy x)) n = refl
-  no_parts (Infer (FreshIntTy x)) n = refl
-  no_parts (Infer (FreshFloatTy x)) n = refl
-  no_parts (Error e) n = refl
+  pub record IsOfNoItem (k : TyKind Key Id Name) : Type 0 where
+    pub no_adt : (d : AdtId Id) (a : ArgsKey Key) → k ≡ AdtTy d a → ⊥
+    pub no_fn_def : (d : FunctionId Id) (a : ArgsKey Key) → k ≡ FnDefTy d a → ⊥
+    pub no_closure : (d : ClosureId Id) (a : ArgsKey Key) → k ≡ ClosureTy d a → ⊥
+    pub no_coroutine_closure : (d : CoroutineClosureId Id) (a : ArgsKey Key) → k ≡ CoroutineClosureTy d a → ⊥
+    pub no_coroutine : (d : CoroutineId Id) (a : ArgsKey Key) → k ≡ CoroutineTy d a → ⊥
+    pub no_coroutine_witness : (d : CoroutineId Id) (a : ArgsKey Key) → k ≡ CoroutineWitnessTy d a → ⊥
+
+  -- Then it is of one of the others.
+  list_form : (k : TyKind Key Id Name) (f : Form) → Has f k → IsOfNoTypes k → IsTrue (is_of_list f)
+  list_form k Leaf h n = refl
+  list_form k Adt h n = refl
+  list_form k FnDef h n = refl
+  list_form k Closure h n = refl
+  list_form k CoroutineClosure h n = refl
+  list_form k Coroutine h n = refl
+  list_form k CoroutineWitness h n = refl
+  list_form k Tuple h n = refl
+  list_form k FnPtr h n = refl
+  list_form k Dynamic h n = refl
+  list_form k Alias h n = refl
+  list_form k Array h n = absurd (n.no_array h.0 h.1.0 h.1.1)
+  list_form k Slice h n = absurd (n.no_slice h.0 h.1)
+  list_form k Pat h n = absurd (n.no_pat h.0 h.1.0 h.1.1)
+  list_form k ConstPtr h n = absurd (n.no_raw_ptr h.0 Not h.1)
+  list_form k MutPtr h n = absurd (n.no_raw_ptr h.0 Mut h.1)
+  list_form k SharedRef h n = absurd (n.no_ref h.0 h.1.0 Not h.1.1)
+  list_form k MutRef h n = absurd (n.no_ref h.0 h.1.0 Mut h.1.1)
+  list_form k UnsafeBinder h n = absurd (n.no_unsafe_binder h.0 h.1)
+  list_form k Value h n = absurd h
+  list_form k Branch h n = absurd h
+
+  pub of_list : (k : TyKind Key Id Name) → IsOfNoTypes k → IsOfList (kind_tree m k)
+  of_list k n = list_form k (tree_outline (kind_tree m k)).form (tells k) n
+
+  item_form : (k : TyKind Key Id Name) (f : Form) → Has f k → IsTrue (is_of_list f) → IsOfNoList k → IsTrue (is_of_item f)
+  item_form k Leaf h i n = refl
+  item_form k Adt h i n = refl
+  item_form k FnDef h i n = refl
+  item_form k Closure h i n = refl
+  item_form k CoroutineClosure h i n = refl
+  item_form k Coroutine h i n = refl
+  item_form k CoroutineWitness h i n = refl
+  item_form k Tuple h i n = absurd (n.no_tuple h.0 h.1)
+  item_form k FnPtr h i n = absurd (n.no_fn_ptr h.0 h.1.0 h.1.1)
+  item_form k Dynamic h i n = absurd (n.no_dynamic h.0 h.1.0 h.1.1)
+  item_form k Alias h i n = absurd (n.no_alias h.0 h.1)
+  item_form k Array h i n = absurd (false≢true i)
+  item_form k Slice h i n = absurd (false≢true i)
+  item_form k Pat h i n = absurd (false≢true i)
+  item_form k ConstPtr h i n = absurd (false≢true i)
+  item_form k MutPtr h i n = absurd (false≢true i)
+  item_form k SharedRef h i n = absurd (false≢true i)
+  item_form k MutRef h i n = absurd (false≢true i)
+  item_form k UnsafeBinder h i n = absurd (false≢true i)
+  item_form k Value h i n = absurd (false≢true i)
+  item_form k Branch h i n = absurd (false≢true i)
+
+  pub of_item : (k : TyKind Key Id Name) → IsOfList (kind_tree m k) → IsOfNoList k → IsOfItem (kind_tree m k)
+  of_item k i n = item_form k (tree_outline (kind_tree m k)).form (tells k) i n
+
+  leaf_form : (k : TyKind Key Id Name) (f : Form) → Has f k → IsTrue (is_of_item f) → IsOfNoItem k → f ≡ Leaf
+  leaf_form k Leaf h i n = refl
+  leaf_form k Adt h i n = absurd (n.no_adt h.0 h.1.0 h.1.1)
+  leaf_form k FnDef h i n = absurd (n.no_fn_def h.0 h.1.0 h.1.1)
+  leaf_form k Closure h i n = absurd (n.no_closure h.0 h.1.0 h.1.1)
+  leaf_form k CoroutineClosure h i n = absurd (n.no_coroutine_closure h.0 h.1.0 h.1.1)
+  leaf_form k Coroutine h i n = absurd (n.no_coroutine h.0 h.1.0 h.1.1)
+  leaf_form k CoroutineWitness h i n = absurd (n.no_coroutine_witness h.0 h.1.0 h.1.1)
+  leaf_form k Tuple h i n = absurd (false≢true i)
+  leaf_form k FnPtr h i n = absurd (false≢true i)
+  leaf_form k Dynamic h i n = absurd (false≢true i)
+  leaf_form k Alias h i n = absurd (false≢true i)
+  leaf_form k Array h i n = absurd (false≢true i)
+  leaf_form k Slice h i n = absurd (false≢true i)
+  leaf_form k Pat h i n = absurd (false≢true i)
+  leaf_form k ConstPtr h i n = absurd (false≢true i)
+  leaf_form k MutPtr h i n = absurd (false≢true i)
+  leaf_form k SharedRef h i n = absurd (false≢true i)
+  leaf_form k MutRef h i n = absurd (false≢true i)
+  leaf_form k UnsafeBinder h i n = absurd (false≢true i)
+  leaf_form k Value h i n = absurd (false≢true i)
+  leaf_form k Branch h i n = absurd (false≢true i)
+
+  pub no_parts : (k : TyKind Key Id Name) → IsOfItem (kind_tree m k) → IsOfNoItem k →
+      (tree_outline (kind_tree m k)).form ≡ Leaf
+  no_parts k i n = leaf_form k (tree_outline (kind_tree m k)).form (tells k) i n

@@ -1,11 +1,40 @@
 -- What the depth test goes on to inside of two types.
-use Rattle.std.specs.Prelude.{◌≡◌, ◌⊎◌, ◌↔◌, ◌<◌, ◌+◌, ℕ, Bool, IsTrue}
+use Rattle.std.specs.Prelude.{◌≡◌, ◌⊎◌, ◌↔◌, ◌<◌, ◌+◌, ℕ, Bool, true, false, IsTrue}
 use Rattle.relation_terms.specs.Trees.{Tree, known, size}
 use Rattle.relation_terms.specs.Parts.{parts_of}
 use Rattle.relation_terms.specs.Meaning.{Meaning}
 use Rattle.relation_tools.specs.Clashes.{Clash, Alike}
+use Rattle.relation_tools.specs.Forms.{Form, Leaf, Adt, FnDef, Closure, CoroutineClosure, Coroutine, CoroutineWitness}
+use Rattle.relation_tools.specs.Forms.{Tuple, FnPtr, Dynamic, Alias}
+use Rattle.relation_tools.specs.Outlines.{tree_outline}
 use Rattle.relation_tools.specs.declared.fast_reject.pairs.Pair.{Pair}
 use Rattle.relation_tools.specs.declared.fast_reject.pairs.Pair.TheVariants.{Apart, Nothing, Types, Arrays, Lists, Args}
+
+-- Forms over an item, and that without parts.
+abbrev pub is_of_item : Form → Bool
+is_of_item Leaf = true
+is_of_item Adt = true
+is_of_item FnDef = true
+is_of_item Closure = true
+is_of_item CoroutineClosure = true
+is_of_item Coroutine = true
+is_of_item CoroutineWitness = true
+is_of_item f = false
+
+-- These, and other forms over lists.
+abbrev pub is_of_list : Form → Bool
+is_of_list Tuple = true
+is_of_list FnPtr = true
+is_of_list Dynamic = true
+is_of_list Alias = true
+is_of_list f = is_of_item f
+
+-- The type is of such a form.
+abbrev pub IsOfItem : Tree → Type 0
+IsOfItem a = IsTrue (is_of_item (tree_outline a).form)
+
+abbrev pub IsOfList : Tree → Type 0
+IsOfList a = IsTrue (is_of_list (tree_outline a).form)
 
 module _ {Key Id Name : Type 0} (m : Meaning Key Id Name) where
   -- The terms of a pair are known.

@@ -1,10 +1,10 @@
 //! What the depth test compares of two outermost forms: whether they are alike, and what it goes on to inside them.
-ghost use Rattle.std.specs.Prelude.{◌≡◌, ◌≢◌, ◌↔◌, IsTrue, cond};
+ghost use Rattle.std.specs.Prelude.{◌≡◌, ◌≢◌, ◌↔◌, IsTrue, cond, nat_eq};
 ghost use Rattle.relation_terms.specs.Trees.{known, count};
 ghost use Rattle.relation_terms.specs.Meaning.{kind_tree};
 ghost use Rattle.relation_tools.specs.Clashes.{principal};
-ghost use Rattle.relation_tools.specs.Pairs.{Pairs};
-ghost use Rattle.relation_tools.specs.declared.fast_reject.pairs.Pair.TheVariants.{Apart};
+ghost use Rattle.relation_tools.specs.Pairs.{Pairs, IsOfList, IsOfItem};
+ghost use Rattle.relation_tools.specs.declared.fast_reject.pairs.Pair.TheVariants.{Apart, Args};
 
 use crate::trait_object::principal_def_id;
 use relation_terms::terms::{
@@ -44,7 +44,7 @@ fn is_same_count<I: Interner>(cx: &I, tys: &Tys<I>, others: &Tys<I>) -> bool
     cx.tys(tys).len() == cx.tys(others).len()
 }
 
-fn is_same_mutability(mutability: Mutability, other: Mutability) -> bool
+fn is_mut_alike(mutability: Mutability, other: Mutability) -> bool
     ensures { IsTrue result ↔ (mutability ≡ other) }
 {
     mutability == other
@@ -84,85 +84,69 @@ fn if_alike<X: Copy>(alike: bool, pair: Pair<X>) -> Pair<X>
     if alike { pair } else { Pair::Apart }
 }
 
-/// What is compared inside of two types that differ, or that they are apart by their forms alone.
+// What is compared inside of two types over items of one sort.
 #[inline(always)]
-pub fn paired<I: Interner>(cx: &I, left: &TyForm<I>, right: &TyForm<I>) -> Pair<I::Key>
+fn items<I: Interner>(
+    cx: &I,
+    id: &I::Id,
+    other: &I::Id,
+    args: ArgsKey<I::Key>,
+    others: ArgsKey<I::Key>,
+) -> Pair<I::Key>
+    ensures { let m = I.meaning cx.now in
+        result ≡ cond (nat_eq (m.id id.now) (m.id other.now)) (Args args others) Apart }
+{
+    if_alike(is_same_id(cx, id, other), Pair::Args(args, others))
+}
+
+// What is compared inside of two types, the left one over an item or without parts.
+#[inline(always)]
+fn paired_items<I: Interner>(cx: &I, left: &TyForm<I>, right: &TyForm<I>) -> Pair<I::Key>
     requires left_known { IsTrue (known (kind_tree (I.meaning cx.now) left.now)) }
     requires right_known { IsTrue (known (kind_tree (I.meaning cx.now) right.now)) }
     requires differ { kind_tree (I.meaning cx.now) left.now ≢ kind_tree (I.meaning cx.now) right.now }
+    requires of_item { IsOfItem (kind_tree (I.meaning cx.now) left.now) }
     ensures { let m = I.meaning cx.now in Pairs m (kind_tree m left.now) (kind_tree m right.now) result }
 {
     match left {
         TyKind::Adt(def, args) => match right {
-            TyKind::Adt(other, others) => {
-                if_alike(is_same_id(cx, &def.0, &other.0), Pair::Args(*args, *others))
-            }
+            TyKind::Adt(other, others) => items(cx, &def.0, &other.0, *args, *others),
             _ => Pair::Apart,
         },
         TyKind::FnDef(def, args) => match right {
-            TyKind::FnDef(other, others) => {
-                if_alike(is_same_id(cx, &def.0, &other.0), Pair::Args(*args, *others))
-            }
+            TyKind::FnDef(other, others) => items(cx, &def.0, &other.0, *args, *others),
             _ => Pair::Apart,
         },
         TyKind::Closure(def, args) => match right {
-            TyKind::Closure(other, others) => {
-                if_alike(is_same_id(cx, &def.0, &other.0), Pair::Args(*args, *others))
-            }
+            TyKind::Closure(other, others) => items(cx, &def.0, &other.0, *args, *others),
             _ => Pair::Apart,
         },
         TyKind::CoroutineClosure(def, args) => match right {
-            TyKind::CoroutineClosure(other, others) => {
-                if_alike(is_same_id(cx, &def.0, &other.0), Pair::Args(*args, *others))
-            }
+            TyKind::CoroutineClosure(other, others) => items(cx, &def.0, &other.0, *args, *others),
             _ => Pair::Apart,
         },
         TyKind::Coroutine(def, args) => match right {
-            TyKind::Coroutine(other, others) => {
-                if_alike(is_same_id(cx, &def.0, &other.0), Pair::Args(*args, *others))
-            }
+            TyKind::Coroutine(other, others) => items(cx, &def.0, &other.0, *args, *others),
             _ => Pair::Apart,
         },
         TyKind::CoroutineWitness(def, args) => match right {
-            TyKind::CoroutineWitness(other, others) => {
-                if_alike(is_same_id(cx, &def.0, &other.0), Pair::Args(*args, *others))
-            }
+            TyKind::CoroutineWitness(other, others) => items(cx, &def.0, &other.0, *args, *others),
             _ => Pair::Apart,
         },
-        TyKind::Array(ty, len) => match right {
-            TyKind::Array(other, length) => Pair::Arrays(*ty, *other, *len, *length),
-            _ => Pair::Apart,
-        },
-        TyKind::Pat(ty, _) => match right {
-            TyKind::Pat(other, _) => Pair::Types(*ty, *other),
-            _ => Pair::Apart,
-        },
-        TyKind::Slice(ty) => match right {
-            TyKind::Slice(other) => Pair::Types(*ty, *other),
-            _ => Pair::Apart,
-        },
-        TyKind::RawPtr(ty, mutability) => match right {
-            TyKind::RawPtr(other, others) => {
-                if_alike(
-                    is_same_mutability(*mutability, *others),
-                    Pair::Types(*ty, *other),
-                )
-            }
-            _ => Pair::Apart,
-        },
-        TyKind::Ref(_, ty, mutability) => match right {
-            TyKind::Ref(_, other, others) => {
-                if_alike(
-                    is_same_mutability(*mutability, *others),
-                    Pair::Types(*ty, *other),
-                )
-            }
-            _ => Pair::Apart,
-        },
-        TyKind::UnsafeBinder(ty) => match right {
-            TyKind::UnsafeBinder(other) => Pair::Types(ty.value, other.value),
-            _ => Pair::Apart,
-        },
+        _ => Pair::Apart,
+    }
+}
+
+// What is compared inside of two types, the left one over a list, over an item or without parts.
+#[inline(always)]
+fn paired_lists<I: Interner>(cx: &I, left: &TyForm<I>, right: &TyForm<I>) -> Pair<I::Key>
+    requires left_known { IsTrue (known (kind_tree (I.meaning cx.now) left.now)) }
+    requires right_known { IsTrue (known (kind_tree (I.meaning cx.now) right.now)) }
+    requires differ { kind_tree (I.meaning cx.now) left.now ≢ kind_tree (I.meaning cx.now) right.now }
+    requires of_list { IsOfList (kind_tree (I.meaning cx.now) left.now) }
+    ensures { let m = I.meaning cx.now in Pairs m (kind_tree m left.now) (kind_tree m right.now) result }
+{
+    match left {
         TyKind::Tuple(tys) => match right {
             TyKind::Tuple(others) => {
                 if_alike(is_same_count(cx, tys, others), Pair::Lists(*tys, *others))
@@ -188,6 +172,47 @@ pub fn paired<I: Interner>(cx: &I, left: &TyForm<I>, right: &TyForm<I>) -> Pair<
             TyKind::Alias(other) => Pair::Args(alias.args, other.args),
             _ => Pair::Apart,
         },
-        _ => Pair::Apart,
+        _ => paired_items(cx, left, right),
+    }
+}
+
+/// What is compared inside of two types that differ, or that they are apart by their forms alone.
+#[inline(always)]
+pub fn paired<I: Interner>(cx: &I, left: &TyForm<I>, right: &TyForm<I>) -> Pair<I::Key>
+    requires left_known { IsTrue (known (kind_tree (I.meaning cx.now) left.now)) }
+    requires right_known { IsTrue (known (kind_tree (I.meaning cx.now) right.now)) }
+    requires differ { kind_tree (I.meaning cx.now) left.now ≢ kind_tree (I.meaning cx.now) right.now }
+    ensures { let m = I.meaning cx.now in Pairs m (kind_tree m left.now) (kind_tree m right.now) result }
+{
+    match left {
+        TyKind::Array(ty, len) => match right {
+            TyKind::Array(other, length) => Pair::Arrays(*ty, *other, *len, *length),
+            _ => Pair::Apart,
+        },
+        TyKind::Pat(ty, _) => match right {
+            TyKind::Pat(other, _) => Pair::Types(*ty, *other),
+            _ => Pair::Apart,
+        },
+        TyKind::Slice(ty) => match right {
+            TyKind::Slice(other) => Pair::Types(*ty, *other),
+            _ => Pair::Apart,
+        },
+        TyKind::RawPtr(ty, mutability) => match right {
+            TyKind::RawPtr(other, others) => {
+                if_alike(is_mut_alike(*mutability, *others), Pair::Types(*ty, *other))
+            }
+            _ => Pair::Apart,
+        },
+        TyKind::Ref(_, ty, mutability) => match right {
+            TyKind::Ref(_, other, others) => {
+                if_alike(is_mut_alike(*mutability, *others), Pair::Types(*ty, *other))
+            }
+            _ => Pair::Apart,
+        },
+        TyKind::UnsafeBinder(ty) => match right {
+            TyKind::UnsafeBinder(other) => Pair::Types(ty.value, other.value),
+            _ => Pair::Apart,
+        },
+        _ => paired_lists(cx, left, right),
     }
 }

@@ -11,8 +11,8 @@ use Rattle.relation_tools.proofs.Clashing.{no_clash, right_decides, no_depth, le
 use Rattle.relation_tools.proofs.Clashing.{rest_here, rest_further, rest_on, rest_none, shorter, quiet_clash, is_quiet}
 use Rattle.relation_tools.proofs.Clashing.{type_pair, const_pair}
 use Rattle.relation_tools.proofs.Outlining.{some_stands, none_stands}
-use Rattle.relation_tools.proofs.Pairing.{pair_small, pair_known, pair_decides, apart_clash, no_pair_clash, types_clash}
-use Rattle.relation_tools.proofs.Pairing.{first_clash, second_clash, lists_clash, args_clash, other_than_ty, other_than_const}
+use Rattle.relation_tools.proofs.PairTests.{pair_small, pair_known, pair_decides, apart_clash, no_pair_clash, types_clash}
+use Rattle.relation_tools.proofs.PairTests.{first_clash, second_clash, lists_clash, args_clash, other_than_ty, other_than_const}
 use Rattle.relation_tools.proofs.fast_reject.walk.+clashes.Goals as goal
 
 -- Types.
