@@ -1,22 +1,18 @@
 -- What the depth test goes on to inside of two types of one form.
-use Rattle.std.proofs.Common.{◌≡◌, ◌⊎◌, ◌↔◌, ℕ, zero, suc, ◌<◌, ◌+◌, Bool, true, false, ◌&&◌, IsTrue, Option, Some, None, List, cond, nat_eq, refl, sym, ap, ap₂, ◌∙◌, subst, subst₂, inl, inr, arith}
+use Rattle.std.proofs.Common.{◌≡◌, ◌⊎◌, ◌↔◌, ℕ, suc, ◌+◌, Bool, true, false, ◌&&◌, IsTrue, Option, Some, None, List, cond, nat_eq, refl, sym, ap, ap₂, ◌∙◌, subst, subst₂, inl, inr, arith}
 use Rattle.std.proofs.lemmas.Bool.{and_parts, false≢true, eq-eqb, eqb-true}
 use Rattle.relation_terms.specs.Heads.{BoundKind, Head, signature, inputs, fn_ptr, unsafe_binder, tuple, dynamic, object}
-use Rattle.relation_terms.specs.Heads.{array, slice, pattern_type, raw_ptr, ref, head_sort, type_sort, const_sort}
-use Rattle.relation_terms.specs.Heads.{region_sort, unknown}
+use Rattle.relation_terms.specs.Heads.{array, slice, pattern_type, raw_ptr, ref, head_sort}
+use Rattle.relation_terms.specs.Heads.{unknown}
 use Rattle.relation_terms.specs.Trees.{Tree, leaf, node, bind, nil, cons, known, size, count, front, last}
-use Rattle.relation_terms.specs.Parts.{parts_of, tree_sort}
-use Rattle.relation_terms.specs.Meaning.{Meaning, kind_tree, arg_tree, under}
+use Rattle.relation_terms.specs.Parts.{tree_sort}
+use Rattle.relation_terms.specs.Meaning.{Meaning, kind_tree, under}
 use Rattle.relation_terms.proofs.Binders.{under_known, front_known, front_count}
 use Rattle.relation_terms.specs.declared.terms.enums.Mutability.{Mutability}
 use Rattle.relation_terms.specs.declared.terms.enums.Mutability.TheVariants.{Not, Mut}
 use Rattle.relation_terms.specs.declared.terms.fn_sig.FnHeader.{FnHeader}
 use Rattle.relation_terms.specs.declared.terms.keys.TyKey.{TyKey}
 use Rattle.relation_terms.specs.declared.terms.keys.ConstKey.{ConstKey}
-use Rattle.relation_terms.specs.declared.terms.keys.RegionKey.{RegionKey}
-use Rattle.relation_terms.specs.declared.terms.generic_arg.GenericArgKind.{GenericArgKind}
-use Rattle.relation_terms.specs.declared.terms.generic_arg.GenericArgKind.TheVariants.{Lifetime, Ty as TyArg}
-use Rattle.relation_terms.specs.declared.terms.generic_arg.GenericArgKind.TheVariants.{Const as ConstArg}
 use Rattle.relation_terms.specs.declared.terms.keys.ArgsKey.{ArgsKey}
 use Rattle.relation_terms.specs.declared.terms.keys.TysKey.{TysKey}
 use Rattle.relation_terms.specs.declared.terms.alias.AliasTy.{AliasTy}
@@ -26,12 +22,11 @@ use Rattle.relation_terms.specs.declared.terms.binder.Binder.{Binder}
 use Rattle.relation_terms.specs.declared.terms.fn_sig.FnSigTys.{FnSigTys}
 use Rattle.relation_tools.specs.Forms.{Form, Outline, Tuple, FnPtr}
 use Rattle.relation_tools.specs.Clashes.{Clash, Alike, outline, of_item, plain, counted, pointer_form, reference_form}
-use Rattle.relation_tools.specs.Clashes.{of_object, principal, is_between, between, here, further, flexible, depth_inside}
-use Rattle.relation_tools.specs.Pairs.{Pairs, IsInside, KnownPair, pair_size, ClashIn}
+use Rattle.relation_tools.specs.Clashes.{of_object, principal, is_between, between, here, further}
+use Rattle.relation_tools.specs.Pairs.{Pairs}
 use Rattle.relation_tools.specs.declared.fast_reject.pairs.Pair.{Pair}
 use Rattle.relation_tools.specs.declared.fast_reject.pairs.Pair.TheVariants.{Apart, Nothing, Types, Arrays, Lists, Args}
-use Rattle.relation_tools.proofs.Clashing.{cons_clash, nil_left, quiet_clash, between_clash, is_quiet, forms_clash}
-use Rattle.relation_tools.proofs.Clashing.{parts_decide, moved}
+use Rattle.relation_tools.proofs.Clashing.{cons_clash, nil_left, quiet_clash, between_clash, is_quiet}
 
 front_nil : (b : Bool) → IsTrue (known (cond b nil (leaf unknown))) → cond b nil (leaf unknown) ≡ nil
 front_nil true k = refl

@@ -1,5 +1,5 @@
 -- What the depth test goes on to inside of two types.
-use Rattle.std.specs.Prelude.{◌≡◌, ◌⊎◌, ◌↔◌, ◌<◌, ◌+◌, ℕ, Bool, true, false, IsTrue}
+use Rattle.std.specs.Prelude.{◌⊎◌, ◌↔◌, ◌<◌, ◌+◌, ℕ, Bool, true, false, IsTrue}
 use Rattle.relation_terms.specs.Trees.{Tree, known, size}
 use Rattle.relation_terms.specs.Parts.{parts_of}
 use Rattle.relation_terms.specs.Meaning.{Meaning}

@@ -1,4 +1,4 @@
-use Rattle.std.proofs.Common.{rules, ◌≡◌, ◌⊎◌, ◌<◌, ◌+◌, ◌*◌, suc, true, false, IsTrue, sym, ap, ◌∙◌, subst, subst₂, refl, arith}
+use Rattle.std.proofs.Common.{rules, ◌≡◌, ◌⊎◌, ◌<◌, ◌+◌, ◌*◌, suc, false, IsTrue, sym, ap, ◌∙◌, subst, subst₂, refl, arith}
 use Rattle.relation_terms.specs.Heads.{const_sort, value_sort, value, value_type, value_branch}
 use Rattle.relation_terms.specs.Trees.{node, nil, cons, known, size, count, nth, list_tree}
 use Rattle.relation_terms.specs.Meaning.{const_tree, valtree_tree}

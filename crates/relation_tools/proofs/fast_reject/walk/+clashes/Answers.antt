@@ -1,4 +1,4 @@
-use Rattle.std.proofs.Common.{rules, ◌≡◌, ◌⊎◌, ◌↔◌, ◌<◌, ◌+◌, ◌*◌, ◌-◌, suc, true, false, IsTrue, sym, ap, ◌∙◌, subst, subst₂, refl, arith}
+use Rattle.std.proofs.Common.{rules, ◌≡◌, ◌⊎◌, ◌↔◌, ◌<◌, ◌+◌, ◌*◌, ◌-◌, suc, false, IsTrue, sym, ap, ◌∙◌, subst, subst₂, refl, arith}
 use Rattle.relation_terms.specs.Trees.{known, size, count, nth, list_tree}
 use Rattle.relation_terms.specs.Meaning.{arg_tree}
 use Rattle.relation_terms.specs.Parts.{tree_sort}
@@ -12,7 +12,7 @@ use Rattle.relation_tools.proofs.Clashing.{rest_here, rest_further, rest_on, res
 use Rattle.relation_tools.proofs.Clashing.{type_pair, const_pair}
 use Rattle.relation_tools.proofs.Outlining.{some_stands, none_stands}
 use Rattle.relation_tools.proofs.PairTests.{pair_small, pair_known, pair_decides, apart_clash, no_pair_clash, types_clash}
-use Rattle.relation_tools.proofs.PairTests.{first_clash, second_clash, lists_clash, args_clash, other_than_ty, other_than_const}
+use Rattle.relation_tools.proofs.PairTests.{first_clash, lists_clash, args_clash, other_than_ty, other_than_const}
 use Rattle.relation_tools.proofs.fast_reject.walk.+clashes.Goals as goal
 
 -- Types.

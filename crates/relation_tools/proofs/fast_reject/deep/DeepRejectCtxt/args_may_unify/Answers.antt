@@ -1,6 +1,4 @@
 use Rattle.std.proofs.Common.{sym, refl}
-use Rattle.relation_terms.specs.Trees.{list_tree}
-use Rattle.relation_terms.specs.Meaning.{arg_tree}
 use Rattle.relation_tools.proofs.Clashing.{moved}
 use Rattle.relation_tools.proofs.Rejecting.{clashes_are_apart}
 use Rattle.relation_tools.proofs.fast_reject.deep.DeepRejectCtxt.args_may_unify.Goals as goal
