@@ -12,7 +12,7 @@ use Rattle.relation_tools.proofs.Clashing.{rest_here, rest_further, rest_on, res
 use Rattle.relation_tools.proofs.Clashing.{type_pair, const_pair}
 use Rattle.relation_tools.proofs.Outlining.{some_stands, none_stands}
 use Rattle.relation_tools.proofs.PairTests.{pair_small, pair_known, pair_decides, apart_clash, no_pair_clash, types_clash}
-use Rattle.relation_tools.proofs.PairTests.{first_clash, lists_clash, args_clash, other_than_ty, other_than_const}
+use Rattle.relation_tools.proofs.PairTests.{first_clash, second_clash, lists_clash, args_clash, other_than_ty, other_than_const}
 use Rattle.relation_tools.proofs.fast_reject.walk.+clashes.Goals as goal
 
 -- Types.
@@ -165,6 +165,14 @@ pub pair_may_unify-consts_may_unify-requires-clause-rhs_known : goal.pair_may_un
 pair_may_unify-consts_may_unify-requires-clause-rhs_known g t c =
     let m = g.I.Interner.meaning c.args.cx.now in
     (subst (λ p. KnownPair m p) c.in-Arrays.is c.requires).1.1
+
+pub pair_may_unify-returns-else-not-types_may_unify : goal.pair_may_unify-returns-else-not-types_may_unify
+pair_may_unify-returns-else-not-types_may_unify g t c =
+    let m = g.I.Interner.meaning c.args.cx.now in
+    let none : Clash c.args.sides.left c.args.sides.right c.args.depth (m.ty c.in-Arrays.lhs) (m.ty c.in-Arrays.rhs) → ⊥ =
+    (λ k. (let no = c.types_may_unify-in-Arrays.ensures.1 k in let n = c.if-not-types_may_unify.false in search rules)) in
+    second_clash m c.args.sides.left c.args.sides.right c.consts_may_unify.result c.args.depth c.args.pair c.in-Arrays.lhs
+    c.in-Arrays.rhs c.in-Arrays.len c.in-Arrays.length c.in-Arrays.is none c.consts_may_unify.ensures
 
 pub pair_may_unify-tys-requires : goal.pair_may_unify-tys-requires
 pair_may_unify-tys-requires g t c =
