@@ -48,9 +48,9 @@ fn arguments_have(cx: &mut RefInterner, id: ItemId, name: SymbolId) -> Result<bo
 
 // Whether a slice that outlives a region gives this, and the same of its elements, and nothing else.
 fn assumptions_follow(cx: &mut RefInterner, name: SymbolId) -> Result<bool, OutOfMemory> {
-    let region = cx.mk_region(RegionKind::ReStatic)?;
     let element = cx.mk_ty(TyKind::Param(ParamTy { index: 0, name }))?;
     let slice = cx.mk_ty(TyKind::Slice(element))?;
+    let region = cx.mk_region(RegionKind::ReStatic)?;
     let given = OutlivesPredicate(GenericArgKind::Ty(slice), region);
     let set = elaborate_outlives_assumptions(cx, &[given])?;
     let follows = OutlivesPredicate(GenericArgKind::Ty(element), region);
