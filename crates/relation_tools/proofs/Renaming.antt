@@ -1,5 +1,5 @@
 -- Bodies that are renamings of one another, and what they are made to.
-use Rattle.std.proofs.Common.{◌≡◌, ◌↔◌, ℕ, suc, refl, sym, ap, ap₂, ◌∙◌, subst, Bool, true, false, cond, nat_eq, IsSome}
+use Rattle.std.proofs.Common.{◌≡◌, ℕ, suc, refl, sym, ap, ap₂, ◌∙◌, subst, Bool, true, false, cond, nat_eq, IsSome}
 use Rattle.std.proofs.Common.{List, [], ◌∷◌, ◌++◌, map, get_or, Option, Some, None, option_map}
 use Rattle.std.proofs.lemmas.Bool.{false≢true}
 use Rattle.relation_terms.specs.Heads.{Kind, type_kind, region_kind, const_kind, BoundKind, bound_kind, Head, Leaf}
