@@ -32,7 +32,8 @@ pub trait Walks: Interner {
         requires known { IsTrue (known (arg_tree (Self.meaning self.now) root.now)) }
         ensures sure { IfOk result (λ xs. AllKnown (Self.meaning self.now) xs.items) }
         ensures by_places { let tree = arg_tree (Self.meaning self.now) in
-            IfOk result (λ xs. map tree xs.items ≡ yields same_tree (skipped_in skips.now) false [] (tree root.now)) };
+            IfOk result (λ xs.
+            map tree xs.items ≡ yields same_tree (skipped_in skips.now) false [] (tree root.now)) };
 }
 
 impl Walks for RefInterner {

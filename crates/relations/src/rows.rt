@@ -312,7 +312,8 @@ pub fn run<O: io::Write, E: io::Write>(
 ) -> u8
     ensures usage { 1 < length words.now → result ≡ 2 }
     ensures all { length words.now ≡ 0 → result ≤ 1 }
-    ensures row { length words.now ≤ 1 → IfSome (slice_get words.now 0) (λ w. IsRow (string_bytes w) → result ≤ 1) }
+    ensures row { length words.now ≤ 1 →
+        IfSome (slice_get words.now 0) (λ w. IsRow (string_bytes w) → result ≤ 1) }
     ensures no_row { IfSome (slice_get words.now 0) (λ w. (IsRow (string_bytes w) → ⊥) → result ≡ 2) }
 {
     if words.len() > 1 {

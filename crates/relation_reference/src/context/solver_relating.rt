@@ -20,9 +20,9 @@ use type_relations::relate::{Step, TypeRelation, relate_args_invariantly};
 
 /// Relates the terms of a context, at an ambient variance and in an environment.
 ///
-/// Types and constants are read by what is recorded of variables. A variable and a term that it is related with are made
-/// one, an integer or float variable and a type only where that is a type of its kind; of two regions it is recorded
-/// which has to outlive the other. Terms with type or constant variables are related at `Invariant` alone.
+/// Types and constants are read by what is recorded of variables. A variable and a term that it is related with are
+/// made one, an integer or float variable and a type only where that is a type of its kind; of two regions it is
+/// recorded which has to outlive the other. Terms with type or constant variables are related at `Invariant` alone.
 #[derive(Drop)]
 pub struct SolverRelating<'a, I: Interner> {
     infcx: &'a mut RefCtxt<I>,
@@ -75,8 +75,8 @@ impl<'a, I: Interner> SolverRelating<'a, I> {
     }
 
     /// Relates two lists of as many arguments, each pair at `Invariant` seen from the ambient variance, and answers the
-    /// list of what they are related as. The interner knows both, and they are arguments of the context. What was recorded
-    /// is in the context, also after an error.
+    /// list of what they are related as. The interner knows both, and they are arguments of the context. What was
+    /// recorded is in the context, also after an error.
     ///
     /// # Errors
     /// `Unrelated` where the arguments of a pair do not become one, `Budget` where no instantiation is left, `Memory`
@@ -103,8 +103,8 @@ impl<'a, I: Interner> SolverRelating<'a, I> {
         relate_args_invariantly(self, a, b)
     }
 
-    // What comes of two types that were resolved shallowly: a type variable is made one with another, or bound to a type,
-    // which is then related with that.
+    // What comes of two types that were resolved shallowly: a type variable is made one with another, or bound to a
+    // type, which is then related with that.
     fn combine_tys(&mut self, a: &Ty<I>, b: &Ty<I>) -> RelateResult<I, Step<Ty<I>>>
         requires lawful { (relation_in I.meaning self.old).lawful }
         requires decides { self.old.ambient_variance ≢ Bivariant }
