@@ -20,7 +20,7 @@ use Rattle.type_relations.specs.Steps.{IsNumberFor}
 use Rattle.type_relations.specs.Covered.{IsCovered}
 use Rattle.type_relations.specs.Parts.{IsFormed}
 use Rattle.type_relations.proofs.Numbers.{IsNumber, covered_formed}
-use Rattle.relation_reference.specs.Numbers.{int_value_tree, float_value_tree}
+use Rattle.type_relations.specs.NumberValues.{int_value_tree, float_value_tree}
 use Rattle.relation_reference.specs.declared.context.number_vars.NumberVid.{NumberVid}
 use Rattle.relation_reference.specs.declared.context.number_vars.NumberVid.TheVariants as vid
 use Rattle.relation_reference.specs.NumberVars.{number_kind, number_of, infer_of, number_tree, IsNoNumberVar}

@@ -17,7 +17,8 @@ use Rattle.relation_reference.specs.declared.context.inner.Variable.{Variable}
 use Rattle.relation_reference.specs.declared.context.inner.VariableValue.TheVariants.{Known as Bound}
 use Rattle.relation_reference.specs.declared.context.inner.InferCtxtInner.{InferCtxtInner}
 use Rattle.relation_reference.specs.Variables.{keys_of, values_of, universes_of}
-use Rattle.relation_reference.specs.Numbers.{number_trees, int_value_tree, float_value_tree}
+use Rattle.type_relations.specs.NumberValues.{int_value_tree, float_value_tree}
+use Rattle.relation_reference.specs.Numbers.{number_trees}
 use Rattle.relation_reference.specs.Tables.{store_of, MayBeBoundTo, IsLawful}
 use Rattle.relation_reference.proofs.Grows.{each_known, keys_stay}
 use Rattle.relation_reference.proofs.Beside.{ints_beside, floats_beside}

@@ -33,7 +33,8 @@ use Rattle.relation_reference.specs.declared.context.memory.TermVid.TheVariants.
 use Rattle.relation_reference.specs.Remembering.{vid_kind, vid_number}
 use Rattle.relation_reference.specs.Variables.{value_at, root_by, root_at, term_by, term_at, entry_of_value, entries_of, trees_of, keys_of}
 use Rattle.relation_reference.specs.Tables.{store_of, keys_in, MayBeBoundTo, IsRooted, IsLawful}
-use Rattle.relation_reference.specs.Answers.{IsRoot, IsShallow, root, stays_bound, formed, IsShallowTy, ty_root, no_ty_variable, IsShallowConst, const_root, no_variable, HasBinding, HasNoBinding}
+use Rattle.type_relations.specs.Resolving.{IsRoot, IsShallow, root, stays_bound, formed, IsShallowTy, ty_root, no_ty_variable, IsShallowConst, const_root, no_variable}
+use Rattle.relation_reference.specs.Answers.{HasBinding, HasNoBinding}
 use Rattle.relation_reference.proofs.Grows.{entry_at, bound_known}
 use Rattle.relation_reference.proofs.Covering.{covered_formed_const, may_covered}
 

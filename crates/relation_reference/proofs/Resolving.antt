@@ -24,7 +24,7 @@ use Rattle.relation_reference.specs.Tables.{store_of, IsLawful}
 use Rattle.relation_reference.specs.declared.context.memory.TermVid.{TermVid}
 use Rattle.relation_reference.specs.declared.context.memory.TermVid.TheVariants.{Ty as TyTerm, Const as ConstTerm}
 use Rattle.relation_reference.specs.Remembering.{vid_kind, vid_number}
-use Rattle.relation_reference.specs.Answers.{IsShallow, root, stays_bound, formed, IsShallowConst, const_root, no_variable}
+use Rattle.type_relations.specs.Resolving.{IsShallow, root, stays_bound, formed, IsShallowConst, const_root, no_variable}
 use Rattle.relation_reference.proofs.Grows.{store_grows, lawful_grows}
 
 -- A part that is no type is of another sort, and each part is of some.

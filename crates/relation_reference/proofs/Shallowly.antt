@@ -26,7 +26,7 @@ use Rattle.relation_reference.specs.declared.context.inner.InferCtxtInner.{Infer
 use Rattle.relation_reference.specs.declared.context.inner.Variable.{Variable}
 use Rattle.relation_reference.specs.Variables.{values_of, entry_of_value, entries_of}
 use Rattle.relation_reference.specs.Tables.{store_of}
-use Rattle.relation_reference.specs.Answers.{IsShallow, root, stays_bound, formed, IsShallowConst, const_root, no_variable}
+use Rattle.type_relations.specs.Resolving.{IsShallow, root, stays_bound, formed, IsShallowConst, const_root, no_variable}
 use Rattle.relation_reference.specs.Solving.{solver_manner}
 use Rattle.relation_reference.proofs.Exactly.{read_pair, step_read, exact_read, apart_read}
 

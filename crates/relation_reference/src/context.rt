@@ -1,6 +1,7 @@
 //! An inference context over plain tables, and relating in it.
 
 mod equating;
+mod infer_ctxt;
 mod inner;
 mod instantiating;
 mod memory;

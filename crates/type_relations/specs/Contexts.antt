@@ -6,13 +6,15 @@ use Rattle.relation_terms.specs.declared.terms.enums.Variance.{Variance}
 use Rattle.relation_terms.specs.declared.terms.enums.Variance.TheVariants.{Invariant}
 use Rattle.relation_terms.specs.declared.terms.goal.Goal.{Goal}
 use Rattle.relation_terms.specs.declared.terms.keys.TyKey.{TyKey}
+use Rattle.relation_terms.specs.declared.terms.keys.ConstKey.{ConstKey}
+use Rattle.relation_terms.specs.declared.terms.keys.RegionKey.{RegionKey}
 use Rattle.relation_terms.specs.declared.terms.keys.PredicateKey.{PredicateKey}
 use Rattle.relation_terms.specs.declared.terms.keys.ParamEnvKey.{ParamEnvKey}
 use Rattle.relation_terms.specs.Trees.{known}
 use Rattle.relation_terms.specs.Meaning.{Meaning}
 use Rattle.relation_tools.specs.declared.error.RelateFault.{RelateFault}
 use Rattle.relation_tools.specs.Faults.{IfUnrelated}
-use Rattle.type_relations.specs.Stores.{Store, IsTermIn, all_bound}
+use Rattle.type_relations.specs.Stores.{Store, IsTermIn, IsRegionIn, all_bound}
 use Rattle.type_relations.specs.Goals.{goals_of}
 use Rattle.type_relations.specs.FirstOrder.{IsFirstOrderStore}
 use Rattle.type_relations.specs.Outcomes.{NoEqualTerms, Exact, NoUnifier}
@@ -28,20 +30,31 @@ pub record Context (Key Id Name : Type 0) : Type 1 where
   pub lawful : Type 0
 
 module _ {Key Id Name : Type 0} where
-  -- The interner knows the environment, or the type.
+  -- The interner knows the environment, the type, or the constant.
   abbrev pub KnowsEnv : Context Key Id Name → ParamEnvKey Key → Type 0
   KnowsEnv c e = IsTrue (known ((c.meaning).param_env e))
 
   abbrev pub KnowsTy : Context Key Id Name → TyKey Key → Type 0
   KnowsTy c t = IsTrue (known ((c.meaning).ty t))
 
+  abbrev pub KnowsConst : Context Key Id Name → ConstKey Key → Type 0
+  KnowsConst c t = IsTrue (known ((c.meaning).const_ t))
+
   -- The type may be related at a variance.
   abbrev pub TakesTy : Context Key Id Name → Variance → TyKey Key → Type 0
   TakesTy c v t = IsTaken v ((c.meaning).ty t)
 
-  -- The variables in the type are the context's, and nothing in it is of a later universe or escapes a binder.
+  -- The variables in the type, or the constant, are the context's, and nothing in it is of a later universe or escapes
+  -- a binder.
   abbrev pub HasTy : Context Key Id Name → TyKey Key → Type 0
   HasTy c t = IsTermIn c.store ((c.meaning).ty t)
+
+  abbrev pub HasConst : Context Key Id Name → ConstKey Key → Type 0
+  HasConst c t = IsTermIn c.store ((c.meaning).const_ t)
+
+  -- A region of the context.
+  abbrev pub HasRegion : Context Key Id Name → RegionKey Key → Type 0
+  HasRegion c r = IsRegionIn c.store ((c.meaning).region r)
 
   -- Two types are one.
   abbrev pub AreOneTy : Context Key Id Name → TyKey Key → TyKey Key → Type 0

@@ -26,3 +26,6 @@ pub mod Arguments
 pub mod Making
 pub mod Keyed
 pub mod Contexts
+pub mod Resolving
+pub mod NumberValues
+pub mod ContextCalls

@@ -2,5 +2,6 @@
 #![tactic(auto)]
 
 pub mod decided;
+pub mod infer_ctxt;
 pub mod laws;
 pub mod relate;

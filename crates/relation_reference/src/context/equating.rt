@@ -5,9 +5,9 @@ ghost use Rattle.relation_terms.specs.declared.terms.ty_kind.IntVarValue.TheVari
 ghost use Rattle.relation_terms.specs.declared.terms.ty_kind.FloatVarValue.TheVariants.{Unknown as UnknownFloat};
 ghost use Rattle.type_relations.specs.Stores.{unbound, entry_of};
 ghost use Rattle.type_relations.specs.Steps.{Equates, InstantiatesNumber};
+ghost use Rattle.type_relations.specs.NumberValues.{int_value_tree, float_value_tree};
 ghost use Rattle.relation_reference.specs.Tables.{store_of, IsLawful};
 ghost use Rattle.relation_reference.specs.RefCtxt.{store_in};
-ghost use Rattle.relation_reference.specs.Numbers.{int_value_tree, float_value_tree};
 
 use crate::context::RefCtxt;
 use crate::context::numbers::{float_value_place, int_value_place};

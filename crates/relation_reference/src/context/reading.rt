@@ -11,9 +11,10 @@ ghost use Rattle.type_relations.specs.Stores.{InContext};
 ghost use Rattle.type_relations.specs.Steps.{LeadsTo, Resolves};
 ghost use Rattle.type_relations.specs.Errors.{IsReadAs};
 ghost use Rattle.type_relations.specs.Parts.{IsFormedConst};
+ghost use Rattle.type_relations.specs.Resolving.{IsRoot, IsShallow, IsShallowTy, IsShallowConst};
 ghost use Rattle.relation_reference.specs.Tables.{IsLawful};
 ghost use Rattle.relation_reference.specs.RefCtxt.{store_in};
-ghost use Rattle.relation_reference.specs.Answers.{IsRoot, IsShallow, IsShallowTy, IsShallowConst, HasBinding, HasNoBinding};
+ghost use Rattle.relation_reference.specs.Answers.{HasBinding, HasNoBinding};
 
 use crate::context::table::{probe, root_of, term_of};
 use crate::context::{RefCtxt, VariableValue};

@@ -9,7 +9,7 @@ ghost use Rattle.relation_tools.specs.declared.error.RelateFault.TheVariants.{Un
 ghost use Rattle.type_relations.specs.Keyed.{AreAsMany, AskedLists, RelatedLists, AskedTys, AskedConsts, SteppedTys};
 ghost use Rattle.type_relations.specs.Keyed.{SteppedConsts};
 ghost use Rattle.relation_reference.specs.Tables.{IsLawful};
-ghost use Rattle.relation_reference.specs.Answers.{IsShallow, IsShallowConst};
+ghost use Rattle.type_relations.specs.Resolving.{IsShallow, IsShallowConst};
 ghost use Rattle.relation_reference.specs.Solving.{solving_in, relation_in, solver_manner};
 
 use crate::context::RefCtxt;

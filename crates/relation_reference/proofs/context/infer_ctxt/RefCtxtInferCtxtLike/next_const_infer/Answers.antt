@@ -1,0 +1,12 @@
+use Rattle.relation_terms.specs.Heads.{const_var}
+use Rattle.relation_reference.proofs.Making.{entries_long}
+use Rattle.relation_reference.proofs.Calls.{makes_next}
+use Rattle.relation_reference.proofs.context.infer_ctxt.RefCtxtInferCtxtLike.next_const_infer.Goals as goal
+
+pub returns-clause-makes : goal.returns-clause-makes
+returns-clause-makes g c =
+    let p = c.args.self.now in
+    let done = c.next_const_infer.ensures in
+    makes_next g.I.Interner.meaning p c.next_const_infer.new.self const_var (λ m. m.const_) _
+    (entries_long (g.I.Interner.meaning p.interner).const_ p.inner.consts.items) c.next_const_infer.result done.sure done.means
+    done.makes done.refused

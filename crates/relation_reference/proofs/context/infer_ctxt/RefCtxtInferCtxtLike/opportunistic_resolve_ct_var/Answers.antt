@@ -1,0 +1,11 @@
+use Rattle.relation_terms.specs.Heads.{const_var, variable}
+use Rattle.relation_terms.specs.Trees.{leaf}
+use Rattle.relation_reference.proofs.Calls.{read}
+use Rattle.relation_reference.proofs.context.infer_ctxt.RefCtxtInferCtxtLike.opportunistic_resolve_ct_var.Goals as goal
+
+pub returns-clause-reads : goal.returns-clause-reads
+returns-clause-reads g c =
+    let p = c.args.self.now in
+    let done = c.opportunistic_resolve_ct_var.ensures in
+    read g.I.Interner.meaning p (leaf (variable const_var c.args.vid.0))
+    ((g.I.Interner.meaning p.interner).const_ c.opportunistic_resolve_ct_var.result) c.requires.lawful done.sure done.reads

@@ -1,0 +1,130 @@
+//! The context by what the trait of contexts asks of it.
+use crate::context::RefCtxt;
+use relation_terms::terms::{
+    Const, ConstVid, FloatVarValue, FloatVid, IntVarValue, IntVid, Interner, OutOfMemory, Region,
+    Span, Ty, TyVid, UniverseIndex,
+};
+use type_relations::infer_ctxt::{InferCtxtLike, VisibleForLeakCheck};
+
+impl<I: Interner> InferCtxtLike for RefCtxt<I> {
+    type Interner = I;
+
+    ghost use Rattle.std.specs.Prelude.{refl};
+    ghost use Rattle.relation_reference.specs.RefCtxt.{context_in};
+
+    ghost state = { λ c. context_in I.meaning c };
+
+    ghost interner = { λ c. c.interner };
+
+    ghost with_interner = { λ c cx. record c { interner = cx } };
+
+    fn cx(&self) -> &I {
+        &self.interner
+    }
+
+    fn cx_mut(&mut self) -> &mut I {
+        &mut self.interner
+    }
+
+    fn interner_grows(&self) {}
+
+    fn universe(&self) -> UniverseIndex {
+        self.inner.universe
+    }
+
+    fn budget_left(&self) -> usize {
+        self.budget_left()
+    }
+
+    fn root_ty_var(&self, var: TyVid) -> TyVid {
+        self.root_ty_var(var)
+    }
+
+    fn root_const_var(&self, var: ConstVid) -> ConstVid {
+        self.root_const_var(var)
+    }
+
+    fn opportunistic_resolve_ty_var(&self, vid: TyVid) -> Ty<I> {
+        self.opportunistic_resolve_ty_var(vid)
+    }
+
+    fn opportunistic_resolve_int_var(&self, vid: IntVid) -> Ty<I> {
+        self.opportunistic_resolve_int_var(vid)
+    }
+
+    fn opportunistic_resolve_float_var(&self, vid: FloatVid) -> Ty<I> {
+        self.opportunistic_resolve_float_var(vid)
+    }
+
+    fn opportunistic_resolve_ct_var(&self, vid: ConstVid) -> Const<I> {
+        self.opportunistic_resolve_ct_var(vid)
+    }
+
+    fn shallow_resolve(&self, ty: &Ty<I>) -> Ty<I> {
+        self.shallow_resolve(ty)
+    }
+
+    fn shallow_resolve_const(&self, ct: &Const<I>) -> Const<I> {
+        self.shallow_resolve_const(ct)
+    }
+
+    fn next_ty_infer(&mut self) -> Result<Ty<I>, OutOfMemory> {
+        self.next_ty_infer()
+    }
+
+    fn next_const_infer(&mut self) -> Result<Const<I>, OutOfMemory> {
+        self.next_const_infer()
+    }
+
+    fn next_region_infer(&mut self) -> Result<Region<I>, OutOfMemory> {
+        self.next_region_infer()
+    }
+
+    fn equate_ty_vids_raw(&mut self, a: TyVid, b: TyVid) {
+        self.equate_ty_vids_raw(a, b);
+    }
+
+    fn equate_int_vids_raw(&mut self, a: IntVid, b: IntVid) {
+        self.equate_int_vids_raw(a, b);
+    }
+
+    fn equate_float_vids_raw(&mut self, a: FloatVid, b: FloatVid) {
+        self.equate_float_vids_raw(a, b);
+    }
+
+    fn equate_const_vids_raw(&mut self, a: ConstVid, b: ConstVid) {
+        self.equate_const_vids_raw(a, b);
+    }
+
+    fn instantiate_int_var_raw(&mut self, vid: IntVid, value: IntVarValue) {
+        self.instantiate_int_var_raw(vid, value);
+    }
+
+    fn instantiate_float_var_raw(&mut self, vid: FloatVid, value: FloatVarValue) {
+        self.instantiate_float_var_raw(vid, value);
+    }
+
+    fn sub_regions(
+        &mut self,
+        sub: &Region<I>,
+        sup: &Region<I>,
+        _vis: VisibleForLeakCheck,
+        _span: Span<I>,
+    ) -> Result<(), OutOfMemory> {
+        self.sub_regions(sub, sup)
+    }
+
+    fn equate_regions(
+        &mut self,
+        a: &Region<I>,
+        b: &Region<I>,
+        _vis: VisibleForLeakCheck,
+        _span: Span<I>,
+    ) -> Result<(), OutOfMemory> {
+        self.equate_regions(a, b)
+    }
+
+    ghost reads = { λ c. refl };
+
+    ghost sound = { λ c l. l.sound };
+}

@@ -1,0 +1,221 @@
+//! Inference contexts, by what each of their calls does.
+ghost use Rattle.std.specs.Prelude.{◌≡◌, ◌≢◌};
+ghost use Rattle.std.specs.Borrow.{sem, Lends};
+ghost use Rattle.relation_terms.specs.declared.terms.ty_kind.IntVarValue.TheVariants.{Unknown};
+ghost use Rattle.relation_terms.specs.declared.terms.ty_kind.FloatVarValue.TheVariants.{Unknown as UnknownFloat};
+ghost use Rattle.relation_terms.specs.Heads.{type_var, int_var, float_var, const_var, region_var, variable};
+ghost use Rattle.relation_terms.specs.Meaning.{Extends};
+ghost use Rattle.relation_terms.specs.Trees.{leaf};
+ghost use Rattle.type_relations.specs.Stores.{IsSound, IsMade, equal_constraint, outlives_constraint};
+ghost use Rattle.type_relations.specs.Contexts.{Context, KnowsTy, KnowsConst, HasTy, HasConst, HasRegion};
+ghost use Rattle.type_relations.specs.Resolving.{IsShallow, IsShallowTy, IsShallowConst};
+ghost use Rattle.type_relations.specs.NumberValues.{int_value_tree, float_value_tree};
+ghost use Rattle.type_relations.specs.ContextCalls.{IsUnresolved, IsRootOf, Reads, Stands, Grows, MakesNext, EquatesTwo};
+ghost use Rattle.type_relations.specs.ContextCalls.{BindsNumber, Constrains};
+
+use relation_terms::terms::{
+    Const, ConstVid, FloatVarValue, FloatVid, IntVarValue, IntVid, Interner, OutOfMemory, Region,
+    Span, Ty, TyVid, UniverseIndex,
+};
+
+/// Whether a constraint on regions is seen where placeholders are checked for leaks. No answer of relating looks at it.
+#[derive(Clone, Copy, PartialEq, Eq)]
+pub enum VisibleForLeakCheck {
+    Yes,
+    No,
+}
+
+/// An inference context: an interner, and what is recorded of variables and regions.
+///
+/// Each call says what it does to that, and keeps the context's invariant. The variables that are handed in are the
+/// context's, and so are the terms, which its interner knows.
+pub trait InferCtxtLike {
+    /// The interner of the context's terms.
+    type Interner: Interner;
+
+    // The context as it stands.
+    ghost state: { Self → Context Self.Interner.Key Self.Interner.Id Self.Interner.Name };
+
+    // The interner of its terms.
+    ghost interner: { Self → Self.Interner };
+
+    // The context with another interner.
+    ghost with_interner: { Self → Self.Interner → Self };
+
+    /// The interner, to read terms.
+    fn cx(&self) -> &Self::Interner
+        ensures { Self.Interner.meaning result.now ≡ (state self.now).meaning };
+
+    /// The interner, to make terms.
+    fn cx_mut(&mut self) -> &mut Self::Interner
+        ensures* writes_back { sem 𝓛 (Lends Self.row Self.Interner.row self.entry result (with_interner self.entry.now)) }
+        ensures value { Self.Interner.meaning result.now ≡ (state self.old).meaning };
+
+    /// Does nothing: it shows that making terms changes nothing of the context but what its interner knows.
+    fn interner_grows(&self)
+        requires lawful { (state self.now).lawful }
+        ensures grows { (cx : Self.Interner) → Extends (state self.now).meaning (Self.Interner.meaning cx) →
+            Grows (state self.now) (state (with_interner self.now cx)) }
+        ensures same { (cx : Self.Interner) → Extends (state self.now).meaning (Self.Interner.meaning cx) →
+            (state (with_interner self.now cx)).store ≡ (state self.now).store };
+
+    /// The current universe.
+    fn universe(&self) -> UniverseIndex
+        ensures { result.0 ≡ ((state self.now).store).universe };
+
+    /// How many instantiations may still be made.
+    fn budget_left(&self) -> usize
+        ensures { result ≡ ((state self.now).store).budget };
+
+    /// The root of a type variable's class.
+    fn root_ty_var(&self, var: TyVid) -> TyVid
+        requires lawful { (state self.now).lawful }
+        requires made { IsMade (state self.now).store type_var var.0 }
+        ensures { IsRootOf (state self.now) type_var var.0 result.0 };
+
+    /// The root of a constant variable's class.
+    fn root_const_var(&self, var: ConstVid) -> ConstVid
+        requires lawful { (state self.now).lawful }
+        requires made { IsMade (state self.now).store const_var var.0 }
+        ensures { IsRootOf (state self.now) const_var var.0 result.0 };
+
+    /// The type that a type variable's class is bound to, or else its root.
+    fn opportunistic_resolve_ty_var(&self, vid: TyVid) -> Ty<Self::Interner>
+        requires lawful { (state self.now).lawful }
+        requires made { IsMade (state self.now).store type_var vid.0 }
+        ensures reads { let c = state self.now in Reads c (leaf (variable type_var vid.0)) ((c.meaning).ty result) }
+        ensures shallow { let c = state self.now in IsShallowTy c.store ((c.meaning).ty result) };
+
+    /// The type that an integer variable's class is bound to, or else its root.
+    fn opportunistic_resolve_int_var(&self, vid: IntVid) -> Ty<Self::Interner>
+        requires lawful { (state self.now).lawful }
+        requires made { IsMade (state self.now).store int_var vid.0 }
+        ensures reads { let c = state self.now in Reads c (leaf (variable int_var vid.0)) ((c.meaning).ty result) }
+        ensures shallow { let c = state self.now in IsShallow c.store ((c.meaning).ty result) };
+
+    /// The type that a float variable's class is bound to, or else its root.
+    fn opportunistic_resolve_float_var(&self, vid: FloatVid) -> Ty<Self::Interner>
+        requires lawful { (state self.now).lawful }
+        requires made { IsMade (state self.now).store float_var vid.0 }
+        ensures reads { let c = state self.now in Reads c (leaf (variable float_var vid.0)) ((c.meaning).ty result) }
+        ensures shallow { let c = state self.now in IsShallow c.store ((c.meaning).ty result) };
+
+    /// The constant that a constant variable's class is bound to, or else its root.
+    fn opportunistic_resolve_ct_var(&self, vid: ConstVid) -> Const<Self::Interner>
+        requires lawful { (state self.now).lawful }
+        requires made { IsMade (state self.now).store const_var vid.0 }
+        ensures reads { let c = state self.now in Reads c (leaf (variable const_var vid.0)) ((c.meaning).const_ result) }
+        ensures shallow { let c = state self.now in IsShallowConst c.store ((c.meaning).const_ result) };
+
+    /// The type itself, or for a variable what its class is bound to, or else its root. It takes no memory.
+    fn shallow_resolve(&self, ty: &Ty<Self::Interner>) -> Ty<Self::Interner>
+        requires lawful { (state self.now).lawful }
+        requires ty_known { KnowsTy (state self.now) ty.now }
+        requires ty_in { HasTy (state self.now) ty.now }
+        ensures reads { let c = state self.now in Reads c ((c.meaning).ty ty.now) ((c.meaning).ty result) }
+        ensures shallow { let c = state self.now in IsShallow c.store ((c.meaning).ty result) };
+
+    /// The constant itself, or for a variable what its class is bound to, or else its root. It takes no memory.
+    fn shallow_resolve_const(&self, ct: &Const<Self::Interner>) -> Const<Self::Interner>
+        requires lawful { (state self.now).lawful }
+        requires ct_known { KnowsConst (state self.now) ct.now }
+        requires ct_in { HasConst (state self.now) ct.now }
+        ensures reads { let c = state self.now in Reads c ((c.meaning).const_ ct.now) ((c.meaning).const_ result) }
+        ensures shallow { let c = state self.now in IsShallowConst c.store ((c.meaning).const_ result) };
+
+    /// A new type variable in the current universe. After `OutOfMemory` no variable was made.
+    fn next_ty_infer(&mut self) -> Result<Ty<Self::Interner>, OutOfMemory>
+        requires lawful { (state self.old).lawful }
+        ensures grows { Grows (state self.old) (state self.new) }
+        ensures makes { MakesNext (state self.old) (state self.new) type_var (λ m. m.ty) result };
+
+    /// A new constant variable in the current universe. After `OutOfMemory` no variable was made.
+    fn next_const_infer(&mut self) -> Result<Const<Self::Interner>, OutOfMemory>
+        requires lawful { (state self.old).lawful }
+        ensures grows { Grows (state self.old) (state self.new) }
+        ensures makes { MakesNext (state self.old) (state self.new) const_var (λ m. m.const_) result };
+
+    /// A new region variable in the current universe. After `OutOfMemory` no variable was made.
+    fn next_region_infer(&mut self) -> Result<Region<Self::Interner>, OutOfMemory>
+        requires lawful { (state self.old).lawful }
+        ensures grows { Grows (state self.old) (state self.new) }
+        ensures makes { MakesNext (state self.old) (state self.new) region_var (λ m. m.region) result };
+
+    /// Makes two unresolved type variables one. The smaller number is the root, with the smaller of both universes.
+    fn equate_ty_vids_raw(&mut self, a: TyVid, b: TyVid)
+        requires lawful { (state self.old).lawful }
+        requires a_unresolved { IsUnresolved (state self.old) type_var a.0 }
+        requires b_unresolved { IsUnresolved (state self.old) type_var b.0 }
+        ensures { EquatesTwo (state self.old) (state self.new) type_var a.0 b.0 };
+
+    /// Makes two unresolved integer variables one. The smaller number is the root, with the smaller of both universes.
+    fn equate_int_vids_raw(&mut self, a: IntVid, b: IntVid)
+        requires lawful { (state self.old).lawful }
+        requires a_unresolved { IsUnresolved (state self.old) int_var a.0 }
+        requires b_unresolved { IsUnresolved (state self.old) int_var b.0 }
+        ensures { EquatesTwo (state self.old) (state self.new) int_var a.0 b.0 };
+
+    /// Makes two unresolved float variables one. The smaller number is the root, with the smaller of both universes.
+    fn equate_float_vids_raw(&mut self, a: FloatVid, b: FloatVid)
+        requires lawful { (state self.old).lawful }
+        requires a_unresolved { IsUnresolved (state self.old) float_var a.0 }
+        requires b_unresolved { IsUnresolved (state self.old) float_var b.0 }
+        ensures { EquatesTwo (state self.old) (state self.new) float_var a.0 b.0 };
+
+    /// Makes two unresolved constant variables one. The smaller number is the root, with the smaller of both universes.
+    fn equate_const_vids_raw(&mut self, a: ConstVid, b: ConstVid)
+        requires lawful { (state self.old).lawful }
+        requires a_unresolved { IsUnresolved (state self.old) const_var a.0 }
+        requires b_unresolved { IsUnresolved (state self.old) const_var b.0 }
+        ensures { EquatesTwo (state self.old) (state self.new) const_var a.0 b.0 };
+
+    /// Binds an unresolved integer variable to an integer type, for nothing of the budget.
+    fn instantiate_int_var_raw(&mut self, vid: IntVid, value: IntVarValue)
+        requires lawful { (state self.old).lawful }
+        requires unresolved { IsUnresolved (state self.old) int_var vid.0 }
+        requires value_known { value ≢ Unknown }
+        ensures { BindsNumber (state self.old) (state self.new) int_var vid.0 (int_value_tree value) };
+
+    /// Binds an unresolved float variable to a float type, for nothing of the budget.
+    fn instantiate_float_var_raw(&mut self, vid: FloatVid, value: FloatVarValue)
+        requires lawful { (state self.old).lawful }
+        requires unresolved { IsUnresolved (state self.old) float_var vid.0 }
+        requires value_known { value ≢ UnknownFloat }
+        ensures { BindsNumber (state self.old) (state self.new) float_var vid.0 (float_value_tree value) };
+
+    /// Records that `sup` outlives `sub`. After `OutOfMemory` nothing was recorded.
+    fn sub_regions(
+        &mut self,
+        sub: &Region<Self::Interner>,
+        sup: &Region<Self::Interner>,
+        vis: VisibleForLeakCheck,
+        span: Span<Self::Interner>,
+    ) -> Result<(), OutOfMemory>
+        requires lawful { (state self.old).lawful }
+        requires sub_in { HasRegion (state self.old) sub.now }
+        requires sup_in { HasRegion (state self.old) sup.now }
+        ensures stands { Stands (state self.old) (state self.new) }
+        ensures constrains { let m = (state self.old).meaning in
+            Constrains (state self.old) (state self.new) (outlives_constraint (m.region sup.now) (m.region sub.now)) result };
+
+    /// Records that two regions outlive each other, also where both are one. After `OutOfMemory` nothing was recorded.
+    fn equate_regions(
+        &mut self,
+        a: &Region<Self::Interner>,
+        b: &Region<Self::Interner>,
+        vis: VisibleForLeakCheck,
+        span: Span<Self::Interner>,
+    ) -> Result<(), OutOfMemory>
+        requires lawful { (state self.old).lawful }
+        requires a_in { HasRegion (state self.old) a.now }
+        requires b_in { HasRegion (state self.old) b.now }
+        ensures stands { Stands (state self.old) (state self.new) }
+        ensures constrains { let m = (state self.old).meaning in
+            Constrains (state self.old) (state self.new) (equal_constraint (m.region a.now) (m.region b.now)) result };
+
+    // Its keys mean what they mean to the interner.
+    ghost reads: { (c : Self) → (state c).meaning ≡ Self.Interner.meaning (interner c) };
+
+    // What a lawful context has recorded is sound.
+    ghost sound: { (c : Self) → (state c).lawful → IsSound (state c).store };
+}
