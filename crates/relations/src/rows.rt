@@ -29,7 +29,7 @@ pub enum RowFault {
 }
 
 /// The rows, in the order of their numbers.
-pub const ROWS: [Row; 24] = [
+pub const ROWS: [Row; 27] = [
     Row {
         name: "r01",
         questions: "may unify[rigid, rigid] bool, char at 0; may unify[rigid, rigid] bool, char at 1;",
@@ -76,6 +76,11 @@ pub const ROWS: [Row; 24] = [
         name: "r17",
         questions: "budget 1; (?0, ?1) == (u8, bool);",
         stored: "budget; bound=[?0=u8]; left=0",
+    },
+    Row {
+        name: "r18",
+        questions: "closure c<T, U>; param 'a, 'b; components c<&'b u8, (&'a u8,)>;",
+        stored: "'a",
     },
     Row {
         name: "r19",
@@ -146,6 +151,13 @@ pub const ROWS: [Row; 24] = [
         name: "r53",
         questions: "trait Tr<T>; type Tr::A; param 'a; walk dyn Tr<bool, A = u8> + 'a;",
         stored: "dyn Tr<bool, A = u8> + 'a | bool | u8 | 'a | end",
+    },
+    Row {
+        name: "r54",
+        questions: "fn f<'x, U>; coroutine witness w<'x>; trait Tr<'x>; type Tr::A; param T, 'a, 'b;
+            components &'a (T, &'b T); components f<'a, &'b u8>; components w<'a>;
+            components for<'a> fn(<T as Tr<'a>>::A);",
+        stored: "'a, T, 'b | 'b | none | escaping[T]",
     },
     Row {
         name: "r59",
@@ -249,6 +261,7 @@ fn is_low_row(name: &str) -> bool
         || name == "r08"
         || name == "r09"
         || name == "r17"
+        || name == "r18"
         || name == "r19"
 }
 
@@ -267,6 +280,7 @@ fn is_high_row(name: &str) -> bool
         || name == "r36"
         || name == "r37"
         || name == "r53"
+        || name == "r54"
         || name == "r59"
         || name == "r60"
         || name == "r69"
