@@ -17,8 +17,8 @@ use relation_tools::outlives::{ComponentOf, push_outlives_components};
 use relation_tools::walk::TypeWalker;
 use smallvec::SmallVec;
 
-/// An interner whose terms can be walked, and of whose types it can be asked what has to outlive a region. Both keep some
-/// keys in place, and not every interner says that so many fit in memory.
+/// An interner whose terms can be walked, and of whose types it can be asked what has to outlive a region. Both keep
+/// some keys in place, and not every interner says that so many fit in memory.
 pub trait SizedKeys: Interner {
     /// What a walk over an argument yields, in order, if what is under the last yielded argument is skipped after the
     /// pulls of these numbers, 0 before the first. A number may stand more than once, and may be behind the end.
