@@ -13,7 +13,8 @@ ghost use Rattle.type_relations.specs.Errors.{IsReadAs};
 ghost use Rattle.type_relations.specs.Parts.{IsFormedConst};
 ghost use Rattle.relation_reference.specs.Tables.{IsLawful};
 ghost use Rattle.relation_reference.specs.RefCtxt.{store_in};
-ghost use Rattle.relation_reference.specs.Answers.{IsRoot, IsShallow, IsShallowTy, IsShallowConst, HasBinding, HasNoBinding};
+ghost use Rattle.relation_reference.specs.Answers.{IsRoot, IsShallow, IsShallowTy, IsShallowConst};
+ghost use Rattle.relation_reference.specs.Answers.{HasBinding, HasNoBinding};
 
 use crate::context::table::{probe, root_of, term_of};
 use crate::context::{RefCtxt, VariableValue};
@@ -239,7 +240,8 @@ impl<I: Interner> RefCtxt<I> {
     pub fn shallow_resolve_const(&self, constant: &Const<I>) -> Const<I>
         requires lawful { IsLawful (I.meaning self.now.interner) self.now.inner }
         requires const_known { IsTrue (known ((I.meaning self.now.interner).const_ constant.now)) }
-        requires const_in { InContext (store_in I.meaning self.now) ((I.meaning self.now.interner).const_ constant.now) }
+        requires const_in { InContext (store_in I.meaning self.now)
+            ((I.meaning self.now.interner).const_ constant.now) }
         ensures sure { IsTrue (known ((I.meaning self.now.interner).const_ result)) }
         ensures reads { let m = I.meaning self.now.interner in
             IsReadAs (store_in I.meaning self.now) (m.const_ constant.now) (m.const_ result) }
