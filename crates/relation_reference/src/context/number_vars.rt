@@ -117,7 +117,8 @@ impl<I: Interner> RefCtxt<I> {
         ensures binds { let m = I.meaning self.old.interner in
             IsTrue result → InstantiatesNumber (store_of m self.old.inner) (store_of m self.new.inner)
             (number_kind var) (number_of var) (m.ty ty.now) }
-        ensures unlike { IsFalse result → IsNumberFor (number_kind var) ((I.meaning self.old.interner).ty ty.now) → ⊥ }
+        ensures unlike { IsFalse result →
+            IsNumberFor (number_kind var) ((I.meaning self.old.interner).ty ty.now) → ⊥ }
         ensures refused { IsFalse result → self.new.inner ≡ self.old.inner }
     {
         let kind = self.interner.ty_kind(ty);
