@@ -1,6 +1,9 @@
 -- Number variables by their forms, and the types that they are bound to.
-use Rattle.std.proofs.Common.{◌≡◌, ◌≢◌, ℕ, Option, Some, None, IfSome, IfNone, refl, sym, ap, ◌∙◌, subst}
-use Rattle.relation_terms.specs.Heads.{type_sort, VarKind, type_var, int_var, float_var, const_var, region_var, variable}
+use Rattle.std.proofs.Common.{◌≡◌, ◌≢◌, ℕ, Bool, true, false, not, IsTrue, Option, Some, None, IfSome, IfNone, refl, sym, ap, ◌∙◌, subst}
+use Rattle.std.proofs.lemmas.Bool.{false≢true}
+use Rattle.relation_terms.specs.declared.terms.flags.TypeFlags.{TypeFlags}
+use Rattle.relation_terms.specs.Flags.{flags_of, has_non_region_infer, is_non_region_variable}
+use Rattle.relation_terms.specs.Heads.{Leaf, type_sort, VarKind, type_var, int_var, float_var, const_var, region_var, variable}
 use Rattle.relation_terms.specs.Trees.{Tree, leaf, IsTerm}
 use Rattle.relation_terms.specs.Meaning.{Meaning, kind_tree, infer_tree}
 use Rattle.relation_terms.specs.declared.terms.ty_kind.TyKind.{TyKind}
@@ -37,6 +40,22 @@ type_formed t s c a i f = covered_formed t s c apart
     apart float_var n e = f n e
     apart const_var n e = subst (IsTerm type_sort) e s
     apart region_var n e = subst (IsTerm type_sort) e s
+
+not_true : (b : Bool) → IsTrue (not b) → b ≡ false
+not_true false h = refl
+not_true true h = absurd (false≢true h)
+
+-- So is a covered type in which no variable but of regions stands.
+pub free_formed : (t : Tree) (f : TypeFlags) → f ≡ flags_of t → IsTrue (not f.has_non_region_infer) →
+    IsTerm type_sort t → IsCovered t → IsFormed t
+free_formed t f e without s c = type_formed t s c (λ n. apart (variable type_var n) refl) (λ n. apart (variable int_var n) refl)
+    (λ n. apart (variable float_var n) refl)
+  where
+    free : has_non_region_infer t ≡ false
+    free = sym (ap (λ g. g.has_non_region_infer) e) ∙ not_true f.has_non_region_infer without
+
+    apart : (l : Leaf) → is_non_region_variable l ≡ true → t ≢ leaf l
+    apart l y o = false≢true (sym free ∙ ap has_non_region_infer o ∙ y)
 
 pub is_number : (v : NumberVid) → IsNumber (number_kind v)
 is_number (vid.Int v) = tt

@@ -1,12 +1,13 @@
 -- What is compared of types besides their parts: where it is one the forms are, and else which error says so.
-use Rattle.std.proofs.Common.{◌≡◌, ◌≢◌, ◌⊎◌, ℕ, ◌<◌, refl, sym, ap, ◌∙◌, inl, inr, subst, Option, Some}
+use Rattle.std.proofs.Common.{◌≡◌, ◌≢◌, ◌⊎◌, ℕ, suc, ◌<◌, refl, sym, ap, ◌∙◌, inl, inr, subst, Option, Some, None}
+use Rattle.std.proofs.Common.{List, [], ◌∷◌, length}
 use Rattle.relation_terms.specs.declared.terms.enums.Mutability.{Mutability}
 use Rattle.relation_terms.specs.declared.terms.enums.Mutability.TheVariants.{Not}
 use Rattle.relation_terms.specs.declared.terms.keys.TyKey.{TyKey}
 use Rattle.relation_terms.specs.Heads.{Head, adt, fn_def, closure, coroutine_closure, coroutine, coroutine_witness}
 use Rattle.relation_terms.specs.Heads.{array, slice, pattern_type, tuple, unsafe_binder, dynamic, fn_ptr, raw_ptr, ref}
-use Rattle.relation_terms.specs.Heads.{alias, type_sort}
-use Rattle.relation_terms.specs.Trees.{Tree, leaf, node, bind, nil, cons, count, IsTerm}
+use Rattle.relation_terms.specs.Heads.{alias, region_sort, type_sort, const_sort, Part, term_of, row, head_parts}
+use Rattle.relation_terms.specs.Trees.{Tree, leaf, node, bind, nil, cons, count, Fits, IsTerm}
 use Rattle.relation_terms.specs.Meaning.{Meaning}
 use Rattle.relation_tools.specs.Outlines.{named}
 use Rattle.relation_tools.specs.declared.error.TypeError.{TypeError}
@@ -19,7 +20,7 @@ use Rattle.type_relations.specs.declared.relate.forms.Form.TheVariants.{Coroutin
 use Rattle.type_relations.specs.declared.relate.forms.Form.TheVariants.{RawPtr, Ref, Tuple}
 use Rattle.type_relations.specs.Covered.{IsCovered, IsCoveredHead}
 use Rattle.type_relations.specs.Parts.{parts_of, head_of}
-use Rattle.type_relations.specs.Forms.{named_outline, head_outline, tree_outline}
+use Rattle.type_relations.specs.Forms.{named_outline, head_outline, tree_outline, IsFixed}
 use Rattle.type_relations.specs.Errors.{outer_head, outermost, AreAlike, AreOfOneForm, over_parts, one_leaf}
 use Rattle.type_relations.specs.Errors.{FormError, mutability, pointer_mutability, as_many}
 use Rattle.type_relations.proofs.Covered.{covered_no_error}
@@ -114,6 +115,35 @@ itself_alike (node h ts) u f c e = over_parts refl (sym e) refl
 itself_alike (bind ks t) u f c e = absurd c
 itself_alike nil u f c e = absurd f
 itself_alike (cons t ts) u f c e = absurd f
+
+-- How many parts all types of such a form have.
+abbrev fixed_count : Form → ℕ
+fixed_count Array = 2
+fixed_count Ref = 2
+fixed_count f = 1
+
+row_count : (ps : List Part) (ts : Tree) → Fits (row ps None) ts → count ts ≡ length ps
+row_count [] nil f = refl
+row_count (p ∷ ps) (cons t ts) f = ap suc (row_count ps ts f.1)
+row_count ps ts f = absurd f
+
+head_count : (h : Head) (ts : Tree) → Fits (head_parts h) ts → IsFixed (head_outline h).form →
+    count ts ≡ fixed_count (head_outline h).form
+head_count array ts f k = row_count (term_of type_sort ∷ term_of const_sort ∷ []) ts f
+head_count slice ts f k = row_count (term_of type_sort ∷ []) ts f
+head_count (raw_ptr u) ts f k = row_count (term_of type_sort ∷ []) ts f
+head_count (ref u) ts f k = row_count (term_of region_sort ∷ term_of type_sort ∷ []) ts f
+head_count h ts f k = absurd k
+
+tree_count : (t : Tree) → IsTerm type_sort t → IsFixed (tree_outline t).form →
+    count (parts_of t) ≡ fixed_count (tree_outline t).form
+tree_count (node h ts) i k = head_count h ts i.1 k
+tree_count t i k = absurd k
+
+pub fixed_counts : (t u : Tree) (f : Form) → IsTerm type_sort t → IsTerm type_sort u → (tree_outline t).form ≡ f →
+    (tree_outline u).form ≡ f → IsFixed f → count (parts_of t) ≡ count (parts_of u)
+fixed_counts t u f i j et eu k = tree_count t i (subst IsFixed (sym et) k) ∙ ap fixed_count et
+    ∙ sym (tree_count u j (subst IsFixed (sym eu) k) ∙ ap fixed_count eu)
 
 is_tuple : (f : Form) → (f ≡ Tuple) ⊎ (f ≢ Tuple)
 is_tuple Tuple = inl refl

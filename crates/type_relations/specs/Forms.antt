@@ -52,3 +52,11 @@ head_outline h = plain Leaf
 abbrev pub tree_outline : Tree → Outline ℕ
 tree_outline (node h ts) = head_outline h
 tree_outline t = plain Leaf
+
+-- A form of which all types have as many parts.
+abbrev pub IsFixed : Form → Type 0
+IsFixed Array = Unit {0}
+IsFixed Slice = Unit {0}
+IsFixed RawPtr = Unit {0}
+IsFixed Ref = Unit {0}
+IsFixed f = ⊥

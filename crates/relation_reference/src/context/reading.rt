@@ -10,7 +10,7 @@ ghost use Rattle.type_relations.specs.Covered.{IsCovered};
 ghost use Rattle.type_relations.specs.Stores.{InContext};
 ghost use Rattle.type_relations.specs.Steps.{LeadsTo, Resolves};
 ghost use Rattle.type_relations.specs.Errors.{IsReadAs};
-ghost use Rattle.type_relations.specs.Parts.{IsFormedConst};
+ghost use Rattle.type_relations.specs.Parts.{IsFormed, IsFormedConst};
 ghost use Rattle.type_relations.specs.Resolving.{IsRoot, IsShallow, IsShallowTy, IsShallowConst};
 ghost use Rattle.relation_reference.specs.Tables.{IsLawful};
 ghost use Rattle.relation_reference.specs.RefCtxt.{store_in};
@@ -255,6 +255,29 @@ impl<I: Interner> RefCtxt<I> {
             return *constant;
         };
         self.opportunistic_resolve_ct_var(var)
+    }
+
+    // Whether no variable but of regions stands in a type, so that it has a form.
+    fn has_no_variable(&self, ty: &Ty<I>) -> bool
+        requires { IsTrue (known ((I.meaning self.now.interner).ty ty.now)) }
+        ensures { let t = (I.meaning self.now.interner).ty ty.now in IsTrue result → IsCovered t → IsFormed t }
+    {
+        !self.interner.ty_flags(ty).has_non_region_infer
+    }
+
+    // The same of two types.
+    pub(crate) fn have_no_variable(&self, a: &Ty<I>, b: &Ty<I>) -> bool
+        requires a_known { IsTrue (known ((I.meaning self.now.interner).ty a.now)) }
+        requires b_known { IsTrue (known ((I.meaning self.now.interner).ty b.now)) }
+        ensures a_formed { let t = (I.meaning self.now.interner).ty a.now in
+            IsTrue result → IsCovered t → IsFormed t }
+        ensures b_formed { let t = (I.meaning self.now.interner).ty b.now in
+            IsTrue result → IsCovered t → IsFormed t }
+    {
+        if !self.has_no_variable(a) {
+            return false;
+        }
+        self.has_no_variable(b)
     }
 
     // The type variable that a type is, or none.

@@ -335,6 +335,9 @@ impl<'a, I: Interner> TypeRelation<I> for SolverRelating<'a, I> {
         if a == b {
             return Ok(Step::Done(*a));
         }
+        if self.infcx.have_no_variable(a, b) {
+            return Ok(Step::Parts { a: *a, b: *b });
+        }
         let left = self.infcx.shallow_resolve(a);
         let right = self.infcx.shallow_resolve(b);
         self.combine_tys(&left, &right)

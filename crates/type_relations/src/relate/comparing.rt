@@ -8,8 +8,8 @@ ghost use Rattle.type_relations.specs.declared.relate.forms.Form.TheVariants.{Le
 ghost use Rattle.type_relations.specs.Parts.{IsFormedConst};
 ghost use Rattle.type_relations.specs.Covered.{IsCovered};
 
-use crate::relate::forms::{Form, is_same_form, is_same_item, outline_of};
-use crate::relate::parts::parts_count;
+use crate::relate::forms::{Form, has_fixed_parts, is_same_form, is_same_item, outline_of};
+use crate::relate::parts::parts_count_in;
 use relation_terms::terms::{Const, ConstKind, Interner, Ty, TyKind, ValTree, ValTreeKind};
 use relation_tools::error::{ExpectedFound, TypeError, TypeErrorOf};
 
@@ -32,8 +32,10 @@ pub fn compare_tys<I: Interner>(cx: &I, a: &Ty<I>, b: &Ty<I>) -> Result<(), Type
     if a == b {
         return Ok(());
     }
-    let left = outline_of(cx, &cx.ty_kind(a));
-    let right = outline_of(cx, &cx.ty_kind(b));
+    let a_kind = cx.ty_kind(a);
+    let b_kind = cx.ty_kind(b);
+    let left = outline_of(cx, &a_kind);
+    let right = outline_of(cx, &b_kind);
     if is_same_form(left.form, Form::Leaf) {
         return compare_leaves(cx, a, b);
     }
@@ -46,8 +48,11 @@ pub fn compare_tys<I: Interner>(cx: &I, a: &Ty<I>, b: &Ty<I>) -> Result<(), Type
     if left.mutability != right.mutability {
         return Err(TypeError::Mutability);
     }
-    let n = parts_count(cx, a);
-    let m = parts_count(cx, b);
+    if has_fixed_parts(left.form) {
+        return Ok(());
+    }
+    let n = parts_count_in(cx, a, &a_kind);
+    let m = parts_count_in(cx, b, &b_kind);
     if n != m {
         return Err(unlike_counts::<I>(a, b, left.form, n, m));
     }

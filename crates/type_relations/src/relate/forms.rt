@@ -2,7 +2,7 @@
 ghost use Rattle.std.specs.Prelude.{◌≡◌, ◌↔◌, IsTrue};
 ghost use Rattle.relation_terms.specs.Meaning.{kind_tree};
 ghost use Rattle.relation_tools.specs.Outlines.{named};
-ghost use Rattle.type_relations.specs.Forms.{plain, of_item, of_pointer, named_outline, tree_outline};
+ghost use Rattle.type_relations.specs.Forms.{plain, of_item, of_pointer, named_outline, tree_outline, IsFixed};
 
 use relation_terms::terms::{Interner, Mutability, TyForm, TyKind};
 
@@ -107,6 +107,16 @@ pub(crate) fn is_same_form(form: Form, other: Form) -> bool
     ensures { IsTrue result ↔ (form ≡ other) }
 {
     form == other
+}
+
+// Whether all types of a form have as many parts.
+pub(crate) fn has_fixed_parts(form: Form) -> bool
+    ensures { IsTrue result → IsFixed form }
+{
+    match form {
+        Form::Array | Form::Slice | Form::RawPtr | Form::Ref => true,
+        _ => false,
+    }
 }
 
 // Whether two outlines are of one item, or both of none.

@@ -2,16 +2,17 @@
 ghost use Rattle.std.specs.Prelude.{◌≡◌, IsTrue, IfOk, map};
 ghost use Rattle.relation_terms.specs.Trees.{known, list_tree};
 ghost use Rattle.relation_terms.specs.Meaning.{arg_tree};
-ghost use Rattle.relation_terms.specs.Parts.{part_of_arg};
+ghost use Rattle.relation_terms.specs.Parts.{part_tree, part_of_arg};
 ghost use Rattle.type_relations.specs.Parts.{parts_of, const_parts_of};
 ghost use Rattle.type_relations.specs.Covered.{IsCovered};
 ghost use Rattle.type_relations.specs.Lawful.{WithMeaning, OnlyMemory};
 ghost use Rattle.type_relations.specs.Making.{Fit, over, const_over, Made};
 
 use crate::relate::TypeRelation;
-use relation_terms::terms::parts::{the_const, the_ty, the_valtree, with_parts};
+use crate::relate::parts::parts_in;
+use relation_terms::terms::parts::{member, the_const, the_ty, the_valtree, with_parts};
 use relation_terms::terms::{
-    Const, ConstKind, GenericArg, GenericArgKind, Interner, OutOfMemory, Part, Ty,
+    Const, ConstKind, GenericArg, GenericArgKind, Interner, OutOfMemory, Part, PartOf, Ty,
 };
 use relation_tools::error::RelateResult;
 use std::alloc::Global;
@@ -41,7 +42,47 @@ fn as_parts<X: Copy, D: Copy>(
     Ok(list)
 }
 
-// The type of that one's form over these parts, which are of the kinds of its own.
+// Whether an argument is a part, by their keys.
+fn is_part<I: Interner>(cx: &I, arg: &GenericArg<I>, part: &PartOf<I>) -> bool
+    requires arg_known { IsTrue (known (arg_tree (I.meaning cx.now) arg.now)) }
+    requires part_known { IsTrue (known (part_tree (I.meaning cx.now) part.now)) }
+    ensures { IsTrue result → arg_tree (I.meaning cx.now) arg.now ≡ part_tree (I.meaning cx.now) part.now }
+{
+    let _ = cx;
+    match arg {
+        GenericArgKind::Lifetime(region) => match part {
+            Part::Region(other) => region == other,
+            _ => false,
+        },
+        GenericArgKind::Ty(ty) => match part {
+            Part::Ty(other) => ty == other,
+            _ => false,
+        },
+        GenericArgKind::Const(constant) => match part {
+            Part::Const(other) => constant == other,
+            _ => false,
+        },
+    }
+}
+
+// Whether arguments, as many as a type has parts, are those parts.
+fn are_its_parts<I: Interner>(cx: &I, ty: &Ty<I>, args: &[GenericArg<I>]) -> bool
+    requires ty_known { IsTrue (known ((I.meaning cx.now).ty ty.now)) }
+    requires args_known { IsTrue (known (list_tree (arg_tree (I.meaning cx.now)) args.now)) }
+    requires fits { Fit args.now (parts_of ((I.meaning cx.now).ty ty.now)) }
+    ensures { let m = I.meaning cx.now in
+        IsTrue result → list_tree (arg_tree m) args.now ≡ parts_of (m.ty ty.now) }
+{
+    let parts = parts_in(cx, ty, &cx.ty_kind(ty));
+    for i in 0..args.len() {
+        if !is_part(cx, &args[i], &member(cx, &parts, i)) {
+            return false;
+        }
+    }
+    true
+}
+
+// The type of that one's form over these parts, which are of the kinds of its own. Over its own parts it is itself.
 fn ty_with_parts<I: Interner>(
     cx: &mut I,
     ty: &Ty<I>,
@@ -53,6 +94,9 @@ fn ty_with_parts<I: Interner>(
     ensures { let m = I.meaning cx.old in let n = I.meaning cx.new in
         Made m n n.ty (over (m.ty ty.now) (list_tree (arg_tree m) args.now)) result }
 {
+    if are_its_parts(cx, ty, args) {
+        return Ok(*ty);
+    }
     let parts = as_parts(args, cx.alloc())?;
     let made = with_parts(cx, &Part::Ty(*ty), parts.as_slice())?;
     Ok(the_ty(&made))

@@ -1,14 +1,16 @@
 //! The parts that are related of types and constants, as generic arguments.
 ghost use Rattle.std.specs.Prelude.{◌≡◌, ◌<◌, IsTrue, [], ◌∷◌};
 ghost use Rattle.relation_terms.specs.Trees.{known, count, nth, IsList};
-ghost use Rattle.relation_terms.specs.Meaning.{arg_tree};
-ghost use Rattle.relation_terms.specs.Parts.{part_tree, part_of_arg, AreArgs};
+ghost use Rattle.relation_terms.specs.Meaning.{arg_tree, kind_tree};
+ghost use Rattle.relation_terms.specs.Parts.{part_tree, parts_tree, part_of_arg, AreArgs};
 ghost use Rattle.relation_terms.specs.Parts.{parts_of as list_of_parts};
 ghost use Rattle.type_relations.specs.Parts.{parts_of, const_parts_of};
 ghost use Rattle.type_relations.specs.Covered.{IsCovered};
 
+use relation_terms::terms::parts::{member, member_count, ty_parts};
 use relation_terms::terms::{
-    Const, ConstKind, GenericArg, GenericArgKind, Interner, Part, PartOf, Ty, parts,
+    Const, ConstKind, GenericArg, GenericArgKind, Interner, Part, PartOf, PartsOf, Ty, TyForm,
+    parts,
 };
 
 // The generic argument that a part is.
@@ -24,13 +26,35 @@ fn the_arg<X: Copy, D: Copy>(part: &Part<X, D>) -> GenericArgKind<X>
     }
 }
 
+// The list of the parts of a type, whose form is `kind`.
+pub(crate) fn parts_in<I: Interner>(cx: &I, ty: &Ty<I>, kind: &TyForm<I>) -> PartsOf<I>
+    requires known { IsTrue (known ((I.meaning cx.now).ty ty.now)) }
+    requires form { (I.meaning cx.now).ty ty.now ≡ kind_tree (I.meaning cx.now) kind.now }
+    ensures sure { IsTrue (known (parts_tree (I.meaning cx.now) result)) }
+    ensures means { parts_tree (I.meaning cx.now) result ≡ parts_of ((I.meaning cx.now).ty ty.now) }
+{
+    let _ = cx;
+    let _ = ty;
+    ty_parts(kind)
+}
+
+// How many parts a type has, whose form is `kind`.
+pub(crate) fn parts_count_in<I: Interner>(cx: &I, ty: &Ty<I>, kind: &TyForm<I>) -> usize
+    requires known { IsTrue (known ((I.meaning cx.now).ty ty.now)) }
+    requires form { (I.meaning cx.now).ty ty.now ≡ kind_tree (I.meaning cx.now) kind.now }
+    ensures counts { result ≡ count (parts_of ((I.meaning cx.now).ty ty.now)) }
+    ensures is_list { IsList (parts_of ((I.meaning cx.now).ty ty.now)) }
+{
+    member_count(cx, &parts_in(cx, ty, kind))
+}
+
 // How many parts a type has.
 pub(crate) fn parts_count<I: Interner>(cx: &I, ty: &Ty<I>) -> usize
     requires { IsTrue (known ((I.meaning cx.now).ty ty.now)) }
     ensures counts { result ≡ count (parts_of ((I.meaning cx.now).ty ty.now)) }
     ensures is_list { IsList (parts_of ((I.meaning cx.now).ty ty.now)) }
 {
-    parts::parts_count(cx, &Part::Ty(*ty))
+    parts_count_in(cx, ty, &cx.ty_kind(ty))
 }
 
 // The part of a type at a place. Places count from 0, in the order in which parts are related.
@@ -41,7 +65,7 @@ pub(crate) fn part<I: Interner>(cx: &I, ty: &Ty<I>, i: usize) -> GenericArg<I>
     ensures sure { IsTrue (known (arg_tree (I.meaning cx.now) result)) }
     ensures means { arg_tree (I.meaning cx.now) result ≡ nth i (parts_of ((I.meaning cx.now).ty ty.now)) }
 {
-    the_arg(&parts::part(cx, &Part::Ty(*ty), i))
+    the_arg(&member(cx, &parts_in(cx, ty, &cx.ty_kind(ty)), i))
 }
 
 // The term whose parts are those of a constant that are related: of a value its value tree, and not its type.

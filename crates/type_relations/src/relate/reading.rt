@@ -228,17 +228,16 @@ pub(crate) fn note_args<I: Interner, R: TypeRelation<I>>(
     requires related { RelatesTys (R.state r.old) a.now b.now }
     ensures { Noted (R.state r.old) (R.state r.new) result }
 {
-    let right = r.cx().ty_kind(b);
     let left = r.cx().ty_kind(a);
     match &left {
         TyKind::Adt(def, a_args) => {
-            let TyKind::Adt(_, b_args) = &right else {
+            let TyKind::Adt(_, b_args) = &r.cx().ty_kind(b) else {
                 return Ok(());
             };
             note_declared(r, a, b, &DefId(def.0), a_args, b_args)
         }
         TyKind::FnDef(def, a_args) => {
-            let TyKind::FnDef(_, b_args) = &right else {
+            let TyKind::FnDef(_, b_args) = &r.cx().ty_kind(b) else {
                 return Ok(());
             };
             note_declared(r, a, b, &DefId(def.0), a_args, b_args)

@@ -3,7 +3,7 @@ use Rattle.std.proofs.lemmas.Bool.{false≢true}
 use Rattle.type_relations.specs.declared.relate.forms.Form.TheVariants.{Leaf}
 use Rattle.type_relations.specs.Forms.{named_outline, tree_outline}
 use Rattle.type_relations.proofs.Forms.{itself_alike, unlike_forms, unlike_items, unlike_mutability}
-use Rattle.type_relations.proofs.Forms.{forms_alike, unlike_counts}
+use Rattle.type_relations.proofs.Forms.{forms_alike, unlike_counts, fixed_counts}
 use Rattle.type_relations.proofs.relate.comparing.compare_tys.Goals as goal
 
 pub returns-then-eq-clause-alike : goal.returns-then-eq-clause-alike
@@ -22,7 +22,7 @@ compare_leaves-requires-clause-leaf g c =
     let o = c.outline_of-left.result in
     let p = c.outline_of-right.result in
     let left : named_outline m.id o ≡ tree_outline (m.ty x) =
-    c.outline_of-left.ensures ∙ ap tree_outline (sym c.ty_kind.ensures) in
+    c.outline_of-left.ensures ∙ ap tree_outline (sym c.ty_kind-a_kind.ensures) in
     sym (ap (λ z. z.form) left) ∙ c.is_same_form.ensures.0 c.if-is_same_form.true
 
 pub compare_leaves-requires-clause-differ : goal.compare_leaves-requires-clause-differ
@@ -38,9 +38,9 @@ returns-then-not-is_same_form-clause-errors g c =
     let o = c.outline_of-left.result in
     let p = c.outline_of-right.result in
     let left : named_outline m.id o ≡ tree_outline (m.ty x) =
-    c.outline_of-left.ensures ∙ ap tree_outline (sym c.ty_kind.ensures) in
+    c.outline_of-left.ensures ∙ ap tree_outline (sym c.ty_kind-a_kind.ensures) in
     let right : named_outline m.id p ≡ tree_outline (m.ty y) =
-    c.outline_of-right.ensures ∙ ap tree_outline (sym c.ty_kind-2.ensures) in
+    c.outline_of-right.ensures ∙ ap tree_outline (sym c.ty_kind-b_kind.ensures) in
     unlike_forms m x y o p left right c.requires.a_covered c.requires.b_covered
     (λ e. (let t = c.if-not-is_same_form.true in let one = c.is_same_form-2.ensures.1 e in search rules))
     c.unlike.result c.unlike.ensures
@@ -53,9 +53,9 @@ returns-then-not-is_same_item-clause-errors g c =
     let o = c.outline_of-left.result in
     let p = c.outline_of-right.result in
     let left : named_outline m.id o ≡ tree_outline (m.ty x) =
-    c.outline_of-left.ensures ∙ ap tree_outline (sym c.ty_kind.ensures) in
+    c.outline_of-left.ensures ∙ ap tree_outline (sym c.ty_kind-a_kind.ensures) in
     let right : named_outline m.id p ≡ tree_outline (m.ty y) =
-    c.outline_of-right.ensures ∙ ap tree_outline (sym c.ty_kind-2.ensures) in
+    c.outline_of-right.ensures ∙ ap tree_outline (sym c.ty_kind-b_kind.ensures) in
     unlike_items m x y o p left right c.requires.a_covered c.requires.b_covered
     (λ e. (let t = c.if-not-is_same_item.true in let one = c.is_same_item.ensures.1 e in search rules))
     c.unlike-then-not-is_same_item.result c.unlike-then-not-is_same_item.ensures
@@ -68,9 +68,9 @@ returns-then-ne-clause-errors g c =
     let o = c.outline_of-left.result in
     let p = c.outline_of-right.result in
     let left : named_outline m.id o ≡ tree_outline (m.ty x) =
-    c.outline_of-left.ensures ∙ ap tree_outline (sym c.ty_kind.ensures) in
+    c.outline_of-left.ensures ∙ ap tree_outline (sym c.ty_kind-a_kind.ensures) in
     let right : named_outline m.id p ≡ tree_outline (m.ty y) =
-    c.outline_of-right.ensures ∙ ap tree_outline (sym c.ty_kind-2.ensures) in
+    c.outline_of-right.ensures ∙ ap tree_outline (sym c.ty_kind-b_kind.ensures) in
     let parted : o.form ≡ Leaf → ⊥ = (λ e. (let t = c.if-is_same_form.false in
     let one = c.is_same_form.ensures.1 e in search rules)) in
     let form : o.form ≡ p.form = c.is_same_form-2.ensures.0 (let t = c.if-not-is_same_form.false in search rules) in
@@ -85,9 +85,9 @@ returns-then-n-m-clause-errors g c =
     let o = c.outline_of-left.result in
     let p = c.outline_of-right.result in
     let left : named_outline m.id o ≡ tree_outline (m.ty x) =
-    c.outline_of-left.ensures ∙ ap tree_outline (sym c.ty_kind.ensures) in
+    c.outline_of-left.ensures ∙ ap tree_outline (sym c.ty_kind-a_kind.ensures) in
     let right : named_outline m.id p ≡ tree_outline (m.ty y) =
-    c.outline_of-right.ensures ∙ ap tree_outline (sym c.ty_kind-2.ensures) in
+    c.outline_of-right.ensures ∙ ap tree_outline (sym c.ty_kind-b_kind.ensures) in
     let parted : o.form ≡ Leaf → ⊥ = (λ e. (let t = c.if-is_same_form.false in
     let one = c.is_same_form.ensures.1 e in search rules)) in
     let form : o.form ≡ p.form = c.is_same_form-2.ensures.0 (let t = c.if-not-is_same_form.false in search rules) in
@@ -95,9 +95,31 @@ returns-then-n-m-clause-errors g c =
     let same : o.mutability ≡ p.mutability =
     (let t = c.if-ne.false in let h = c.ne.ensures in let k = c.if-ne.ensures in search rules) in
     unlike_counts m x y o p left right c.requires.a_covered c.requires.b_covered parted form item same
-    c.parts_count-n.result c.parts_count-m.result c.parts_count-n.ensures.counts c.parts_count-m.ensures.counts
+    c.parts_count_in-n.result c.parts_count_in-m.result c.parts_count_in-n.ensures.counts c.parts_count_in-m.ensures.counts
     c.if-n-m.true c.unlike_counts.result c.unlike_counts.ensures.sizes c.unlike_counts.ensures.empty
     c.unlike_counts.ensures.others
+
+pub returns-then-has_fixed_parts-clause-alike : goal.returns-then-has_fixed_parts-clause-alike
+returns-then-has_fixed_parts-clause-alike g c =
+    let m = g.I.Interner.meaning c.args.cx.now in
+    let x = c.args.a.now in
+    let y = c.args.b.now in
+    let o = c.outline_of-left.result in
+    let p = c.outline_of-right.result in
+    let left : named_outline m.id o ≡ tree_outline (m.ty x) =
+    c.outline_of-left.ensures ∙ ap tree_outline (sym c.ty_kind-a_kind.ensures) in
+    let right : named_outline m.id p ≡ tree_outline (m.ty y) =
+    c.outline_of-right.ensures ∙ ap tree_outline (sym c.ty_kind-b_kind.ensures) in
+    let parted : o.form ≡ Leaf → ⊥ = (λ e. (let t = c.if-is_same_form.false in
+    let one = c.is_same_form.ensures.1 e in search rules)) in
+    let form : o.form ≡ p.form = c.is_same_form-2.ensures.0 (let t = c.if-not-is_same_form.false in search rules) in
+    let item = c.is_same_item.ensures.0 (let t = c.if-not-is_same_item.false in search rules) in
+    let same : o.mutability ≡ p.mutability =
+    (let t = c.if-ne.false in let h = c.ne.ensures in let k = c.if-ne.ensures in search rules) in
+    forms_alike m x y o p left right c.requires.a_covered c.requires.b_covered parted form item same
+    (fixed_counts (m.ty x) (m.ty y) o.form (g.met.I.Interner.is_ty c.args.cx.now x c.requires.a_known)
+    (g.met.I.Interner.is_ty c.args.cx.now y c.requires.b_known) (sym (ap (λ z. z.form) left))
+    (sym (ap (λ z. z.form) right) ∙ sym form) (c.has_fixed_parts.ensures c.if-has_fixed_parts.true))
 
 pub returns-clause-alike : goal.returns-clause-alike
 returns-clause-alike g c =
@@ -107,9 +129,9 @@ returns-clause-alike g c =
     let o = c.outline_of-left.result in
     let p = c.outline_of-right.result in
     let left : named_outline m.id o ≡ tree_outline (m.ty x) =
-    c.outline_of-left.ensures ∙ ap tree_outline (sym c.ty_kind.ensures) in
+    c.outline_of-left.ensures ∙ ap tree_outline (sym c.ty_kind-a_kind.ensures) in
     let right : named_outline m.id p ≡ tree_outline (m.ty y) =
-    c.outline_of-right.ensures ∙ ap tree_outline (sym c.ty_kind-2.ensures) in
+    c.outline_of-right.ensures ∙ ap tree_outline (sym c.ty_kind-b_kind.ensures) in
     let parted : o.form ≡ Leaf → ⊥ = (λ e. (let t = c.if-is_same_form.false in
     let one = c.is_same_form.ensures.1 e in search rules)) in
     let form : o.form ≡ p.form = c.is_same_form-2.ensures.0 (let t = c.if-not-is_same_form.false in search rules) in
@@ -117,4 +139,4 @@ returns-clause-alike g c =
     let same : o.mutability ≡ p.mutability =
     (let t = c.if-ne.false in let h = c.ne.ensures in let k = c.if-ne.ensures in search rules) in
     forms_alike m x y o p left right c.requires.a_covered c.requires.b_covered parted form item same
-    (sym c.parts_count-n.ensures.counts ∙ c.if-n-m.false ∙ c.parts_count-m.ensures.counts)
+    (sym c.parts_count_in-n.ensures.counts ∙ c.if-n-m.false ∙ c.parts_count_in-m.ensures.counts)

@@ -1,19 +1,17 @@
 use Rattle.std.proofs.Common.{◌≡◌, ◌<◌, ◌∙◌, sym, ap, subst, IsTrue}
-use Rattle.relation_terms.specs.Heads.{type_sort, argument_sort}
+use Rattle.relation_terms.specs.Heads.{argument_sort}
 use Rattle.relation_terms.specs.Trees.{known, count, nth, IsTerm}
 use Rattle.relation_terms.specs.Meaning.{arg_tree}
 use Rattle.relation_terms.specs.Parts.{part_tree}
 use Rattle.relation_terms.proofs.Sorted.{Sorted}
 use Rattle.relation_terms.proofs.Parts.{arg_part}
 use Rattle.type_relations.specs.Parts.{parts_of}
-use Rattle.type_relations.proofs.AsParts.{parts_as, ty_argument, is_arg}
+use Rattle.type_relations.proofs.AsParts.{ty_argument, is_arg}
 use Rattle.type_relations.proofs.relate.parts.part.Goals as goal
 
-pub part-requires-clause-in_bounds : goal.part-requires-clause-in_bounds
-part-requires-clause-in_bounds g c =
-    let t = (g.I.Interner.meaning c.args.cx.now).ty c.args.ty.now in
-    let is = g.met.I.Interner.is_ty c.args.cx.now c.args.ty.now c.requires.ty_known in
-    subst (λ z. c.args.i < count z) (sym (parts_as type_sort t is)) c.requires.in_bounds
+pub member-requires-clause-in_bounds : goal.member-requires-clause-in_bounds
+member-requires-clause-in_bounds g c =
+    subst (λ z. c.args.i < count z) (sym c.parts_in.ensures.means) c.requires.in_bounds
 
 pub the_arg-requires : goal.the_arg-requires
 the_arg-requires g c =
@@ -32,19 +30,17 @@ the_arg-requires g c =
       alternatives = g.met.I.Interner.are_alternatives c.args.cx.now;
       existential_predicates = g.met.I.Interner.are_existential_predicates c.args.cx.now;
     } in
-    let at : part_tree m c.part.result ≡ nth c.args.i (parts_of t) =
-    c.part.ensures.means ∙ ap (nth c.args.i) (parts_as type_sort t is) in
-    is_arg m sorted c.part.result c.part.ensures.sure (subst (IsTerm argument_sort) (sym at)
+    let at : part_tree m c.member.result ≡ nth c.args.i (parts_of t) =
+    c.member.ensures.means ∙ ap (nth c.args.i) c.parts_in.ensures.means in
+    is_arg m sorted c.member.result c.member.ensures.sure (subst (IsTerm argument_sort) (sym at)
     (ty_argument t c.args.i c.requires.in_bounds is c.requires.ty_covered))
 
 pub returns : goal.returns
 returns g c =
     let m = g.I.Interner.meaning c.args.cx.now in
-    let t = m.ty c.args.ty.now in
-    let is = g.met.I.Interner.is_ty c.args.cx.now c.args.ty.now c.requires.ty_known in
-    let same : arg_tree m c.the_arg.result ≡ part_tree m c.part.result =
+    let same : arg_tree m c.the_arg.result ≡ part_tree m c.member.result =
     sym (arg_part m c.the_arg.result) ∙ ap (part_tree m) c.the_arg.ensures in
     record {
-      sure = subst (λ z. IsTrue (known z)) (sym same) c.part.ensures.sure;
-      means = same ∙ c.part.ensures.means ∙ ap (nth c.args.i) (parts_as type_sort t is);
+      sure = subst (λ z. IsTrue (known z)) (sym same) c.member.ensures.sure;
+      means = same ∙ c.member.ensures.means ∙ ap (nth c.args.i) c.parts_in.ensures.means;
     }

@@ -1,11 +1,12 @@
 use Rattle.std.proofs.Common.{refl, sym}
+use Rattle.type_relations.specs.Errors.{itself}
 use Rattle.type_relations.specs.Parts.{IsFormed}
 use Rattle.type_relations.proofs.Standing.{term_context}
 use Rattle.type_relations.proofs.StructuralConsts.{itself_related}
 use Rattle.relation_reference.specs.Tables.{store_of}
 use Rattle.relation_reference.specs.Solving.{solving, relation_in, solver_manner}
 use Rattle.relation_reference.proofs.Shallowly.{read_step}
-use Rattle.relation_reference.proofs.Solving.{answered_step, read_taken}
+use Rattle.relation_reference.proofs.Solving.{answered_step, read_taken, parts_step}
 use Rattle.relation_reference.proofs.context.solver_relating.SolverRelatingTypeRelation.tys.Goals as goal
 
 pub returns-then-eq : goal.returns-then-eq
@@ -21,6 +22,16 @@ returns-then-eq g c =
     (itself_related solver_manner (solving r.infcx.ghost_name m r.infcx.now.inner r.ambient_variance r.param_env)
     r.ambient_variance m.ty
     (m.ty c.args.a.now) (m.ty c.args.b.now) c.args.a.now same refl k.left_known)
+
+pub returns-then-have_no_variable : goal.returns-then-have_no_variable
+returns-then-have_no_variable g c =
+    let r = c.args.self.now in
+    let m = g.I.Interner.meaning r.infcx.now.interner in
+    let k = c.requires.asked in
+    let none = c.have_no_variable.ensures in
+    parts_step r.infcx.ghost_name m r.infcx.now.inner r.ambient_variance r.param_env IsFormed (m.ty c.args.a.now)
+    (m.ty c.args.b.now) m.ty c.args.a.now c.args.b.now c.requires.lawful.0.sound (itself refl) (itself refl) k
+    (none.a_formed c.if-have_no_variable.true k.left_taken.1) (none.b_formed c.if-have_no_variable.true k.right_taken.1)
 
 pub shallow_resolve-left-requires-clause-ty_in : goal.shallow_resolve-left-requires-clause-ty_in
 shallow_resolve-left-requires-clause-ty_in g c =
