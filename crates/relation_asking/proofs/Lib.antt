@@ -8,3 +8,4 @@ pub mod MeetLemmas
 pub mod PutLemmas
 pub mod WalkLemmas
 pub mod OutlivesLemmas
+pub mod AssumeLemmas

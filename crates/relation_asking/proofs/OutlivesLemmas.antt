@@ -28,6 +28,12 @@ each_at P [] i d h e = absurd (omega arith)
 each_at P (x ∷ xs) zero d h e = e.0
 each_at P (x ∷ xs) (suc i) d h e = each_at P xs i d (omega arith) e.1
 
+-- One that is so, where each is so in another way.
+some_and_each : {A : Type 0} (P Q : A → Type 0) (xs : List A) → SomeIs P xs → EachIs Q xs → (x : A) × P x × Q x
+some_and_each P Q [] s k = absurd s
+some_and_each P Q (x ∷ xs) (inl p) k = (x, p, k.0)
+some_and_each P Q (x ∷ xs) (inr s) k = some_and_each P Q xs s k.1
+
 -- The components of a known tree are known.
 known_components : (c : Choice) (t : Tree) → Known t → EachIs Known (components c t)
 known_components c (leaf l) k = each_either (is_component l) (leaf l ∷ []) [] (k, tt) tt
@@ -52,7 +58,7 @@ module _ {X D N : Type 0} (m : Meaning X D N) where
   known_inside t h = tt
 
   mutual
-    -- A component that stands for a known tree, for one of some, and all of a list that do.
+    -- A component that stands for a known tree, and all of a list that stand for some.
     stands_known : (c : Component X D N) (t : Tree) → StandsFor m c t → Known t → KnowsComponent m c
     stands_known (Region r) t s k = subst Known (sym s) k
     stands_known (Param p) t s k = tt
@@ -61,16 +67,17 @@ module _ {X D N : Type 0} (m : Meaning X D N) where
     stands_known (Alias a) t s k = subst Known (sym s.1) k
     stands_known (EscapingAlias' shape all) t s k = inside_known all _ s.1 (known_inside t k)
 
-    some_known : (c : Component X D N) (ts : List Tree) → SomeIs (λ t. StandsFor m c t) ts → EachIs Known ts →
-        KnowsComponent m c
-    some_known c [] s k = absurd s
-    some_known c (t ∷ ts) (inl s) k = stands_known c t s k.0
-    some_known c (t ∷ ts) (inr s) k = some_known c ts s k.1
-
     inside_known : {n : _} (all : Row_of-Component X D N n) (ts : List Tree) → EachStands m all ts → EachIs Known ts →
         KnowsInside m all
     inside_known end_of-Component ts s k = tt
-    inside_known (more_of-Component c rest) ts s k = (some_known c ts s.0 k, inside_known rest ts s.1 k)
+    inside_known (more_of-Component c rest) ts s k =
+        let one = some_and_each (λ t. StandsFor m c t) Known ts s.0 k in
+        (stands_known c one.0 one.1 one.2, inside_known rest ts s.1 k)
+
+  some_known : (c : Component X D N) (ts : List Tree) → SomeIs (λ t. StandsFor m c t) ts → EachIs Known ts →
+      KnowsComponent m c
+  some_known c ts s k =
+      let one = some_and_each (λ t. StandsFor m c t) Known ts s k in stands_known c one.0 one.1 one.2
 
   each_known : (ts : List Tree) (cs : List (Component X D N)) → EachIs Known ts →
       EachIs (λ c. SomeIs (λ t. StandsFor m c t) ts) cs → KnowsComponents m cs

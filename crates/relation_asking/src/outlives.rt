@@ -1,7 +1,8 @@
 //! Components of types, and what follows from assumptions, that are asked for, and how they are written.
-ghost use Rattle.std.specs.Prelude.{IfOk};
+ghost use Rattle.std.specs.Prelude.{◌≡◌, IsTrue, IfOk, IfSome};
 ghost use Rattle.std.specs.List.{All};
-ghost use Rattle.relation_terms.specs.Meaning.{Meaning, Extends};
+ghost use Rattle.relation_terms.specs.Trees.{known};
+ghost use Rattle.relation_terms.specs.Meaning.{Meaning, Extends, arg_tree};
 ghost use Rattle.relation_tools.specs.Assumptions.{IsKnown};
 ghost use Rattle.relation_reference.specs.Tables.{IsLawful};
 ghost use Rattle.relation_asking.specs.Meets.{AllKnown};
@@ -19,8 +20,10 @@ use relation_text::printing::{
 };
 use relation_tools::elaborate::{OutlivesAssumption, elaborate_outlives_assumptions};
 use relation_tools::outlives::{Component, ComponentOf};
-use std::alloc::Global;
+use std::alloc::{AllocError, Global};
+use std::collections::HashSet;
 use std::fmt::{self, Write};
+use std::hash::Hash;
 
 // The components of a type.
 pub(super) fn ask_components<I: SizedKeys>(
@@ -89,6 +92,20 @@ pub(super) fn write_components<I: Interner, W: Write>(
     Ok(())
 }
 
+// That a term outlives a region, if it is one.
+fn assumption_of<I: Interner>(
+    term: GenericArg<I>,
+    region: GenericArg<I>,
+) -> Option<OutlivesAssumption<I>>
+    ensures { (m : Meaning I.Key I.Id I.Name) → IsTrue (known (arg_tree m term)) →
+        IsTrue (known (arg_tree m region)) → IfSome result (IsKnown m) }
+{
+    match region {
+        GenericArgKind::Lifetime(region) => Some(OutlivesPredicate(term, region)),
+        _ => None,
+    }
+}
+
 // The assumptions that terms outlive the regions at their places.
 fn assumptions_of<I: Interner>(
     alloc: Global,
@@ -99,12 +116,20 @@ fn assumptions_of<I: Interner>(
         IfOk result (λ all. All (IsKnown m) all.items) }
 {
     let mut all = Vec::new(alloc);
-    for (term, region) in terms.iter().zip(regions) {
-        if let GenericArgKind::Lifetime(region) = region {
-            all.push(OutlivesPredicate(*term, *region))?;
-        }
+    for place in 0..terms.len().min(regions.len()) {
+        let Some(assumption) = assumption_of::<I>(terms[place], regions[place]) else {
+            return Err(OutOfMemory);
+        };
+        all.push(assumption)?;
     }
     Ok(all)
+}
+
+// The members of a set, in a list.
+fn listed<T: Eq + Hash + Drop>(alloc: Global, set: HashSet<T>) -> Result<Vec<T>, AllocError>
+    ensures { IfOk result (λ all. all.items ≡ set.keys) }
+{
+    set.into_iter().collect(alloc)
 }
 
 // What follows from assumptions, in no order.
@@ -116,11 +141,8 @@ fn followed<I: Interner>(
     ensures grown { Extends (I.meaning cx.old) (I.meaning cx.new) }
     ensures sure { IfOk result (λ all. All (IsKnown (I.meaning cx.new)) all.items) }
 {
-    let mut all = Vec::new(cx.alloc());
-    for assumption in elaborate_outlives_assumptions(cx, assumptions)? {
-        all.push(assumption)?;
-    }
-    Ok(all)
+    let set = elaborate_outlives_assumptions(cx, assumptions)?;
+    Ok(listed(cx.alloc(), set)?)
 }
 
 // What follows from the assumptions that terms outlive regions.

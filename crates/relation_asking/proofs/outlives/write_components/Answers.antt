@@ -6,5 +6,5 @@ use Rattle.relation_asking.proofs.outlives.write_components.Goals as goal
 pub write_component-requires : goal.write_component-requires
 write_component-requires g c =
     let Knows = KnowsComponent (g.I.Interner.meaning c.args.cx.now) in
-    subst Knows (sym c.component-item.is)
-    (each_at Knows c.args.components.now c.loop-place.place c.component-item.result c.loop-place-test.true c.requires)
+    subst Knows (sym c.index-components-place.is)
+    (each_at Knows c.args.components.now c.loop-place.place c.index-components-place.result c.loop-place-test.true c.requires)
