@@ -49,6 +49,7 @@ item_covered n sort.Fn (Some d) ts h k r = (tt, h k r)
 item_covered n sort.Closure (Some d) ts h k r = (tt, h k r)
 item_covered n sort.Coroutine (Some d) ts h k r = (tt, h k r)
 item_covered n sort.CoroutineClosure (Some d) ts h k r = (tt, h k r)
+item_covered n sort.CoroutineWitness (Some d) ts h k r = (tt, h k r)
 item_covered n sort.Foreign (Some d) ts h k r = tt
 item_covered n sort.Trait (Some d) ts h k r = absurd (false≢true k)
 item_covered n sort.AutoTrait (Some d) ts h k r = absurd (false≢true k)

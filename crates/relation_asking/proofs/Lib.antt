@@ -7,3 +7,5 @@ pub mod CodeLemmas
 pub mod MeetLemmas
 pub mod PutLemmas
 pub mod WalkLemmas
+pub mod OutlivesLemmas
+pub mod AssumeLemmas

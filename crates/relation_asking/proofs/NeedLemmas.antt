@@ -131,6 +131,7 @@ item_enough n sort.Fn (Some d) ts h = h
 item_enough n sort.Closure (Some d) ts h = h
 item_enough n sort.Coroutine (Some d) ts h = h
 item_enough n sort.CoroutineClosure (Some d) ts h = h
+item_enough n sort.CoroutineWitness (Some d) ts h = h
 item_enough n sort.Foreign (Some d) ts h = tt
 item_enough n sort.Trait (Some d) ts h = tt
 item_enough n sort.AutoTrait (Some d) ts h = tt

@@ -1,5 +1,6 @@
 -- What is ready to be asked about, and a context in which it may be.
 use Rattle.std.specs.Prelude.{◌≡◌, ℕ, ◌<◌, ◌≤◌, List, Option, Some, None, IsTrue, length, slice_get}
+use Rattle.std.specs.List.{All}
 use Rattle.relation_terms.specs.declared.terms.enums.Variance.{Variance}
 use Rattle.relation_terms.specs.declared.terms.enums.Variance.TheVariants.{Covariant, Contravariant, Invariant, Bivariant}
 use Rattle.relation_terms.specs.declared.terms.generic_arg.GenericArgKind.{GenericArgKind}
@@ -15,9 +16,12 @@ use Rattle.relation_asking.specs.declared.context.VariableKind.{VariableKind}
 use Rattle.relation_asking.specs.declared.context.VariableKind.TheVariants.{Ty, Int, Float, Const, Region}
 use Rattle.relation_asking.specs.declared.needs.Needs.{Needs}
 use Rattle.relation_asking.specs.declared.question.Answer.{Answer}
-use Rattle.relation_asking.specs.declared.question.Answer.TheVariants.{Related, Met, Walked, Folded, Is, Key as key}
+use Rattle.relation_asking.specs.declared.question.Answer.TheVariants.{Related, Met, Walked, Components, Folded, Is}
+use Rattle.relation_asking.specs.declared.question.Answer.TheVariants.{Assumed, Key as key}
+use Rattle.relation_tools.specs.Assumptions.{IsKnown}
 use Rattle.relation_asking.specs.Meets.{AllKnown}
 use Rattle.relation_asking.specs.Needs.{Allows, Reaches, largest, need_at}
+use Rattle.relation_asking.specs.Outlives.{KnowsComponents}
 
 -- A known term, for which what is needed is enough; of forms that have rules where that is said of it.
 abbrev pub IsReady : Needs → Tree → Type 0
@@ -70,10 +74,12 @@ pub record IsAskable (u : ℕ) (v : Variance) (a b : Needs) : Type 0 where
   pub at : MayBeAsked v a b
 
 -- What an answer names is known: of a relation, what is asked of its answer.
-abbrev pub KnowsAnswer : {R K Key Id Name : Type 0} → Meaning Key Id Name → (R → Type 0) → Answer R Key K → Type 0
+abbrev pub KnowsAnswer : {R K Key Id Name : Type 0} → Meaning Key Id Name → (R → Type 0) → Answer R K Key Id Name → Type 0
 KnowsAnswer m Knows (Related r) = Knows r
 KnowsAnswer m Knows (Met x) = AllKnown m x.terms.items
 KnowsAnswer m Knows (Walked xs) = AllKnown m xs.items
+KnowsAnswer m Knows (Components cs) = KnowsComponents m cs.items
+KnowsAnswer m Knows (Assumed all) = All (IsKnown m) all.items
 KnowsAnswer m Knows (Folded a) = IsTrue (known (arg_tree m a))
 KnowsAnswer m Knows (Is b) = Unit {0}
 KnowsAnswer m Knows (key k) = Unit {0}

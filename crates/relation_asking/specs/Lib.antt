@@ -1,4 +1,5 @@
 pub mod Needs
+pub mod Outlives
 pub mod Asking
 pub mod Args
 pub mod Codes

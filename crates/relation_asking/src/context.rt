@@ -194,7 +194,8 @@ pub(super) fn refusal<I: Interner>(
 }
 
 /// Relates two types at a variance in any context that can. What is answered is what the context promises: after `Ok`
-/// what is recorded and the goals relate the types, and no equal pair is lost; `Unrelated` says that nothing made them one.
+/// what is recorded and the goals relate the types, and no equal pair is lost; `Unrelated` says that nothing made them
+/// one.
 pub(super) fn relate<C: InferCtxtLike>(
     ctx: &mut C,
     param_env: ParamEnv<C::Interner>,

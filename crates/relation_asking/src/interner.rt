@@ -23,7 +23,7 @@ fn def_kind(sort: ItemSort, of: ItemId) -> DefKind {
         ItemSort::Struct => DefKind::Adt,
         ItemSort::Fn => DefKind::Fn,
         ItemSort::Closure => DefKind::Closure,
-        ItemSort::Coroutine => DefKind::Coroutine,
+        ItemSort::Coroutine | ItemSort::CoroutineWitness => DefKind::Coroutine,
         ItemSort::CoroutineClosure => DefKind::CoroutineClosure,
         ItemSort::Foreign => DefKind::Foreign,
         ItemSort::Trait | ItemSort::AutoTrait => DefKind::Trait,

@@ -9,11 +9,13 @@ mod folding;
 mod interner;
 mod lists;
 pub mod needs;
+mod outlives;
 pub mod printing;
 mod question;
 mod quick;
+pub mod sized_keys;
 mod visiting;
-pub mod walking;
+mod walking;
 
 use interner::{Tables, make_interner, make_tables};
 use needs::needs_of;
@@ -22,9 +24,9 @@ use relation_reference::context::RefCtxt;
 use relation_text::building::build;
 use relation_text::naming::Program;
 use relation_text::printing::{Texts, TextsOf};
+use sized_keys::SizedKeys;
 use std::alloc::Global;
 use std::fmt::{self, Write};
-use walking::Walks;
 
 /// How many instantiations a context may make where nothing is said of it.
 pub const BUDGET: usize = 100;
@@ -38,7 +40,7 @@ fn separate<W: Write>(any: bool, between: &str, out: &mut W) -> fmt::Result {
 }
 
 // Asks all questions over terms that are ready. After a refused growth the next question is asked in a new context.
-fn ask_ready<I: Walks + Drop, W: Write>(
+fn ask_ready<I: SizedKeys + Drop, W: Write>(
     interner: I,
     texts: &TextsOf<I>,
     program: &Program,
@@ -82,7 +84,7 @@ fn refuse_all<W: Write>(program: &Program, between: &str, out: &mut W) -> fmt::R
 ///
 /// # Errors
 /// What the writer answers where an answer can't be written.
-pub fn ask_over<I: Walks + Drop, W: Write>(
+pub fn ask_over<I: SizedKeys + Drop, W: Write>(
     interner: I,
     ids: &[I::Id],
     names: &[I::Name],

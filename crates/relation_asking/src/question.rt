@@ -13,16 +13,20 @@ use crate::context::{NotAsked, have_variables, refusal, relate, renewed, write_n
 use crate::folding::{fold, puts_at};
 use crate::lists::ask_args_related;
 use crate::needs::{Needs, both, need_at};
+use crate::outlives::{ask_assumptions, ask_components, write_assumptions, write_components};
 use crate::printing::write_answer;
 use crate::quick::{KeyOf, ask_args_may_unify, ask_key, ask_may_unify, write_key};
+use crate::sized_keys::SizedKeys;
 use crate::visiting::{Met, visit, write_met};
-use crate::walking::{Walks, numbers_at, write_walked};
+use crate::walking::{numbers_at, write_walked};
 use relation_reference::context::RefCtxt;
+use relation_terms::predicate::OutlivesPredicate;
 use relation_terms::terms::{GenericArg, GenericArgKind, Interner, Keys, Ty, Variance};
 use relation_text::building::{key_at, keys_at, ty_at};
 use relation_text::naming::{Parts, Put, Question, QuestionKind};
 use relation_text::printing::{TextsOf, write_arg};
 use relation_tools::error::RelateFault;
+use relation_tools::outlives::Component;
 use relation_tools::visit::{has_escaping_bound_vars, has_non_region_infer, is_known_rigid};
 use std::alloc::Global;
 use std::fmt::{self, Write};
@@ -50,17 +54,25 @@ pub(super) enum Unasked {
 
 // What is answered to a question.
 #[derive(Drop)]
-pub(super) enum Answer<R, X, K> {
+pub(super) enum Answer<R, K, X, D, N> {
     Related(R),
     Met(Met<X>),
     Walked(Vec<GenericArgKind<X>>),
+    Components(Vec<Component<X, D, N>>),
+    Assumed(Vec<OutlivesPredicate<X, GenericArgKind<X>>>),
     Folded(GenericArgKind<X>),
     Is(bool),
     Key(K),
 }
 
 // What is answered to a question over an interner.
-type AnswerOf<I> = Answer<RelateGoals<I>, <I as Keys>::Key, KeyOf<I>>;
+type AnswerOf<I> = Answer<
+    RelateGoals<I>,
+    KeyOf<I>,
+    <I as Keys>::Key,
+    <I as Keys>::Id,
+    <I as Keys>::Name,
+>;
 
 // What came of a question.
 pub(super) type Outcome<I> = Result<AnswerOf<I>, Unasked>;
@@ -71,6 +83,8 @@ fn ran_out<I: Interner>(answer: &AnswerOf<I>) -> bool {
         Answer::Related(related) => matches!(related, Err(RelateFault::Memory)),
         Answer::Met(_) => false,
         Answer::Walked(_) => false,
+        Answer::Components(_) => false,
+        Answer::Assumed(_) => false,
         Answer::Folded(_) => false,
         Answer::Is(_) => false,
         Answer::Key(_) => false,
@@ -161,7 +175,7 @@ fn term_of<I: Interner>(terms: &Ready<I>, number: usize) -> Result<GenericArg<I>
 }
 
 // The terms of a list.
-fn terms_of<I: Interner>(
+pub(super) fn terms_of<I: Interner>(
     alloc: Global,
     terms: &Ready<I>,
     list: Parts,
@@ -211,7 +225,7 @@ fn ask_visited<I: Interner>(
 }
 
 // Walks a term.
-fn ask_walked<I: Walks>(
+fn ask_walked<I: SizedKeys>(
     cx: &I,
     terms: &Ready<I>,
     term: usize,
@@ -277,7 +291,7 @@ fn ask_rigid<I: Interner>(cx: &I, terms: &Ready<I>, number: usize) -> Result<boo
 
 // Asks a question of a context.
 #[tactic(auto, using(relation_terms::proofs::Stays::stays_same))]
-fn ask<I: Walks>(ctx: &mut RefCtxt<I>, terms: &Ready<I>, question: &Question) -> Outcome<I>
+fn ask<I: SizedKeys>(ctx: &mut RefCtxt<I>, terms: &Ready<I>, question: &Question) -> Outcome<I>
     requires lawful { IsLawful (I.meaning ctx.old.interner) ctx.old.inner }
     requires ready { AreReady (I.meaning ctx.old.interner) terms.now.built.now terms.now.needs.now }
     ensures lawful { IsLawful (I.meaning ctx.new.interner) ctx.new.inner }
@@ -297,6 +311,17 @@ fn ask<I: Walks>(ctx: &mut RefCtxt<I>, terms: &Ready<I>, question: &Question) ->
         QuestionKind::Walk { term, skips } => {
             let yielded = ask_walked(&ctx.interner, terms, term, skips)?;
             Ok(Answer::Walked(yielded))
+        }
+        QuestionKind::Components(number) => {
+            let found = ask_components(&ctx.interner, terms, number)?;
+            Ok(Answer::Components(found))
+        }
+        QuestionKind::Assumptions {
+            terms: list,
+            regions,
+        } => {
+            let all = ask_assumptions(ctx, terms, list, regions)?;
+            Ok(Answer::Assumed(all))
         }
         QuestionKind::Fold { term, puts } => {
             let folded = ask_folded(ctx, terms, term, puts)?;
@@ -339,7 +364,7 @@ fn ask<I: Walks>(ctx: &mut RefCtxt<I>, terms: &Ready<I>, question: &Question) ->
 }
 
 // Asks a question as often as it says, each time but the first in a new context, and answers the last one.
-pub(super) fn ask_often<I: Walks>(
+pub(super) fn ask_often<I: SizedKeys>(
     ctx: RefCtxt<I>,
     terms: &Ready<I>,
     question: &Question,
@@ -383,6 +408,8 @@ fn write_given<I: Interner, W: Write>(
         }
         Answer::Met(met) => write_met(&ctx.interner, texts, met, out),
         Answer::Walked(yielded) => write_walked(&ctx.interner, texts, yielded, out),
+        Answer::Components(found) => write_components(&ctx.interner, texts, found, out),
+        Answer::Assumed(all) => write_assumptions(&ctx.interner, texts, all, out),
         Answer::Folded(term) => write_arg(&ctx.interner, texts, term, out),
         Answer::Is(holds) => write!(out, "{holds}"),
         Answer::Key(key) => write_key::<I, W>(texts, key, out),

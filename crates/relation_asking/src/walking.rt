@@ -1,6 +1,5 @@
 //! Walks that are asked for: what a walk yields that skips after some of its pulls.
-ghost use Rattle.std.specs.Prelude.{◌≡◌, IsTrue, IfOk, false, map, cond, []};
-ghost use Rattle.relation_terms.specs.Trees.{known};
+ghost use Rattle.std.specs.Prelude.{◌≡◌, IfOk, false, map, cond, []};
 ghost use Rattle.relation_terms.specs.Meaning.{arg_tree};
 ghost use Rattle.relation_tools.specs.Walking.{Walk};
 ghost use Rattle.relation_tools.specs.Positions.{yields, ByPlaces};
@@ -8,43 +7,12 @@ ghost use Rattle.relation_asking.specs.Codes.{same_tree};
 ghost use Rattle.relation_asking.specs.Meets.{AllKnown};
 ghost use Rattle.relation_asking.specs.Skips.{stands_in, skipped_in};
 
-use reference_interner::RefInterner;
 use relation_terms::terms::{GenericArg, GenericArgKind, Interner, OutOfMemory};
 use relation_text::naming::Parts;
 use relation_text::printing::{TextsOf, write_arg};
 use relation_tools::walk::TypeWalker;
 use std::alloc::Global;
 use std::fmt::{self, Write};
-
-/// An interner whose terms can be walked. A walk keeps eight keys in place, and not every interner says that so many
-/// fit in memory.
-pub trait Walks: Interner {
-    /// What a walk over an argument yields, in order, if what is under the last yielded argument is skipped after the
-    /// pulls of these numbers, 0 before the first. A number may stand more than once, and may be behind the end.
-    ///
-    /// # Errors
-    /// `OutOfMemory` where a growth was refused.
-    fn walk(
-        &self,
-        root: &GenericArg<Self>,
-        skips: &[usize],
-    ) -> Result<Vec<GenericArg<Self>>, OutOfMemory>
-        requires known { IsTrue (known (arg_tree (Self.meaning self.now) root.now)) }
-        ensures sure { IfOk result (λ xs. AllKnown (Self.meaning self.now) xs.items) }
-        ensures by_places { let tree = arg_tree (Self.meaning self.now) in
-            IfOk result (λ xs. map tree xs.items ≡ yields same_tree (skipped_in skips.now) false [] (tree root.now)) };
-}
-
-impl Walks for RefInterner {
-    fn walk(
-        &self,
-        root: &GenericArg<Self>,
-        skips: &[usize],
-    ) -> Result<Vec<GenericArg<Self>>, OutOfMemory> {
-        let mut walker = TypeWalker::new(self, *root);
-        walk_on(self.alloc(), &mut walker, root, skips)
-    }
-}
 
 // Skips what is under the last yielded argument, once for each time that a number of pulls stands among others.
 fn skip_after<I: Interner>(walker: &mut TypeWalker<'_, I>, skips: &[usize], pulls: usize)
@@ -70,7 +38,7 @@ fn skip_behind<I: Interner>(walker: &mut TypeWalker<'_, I>, skips: &[usize], pul
 }
 
 // What a walk yields that begins at an argument. Behind its end it is pulled once more.
-fn walk_on<I: Interner>(
+pub(super) fn walk_on<I: Interner>(
     alloc: Global,
     walker: &mut TypeWalker<'_, I>,
     root: &GenericArg<I>,

@@ -100,22 +100,22 @@ module _ {K : Type 0} (tree : K → Tree) (vs : List (Variable K)) (st : Store) 
 
 -- What is found for a variable of a lawful context.
 module _ {Key Id Name : Type 0} (m : Meaning Key Id Name) (x : InferCtxtInner Key) (l : IsLawful m x) (k : VarKind) (n : ℕ) (u : Tree) where
-  abbrev st : Store
-  st = store_of m x
+  abbrev its_store : Store
+  its_store = store_of m x
 
-  pub found_known : Found st k n u → IsTrue (known u)
+  pub found_known : Found its_store k n u → IsTrue (known u)
   found_known (found_root r d e q) = subst (λ t. IsTrue (known t)) (sym q) refl
   found_known (found_term r d e) = bound_known m x l k r u e
 
-  pub found_read : Found st k n u → IsReadAs st (leaf (variable k n)) u
+  pub found_read : Found its_store k n u → IsReadAs its_store (leaf (variable k n)) u
   found_read (found_root r d e q) = by_class k n r refl (r, d, here refl) (itself (sym q))
   found_read (found_term r d e) = by_class k n r refl (r, d, here refl) (by_binding k r refl e (itself refl))
 
-  pub found_covered : Found st k n u → IsCovered u
+  pub found_covered : Found its_store k n u → IsCovered u
   found_covered (found_root r d e q) = subst IsCovered (sym q) tt
   found_covered (found_term r d e) = may_covered k u (l.formed k r u e)
 
-  pub found_shallow : (MayBeBoundTo k u → IsFormed u) → Found st k n u → IsShallow st u
+  pub found_shallow : (MayBeBoundTo k u → IsFormed u) → Found its_store k n u → IsShallow its_store u
   found_shallow f (found_root r d e q) = root k r q (ap (entry_term k) e)
   found_shallow f (found_term r d e) = formed (f (l.formed k r u e))
 

@@ -65,3 +65,8 @@ module _ {Key Id Name : Type 0} (m : Meaning Key Id Name) (k : VarKind) (n : ℕ
   -- What is found is such a part.
   abbrev pub Lacks : {S : Type 0} → (PartKey Key → PartKey Key → Bool) → HashSet (PartKey Key) S → Type 0
   Lacks eq lacking = (q : PartKey Key) → IsTrue (contains eq lacking q) → IsLacking eq q
+
+-- No part that is found has the variable in it.
+abbrev pub LacksVid : {Key Id Name S : Type 0} → Meaning Key Id Name → TermVid →
+    (PartKey Key → PartKey Key → Bool) → HashSet (PartKey Key) S → Type 0
+LacksVid m v eq lacking = Lacks m (vid_kind v) (vid_number v) eq lacking

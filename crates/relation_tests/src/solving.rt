@@ -65,3 +65,11 @@ fn the_context_has_what_was_recorded(rt: HostRuntime) -> Result<(), Fail> {
     assert!(rt; answer == Ok((two.left, true)));
     Ok(())
 }
+
+#[test]
+fn a_budget_is_set_anew(rt: HostRuntime) -> Result<(), Fail> {
+    let mut ctx = RefCtxt::new(RefInterner::new(rt.alloc()), 0)?;
+    ctx.set_budget(3);
+    assert!(rt; ctx.budget_left() == 3);
+    Ok(())
+}

@@ -46,16 +46,19 @@ spelling sign.Bar = codes "|"
 spelling sign.UpTo = codes "..="
 spelling sign.Arrow = codes "->"
 spelling sign.Dots = codes ".."
+spelling sign.Colon = codes ":"
 spelling sign.PathSep = codes "::"
 spelling sign.AbiC = codes "\"C\""
 spelling sign.AbiSystem = codes "\"system\""
 spelling sign.After = codes "after"
 spelling sign.Args = codes "args"
 spelling sign.As = codes "as"
+spelling sign.Assumptions = codes "assumptions"
 spelling sign.At = codes "at"
 spelling sign.Auto = codes "auto"
 spelling sign.Budget = codes "budget"
 spelling sign.Closure = codes "closure"
+spelling sign.Components = codes "components"
 spelling sign.Const = codes "const"
 spelling sign.Coroutine = codes "coroutine"
 spelling sign.Dyn = codes "dyn"
@@ -92,6 +95,7 @@ spelling sign.Variables = codes "variables"
 spelling sign.Visit = codes "visit"
 spelling sign.Walk = codes "walk"
 spelling sign.With = codes "with"
+spelling sign.Witness = codes "witness"
 
 -- how a question at a variance is written; none is asked at Bivariant
 abbrev pub relation_sign : Variance → Sign
@@ -128,6 +132,7 @@ sort_signs sort.Fn = sign.Fn ∷ []
 sort_signs sort.Closure = sign.Closure ∷ []
 sort_signs sort.Coroutine = sign.Coroutine ∷ []
 sort_signs sort.CoroutineClosure = sign.Coroutine ∷ sign.Closure ∷ []
+sort_signs sort.CoroutineWitness = sign.Coroutine ∷ sign.Witness ∷ []
 sort_signs sort.Foreign = sign.Extern ∷ sign.Type ∷ []
 sort_signs sort.Trait = sign.Trait ∷ []
 sort_signs sort.AutoTrait = sign.Auto ∷ sign.Trait ∷ []

@@ -4,6 +4,7 @@ use Rattle.relation_terms.specs.Heads.{Leaf, atom, variable, placeholder, unknow
 use Rattle.relation_terms.specs.Heads.{type_var, region_var, bool_type, char_type, str_type, never_type, int_type}
 use Rattle.relation_terms.specs.Heads.{uint_type, float_type, foreign, type_param, static_region, early_region}
 use Rattle.relation_terms.specs.Heads.{const_param, value_leaf, adt, fn_def, closure, coroutine_closure, coroutine}
+use Rattle.relation_terms.specs.Heads.{coroutine_witness}
 use Rattle.relation_terms.specs.Heads.{array, slice, tuple, raw_ptr, ref, expression, value, value_type, value_branch}
 use Rattle.relation_terms.specs.Heads.{region_kind, int_var, float_var, const_var, type_error, const_error}
 use Rattle.relation_terms.specs.Heads.{pattern_type, range_pattern, or_pattern, not_null_pattern}
@@ -40,6 +41,7 @@ item_tree sort.Fn (Some d) ts = node (fn_def d) ts
 item_tree sort.Closure (Some d) ts = node (closure d) ts
 item_tree sort.Coroutine (Some d) ts = node (coroutine d) ts
 item_tree sort.CoroutineClosure (Some d) ts = node (coroutine_closure d) ts
+item_tree sort.CoroutineWitness (Some d) ts = node (coroutine_witness d) ts
 item_tree sort.Foreign (Some d) ts = leaf (atom (foreign d))
 item_tree sort.AssocTy (Some d) ts = node (alias projection_alias d) ts
 item_tree sort.InherentTy (Some d) ts = node (alias inherent_alias d) ts

@@ -5,6 +5,7 @@ mod binders;
 mod error;
 mod namer;
 mod objects;
+mod outlives;
 mod plain;
 mod program;
 mod questions;

@@ -7,4 +7,7 @@ mod terms;
 mod whole;
 
 pub use names::{ItemText, Parameter, Texts, TextsOf, TraitText, float_name, int_name, uint_name};
-pub use whole::{write_arg, write_const, write_item_name, write_region, write_ty};
+pub use whole::{
+    write_alias, write_arg, write_const, write_item_name, write_param, write_placeholder,
+    write_region, write_ty, write_variable,
+};

@@ -3,6 +3,7 @@
 mod error;
 mod headers;
 mod openings;
+mod outlives;
 mod place;
 mod questions;
 mod quick;

@@ -1,5 +1,5 @@
 -- Which clashes there are between two terms, by their sorts.
-use Rattle.std.proofs.Common.{◌≡◌, ◌⊎◌, ◌↔◌, ℕ, zero, suc, ◌<◌, ◌≤◌, Bool, true, false, not, ◌||◌, refl, sym, ap, ◌∙◌, subst, subst₂, inl, inr, arith}
+use Rattle.std.proofs.Common.{◌≡◌, ◌⊎◌, ◌↔◌, ℕ, zero, suc, ◌<◌, ◌≤◌, min, Bool, true, false, not, ◌||◌, refl, sym, ap, ◌∙◌, subst, subst₂, inl, inr, arith}
 use Rattle.relation_terms.specs.Heads.{Sort, region_sort, type_sort, const_sort}
 use Rattle.relation_terms.specs.Heads.{signature_sort, inputs_sort, value_sort, value_type_sort, pattern_sort}
 use Rattle.relation_terms.specs.Heads.{existential_sort, object_sort}
@@ -195,7 +195,7 @@ quiet_clash (here c) q = cc
 quiet_clash (further c) q = cc
 
 -- Through what stands between.
-between_clash : {l r : Bool} {d : ℕ} {a b : Tree} → Clash l r d a b → is_between (tree_sort a) ≡ true →
+pub between_clash : {l r : Bool} {d : ℕ} {a b : Tree} → Clash l r d a b → is_between (tree_sort a) ≡ true →
     Clash l r d (parts_of a) (parts_of b)
 between_clash (unlike_types o s n) q = absurd (let e = ap is_between (o.0) in cc)
 between_clash (left_number o n) q = absurd (let e = ap is_between (o.0) in cc)
@@ -399,6 +399,23 @@ module _ (l r : Bool) (d : ℕ) (xs ys : Tree) where
   rest_none i h k (inl e) c = nil_left (subst (λ x. Clash l r d x (rest i ys)) (rest_end i xs h e) c)
   rest_none i h k (inr e) c =
       nil_right (rest_list i xs h) (subst (λ x. Clash l r d (rest i xs) x) (rest_end i ys k e) c)
+
+-- The end of the shorter one of two lists is that of one of them.
+min_is : (n k : ℕ) → (min n k ≡ n) ⊎ (min n k ≡ k)
+min_is zero k = inl (omega arith)
+min_is (suc n) zero = inr (omega arith)
+min_is (suc n) (suc k) = up (min_is n k)
+  where
+    up : (min n k ≡ n) ⊎ (min n k ≡ k) → (min (suc n) (suc k) ≡ suc n) ⊎ (min (suc n) (suc k) ≡ suc k)
+    up (inl e) = inl (omega (arith, e))
+    up (inr e) = inr (omega (arith, e))
+
+pub shorter : (i n k : ℕ) → i ≡ min n k → (i ≡ n) ⊎ (i ≡ k)
+shorter i n k e = either (min_is n k)
+  where
+    either : (min n k ≡ n) ⊎ (min n k ≡ k) → (i ≡ n) ⊎ (i ≡ k)
+    either (inl p) = inl (e ∙ p)
+    either (inr p) = inr (e ∙ p)
 
 -- The same of the same terms.
 pub moved : (l r w : Bool) {d e : ℕ} {a b x y : Tree} → d ≡ e → a ≡ x → b ≡ y → ((w ≡ false) ↔ Clash l r d a b) →

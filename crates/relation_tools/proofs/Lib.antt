@@ -12,6 +12,9 @@ pub mod Placing
 mod Pulling
 pub mod Clashing
 pub mod Outlining
+mod Pairing
+mod PairTests
+mod Unlike
 pub mod Instancing
 pub mod Rejecting
 pub mod KeysApart

@@ -1,5 +1,5 @@
 -- The outlines of forms, and which forms are alike.
-use Rattle.std.proofs.Common.{◌≡◌, ℕ, Bool, true, false, ◌&&◌, IsTrue, Option, Some, None, cond, refl, sym, ap, ◌∙◌, List}
+use Rattle.std.proofs.Common.{◌≡◌, ℕ, Bool, true, false, ◌&&◌, IsTrue, Option, Some, None, cond, refl, sym, ap, List}
 use Rattle.std.proofs.lemmas.Bool.{and_parts, false≢true}
 use Rattle.relation_terms.specs.Heads.{Head, adt, fn_def, closure, coroutine_closure, coroutine, coroutine_witness, array}
 use Rattle.relation_terms.specs.Heads.{slice, pattern_type, raw_ptr, ref, value}
@@ -21,11 +21,10 @@ use Rattle.relation_terms.specs.declared.terms.const_kind.ConstKind.TheVariants.
 use Rattle.relation_terms.specs.declared.terms.const_kind.InferConst.TheVariants.{Var, Fresh}
 use Rattle.relation_terms.specs.declared.terms.const_kind.ValTreeKind.{ValTreeKind}
 use Rattle.relation_terms.specs.declared.terms.const_kind.ValTreeKind.TheVariants.{Leaf as LeafTree, Branch as BranchTree}
-use Rattle.relation_tools.specs.declared.fast_reject.forms.Form.TheVariants.{Leaf, Branch}
-use Rattle.relation_tools.specs.declared.fast_reject.forms.Outline.{Outline}
+use Rattle.relation_tools.specs.Forms.{Leaf, Branch}
 use Rattle.relation_tools.specs.Clashes.{flexible, may_stand, outline, Alike, principal, counted, pointer_form}
 use Rattle.relation_tools.specs.Clashes.{reference_form}
-use Rattle.relation_tools.specs.Outlines.{named, named_outline, tree_outline, stands, trait_in, trait_in_predicate}
+use Rattle.relation_tools.specs.Outlines.{tree_outline, stands, trait_in, trait_in_predicate}
 
 pointer_no_leaf : (m : Mutability) → pointer_form m ≡ Leaf → ⊥
 pointer_no_leaf Not e = cc
@@ -50,14 +49,14 @@ node_form (raw_ptr m) ts e = pointer_no_leaf m e
 node_form (ref m) ts e = reference_no_leaf m e
 node_form h ts e = cc
 
-leaf_unlike : (a b : Tree) → (a ≡ b → ⊥) → (tree_outline a).form ≡ Leaf → Alike a b → ⊥
+pub leaf_unlike : (a b : Tree) → (a ≡ b → ⊥) → (tree_outline a).form ≡ Leaf → Alike a b → ⊥
 leaf_unlike (node h ts) b n e k = node_form h ts e
 leaf_unlike (leaf l) b n e k = n k
 leaf_unlike (bind ks t) b n e k = n k
 leaf_unlike nil b n e k = n k
 leaf_unlike (cons t ts) b n e k = n k
 
-alike_outlines : (a b : Tree) → (a ≡ b → ⊥) → Alike a b → tree_outline a ≡ tree_outline b
+pub alike_outlines : (a b : Tree) → (a ≡ b → ⊥) → Alike a b → tree_outline a ≡ tree_outline b
 alike_outlines (node h ts) (node g us) n k = k
 alike_outlines (node h ts) (leaf l) n k = absurd (n k)
 alike_outlines (node h ts) (bind ks t) n k = absurd (n k)
@@ -67,45 +66,6 @@ alike_outlines (leaf l) b n k = absurd (n k)
 alike_outlines (bind ks t) b n k = absurd (n k)
 alike_outlines nil b n k = absurd (n k)
 alike_outlines (cons t ts) b n k = absurd (n k)
-
-outlines_alike : (a b : Tree) → ((tree_outline a).form ≡ Leaf → ⊥) → tree_outline a ≡ tree_outline b → Alike a b
-outlines_alike (node h ts) (node g us) f e = e
-outlines_alike (node h ts) (leaf l) f e = absurd (f (ap (λ o. o.form) e))
-outlines_alike (node h ts) (bind ks t) f e = absurd (f (ap (λ o. o.form) e))
-outlines_alike (node h ts) nil f e = absurd (f (ap (λ o. o.form) e))
-outlines_alike (node h ts) (cons u us) f e = absurd (f (ap (λ o. o.form) e))
-outlines_alike (leaf l) b f e = absurd (f refl)
-outlines_alike (bind ks t) b f e = absurd (f refl)
-outlines_alike nil b f e = absurd (f refl)
-outlines_alike (cons t ts) b f e = absurd (f refl)
-
--- What a test of two outlines answers, step by step.
-module _ {D : Type 0} (number : D → ℕ) (x y : Outline D) (a b : Tree) (p : named_outline number x ≡ tree_outline a)
-    (q : named_outline number y ≡ tree_outline b) (n : a ≡ b → ⊥) where
-  one_outline : Alike a b → named_outline number x ≡ named_outline number y
-  one_outline k = p ∙ alike_outlines a b n k ∙ sym q
-
-  pub unlike_leaf : x.form ≡ Leaf → Alike a b → ⊥
-  unlike_leaf e k = leaf_unlike a b n (sym (ap (λ o. o.form) p) ∙ e) k
-
-  pub one_form : Alike a b → x.form ≡ y.form
-  one_form k = ap (λ o. o.form) (one_outline k)
-
-  pub one_count : Alike a b → x.parts ≡ y.parts
-  one_count k = ap (λ o. o.parts) (one_outline k)
-
-  pub one_header : Alike a b → x.header ≡ y.header
-  one_header k = ap (λ o. o.header) (one_outline k)
-
-  pub one_item : Alike a b → named number x.item ≡ named number y.item
-  one_item k = ap (λ o. o.item) (one_outline k)
-
-  pub all_alike : (x.form ≡ Leaf → ⊥) → x.form ≡ y.form → x.parts ≡ y.parts → x.header ≡ y.header →
-      named number x.item ≡ named number y.item → Alike a b
-  all_alike f e o h i = outlines_alike a b (λ z. f (ap (λ w. w.form) p ∙ z)) (sym p ∙ same ∙ q)
-    where
-      same : named_outline number x ≡ named_outline number y
-      same = cc
 
 -- What is told of one that may stand for others, and of one that may not.
 some_cond : (f x w : Bool) → cond f (Some x) None ≡ Some w → (f ≡ true) × (w ≡ x)

@@ -1,19 +1,16 @@
 -- Bodies that are renamings of one another, and what they are made to.
-use Rattle.std.proofs.Common.{◌≡◌, ◌↔◌, ℕ, suc, refl, sym, ap, ap₂, ◌∙◌, subst, Bool, true, false, cond, nat_eq, IsSome, IsTrue}
+use Rattle.std.proofs.Common.{◌≡◌, ℕ, suc, refl, sym, ap, ap₂, ◌∙◌, subst, Bool, true, false, cond, nat_eq, IsSome}
 use Rattle.std.proofs.Common.{List, [], ◌∷◌, ◌++◌, map, get_or, Option, Some, None, option_map}
 use Rattle.std.proofs.lemmas.Bool.{false≢true}
 use Rattle.relation_terms.specs.Heads.{Kind, type_kind, region_kind, const_kind, BoundKind, bound_kind, Head, Leaf}
 use Rattle.relation_terms.specs.Heads.{existential_projection, bound, variable, placeholder, atom, unknown, leaf_sort, head_sort}
-use Rattle.relation_terms.specs.Trees.{Tree, leaf, node, bind, nil, cons, known, IsBinder}
-use Rattle.relation_terms.specs.Heads.{Sort}
+use Rattle.relation_terms.specs.Trees.{Tree, leaf, node, bind, nil, cons}
 use Rattle.relation_terms.specs.Orders.{Order, in_turn, first_last, order_of}
 use Rattle.relation_tools.specs.Folds.{folded, put_or, asks}
 use Rattle.relation_tools.specs.Anonymous.{var_of, same_var, place_in, var_at, ordered, uses, one_more, with_vars}
 use Rattle.relation_tools.specs.Anonymous.{used_vars, named, at_place, renames, anonymized}
 use Rattle.relation_tools.specs.UsedParts.{AllIn}
-use Rattle.relation_tools.specs.Renamings.{MovedLeaf, Moved, AreRenamings, DifferInBindersAlone, RenamingsAreOne}
-use Rattle.relation_terms.specs.Meaning.{Meaning, Extends}
-use Rattle.relation_terms.specs.declared.terms.keys.PredicateKey.{PredicateKey}
+use Rattle.relation_tools.specs.Renamings.{MovedLeaf, Moved, AreRenamings, RenamingsAreOne}
 use Rattle.relation_tools.specs.declared.anonymize.used.UsedVar.{UsedVar}
 use Rattle.relation_tools.specs.declared.anonymize.used.UsedVar.TheVariants.{Ty, Region, Const}
 use Rattle.relation_tools.proofs.UsedVars.{same_self, same_is, all_added}
@@ -429,25 +426,3 @@ alike_renamed name ks ls t u e =
 
 pub renamings_are_one : RenamingsAreOne
 renamings_are_one name ks ls t u = (made_alike name ks ls t u, alike_renamed name ks ls t u)
-
--- So it is of predicates, which are binders.
-pub binders_are_one : (name : ℕ) (s : Sort) (p q : Tree) → IsBinder s p → IsBinder s q →
-    DifferInBindersAlone p q ↔ (anonymized name p ≡ anonymized name q)
-binders_are_one name s (bind ks t) (bind ls u) b d = renamings_are_one name ks ls t u
-binders_are_one name s (bind ks t) q b d = absurd d
-binders_are_one name s p q b d = absurd b
-
-module _ {Key Id Name : Type 0} {m n o : Meaning Key Id Name} (e : Extends m n) (f : Extends n o) (name : Name)
-    (sort : Sort) (binders : (k : PredicateKey Key) → IsTrue (known (m.predicate k)) → IsBinder sort (m.predicate k)) where
-  -- The keys of two anonymised predicates mean one tree where these differ in their outermost binders alone.
-  pub keys_are_one : (p q k l : PredicateKey Key) (b : Bool) → IsTrue (known (m.predicate p)) →
-      IsTrue (known (m.predicate q)) → IsTrue (known (n.predicate k)) →
-      n.predicate k ≡ anonymized (m.name name) (m.predicate p) →
-      o.predicate l ≡ anonymized (n.name name) (n.predicate q) → (IsTrue b ↔ (o.predicate k ≡ o.predicate l)) →
-      IsTrue b ↔ DifferInBindersAlone (m.predicate p) (m.predicate q)
-  keys_are_one p q k l b kp kq kk x y same =
-      let first : o.predicate k ≡ anonymized (m.name name) (m.predicate p) = f.predicate k kk ∙ x in
-      let second : o.predicate l ≡ anonymized (m.name name) (m.predicate q) =
-      y ∙ ap (λ z. anonymized z (n.predicate q)) (e.name name) ∙ ap (anonymized (m.name name)) (e.predicate q kq) in
-      let one = binders_are_one (m.name name) sort (m.predicate p) (m.predicate q) (binders p kp) (binders q kq) in
-      (λ t. one.1 (sym first ∙ same.0 t ∙ second), λ d. same.1 (first ∙ one.0 d ∙ sym second))

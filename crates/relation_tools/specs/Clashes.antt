@@ -14,14 +14,9 @@ use Rattle.relation_terms.specs.Heads.{variable, bound, atom}
 use Rattle.relation_terms.specs.Trees.{Tree, leaf, node, bind, cons, count}
 use Rattle.relation_terms.specs.Parts.{parts_of, tree_sort}
 use Rattle.relation_tools.specs.Visits.{is_rigid}
-use Rattle.relation_tools.specs.declared.fast_reject.forms.Form.{Form}
-use Rattle.relation_tools.specs.declared.fast_reject.forms.Form.TheVariants.{Adt, FnDef, Closure}
-use Rattle.relation_tools.specs.declared.fast_reject.forms.Form.TheVariants.{CoroutineClosure, Coroutine}
-use Rattle.relation_tools.specs.declared.fast_reject.forms.Form.TheVariants.{CoroutineWitness, Array, Slice, Pat}
-use Rattle.relation_tools.specs.declared.fast_reject.forms.Form.TheVariants.{ConstPtr, MutPtr, SharedRef, MutRef}
-use Rattle.relation_tools.specs.declared.fast_reject.forms.Form.TheVariants.{Tuple, FnPtr, UnsafeBinder, Dynamic}
-use Rattle.relation_tools.specs.declared.fast_reject.forms.Form.TheVariants.{Alias, Value, Branch}
-use Rattle.relation_tools.specs.declared.fast_reject.forms.Outline.{Outline}
+use Rattle.relation_tools.specs.Forms.{Form, Outline, Adt, FnDef, Closure, CoroutineClosure, Coroutine}
+use Rattle.relation_tools.specs.Forms.{CoroutineWitness, Array, Slice, Pat, ConstPtr, MutPtr, SharedRef, MutRef, Tuple}
+use Rattle.relation_tools.specs.Forms.{FnPtr, UnsafeBinder, Dynamic, Alias, Value, Branch}
 
 -- Atoms that may stand for others: stand-ins for variables, errors, and parameters where they may (`params`).
 abbrev pub flexible_atom : Bool → Atom → Bool

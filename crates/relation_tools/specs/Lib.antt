@@ -5,8 +5,10 @@ pub mod Stacks
 pub mod Places
 pub mod Walking
 pub mod Positions
+pub mod Forms
 pub mod Clashes
 pub mod Outlines
+pub mod Pairs
 pub mod Instances
 pub mod HeadKeys
 pub mod Shifts

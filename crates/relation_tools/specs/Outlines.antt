@@ -2,8 +2,7 @@
 use Rattle.std.specs.Prelude.{ℕ, Bool, cond, Option, Some, None}
 use Rattle.relation_terms.specs.Trees.{Tree, node}
 use Rattle.relation_tools.specs.Clashes.{flexible, may_stand, plain, outline}
-use Rattle.relation_tools.specs.declared.fast_reject.forms.Form.TheVariants.{Leaf}
-use Rattle.relation_tools.specs.declared.fast_reject.forms.Outline.{Outline}
+use Rattle.relation_tools.specs.Forms.{Outline, Leaf}
 use Rattle.relation_terms.specs.declared.predicate.ExistentialPredicate.{ExistentialPredicate}
 use Rattle.relation_terms.specs.declared.predicate.ExistentialPredicate.TheVariants.{Trait, Projection, AutoTrait}
 use Rattle.relation_terms.specs.declared.terms.binder.Binder.{Binder}
@@ -12,10 +11,6 @@ use Rattle.relation_terms.specs.declared.terms.binder.Binder.{Binder}
 abbrev pub named : {D : Type 0} → (D → ℕ) → Option D → Option ℕ
 named number None = None
 named number (Some d) = Some (number d)
-
--- The outline with the number of its item.
-abbrev pub named_outline : {D : Type 0} → (D → ℕ) → Outline D → Outline ℕ
-named_outline number o = record { form = o.form; item = named number o.item; header = o.header; parts = o.parts }
 
 -- The outline of a type.
 abbrev pub tree_outline : Tree → Outline ℕ

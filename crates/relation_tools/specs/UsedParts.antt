@@ -1,6 +1,8 @@
 -- Of which parts all variables were collected.
 use Rattle.std.specs.Prelude.{◌≡◌, ℕ, Bool, true, IsTrue, IsSome, List, [], ◌∷◌, Some}
 use Rattle.std.specs.List.{list_any}
+use Rattle.std.specs.Global.{Vec}
+use Rattle.std.specs.HashSet.{HashSet}
 use Rattle.relation_terms.specs.Trees.{known}
 use Rattle.relation_terms.specs.Meaning.{Meaning}
 use Rattle.relation_terms.specs.Parts.{part_tree}
@@ -29,3 +31,8 @@ module _ {Key Id Name : Type 0} (m : Meaning Key Id Name) (us : List UsedVar) (e
   -- Of each place that is kept a part was met.
   abbrev pub Remembered : List (Place Key) → Type 0
   Remembered kept = (q : Place Key) → list_any (eq q) kept ≡ true → IsMet q
+
+-- The same of the list and the set that a walk fills.
+abbrev pub AreRemembered : {Key Id Name S : Type 0} → Meaning Key Id Name → Vec UsedVar →
+    (Place Key → Place Key → Bool) → HashSet (Place Key) S → Type 0
+AreRemembered m us eq met = Remembered m us.items eq met.keys

@@ -1,9 +1,8 @@
 //! Predicates whose outermost binders differ in names, order or unused variables alone, made one.
-ghost use Rattle.std.specs.Prelude.{◌≡◌, ◌↔◌, IsTrue, IfOk};
+ghost use Rattle.std.specs.Prelude.{◌≡◌, IsTrue, IfOk};
 ghost use Rattle.relation_terms.specs.Trees.{known};
 ghost use Rattle.relation_terms.specs.Meaning.{Extends};
 ghost use Rattle.relation_tools.specs.Anonymous.{anonymized};
-ghost use Rattle.relation_tools.specs.Renamings.{DifferInBindersAlone};
 
 mod collecting;
 mod renaming;
@@ -20,8 +19,8 @@ use renaming::{named_vars, rename_bound_vars};
 ///
 /// Each part that has a key is gone into once at each depth, however often it stands in the predicate.
 ///
-/// Answers `OutOfMemory` where a growth was refused; all keys mean then what they did. Upstream's call of that name of an
-/// interner, where what binders bind needs no name.
+/// Answers `OutOfMemory` where a growth was refused; all keys mean then what they did. Upstream's call of that name of
+/// an interner, where what binders bind needs no name.
 pub fn anonymize_bound_vars<I: Interner>(
     cx: &mut I,
     predicate: &Predicate<I>,
@@ -39,25 +38,4 @@ pub fn anonymize_bound_vars<I: Interner>(
     let vars = named_vars(&used, name, cx.alloc())?;
     let bound_vars = cx.mk_bound_vars(&vars)?;
     cx.mk_predicate(Binder { value, bound_vars })
-}
-
-/// Whether the outermost binders of two predicates differ in names, order or unused variables alone, which is whether
-/// they are one, made anonymous by any name. The interner has to know both.
-///
-/// Answers `OutOfMemory` where a growth was refused; all keys mean then what they did.
-pub fn differ_in_binders_alone<I: Interner>(
-    cx: &mut I,
-    predicate: &Predicate<I>,
-    other: &Predicate<I>,
-    name: Symbol<I>,
-) -> Result<bool, OutOfMemory>
-    requires known { IsTrue (known ((I.meaning cx.old).predicate predicate.now)) }
-    requires other_known { IsTrue (known ((I.meaning cx.old).predicate other.now)) }
-    ensures grown { Extends (I.meaning cx.old) (I.meaning cx.new) }
-    ensures exact { IfOk result (λ one. IsTrue one ↔
-        DifferInBindersAlone ((I.meaning cx.old).predicate predicate.now) ((I.meaning cx.old).predicate other.now)) }
-{
-    let first = anonymize_bound_vars(cx, predicate, name)?;
-    let second = anonymize_bound_vars(cx, other, name)?;
-    Ok(first == second)
 }

@@ -17,8 +17,8 @@ pub type OutlivesAssumption<I> = OutlivesPredicate<<I as Keys>::Key, GenericArg<
 /// The assumptions, and for each type among them its components that are regions, parameters, placeholders or aliases
 /// that no variable escapes: each of them outlives what the type does.
 ///
-/// The interner has to know all terms. Whether a binder binds an assumption's region is not asked. Answers `OutOfMemory`
-/// where a growth was refused; all keys keep their meanings.
+/// The interner has to know all terms. Whether a binder binds an assumption's region is not asked. Answers
+/// `OutOfMemory` where a growth was refused; all keys keep their meanings.
 ///
 /// It comes from upstream's function of this name, which takes any iterator.
 pub fn elaborate_outlives_assumptions<I: Interner>(

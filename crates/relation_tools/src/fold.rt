@@ -91,8 +91,8 @@ pub trait TypeFolder<I: Interner> {
     // A folder that is ready stays so while the interner grows, and puts the same.
     ghost ready_on: { (m n : Meaning I.Key I.Id I.Name) → Extends m n → (f : Self) → ready m f → ready n f };
 
-    ghost replaces_on: { (m n : Meaning I.Key I.Id I.Name) → Extends m n → (f : Self) → ready m f → (d : ℕ) (t : Tree) →
-        replaces n f d t ≡ replaces m f d t };
+    ghost replaces_on: { (m n : Meaning I.Key I.Id I.Name) → Extends m n → (f : Self) → ready m f →
+        (d : ℕ) (t : Tree) → replaces n f d t ≡ replaces m f d t };
 }
 
 /// What has types, regions or constants: a key of a term, or a form over keys.

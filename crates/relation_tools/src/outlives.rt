@@ -1,8 +1,8 @@
 //! What has to outlive a region for a type to outlive it: the type's components.
 //!
 //! A component is a region, a parameter, a placeholder, a variable or an alias in the type. What is inside an alias is
-//! left to whoever decides whether the alias outlives the region, but where a variable stands in it that a binder outside
-//! the alias binds: there it is the components of its arguments.
+//! left to whoever decides whether the alias outlives the region, but where a variable stands in it that a binder
+//! outside the alias binds: there it is the components of its arguments.
 ghost use Rattle.std.specs.Prelude.{◌≡◌, ◌++◌, IsTrue, IfOk, OnOk, OnErr, []};
 ghost use Rattle.relation_terms.specs.Trees.{known};
 ghost use Rattle.relation_terms.specs.Meaning.{kind_tree};
@@ -53,9 +53,9 @@ impl<X, D, N> MadeWith<Global> for Component<X, D, N> {
 /// types it captures, and of a coroutine's that of the type it is resumed with too; a coroutine's witness has none. An
 /// alias is a component itself, but where a variable escapes it; what a binder binds is none.
 ///
-/// The interner has to know the type. What stands in `out` stays there, in front, and each type and constant is gone into
-/// once, however often it stands in the type. Answers `OutOfMemory` where a growth was refused, and then some of the
-/// components were added.
+/// The interner has to know the type. What stands in `out` stays there, in front, and each type and constant is gone
+/// into once, however often it stands in the type. Answers `OutOfMemory` where a growth was refused, and then some of
+/// the components were added.
 ///
 /// It comes from upstream's function of this name, which answers nothing.
 pub fn push_outlives_components<I: Interner>(
@@ -106,10 +106,11 @@ fn append<I: Interner>(
     Ok(())
 }
 
-/// Adds the components of the arguments of an alias, but of those that the alias is bivariant in, and not the alias itself.
+/// Adds the components of the arguments of an alias, but of those that the alias is bivariant in, and not the alias
+/// itself.
 ///
-/// The interner has to know the arguments. What stands in `out` stays there, in front. Answers `OutOfMemory` where a growth
-/// was refused, and then some of the components were added.
+/// The interner has to know the arguments. What stands in `out` stays there, in front. Answers `OutOfMemory` where a
+/// growth was refused, and then some of the components were added.
 ///
 /// It comes from upstream's function of this name, which answers nothing.
 pub fn compute_alias_components_recursive<I: Interner>(

@@ -120,7 +120,8 @@ impl<'a, I: Interner> TypeWalker<'a, I> {
 
     /// What `next` answers, for a loop of which the caller shows that it ends.
     pub fn pull(&mut self) -> Option<Result<GenericArg<I>, OutOfMemory>>
-        ensures { Pull (I.meaning (self.old).cx) ⟦<GenericArgKind<I::Key> as PartialEq>⟧.eq self.old result self.new }
+        ensures { Pull (I.meaning (self.old).cx) ⟦<GenericArgKind<I::Key> as PartialEq>⟧.eq
+            self.old result self.new }
     {
         if self.failed {
             return Some(Err(OutOfMemory));

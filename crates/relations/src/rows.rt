@@ -2,14 +2,17 @@
 ghost use Rattle.std.specs.Prelude.{◌≡◌, ◌<◌, ◌≤◌, ◌↔◌, IsTrue, IfSome, length, slice_get, string_bytes};
 ghost use Rattle.relations.specs.Named.{IsHighRow, IsLowRow, IsRow};
 
+use crate::doubling::count_terms_and_nodes;
 use relation_asking::ask_all;
 use relation_text::naming::{NameError, look_up};
 use relation_text::reading::{ReadError, read};
 use relation_text::telling::{Lines, tell_unnamed, tell_unread};
 use std::alloc::Global;
+use std::fmt::Write;
 use std::io;
 
-/// A row: its name, the questions that it asks, as text, and the answers that they are to have.
+/// A row: its name, the questions that it asks, as text, and the answers that they are to have. One that asks none
+/// counts the terms and the nodes of a type that is doubled 60 times.
 #[derive(Clone, Copy)]
 pub struct Row {
     pub name: &'static str,
@@ -29,7 +32,7 @@ pub enum RowFault {
 }
 
 /// The rows, in the order of their numbers.
-pub const ROWS: [Row; 24] = [
+pub const ROWS: [Row; 28] = [
     Row {
         name: "r01",
         questions: "may unify[rigid, rigid] bool, char at 0; may unify[rigid, rigid] bool, char at 1;",
@@ -76,6 +79,11 @@ pub const ROWS: [Row; 24] = [
         name: "r17",
         questions: "budget 1; (?0, ?1) == (u8, bool);",
         stored: "budget; bound=[?0=u8]; left=0",
+    },
+    Row {
+        name: "r18",
+        questions: "closure c<T, U>; param 'a, 'b; components c<&'b u8, (&'a u8,)>;",
+        stored: "'a",
     },
     Row {
         name: "r19",
@@ -148,6 +156,18 @@ pub const ROWS: [Row; 24] = [
         stored: "dyn Tr<bool, A = u8> + 'a | bool | u8 | 'a | end",
     },
     Row {
+        name: "r54",
+        questions: "fn f<'x, U>; coroutine witness w<'x>; trait Tr<'x>; type Tr::A; param T, 'a, 'b;
+            components &'a (T, &'b T); components f<'a, &'b u8>; components w<'a>;
+            components for<'a> fn(<T as Tr<'a>>::A);",
+        stored: "'a, T, 'b | 'b | none | escaping[T]",
+    },
+    Row {
+        name: "r55",
+        questions: "param T, 'a, 'b; assumptions (&'a T, u8): 'b;",
+        stored: "'a: 'b | (&'a T, u8): 'b | T: 'b",
+    },
+    Row {
         name: "r59",
         questions: "param T;
             may unify[rigid, rigid] T, u8; may unify[infer, infer] T, u8; may unify[rigid, infer] T, u8;
@@ -164,6 +184,11 @@ pub const ROWS: [Row; 24] = [
         stored: "true | false | true | false",
     },
     Row {
+        name: "r61",
+        questions: "",
+        stored: "61 | 0",
+    },
+    Row {
         name: "r69",
         questions: "struct C<const N>;
             may unify[rigid, rigid] C<{?c0, 2}>, C<{1, 2}>;
@@ -174,12 +199,27 @@ pub const ROWS: [Row; 24] = [
     },
 ];
 
+// What is counted where a row asks no question: the terms, and the nodes that are added.
+fn counts(alloc: Global) -> Result<String, RowFault> {
+    let Ok((terms, nodes)) = count_terms_and_nodes(alloc, 60) else {
+        return Err(RowFault::Memory);
+    };
+    let mut text = String::new(alloc);
+    match write!(text, "{terms} | {nodes}") {
+        Ok(()) => Ok(text),
+        Err(_) => Err(RowFault::Memory),
+    }
+}
+
 /// The answers to a row's questions, with ` | ` between two.
 ///
 /// # Errors
 /// `Memory` where the text of the answers can't grow. `Unread` and `Unnamed` where the questions are no text of the
 /// language, or say that a growth was refused.
 pub fn answers(alloc: Global, row: &Row) -> Result<String, RowFault> {
+    if row.questions.is_empty() {
+        return counts(alloc);
+    }
     let tree = read(alloc, row.questions.as_bytes()).map_err(RowFault::Unread)?;
     let program = look_up(alloc, row.questions, &tree).map_err(RowFault::Unnamed)?;
     let mut text = String::new(alloc);
@@ -249,6 +289,7 @@ fn is_low_row(name: &str) -> bool
         || name == "r08"
         || name == "r09"
         || name == "r17"
+        || name == "r18"
         || name == "r19"
 }
 
@@ -267,8 +308,11 @@ fn is_high_row(name: &str) -> bool
         || name == "r36"
         || name == "r37"
         || name == "r53"
+        || name == "r54"
+        || name == "r55"
         || name == "r59"
         || name == "r60"
+        || name == "r61"
         || name == "r69"
 }
 
@@ -312,7 +356,8 @@ pub fn run<O: io::Write, E: io::Write>(
 ) -> u8
     ensures usage { 1 < length words.now → result ≡ 2 }
     ensures all { length words.now ≡ 0 → result ≤ 1 }
-    ensures row { length words.now ≤ 1 → IfSome (slice_get words.now 0) (λ w. IsRow (string_bytes w) → result ≤ 1) }
+    ensures row { length words.now ≤ 1 →
+        IfSome (slice_get words.now 0) (λ w. IsRow (string_bytes w) → result ≤ 1) }
     ensures no_row { IfSome (slice_get words.now 0) (λ w. (IsRow (string_bytes w) → ⊥) → result ≡ 2) }
 {
     if words.len() > 1 {

@@ -16,6 +16,7 @@ r07: err TupleSize(2, 3) | err Sorts((), (u8,))
 r08: err CyclicTy([?0])
 r09: err Sorts(u8, bool); bound=[?0=u8]
 r17: budget; bound=[?0=u8]; left=0
+r18: 'a
 r19: false | ok
 r20: false | true | false
 r22: err ArraySize(2, 3)
@@ -28,8 +29,11 @@ r35: ok; regions=['b: 'a] | ok; regions=['a: 'b]
 r36: ok; bound=[?0=u8, ?i0=u16]; left=0
 r37: ok; bound=[?0=u8, ?c0=2]
 r53: dyn Tr<bool, A = u8> + 'a | bool | u8 | 'a | end
+r54: 'a, T, 'b | 'b | none | escaping[T]
+r55: 'a: 'b | (&'a T, u8): 'b | T: 'b
 r59: false | true | false | true
 r60: true | false | true | false
+r61: 61 | 0
 r69: true | false | false | ok; bound=[?c0=1]
 ";
 

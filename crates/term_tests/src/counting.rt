@@ -16,9 +16,16 @@ fn doubled(cx: &mut RefInterner, ty: Ty<RefInterner>) -> Result<Ty<RefInterner>,
     cx.mk_ty(TyKind::Tuple(list))
 }
 
-// A tower of as many of these.
-fn tower(cx: &mut RefInterner, height: usize) -> Result<Ty<RefInterner>, OutOfMemory> {
-    let mut ty = cx.mk_ty(TyKind::Bool)?;
+/// A tower of as many of these over a type.
+pub fn tower(
+    cx: &mut RefInterner,
+    bottom: Ty<RefInterner>,
+    height: usize,
+) -> Result<Ty<RefInterner>, OutOfMemory>
+    requires { IsTrue (known ((meaning_in cx.old).ty bottom)) }
+    ensures { IfOk result (λ t. IsTrue (known ((meaning_in cx.new).ty t))) }
+{
+    let mut ty = bottom;
     for _ in 0..height {
         ty = doubled(cx, ty)?;
     }
@@ -28,9 +35,11 @@ fn tower(cx: &mut RefInterner, height: usize) -> Result<Ty<RefInterner>, OutOfMe
 #[test]
 fn counts_each_term_once(rt: HostRuntime) -> Result<(), Fail> {
     let mut cx = RefInterner::new(rt.alloc());
-    let first = tower(&mut cx, 60)?;
+    let bottom = cx.mk_ty(TyKind::Bool)?;
+    let first = tower(&mut cx, bottom, 60)?;
     assert!(rt; cx.nodes() == 61 + 60);
-    let again = tower(&mut cx, 60)?;
+    let bottom = cx.mk_ty(TyKind::Bool)?;
+    let again = tower(&mut cx, bottom, 60)?;
     assert!(rt; first == again && cx.nodes() == 61 + 60);
     let _ = cx.mk_region(RegionKind::ReStatic)?;
     assert!(rt; cx.nodes() == 61 + 60 + 1);

@@ -29,4 +29,6 @@ mod predicate_parts;
 #[cfg(test)]
 mod predicates;
 #[cfg(test)]
+mod towers;
+#[cfg(test)]
 mod visiting;

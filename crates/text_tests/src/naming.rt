@@ -163,6 +163,10 @@ fn wrong_names_are_told(rt: HostRuntime) -> Result<(), Fail> {
         ),
         ("rigid '^0;", "1:7: expected a type, found a region"),
         (
+            "components 'static;",
+            "1:12: expected a type, found a region",
+        ),
+        (
             "visit for<'a, 'a> fn();",
             "1:15: expected a new name, found `'a`",
         ),

@@ -53,6 +53,9 @@ fn form_name(form: Form) -> &'static str {
         Form::Question(_) => "question",
         Form::Visit => "visit",
         Form::Walk => "walk",
+        Form::Components => "components",
+        Form::Assumptions => "assumptions",
+        Form::Outlives => "outlives",
         Form::Fold => "fold",
         Form::Escapes => "escapes",
         Form::Infers => "infers",
@@ -170,8 +173,14 @@ fn patterns_are_read(rt: HostRuntime) -> Result<(), Fail> {
 
 #[test]
 fn walks_are_read(rt: HostRuntime) -> Result<(), Fail> {
-    let all = shown(rt.alloc(), "walk [T]; walk 'a skip after 0, 2, 2;")?;
-    assert_eq!(rt; all.as_str(), "file(walk(slice(T)) walk('a 0 2 2))");
+    let all = shown(
+        rt.alloc(),
+        "coroutine witness w; walk [T]; walk 'a skip after 0, 2, 2; components [T];",
+    )?;
+    assert_eq!(rt;
+        all.as_str(),
+        "file(item(w) walk(slice(T)) walk('a 0 2 2) components(slice(T)))"
+    );
     Ok(())
 }
 

@@ -219,7 +219,8 @@ fn leaves_related(
 
 // Whether an error is related with a form: where both are of one sort.
 fn error_related(error: SmallLeaf, head: SmallHead) -> bool
-    ensures { result ≡ true ↔ IsError (leaf (leaf_of error)) × (leaf_sort (leaf_of error) ≡ head_sort (head_of head)) }
+    ensures { result ≡ true ↔
+        IsError (leaf (leaf_of error)) × (leaf_sort (leaf_of error) ≡ head_sort (head_of head)) }
 {
     both(
         is_error(error),
@@ -275,7 +276,8 @@ fn compose(v: Variance, w: Variance) -> Variance
 
 // The next place, as far as places are told apart.
 fn next_place(declared: &[Variance], i: usize) -> usize
-    ensures { (j : ℕ) → i ≡ min j (max (length declared.now) 1) → result ≡ min (j + 1) (max (length declared.now) 1) }
+    ensures { (j : ℕ) → i ≡ min j (max (length declared.now) 1) →
+        result ≡ min (j + 1) (max (length declared.now) 1) }
 {
     if i < declared.len() {
         i + 1

@@ -31,8 +31,8 @@ pub enum Step<T> {
         a: T,
         b: T,
     },
-    /// `x` and `y` are related at the variance, seen from the ambient one, and then `answer` is the answer. The terms are
-    /// read as `a` and `b`.
+    /// `x` and `y` are related at the variance, seen from the ambient one, and then `answer` is the answer. The terms
+    /// are read as `a` and `b`.
     Again {
         a: T,
         b: T,

@@ -3,7 +3,7 @@ ghost use Rattle.std.specs.Prelude.{◌≡◌, IsTrue, IfSome, OnOk};
 ghost use Rattle.std.specs.HashMap.{IsEmpty};
 ghost use Rattle.relation_terms.specs.Trees.{known, Occurs};
 ghost use Rattle.relation_terms.specs.Parts.{part_tree};
-ghost use Rattle.relation_reference.specs.Remembering.{ComesTo, Remembers, Lacks, IsWithout, key_of as the_key};
+ghost use Rattle.relation_reference.specs.Remembering.{ComesTo, Remembers, LacksVid, IsWithout, key_of as the_key};
 ghost use Rattle.relation_reference.specs.Remembering.{vid_kind, vid_number};
 
 use crate::context::RefCtxt;
@@ -57,7 +57,7 @@ pub(crate) fn is_lacking<I: Interner>(
     lacking: &Lacking<I::Key>,
 ) -> bool
     requires known { IsTrue (known (part_tree (I.meaning cx.now) part.now)) }
-    requires lacks { Lacks (I.meaning cx.now) (vid_kind var) (vid_number var) ⟦<PartKey<I::Key> as PartialEq>⟧.eq lacking.now }
+    requires lacks { LacksVid (I.meaning cx.now) var ⟦<PartKey<I::Key> as PartialEq>⟧.eq lacking.now }
     ensures { IsTrue result → Occurs (vid_kind var) (vid_number var) (part_tree (I.meaning cx.now) part.now) → ⊥ }
 {
     let _ = cx;
@@ -76,8 +76,8 @@ pub(crate) fn keep_lacking<I: Interner>(
     lacking: &mut Lacking<I::Key>,
 ) -> Result<(), OutOfMemory>
     requires without { IsWithout (I.meaning cx.now) (vid_kind var) (vid_number var) part.now }
-    requires lacks { Lacks (I.meaning cx.now) (vid_kind var) (vid_number var) ⟦<PartKey<I::Key> as PartialEq>⟧.eq lacking.old }
-    ensures { OnOk result (Lacks (I.meaning cx.now) (vid_kind var) (vid_number var) ⟦<PartKey<I::Key> as PartialEq>⟧.eq lacking.new) }
+    requires lacks { LacksVid (I.meaning cx.now) var ⟦<PartKey<I::Key> as PartialEq>⟧.eq lacking.old }
+    ensures { OnOk result (LacksVid (I.meaning cx.now) var ⟦<PartKey<I::Key> as PartialEq>⟧.eq lacking.new) }
 {
     let _ = cx;
     let _ = var;

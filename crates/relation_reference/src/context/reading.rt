@@ -190,7 +190,8 @@ impl<I: Interner> RefCtxt<I> {
     pub fn shallow_resolve_const(&self, constant: &Const<I>) -> Const<I>
         requires lawful { IsLawful (I.meaning self.now.interner) self.now.inner }
         requires const_known { IsTrue (known ((I.meaning self.now.interner).const_ constant.now)) }
-        requires const_in { InContext (store_in I.meaning self.now) ((I.meaning self.now.interner).const_ constant.now) }
+        requires const_in { InContext (store_in I.meaning self.now)
+            ((I.meaning self.now.interner).const_ constant.now) }
         ensures sure { IsTrue (known ((I.meaning self.now.interner).const_ result)) }
         ensures reads { let m = I.meaning self.now.interner in
             IsReadAs (store_in I.meaning self.now) (m.const_ constant.now) (m.const_ result) }

@@ -9,7 +9,7 @@ ghost use Rattle.type_relations.specs.Errors.{StandsOutside};
 ghost use Rattle.type_relations.specs.Covered.{IsCovered};
 ghost use Rattle.relation_reference.specs.Tables.{IsLawful};
 ghost use Rattle.relation_reference.specs.RefCtxt.{store_in, resolved_in};
-ghost use Rattle.relation_reference.specs.Remembering.{Remembers, Lacks, vid_kind, vid_number};
+ghost use Rattle.relation_reference.specs.Remembering.{Remembers, LacksVid, vid_kind, vid_number};
 
 use crate::context::RefCtxt;
 use crate::context::memory::{Lacking, PartKey, Resolutions, TermVid, is_lacking, keep_lacking};
@@ -59,8 +59,8 @@ fn occurs_in<I: Interner>(
 ) -> Result<bool, OutOfMemory>
     requires term_known { IsTrue (known (part_tree (I.meaning cx.now) term.now)) }
     requires term_covered { IsCovered (part_tree (I.meaning cx.now) term.now) }
-    requires lacks { Lacks (I.meaning cx.now) (vid_kind var) (vid_number var) ⟦<PartKey<I::Key> as PartialEq>⟧.eq lacking.old }
-    ensures lacks { OnOk result (Lacks (I.meaning cx.now) (vid_kind var) (vid_number var) ⟦<PartKey<I::Key> as PartialEq>⟧.eq lacking.new) }
+    requires lacks { LacksVid (I.meaning cx.now) var ⟦<PartKey<I::Key> as PartialEq>⟧.eq lacking.old }
+    ensures lacks { OnOk result (LacksVid (I.meaning cx.now) var ⟦<PartKey<I::Key> as PartialEq>⟧.eq lacking.new) }
     ensures stands { IfOk result (λ b. IsTrue b →
         StandsOutside (variable (vid_kind var) (vid_number var)) (part_tree (I.meaning cx.now) term.now)) }
     ensures absent { IfOk result (λ b. IsFalse b →
@@ -137,7 +137,8 @@ impl<I: Interner> RefCtxt<I> {
             InContext (store_in I.meaning self.old) (part_tree m term.now) }
         ensures inner { self.new.inner ≡ self.old.inner }
         ensures grown { Extends (I.meaning self.old.interner) (I.meaning self.new.interner) }
-        ensures remembers { OnOk result (Remembers I.meaning self.new ⟦<PartKey<I::Key> as PartialEq>⟧.eq memory.new) }
+        ensures remembers { OnOk result
+            (Remembers I.meaning self.new ⟦<PartKey<I::Key> as PartialEq>⟧.eq memory.new) }
         ensures sure { IfOk result (λ t. IsTrue (known (part_tree (I.meaning self.new.interner) t))) }
         ensures sort { IfOk result (λ t. part_sort t ≡ part_sort term.now) }
         ensures resolves { IfOk result (λ t. part_tree (I.meaning self.new.interner) t ≡
@@ -169,7 +170,8 @@ impl<I: Interner> RefCtxt<I> {
             resolved_in I.meaning self.old t ≡ over t (resolved_in I.meaning self.old (parts_of t)) }
         ensures inner { self.new.inner ≡ self.old.inner }
         ensures grown { Extends (I.meaning self.old.interner) (I.meaning self.new.interner) }
-        ensures remembers { OnOk result (Remembers I.meaning self.new ⟦<PartKey<I::Key> as PartialEq>⟧.eq memory.new) }
+        ensures remembers { OnOk result
+            (Remembers I.meaning self.new ⟦<PartKey<I::Key> as PartialEq>⟧.eq memory.new) }
         ensures sure { IfOk result (λ t. IsTrue (known (part_tree (I.meaning self.new.interner) t))) }
         ensures sort { IfOk result (λ t. part_sort t ≡ part_sort term.now) }
         ensures resolves { IfOk result (λ t. part_tree (I.meaning self.new.interner) t ≡
@@ -212,7 +214,8 @@ impl<I: Interner> RefCtxt<I> {
     ) -> Result<Const<I>, OutOfMemory>
         requires lawful { IsLawful (I.meaning self.old.interner) self.old.inner }
         requires const_known { IsTrue (known ((I.meaning self.old.interner).const_ constant.now)) }
-        requires const_in { InContext (store_in I.meaning self.old) ((I.meaning self.old.interner).const_ constant.now) }
+        requires const_in { InContext (store_in I.meaning self.old)
+            ((I.meaning self.old.interner).const_ constant.now) }
         ensures inner { self.new.inner ≡ self.old.inner }
         ensures grown { Extends (I.meaning self.old.interner) (I.meaning self.new.interner) }
         ensures sure { IfOk result (λ t. IsTrue (known ((I.meaning self.new.interner).const_ t))) }

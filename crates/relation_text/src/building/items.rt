@@ -25,6 +25,7 @@ fn item_form<I: Interner>(sort: ItemSort, id: I::Id, args: GenericArgs<I>) -> Op
         ItemSort::CoroutineClosure => {
             Some(TyKind::CoroutineClosure(CoroutineClosureId(id), args))
         }
+        ItemSort::CoroutineWitness => Some(TyKind::CoroutineWitness(CoroutineId(id), args)),
         _ => None,
     }
 }

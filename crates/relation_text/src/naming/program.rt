@@ -168,6 +168,13 @@ pub enum QuestionKind {
         term: usize,
         skips: Parts,
     },
+    /// What has to outlive a region for a type to outlive it.
+    Components(usize),
+    /// What follows from terms that are assumed to outlive regions, each the one at its place in its list.
+    Assumptions {
+        terms: Parts,
+        regions: Parts,
+    },
     /// What comes of a term where others are put for its parts, those of a range of the program's list.
     Fold {
         term: usize,

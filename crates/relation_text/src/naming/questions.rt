@@ -96,13 +96,13 @@ impl<'a> Namer<'a> {
 
     // What is asked about one term.
     fn ask_about(&mut self, node: &Node, form: Form, term: usize) -> Result<(), NameError> {
-        let sort = if form == Form::Rigid {
-            Some(Sort::Type)
-        } else {
-            None
+        let sort = match form {
+            Form::Components | Form::Rigid => Some(Sort::Type),
+            _ => None,
         };
         let term = self.term(node, term, sort)?.number;
         let kind = match form {
+            Form::Components => QuestionKind::Components(term),
             Form::Escapes => QuestionKind::Escapes(term),
             Form::Infers => QuestionKind::Infers(term),
             Form::Rigid => QuestionKind::Rigid(term),
@@ -141,15 +141,16 @@ impl<'a> Namer<'a> {
             (Form::Question(variance), [lhs, rhs]) => self.ask_related(node, variance, *lhs, *rhs),
             (Form::Visit, [term, skip, stop]) => self.ask_visit(node, *term, *skip, *stop),
             (Form::Walk, _) => self.ask_walk(node, parts),
+            (Form::Assumptions, _) => self.ask_assumptions(node, parts),
             (Form::Fold, _) => self.ask_fold(node, parts),
-            (Form::Escapes | Form::Infers | Form::Rigid, [term]) => {
+            (Form::Components | Form::Escapes | Form::Infers | Form::Rigid, [term]) => {
                 self.ask_about(node, form, *term)
             }
             (Form::MayUnify(_) | Form::ArgsMayUnify(_) | Form::ArgsEqual | Form::Key(_), _) =>
                 self.ask_quickly(node, form, parts),
             (Form::Then, [_]) => self.ask_then(node),
             (Form::Repeat, [times, _]) => self.ask_again(node, *times),
-            (Form::Terms | Form::Put | Form::Error, _) => Ok(()),
+            (Form::Terms | Form::Put | Form::Outlives | Form::Error, _) => Ok(()),
             _ => Err(error_at(node, Wrong::NotRead)),
         }
     }

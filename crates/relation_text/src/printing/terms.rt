@@ -486,7 +486,7 @@ fn write_term<I: Interner, W: Write>(
 }
 
 // The id of an alias.
-fn alias_id<D: Copy>(kind: &AliasTyKind<D>) -> D
+pub(super) fn alias_id<D: Copy>(kind: &AliasTyKind<D>) -> D
     ensures { result ≡ alias_id kind.now }
 {
     match kind {
@@ -500,7 +500,7 @@ fn alias_id<D: Copy>(kind: &AliasTyKind<D>) -> D
 // Writes an item over its arguments: an associated item of a trait by the trait, any other by its name.
 #[cycle(write_ty)]
 #[tactic(auto, using(crate::proofs::Parts::size_part, crate::proofs::Parts::known_part))]
-fn write_item<I: Interner, W: Write>(
+pub(super) fn write_item<I: Interner, W: Write>(
     cx: &I,
     texts: &TextsOf<I>,
     around: &[Entered],

@@ -3,9 +3,11 @@ ghost use Rattle.std.specs.Prelude.{IsTrue};
 ghost use Rattle.relation_terms.specs.Trees.{known};
 ghost use Rattle.relation_terms.specs.Meaning.{arg_tree};
 
-use crate::printing::names::{TextsOf, item_text};
+use crate::printing::names::{TextsOf, item_text, name_text};
 use crate::printing::{leaves, terms};
-use relation_terms::terms::{Const, GenericArg, Interner, ItemOf, Region, Ty};
+use relation_terms::terms::{
+    AliasTy, Const, GenericArg, InferTy, Interner, ItemOf, ParamTy, PlaceholderType, Region, Ty,
+};
 use std::fmt::{self, Write};
 
 /// Writes a type. A parameter or an item that has no text is `_`, a region parameter `'_`.
@@ -81,4 +83,58 @@ pub fn write_item_name<I: Interner, W: Write>(
     out: &mut W,
 ) -> fmt::Result {
     out.write_str(item_text(texts.items, &item.0))
+}
+
+/// Writes a parameter that stands for a type. One that has no text is `_`.
+///
+/// # Errors
+/// `fmt::Error` where `out` refused to take the text.
+pub fn write_param<I: Interner, W: Write>(
+    texts: &TextsOf<I>,
+    param: &ParamTy<I::Name>,
+    out: &mut W,
+) -> fmt::Result {
+    out.write_str(name_text(texts.names, &param.name, "_"))
+}
+
+/// Writes a placeholder that stands for a type: `!`, the number of its universe, and its name, or `_` if that has no text.
+///
+/// # Errors
+/// `fmt::Error` where `out` refused to take some of the text. What it took before stands.
+pub fn write_placeholder<I: Interner, W: Write>(
+    texts: &TextsOf<I>,
+    placeholder: &PlaceholderType<I::Name>,
+    out: &mut W,
+) -> fmt::Result {
+    leaves::write_placeholder(
+        texts.names,
+        placeholder.universe,
+        &placeholder.bound.name,
+        out,
+    )
+}
+
+/// Writes a variable that stands for a type.
+///
+/// # Errors
+/// `fmt::Error` where `out` refused to take some of the text. What it took before stands.
+pub fn write_variable<W: Write>(variable: InferTy, out: &mut W) -> fmt::Result {
+    leaves::write_variable(variable, out)
+}
+
+/// Writes an alias of a type over its arguments. An item that has no text is `_`.
+///
+/// # Errors
+/// `fmt::Error` where `out` refused to take some of the text, or memory for the list of binders around a part was
+/// refused. What `out` took before stands.
+pub fn write_alias<I: Interner, W: Write>(
+    cx: &I,
+    texts: &TextsOf<I>,
+    alias: &AliasTy<I::Key, I::Id>,
+    out: &mut W,
+) -> fmt::Result
+    requires { IsTrue (known ((I.meaning cx.now).args (alias.now).args)) }
+{
+    let id = terms::alias_id(&alias.kind);
+    terms::write_item(cx, texts, &[], &id, &alias.args, out)
 }

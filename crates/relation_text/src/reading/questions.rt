@@ -6,6 +6,7 @@ ghost use Rattle.relation_text.specs.Signs.{relation_sign};
 ghost use Rattle.relation_text.specs.Reads.{GoesOn, AddsRoots, Makes};
 
 use crate::reading::error::{Expected, ReadError};
+use crate::reading::outlives::read_assumptions;
 use crate::reading::quick::{read_key, read_lists, read_may_unify};
 use crate::reading::reader::Reader;
 use crate::reading::signs::Sign;
@@ -134,6 +135,12 @@ fn read_asked(reader: &mut Reader) -> Result<usize, ReadError>
     }
     if reader.accept(Sign::Walk) {
         return read_walk(reader, start);
+    }
+    if reader.accept(Sign::Components) {
+        return read_about(reader, start, Form::Components);
+    }
+    if reader.accept(Sign::Assumptions) {
+        return read_assumptions(reader, start);
     }
     if reader.accept(Sign::Fold) {
         return read_fold(reader, start);

@@ -28,16 +28,19 @@ pub enum Sign {
     UpTo,
     Arrow,
     Dots,
+    Colon,
     PathSep,
     AbiC,
     AbiSystem,
     After,
     Args,
     As,
+    Assumptions,
     At,
     Auto,
     Budget,
     Closure,
+    Components,
     Const,
     Coroutine,
     Dyn,
@@ -74,6 +77,7 @@ pub enum Sign {
     Visit,
     Walk,
     With,
+    Witness,
 }
 
 impl Sign {
@@ -105,16 +109,19 @@ impl Sign {
             Sign::UpTo => "..=",
             Sign::Arrow => "->",
             Sign::Dots => "..",
+            Sign::Colon => ":",
             Sign::PathSep => "::",
             Sign::AbiC => "\"C\"",
             Sign::AbiSystem => "\"system\"",
             Sign::After => "after",
             Sign::Args => "args",
             Sign::As => "as",
+            Sign::Assumptions => "assumptions",
             Sign::At => "at",
             Sign::Auto => "auto",
             Sign::Budget => "budget",
             Sign::Closure => "closure",
+            Sign::Components => "components",
             Sign::Const => "const",
             Sign::Coroutine => "coroutine",
             Sign::Dyn => "dyn",
@@ -151,19 +158,22 @@ impl Sign {
             Sign::Visit => "visit",
             Sign::Walk => "walk",
             Sign::With => "with",
+            Sign::Witness => "witness",
         }
     }
 }
 
 // The words of the language, each of which is written as a name would be.
-const RESERVED: [Sign; 43] = [
+const RESERVED: [Sign; 46] = [
     Sign::After,
     Sign::Args,
     Sign::As,
+    Sign::Assumptions,
     Sign::At,
     Sign::Auto,
     Sign::Budget,
     Sign::Closure,
+    Sign::Components,
     Sign::Const,
     Sign::Coroutine,
     Sign::Dyn,
@@ -200,6 +210,7 @@ const RESERVED: [Sign; 43] = [
     Sign::Visit,
     Sign::Walk,
     Sign::With,
+    Sign::Witness,
 ];
 
 // The word of the language that is written so.
@@ -265,6 +276,7 @@ pub(super) fn mark_of_one(byte: u8) -> Option<Sign>
         b'{' => Some(Sign::LeftBrace),
         b'}' => Some(Sign::RightBrace),
         b',' => Some(Sign::Comma),
+        b':' => Some(Sign::Colon),
         b';' => Some(Sign::Semicolon),
         b'=' => Some(Sign::Assign),
         b'&' => Some(Sign::Ampersand),

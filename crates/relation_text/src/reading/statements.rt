@@ -1,5 +1,5 @@
 //! How statements are read.
-ghost use Rattle.std.specs.Prelude.{◌≡◌, ◌+◌, ◌<◌, ◌≤◌, ◌↔◌, Err, Some, IfSome, IfNone, IfOk, IfErr, OnOk, length, suc};
+ghost use Rattle.std.specs.Prelude.{◌≡◌, ◌+◌, ◌<◌, ◌≤◌, ◌↔◌, ◌⊎◌, Err, Some, IfSome, IfNone, IfOk, IfErr, OnOk, length, suc};
 ghost use Rattle.relation_text.specs.Errors.{LiesIn};
 ghost use Rattle.relation_text.specs.Words.{StandsAt};
 ghost use Rattle.relation_text.specs.Trees.{EachBelow};
@@ -81,7 +81,8 @@ fn read_sort(reader: &mut Reader) -> Result<Option<ItemSort>, ReadError>
     ensures sort { IfOk result (λ o. IfSome o (λ s. StandFrom reader.old.words.items reader.old.at (sort_signs s))) }
     ensures over { IfOk result (λ o. IfSome o (λ s. reader.new.at ≡ reader.old.at + length (sort_signs s))) }
     ensures alone { IfOk result (λ o. o ≡ Some ItemSort.Coroutine →
-        StandsAt reader.old.words.items reader.new.at Sign.Closure → ⊥) }
+        StandsAt reader.old.words.items reader.new.at Sign.Closure ⊎
+        StandsAt reader.old.words.items reader.new.at Sign.Witness → ⊥) }
     ensures none { IfOk result (λ o. IfNone o ((s : ItemSort) →
         StandFrom reader.old.words.items reader.old.at (sort_signs s) → ⊥)) }
     ensures stays { IfOk result (λ o. IfNone o (reader.new.at ≡ reader.old.at)) }
@@ -102,6 +103,9 @@ fn read_sort(reader: &mut Reader) -> Result<Option<ItemSort>, ReadError>
     if reader.accept(Sign::Coroutine) {
         if reader.accept(Sign::Closure) {
             return Ok(Some(ItemSort::CoroutineClosure));
+        }
+        if reader.accept(Sign::Witness) {
+            return Ok(Some(ItemSort::CoroutineWitness));
         }
         return Ok(Some(ItemSort::Coroutine));
     }

@@ -14,6 +14,8 @@ pub enum ItemSort {
     Closure,
     Coroutine,
     CoroutineClosure,
+    /// What a coroutine holds while it rests.
+    CoroutineWitness,
     Foreign,
     Trait,
     /// A trait that a type has unless it is said not to.
@@ -76,6 +78,12 @@ pub enum Form {
     Visit,
     /// What a walk of a term yields: the walked term, and after how many pulls what is under the last is skipped.
     Walk,
+    /// What has to outlive a region for a type to outlive it.
+    Components,
+    /// What follows from terms that are assumed to outlive regions: an `Outlives` for each.
+    Assumptions,
+    /// A term, and the region that it outlives.
+    Outlives,
     /// What comes of a term where others are put for its parts: the term, and a `Put` for each.
     Fold,
     /// Whether a variable stands in a term that a binder outside it binds.

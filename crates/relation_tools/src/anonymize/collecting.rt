@@ -9,7 +9,7 @@ ghost use Rattle.relation_terms.specs.Orders.{in_order, list_order};
 ghost use Rattle.relation_terms.specs.Fields.{field_tree, fields_tree};
 ghost use Rattle.relation_terms.specs.Predicates.{predicate_kind_tree};
 ghost use Rattle.relation_tools.specs.Anonymous.{here, uses, with_vars, used_vars as the_used_vars};
-ghost use Rattle.relation_tools.specs.UsedParts.{AllIn, Remembered};
+ghost use Rattle.relation_tools.specs.UsedParts.{AllIn, Remembered, AreRemembered};
 
 use crate::anonymize::used::{UsedVar, add};
 use crate::fold::{Place, depth_inside, place_of};
@@ -141,11 +141,11 @@ fn collect_part<I: Interner>(
     met: &mut Met<I>,
 ) -> Result<(), OutOfMemory>
     requires known { IsTrue (known (part_tree (I.meaning cx.now) part.now)) }
-    requires remembered { Remembered (I.meaning cx.now) vars.old.items ⟦<Place<I::Key> as PartialEq>⟧.eq met.old.keys }
+    requires remembered { AreRemembered (I.meaning cx.now) vars.old ⟦<Place<I::Key> as PartialEq>⟧.eq met.old }
     ensures collects { OnOk result
         (vars.new.items ≡ with_vars vars.old.items (uses depth (part_tree (I.meaning cx.now) part.now))) }
     ensures remembered { OnOk result
-        (Remembered (I.meaning cx.now) vars.new.items ⟦<Place<I::Key> as PartialEq>⟧.eq met.new.keys) }
+        (AreRemembered (I.meaning cx.now) vars.new ⟦<Place<I::Key> as PartialEq>⟧.eq met.new) }
 {
     if was_met(cx, part, depth, vars, met) {
         return Ok(());
@@ -164,11 +164,11 @@ fn collect_new<I: Interner>(
     met: &mut Met<I>,
 ) -> Result<(), OutOfMemory>
     requires known { IsTrue (known (part_tree (I.meaning cx.now) part.now)) }
-    requires remembered { Remembered (I.meaning cx.now) vars.old.items ⟦<Place<I::Key> as PartialEq>⟧.eq met.old.keys }
+    requires remembered { AreRemembered (I.meaning cx.now) vars.old ⟦<Place<I::Key> as PartialEq>⟧.eq met.old }
     ensures collects { OnOk result
         (vars.new.items ≡ with_vars vars.old.items (uses depth (part_tree (I.meaning cx.now) part.now))) }
     ensures remembered { OnOk result
-        (Remembered (I.meaning cx.now) vars.new.items ⟦<Place<I::Key> as PartialEq>⟧.eq met.new.keys) }
+        (AreRemembered (I.meaning cx.now) vars.new ⟦<Place<I::Key> as PartialEq>⟧.eq met.new) }
 {
     match part_var(cx, part, depth) {
         Some(var) => add(vars, var),
@@ -189,12 +189,12 @@ fn collect_list<I: Interner>(
     met: &mut Met<I>,
 ) -> Result<(), OutOfMemory>
     requires known { IsTrue (known (parts_tree (I.meaning cx.now) parts.now)) }
-    requires remembered { Remembered (I.meaning cx.now) vars.old.items ⟦<Place<I::Key> as PartialEq>⟧.eq met.old.keys }
+    requires remembered { AreRemembered (I.meaning cx.now) vars.old ⟦<Place<I::Key> as PartialEq>⟧.eq met.old }
     ensures is_list { IsList (parts_tree (I.meaning cx.now) parts.now) }
     ensures collects { OnOk result (vars.new.items ≡ with_vars vars.old.items
         (uses depth (in_order (list_order parts.now) (parts_tree (I.meaning cx.now) parts.now)))) }
     ensures remembered { OnOk result
-        (Remembered (I.meaning cx.now) vars.new.items ⟦<Place<I::Key> as PartialEq>⟧.eq met.new.keys) }
+        (AreRemembered (I.meaning cx.now) vars.new ⟦<Place<I::Key> as PartialEq>⟧.eq met.new) }
 {
     let count = member_count(cx, parts);
     for step in 0..count {
@@ -212,11 +212,11 @@ fn collect_field<I: Interner>(
     met: &mut Met<I>,
 ) -> Result<(), OutOfMemory>
     requires known { IsTrue (known (field_tree (I.meaning cx.now) field.now)) }
-    requires remembered { Remembered (I.meaning cx.now) vars.old.items ⟦<Place<I::Key> as PartialEq>⟧.eq met.old.keys }
+    requires remembered { AreRemembered (I.meaning cx.now) vars.old ⟦<Place<I::Key> as PartialEq>⟧.eq met.old }
     ensures collects { OnOk result
         (vars.new.items ≡ with_vars vars.old.items (uses 0 (field_tree (I.meaning cx.now) field.now))) }
     ensures remembered { OnOk result
-        (Remembered (I.meaning cx.now) vars.new.items ⟦<Place<I::Key> as PartialEq>⟧.eq met.new.keys) }
+        (AreRemembered (I.meaning cx.now) vars.new ⟦<Place<I::Key> as PartialEq>⟧.eq met.new) }
 {
     match field {
         Field::Region(region) => collect_part(cx, &Part::Region(*region), 0, vars, met),
@@ -235,7 +235,7 @@ fn collect_fields<I: Interner>(
     met: &mut Met<I>,
 ) -> Result<(), OutOfMemory>
     requires known { IsTrue (known (fields_tree (I.meaning cx.now) fields.now)) }
-    requires remembered { Remembered (I.meaning cx.now) vars.old.items ⟦<Place<I::Key> as PartialEq>⟧.eq met.old.keys }
+    requires remembered { AreRemembered (I.meaning cx.now) vars.old ⟦<Place<I::Key> as PartialEq>⟧.eq met.old }
     ensures { OnOk result
         (vars.new.items ≡ with_vars vars.old.items (uses 0 (fields_tree (I.meaning cx.now) fields.now))) }
 {

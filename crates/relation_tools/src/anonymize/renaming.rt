@@ -129,8 +129,8 @@ impl<'a, I: Interner> TypeFolder<I> for Renamer<'a, I::Name> {
     ghost replaces_on = { λ m n e f h d t. renames_stays e f.name f.used.now d t };
 }
 
-/// A body with the variables of the binder around it that stand in a list put at their places there, by one name for all.
-/// The interner has to know the body.
+/// A body with the variables of the binder around it that stand in a list put at their places there, by one name for
+/// all. The interner has to know the body.
 pub fn rename_bound_vars<I: Interner, T: TypeFoldable<I>>(
     cx: &mut I,
     body: &T,

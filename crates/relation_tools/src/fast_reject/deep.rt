@@ -4,9 +4,9 @@ ghost use Rattle.relation_terms.specs.Trees.{known};
 ghost use Rattle.relation_tools.specs.Clashes.{Clash};
 ghost use Rattle.relation_tools.specs.Instances.{NoCommonInstance};
 
-use crate::fast_reject::forms::STARTING_DEPTH;
-use crate::fast_reject::walk::{Sides, parts_may_unify, types_may_unify};
-use relation_terms::terms::{GenericArgs, Interner, Parts, Ty};
+use crate::fast_reject::forms::{STARTING_DEPTH, Sides};
+use crate::fast_reject::walk::{args_may_unify, types_may_unify};
+use relation_terms::terms::{GenericArgs, Interner, Ty};
 use std::alloc::AllocError;
 use std::marker::PhantomData;
 
@@ -76,9 +76,9 @@ impl<
             left: INSTANTIATE_LHS_WITH_INFER,
             right: INSTANTIATE_RHS_WITH_INFER,
         };
-        let left = Parts::Args(*obligation_args);
-        let right = Parts::Args(*impl_args);
-        parts_may_unify(cx, sides, &left, &right, STARTING_DEPTH)
+        let left = cx.args(obligation_args);
+        let right = cx.args(impl_args);
+        args_may_unify(cx, sides, left, right, STARTING_DEPTH)
     }
 
     /// Whether two types may unify, as far as a depth of 8 goes. The interner has to know both.

@@ -229,8 +229,8 @@ pub fn simplify_type<I: Interner>(
         head_key (m.tables).is_auto (m.tables).next_solver treat_params (m.ty ty.now) }
 {
     let kind = cx.ty_kind(ty);
-    if let TyKind::Pat(base, _) = &kind {
-        return simplify_type(cx, base, treat_params);
+    if let TyKind::Pat(base, _) = kind {
+        return simplify_type(cx, &base, treat_params);
     }
     form_key(cx, ty, &kind, treat_params)
 }

@@ -1,21 +1,14 @@
-//! The depth test over two terms: one loop over the parts of both, whatever their forms are.
+//! The depth test over two types, and over lists of types and of arguments, pair by pair.
 ghost use Rattle.std.specs.Prelude.{◌↔◌, IsTrue, IsFalse};
-ghost use Rattle.relation_terms.specs.Trees.{known};
-ghost use Rattle.relation_terms.specs.Parts.{part_tree, parts_tree};
+ghost use Rattle.relation_terms.specs.Trees.{known, list_tree};
+ghost use Rattle.relation_terms.specs.Meaning.{arg_tree};
 ghost use Rattle.relation_tools.specs.Clashes.{Clash};
+ghost use Rattle.relation_tools.specs.Pairs.{ClashIn, KnownPair};
 
-use crate::fast_reject::forms::{are_alike, depth_within, is_flexible_const, may_stand_for};
-use relation_terms::terms::parts::{member, member_count, parts_of};
-use relation_terms::terms::{
-    Const, ConstKind, Interner, Part, PartOf, Parts, PartsOf, Ty, ValTree, ValTreeKind,
-};
-
-/// On which sides parameters may stand for other terms.
-#[derive(Clone, Copy)]
-pub struct Sides {
-    pub left: bool,
-    pub right: bool,
-}
+use crate::fast_reject::consts::consts_may_unify;
+use crate::fast_reject::forms::{Sides, depth_within, may_stand_for};
+use crate::fast_reject::pairs::{Pair, paired};
+use relation_terms::terms::{GenericArg, GenericArgKind, Interner, Ty};
 
 /// Whether two types may unify: true at a depth of 0, if nothing tells otherwise.
 #[cycle(clashes)]
@@ -45,151 +38,104 @@ pub fn types_may_unify<I: Interner>(
     if let Some(may) = may_stand_for(cx, &left, sides.left, rhs) {
         return may;
     }
-    if !are_alike(cx, &left, &right) {
-        return false;
-    }
     let inner = depth_within(cx, &left, depth - 1);
-    let left_parts = parts_of(cx, &Part::Ty(*lhs));
-    let right_parts = parts_of(cx, &Part::Ty(*rhs));
-    parts_may_unify(cx, sides, &left_parts, &right_parts, inner)
+    pair_may_unify(cx, sides, paired(cx, &left, &right), inner)
 }
 
-// Whether two constants may unify. They take nothing from the depth.
+// Whether what is compared inside of two types may unify.
 #[cycle(clashes)]
-fn consts_may_unify<I: Interner>(
-    cx: &I,
-    sides: Sides,
-    lhs: &Const<I>,
-    rhs: &Const<I>,
-    depth: usize,
-) -> bool
-    requires lhs_known { IsTrue (known ((I.meaning cx.now).const_ lhs.now)) }
-    requires rhs_known { IsTrue (known ((I.meaning cx.now).const_ rhs.now)) }
-    ensures { IsFalse result ↔
-        Clash sides.left sides.right depth ((I.meaning cx.now).const_ lhs.now) ((I.meaning cx.now).const_ rhs.now) }
+fn pair_may_unify<I: Interner>(cx: &I, sides: Sides, pair: Pair<I::Key>, depth: usize) -> bool
+    requires { KnownPair (I.meaning cx.now) pair }
+    ensures { IsFalse result ↔ ClashIn (I.meaning cx.now) sides.left sides.right depth pair }
 {
-    if lhs == rhs {
-        return true;
+    match pair {
+        Pair::Apart => false,
+        Pair::Nothing => true,
+        Pair::Types(lhs, rhs) => types_may_unify(cx, sides, &lhs, &rhs, depth),
+        Pair::Arrays(lhs, rhs, len, length) => {
+            if !types_may_unify(cx, sides, &lhs, &rhs, depth) {
+                return false;
+            }
+            consts_may_unify(cx, sides, &len, &length, depth)
+        }
+        Pair::Lists(tys, others) => tys_may_unify(cx, sides, cx.tys(&tys), cx.tys(&others), depth),
+        Pair::Args(args, others) => {
+            let list = cx.args(&args);
+            let other_list = cx.args(&others);
+            args_may_unify(cx, sides, list, other_list, depth)
+        }
     }
-    let left = cx.const_kind(lhs);
-    let right = cx.const_kind(rhs);
-    if is_flexible_const(cx, &right, sides.right) {
-        return true;
-    }
-    if is_flexible_const(cx, &left, sides.left) {
-        return true;
-    }
-    let ConstKind::Value(_, left_value) = &left else {
-        return false;
-    };
-    let ConstKind::Value(_, right_value) = &right else {
-        return false;
-    };
-    valtrees_may_unify(cx, sides, left_value, right_value, depth)
 }
 
-// Whether two value trees may unify: the same bits, or as many branches that may, pair by pair.
+// Whether the types of two lists may unify, pair by pair, as far as the shorter one goes.
 #[cycle(clashes)]
-fn valtrees_may_unify<I: Interner>(
+fn tys_may_unify<I: Interner>(
     cx: &I,
     sides: Sides,
-    lhs: &ValTree<I>,
-    rhs: &ValTree<I>,
+    left: &[Ty<I>],
+    right: &[Ty<I>],
     depth: usize,
 ) -> bool
-    requires lhs_known { IsTrue (known ((I.meaning cx.now).valtree lhs.now)) }
-    requires rhs_known { IsTrue (known ((I.meaning cx.now).valtree rhs.now)) }
-    ensures { IsFalse result ↔
-        Clash sides.left sides.right depth ((I.meaning cx.now).valtree lhs.now) ((I.meaning cx.now).valtree rhs.now) }
-{
-    if lhs == rhs {
-        return true;
-    }
-    let left = cx.valtree_kind(lhs);
-    let right = cx.valtree_kind(rhs);
-    let ValTreeKind::Branch(left_branches) = &left else {
-        return false;
-    };
-    let ValTreeKind::Branch(right_branches) = &right else {
-        return false;
-    };
-    let left_parts = Parts::Branches(*left_branches);
-    let right_parts = Parts::Branches(*right_branches);
-    if member_count(cx, &left_parts) != member_count(cx, &right_parts) {
-        return false;
-    }
-    parts_may_unify(cx, sides, &left_parts, &right_parts, depth)
-}
-
-// Whether two parts may unify: types, constants, and what stands between a type and its types. All else may.
-#[cycle(clashes)]
-fn part_may_unify<I: Interner>(
-    cx: &I,
-    sides: Sides,
-    left: &PartOf<I>,
-    right: &PartOf<I>,
-    depth: usize,
-) -> bool
-    requires left_known { IsTrue (known (part_tree (I.meaning cx.now) left.now)) }
-    requires right_known { IsTrue (known (part_tree (I.meaning cx.now) right.now)) }
+    requires left_known { IsTrue (known (list_tree (I.meaning cx.now).ty left.now)) }
+    requires right_known { IsTrue (known (list_tree (I.meaning cx.now).ty right.now)) }
     ensures { IsFalse result ↔ Clash sides.left sides.right depth
-        (part_tree (I.meaning cx.now) left.now) (part_tree (I.meaning cx.now) right.now) }
+        (list_tree (I.meaning cx.now).ty left.now) (list_tree (I.meaning cx.now).ty right.now) }
+{
+    for i in 0..left.len().min(right.len()) {
+        if !types_may_unify(cx, sides, &left[i], &right[i], depth) {
+            return false;
+        }
+    }
+    true
+}
+
+// Whether two arguments may unify: types and constants. Regions may, and so may arguments of unlike sorts.
+#[cycle(clashes)]
+fn arg_may_unify<I: Interner>(
+    cx: &I,
+    sides: Sides,
+    left: &GenericArg<I>,
+    right: &GenericArg<I>,
+    depth: usize,
+) -> bool
+    requires left_known { IsTrue (known (arg_tree (I.meaning cx.now) left.now)) }
+    requires right_known { IsTrue (known (arg_tree (I.meaning cx.now) right.now)) }
+    ensures { IsFalse result ↔ Clash sides.left sides.right depth
+        (arg_tree (I.meaning cx.now) left.now) (arg_tree (I.meaning cx.now) right.now) }
 {
     match left {
-        Part::Ty(lhs) => {
-            let Part::Ty(rhs) = right else {
+        GenericArgKind::Ty(lhs) => {
+            let GenericArgKind::Ty(rhs) = right else {
                 return true;
             };
             types_may_unify(cx, sides, lhs, rhs, depth)
         }
-        Part::Const(lhs) => {
-            let Part::Const(rhs) = right else {
+        GenericArgKind::Const(lhs) => {
+            let GenericArgKind::Const(rhs) = right else {
                 return true;
             };
             consts_may_unify(cx, sides, lhs, rhs, depth)
         }
-        Part::ValTree(lhs) => {
-            let Part::ValTree(rhs) = right else {
-                return true;
-            };
-            valtrees_may_unify(cx, sides, lhs, rhs, depth)
-        }
-        Part::Binder(..) | Part::Signature(_) | Part::Inputs(_) => {
-            let left_parts = parts_of(cx, left);
-            let right_parts = parts_of(cx, right);
-            parts_may_unify(cx, sides, &left_parts, &right_parts, depth)
-        }
-        Part::Region(_)
-        | Part::Pat(_)
-        | Part::ValueType(_)
-        | Part::Existential(_)
-        | Part::Object(_) => true,
+        GenericArgKind::Lifetime(_) => true,
     }
 }
 
-/// Whether the members of two lists may unify, pair by pair, as far as the shorter one goes.
+/// Whether the arguments of two lists may unify, pair by pair, as far as the shorter one goes.
 #[cycle(clashes)]
-pub fn parts_may_unify<I: Interner>(
+pub fn args_may_unify<I: Interner>(
     cx: &I,
     sides: Sides,
-    left: &PartsOf<I>,
-    right: &PartsOf<I>,
+    left: &[GenericArg<I>],
+    right: &[GenericArg<I>],
     depth: usize,
 ) -> bool
-    requires left_known { IsTrue (known (parts_tree (I.meaning cx.now) left.now)) }
-    requires right_known { IsTrue (known (parts_tree (I.meaning cx.now) right.now)) }
+    requires left_known { IsTrue (known (list_tree (arg_tree (I.meaning cx.now)) left.now)) }
+    requires right_known { IsTrue (known (list_tree (arg_tree (I.meaning cx.now)) right.now)) }
     ensures { IsFalse result ↔ Clash sides.left sides.right depth
-        (parts_tree (I.meaning cx.now) left.now) (parts_tree (I.meaning cx.now) right.now) }
+        (list_tree (arg_tree (I.meaning cx.now)) left.now) (list_tree (arg_tree (I.meaning cx.now)) right.now) }
 {
-    let count = member_count(cx, left).min(member_count(cx, right));
-    for i in 0..count {
-        if !part_may_unify(
-            cx,
-            sides,
-            &member(cx, left, i),
-            &member(cx, right, i),
-            depth,
-        ) {
+    for i in 0..left.len().min(right.len()) {
+        if !arg_may_unify(cx, sides, &left[i], &right[i], depth) {
             return false;
         }
     }

@@ -22,7 +22,8 @@ pub fn shift_vars<I: Interner, T: TypeFoldable<I>>(
     requires known { IsTrue (known (T.tree (I.meaning cx.old) term.now)) }
     ensures grown { Extends (I.meaning cx.old) (I.meaning cx.new) }
     ensures sure { IfOk result (λ x. IsTrue (known (T.tree (I.meaning cx.new) x))) }
-    ensures made { IfOk result (λ x. T.tree (I.meaning cx.new) x ≡ shifted amount (T.tree (I.meaning cx.old) term.now)) }
+    ensures made { IfOk result (λ x.
+        T.tree (I.meaning cx.new) x ≡ shifted amount (T.tree (I.meaning cx.old) term.now)) }
 {
     term.fold_with(cx, &mut Shifter { amount })
 }

@@ -1,6 +1,7 @@
 //! The walk of a folder through a term: one loop over the parts of all forms, so that no folder folds by itself.
 //!
-//! What was made of a part is kept for the length of a call, so the walk takes as many steps as there are different parts.
+//! What was made of a part is kept for the length of a call, so the walk takes as many steps as there are different
+//! parts.
 //!
 //! The part of a binder stands one binder deeper, and all others as deep as the term that they are parts of.
 ghost use Rattle.std.specs.Prelude.{◌≡◌, IsTrue, IfOk, option_map};

@@ -50,7 +50,8 @@ impl<T: Drop> Stack<T> {
 
     /// Takes the top element off.
     pub fn pop(&mut self) -> Option<T>
-        ensures { MatchOption result ((self.old ≡ []) × (self.new ≡ [])) (λ item. self.old ≡ item ∷ self.new) }
+        ensures { MatchOption result ((self.old ≡ []) × (self.new ≡ []))
+            (λ item. self.old ≡ item ∷ self.new) }
     {
         self.places.pop().flatten()
     }

@@ -126,13 +126,13 @@ fn relate_args<I: Interner, R: TypeRelation<I>>(
     make_args(r, answers.as_slice())
 }
 
-/// Relates two lists of as many arguments invariantly, seen from the ambient variance, and answers the list of what they
-/// answered.
+/// Relates two lists of as many arguments invariantly, seen from the ambient variance, and answers the list of what
+/// they answered.
 ///
 /// Both are the relation's, which takes them at the ambient variance; that is not `Bivariant`.
 ///
-/// Answers `Unrelated` with the error of the first pair that is not related, and only where no assignment made the lists
-/// one; `Budget` only where no instantiation is left, and `Memory` where a growth was refused.
+/// Answers `Unrelated` with the error of the first pair that is not related, and only where no assignment made the
+/// lists one; `Budget` only where no instantiation is left, and `Memory` where a growth was refused.
 pub fn relate_args_invariantly<I: Interner, R: TypeRelation<I>>(
     r: &mut R,
     a: &GenericArgs<I>,
@@ -147,14 +147,14 @@ pub fn relate_args_invariantly<I: Interner, R: TypeRelation<I>>(
     relate_args(r, &ArgVariances::Invariant, a, b)
 }
 
-/// Relates two lists of as many arguments at the variances that an item declares, seen from the ambient one, and answers
-/// the list of what they answered. Arguments that the item declares bivariant are not looked at, unless the ambient
-/// variance is `Invariant`.
+/// Relates two lists of as many arguments at the variances that an item declares, seen from the ambient one, and
+/// answers the list of what they answered. Arguments that the item declares bivariant are not looked at, unless the
+/// ambient variance is `Invariant`.
 ///
 /// Both are the relation's, which takes them at the ambient variance; that is not `Bivariant`.
 ///
-/// Answers `Unrelated` with the error of the first pair that is not related, and only where no assignment made the lists
-/// one; `Budget` only where no instantiation is left, and `Memory` where a growth was refused.
+/// Answers `Unrelated` with the error of the first pair that is not related, and only where no assignment made the
+/// lists one; `Budget` only where no instantiation is left, and `Memory` where a growth was refused.
 pub fn relate_args_with_variances<I: Interner, R: TypeRelation<I>>(
     r: &mut R,
     def_id: &ItemOf<I>,
@@ -224,9 +224,9 @@ fn item_variances<I: Interner, R: TypeRelation<I>>(
 /// theirs, with as many arguments. `mk` is handed the relation's interner, which has only grown, and makes of a known
 /// list the type of their form over it, or answers want of memory.
 ///
-/// Answers `Unrelated` with the error of the first pair that is not related, and only where no assignment made the types
-/// one; `Budget` only where no instantiation is left, and `Memory` where a growth was refused, by `mk` too. Upstream
-/// this is a call of the relation.
+/// Answers `Unrelated` with the error of the first pair that is not related, and only where no assignment made the
+/// types one; `Budget` only where no instantiation is left, and `Memory` where a growth was refused, by `mk` too.
+/// Upstream this is a call of the relation.
 pub fn relate_ty_args<
     I: Interner,
     R: TypeRelation<I>,

@@ -27,11 +27,12 @@ pub trait Relate<I: Interner>: TypeFoldable<I> + PartialEq + Copy {
     // What is asked of the two besides.
     ghost fits: { Meaning I.Key I.Id I.Name → Self → Self → Type 0 };
 
-    /// Relates the two at the ambient variance, and answers what the relation may answer for the left one: a term that it
-    /// is related with there, under each assignment that the relation left; or itself, where the relation promises that.
+    /// Relates the two at the ambient variance, and answers what the relation may answer for the left one: a term that
+    /// it is related with there, under each assignment that the relation left; or itself, where the relation promises
+    /// that.
     ///
-    /// Both are the relation's, which takes them at the ambient variance; that is not `Bivariant`. Two lists have as many
-    /// arguments.
+    /// Both are the relation's, which takes them at the ambient variance; that is not `Bivariant`. Two lists have as
+    /// many arguments.
     ///
     /// Answers `Unrelated` only where no assignment made the two one, `Budget` only where no instantiation is left, and
     /// `Memory` where a growth was refused. Also after an error all that was recorded stands.
@@ -48,8 +49,8 @@ pub trait Relate<I: Interner>: TypeFoldable<I> + PartialEq + Copy {
             (λ x. related_tree over (Self.tree (R.state r.new).meaning x)) result };
 
     // What is asked of two that are known holds on while the interner grows.
-    ghost fits_on: { (m n : Meaning I.Key I.Id I.Name) → Extends m n → (x y : Self) → IsTrue (known (Self.tree m x)) →
-        IsTrue (known (Self.tree m y)) → fits m x y → fits n x y };
+    ghost fits_on: { (m n : Meaning I.Key I.Id I.Name) → Extends m n → (x y : Self) →
+        IsTrue (known (Self.tree m x)) → IsTrue (known (Self.tree m y)) → fits m x y → fits n x y };
 }
 
 impl<I: Interner> Relate<I> for TyKey<I::Key> {

@@ -23,19 +23,19 @@ pub type RelateGoals<I> = RelateResult<I, Vec<Goal<<I as Keys>::Key, Predicate<I
 pub trait RelateExt: InferCtxtLike {
     /// Relates two types at a variance, and answers the goals under which they are related.
     ///
-    /// Both types and the environment are the interner's, and the variables in them are the context's. Types with type or
-    /// constant variables are related at `Invariant`, all others at each variance but `Bivariant`. Not related yet, at any
-    /// variance, are types in which an alias stands, an unevaluated constant, a pattern type, an error, a binder or what
-    /// it binds, or a stand-in.
+    /// Both types and the environment are the interner's, and the variables in them are the context's. Types with type
+    /// or constant variables are related at `Invariant`, all others at each variance but `Bivariant`. Not related yet,
+    /// at any variance, are types in which an alias stands, an unevaluated constant, a pattern type, an error, a binder
+    /// or what it binds, or a stand-in.
     ///
     /// After `Ok`, each assignment that satisfies what is recorded and makes the goals true relates the types; and each
-    /// that satisfied what was recorded and made them one extends to such a one. No goal is answered yet. Equal types record
-    /// nothing. Of first-order types in a first-order record at `Invariant` just those solutions up to erasure stay that
-    /// unify them: what is recorded is then a most general unifier.
+    /// that satisfied what was recorded and made them one extends to such a one. No goal is answered yet. Equal types
+    /// record nothing. Of first-order types in a first-order record at `Invariant` just those solutions up to erasure
+    /// stay that unify them: what is recorded is then a most general unifier.
     ///
-    /// Answers `Unrelated` only where no assignment that satisfied what was recorded makes the types one: with the error
-    /// of two parts that stand at one place, the left side's first, or of a cycle. Of first-order types in a first-order
-    /// record at `Invariant` no solution up to erasure unifies them then. Answers `Budget` only where no
+    /// Answers `Unrelated` only where no assignment that satisfied what was recorded makes the types one: with the
+    /// error of two parts that stand at one place, the left side's first, or of a cycle. Of first-order types in a
+    /// first-order record at `Invariant` no solution up to erasure unifies them then. Answers `Budget` only where no
     /// instantiation is left, and `Memory` where a growth was refused.
     ///
     /// On each outcome all that was recorded stands. It makes no variable of a number, and others only to instantiate

@@ -19,9 +19,9 @@ use crate::relate::{Step, TypeRelation};
 use relation_terms::terms::{Const, GenericArg, GenericArgKind, Interner, Ty, Variance};
 use relation_tools::error::{RelateFault, RelateResult, TypeError};
 
-/// Relates two types at the ambient variance, as the relation's steps lead: what a step answers is the answer; two forms
-/// that it leaves are related structurally; a pair that it leaves is related at its variance, and the answer is the one
-/// that the step names for then. Upstream a relation's own `tys` does all of it.
+/// Relates two types at the ambient variance, as the relation's steps lead: what a step answers is the answer; two
+/// forms that it leaves are related structurally; a pair that it leaves is related at its variance, and the answer is
+/// the one that the step names for then. Upstream a relation's own `tys` does all of it.
 ///
 /// Both are the relation's, which takes them at the ambient variance; that is not `Bivariant`.
 ///
@@ -93,8 +93,9 @@ pub fn consts<I: Interner, R: TypeRelation<I>>(
     }
 }
 
-/// Relates two generic arguments at the ambient variance, and answers one of the left one's kind. Two of different kinds
-/// are `Mismatch`. Conditions and errors are those of `tys`. Upstream this is the `relate` of a relation, over arguments.
+/// Relates two generic arguments at the ambient variance, and answers one of the left one's kind. Two of different
+/// kinds are `Mismatch`. Conditions and errors are those of `tys`. Upstream this is the `relate` of a relation, over
+/// arguments.
 #[cycle(relate)]
 pub fn relate<I: Interner, R: TypeRelation<I>>(
     r: &mut R,
@@ -132,8 +133,8 @@ pub fn relate<I: Interner, R: TypeRelation<I>>(
 /// Relates two generic arguments at a variance, seen from the ambient one, which is put back after it, also after an
 /// error. At bivariance they are not looked at: the first is the answer, and the relation stays as it was.
 ///
-/// Both are the relation's, which takes them at that variance. Errors are those of `tys`. Upstream this is a call of the
-/// relation.
+/// Both are the relation's, which takes them at that variance. Errors are those of `tys`. Upstream this is a call of
+/// the relation.
 #[cycle(relate)]
 pub fn relate_with_variance<I: Interner, R: TypeRelation<I>>(
     r: &mut R,
@@ -194,8 +195,9 @@ pub fn structurally_relate_tys<I: Interner, R: TypeRelation<I>>(
 /// Relates two constants by their outermost forms and their parts, and answers the form over what the parts answered.
 /// The types of values are not looked at: the left one is in the answer.
 ///
-/// Neither is a variable, a condition beside those of `tys`. Two forms that differ are refused as `compare_consts` says;
-/// a type error of two branches is the `ConstMismatch` of the whole values. All other errors of the parts are handed on.
+/// Neither is a variable, a condition beside those of `tys`. Two forms that differ are refused as `compare_consts`
+/// says; a type error of two branches is the `ConstMismatch` of the whole values. All other errors of the parts are
+/// handed on.
 #[cycle(relate)]
 pub fn structurally_relate_consts<I: Interner, R: TypeRelation<I>>(
     r: &mut R,

@@ -1,20 +1,18 @@
-use Rattle.std.proofs.Common.{rules, ◌≡◌, ◌<◌, ◌+◌, ◌*◌, ◌-◌, suc, true, false, IsTrue, sym, ap, ◌∙◌, subst, subst₂, refl, arith}
-use Rattle.relation_terms.specs.Heads.{const_sort, value_sort, value, value_type, value_branch}
-use Rattle.relation_terms.specs.Trees.{node, nil, cons, known, size, count, nth}
-use Rattle.relation_terms.specs.Meaning.{const_tree, valtree_tree}
-use Rattle.relation_terms.specs.Parts.{part_tree, parts_tree, parts_of, part_sort}
-use Rattle.relation_terms.proofs.Sorted.{Sorted}
-use Rattle.relation_terms.proofs.Parts.{sort_known}
-use Rattle.relation_terms.proofs.Members.{type_term, const_term, value_term, member_small, parts_small}
-use Rattle.relation_tools.specs.Clashes.{Clash, Alike, flexible, depth_inside, is_between}
+use Rattle.std.proofs.Common.{rules, ◌≡◌, ◌⊎◌, ◌↔◌, ◌<◌, ◌+◌, ◌*◌, ◌-◌, suc, false, IsTrue, sym, ap, ◌∙◌, subst, subst₂, refl, arith}
+use Rattle.relation_terms.specs.Trees.{known, size, count, nth, list_tree}
+use Rattle.relation_terms.specs.Meaning.{arg_tree}
+use Rattle.relation_terms.specs.Parts.{tree_sort}
+use Rattle.relation_terms.proofs.Members.{type_term, const_term, region_term, member_small, slice_nth, slice_sure}
+use Rattle.relation_terms.proofs.Members.{list_count, list_is}
+use Rattle.relation_tools.specs.Clashes.{Clash, depth_inside}
+use Rattle.relation_tools.specs.Pairs.{Pairs, KnownPair, ClashIn, pair_size}
 use Rattle.relation_tools.specs.Outlines.{stands}
-use Rattle.relation_tools.proofs.Clashing.{no_clash, right_decides, no_depth, left_decides, forms_clash, parts_decide}
-use Rattle.relation_tools.proofs.Clashing.{other_ty, other_const, other_valtree, type_pair, const_pair, is_quiet}
-use Rattle.relation_tools.proofs.Clashing.{quiet_clash, between_decides}
-use Rattle.relation_tools.proofs.Clashing.{passes, fails, flexible_right, flexible_left, const_forms_clash, moved}
-use Rattle.relation_tools.proofs.Clashing.{const_parts_decide, values_decide, rest_here, rest_further, rest_on, rest_none}
-use Rattle.relation_tools.proofs.Outlining.{some_stands, none_stands, const_unlike, value_unlike, valtree_rigid}
-use Rattle.relation_tools.proofs.Outlining.{valtree_unlike, branch_unlike, branch_counts, branch_alike, value_known}
+use Rattle.relation_tools.proofs.Clashing.{no_clash, right_decides, no_depth, left_decides, passes, fails, moved}
+use Rattle.relation_tools.proofs.Clashing.{rest_here, rest_further, rest_on, rest_none, shorter, quiet_clash, is_quiet}
+use Rattle.relation_tools.proofs.Clashing.{type_pair, const_pair}
+use Rattle.relation_tools.proofs.Outlining.{some_stands, none_stands}
+use Rattle.relation_tools.proofs.PairTests.{pair_small, pair_known, pair_decides, apart_clash, no_pair_clash, types_clash}
+use Rattle.relation_tools.proofs.PairTests.{first_clash, second_clash, lists_clash, args_clash, other_than_ty, other_than_const}
 use Rattle.relation_tools.proofs.fast_reject.walk.+clashes.Goals as goal
 
 -- Types.
@@ -65,43 +63,26 @@ types_may_unify-returns-in-Some-may_stand_for g t c =
     left_decides c.args.sides.left c.args.sides.right c.args.depth a b ta tb (c.args.depth - 1)
     c.in-Some-may_stand_for.may z f (s.0) (s.1)
 
-pub types_may_unify-are_alike-requires-clause-differ : goal.types_may_unify-are_alike-requires-clause-differ
-types_may_unify-are_alike-requires-clause-differ g t c = λ e.
+pub types_may_unify-paired-requires-clause-differ : goal.types_may_unify-paired-requires-clause-differ
+types_may_unify-paired-requires-clause-differ g t c = λ e.
     let m = g.I.Interner.meaning c.args.cx.now in
     let one : m.ty c.args.lhs.now ≡ m.ty c.args.rhs.now = c.ty_kind-left.ensures ∙ e ∙ sym c.ty_kind-right.ensures in
     (let i = c.if-eq.false in let h = c.eq.ensures in let k = c.if-eq.ensures in
     let l = (g.met.I.Interner.same_ty c.args.cx.now c.args.lhs.now c.args.rhs.now c.requires.lhs_known
     c.requires.rhs_known).1 one in search rules)
 
-pub types_may_unify-returns-then-not-are_alike : goal.types_may_unify-returns-then-not-are_alike
-types_may_unify-returns-then-not-are_alike g t c =
+pub types_may_unify-pair_may_unify-requires : goal.types_may_unify-pair_may_unify-requires
+types_may_unify-pair_may_unify-requires g t' c κs within =
     let m = g.I.Interner.meaning c.args.cx.now in
     let a = m.ty c.args.lhs.now in
     let b = m.ty c.args.rhs.now in
-    let ta = type_term a (g.met.I.Interner.is_ty c.args.cx.now c.args.lhs.now c.requires.lhs_known) in
-    let tb = type_term b (g.met.I.Interner.is_ty c.args.cx.now c.args.rhs.now c.requires.rhs_known) in
-    let f = none_stands c.args.sides.right b a c.may_stand_for.result
-    (c.may_stand_for.ensures ∙ ap (λ x. stands c.args.sides.right x a) (sym c.ty_kind-right.ensures)) c.in_default.not-Some in
-    let h = none_stands c.args.sides.left a b c.may_stand_for-2.result
-    (c.may_stand_for-2.ensures ∙ ap (λ x. stands c.args.sides.left x b) (sym c.ty_kind-left.ensures))
-    c.in_default-may_stand_for.not-Some in
-    let n = c.if-depth-eq0.false in
-    let z : c.args.depth ≡ suc (c.args.depth - 1) = omega (arith, n) in
-    fails (forms_clash c.args.sides.left c.args.sides.right c.args.depth a b ta tb (c.args.depth - 1) z f h
-    (λ k. (let i = c.if-not-are_alike.true in
-    let l = c.are_alike.ensures.1 (subst₂ Alike c.ty_kind-left.ensures c.ty_kind-right.ensures k) in search rules)))
-
-pub types_may_unify-parts_may_unify-requires : goal.types_may_unify-parts_may_unify-requires
-types_may_unify-parts_may_unify-requires g t' c κs within =
-    let m = g.I.Interner.meaning c.args.cx.now in
-    let a = m.ty c.args.lhs.now in
-    let ts = parts_tree m c.parts_of-left_parts.result in
+    let p = c.paired.result in
+    let pairs : Pairs m a b p =
+    subst₂ (λ x y. Pairs m x y p) (sym c.ty_kind-left.ensures) (sym c.ty_kind-right.ensures) c.paired.ensures in
     let d = c.decreases in
-    let less = parts_small a in
-    let is : size ts ≡ size (parts_of a) = ap size c.parts_of-left_parts.ensures.means in
-    let small : 3 * size ts < 3 * size a + 1 = omega (arith, less, is) in
-    let k = c.parts_of-left_parts.ensures.sure in
-    let n = c.parts_of-right_parts.ensures.sure in
+    let less = pair_small m a b p pairs in
+    let small : 3 * pair_size m p + 2 < 3 * size a + 1 = omega (arith, less) in
+    let k = pair_known m a b p pairs in
     search rules
 
 pub types_may_unify-returns : goal.types_may_unify-returns
@@ -119,542 +100,369 @@ types_may_unify-returns g t c =
     (c.may_stand_for-2.ensures ∙ ap (λ x. stands l x b) (sym c.ty_kind-left.ensures)) c.in_default-may_stand_for.not-Some in
     let n = c.if-depth-eq0.false in
     let z : c.args.depth ≡ suc (c.args.depth - 1) = omega (arith, n) in
-    let is : IsTrue c.are_alike.result = (let i = c.if-not-are_alike.false in search rules) in
-    let alike : Alike a b = subst₂ Alike (sym c.ty_kind-left.ensures) (sym c.ty_kind-right.ensures) (c.are_alike.ensures.0 is) in
+    let p = c.paired.result in
+    let pairs : Pairs m a b p =
+    subst₂ (λ x y. Pairs m x y p) (sym c.ty_kind-left.ensures) (sym c.ty_kind-right.ensures) c.paired.ensures in
     let inner : c.depth_within-inner.result ≡ depth_inside a (c.args.depth - 1) =
     c.depth_within-inner.ensures ∙ ap (λ x. depth_inside x (c.args.depth - 1)) (sym c.ty_kind-left.ensures) in
-    parts_decide l r c.args.depth a b ta tb (c.args.depth - 1) c.parts_may_unify.result z f h alike
-    (moved l r c.parts_may_unify.result inner c.parts_of-left_parts.ensures.means c.parts_of-right_parts.ensures.means
-    c.parts_may_unify.ensures)
+    pair_decides m l r c.args.depth a b ta tb (c.args.depth - 1) c.pair_may_unify.result z f h p pairs
+    (subst (λ d. (c.pair_may_unify.result ≡ false) ↔ ClashIn m l r d p) inner c.pair_may_unify.ensures)
 
--- Constants.
-pub consts_may_unify-returns-then-eq : goal.consts_may_unify-returns-then-eq
-consts_may_unify-returns-then-eq g t c =
-    let m = g.I.Interner.meaning c.args.cx.now in
-    let one : m.const_ c.args.lhs.now ≡ m.const_ c.args.rhs.now =
-    (g.met.I.Interner.same_const c.args.cx.now c.args.lhs.now c.args.rhs.now c.requires.lhs_known c.requires.rhs_known).0
-    (let i = c.if-eq.true in let h = c.eq.ensures in let k = c.if-eq.ensures in search rules) in
-    passes (λ k. no_clash k one)
+-- Pairs.
+pub pair_may_unify-returns-in-Apart : goal.pair_may_unify-returns-in-Apart
+pair_may_unify-returns-in-Apart g t c =
+    apart_clash (g.I.Interner.meaning c.args.cx.now) c.args.sides.left c.args.sides.right c.args.depth c.args.pair c.in-Apart.is
 
-pub consts_may_unify-returns-then-is_flexible_const : goal.consts_may_unify-returns-then-is_flexible_const
-consts_may_unify-returns-then-is_flexible_const g t c =
-    let m = g.I.Interner.meaning c.args.cx.now in
-    let a = m.const_ c.args.lhs.now in
-    let b = m.const_ c.args.rhs.now in
-    let ta = const_term a (g.met.I.Interner.is_const c.args.cx.now c.args.lhs.now c.requires.lhs_known) in
-    let tb = const_term b (g.met.I.Interner.is_const c.args.cx.now c.args.rhs.now c.requires.rhs_known) in
-    let f = ap (flexible c.args.sides.right) c.const_kind-right.ensures ∙ sym c.is_flexible_const.ensures
-    ∙ c.if-is_flexible_const.true in
-    passes (flexible_right c.args.sides.left c.args.sides.right c.args.depth a b const_sort refl ta tb f)
+pub pair_may_unify-returns-in-Nothing : goal.pair_may_unify-returns-in-Nothing
+pair_may_unify-returns-in-Nothing g t c =
+    no_pair_clash (g.I.Interner.meaning c.args.cx.now) c.args.sides.left c.args.sides.right c.args.depth c.args.pair
+    c.in-Nothing.is
 
-pub consts_may_unify-returns-then-is_flexible_const-2 : goal.consts_may_unify-returns-then-is_flexible_const-2
-consts_may_unify-returns-then-is_flexible_const-2 g t c =
+pub pair_may_unify-types_may_unify-requires : goal.pair_may_unify-types_may_unify-requires
+pair_may_unify-types_may_unify-requires g t' c κs within =
     let m = g.I.Interner.meaning c.args.cx.now in
-    let a = m.const_ c.args.lhs.now in
-    let b = m.const_ c.args.rhs.now in
-    let ta = const_term a (g.met.I.Interner.is_const c.args.cx.now c.args.lhs.now c.requires.lhs_known) in
-    let tb = const_term b (g.met.I.Interner.is_const c.args.cx.now c.args.rhs.now c.requires.rhs_known) in
-    let f = ap (flexible c.args.sides.left) c.const_kind-left.ensures ∙ sym c.is_flexible_const-2.ensures
-    ∙ c.if-is_flexible_const-2.true in
-    passes (flexible_left c.args.sides.left c.args.sides.right c.args.depth a b const_sort refl ta tb f)
-
-pub consts_may_unify-returns-in_default : goal.consts_may_unify-returns-in_default
-consts_may_unify-returns-in_default g t c =
-    let m = g.I.Interner.meaning c.args.cx.now in
-    let a = m.const_ c.args.lhs.now in
-    let b = m.const_ c.args.rhs.now in
-    let ta = const_term a (g.met.I.Interner.is_const c.args.cx.now c.args.lhs.now c.requires.lhs_known) in
-    let tb = const_term b (g.met.I.Interner.is_const c.args.cx.now c.args.rhs.now c.requires.rhs_known) in
-    let own = sym c.is_flexible_const-2.ensures ∙ c.if-is_flexible_const-2.false in
-    let f = ap (flexible c.args.sides.right) c.const_kind-right.ensures ∙ sym c.is_flexible_const.ensures
-    ∙ c.if-is_flexible_const.false in
-    let h = ap (flexible c.args.sides.left) c.const_kind-left.ensures ∙ own in
-    fails (const_forms_clash c.args.sides.left c.args.sides.right c.args.depth a b const_sort refl ta tb f h
-    (λ k. (let one : a ≡ b = c.const_kind-left.ensures ∙ const_unlike m c.args.sides.left c.const_kind-left.result b own
-    c.in_default.not-Value (subst (λ x. Alike x b) c.const_kind-left.ensures k) in
-    let i = c.if-eq.false in let o = c.eq.ensures in let q = c.if-eq.ensures in
-    let l = (g.met.I.Interner.same_const c.args.cx.now c.args.lhs.now c.args.rhs.now c.requires.lhs_known
-    c.requires.rhs_known).1 one in search rules)))
-
-pub consts_may_unify-returns-in_default-right : goal.consts_may_unify-returns-in_default-right
-consts_may_unify-returns-in_default-right g t c =
-    let m = g.I.Interner.meaning c.args.cx.now in
-    let a = m.const_ c.args.lhs.now in
-    let b = m.const_ c.args.rhs.now in
-    let ta = const_term a (g.met.I.Interner.is_const c.args.cx.now c.args.lhs.now c.requires.lhs_known) in
-    let tb = const_term b (g.met.I.Interner.is_const c.args.cx.now c.args.rhs.now c.requires.rhs_known) in
-    let own = sym c.is_flexible_const.ensures ∙ c.if-is_flexible_const.false in
-    let f = ap (flexible c.args.sides.right) c.const_kind-right.ensures ∙ own in
-    let h = ap (flexible c.args.sides.left) c.const_kind-left.ensures ∙ sym c.is_flexible_const-2.ensures
-    ∙ c.if-is_flexible_const-2.false in
-    let left = c.const_kind-left.ensures ∙ ap (const_tree m) c.in-Value.is in
-    fails (const_forms_clash c.args.sides.left c.args.sides.right c.args.depth a b const_sort refl ta tb f h
-    (λ k. value_unlike m c.args.sides.right c.const_kind-right.result _ own c.in_default-right.not-Value
-    (subst₂ Alike left c.const_kind-right.ensures k)))
-
-pub consts_may_unify-valtrees_may_unify-requires : goal.consts_may_unify-valtrees_may_unify-requires
-consts_may_unify-valtrees_may_unify-requires g t' c κs within =
-    let m = g.I.Interner.meaning c.args.cx.now in
-    let a = m.const_ c.args.lhs.now in
-    let x = node value_type (cons (m.ty c.in-Value.field-0) nil) in
-    let y = node value_type (cons (m.ty c.in-Value-right.field-0) nil) in
-    let v = m.valtree c.in-Value.left_value in
-    let w = m.valtree c.in-Value-right.right_value in
-    let left : a ≡ node value (cons x (cons v nil)) = c.const_kind-left.ensures ∙ ap (const_tree m) c.in-Value.is in
-    let right : m.const_ c.args.rhs.now ≡ node value (cons y (cons w nil)) =
-    c.const_kind-right.ensures ∙ ap (const_tree m) c.in-Value-right.is in
     let d = c.decreases in
-    let is : size a ≡ suc (suc (size x + suc (size v + 1))) = ap size left in
-    let small : 3 * size v + 1 < 3 * size a + 1 = omega (arith, is) in
-    let k = value_known x v (subst (λ z. IsTrue (known z)) left c.requires.lhs_known) in
-    let n = value_known y w (subst (λ z. IsTrue (known z)) right c.requires.rhs_known) in
+    let is : pair_size m c.args.pair ≡ size (m.ty c.in-Types.lhs) = ap (λ p. pair_size m p) c.in-Types.is in
+    let small : 3 * size (m.ty c.in-Types.lhs) + 1 < 3 * pair_size m c.args.pair + 2 = omega (arith, is) in
+    let both : IsTrue (known (m.ty c.in-Types.lhs)) × IsTrue (known (m.ty c.in-Types.rhs)) =
+    subst (λ p. KnownPair m p) c.in-Types.is c.requires in
+    let k = both.0 in
+    let n = both.1 in
     search rules
 
-pub consts_may_unify-returns : goal.consts_may_unify-returns
-consts_may_unify-returns g t c =
-    let m = g.I.Interner.meaning c.args.cx.now in
-    let l = c.args.sides.left in
-    let r = c.args.sides.right in
-    let x = cons (m.ty c.in-Value.field-0) nil in
-    let y = cons (m.ty c.in-Value-right.field-0) nil in
-    let v = m.valtree c.in-Value.left_value in
-    let w = m.valtree c.in-Value-right.right_value in
-    let left = c.const_kind-left.ensures ∙ ap (const_tree m) c.in-Value.is in
-    let right = c.const_kind-right.ensures ∙ ap (const_tree m) c.in-Value-right.is in
-    moved l r c.valtrees_may_unify.result refl (sym left) (sym right)
-    (values_decide l r c.args.depth x y v w c.valtrees_may_unify.result c.valtrees_may_unify.ensures)
+pub pair_may_unify-returns-in-Types : goal.pair_may_unify-returns-in-Types
+pair_may_unify-returns-in-Types g t c =
+    types_clash (g.I.Interner.meaning c.args.cx.now) c.args.sides.left c.args.sides.right c.types_may_unify.result
+    c.args.depth c.args.pair c.in-Types.lhs c.in-Types.rhs c.in-Types.is c.types_may_unify.ensures
 
--- Value trees.
-pub valtrees_may_unify-returns-then-eq : goal.valtrees_may_unify-returns-then-eq
-valtrees_may_unify-returns-then-eq g t c =
+pub pair_may_unify-types_may_unify-requires-in-Arrays : goal.pair_may_unify-types_may_unify-requires-in-Arrays
+pair_may_unify-types_may_unify-requires-in-Arrays g t' c κs within =
     let m = g.I.Interner.meaning c.args.cx.now in
-    let one : m.valtree c.args.lhs.now ≡ m.valtree c.args.rhs.now =
-    (g.met.I.Interner.same_valtree c.args.cx.now c.args.lhs.now c.args.rhs.now c.requires.lhs_known c.requires.rhs_known).0
-    (let i = c.if-eq.true in let h = c.eq.ensures in let k = c.if-eq.ensures in search rules) in
-    passes (λ k. no_clash k one)
-
-pub valtrees_may_unify-returns-in_default : goal.valtrees_may_unify-returns-in_default
-valtrees_may_unify-returns-in_default g t c =
-    let m = g.I.Interner.meaning c.args.cx.now in
-    let a = m.valtree c.args.lhs.now in
-    let b = m.valtree c.args.rhs.now in
-    let ta = value_term a (g.met.I.Interner.is_valtree c.args.cx.now c.args.lhs.now c.requires.lhs_known) in
-    let tb = value_term b (g.met.I.Interner.is_valtree c.args.cx.now c.args.rhs.now c.requires.rhs_known) in
-    let f = ap (flexible c.args.sides.right) c.valtree_kind-right.ensures
-    ∙ valtree_rigid m c.args.sides.right c.valtree_kind-right.result in
-    let h = ap (flexible c.args.sides.left) c.valtree_kind-left.ensures
-    ∙ valtree_rigid m c.args.sides.left c.valtree_kind-left.result in
-    fails (const_forms_clash c.args.sides.left c.args.sides.right c.args.depth a b value_sort refl ta tb f h
-    (λ k. (let one : a ≡ b = c.valtree_kind-left.ensures ∙ valtree_unlike m c.valtree_kind-left.result b
-    c.in_default.not-Branch (subst (λ x. Alike x b) c.valtree_kind-left.ensures k) in
-    let i = c.if-eq.false in let o = c.eq.ensures in let q = c.if-eq.ensures in
-    let l = (g.met.I.Interner.same_valtree c.args.cx.now c.args.lhs.now c.args.rhs.now c.requires.lhs_known
-    c.requires.rhs_known).1 one in search rules)))
-
-pub valtrees_may_unify-returns-in_default-right : goal.valtrees_may_unify-returns-in_default-right
-valtrees_may_unify-returns-in_default-right g t c =
-    let m = g.I.Interner.meaning c.args.cx.now in
-    let a = m.valtree c.args.lhs.now in
-    let b = m.valtree c.args.rhs.now in
-    let ta = value_term a (g.met.I.Interner.is_valtree c.args.cx.now c.args.lhs.now c.requires.lhs_known) in
-    let tb = value_term b (g.met.I.Interner.is_valtree c.args.cx.now c.args.rhs.now c.requires.rhs_known) in
-    let f = ap (flexible c.args.sides.right) c.valtree_kind-right.ensures
-    ∙ valtree_rigid m c.args.sides.right c.valtree_kind-right.result in
-    let h = ap (flexible c.args.sides.left) c.valtree_kind-left.ensures
-    ∙ valtree_rigid m c.args.sides.left c.valtree_kind-left.result in
-    let left = c.valtree_kind-left.ensures ∙ ap (valtree_tree m) c.in-Branch.is in
-    fails (const_forms_clash c.args.sides.left c.args.sides.right c.args.depth a b value_sort refl ta tb f h
-    (λ k. branch_unlike m c.valtree_kind-right.result _ c.in_default-right.not-Branch
-    (subst₂ Alike left c.valtree_kind-right.ensures k)))
-
-pub valtrees_may_unify-member_count-requires : goal.valtrees_may_unify-member_count-requires
-valtrees_may_unify-member_count-requires g t c =
-    let m = g.I.Interner.meaning c.args.cx.now in
-    subst (λ z. IsTrue (known z)) (c.valtree_kind-left.ensures ∙ ap (valtree_tree m) c.in-Branch.is) c.requires.lhs_known
-
-pub valtrees_may_unify-member_count-requires-2 : goal.valtrees_may_unify-member_count-requires-2
-valtrees_may_unify-member_count-requires-2 g t c =
-    let m = g.I.Interner.meaning c.args.cx.now in
-    subst (λ z. IsTrue (known z)) (c.valtree_kind-right.ensures ∙ ap (valtree_tree m) c.in-Branch-right.is)
-    c.requires.rhs_known
-
-pub valtrees_may_unify-returns-then-member_count : goal.valtrees_may_unify-returns-then-member_count
-valtrees_may_unify-returns-then-member_count g t c =
-    let m = g.I.Interner.meaning c.args.cx.now in
-    let a = m.valtree c.args.lhs.now in
-    let b = m.valtree c.args.rhs.now in
-    let ta = value_term a (g.met.I.Interner.is_valtree c.args.cx.now c.args.lhs.now c.requires.lhs_known) in
-    let tb = value_term b (g.met.I.Interner.is_valtree c.args.cx.now c.args.rhs.now c.requires.rhs_known) in
-    let f = ap (flexible c.args.sides.right) c.valtree_kind-right.ensures
-    ∙ valtree_rigid m c.args.sides.right c.valtree_kind-right.result in
-    let h = ap (flexible c.args.sides.left) c.valtree_kind-left.ensures
-    ∙ valtree_rigid m c.args.sides.left c.valtree_kind-left.result in
-    let x = m.branches c.in-Branch.left_branches in
-    let y = m.branches c.in-Branch-right.right_branches in
-    let left = c.valtree_kind-left.ensures ∙ ap (valtree_tree m) c.in-Branch.is in
-    let right = c.valtree_kind-right.ensures ∙ ap (valtree_tree m) c.in-Branch-right.is in
-    fails (const_forms_clash c.args.sides.left c.args.sides.right c.args.depth a b value_sort refl ta tb f h
-    (λ k. c.if-member_count.true (c.member_count.ensures.counts ∙ branch_counts x y (subst₂ Alike left right k)
-    ∙ sym c.member_count-2.ensures.counts)))
-
-pub valtrees_may_unify-parts_may_unify-requires : goal.valtrees_may_unify-parts_may_unify-requires
-valtrees_may_unify-parts_may_unify-requires g t' c κs within =
-    let m = g.I.Interner.meaning c.args.cx.now in
-    let a = m.valtree c.args.lhs.now in
-    let x = m.branches c.in-Branch.left_branches in
-    let y = m.branches c.in-Branch-right.right_branches in
-    let left : a ≡ node value_branch x = c.valtree_kind-left.ensures ∙ ap (valtree_tree m) c.in-Branch.is in
-    let right : m.valtree c.args.rhs.now ≡ node value_branch y =
-    c.valtree_kind-right.ensures ∙ ap (valtree_tree m) c.in-Branch-right.is in
     let d = c.decreases in
-    let is : size a ≡ suc (size x) = ap size left in
-    let small : 3 * size x < 3 * size a + 1 = omega (arith, is) in
-    let k : IsTrue (known x) = subst (λ z. IsTrue (known z)) left c.requires.lhs_known in
-    let n : IsTrue (known y) = subst (λ z. IsTrue (known z)) right c.requires.rhs_known in
+    let is : pair_size m c.args.pair ≡ size (m.ty c.in-Arrays.lhs) + size (m.const_ c.in-Arrays.len) =
+    ap (λ p. pair_size m p) c.in-Arrays.is in
+    let small : 3 * size (m.ty c.in-Arrays.lhs) + 1 < 3 * pair_size m c.args.pair + 2 = omega (arith, is) in
+    let all : (IsTrue (known (m.ty c.in-Arrays.lhs)) × IsTrue (known (m.ty c.in-Arrays.rhs))) ×
+    (IsTrue (known (m.const_ c.in-Arrays.len)) × IsTrue (known (m.const_ c.in-Arrays.length))) =
+    subst (λ p. KnownPair m p) c.in-Arrays.is c.requires in
+    let k = all.0.0 in
+    let n = all.0.1 in
     search rules
 
-pub valtrees_may_unify-returns : goal.valtrees_may_unify-returns
-valtrees_may_unify-returns g t c =
-    let m = g.I.Interner.meaning c.args.cx.now in
-    let l = c.args.sides.left in
-    let r = c.args.sides.right in
-    let x = m.branches c.in-Branch.left_branches in
-    let y = m.branches c.in-Branch-right.right_branches in
-    let left = c.valtree_kind-left.ensures ∙ ap (valtree_tree m) c.in-Branch.is in
-    let right = c.valtree_kind-right.ensures ∙ ap (valtree_tree m) c.in-Branch-right.is in
-    let counts = sym c.member_count.ensures.counts ∙ c.if-member_count.false ∙ c.member_count-2.ensures.counts in
-    moved l r c.parts_may_unify.result refl (sym left) (sym right)
-    (const_parts_decide l r c.args.depth (node value_branch x) (node value_branch y) value_sort refl refl refl
-    c.parts_may_unify.result refl refl (branch_alike x y counts) c.parts_may_unify.ensures)
+pub pair_may_unify-returns-then-not-types_may_unify : goal.pair_may_unify-returns-then-not-types_may_unify
+pair_may_unify-returns-then-not-types_may_unify g t c =
+    let no : c.types_may_unify-in-Arrays.result ≡ false = (let n = c.if-not-types_may_unify.true in search rules) in
+    first_clash (g.I.Interner.meaning c.args.cx.now) c.args.sides.left c.args.sides.right c.args.depth c.args.pair
+    c.in-Arrays.lhs c.in-Arrays.rhs c.in-Arrays.len c.in-Arrays.length c.in-Arrays.is
+    (c.types_may_unify-in-Arrays.ensures.0 no)
 
--- Lists.
-pub parts_may_unify-loop-i-init : goal.parts_may_unify-loop-i-init
-parts_may_unify-loop-i-init g t c = record { on = λ k. k; back = λ k. k }
-
-pub parts_may_unify-part_may_unify-requires : goal.parts_may_unify-part_may_unify-requires
-parts_may_unify-part_may_unify-requires g t' c κs within =
+pub pair_may_unify-consts_may_unify-requires-clause-lhs_known : goal.pair_may_unify-consts_may_unify-requires-clause-lhs_known
+pair_may_unify-consts_may_unify-requires-clause-lhs_known g t c =
     let m = g.I.Interner.meaning c.args.cx.now in
-    let ts = parts_tree m c.args.left.now in
-    let x = c.member.result in
-    let i = c.loop-i.i in
-    let test = c.loop-i-test.true in
-    let below : i < count ts = omega (arith, test) in
+    (subst (λ p. KnownPair m p) c.in-Arrays.is c.requires).1.0
+
+pub pair_may_unify-consts_may_unify-requires-clause-rhs_known : goal.pair_may_unify-consts_may_unify-requires-clause-rhs_known
+pair_may_unify-consts_may_unify-requires-clause-rhs_known g t c =
+    let m = g.I.Interner.meaning c.args.cx.now in
+    (subst (λ p. KnownPair m p) c.in-Arrays.is c.requires).1.1
+
+pub pair_may_unify-returns-else-not-types_may_unify : goal.pair_may_unify-returns-else-not-types_may_unify
+pair_may_unify-returns-else-not-types_may_unify g t c =
+    let m = g.I.Interner.meaning c.args.cx.now in
+    let none : Clash c.args.sides.left c.args.sides.right c.args.depth (m.ty c.in-Arrays.lhs) (m.ty c.in-Arrays.rhs) → ⊥ =
+    (λ k. (let no = c.types_may_unify-in-Arrays.ensures.1 k in let n = c.if-not-types_may_unify.false in search rules)) in
+    second_clash m c.args.sides.left c.args.sides.right c.consts_may_unify.result c.args.depth c.args.pair c.in-Arrays.lhs
+    c.in-Arrays.rhs c.in-Arrays.len c.in-Arrays.length c.in-Arrays.is none c.consts_may_unify.ensures
+
+pub pair_may_unify-tys-requires : goal.pair_may_unify-tys-requires
+pair_may_unify-tys-requires g t c =
+    let m = g.I.Interner.meaning c.args.cx.now in
+    (subst (λ p. KnownPair m p) c.in-Lists.is c.requires).0
+
+pub pair_may_unify-tys-requires-in-Lists : goal.pair_may_unify-tys-requires-in-Lists
+pair_may_unify-tys-requires-in-Lists g t c =
+    let m = g.I.Interner.meaning c.args.cx.now in
+    (subst (λ p. KnownPair m p) c.in-Lists.is c.requires).1
+
+pub pair_may_unify-tys_may_unify-requires : goal.pair_may_unify-tys_may_unify-requires
+pair_may_unify-tys_may_unify-requires g t' c κs within =
+    let m = g.I.Interner.meaning c.args.cx.now in
     let d = c.decreases in
-    let less = member_small ts i below in
-    let is : size (part_tree m x) ≡ size (nth i ts) = ap size c.member.ensures.means in
-    let small : 3 * size (part_tree m x) + 2 < 3 * size ts = omega (arith, less, is) in
-    let k = c.member.ensures.sure in
-    let n = c.member-in-loop-i.ensures.sure in
+    let is : pair_size m c.args.pair ≡ size (m.tys c.in-Lists.tys) = ap (λ p. pair_size m p) c.in-Lists.is in
+    let same : size (m.tys c.in-Lists.tys) ≡ size (list_tree m.ty c.tys.result.now) = ap size c.tys.ensures in
+    let small : 3 * size (list_tree m.ty c.tys.result.now) < 3 * pair_size m c.args.pair + 2 = omega (arith, is, same) in
+    let both : IsTrue (known (m.tys c.in-Lists.tys)) × IsTrue (known (m.tys c.in-Lists.others)) =
+    subst (λ p. KnownPair m p) c.in-Lists.is c.requires in
+    let k = subst (λ x. IsTrue (known x)) c.tys.ensures both.0 in
+    let n = subst (λ x. IsTrue (known x)) c.tys-in-Lists.ensures both.1 in
     search rules
 
-pub parts_may_unify-returns-then-not-part_may_unify : goal.parts_may_unify-returns-then-not-part_may_unify
-parts_may_unify-returns-then-not-part_may_unify g t c =
-    let m = g.I.Interner.meaning c.args.cx.now in
-    let xs = parts_tree m c.args.left.now in
-    let ys = parts_tree m c.args.right.now in
-    let i = c.loop-i.i in
-    let test = c.loop-i-test.true in
-    let a : i < count xs = omega (arith, test) in
-    let b : i < count ys = omega (arith, test) in
-    let no : c.part_may_unify.result ≡ false = (let n = c.if-not-part_may_unify.true in search rules) in
-    fails (c.loop-i.invariant.back (rest_here c.args.sides.left c.args.sides.right c.args.depth xs ys i
-    (part_tree m c.member.result) (part_tree m c.member-in-loop-i.result) a b c.member.ensures.means
-    c.member-in-loop-i.ensures.means (c.part_may_unify.ensures.0 no)))
+pub pair_may_unify-returns-in-Lists : goal.pair_may_unify-returns-in-Lists
+pair_may_unify-returns-in-Lists g t c =
+    lists_clash (g.I.Interner.meaning c.args.cx.now) c.args.sides.left c.args.sides.right c.tys_may_unify.result c.args.depth
+    c.args.pair c.in-Lists.tys c.in-Lists.others c.in-Lists.is _ _ c.tys.ensures c.tys-in-Lists.ensures c.tys_may_unify.ensures
 
-pub parts_may_unify-loop-i-preserved : goal.parts_may_unify-loop-i-preserved
-parts_may_unify-loop-i-preserved g t c =
+pub pair_may_unify-args-list-requires : goal.pair_may_unify-args-list-requires
+pair_may_unify-args-list-requires g t c =
     let m = g.I.Interner.meaning c.args.cx.now in
+    (subst (λ p. KnownPair m p) c.in-Args.is c.requires).0
+
+pub pair_may_unify-args-other_list-requires : goal.pair_may_unify-args-other_list-requires
+pair_may_unify-args-other_list-requires g t c =
+    let m = g.I.Interner.meaning c.args.cx.now in
+    (subst (λ p. KnownPair m p) c.in-Args.is c.requires).1
+
+pub pair_may_unify-args_may_unify-requires : goal.pair_may_unify-args_may_unify-requires
+pair_may_unify-args_may_unify-requires g t' c κs within =
+    let m = g.I.Interner.meaning c.args.cx.now in
+    let d = c.decreases in
+    let is : pair_size m c.args.pair ≡ size (m.args c.in-Args.args) = ap (λ p. pair_size m p) c.in-Args.is in
+    let same : size (m.args c.in-Args.args) ≡ size (list_tree (arg_tree m) c.args-list.result.now) = ap size c.args-list.ensures in
+    let small : 3 * size (list_tree (arg_tree m) c.args-list.result.now) < 3 * pair_size m c.args.pair + 2 =
+    omega (arith, is, same) in
+    let both : IsTrue (known (m.args c.in-Args.args)) × IsTrue (known (m.args c.in-Args.others)) =
+    subst (λ p. KnownPair m p) c.in-Args.is c.requires in
+    let k = subst (λ x. IsTrue (known x)) c.args-list.ensures both.0 in
+    let n = subst (λ x. IsTrue (known x)) c.args-other_list.ensures both.1 in
+    search rules
+
+pub pair_may_unify-returns-in-Args : goal.pair_may_unify-returns-in-Args
+pair_may_unify-returns-in-Args g t c =
+    args_clash (g.I.Interner.meaning c.args.cx.now) c.args.sides.left c.args.sides.right c.args_may_unify.result c.args.depth
+    c.args.pair c.in-Args.args c.in-Args.others c.in-Args.is _ _ c.args-list.ensures c.args-other_list.ensures
+    c.args_may_unify.ensures
+
+-- Lists of types.
+
+pub tys_may_unify-loop-i-init : goal.tys_may_unify-loop-i-init
+tys_may_unify-loop-i-init g t c = record { on = λ k. k; back = λ k. k }
+
+pub tys_may_unify-types_may_unify-requires : goal.tys_may_unify-types_may_unify-requires
+tys_may_unify-types_may_unify-requires g t' c κs within =
+    let m = g.I.Interner.meaning c.args.cx.now in
+    let f = m.ty in
+    let xs = list_tree f c.args.left.now in
+    let ys = list_tree f c.args.right.now in
+    let i = c.loop-i.i in
+    let x = c.index-left-i.result in
+    let y = c.index-right-i.result in
+    let test = c.loop-i-test.true in
+    let at = list_count f c.args.left.now in
+    let also = list_count f c.args.right.now in
+    let below : i < count xs = omega (arith, test, at) in
+    let under : i < count ys = omega (arith, test, also) in
+    let d = c.decreases in
+    let less = member_small xs i below in
+    let is : size (f x) ≡ size (nth i xs) = ap size (slice_nth f c.args.left.now xs refl i x x below c.index-left-i.is) in
+    let small : 3 * size (f x) + 1 < 3 * size xs = omega (arith, less, is) in
+    let k = slice_sure f c.args.left.now xs refl c.requires.left_known i x x below c.index-left-i.is in
+    let n = slice_sure f c.args.right.now ys refl c.requires.right_known i y y under c.index-right-i.is in
+    search rules
+
+pub tys_may_unify-returns-then-not-types_may_unify : goal.tys_may_unify-returns-then-not-types_may_unify
+tys_may_unify-returns-then-not-types_may_unify g t c =
+    let m = g.I.Interner.meaning c.args.cx.now in
+    let f = m.ty in
+    let xs = list_tree f c.args.left.now in
+    let ys = list_tree f c.args.right.now in
+    let i = c.loop-i.i in
+    let x = c.index-left-i.result in
+    let y = c.index-right-i.result in
+    let test = c.loop-i-test.true in
+    let at = list_count f c.args.left.now in
+    let also = list_count f c.args.right.now in
+    let a : i < count xs = omega (arith, test, at) in
+    let b : i < count ys = omega (arith, test, also) in
+    let no : c.types_may_unify.result ≡ false = (let n = c.if-not-types_may_unify.true in search rules) in
+    fails (c.loop-i.invariant.back (rest_here c.args.sides.left c.args.sides.right c.args.depth xs ys i (f x) (f y) a b
+    (slice_nth f c.args.left.now xs refl i x x a c.index-left-i.is)
+    (slice_nth f c.args.right.now ys refl i y y b c.index-right-i.is) (c.types_may_unify.ensures.0 no)))
+
+pub tys_may_unify-loop-i-preserved : goal.tys_may_unify-loop-i-preserved
+tys_may_unify-loop-i-preserved g t c =
+    let m = g.I.Interner.meaning c.args.cx.now in
+    let f = m.ty in
     let l = c.args.sides.left in
     let r = c.args.sides.right in
-    let xs = parts_tree m c.args.left.now in
-    let ys = parts_tree m c.args.right.now in
+    let xs = list_tree f c.args.left.now in
+    let ys = list_tree f c.args.right.now in
     let i = c.loop-i.i in
+    let x = c.index-left-i.result in
+    let y = c.index-right-i.result in
     let test = c.loop-i-test.true in
-    let a : i < count xs = omega (arith, test) in
-    let b : i < count ys = omega (arith, test) in
+    let at = list_count f c.args.left.now in
+    let also = list_count f c.args.right.now in
+    let a : i < count xs = omega (arith, test, at) in
+    let b : i < count ys = omega (arith, test, also) in
     let next : i + 1 ≡ suc i = omega arith in
-    let yes : c.part_may_unify.result ≡ true = (let n = c.if-not-part_may_unify.false in search rules) in
-    let none : Clash l r c.args.depth (part_tree m c.member.result) (part_tree m c.member-in-loop-i.result) → ⊥ =
-    (λ k. (let f = c.part_may_unify.ensures.1 k in search rules)) in
+    let none : Clash l r c.args.depth (f x) (f y) → ⊥ =
+    (λ k. (let no = c.types_may_unify.ensures.1 k in let n = c.if-not-types_may_unify.false in search rules)) in
     record {
-      on = λ k. rest_on l r c.args.depth xs ys i (i + 1) (part_tree m c.member.result) (part_tree m c.member-in-loop-i.result)
-          next a b c.member.ensures.means c.member-in-loop-i.ensures.means none (c.loop-i.invariant.on k);
+      on = λ k. rest_on l r c.args.depth xs ys i (i + 1) (f x) (f y) next a b
+          (slice_nth f c.args.left.now xs refl i x x a c.index-left-i.is)
+          (slice_nth f c.args.right.now ys refl i y y b c.index-right-i.is) none (c.loop-i.invariant.on k);
       back = λ k. c.loop-i.invariant.back (rest_further l r c.args.depth xs ys i (i + 1) next a b k);
     }
 
-pub parts_may_unify-returns : goal.parts_may_unify-returns
-parts_may_unify-returns g t c =
+pub tys_may_unify-returns : goal.tys_may_unify-returns
+tys_may_unify-returns g t c =
     let m = g.I.Interner.meaning c.args.cx.now in
-    let xs = parts_tree m c.args.left.now in
-    let ys = parts_tree m c.args.right.now in
+    let f = m.ty in
+    let xs = list_tree f c.args.left.now in
+    let ys = list_tree f c.args.right.now in
     let i = c.loop-i.i in
     let test = c.loop-i-test.false in
     let end = (c.loop-i.auto).i-end in
-    passes (λ k. rest_none c.args.sides.left c.args.sides.right c.args.depth xs ys i c.member_count.ensures.is_list
-    c.member_count-2.ensures.is_list (search rules) (c.loop-i.invariant.on k))
+    let at = list_count f c.args.left.now in
+    let also = list_count f c.args.right.now in
+    let either : (i ≡ count xs) ⊎ (i ≡ count ys) = shorter i (count xs) (count ys) (omega (arith, test, end, at, also)) in
+    passes (λ k. rest_none c.args.sides.left c.args.sides.right c.args.depth xs ys i (list_is f c.args.left.now)
+    (list_is f c.args.right.now) either (c.loop-i.invariant.on k))
 
--- Parts.
-pub part_may_unify-returns-in_default : goal.part_may_unify-returns-in_default
-part_may_unify-returns-in_default g t c =
+-- Arguments.
+pub arg_may_unify-returns-in_default : goal.arg_may_unify-returns-in_default
+arg_may_unify-returns-in_default g t c =
     let m = g.I.Interner.meaning c.args.cx.now in
-    let p = c.args.left.now in
-    let q = c.args.right.now in
-    let sorted : Sorted m = record {
-      ty = g.met.I.Interner.is_ty c.args.cx.now;
-      region = g.met.I.Interner.is_region c.args.cx.now;
-      tys = g.met.I.Interner.are_tys c.args.cx.now;
-      const_ = g.met.I.Interner.is_const c.args.cx.now;
-      valtree = g.met.I.Interner.is_valtree c.args.cx.now;
-      args = g.met.I.Interner.are_args c.args.cx.now;
-      branches = g.met.I.Interner.are_branches c.args.cx.now;
-      pat = g.met.I.Interner.is_pat c.args.cx.now;
-      alternatives = g.met.I.Interner.are_alternatives c.args.cx.now;
-      existential_predicates = g.met.I.Interner.are_existential_predicates c.args.cx.now;
-    } in
-    let sp = sort_known m sorted p c.requires.left_known in
-    let sq = sort_known m sorted q c.requires.right_known in
-    passes (λ k. other_ty q c.in_default.not-Ty (sym sq ∙ type_pair k (sp ∙ ap part_sort c.in-Ty.is)))
+    let k = subst (λ x. IsTrue (known (arg_tree m x))) c.in-Ty.is c.requires.left_known in
+    let is = ap (λ x. tree_sort (arg_tree m x)) c.in-Ty.is
+    ∙ type_term (m.ty c.in-Ty.lhs) (g.met.I.Interner.is_ty c.args.cx.now c.in-Ty.lhs k) in
+    passes (λ z. other_than_ty m (λ r h. region_term (m.region r) (g.met.I.Interner.is_region c.args.cx.now r h))
+    (λ n h. const_term (m.const_ n) (g.met.I.Interner.is_const c.args.cx.now n h)) c.args.right.now c.requires.right_known
+    c.in_default.not-Ty (type_pair z is))
 
-pub part_may_unify-types_may_unify-requires : goal.part_may_unify-types_may_unify-requires
-part_may_unify-types_may_unify-requires g t' c κs within =
+pub arg_may_unify-types_may_unify-requires : goal.arg_may_unify-types_may_unify-requires
+arg_may_unify-types_may_unify-requires g t' c κs within =
     let m = g.I.Interner.meaning c.args.cx.now in
     let x = m.ty c.in-Ty.lhs in
     let d = c.decreases in
-    let is : size (part_tree m c.args.left.now) ≡ size x = ap (λ p. size (part_tree m p)) c.in-Ty.is in
-    let small : 3 * size x + 1 < 3 * size (part_tree m c.args.left.now) + 2 = omega (arith, is) in
-    let k : IsTrue (known x) = subst (λ p. IsTrue (known (part_tree m p))) c.in-Ty.is c.requires.left_known in
+    let is : size (arg_tree m c.args.left.now) ≡ size x = ap (λ p. size (arg_tree m p)) c.in-Ty.is in
+    let small : 3 * size x + 1 < 3 * size (arg_tree m c.args.left.now) + 2 = omega (arith, is) in
+    let k : IsTrue (known x) = subst (λ p. IsTrue (known (arg_tree m p))) c.in-Ty.is c.requires.left_known in
     let n : IsTrue (known (m.ty c.in-Ty-right.rhs)) =
-    subst (λ p. IsTrue (known (part_tree m p))) c.in-Ty-right.is c.requires.right_known in
+    subst (λ p. IsTrue (known (arg_tree m p))) c.in-Ty-right.is c.requires.right_known in
     search rules
 
-pub part_may_unify-returns-in-Ty-right : goal.part_may_unify-returns-in-Ty-right
-part_may_unify-returns-in-Ty-right g t c =
+pub arg_may_unify-returns-in-Ty-right : goal.arg_may_unify-returns-in-Ty-right
+arg_may_unify-returns-in-Ty-right g t c =
     let m = g.I.Interner.meaning c.args.cx.now in
-    moved c.args.sides.left c.args.sides.right c.types_may_unify.result refl (sym (ap (part_tree m) c.in-Ty.is))
-    (sym (ap (part_tree m) c.in-Ty-right.is)) c.types_may_unify.ensures
+    moved c.args.sides.left c.args.sides.right c.types_may_unify.result refl (sym (ap (arg_tree m) c.in-Ty.is))
+    (sym (ap (arg_tree m) c.in-Ty-right.is)) c.types_may_unify.ensures
 
-pub part_may_unify-returns-in_default-right : goal.part_may_unify-returns-in_default-right
-part_may_unify-returns-in_default-right g t c =
+pub arg_may_unify-returns-in_default-right : goal.arg_may_unify-returns-in_default-right
+arg_may_unify-returns-in_default-right g t c =
     let m = g.I.Interner.meaning c.args.cx.now in
-    let p = c.args.left.now in
-    let q = c.args.right.now in
-    let sorted : Sorted m = record {
-      ty = g.met.I.Interner.is_ty c.args.cx.now;
-      region = g.met.I.Interner.is_region c.args.cx.now;
-      tys = g.met.I.Interner.are_tys c.args.cx.now;
-      const_ = g.met.I.Interner.is_const c.args.cx.now;
-      valtree = g.met.I.Interner.is_valtree c.args.cx.now;
-      args = g.met.I.Interner.are_args c.args.cx.now;
-      branches = g.met.I.Interner.are_branches c.args.cx.now;
-      pat = g.met.I.Interner.is_pat c.args.cx.now;
-      alternatives = g.met.I.Interner.are_alternatives c.args.cx.now;
-      existential_predicates = g.met.I.Interner.are_existential_predicates c.args.cx.now;
-    } in
-    let sp = sort_known m sorted p c.requires.left_known in
-    let sq = sort_known m sorted q c.requires.right_known in
-    passes (λ k. other_const q c.in_default-right.not-Const (sym sq ∙ const_pair k refl (sp ∙ ap part_sort c.in-Const.is)))
+    let k = subst (λ x. IsTrue (known (arg_tree m x))) c.in-Const.is c.requires.left_known in
+    let is = ap (λ x. tree_sort (arg_tree m x)) c.in-Const.is
+    ∙ const_term (m.const_ c.in-Const.lhs) (g.met.I.Interner.is_const c.args.cx.now c.in-Const.lhs k) in
+    passes (λ z. other_than_const m (λ r h. region_term (m.region r) (g.met.I.Interner.is_region c.args.cx.now r h))
+    (λ n h. type_term (m.ty n) (g.met.I.Interner.is_ty c.args.cx.now n h)) c.args.right.now c.requires.right_known
+    c.in_default-right.not-Const (const_pair z refl is))
 
-pub part_may_unify-consts_may_unify-requires : goal.part_may_unify-consts_may_unify-requires
-part_may_unify-consts_may_unify-requires g t' c κs within =
+pub arg_may_unify-consts_may_unify-requires-clause-lhs_known : goal.arg_may_unify-consts_may_unify-requires-clause-lhs_known
+arg_may_unify-consts_may_unify-requires-clause-lhs_known g t c =
     let m = g.I.Interner.meaning c.args.cx.now in
-    let x = m.const_ c.in-Const.lhs in
+    subst (λ p. IsTrue (known (arg_tree m p))) c.in-Const.is c.requires.left_known
+
+pub arg_may_unify-consts_may_unify-requires-clause-rhs_known : goal.arg_may_unify-consts_may_unify-requires-clause-rhs_known
+arg_may_unify-consts_may_unify-requires-clause-rhs_known g t c =
+    let m = g.I.Interner.meaning c.args.cx.now in
+    subst (λ p. IsTrue (known (arg_tree m p))) c.in-Const-right.is c.requires.right_known
+
+pub arg_may_unify-returns-in-Const-right : goal.arg_may_unify-returns-in-Const-right
+arg_may_unify-returns-in-Const-right g t c =
+    let m = g.I.Interner.meaning c.args.cx.now in
+    moved c.args.sides.left c.args.sides.right c.consts_may_unify.result refl (sym (ap (arg_tree m) c.in-Const.is))
+    (sym (ap (arg_tree m) c.in-Const-right.is)) c.consts_may_unify.ensures
+
+pub arg_may_unify-returns-in-Lifetime : goal.arg_may_unify-returns-in-Lifetime
+arg_may_unify-returns-in-Lifetime g t c =
+    let m = g.I.Interner.meaning c.args.cx.now in
+    let k = subst (λ x. IsTrue (known (arg_tree m x))) c.in-Lifetime.is c.requires.left_known in
+    let is = ap (λ x. tree_sort (arg_tree m x)) c.in-Lifetime.is
+    ∙ region_term (m.region c.in-Lifetime.field-0) (g.met.I.Interner.is_region c.args.cx.now c.in-Lifetime.field-0 k) in
+    passes (λ z. quiet_clash z (ap is_quiet is))
+
+pub args_may_unify-loop-i-init : goal.args_may_unify-loop-i-init
+args_may_unify-loop-i-init g t c = record { on = λ k. k; back = λ k. k }
+
+pub args_may_unify-arg_may_unify-requires : goal.args_may_unify-arg_may_unify-requires
+args_may_unify-arg_may_unify-requires g t' c κs within =
+    let m = g.I.Interner.meaning c.args.cx.now in
+    let f = arg_tree m in
+    let xs = list_tree f c.args.left.now in
+    let ys = list_tree f c.args.right.now in
+    let i = c.loop-i.i in
+    let x = c.index-left-i.result in
+    let y = c.index-right-i.result in
+    let test = c.loop-i-test.true in
+    let at = list_count f c.args.left.now in
+    let also = list_count f c.args.right.now in
+    let below : i < count xs = omega (arith, test, at) in
+    let under : i < count ys = omega (arith, test, also) in
     let d = c.decreases in
-    let is : size (part_tree m c.args.left.now) ≡ size x = ap (λ p. size (part_tree m p)) c.in-Const.is in
-    let small : 3 * size x + 1 < 3 * size (part_tree m c.args.left.now) + 2 = omega (arith, is) in
-    let k : IsTrue (known x) = subst (λ p. IsTrue (known (part_tree m p))) c.in-Const.is c.requires.left_known in
-    let n : IsTrue (known (m.const_ c.in-Const-right.rhs)) =
-    subst (λ p. IsTrue (known (part_tree m p))) c.in-Const-right.is c.requires.right_known in
+    let less = member_small xs i below in
+    let is : size (f x) ≡ size (nth i xs) = ap size (slice_nth f c.args.left.now xs refl i x x below c.index-left-i.is) in
+    let small : 3 * size (f x) + 2 < 3 * size xs = omega (arith, less, is) in
+    let k = slice_sure f c.args.left.now xs refl c.requires.left_known i x x below c.index-left-i.is in
+    let n = slice_sure f c.args.right.now ys refl c.requires.right_known i y y under c.index-right-i.is in
     search rules
 
-pub part_may_unify-returns-in-Const-right : goal.part_may_unify-returns-in-Const-right
-part_may_unify-returns-in-Const-right g t c =
+pub args_may_unify-returns-then-not-arg_may_unify : goal.args_may_unify-returns-then-not-arg_may_unify
+args_may_unify-returns-then-not-arg_may_unify g t c =
     let m = g.I.Interner.meaning c.args.cx.now in
-    moved c.args.sides.left c.args.sides.right c.consts_may_unify.result refl (sym (ap (part_tree m) c.in-Const.is))
-    (sym (ap (part_tree m) c.in-Const-right.is)) c.consts_may_unify.ensures
+    let f = arg_tree m in
+    let xs = list_tree f c.args.left.now in
+    let ys = list_tree f c.args.right.now in
+    let i = c.loop-i.i in
+    let x = c.index-left-i.result in
+    let y = c.index-right-i.result in
+    let test = c.loop-i-test.true in
+    let at = list_count f c.args.left.now in
+    let also = list_count f c.args.right.now in
+    let a : i < count xs = omega (arith, test, at) in
+    let b : i < count ys = omega (arith, test, also) in
+    let no : c.arg_may_unify.result ≡ false = (let n = c.if-not-arg_may_unify.true in search rules) in
+    fails (c.loop-i.invariant.back (rest_here c.args.sides.left c.args.sides.right c.args.depth xs ys i (f x) (f y) a b
+    (slice_nth f c.args.left.now xs refl i x x a c.index-left-i.is)
+    (slice_nth f c.args.right.now ys refl i y y b c.index-right-i.is) (c.arg_may_unify.ensures.0 no)))
 
-pub part_may_unify-returns-in_default-right-2 : goal.part_may_unify-returns-in_default-right-2
-part_may_unify-returns-in_default-right-2 g t c =
+pub args_may_unify-loop-i-preserved : goal.args_may_unify-loop-i-preserved
+args_may_unify-loop-i-preserved g t c =
     let m = g.I.Interner.meaning c.args.cx.now in
-    let p = c.args.left.now in
-    let q = c.args.right.now in
-    let sorted : Sorted m = record {
-      ty = g.met.I.Interner.is_ty c.args.cx.now;
-      region = g.met.I.Interner.is_region c.args.cx.now;
-      tys = g.met.I.Interner.are_tys c.args.cx.now;
-      const_ = g.met.I.Interner.is_const c.args.cx.now;
-      valtree = g.met.I.Interner.is_valtree c.args.cx.now;
-      args = g.met.I.Interner.are_args c.args.cx.now;
-      branches = g.met.I.Interner.are_branches c.args.cx.now;
-      pat = g.met.I.Interner.is_pat c.args.cx.now;
-      alternatives = g.met.I.Interner.are_alternatives c.args.cx.now;
-      existential_predicates = g.met.I.Interner.are_existential_predicates c.args.cx.now;
-    } in
-    let sp = sort_known m sorted p c.requires.left_known in
-    let sq = sort_known m sorted q c.requires.right_known in
-    passes (λ k. other_valtree q c.in_default-right-2.not-ValTree (sym sq ∙ const_pair k refl (sp ∙ ap part_sort c.in-ValTree.is)))
+    let f = arg_tree m in
+    let l = c.args.sides.left in
+    let r = c.args.sides.right in
+    let xs = list_tree f c.args.left.now in
+    let ys = list_tree f c.args.right.now in
+    let i = c.loop-i.i in
+    let x = c.index-left-i.result in
+    let y = c.index-right-i.result in
+    let test = c.loop-i-test.true in
+    let at = list_count f c.args.left.now in
+    let also = list_count f c.args.right.now in
+    let a : i < count xs = omega (arith, test, at) in
+    let b : i < count ys = omega (arith, test, also) in
+    let next : i + 1 ≡ suc i = omega arith in
+    let none : Clash l r c.args.depth (f x) (f y) → ⊥ =
+    (λ k. (let no = c.arg_may_unify.ensures.1 k in let n = c.if-not-arg_may_unify.false in search rules)) in
+    record {
+      on = λ k. rest_on l r c.args.depth xs ys i (i + 1) (f x) (f y) next a b
+          (slice_nth f c.args.left.now xs refl i x x a c.index-left-i.is)
+          (slice_nth f c.args.right.now ys refl i y y b c.index-right-i.is) none (c.loop-i.invariant.on k);
+      back = λ k. c.loop-i.invariant.back (rest_further l r c.args.depth xs ys i (i + 1) next a b k);
+    }
 
-pub part_may_unify-valtrees_may_unify-requires : goal.part_may_unify-valtrees_may_unify-requires
-part_may_unify-valtrees_may_unify-requires g t' c κs within =
+pub args_may_unify-returns : goal.args_may_unify-returns
+args_may_unify-returns g t c =
     let m = g.I.Interner.meaning c.args.cx.now in
-    let x = m.valtree c.in-ValTree.lhs in
-    let d = c.decreases in
-    let is : size (part_tree m c.args.left.now) ≡ size x = ap (λ p. size (part_tree m p)) c.in-ValTree.is in
-    let small : 3 * size x + 1 < 3 * size (part_tree m c.args.left.now) + 2 = omega (arith, is) in
-    let k : IsTrue (known x) = subst (λ p. IsTrue (known (part_tree m p))) c.in-ValTree.is c.requires.left_known in
-    let n : IsTrue (known (m.valtree c.in-ValTree-right.rhs)) =
-    subst (λ p. IsTrue (known (part_tree m p))) c.in-ValTree-right.is c.requires.right_known in
-    search rules
-
-pub part_may_unify-returns-in-ValTree-right : goal.part_may_unify-returns-in-ValTree-right
-part_may_unify-returns-in-ValTree-right g t c =
-    let m = g.I.Interner.meaning c.args.cx.now in
-    moved c.args.sides.left c.args.sides.right c.valtrees_may_unify.result refl (sym (ap (part_tree m) c.in-ValTree.is))
-    (sym (ap (part_tree m) c.in-ValTree-right.is)) c.valtrees_may_unify.ensures
-
-pub part_may_unify-parts_of-left_parts-requires : goal.part_may_unify-parts_of-left_parts-requires
-part_may_unify-parts_of-left_parts-requires g t c = c.requires.left_known
-
-pub part_may_unify-parts_of-right_parts-requires : goal.part_may_unify-parts_of-right_parts-requires
-part_may_unify-parts_of-right_parts-requires g t c = c.requires.right_known
-
-pub part_may_unify-parts_may_unify-requires : goal.part_may_unify-parts_may_unify-requires
-part_may_unify-parts_may_unify-requires g t' c κs within =
-    let m = g.I.Interner.meaning c.args.cx.now in
-    let a = part_tree m c.args.left.now in
-    let ts = parts_tree m c.parts_of-left_parts.result in
-    let d = c.decreases in
-    let less = parts_small a in
-    let is : size ts ≡ size (parts_of a) = ap size c.parts_of-left_parts.ensures.means in
-    let small : 3 * size ts < 3 * size a + 2 = omega (arith, less, is) in
-    let k = c.parts_of-left_parts.ensures.sure in
-    let n = c.parts_of-right_parts.ensures.sure in
-    search rules
-
-pub part_may_unify-returns-in-Binder : goal.part_may_unify-returns-in-Binder
-part_may_unify-returns-in-Binder g t c =
-    let m = g.I.Interner.meaning c.args.cx.now in
-    let p = c.args.left.now in
-    let q = c.args.right.now in
-    let sorted : Sorted m = record {
-      ty = g.met.I.Interner.is_ty c.args.cx.now;
-      region = g.met.I.Interner.is_region c.args.cx.now;
-      tys = g.met.I.Interner.are_tys c.args.cx.now;
-      const_ = g.met.I.Interner.is_const c.args.cx.now;
-      valtree = g.met.I.Interner.is_valtree c.args.cx.now;
-      args = g.met.I.Interner.are_args c.args.cx.now;
-      branches = g.met.I.Interner.are_branches c.args.cx.now;
-      pat = g.met.I.Interner.is_pat c.args.cx.now;
-      alternatives = g.met.I.Interner.are_alternatives c.args.cx.now;
-      existential_predicates = g.met.I.Interner.are_existential_predicates c.args.cx.now;
-    } in
-    let sp = sort_known m sorted p c.requires.left_known in
-    let b : is_between (part_sort p) ≡ true = (let i = c.in-Binder.is in grind arith) in
-    between_decides c.args.sides.left c.args.sides.right c.args.depth (part_tree m p) (part_tree m q)
-    c.parts_may_unify.result (ap is_between sp ∙ b)
-    (moved c.args.sides.left c.args.sides.right c.parts_may_unify.result refl c.parts_of-left_parts.ensures.means
-    c.parts_of-right_parts.ensures.means c.parts_may_unify.ensures)
-
-pub part_may_unify-returns-in-Region : goal.part_may_unify-returns-in-Region
-part_may_unify-returns-in-Region g t c =
-    let m = g.I.Interner.meaning c.args.cx.now in
-    let p = c.args.left.now in
-    let q = c.args.right.now in
-    let sorted : Sorted m = record {
-      ty = g.met.I.Interner.is_ty c.args.cx.now;
-      region = g.met.I.Interner.is_region c.args.cx.now;
-      tys = g.met.I.Interner.are_tys c.args.cx.now;
-      const_ = g.met.I.Interner.is_const c.args.cx.now;
-      valtree = g.met.I.Interner.is_valtree c.args.cx.now;
-      args = g.met.I.Interner.are_args c.args.cx.now;
-      branches = g.met.I.Interner.are_branches c.args.cx.now;
-      pat = g.met.I.Interner.is_pat c.args.cx.now;
-      alternatives = g.met.I.Interner.are_alternatives c.args.cx.now;
-      existential_predicates = g.met.I.Interner.are_existential_predicates c.args.cx.now;
-    } in
-    let sp = sort_known m sorted p c.requires.left_known in
-    let b : is_quiet (part_sort p) ≡ true = (let i = c.in-Region.is in grind arith) in
-    passes (λ k. quiet_clash k (ap is_quiet sp ∙ b))
-
-pub part_may_unify-returns-in-Region-2 : goal.part_may_unify-returns-in-Region-2
-part_may_unify-returns-in-Region-2 g t c =
-    let m = g.I.Interner.meaning c.args.cx.now in
-    let p = c.args.left.now in
-    let q = c.args.right.now in
-    let sorted : Sorted m = record {
-      ty = g.met.I.Interner.is_ty c.args.cx.now;
-      region = g.met.I.Interner.is_region c.args.cx.now;
-      tys = g.met.I.Interner.are_tys c.args.cx.now;
-      const_ = g.met.I.Interner.is_const c.args.cx.now;
-      valtree = g.met.I.Interner.is_valtree c.args.cx.now;
-      args = g.met.I.Interner.are_args c.args.cx.now;
-      branches = g.met.I.Interner.are_branches c.args.cx.now;
-      pat = g.met.I.Interner.is_pat c.args.cx.now;
-      alternatives = g.met.I.Interner.are_alternatives c.args.cx.now;
-      existential_predicates = g.met.I.Interner.are_existential_predicates c.args.cx.now;
-    } in
-    let sp = sort_known m sorted p c.requires.left_known in
-    let b : is_quiet (part_sort p) ≡ true = (let i = c.in-Region.is in grind arith) in
-    passes (λ k. quiet_clash k (ap is_quiet sp ∙ b))
-
-pub part_may_unify-returns-in-Region-3 : goal.part_may_unify-returns-in-Region-3
-part_may_unify-returns-in-Region-3 g t c =
-    let m = g.I.Interner.meaning c.args.cx.now in
-    let p = c.args.left.now in
-    let q = c.args.right.now in
-    let sorted : Sorted m = record {
-      ty = g.met.I.Interner.is_ty c.args.cx.now;
-      region = g.met.I.Interner.is_region c.args.cx.now;
-      tys = g.met.I.Interner.are_tys c.args.cx.now;
-      const_ = g.met.I.Interner.is_const c.args.cx.now;
-      valtree = g.met.I.Interner.is_valtree c.args.cx.now;
-      args = g.met.I.Interner.are_args c.args.cx.now;
-      branches = g.met.I.Interner.are_branches c.args.cx.now;
-      pat = g.met.I.Interner.is_pat c.args.cx.now;
-      alternatives = g.met.I.Interner.are_alternatives c.args.cx.now;
-      existential_predicates = g.met.I.Interner.are_existential_predicates c.args.cx.now;
-    } in
-    let sp = sort_known m sorted p c.requires.left_known in
-    let b : is_quiet (part_sort p) ≡ true = (let i = c.in-Region.is in grind arith) in
-    passes (λ k. quiet_clash k (ap is_quiet sp ∙ b))
-
-pub part_may_unify-returns-in-Region-4 : goal.part_may_unify-returns-in-Region-4
-part_may_unify-returns-in-Region-4 g t c =
-    let m = g.I.Interner.meaning c.args.cx.now in
-    let p = c.args.left.now in
-    let q = c.args.right.now in
-    let sorted : Sorted m = record {
-      ty = g.met.I.Interner.is_ty c.args.cx.now;
-      region = g.met.I.Interner.is_region c.args.cx.now;
-      tys = g.met.I.Interner.are_tys c.args.cx.now;
-      const_ = g.met.I.Interner.is_const c.args.cx.now;
-      valtree = g.met.I.Interner.is_valtree c.args.cx.now;
-      args = g.met.I.Interner.are_args c.args.cx.now;
-      branches = g.met.I.Interner.are_branches c.args.cx.now;
-      pat = g.met.I.Interner.is_pat c.args.cx.now;
-      alternatives = g.met.I.Interner.are_alternatives c.args.cx.now;
-      existential_predicates = g.met.I.Interner.are_existential_predicates c.args.cx.now;
-    } in
-    let sp = sort_known m sorted p c.requires.left_known in
-    let b : is_quiet (part_sort p) ≡ true = (let i = c.in-Region.is in grind arith) in
-    passes (λ k. quiet_clash k (ap is_quiet sp ∙ b))
-
-pub part_may_unify-returns-in-Region-5 : goal.part_may_unify-returns-in-Region-5
-part_may_unify-returns-in-Region-5 g t c =
-    let m = g.I.Interner.meaning c.args.cx.now in
-    let p = c.args.left.now in
-    let q = c.args.right.now in
-    let sorted : Sorted m = record {
-      ty = g.met.I.Interner.is_ty c.args.cx.now;
-      region = g.met.I.Interner.is_region c.args.cx.now;
-      tys = g.met.I.Interner.are_tys c.args.cx.now;
-      const_ = g.met.I.Interner.is_const c.args.cx.now;
-      valtree = g.met.I.Interner.is_valtree c.args.cx.now;
-      args = g.met.I.Interner.are_args c.args.cx.now;
-      branches = g.met.I.Interner.are_branches c.args.cx.now;
-      pat = g.met.I.Interner.is_pat c.args.cx.now;
-      alternatives = g.met.I.Interner.are_alternatives c.args.cx.now;
-      existential_predicates = g.met.I.Interner.are_existential_predicates c.args.cx.now;
-    } in
-    let sp = sort_known m sorted p c.requires.left_known in
-    let b : is_quiet (part_sort p) ≡ true = (let i = c.in-Region.is in grind arith) in
-    passes (λ k. quiet_clash k (ap is_quiet sp ∙ b))
+    let f = arg_tree m in
+    let xs = list_tree f c.args.left.now in
+    let ys = list_tree f c.args.right.now in
+    let i = c.loop-i.i in
+    let test = c.loop-i-test.false in
+    let end = (c.loop-i.auto).i-end in
+    let at = list_count f c.args.left.now in
+    let also = list_count f c.args.right.now in
+    let either : (i ≡ count xs) ⊎ (i ≡ count ys) = shorter i (count xs) (count ys) (omega (arith, test, end, at, also)) in
+    passes (λ k. rest_none c.args.sides.left c.args.sides.right c.args.depth xs ys i (list_is f c.args.left.now)
+    (list_is f c.args.right.now) either (c.loop-i.invariant.on k))

@@ -1,34 +1,44 @@
 use Rattle.std.proofs.Common.{◌+◌, ◌*◌}
-use Rattle.relation_terms.specs.Trees.{size}
-use Rattle.relation_terms.specs.Parts.{part_tree, parts_tree}
+use Rattle.relation_terms.specs.Trees.{size, list_tree}
+use Rattle.relation_terms.specs.Meaning.{arg_tree}
 use Rattle.relation_tools.specs.Clashes.{Clash}
+use Rattle.relation_tools.specs.Pairs.{pair_size}
 use Rattle.relation_tools.proofs.Visiting.{rest}
 use Rattle.relation_tools.proofs.fast_reject.walk.+clashes.Given as goal
 
 abbrev pub decreases-types_may_unify : goal.decreases-types_may_unify
 decreases-types_may_unify g l = 3 * size ((g.I.Interner.meaning l.cx.now).ty l.lhs.now) + 1
 
-abbrev pub decreases-consts_may_unify : goal.decreases-consts_may_unify
-decreases-consts_may_unify g l = 3 * size ((g.I.Interner.meaning l.cx.now).const_ l.lhs.now) + 1
+abbrev pub decreases-pair_may_unify : goal.decreases-pair_may_unify
+decreases-pair_may_unify g l = 3 * pair_size (g.I.Interner.meaning l.cx.now) l.pair + 2
 
-abbrev pub decreases-valtrees_may_unify : goal.decreases-valtrees_may_unify
-decreases-valtrees_may_unify g l = 3 * size ((g.I.Interner.meaning l.cx.now).valtree l.lhs.now) + 1
+abbrev pub decreases-tys_may_unify : goal.decreases-tys_may_unify
+decreases-tys_may_unify g l = 3 * size (list_tree (g.I.Interner.meaning l.cx.now).ty l.left.now)
 
-abbrev pub decreases-part_may_unify : goal.decreases-part_may_unify
-decreases-part_may_unify g l = 3 * size (part_tree (g.I.Interner.meaning l.cx.now) l.left.now) + 2
+abbrev pub decreases-arg_may_unify : goal.decreases-arg_may_unify
+decreases-arg_may_unify g l = 3 * size (arg_tree (g.I.Interner.meaning l.cx.now) l.left.now) + 2
 
-abbrev pub decreases-parts_may_unify : goal.decreases-parts_may_unify
-decreases-parts_may_unify g l = 3 * size (parts_tree (g.I.Interner.meaning l.cx.now) l.left.now)
+abbrev pub decreases-args_may_unify : goal.decreases-args_may_unify
+decreases-args_may_unify g l = 3 * size (list_tree (arg_tree (g.I.Interner.meaning l.cx.now)) l.left.now)
 
 -- There is a clash in what is left just where there is one in the whole.
-abbrev pub invariant-parts_may_unify-loop-i : goal.invariant-parts_may_unify-loop-i
-invariant-parts_may_unify-loop-i g l = record {
-  on : Clash l.sides.left l.sides.right l.depth (parts_tree (g.I.Interner.meaning l.cx) l.left)
-      (parts_tree (g.I.Interner.meaning l.cx) l.right) →
-      Clash l.sides.left l.sides.right l.depth (rest l.i (parts_tree (g.I.Interner.meaning l.cx) l.left))
-      (rest l.i (parts_tree (g.I.Interner.meaning l.cx) l.right));
-  back : Clash l.sides.left l.sides.right l.depth (rest l.i (parts_tree (g.I.Interner.meaning l.cx) l.left))
-      (rest l.i (parts_tree (g.I.Interner.meaning l.cx) l.right)) →
-      Clash l.sides.left l.sides.right l.depth (parts_tree (g.I.Interner.meaning l.cx) l.left)
-      (parts_tree (g.I.Interner.meaning l.cx) l.right);
-}
+abbrev pub invariant-tys_may_unify-loop-i : goal.invariant-tys_may_unify-loop-i
+invariant-tys_may_unify-loop-i g l =
+    let m = g.I.Interner.meaning l.cx in
+    let xs = list_tree (m.ty) l.left in
+    let ys = list_tree (m.ty) l.right in
+    record {
+      on : Clash l.sides.left l.sides.right l.depth xs ys → Clash l.sides.left l.sides.right l.depth (rest l.i xs) (rest l.i ys);
+      back : Clash l.sides.left l.sides.right l.depth (rest l.i xs) (rest l.i ys) → Clash l.sides.left l.sides.right l.depth xs ys;
+    }
+
+-- There is a clash in what is left just where there is one in the whole.
+abbrev pub invariant-args_may_unify-loop-i : goal.invariant-args_may_unify-loop-i
+invariant-args_may_unify-loop-i g l =
+    let m = g.I.Interner.meaning l.cx in
+    let xs = list_tree (arg_tree m) l.left in
+    let ys = list_tree (arg_tree m) l.right in
+    record {
+      on : Clash l.sides.left l.sides.right l.depth xs ys → Clash l.sides.left l.sides.right l.depth (rest l.i xs) (rest l.i ys);
+      back : Clash l.sides.left l.sides.right l.depth (rest l.i xs) (rest l.i ys) → Clash l.sides.left l.sides.right l.depth xs ys;
+    }

@@ -1,0 +1,26 @@
+-- What components name is known.
+use Rattle.std.specs.Prelude.{List, IsTrue}
+use Rattle.relation_terms.specs.Trees.{known}
+use Rattle.relation_terms.specs.Meaning.{Meaning}
+use Rattle.relation_tools.specs.Outliving.{EachIs}
+use Rattle.relation_tools.specs.declared.outlives.Component.{Component, Region, Param, Placeholder, UnresolvedInferenceVariable, Alias, EscapingAlias', Row_of-Component, end_of-Component, more_of-Component}
+
+module _ {X D N : Type 0} (m : Meaning X D N) where
+  abbrev mutual
+    -- The region, or the arguments of the alias; of one that a variable escapes, what its components name.
+    pub KnowsComponent : Component X D N → Type 0
+    KnowsComponent (Region r) = IsTrue (known (m.region r))
+    KnowsComponent (Param p) = Unit {0}
+    KnowsComponent (Placeholder p) = Unit {0}
+    KnowsComponent (UnresolvedInferenceVariable i) = Unit {0}
+    KnowsComponent (Alias a) = IsTrue (known (m.args a.args))
+    KnowsComponent (EscapingAlias' shape all) = KnowsInside all
+
+    -- The same of each that is held in one.
+    pub KnowsInside : {n : _} → Row_of-Component X D N n → Type 0
+    KnowsInside end_of-Component = Unit {0}
+    KnowsInside (more_of-Component c rest) = KnowsComponent c × KnowsInside rest
+
+  -- The same of each of a list.
+  abbrev pub KnowsComponents : List (Component X D N) → Type 0
+  KnowsComponents cs = EachIs (λ c. KnowsComponent c) cs
