@@ -1,26 +1,32 @@
 -- What each call of a lawful context does, over the keys of its terms.
-use Rattle.std.specs.Prelude.{◌≡◌, ◌≢◌, ℕ, ◌<◌, ◌≤◌, ◌+◌, ◌*◌, IsTrue, max, min, length, Result, Ok, Err}
+use Rattle.std.specs.Prelude.{◌≡◌, ◌≢◌, ℕ, IsTrue, max, min, length, Result, Ok, Err}
 use Rattle.relation_terms.specs.declared.terms.enums.Variance.{Variance}
-use Rattle.relation_terms.specs.declared.terms.enums.Variance.TheVariants.{Invariant}
 use Rattle.relation_terms.specs.Heads.{VarKind, variable}
-use Rattle.relation_terms.specs.Trees.{Tree, leaf, known}
+use Rattle.relation_terms.specs.Trees.{Tree, leaf, known, apply}
 use Rattle.relation_terms.specs.Meaning.{Meaning, Extends}
+use Rattle.relation_tools.specs.declared.error.TypeError.{TypeError}
+use Rattle.relation_tools.specs.declared.error.TypeError.TheVariants.{Mismatch}
 use Rattle.relation_tools.specs.declared.error.RelateFault.{RelateFault}
 use Rattle.relation_tools.specs.declared.error.RelateFault.TheVariants.{Memory, Budget, Unrelated}
 use Rattle.relation_tools.specs.Faults.{KnowsError}
 use Rattle.type_relations.specs.Contexts.{Context}
 use Rattle.type_relations.specs.Covered.{IsCovered}
-use Rattle.type_relations.specs.Errors.{IsReadAs, BindingError}
-use Rattle.type_relations.specs.FirstOrder.{IsFirstOrder, IsFirstOrderStore}
-use Rattle.type_relations.specs.Measures.{Goes}
+use Rattle.type_relations.specs.Errors.{IsReadAs}
+use Rattle.type_relations.specs.Generalising.{Obstacle, cycle, beyond, InstantiatesBy, RefusesBy, MakesUnbound}
+use Rattle.type_relations.specs.Lawful.{items_of}
 use Rattle.type_relations.specs.Resolving.{IsRoot}
 use Rattle.type_relations.specs.Steps.{Equates, InstantiatesNumber, MakesVariable, AddsConstraint, Resolves, LeadsTo}
-use Rattle.type_relations.specs.Steps.{Instantiates, RefusesToInstantiate}
-use Rattle.type_relations.specs.Stores.{Store, Constraint, IsMade, unbound, bound_to, entry_of, weight}
+use Rattle.type_relations.specs.Stores.{Store, Constraint, IsMade, unbound, bound_to, entry_of, universe_of, resolved}
 
 -- What variables are bound to is of forms that relating has rules for.
 abbrev pub HasCoveredBindings : Store → Type 0
 HasCoveredBindings st = (k : VarKind) (n : ℕ) (t : Tree) → entry_of st k n ≡ bound_to t → IsCovered t
+
+-- The error that an obstacle makes: a variable that stands in what its source comes to names that.
+abbrev pub ObstacleError : {Key Id Name K : Type 0} → (K → Tree) → (K → TypeError Key Id Name) → Tree →
+    TypeError Key Id Name → Obstacle → Type 0
+ObstacleError {K = K} tree cyclic t e cycle = (x : K) × (tree x ≡ t) × (e ≡ cyclic x)
+ObstacleError tree cyclic t e beyond = e ≡ Mismatch
 
 module _ {Key Id Name : Type 0} (c : Context Key Id Name) where
   -- The variable is the context's, and nothing is recorded of it.
@@ -80,24 +86,16 @@ module _ {Key Id Name : Type 0} (c d : Context Key Id Name) where
   Constrains q (Ok x) = AddsConstraint c.store d.store q
   Constrains q (Err f) = d.store ≡ c.store
 
-  -- A variable was bound, at a variance, to what a term comes to, for one of the budget. What the term and the bound
-  -- term come to is then no larger than the square of what is larger than the term was; and of first-order terms, at
-  -- invariance, the record stays first-order.
-  pub record BindsTerm (v : Variance) (k : VarKind) (n : ℕ) (source term : Tree) : Type 0 where
-    pub sure : IsTrue (known term)
-    pub binds : Instantiates c.store d.store v k n source term
-    pub goes : (size : ℕ) → weight c.store source < size → Goes size c.store d.store
-    pub squares : (size : ℕ) → weight c.store source < size →
-        weight d.store term + weight d.store source ≤ size * size
-    pub first_order : v ≡ Invariant → IsFirstOrder source → IsFirstOrderStore c.store → IsFirstOrderStore d.store
-
-  -- Or nothing was recorded: the variable can't be bound to it, and the error says why; or nothing is left of the
-  -- budget; or a growth was refused.
+  -- What binding a variable, at a variance, to what a term comes to answers: the term that it was bound to by the rules,
+  -- for one of the budget; or nothing was bound, since an obstacle stands in what the term comes to, or nothing is left
+  -- of the budget, or a growth was refused. Variables that were made on the way stay unbound.
   abbrev pub Instantiated : {K : Type 0} → Variance → VarKind → ℕ → Tree → (Meaning Key Id Name → K → Tree) →
-      Result K (RelateFault Key Id Name) → Type 0
-  Instantiated v k n source tree (Ok t) = BindsTerm v k n source (tree d.meaning t)
-  Instantiated v k n source tree (Err (Unrelated e)) = KnowsError d.meaning e ×
-      BindingError d.meaning d.store (leaf (variable k n)) source e × RefusesToInstantiate c.store d.store v k n source ×
-      (d.store ≡ c.store)
-  Instantiated v k n source tree (Err Budget) = ((c.store).budget ≡ 0) × (d.store ≡ c.store)
-  Instantiated v k n source tree (Err Memory) = d.store ≡ c.store
+      (K → TypeError Key Id Name) → Result K (RelateFault Key Id Name) → Type 0
+  Instantiated v k n source tree cyclic (Ok t) = IsTrue (known (tree d.meaning t)) ×
+      InstantiatesBy (items_of c.meaning) c.store d.store v k n source (tree d.meaning t)
+  Instantiated v k n source tree cyclic (Err (Unrelated e)) = KnowsError d.meaning e ×
+      ((o : Obstacle) × RefusesBy c.store d.store k n source o ×
+      ObstacleError (tree d.meaning) cyclic (apply (resolved c.store) source) e o)
+  Instantiated v k n source tree cyclic (Err Budget) = ((c.store).budget ≡ 0) × (d.store ≡ c.store)
+  Instantiated v k n source tree cyclic (Err Memory) = ((c.store).budget ≢ 0) ×
+      MakesUnbound (universe_of c.store k n) c.store d.store

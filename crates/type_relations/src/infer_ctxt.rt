@@ -7,11 +7,11 @@ ghost use Rattle.relation_terms.specs.declared.terms.ty_kind.FloatVarValue.TheVa
 ghost use Rattle.relation_terms.specs.Heads.{type_var, int_var, float_var, const_var, region_var, variable};
 ghost use Rattle.relation_terms.specs.Meaning.{Extends};
 ghost use Rattle.relation_terms.specs.Trees.{leaf};
+ghost use Rattle.relation_tools.specs.declared.error.TypeError.TheVariants.{CyclicTy, CyclicConst};
 ghost use Rattle.type_relations.specs.Stores.{IsSound, IsMade, equal_constraint, outlives_constraint};
-ghost use Rattle.type_relations.specs.Contexts.{Context, KnowsTy, KnowsConst, HasTy, HasConst, HasRegion, TakesTy};
-ghost use Rattle.type_relations.specs.Contexts.{TakesConst};
-ghost use Rattle.type_relations.specs.Taken.{IsTaken};
-ghost use Rattle.type_relations.specs.Parts.{IsFormedConst};
+ghost use Rattle.type_relations.specs.Contexts.{Context, KnowsTy, KnowsConst, HasTy, HasConst, HasRegion};
+ghost use Rattle.type_relations.specs.Covered.{IsCovered};
+ghost use Rattle.type_relations.specs.Generalising.{NumbersNameNothing};
 ghost use Rattle.type_relations.specs.Resolving.{IsShallow, IsShallowTy, IsShallowConst};
 ghost use Rattle.type_relations.specs.NumberValues.{int_value_tree, float_value_tree};
 ghost use Rattle.type_relations.specs.ContextCalls.{IsUnresolved, IsRootOf, Reads, Knows, Stands, Grows, MakesNext};
@@ -190,13 +190,13 @@ pub trait InferCtxtLike {
         requires value_known { value ≢ UnknownFloat }
         ensures { BindsNumber (state self.old) (state self.new) float_var vid.0 (float_value_tree value) };
 
-    /// Binds an unresolved type variable, at a variance, to what a type comes to, for one of the budget, and answers
-    /// the bound type. Both may be related at the variance, so that it is `Invariant` yet; and the type is no type
-    /// variable.
+    /// Binds an unresolved type variable, at a variance, to what a type comes to, generalised for what the variable can
+    /// name, for one of the budget, and answers the bound type. The type is no type variable, and has rules.
     ///
     /// # Errors
-    /// `Budget` where no instantiation is left, `Unrelated` where the variable can't be bound to the type, `Memory`
-    /// where a growth was refused. Then nothing was recorded.
+    /// `Budget` where no instantiation is left; `CyclicTy` where the variable stands in what the type comes to, `Mismatch`
+    /// where a placeholder does that the variable can't name; `Memory` where a growth was refused. Then nothing was bound,
+    /// though variables may have been made on the way, but for `Budget`.
     fn instantiate_ty_var_raw(
         &mut self,
         structurally_relate_aliases: StructurallyRelateAliases,
@@ -207,18 +207,17 @@ pub trait InferCtxtLike {
         requires lawful { (state self.old).lawful }
         requires decides { instantiation_variance ≢ Bivariant }
         requires target_unresolved { IsUnresolved (state self.old) type_var target_vid.0 }
-        requires target_taken { IsTaken instantiation_variance (leaf (variable type_var target_vid.0)) }
         requires source_known { KnowsTy (state self.old) source_ty.now }
         requires source_in { HasTy (state self.old) source_ty.now }
-        requires source_taken { TakesTy (state self.old) instantiation_variance source_ty.now }
+        requires source_covered { IsCovered (((state self.old).meaning).ty source_ty.now) }
         requires source_no_variable { (n : ℕ) →
             ((state self.old).meaning).ty source_ty.now ≢ leaf (variable type_var n) }
         ensures grows { Grows (state self.old) (state self.new) }
         ensures instantiates { let t = ((state self.old).meaning).ty source_ty.now in
             Instantiated (state self.old) (state self.new) instantiation_variance type_var target_vid.0 t (λ m. m.ty)
-            result };
+            CyclicTy result };
 
-    /// The same of a constant variable and a constant, at `Invariant`.
+    /// The same of a constant variable and a constant that is no variable, at `Invariant`, with `CyclicConst`.
     fn instantiate_const_var_raw(
         &mut self,
         structurally_relate_aliases: StructurallyRelateAliases,
@@ -229,11 +228,13 @@ pub trait InferCtxtLike {
         requires target_unresolved { IsUnresolved (state self.old) const_var target_vid.0 }
         requires source_known { KnowsConst (state self.old) source_ct.now }
         requires source_in { HasConst (state self.old) source_ct.now }
-        requires source_taken { TakesConst (state self.old) Invariant source_ct.now }
-        requires source_formed { IsFormedConst (((state self.old).meaning).const_ source_ct.now) }
+        requires source_covered { IsCovered (((state self.old).meaning).const_ source_ct.now) }
+        requires source_no_variable { (n : ℕ) →
+            ((state self.old).meaning).const_ source_ct.now ≢ leaf (variable const_var n) }
         ensures grows { Grows (state self.old) (state self.new) }
         ensures instantiates { let t = ((state self.old).meaning).const_ source_ct.now in
-            Instantiated (state self.old) (state self.new) Invariant const_var target_vid.0 t (λ m. m.const_) result };
+            Instantiated (state self.old) (state self.new) Invariant const_var target_vid.0 t (λ m. m.const_)
+            CyclicConst result };
 
     /// Records that `sup` outlives `sub`. After `OutOfMemory` nothing was recorded.
     fn sub_regions(
@@ -271,6 +272,9 @@ pub trait InferCtxtLike {
 
     // What a lawful context has recorded is sound.
     ghost sound: { (c : Self) → (state c).lawful → IsSound (state c).store };
+
+    // Its variables of numbers name nothing.
+    ghost numbers: { (c : Self) → (state c).lawful → NumbersNameNothing (state c).store };
 
     // What its variables are bound to is of forms that relating has rules for.
     ghost covered: { (c : Self) → (state c).lawful → HasCoveredBindings (state c).store };
