@@ -60,4 +60,6 @@ pub mod Variables
 pub mod Exactly
 pub mod Shallowly
 pub mod NumberVars
+pub mod Turning
 pub mod Solving
+pub mod SolvingVariables

@@ -14,7 +14,7 @@ use Rattle.relation_terms.specs.declared.terms.keys.ConstKey.{ConstKey}
 use Rattle.relation_terms.specs.declared.terms.keys.RegionKey.{RegionKey}
 use Rattle.relation_terms.specs.declared.terms.keys.ParamEnvKey.{ParamEnvKey}
 use Rattle.relation_terms.specs.Variances.{xform}
-use Rattle.relation_terms.specs.Heads.{type_sort, region_sort, VarKind, type_var, region_var, const_var, int_var, float_var, atom, variable}
+use Rattle.relation_terms.specs.Heads.{type_sort, const_sort, region_sort, VarKind, type_var, region_var, const_var, int_var, float_var, atom, variable}
 use Rattle.relation_terms.specs.Heads.{bound, placeholder, unknown}
 use Rattle.relation_terms.specs.Trees.{Tree, leaf, node, bind, nil, cons, Assign, apply, Leaves, IsTerm, known, Occurs}
 use Rattle.relation_terms.specs.Erasure.{erase}
@@ -62,7 +62,7 @@ use Rattle.type_relations.specs.Solving.{solving, solver_settings, solver_manner
 use Rattle.type_relations.proofs.Exactly.{region_value, regions_exactly, read_pair, reading_exact}
 use Rattle.type_relations.proofs.Growing.{constraint_is_later, constraint_bound, constraint_weight}
 use Rattle.type_relations.specs.Contexts.{Context}
-use Rattle.type_relations.specs.ContextCalls.{BindsTerm, Instantiated, HasCoveredBindings, Knows, Constrains}
+use Rattle.type_relations.specs.ContextCalls.{HasCoveredBindings, Knows, Constrains}
 
 -- A type or constant variable is taken at invariance alone.
 not_fixed : (k : VarKind) (n : ℕ) → IsTypeOrConst k → IsFixedLeaf (variable k n) → ⊥
@@ -150,6 +150,11 @@ module _ {Key Id Name : Type 0} {m n : Meaning Key Id Name} (e : m ≡ n) where
   pub ty_sorted : (t : TyKey Key) → (IsTrue (known (n.ty t)) → IsTerm type_sort (n.ty t)) → IsTrue (known (m.ty t)) →
       IsTerm type_sort (m.ty t)
   ty_sorted t f h = subst (λ z. IsTerm type_sort (z.ty t)) (sym e) (f (subst (λ z. IsTrue (known (z.ty t))) e h))
+
+  pub const_sorted : (t : ConstKey Key) → (IsTrue (known (n.const_ t)) → IsTerm const_sort (n.const_ t)) →
+      IsTrue (known (m.const_ t)) → IsTerm const_sort (m.const_ t)
+  const_sorted t f h =
+      subst (λ z. IsTerm const_sort (z.const_ t)) (sym e) (f (subst (λ z. IsTrue (known (z.const_ t))) e h))
 
   pub region_sorted : (t : RegionKey Key) → (IsTrue (known (n.region t)) → IsTerm region_sort (n.region t)) →
       IsTrue (known (m.region t)) → IsTerm region_sort (m.region t)
@@ -480,221 +485,6 @@ module _ {Key Id Name : Type 0} (j : ℕ) where
       reading_exact was g a b (tree t) (tree u) p q,
     );
   }
-
-  -- A variable was bound to what a term comes to.
-  module _ (k : VarKind) (counted : IsTypeOrConst k) (c d : Context Key Id Name) (grown : Extends c.meaning d.meaning)
-      (e : ParamEnvKey Key) (env : IsTrue (known ((c.meaning).param_env e))) (before : IsSound c.store) (after : d.lawful)
-      (all : HasCoveredBindings d.store) (target : ℕ) (t u : Tree) (covered : IsCovered t) (t_in : IsTermIn c.store t)
-      (t_known : IsTrue (known t)) (bound : BindsTerm c d Invariant k target t u) where
-    abbrev was : Store
-    was = c.store
-
-    abbrev now : Store
-    now = d.store
-
-    abbrev root : Tree
-    root = leaf (variable k target)
-
-    abbrev steps : Instantiates was now Invariant k target t u
-    steps = bound.binds
-
-    u_in : IsTermIn now u
-    u_in = steps.term_in
-
-    u_covered : IsCovered u
-    u_covered = all k target u steps.now_bound
-
-    later : (z : Tree) → IsTermIn was z → IsTermIn now z
-    later z h = later_term was now (steps.later).grows (steps.later).universe_stands z h
-
-    root_in : IsTermIn now root
-    root_in = later root (term_of_made was k target steps.made)
-
-    root_reads : IsReadAs now root u
-    root_reads = by_binding k target refl steps.now_bound (itself refl)
-
-    root_weight : weight was root ≡ 1
-    root_weight = resolved_weight was k target (ap (entry_term k) steps.was_unbound)
-
-    root_value : (w : Interpretation) (s : Assign) → Satisfies w now s → apply s root ≡ apply s u
-    root_value w s sat = sat.bindings k target u (ap (entry_term k) steps.now_bound)
-
-    asked_now : (a b : Tree) → IsTrue (known a) → IsTrue (known b) → IsTermIn now a → IsTermIn now b → IsCovered a →
-        IsCovered b → Asked solver_manner (solving j d.meaning now d.lawful Invariant e) Invariant a b
-    asked_now a b k l h i c d = record {
-      left_known = k;
-      right_known = l;
-      left_in = h;
-      right_in = i;
-      left_taken = all_taken a c;
-      right_taken = all_taken b d;
-    }
-
-    left_above : weight was t < weight was root + weight was t
-    left_above = let h = root_weight in omega (arith, h)
-
-    right_above : weight was t < weight was t + weight was root
-    right_above = let h = root_weight in omega (arith, h)
-
-    both : StepsTo (items_of c.meaning) ((c.meaning).param_env e) was now [] [] (at Invariant) root t (at Invariant) u t ×
-        StepsTo (items_of c.meaning) ((c.meaning).param_env e) was now [] [] (at Invariant) t root (at Invariant) t u
-    both = instantiating_steps (items_of c.meaning) ((c.meaning).param_env e) Invariant Invariant was now [] k target t u
-        (term_context was t t_in) steps
-
-    abbrev r : State Key Id Name
-    r = solving j c.meaning was c.lawful Invariant e
-
-    abbrev q : State Key Id Name
-    q = solving j d.meaning now d.lawful Invariant e
-
-    left_leads : Leads r q [] root t Invariant u t
-    left_leads = record {
-      steps = both.0;
-      errors = λ i c st f l o. of_entries (read_later now st l root u root_reads) (itself refl) o;
-    }
-
-    right_leads : Leads r q [] t root Invariant t u
-    right_leads = record {
-      steps = both.1;
-      errors = λ i c st f l o. of_entries (itself refl) (read_later now st l root u root_reads) o;
-    }
-
-    exactly : ExactStep was now root t u t × ExactStep was now t root t u
-    exactly = instantiating_is_exact_step Invariant was now k target t u (λ j i z e. (before.bindings j i z e).made)
-        (term_context was t t_in) steps
-
-    pair_left : IsFirstOrderStore was → IsFirstOrder t → IsFirstOrderPair now u t
-    pair_left f h = let stays = bound.first_order refl h f in record {
-      left = stays k target u (ap (entry_term k) steps.now_bound);
-      right = h;
-      bindings = stays;
-    }
-
-    abbrev Answers : Tree → Tree → Tree → Tree → Type 0
-    Answers x y a an = CarriesOver (items_of d.meaning) ((d.meaning).param_env e) now [] (at Invariant) x y
-        (at Invariant) a an
-
-    left_again : (v : Variance) (an : Tree) → IsTrue (known an) → Answers u t root an →
-        LeadsAgain solver_manner r q [] root t root t v u t an
-    left_again v an sure answers = record {
-      leads = left_leads;
-      read_leads = left_leads;
-      read_asked = asked_now root t refl t_known root_in (later t t_in) tt covered;
-      asked = asked_now u t bound.sure t_known u_in (later t t_in) u_covered covered;
-      answers = answers;
-      left = λ k. absurd k;
-      answer_known = sure;
-      falls = steps.one_spent;
-      not_larger = bound.squares (weight was root + weight was t) left_above;
-    }
-
-    right_again : (v : Variance) (an : Tree) → IsTrue (known an) → Answers t u t an →
-        LeadsAgain solver_manner r q [] t root t root v t u an
-    right_again v an sure answers = record {
-      leads = right_leads;
-      read_leads = right_leads;
-      read_asked = asked_now t root t_known refl (later t t_in) root_in covered tt;
-      asked = asked_now t u t_known bound.sure (later t t_in) u_in covered u_covered;
-      answers = answers;
-      left = λ k. absurd k;
-      answer_known = sure;
-      falls = steps.one_spent;
-      not_larger = let i = bound.squares (weight was t + weight was root) right_above in omega (arith, i);
-    }
-
-    module _ {X : Type 0} (F : Tree → Type 0) (v : Variance) (is : v ≡ Invariant) (y z i l a : X) (b : Variance)
-        (tree : X → Tree) where
-      sure : (tree a ≡ root) ⊎ (tree a ≡ t) → IsTrue (known (tree a))
-      sure (inl h) = subst (λ x. IsTrue (known x)) (sym h) refl
-      sure (inr h) = subst (λ x. IsTrue (known x)) (sym h) t_known
-
-      to_root : (tree a ≡ root) ⊎ (tree a ≡ t) → Answers u t root (tree a)
-      to_root (inl h) w s sat holds f = same_rel (ap (apply s) (sym h))
-      to_root (inr h) w s sat holds f = subst₂ (Rel (items_of d.meaning) w ((d.meaning).param_env e) (at Invariant))
-          (sym (root_value w s sat)) (ap (apply s) (sym h)) f
-
-      to_term : (tree a ≡ root) ⊎ (tree a ≡ t) → Answers t u t (tree a)
-      to_term (inl h) w s sat holds f = subst (Rel (items_of d.meaning) w ((d.meaning).param_env e) (at Invariant)
-          (apply s t)) (sym (root_value w s sat) ∙ ap (apply s) (sym h)) f
-      to_term (inr h) w s sat holds f = same_rel (ap (apply s) (sym h))
-
-      -- The variable stood on the left.
-      pub left_step : tree y ≡ root → tree z ≡ t → tree i ≡ u → tree l ≡ t → (tree a ≡ root) ⊎ (tree a ≡ t) →
-          Stepped solver_manner F (solving j c.meaning was c.lawful v e) (solving j d.meaning now d.lawful v e) root t
-          tree (Ok (Again y z i l b a))
-      unfolding solver_passes
-      left_step ey ez ei el ea = subst (λ v. Stepped solver_manner F (solving j c.meaning was c.lawful v e)
-          (solving j d.meaning now d.lawful v e) root t tree (Ok (Again y z i l b a))) (sym is) (record {
-            passes = solver_passes Invariant e grown env (bound.goes (weight was root + weight was t) left_above) after;
-            verdict = subst₂ (λ f g. LeadsAgain solver_manner r q [] root t f g b (tree i) (tree l) (tree a)) (sym ey)
-                (sym ez) (subst₂ (λ f g. LeadsAgain solver_manner r q [] root t root t b f g (tree a)) (sym ei) (sym el)
-                (left_again b (tree a) (sure ea) (to_root ea)));
-            exact = λ o same pair. subst₂ (λ f g. IsFirstOrderPair now f g × ExactStep was now root t f g) (sym ei)
-                (sym el) (pair_left pair.bindings pair.right, exactly.0);
-          })
-
-      -- It stood on the right.
-      pub right_step : tree y ≡ t → tree z ≡ root → tree i ≡ t → tree l ≡ u → (tree a ≡ root) ⊎ (tree a ≡ t) →
-          Stepped solver_manner F (solving j c.meaning was c.lawful v e) (solving j d.meaning now d.lawful v e) t root
-          tree (Ok (Again y z i l b a))
-      unfolding solver_passes
-      right_step ey ez ei el ea = subst (λ v. Stepped solver_manner F (solving j c.meaning was c.lawful v e)
-          (solving j d.meaning now d.lawful v e) t root tree (Ok (Again y z i l b a))) (sym is) (record {
-            passes = solver_passes Invariant e grown env (bound.goes (weight was t + weight was root) right_above) after;
-            verdict = subst₂ (λ f g. LeadsAgain solver_manner r q [] t root f g b (tree i) (tree l) (tree a)) (sym ey)
-                (sym ez) (subst₂ (λ f g. LeadsAgain solver_manner r q [] t root t root b f g (tree a)) (sym ei) (sym el)
-                (right_again b (tree a) (sure ea) (to_term ea)));
-            exact = λ o same pair. subst₂ (λ f g. IsFirstOrderPair now f g × ExactStep was now t root f g) (sym ei)
-                (sym el) (turned (pair_left pair.bindings pair.left), exactly.1);
-          })
-        where
-          turned : IsFirstOrderPair now u t → IsFirstOrderPair now t u
-          turned f = record { left = f.right; right = f.left; bindings = f.bindings }
-
-  -- Nothing was bound.
-  module _ {X : Type 0} (F : Tree → Type 0) (c d : Context Key Id Name) (grown : Extends c.meaning d.meaning)
-      (v : Variance) (decides : v ≢ Bivariant) (e : ParamEnvKey Key) (env : IsTrue (known ((c.meaning).param_env e)))
-      (after : d.lawful) (k : VarKind) (target : ℕ) (t : Tree) (means : Meaning Key Id Name → X → Tree) (x : Variance)
-      (still : v ≡ Invariant → x ≡ Invariant) (tree : X → Tree) where
-    nothing : (f : RelateFault Key Id Name) → Instantiated c d x k target t means (Err f) → d.store ≡ c.store
-    nothing (Unrelated g) h = h.3
-    nothing Budget h = h.1
-    nothing Memory h = h
-
-    passes : (N : ℕ) (f : RelateFault Key Id Name) → Instantiated c d x k target t means (Err f) →
-        Passes N (solving j c.meaning c.store c.lawful v e) (solving j d.meaning d.store d.lawful v e)
-    passes N f h = solver_passes v e grown env
-        (subst (Goes N c.store) (sym (nothing f h)) (goes_nowhere N c.store)) after
-
-    pub left_refused : (f : RelateFault Key Id Name) → Instantiated c d x k target t means (Err f) →
-        Stepped solver_manner F (solving j c.meaning c.store c.lawful v e) (solving j d.meaning d.store d.lawful v e)
-        (leaf (variable k target)) t tree (Err f)
-    left_refused (Unrelated g) h = record {
-      passes = passes _ (Unrelated g) h;
-      verdict = ((h.2).apart, of_binding decides h.1, h.0);
-      exact = λ o is pair. (h.2).apart_erased (still is) pair.right pair.bindings;
-    }
-    left_refused Budget h = record {
-      passes = passes _ Budget h;
-      verdict = ap (λ st. st.budget) h.1 ∙ h.0;
-      exact = λ o is pair. tt;
-    }
-    left_refused Memory h = record { passes = passes _ Memory h; verdict = tt; exact = λ o is pair. tt }
-
-    pub right_refused : (f : RelateFault Key Id Name) → Instantiated c d x k target t means (Err f) →
-        Stepped solver_manner F (solving j c.meaning c.store c.lawful v e) (solving j d.meaning d.store d.lawful v e)
-        t (leaf (variable k target)) tree (Err f)
-    right_refused (Unrelated g) h = record {
-      passes = passes _ (Unrelated g) h;
-      verdict = ((λ w s sat one. (h.2).apart w s sat (sym one)), of_binding_back decides h.1, h.0);
-      exact = λ o is pair. λ s sol one. (h.2).apart_erased (still is) pair.left pair.bindings s sol (sym one);
-    }
-    right_refused Budget h = record {
-      passes = passes _ Budget h;
-      verdict = ap (λ st. st.budget) h.1 ∙ h.0;
-      exact = λ o is pair. tt;
-    }
-    right_refused Memory h = record { passes = passes _ Memory h; verdict = tt; exact = λ o is pair. tt }
 
   -- What a relation leaves as it was need not be named, nor the reference that it held.
   module _ {X : Type 0} (m n : Meaning Key Id Name) (was now : Store) (L K : Type 0) (v w : Variance)

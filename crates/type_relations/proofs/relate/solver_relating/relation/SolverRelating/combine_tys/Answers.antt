@@ -2,17 +2,18 @@ use Rattle.std.proofs.Common.{◌≡◌, refl, sym, ap, ◌∙◌, inl, inr, sub
 use Rattle.relation_terms.specs.declared.terms.enums.Variance.TheVariants.{Covariant, Invariant}
 use Rattle.relation_terms.specs.Heads.{type_var, variable}
 use Rattle.relation_terms.specs.Trees.{leaf}
+use Rattle.relation_tools.specs.declared.error.TypeError.TheVariants.{CyclicTy}
 use Rattle.type_relations.specs.declared.relate.Step.TheVariants.{Again}
+use Rattle.type_relations.specs.Stores.{unbound, entry_of, IsMade}
 use Rattle.type_relations.specs.Parts.{IsFormed}
 use Rattle.type_relations.specs.Lawful.{Stepped}
-use Rattle.type_relations.specs.Taken.{IsTaken}
-use Rattle.type_relations.specs.ContextCalls.{BindsTerm}
 use Rattle.type_relations.specs.Solving.{solving_through, solver_manner}
 use Rattle.type_relations.proofs.Passing.{as_err}
 use Rattle.type_relations.proofs.Binding.{no_region}
 use Rattle.type_relations.proofs.Shallowly.{shallow_free, variable_made}
-use Rattle.type_relations.proofs.Solving.{roots_step, left_step, right_step, left_refused, right_refused}
-use Rattle.type_relations.proofs.Solving.{taken_invariantly, seen_back, taken_back, decides_back}
+use Rattle.type_relations.proofs.GeneralisingErrors.{cycle_error}
+use Rattle.type_relations.proofs.Solving.{roots_step, taken_invariantly, all_taken, decides_back, ty_sorted}
+use Rattle.type_relations.proofs.SolvingVariables.{left_step, right_step, left_refused, right_refused, type_comes_to_none}
 use Rattle.type_relations.proofs.relate.solver_relating.relation.SolverRelating.combine_tys.Goals as goal
 
 pub equate_ty_vids_raw-requires-clause-a_unresolved : goal.equate_ty_vids_raw-requires-clause-a_unresolved
@@ -67,44 +68,64 @@ pub returns-in_err-bound-in-None-ty_var : goal.returns-in_err-bound-in-None-ty_v
 returns-in_err-bound-in-None-ty_var g c =
     let r = c.args.self.now in
     let s = g.Infcx.InferCtxtLike.state r.infcx.now in
+    let sound = g.met.Infcx.InferCtxtLike.sound r.infcx.now c.requires.lawful in
+    let k = c.requires.asked in
     let d = g.Infcx.InferCtxtLike.state c.instantiate_ty_var_raw.new.self in
     let f = c.in_err-bound-in-None-ty_var.field-0.0 in
     let h = c.in_err-bound-in-None-ty_var.ensures in
+    let n = c.in-Some.x.0 in
+    let is = c.in-Some.ensures.is in
     let t = (s.meaning).ty c.args.b.now in
+    let unresolved : IsMade s.store type_var n × (entry_of s.store type_var n ≡ unbound) = (
+      variable_made s.store type_var n ((s.meaning).ty c.args.a.now) is k.left_in,
+      shallow_free s.store type_var n ((s.meaning).ty c.args.a.now) is c.requires.a_shallow,
+    ) in
+    let other = type_comes_to_none s.store t n c.requires.b_shallow c.in-None-ty_var.ensures.is_none in
     subst (λ res. Stepped solver_manner IsFormed (solving_through r.infcx.ghost_name s r.ambient_variance r.param_env)
     (solving_through r.infcx.ghost_name d r.ambient_variance r.param_env)
     ((s.meaning).ty c.args.a.now) ((s.meaning).ty c.args.b.now) (d.meaning).ty res)
     (sym (as_err c.from_residual.result f c.from_residual.ensures.0 c.from_residual.ensures.1))
     (subst (λ l. Stepped solver_manner IsFormed (solving_through r.infcx.ghost_name s r.ambient_variance r.param_env)
     (solving_through r.infcx.ghost_name d r.ambient_variance r.param_env) l t
-    (d.meaning).ty (Err f)) (sym c.in-Some.ensures.is)
+    (d.meaning).ty (Err f)) (sym is)
     (left_refused r.infcx.ghost_name IsFormed s d h.grows.extends r.ambient_variance c.requires.decides r.param_env
-    c.requires.env_known h.grows.lawful type_var c.in-Some.x.0 t (λ m. m.ty) r.ambient_variance
-    (λ i. i) (d.meaning).ty f h.instantiates))
+    c.requires.env_known sound h.grows.lawful type_var tt n t unresolved other (λ m. m.ty) CyclicTy r.ambient_variance
+    (d.meaning).ty (λ o z i x. cycle_error d.meaning s.store d.store n t sound o z i other x) f h.instantiates))
 
 pub returns-in_err-bound-in-Some-ty_var-2 : goal.returns-in_err-bound-in-Some-ty_var-2
 returns-in_err-bound-in-Some-ty_var-2 g c =
     let r = c.args.self.now in
     let s = g.Infcx.InferCtxtLike.state r.infcx.now in
+    let sound = g.met.Infcx.InferCtxtLike.sound r.infcx.now c.requires.lawful in
+    let k = c.requires.asked in
     let d = g.Infcx.InferCtxtLike.state c.instantiate_ty_var_raw-in-Some-ty_var-2.new.self in
     let f = c.in_err-bound-in-Some-ty_var-2.field-0.0 in
     let h = c.in_err-bound-in-Some-ty_var-2.ensures in
+    let n = c.in-Some-ty_var-2.y.0 in
+    let is = c.in-Some-ty_var-2.ensures.is in
     let t = (s.meaning).ty c.args.a.now in
+    let unresolved : IsMade s.store type_var n × (entry_of s.store type_var n ≡ unbound) = (
+      variable_made s.store type_var n ((s.meaning).ty c.args.b.now) is k.right_in,
+      shallow_free s.store type_var n ((s.meaning).ty c.args.b.now) is c.requires.b_shallow,
+    ) in
+    let other = type_comes_to_none s.store t n c.requires.a_shallow c.in-None.ensures.is_none in
     subst (λ res. Stepped solver_manner IsFormed (solving_through r.infcx.ghost_name s r.ambient_variance r.param_env)
     (solving_through r.infcx.ghost_name d r.ambient_variance r.param_env)
     ((s.meaning).ty c.args.a.now) ((s.meaning).ty c.args.b.now) (d.meaning).ty res)
     (sym (as_err c.from_residual-in_err-bound-in-Some-ty_var-2.result f c.from_residual-in_err-bound-in-Some-ty_var-2.ensures.0 c.from_residual-in_err-bound-in-Some-ty_var-2.ensures.1))
     (subst (λ l. Stepped solver_manner IsFormed (solving_through r.infcx.ghost_name s r.ambient_variance r.param_env)
     (solving_through r.infcx.ghost_name d r.ambient_variance r.param_env) t l
-    (d.meaning).ty (Err f)) (sym c.in-Some-ty_var-2.ensures.is)
+    (d.meaning).ty (Err f)) (sym is)
     (right_refused r.infcx.ghost_name IsFormed s d h.grows.extends r.ambient_variance c.requires.decides r.param_env
-    c.requires.env_known h.grows.lawful type_var c.in-Some-ty_var-2.y.0 t (λ m. m.ty) c.xform-variance.result
-    (seen_back r.ambient_variance c.xform-variance.result c.xform-variance.ensures) (d.meaning).ty f h.instantiates))
+    c.requires.env_known sound h.grows.lawful type_var tt n t unresolved other (λ m. m.ty) CyclicTy c.xform-variance.result
+    (d.meaning).ty (λ o z i x. cycle_error d.meaning s.store d.store n t sound o z i other x) f h.instantiates))
 
 pub returns-in_ok-bound-in-None-ty_var : goal.returns-in_ok-bound-in-None-ty_var
 returns-in_ok-bound-in-None-ty_var g c =
     let r = c.args.self.now in
     let s = g.Infcx.InferCtxtLike.state r.infcx.now in
+    let cx = g.Infcx.InferCtxtLike.interner r.infcx.now in
+    let of = g.met.Infcx.InferCtxtLike.reads r.infcx.now in
     let sound = g.met.Infcx.InferCtxtLike.sound r.infcx.now c.requires.lawful in
     let k = c.requires.asked in
     let q = c.instantiate_ty_var_raw.new.self in
@@ -122,15 +143,22 @@ returns-in_ok-bound-in-None-ty_var g c =
     subst (λ l. Stepped solver_manner IsFormed (solving_through r.infcx.ghost_name s r.ambient_variance r.param_env)
     (solving_through r.infcx.ghost_name d r.ambient_variance r.param_env) l t
     (d.meaning).ty (Ok (Again c.args.a.now c.args.b.now z c.args.b.now Covariant c.args.a.now))) (sym is)
-    (left_step r.infcx.ghost_name type_var tt s d grown r.param_env c.requires.env_known sound h.grows.lawful
+    (subst (λ v. Stepped solver_manner IsFormed (solving_through r.infcx.ghost_name s v r.param_env)
+    (solving_through r.infcx.ghost_name d v r.param_env) (leaf (variable type_var c.in-Some.x.0)) t
+    (d.meaning).ty (Ok (Again c.args.a.now c.args.b.now z c.args.b.now Covariant c.args.a.now))) (sym inv)
+    (left_step r.infcx.ghost_name type_var tt s d grown r.param_env c.requires.env_known sound
+    (g.met.Infcx.InferCtxtLike.numbers r.infcx.now c.requires.lawful) h.grows.lawful
     (g.met.Infcx.InferCtxtLike.covered q h.grows.lawful) c.in-Some.x.0 t ((d.meaning).ty z) k.right_taken.1 k.right_in
-    k.right_known (subst (λ w. BindsTerm s d w type_var c.in-Some.x.0 t ((d.meaning).ty z)) inv h.instantiates) IsFormed r.ambient_variance inv c.args.a.now c.args.b.now z c.args.b.now c.args.a.now Covariant (d.meaning).ty
-    root_stays t_stays refl t_stays (inl root_stays))
+    k.right_known (ty_sorted of c.args.b.now (g.met.Infcx.Interner.Interner.is_ty cx c.args.b.now) k.right_known)
+    Invariant r.ambient_variance all_taken h.instantiates.0 h.instantiates.1 IsFormed c.args.a.now c.args.b.now z
+    c.args.b.now c.args.a.now Covariant refl (d.meaning).ty root_stays t_stays refl t_stays (inl root_stays)))
 
 pub returns-in_ok-bound-in-Some-ty_var-2 : goal.returns-in_ok-bound-in-Some-ty_var-2
 returns-in_ok-bound-in-Some-ty_var-2 g c =
     let r = c.args.self.now in
     let s = g.Infcx.InferCtxtLike.state r.infcx.now in
+    let cx = g.Infcx.InferCtxtLike.interner r.infcx.now in
+    let of = g.met.Infcx.InferCtxtLike.reads r.infcx.now in
     let sound = g.met.Infcx.InferCtxtLike.sound r.infcx.now c.requires.lawful in
     let k = c.requires.asked in
     let q = c.instantiate_ty_var_raw-in-Some-ty_var-2.new.self in
@@ -148,14 +176,21 @@ returns-in_ok-bound-in-Some-ty_var-2 g c =
     subst (λ l. Stepped solver_manner IsFormed (solving_through r.infcx.ghost_name s r.ambient_variance r.param_env)
     (solving_through r.infcx.ghost_name d r.ambient_variance r.param_env) t l
     (d.meaning).ty (Ok (Again c.args.a.now c.args.b.now c.args.a.now z Covariant c.args.a.now))) (sym is)
-    (right_step r.infcx.ghost_name type_var tt s d grown r.param_env c.requires.env_known sound h.grows.lawful
-    (g.met.Infcx.InferCtxtLike.covered q h.grows.lawful) c.in-Some-ty_var-2.y.0 t ((d.meaning).ty z) k.left_taken.1 k.left_in
-    k.left_known (subst (λ w. BindsTerm s d w type_var c.in-Some-ty_var-2.y.0 t ((d.meaning).ty z)) (seen_back r.ambient_variance c.xform-variance.result c.xform-variance.ensures inv) h.instantiates) IsFormed r.ambient_variance inv c.args.a.now c.args.b.now c.args.a.now z c.args.a.now Covariant (d.meaning).ty
-    t_stays root_stays t_stays refl (inr t_stays))
+    (subst (λ v. Stepped solver_manner IsFormed (solving_through r.infcx.ghost_name s v r.param_env)
+    (solving_through r.infcx.ghost_name d v r.param_env) t (leaf (variable type_var c.in-Some-ty_var-2.y.0))
+    (d.meaning).ty (Ok (Again c.args.a.now c.args.b.now c.args.a.now z Covariant c.args.a.now))) (sym inv)
+    (right_step r.infcx.ghost_name type_var tt s d grown r.param_env c.requires.env_known sound
+    (g.met.Infcx.InferCtxtLike.numbers r.infcx.now c.requires.lawful) h.grows.lawful
+    (g.met.Infcx.InferCtxtLike.covered q h.grows.lawful) c.in-Some-ty_var-2.y.0 t ((d.meaning).ty z) k.left_taken.1
+    k.left_in k.left_known (ty_sorted of c.args.a.now (g.met.Infcx.Interner.Interner.is_ty cx c.args.a.now) k.left_known)
+    Invariant c.xform-variance.result all_taken h.instantiates.0 h.instantiates.1 IsFormed c.args.a.now c.args.b.now
+    c.args.a.now z c.args.a.now Covariant refl (d.meaning).ty t_stays root_stays t_stays refl (inr t_stays)))
 
-pub instantiate_ty_var_raw-requires-clause-target_taken : goal.instantiate_ty_var_raw-requires-clause-target_taken
-instantiate_ty_var_raw-requires-clause-target_taken g c =
-    subst (IsTaken c.args.self.now.ambient_variance) c.in-Some.ensures.is c.requires.asked.left_taken
+pub instantiate_ty_var_raw-requires-clause-source_covered : goal.instantiate_ty_var_raw-requires-clause-source_covered
+instantiate_ty_var_raw-requires-clause-source_covered g c = c.requires.asked.right_taken.1
+
+pub instantiate_ty_var_raw-requires-in-Some-ty_var-2-clause-source_covered : goal.instantiate_ty_var_raw-requires-in-Some-ty_var-2-clause-source_covered
+instantiate_ty_var_raw-requires-in-Some-ty_var-2-clause-source_covered g c = c.requires.asked.left_taken.1
 
 pub instantiate_ty_var_raw-requires-in-Some-ty_var-2-clause-decides : goal.instantiate_ty_var_raw-requires-in-Some-ty_var-2-clause-decides
 instantiate_ty_var_raw-requires-in-Some-ty_var-2-clause-decides g c =
@@ -165,23 +200,3 @@ instantiate_ty_var_raw-requires-in-Some-ty_var-2-clause-decides g c =
     let inv = taken_invariantly r.ambient_variance type_var tt c.in-Some-ty_var-2.y.0 ((s.meaning).ty c.args.b.now)
     c.in-Some-ty_var-2.ensures.is c.requires.decides k.right_taken in
     decides_back r.ambient_variance c.xform-variance.result c.xform-variance.ensures inv
-
-pub instantiate_ty_var_raw-requires-in-Some-ty_var-2-clause-target_taken : goal.instantiate_ty_var_raw-requires-in-Some-ty_var-2-clause-target_taken
-instantiate_ty_var_raw-requires-in-Some-ty_var-2-clause-target_taken g c =
-    let r = c.args.self.now in
-    let s = g.Infcx.InferCtxtLike.state r.infcx.now in
-    let k = c.requires.asked in
-    let inv = taken_invariantly r.ambient_variance type_var tt c.in-Some-ty_var-2.y.0 ((s.meaning).ty c.args.b.now)
-    c.in-Some-ty_var-2.ensures.is c.requires.decides k.right_taken in
-    taken_back r.ambient_variance c.xform-variance.result c.xform-variance.ensures inv
-    (leaf (variable type_var c.in-Some-ty_var-2.y.0)) tt
-
-pub instantiate_ty_var_raw-requires-in-Some-ty_var-2-clause-source_taken : goal.instantiate_ty_var_raw-requires-in-Some-ty_var-2-clause-source_taken
-instantiate_ty_var_raw-requires-in-Some-ty_var-2-clause-source_taken g c =
-    let r = c.args.self.now in
-    let s = g.Infcx.InferCtxtLike.state r.infcx.now in
-    let k = c.requires.asked in
-    let inv = taken_invariantly r.ambient_variance type_var tt c.in-Some-ty_var-2.y.0 ((s.meaning).ty c.args.b.now)
-    c.in-Some-ty_var-2.ensures.is c.requires.decides k.right_taken in
-    taken_back r.ambient_variance c.xform-variance.result c.xform-variance.ensures inv
-    ((s.meaning).ty c.args.a.now) k.left_taken.1

@@ -2,16 +2,19 @@ use Rattle.std.proofs.Common.{◌≡◌, refl, sym, ap, ◌∙◌, inl, inr, sub
 use Rattle.relation_terms.specs.declared.terms.enums.Variance.TheVariants.{Invariant}
 use Rattle.relation_terms.specs.Heads.{const_var, variable}
 use Rattle.relation_terms.specs.Trees.{leaf}
+use Rattle.relation_tools.specs.declared.error.TypeError.TheVariants.{CyclicConst}
 use Rattle.type_relations.specs.declared.relate.Step.TheVariants.{Again}
 use Rattle.type_relations.specs.Errors.{itself}
+use Rattle.type_relations.specs.Stores.{unbound, entry_of, IsMade}
 use Rattle.type_relations.specs.Parts.{IsFormedConst}
 use Rattle.type_relations.specs.Lawful.{Stepped}
 use Rattle.type_relations.specs.Solving.{solving_through, solver_manner}
 use Rattle.type_relations.proofs.Passing.{as_err}
 use Rattle.type_relations.proofs.Binding.{no_region}
 use Rattle.type_relations.proofs.Shallowly.{shallow_free_const, variable_made}
-use Rattle.type_relations.proofs.Solving.{roots_step, left_step, right_step, left_refused, right_refused}
-use Rattle.type_relations.proofs.Solving.{taken_invariantly, all_taken, parts_step}
+use Rattle.type_relations.proofs.GeneralisingErrors.{const_cycle_error}
+use Rattle.type_relations.proofs.Solving.{roots_step, taken_invariantly, all_taken, parts_step, const_sorted}
+use Rattle.type_relations.proofs.SolvingVariables.{left_step, right_step, left_refused, right_refused, const_comes_to_none}
 use Rattle.type_relations.proofs.relate.solver_relating.relation.SolverRelating.super_combine_consts.Goals as goal
 
 pub equate_const_vids_raw-requires-clause-a_unresolved : goal.equate_const_vids_raw-requires-clause-a_unresolved
@@ -66,44 +69,66 @@ pub returns-in_err-value-in-None-const_var : goal.returns-in_err-value-in-None-c
 returns-in_err-value-in-None-const_var g c =
     let r = c.args.self.now in
     let s = g.Infcx.InferCtxtLike.state r.infcx.now in
+    let sound = g.met.Infcx.InferCtxtLike.sound r.infcx.now c.requires.lawful in
+    let k = c.requires.asked in
     let d = g.Infcx.InferCtxtLike.state c.instantiate_const_var_raw.new.self in
     let f = c.in_err-value-in-None-const_var.field-0.0 in
     let h = c.in_err-value-in-None-const_var.ensures in
+    let n = c.in-Some.x.0 in
+    let is = c.in-Some.ensures.is in
     let t = (s.meaning).const_ c.args.b.now in
+    let unresolved : IsMade s.store const_var n × (entry_of s.store const_var n ≡ unbound) = (
+      variable_made s.store const_var n ((s.meaning).const_ c.args.a.now) is k.left_in,
+      shallow_free_const s.store n ((s.meaning).const_ c.args.a.now) is c.requires.a_shallow,
+    ) in
+    let other = const_comes_to_none s.store t n c.requires.b_shallow
+    (λ m e. subst IsFormedConst e (c.in-None-const_var.ensures.formed k.right_taken.1)) in
     subst (λ res. Stepped solver_manner IsFormedConst (solving_through r.infcx.ghost_name s r.ambient_variance r.param_env)
     (solving_through r.infcx.ghost_name d r.ambient_variance r.param_env)
     ((s.meaning).const_ c.args.a.now) ((s.meaning).const_ c.args.b.now) (d.meaning).const_ res)
     (sym (as_err c.from_residual.result f c.from_residual.ensures.0 c.from_residual.ensures.1))
     (subst (λ l. Stepped solver_manner IsFormedConst (solving_through r.infcx.ghost_name s r.ambient_variance r.param_env)
     (solving_through r.infcx.ghost_name d r.ambient_variance r.param_env) l t
-    (d.meaning).const_ (Err f)) (sym c.in-Some.ensures.is)
+    (d.meaning).const_ (Err f)) (sym is)
     (left_refused r.infcx.ghost_name IsFormedConst s d h.grows.extends r.ambient_variance c.requires.decides r.param_env
-    c.requires.env_known h.grows.lawful const_var c.in-Some.x.0 t (λ m. m.const_) Invariant
-    (λ i. refl) (d.meaning).const_ f h.instantiates))
+    c.requires.env_known sound h.grows.lawful const_var tt n t unresolved other (λ m. m.const_) CyclicConst Invariant
+    (d.meaning).const_ (λ o z i x. const_cycle_error d.meaning s.store d.store n t sound o z i other x) f h.instantiates))
 
 pub returns-in_err-value-in-Some-const_var-2 : goal.returns-in_err-value-in-Some-const_var-2
 returns-in_err-value-in-Some-const_var-2 g c =
     let r = c.args.self.now in
     let s = g.Infcx.InferCtxtLike.state r.infcx.now in
+    let sound = g.met.Infcx.InferCtxtLike.sound r.infcx.now c.requires.lawful in
+    let k = c.requires.asked in
     let d = g.Infcx.InferCtxtLike.state c.instantiate_const_var_raw-in-Some-const_var-2.new.self in
     let f = c.in_err-value-in-Some-const_var-2.field-0.0 in
     let h = c.in_err-value-in-Some-const_var-2.ensures in
+    let n = c.in-Some-const_var-2.y.0 in
+    let is = c.in-Some-const_var-2.ensures.is in
     let t = (s.meaning).const_ c.args.a.now in
+    let unresolved : IsMade s.store const_var n × (entry_of s.store const_var n ≡ unbound) = (
+      variable_made s.store const_var n ((s.meaning).const_ c.args.b.now) is k.right_in,
+      shallow_free_const s.store n ((s.meaning).const_ c.args.b.now) is c.requires.b_shallow,
+    ) in
+    let other = const_comes_to_none s.store t n c.requires.a_shallow
+    (λ m e. subst IsFormedConst e (c.in-None.ensures.formed k.left_taken.1)) in
     subst (λ res. Stepped solver_manner IsFormedConst (solving_through r.infcx.ghost_name s r.ambient_variance r.param_env)
     (solving_through r.infcx.ghost_name d r.ambient_variance r.param_env)
     ((s.meaning).const_ c.args.a.now) ((s.meaning).const_ c.args.b.now) (d.meaning).const_ res)
     (sym (as_err c.from_residual-in_err-value-in-Some-const_var-2.result f c.from_residual-in_err-value-in-Some-const_var-2.ensures.0 c.from_residual-in_err-value-in-Some-const_var-2.ensures.1))
     (subst (λ l. Stepped solver_manner IsFormedConst (solving_through r.infcx.ghost_name s r.ambient_variance r.param_env)
     (solving_through r.infcx.ghost_name d r.ambient_variance r.param_env) t l
-    (d.meaning).const_ (Err f)) (sym c.in-Some-const_var-2.ensures.is)
+    (d.meaning).const_ (Err f)) (sym is)
     (right_refused r.infcx.ghost_name IsFormedConst s d h.grows.extends r.ambient_variance c.requires.decides r.param_env
-    c.requires.env_known h.grows.lawful const_var c.in-Some-const_var-2.y.0 t (λ m. m.const_) Invariant
-    (λ i. refl) (d.meaning).const_ f h.instantiates))
+    c.requires.env_known sound h.grows.lawful const_var tt n t unresolved other (λ m. m.const_) CyclicConst Invariant
+    (d.meaning).const_ (λ o z i x. const_cycle_error d.meaning s.store d.store n t sound o z i other x) f h.instantiates))
 
 pub returns-in_ok-value-in-None-const_var : goal.returns-in_ok-value-in-None-const_var
 returns-in_ok-value-in-None-const_var g c =
     let r = c.args.self.now in
     let s = g.Infcx.InferCtxtLike.state r.infcx.now in
+    let cx = g.Infcx.InferCtxtLike.interner r.infcx.now in
+    let of = g.met.Infcx.InferCtxtLike.reads r.infcx.now in
     let sound = g.met.Infcx.InferCtxtLike.sound r.infcx.now c.requires.lawful in
     let k = c.requires.asked in
     let q = c.instantiate_const_var_raw.new.self in
@@ -121,15 +146,23 @@ returns-in_ok-value-in-None-const_var g c =
     subst (λ l. Stepped solver_manner IsFormedConst (solving_through r.infcx.ghost_name s r.ambient_variance r.param_env)
     (solving_through r.infcx.ghost_name d r.ambient_variance r.param_env) l t
     (d.meaning).const_ (Ok (Again c.args.a.now c.args.b.now z c.args.b.now Invariant c.args.b.now))) (sym is)
-    (left_step r.infcx.ghost_name const_var tt s d grown r.param_env c.requires.env_known sound h.grows.lawful
-    (g.met.Infcx.InferCtxtLike.covered q h.grows.lawful) c.in-Some.x.0 t ((d.meaning).const_ z) k.right_taken.1 k.right_in
-    k.right_known h.instantiates IsFormedConst r.ambient_variance inv c.args.a.now c.args.b.now z c.args.b.now c.args.b.now Invariant (d.meaning).const_
-    root_stays t_stays refl t_stays (inr t_stays))
+    (subst (λ v. Stepped solver_manner IsFormedConst (solving_through r.infcx.ghost_name s v r.param_env)
+    (solving_through r.infcx.ghost_name d v r.param_env) (leaf (variable const_var c.in-Some.x.0)) t
+    (d.meaning).const_ (Ok (Again c.args.a.now c.args.b.now z c.args.b.now Invariant c.args.b.now))) (sym inv)
+    (left_step r.infcx.ghost_name const_var tt s d grown r.param_env c.requires.env_known sound
+    (g.met.Infcx.InferCtxtLike.numbers r.infcx.now c.requires.lawful) h.grows.lawful
+    (g.met.Infcx.InferCtxtLike.covered q h.grows.lawful) c.in-Some.x.0 t ((d.meaning).const_ z) k.right_taken.1
+    k.right_in k.right_known
+    (const_sorted of c.args.b.now (g.met.Infcx.Interner.Interner.is_const cx c.args.b.now) k.right_known)
+    Invariant Invariant all_taken h.instantiates.0 h.instantiates.1 IsFormedConst c.args.a.now c.args.b.now z
+    c.args.b.now c.args.b.now Invariant refl (d.meaning).const_ root_stays t_stays refl t_stays (inr t_stays)))
 
 pub returns-in_ok-value-in-Some-const_var-2 : goal.returns-in_ok-value-in-Some-const_var-2
 returns-in_ok-value-in-Some-const_var-2 g c =
     let r = c.args.self.now in
     let s = g.Infcx.InferCtxtLike.state r.infcx.now in
+    let cx = g.Infcx.InferCtxtLike.interner r.infcx.now in
+    let of = g.met.Infcx.InferCtxtLike.reads r.infcx.now in
     let sound = g.met.Infcx.InferCtxtLike.sound r.infcx.now c.requires.lawful in
     let k = c.requires.asked in
     let q = c.instantiate_const_var_raw-in-Some-const_var-2.new.self in
@@ -147,28 +180,30 @@ returns-in_ok-value-in-Some-const_var-2 g c =
     subst (λ l. Stepped solver_manner IsFormedConst (solving_through r.infcx.ghost_name s r.ambient_variance r.param_env)
     (solving_through r.infcx.ghost_name d r.ambient_variance r.param_env) t l
     (d.meaning).const_ (Ok (Again c.args.a.now c.args.b.now c.args.a.now z Invariant c.args.a.now))) (sym is)
-    (right_step r.infcx.ghost_name const_var tt s d grown r.param_env c.requires.env_known sound h.grows.lawful
-    (g.met.Infcx.InferCtxtLike.covered q h.grows.lawful) c.in-Some-const_var-2.y.0 t ((d.meaning).const_ z) k.left_taken.1 k.left_in
-    k.left_known h.instantiates IsFormedConst r.ambient_variance inv c.args.a.now c.args.b.now c.args.a.now z c.args.a.now Invariant (d.meaning).const_
-    t_stays root_stays t_stays refl (inr t_stays))
+    (subst (λ v. Stepped solver_manner IsFormedConst (solving_through r.infcx.ghost_name s v r.param_env)
+    (solving_through r.infcx.ghost_name d v r.param_env) t (leaf (variable const_var c.in-Some-const_var-2.y.0))
+    (d.meaning).const_ (Ok (Again c.args.a.now c.args.b.now c.args.a.now z Invariant c.args.a.now))) (sym inv)
+    (right_step r.infcx.ghost_name const_var tt s d grown r.param_env c.requires.env_known sound
+    (g.met.Infcx.InferCtxtLike.numbers r.infcx.now c.requires.lawful) h.grows.lawful
+    (g.met.Infcx.InferCtxtLike.covered q h.grows.lawful) c.in-Some-const_var-2.y.0 t ((d.meaning).const_ z)
+    k.left_taken.1 k.left_in k.left_known
+    (const_sorted of c.args.a.now (g.met.Infcx.Interner.Interner.is_const cx c.args.a.now) k.left_known)
+    Invariant Invariant all_taken h.instantiates.0 h.instantiates.1 IsFormedConst c.args.a.now c.args.b.now
+    c.args.a.now z c.args.a.now Invariant refl (d.meaning).const_ t_stays root_stays t_stays refl (inr t_stays)))
 
-pub instantiate_const_var_raw-requires-clause-source_formed : goal.instantiate_const_var_raw-requires-clause-source_formed
-instantiate_const_var_raw-requires-clause-source_formed g c = c.in-None-const_var.ensures.formed c.requires.asked.right_taken.1
+pub instantiate_const_var_raw-requires-clause-source_covered : goal.instantiate_const_var_raw-requires-clause-source_covered
+instantiate_const_var_raw-requires-clause-source_covered g c = c.requires.asked.right_taken.1
 
-pub instantiate_const_var_raw-requires-in-Some-const_var-2-clause-source_formed : goal.instantiate_const_var_raw-requires-in-Some-const_var-2-clause-source_formed
-instantiate_const_var_raw-requires-in-Some-const_var-2-clause-source_formed g c = c.in-None.ensures.formed c.requires.asked.left_taken.1
+pub instantiate_const_var_raw-requires-in-Some-const_var-2-clause-source_covered : goal.instantiate_const_var_raw-requires-in-Some-const_var-2-clause-source_covered
+instantiate_const_var_raw-requires-in-Some-const_var-2-clause-source_covered g c = c.requires.asked.left_taken.1
 
-pub instantiate_const_var_raw-requires-clause-source_taken : goal.instantiate_const_var_raw-requires-clause-source_taken
-instantiate_const_var_raw-requires-clause-source_taken g c =
-    let r = c.args.self.now in
-    let s = g.Infcx.InferCtxtLike.state r.infcx.now in
-    all_taken ((s.meaning).const_ c.args.b.now) c.requires.asked.right_taken.1
+pub instantiate_const_var_raw-requires-clause-source_no_variable : goal.instantiate_const_var_raw-requires-clause-source_no_variable
+instantiate_const_var_raw-requires-clause-source_no_variable g c = λ n e.
+    subst IsFormedConst e (c.in-None-const_var.ensures.formed c.requires.asked.right_taken.1)
 
-pub instantiate_const_var_raw-requires-in-Some-const_var-2-clause-source_taken : goal.instantiate_const_var_raw-requires-in-Some-const_var-2-clause-source_taken
-instantiate_const_var_raw-requires-in-Some-const_var-2-clause-source_taken g c =
-    let r = c.args.self.now in
-    let s = g.Infcx.InferCtxtLike.state r.infcx.now in
-    all_taken ((s.meaning).const_ c.args.a.now) c.requires.asked.left_taken.1
+pub instantiate_const_var_raw-requires-in-Some-const_var-2-clause-source_no_variable : goal.instantiate_const_var_raw-requires-in-Some-const_var-2-clause-source_no_variable
+instantiate_const_var_raw-requires-in-Some-const_var-2-clause-source_no_variable g c = λ n e.
+    subst IsFormedConst e (c.in-None.ensures.formed c.requires.asked.left_taken.1)
 
 pub returns-in-None-const_var-2 : goal.returns-in-None-const_var-2
 returns-in-None-const_var-2 g c =
