@@ -15,7 +15,7 @@ ghost use Rattle.type_relations.specs.Generalising.{NumbersNameNothing};
 ghost use Rattle.type_relations.specs.Resolving.{IsShallow, IsShallowTy, IsShallowConst};
 ghost use Rattle.type_relations.specs.NumberValues.{int_value_tree, float_value_tree};
 ghost use Rattle.type_relations.specs.ContextCalls.{IsUnresolved, IsRootOf, Reads, Knows, Stands, Grows, MakesNext};
-ghost use Rattle.type_relations.specs.ContextCalls.{EquatesTwo, BindsNumber, Constrains, Instantiated};
+ghost use Rattle.type_relations.specs.ContextCalls.{EntersNext, EquatesTwo, BindsNumber, Constrains, Instantiated};
 ghost use Rattle.type_relations.specs.ContextCalls.{HasCoveredBindings};
 
 use crate::relate::StructurallyRelateAliases;
@@ -147,6 +147,12 @@ pub trait InferCtxtLike {
         requires lawful { (state self.old).lawful }
         ensures grows { Grows (state self.old) (state self.new) }
         ensures makes { MakesNext (state self.old) (state self.new) region_var (λ m. m.region) result };
+
+    /// A new universe, above all earlier ones, and the current one from then on. After `OutOfMemory` there is none.
+    fn create_next_universe(&mut self) -> Result<UniverseIndex, OutOfMemory>
+        requires lawful { (state self.old).lawful }
+        ensures stands { Stands (state self.old) (state self.new) }
+        ensures enters { EntersNext (state self.old) (state self.new) result };
 
     /// Makes two unresolved type variables one. The smaller number is the root, with the smaller of both universes.
     fn equate_ty_vids_raw(&mut self, a: TyVid, b: TyVid)

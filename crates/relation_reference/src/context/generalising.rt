@@ -1,7 +1,7 @@
 //! Generalising what a variable is bound to: new variables take the places of what the variable can't name, and of what
 //! may still vary. A type that was met before, at the same variance, is not gone through again.
 ghost use Rattle.std.specs.Prelude.{◌≡◌, ◌≢◌, ◌≤◌, ◌<◌, ℕ, IsTrue, IsFalse, IfOk, IfSome, IfNone, OnOk, OnErr, List, ◌∷◌, Contains, Some, length};
-ghost use Rattle.relation_terms.specs.Heads.{VarKind, Leaf, variable, placeholder, BoundKind, bound_sort, region_sort, const_sort, region_var, type_var};
+ghost use Rattle.relation_terms.specs.Heads.{VarKind, Leaf, variable, placeholder, BoundKind, bound_sort, region_sort, const_sort, region_var};
 ghost use Rattle.relation_terms.specs.Trees.{Tree, leaf, known, count, IsTerm};
 ghost use Rattle.relation_terms.specs.Meaning.{Extends};
 ghost use Rattle.relation_terms.specs.Parts.{part_tree, part_sort, parts_of};
@@ -9,26 +9,24 @@ ghost use Rattle.relation_terms.specs.Variances.{xform};
 ghost use Rattle.type_relations.specs.Relation.{pointee_variance};
 ghost use Rattle.type_relations.specs.Lawful.{items_of};
 ghost use Rattle.type_relations.specs.Covered.{IsCovered};
-ghost use Rattle.type_relations.specs.Stores.{InContext, IsMade, universe_of, unbound, entry_of, IsTermIn};
+ghost use Rattle.type_relations.specs.Stores.{InContext, IsMade, universe_of};
 ghost use Rattle.type_relations.specs.Steps.{MakesVariable};
 ghost use Rattle.type_relations.specs.Generalising.{Met, Stays, any_part, new_part, variance_of_part, MakesUnbound};
 ghost use Rattle.relation_reference.specs.Tables.{IsLawful};
 ghost use Rattle.relation_reference.specs.RefCtxt.{store_in};
 ghost use Rattle.relation_reference.specs.Remembering.{vid_kind, vid_number};
 ghost use Rattle.relation_reference.specs.Generalises.{new_kind, met_at, IsFate, IsSure, Keeps, Generalises};
-ghost use Rattle.relation_reference.specs.Generalises.{IsGeneralisedFor, InstantiatesOr};
-ghost use Rattle.relation_tools.specs.declared.error.TypeError.TheVariants.{CyclicTy};
+ghost use Rattle.relation_reference.specs.Generalises.{IsGeneralisedFor};
 ghost use Rattle.relation_reference.specs.declared.context.generalising.Fate.TheVariants.{ByParts, GivesWay};
 ghost use Rattle.relation_terms.specs.declared.terms.enums.Variance.TheVariants.{Invariant};
 
 use crate::context::RefCtxt;
 use crate::context::memory::TermVid;
 use crate::context::resolving::{is_same_vid, variable_of};
-use crate::context::table::bind;
 use relation_terms::terms::parts::{is_same, part, parts_count, the_ty, with_parts};
 use relation_terms::terms::{
     Const, ConstKind, DefId, Interner, ItemOf, Keys, Mutability, OutOfMemory, Part, PartOf, Region,
-    RegionKind, RegionVid, Ty, TyKey, TyKind, TyVid, UniverseIndex, Variance,
+    RegionKind, RegionVid, Ty, TyKey, TyKind, UniverseIndex, Variance,
 };
 use relation_tools::error::{RelateFault, RelateFaultOf, TypeError};
 use std::collections::HashMap;
@@ -450,44 +448,5 @@ impl<I: Interner> RefCtxt<I> {
     {
         let mut met = HashMap::new(self.interner.alloc());
         self.generalise_part(source, variance, target, &mut met)
-    }
-
-    // Binds the root of a type variable to what a type comes to, generalised for it at a variance, for one of the budget, and
-    // answers that.
-    pub(crate) fn instantiate_ty_var_at(
-        &mut self,
-        target: TyVid,
-        variance: Variance,
-        source: &Ty<I>,
-    ) -> Result<Ty<I>, RelateFaultOf<I>>
-        requires lawful { IsLawful (I.meaning self.old.interner) self.old.inner }
-        requires target_made { target.0 < length self.old.inner.types.items }
-        requires target_unbound { entry_of (store_in I.meaning self.old) type_var target.0 ≡ unbound }
-        requires source_known { IsTrue (known ((I.meaning self.old.interner).ty source.now)) }
-        requires source_in { IsTermIn (store_in I.meaning self.old) ((I.meaning self.old.interner).ty source.now) }
-        requires source_no_variable { (n : ℕ) →
-            (I.meaning self.old.interner).ty source.now ≢ leaf (variable type_var n) }
-        requires source_covered { IsCovered ((I.meaning self.old.interner).ty source.now) }
-        ensures lawful { IsLawful (I.meaning self.new.interner) self.new.inner }
-        ensures grown { Extends (I.meaning self.old.interner) (I.meaning self.new.interner) }
-        ensures sure { IfOk result (λ t. IsTrue (known ((I.meaning self.new.interner).ty t))) }
-        ensures answers { let t = (I.meaning self.old.interner).ty source.now in
-            InstantiatesOr (items_of (I.meaning self.old.interner)) (I.meaning self.new.interner).ty CyclicTy type_var
-            variance (store_in I.meaning self.old) (store_in I.meaning self.new) target.0 t result }
-    {
-        if self.inner.budget == 0 {
-            return Err(RelateFault::Budget);
-        }
-        let resolved = self.resolve_vars_if_possible(source)?;
-        let goal = Target {
-            vid: TermVid::Ty(target),
-            universe: self.inner.types[target.0].universe,
-            cyclic: TypeError::CyclicTy(resolved),
-        };
-        let bound = self.generalise(&Part::Ty(resolved), variance, &goal)?;
-        let bound = the_ty(&bound);
-        bind(&mut self.inner.types, target.0, bound);
-        self.inner.budget -= 1;
-        Ok(bound)
     }
 }
