@@ -42,10 +42,10 @@ module _ {I Key Id Name Span : Type 0} (meaning : I → Meaning Key Id Name) (p 
 
   pub universe_entered : {F : Type 0} (r : Result UniverseIndex F) → IfOk r (λ u. q.inner ≡ record p.inner { universe = u }) → IfOk r (λ u. u.0 ≡ suc (p.inner.universe).0) →
       OnErr r (q.inner ≡ p.inner) → EntersNext (context_in meaning p) (context_in meaning q) r
-  universe_entered (Ok u) is next refused =
+  universe_entered {F = F} (Ok u) is next refused =
       let above : (p.inner.universe).0 < u.0 = omega (arith, next) in
-      subst (λ i. EntersNext (context_in meaning p) (context_of (meaning i) q.inner) (Ok u)) (sym same)
-      (subst (λ z. EntersNext (context_in meaning p) (context_of (meaning p.interner) z) (Ok u)) (sym is)
+      subst (λ i. EntersNext (context_in meaning p) (context_of (meaning i) q.inner) {F = F} (Ok u)) (sym same)
+      (subst (λ z. EntersNext (context_in meaning p) (context_of (meaning p.interner) z) {F = F} (Ok u)) (sym is)
       (universe_alone (meaning p.interner) p.inner u above, refl, above, λ k n. let low = (before.sound).below_current k n in omega (arith, low, above)))
   universe_entered (Err f) is next refused =
       subst (λ i. store_of (meaning i) q.inner ≡ store_of (meaning p.interner) p.inner) (sym same) (ap (store_of (meaning p.interner)) refused)

@@ -1,5 +1,6 @@
 -- What a context generalises, and which types it has met on the way.
-use Rattle.std.specs.Prelude.{◌≡◌, ◌≢◌, ℕ, ◌<◌, Bool, IsTrue, List, [], Contains, All, Option, Some, None, Result, Ok, Err}
+use Rattle.std.specs.Prelude.{◌≡◌, ◌≢◌, ℕ, ◌<◌, Bool, IsTrue, List, [], Contains, All, Option, Some, None}
+use Rattle.std.specs.Prelude.{Result, Ok, Err}
 use Rattle.std.specs.HashMap.{HashMap, get}
 use Rattle.relation_terms.specs.declared.terms.enums.Variance.{Variance}
 use Rattle.relation_terms.specs.declared.terms.keys.TyKey.{TyKey}
@@ -17,7 +18,8 @@ use Rattle.relation_tools.specs.declared.error.RelateFault.TheVariants.{Memory, 
 use Rattle.type_relations.specs.Relation.{Items}
 use Rattle.type_relations.specs.Lawful.{items_of}
 use Rattle.type_relations.specs.Stores.{Store, universe_of, InContext, IsSound}
-use Rattle.type_relations.specs.Generalising.{Stays, gives_way_to, Met, Stage, Turn, any_part, Generalised, MakesUnbound}
+use Rattle.type_relations.specs.Generalising.{Stays, gives_way_to, Met, Stage, Turn, any_part, Generalised}
+use Rattle.type_relations.specs.Generalising.{MakesUnbound}
 use Rattle.type_relations.specs.Generalising.{Obstacle, cycle, beyond, IsNoObstacle, StopsAt}
 use Rattle.relation_reference.specs.declared.context.generalising.MetKey.{MetKey}
 use Rattle.relation_reference.specs.declared.context.generalising.Fate.{Fate}
@@ -74,8 +76,8 @@ module _ {Key Id Name S : Type 0} (eq : MetKey Key → MetKey Key → Bool) (m :
     pub found : (q : MetKey Key) (became : TyKey Key) → get eq memory q ≡ Some became → WasMet es q became
     pub kept : (e : Met) → Contains es e → IsFound e
 
-  -- How far generalising has come for variable `n` of kind `k` in universe `u`, from a sound start: variables were made,
-  -- and types were met in which no obstacle stands.
+  -- How far generalising has come for variable `n` of kind `k` in universe `u`, from a sound start: variables were
+  -- made, and types were met in which no obstacle stands.
   pub record HasCome (c : Items) (start : Store) (k : VarKind) (n u : ℕ) (st : Store) (es : List Met) : Type 0 where
     pub items : items_of m ≡ c
     pub sound : IsSound start
@@ -110,15 +112,16 @@ module _ {Key Id Name S : Type 0} (eq : MetKey Key → MetKey Key → Bool) (m n
       InContext start t → (o : Obstacle) × StopsAt start k i o t × GivenError cyclic e o
 
   -- A part became another of its sort; or an obstacle stands in it; or memory ran out.
-  abbrev pub GeneralisesTo : TypeError Key Id Name → Part Key Id → Result (Part Key Id) (RelateFault Key Id Name) → Type 0
+  abbrev pub GeneralisesTo : TypeError Key Id Name → Part Key Id → Result (Part Key Id) (RelateFault Key Id Name) →
+      Type 0
   GeneralisesTo cyclic p (Ok x) = IsTrue (known (part_tree n x)) × (part_sort x ≡ part_sort p) × IsSure eq n new ×
       BecomesAlways (part_tree n x)
   GeneralisesTo cyclic p (Err (Unrelated e)) = StopsAlways cyclic e
   GeneralisesTo cyclic p (Err Budget) = ⊥
   GeneralisesTo cyclic p (Err Memory) = Unit {0}
 
--- A part was generalised in a context, for variable `i` of kind `k` in universe `u`; unbound variables may have been made,
--- also where that failed.
+-- A part was generalised in a context, for variable `i` of kind `k` in universe `u`; unbound variables may have been
+-- made, also where that failed.
 pub record Generalises {I Key Id Name Span S : Type 0} (meaning : I → Meaning Key Id Name)
     (eq : MetKey Key → MetKey Key → Bool) (before after : RefCtxt I Key Id Name Span) (k : VarKind) (i u : ℕ)
     (cyclic : TypeError Key Id Name) (turn : Turn) (old new : HashMap (MetKey Key) (TyKey Key) S) (p : Part Key Id)
@@ -129,17 +132,18 @@ pub record Generalises {I Key Id Name Span S : Type 0} (meaning : I → Meaning 
   pub makes : MakesUnbound u (store_of (meaning before.interner) before.inner)
       (store_of (meaning after.interner) after.inner)
   pub answers : GeneralisesTo eq (meaning before.interner) (meaning after.interner)
-      (store_of (meaning before.interner) before.inner) (store_of (meaning after.interner) after.inner) k i u turn old new
-      (part_tree (meaning before.interner) p) cyclic p result
+      (store_of (meaning before.interner) before.inner) (store_of (meaning after.interner) after.inner) k i u turn old
+      new (part_tree (meaning before.interner) p) cyclic p result
 
--- What generalising a part for a variable answers: what it became by the rules; or the error of the first obstacle; or that
--- memory ran out.
-abbrev pub IsGeneralisedFor : {Key Id Name : Type 0} → Meaning Key Id Name → Meaning Key Id Name → Store → Store → VarKind →
-    ℕ → Variance → TypeError Key Id Name → Part Key Id → Result (Part Key Id) (RelateFault Key Id Name) → Type 0
+-- What generalising a part for a variable answers: what it became by the rules; or the error of the first obstacle; or
+-- that memory ran out.
+abbrev pub IsGeneralisedFor : {Key Id Name : Type 0} → Meaning Key Id Name → Meaning Key Id Name → Store → Store →
+    VarKind → ℕ → Variance → TypeError Key Id Name → Part Key Id →
+    Result (Part Key Id) (RelateFault Key Id Name) → Type 0
 IsGeneralisedFor m n before after k i v cyclic p (Ok x) = IsTrue (known (part_tree n x)) × (part_sort x ≡ part_sort p) ×
     ((last : Stage) × (last.store ≡ after) × Generalised (items_of m) before k i (any_part v)
     (record { store = before; met = [] }) (part_tree m p) last (part_tree n x))
-IsGeneralisedFor m n before after k i v cyclic p (Err (Unrelated e)) = (o : Obstacle) × StopsAt before k i o (part_tree m p) ×
-    GivenError cyclic e o
+IsGeneralisedFor m n before after k i v cyclic p (Err (Unrelated e)) = (o : Obstacle) ×
+    StopsAt before k i o (part_tree m p) × GivenError cyclic e o
 IsGeneralisedFor m n before after k i v cyclic p (Err Budget) = ⊥
 IsGeneralisedFor m n before after k i v cyclic p (Err Memory) = Unit {0}

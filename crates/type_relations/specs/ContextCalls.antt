@@ -95,9 +95,9 @@ module _ {Key Id Name : Type 0} (c d : Context Key Id Name) where
   Constrains q (Ok x) = AddsConstraint c.store d.store q
   Constrains q (Err f) = d.store ≡ c.store
 
-  -- What binding a variable, at a variance, to what a term comes to answers: the term that it was bound to by the rules,
-  -- for one of the budget; or nothing was bound, since an obstacle stands in what the term comes to, or nothing is left
-  -- of the budget, or a growth was refused. Variables that were made on the way stay unbound.
+  -- What binding a variable, at a variance, to what a term comes to answers: the term that it was bound to by the
+  -- rules, for one of the budget; or nothing was bound, since an obstacle stands in what the term comes to, or nothing
+  -- is left of the budget, or a growth was refused. Variables that were made on the way stay unbound.
   abbrev pub Instantiated : {K : Type 0} → Variance → VarKind → ℕ → Tree → (Meaning Key Id Name → K → Tree) →
       (K → TypeError Key Id Name) → Result K (RelateFault Key Id Name) → Type 0
   Instantiated v k n source tree cyclic (Ok t) = IsTrue (known (tree d.meaning t)) ×

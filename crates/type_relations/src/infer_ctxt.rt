@@ -200,9 +200,9 @@ pub trait InferCtxtLike {
     /// name, for one of the budget, and answers the bound type. The type is no type variable, and has rules.
     ///
     /// # Errors
-    /// `Budget` where no instantiation is left; `CyclicTy` where the variable stands in what the type comes to, `Mismatch`
-    /// where a placeholder does that the variable can't name; `Memory` where a growth was refused. Then nothing was bound,
-    /// though variables may have been made on the way, but for `Budget`.
+    /// `Budget` where no instantiation is left; `CyclicTy` where the variable stands in what the type comes to,
+    /// `Mismatch` where a placeholder does that the variable can't name; `Memory` where a growth was refused. Then
+    /// nothing was bound, though variables may have been made on the way, but for `Budget`.
     fn instantiate_ty_var_raw(
         &mut self,
         structurally_relate_aliases: StructurallyRelateAliases,

@@ -1,7 +1,9 @@
 //! Generalising what a variable is bound to: new variables take the places of what the variable can't name, and of what
 //! may still vary. A type that was met before, at the same variance, is not gone through again.
-ghost use Rattle.std.specs.Prelude.{◌≡◌, ◌≢◌, ◌≤◌, ◌<◌, ℕ, IsTrue, IsFalse, IfOk, IfSome, IfNone, OnOk, OnErr, List, ◌∷◌, Contains, Some, length};
-ghost use Rattle.relation_terms.specs.Heads.{VarKind, Leaf, variable, placeholder, BoundKind, bound_sort, region_sort, const_sort, region_var};
+ghost use Rattle.std.specs.Prelude.{◌≡◌, ◌≢◌, ◌≤◌, ◌<◌, ℕ, IsTrue, IsFalse, IfOk, IfSome, IfNone, OnOk, OnErr};
+ghost use Rattle.std.specs.Prelude.{List, ◌∷◌, Contains, Some, length};
+ghost use Rattle.relation_terms.specs.Heads.{VarKind, Leaf, variable, placeholder, BoundKind, bound_sort, region_sort};
+ghost use Rattle.relation_terms.specs.Heads.{const_sort, region_var};
 ghost use Rattle.relation_terms.specs.Trees.{Tree, leaf, known, count, IsTerm};
 ghost use Rattle.relation_terms.specs.Meaning.{Extends};
 ghost use Rattle.relation_terms.specs.Parts.{part_tree, part_sort, parts_of};
@@ -93,9 +95,11 @@ fn recall<I: Interner>(
     requires known { IsTrue (known ((I.meaning cx.now).ty ty.now)) }
     requires sure { IsSure ⟦<MetKey<I::Key> as PartialEq>⟧.eq (I.meaning cx.now) met.now }
     ensures sure { IfSome result (λ x. IsTrue (known ((I.meaning cx.now).ty x))) }
-    ensures met { IfSome result (λ x. (es : List Met) → Keeps ⟦<MetKey<I::Key> as PartialEq>⟧.eq (I.meaning cx.now) met.now es →
+    ensures met { IfSome result (λ x. (es : List Met) →
+        Keeps ⟦<MetKey<I::Key> as PartialEq>⟧.eq (I.meaning cx.now) met.now es →
         Contains es (met_at variance ((I.meaning cx.now).ty ty.now) ((I.meaning cx.now).ty x))) }
-    ensures not_met { IfNone result ((es : List Met) → Keeps ⟦<MetKey<I::Key> as PartialEq>⟧.eq (I.meaning cx.now) met.now es →
+    ensures not_met { IfNone result ((es : List Met) →
+        Keeps ⟦<MetKey<I::Key> as PartialEq>⟧.eq (I.meaning cx.now) met.now es →
         (x : Tree) → Contains es (met_at variance ((I.meaning cx.now).ty ty.now) x) → ⊥) }
 {
     let _ = cx;
@@ -114,7 +118,8 @@ fn keep<I: Interner>(
     requires became_known { IsTrue (known ((I.meaning cx.now).ty became)) }
     requires sure { IsSure ⟦<MetKey<I::Key> as PartialEq>⟧.eq (I.meaning cx.now) met.old }
     ensures sure { OnOk result (IsSure ⟦<MetKey<I::Key> as PartialEq>⟧.eq (I.meaning cx.now) met.new) }
-    ensures keeps { OnOk result ((es : List Met) → Keeps ⟦<MetKey<I::Key> as PartialEq>⟧.eq (I.meaning cx.now) met.old es →
+    ensures keeps { OnOk result ((es : List Met) →
+        Keeps ⟦<MetKey<I::Key> as PartialEq>⟧.eq (I.meaning cx.now) met.old es →
         ((x : Tree) → Contains es (met_at variance ((I.meaning cx.now).ty ty.now) x) → ⊥) →
         Keeps ⟦<MetKey<I::Key> as PartialEq>⟧.eq (I.meaning cx.now) met.new
         (met_at variance ((I.meaning cx.now).ty ty.now) ((I.meaning cx.now).ty became) ∷ es)) }
@@ -167,7 +172,8 @@ fn mode_in_ty<I: Interner>(cx: &I, ty: &Ty<I>, i: usize) -> Variance
 // How the parts of a constant vary with the constant.
 fn mode_in_const<I: Interner>(cx: &I, constant: &Const<I>) -> Variance
     requires { IsTrue (known ((I.meaning cx.now).const_ constant.now)) }
-    ensures { let t = (I.meaning cx.now).const_ constant.now in (i : ℕ) (v : Variance) → IsTerm const_sort t → i < count (parts_of t) →
+    ensures { let t = (I.meaning cx.now).const_ constant.now in
+        (i : ℕ) (v : Variance) → IsTerm const_sort t → i < count (parts_of t) →
         variance_of_part (items_of (I.meaning cx.now)) t i v ≡ xform v result }
 {
     match cx.const_kind(constant) {
@@ -186,7 +192,8 @@ fn variance_of<I: Interner>(cx: &I, term: &PartOf<I>, i: usize, variance: Varian
     requires term_known { IsTrue (known (part_tree (I.meaning cx.now) term.now)) }
     requires term_covered { IsCovered (part_tree (I.meaning cx.now) term.now) }
     requires in_bounds { i < count (parts_of (part_tree (I.meaning cx.now) term.now)) }
-    ensures { result ≡ variance_of_part (items_of (I.meaning cx.now)) (part_tree (I.meaning cx.now) term.now) i variance }
+    ensures { let m = I.meaning cx.now in
+        result ≡ variance_of_part (items_of m) (part_tree m term.now) i variance }
 {
     match term {
         Part::Ty(ty) => variance.xform(mode_in_ty(cx, ty, i)),
@@ -263,7 +270,8 @@ impl<I: Interner> RefCtxt<I> {
         requires made { IsMade (store_in I.meaning self.now) (vid_kind vid) (vid_number vid) }
         requires other { vid ≢ target.now.vid }
         ensures { IsFate (store_in I.meaning self.now) (vid_kind target.now.vid) (vid_number target.now.vid)
-            target.now.universe.0 variance (leaf (variable (vid_kind vid) (vid_number vid))) (Some (vid_kind vid)) result }
+            target.now.universe.0 variance (leaf (variable (vid_kind vid) (vid_number vid)))
+            (Some (vid_kind vid)) result }
     {
         match vid {
             TermVid::Ty(vid) => {
@@ -284,7 +292,8 @@ impl<I: Interner> RefCtxt<I> {
             InContext (store_in I.meaning self.now) (part_tree m term.now) }
         requires term_covered { IsCovered (part_tree (I.meaning self.now.interner) term.now) }
         ensures { IsFate (store_in I.meaning self.now) (vid_kind target.now.vid) (vid_number target.now.vid)
-            target.now.universe.0 variance (part_tree (I.meaning self.now.interner) term.now) (new_kind term.now) result }
+            target.now.universe.0 variance (part_tree (I.meaning self.now.interner) term.now)
+            (new_kind term.now) result }
     {
         if let Part::Region(region) = term {
             return self.fate_of_region(region, variance, target);
@@ -405,7 +414,8 @@ impl<I: Interner> RefCtxt<I> {
         requires term_covered { IsCovered (part_tree (I.meaning self.old.interner) term.now) }
         requires sure { IsSure ⟦<MetKey<I::Key> as PartialEq>⟧.eq (I.meaning self.old.interner) met.old }
         requires stays { IsFate (store_in I.meaning self.old) (vid_kind target.now.vid) (vid_number target.now.vid)
-            target.now.universe.0 variance (part_tree (I.meaning self.old.interner) term.now) (new_kind term.now) ByParts }
+            target.now.universe.0 variance (part_tree (I.meaning self.old.interner) term.now)
+            (new_kind term.now) ByParts }
         ensures { Generalises I.meaning ⟦<MetKey<I::Key> as PartialEq>⟧.eq self.old self.new
             (vid_kind target.now.vid) (vid_number target.now.vid) target.now.universe.0 target.now.cyclic
             (new_part variance) met.old met.new term.now result }

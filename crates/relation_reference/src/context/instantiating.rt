@@ -19,8 +19,8 @@ use relation_terms::terms::{Const, ConstVid, Interner, Part, Ty, TyVid, Variance
 use relation_tools::error::{RelateFault, RelateFaultOf, TypeError};
 
 impl<I: Interner> RefCtxt<I> {
-    /// Binds the root of a type variable, at a variance, to what a type comes to, generalised for what the root can name,
-    /// for one of the budget, and answers that. The type is no type variable.
+    /// Binds the root of a type variable, at a variance, to what a type comes to, generalised for what the root can
+    /// name, for one of the budget, and answers that. The type is no type variable.
     ///
     /// # Errors
     /// `Budget` where no instantiation is left; `CyclicTy` where the root stands in what the type comes to, `Mismatch`
