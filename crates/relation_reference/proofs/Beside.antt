@@ -158,7 +158,6 @@ module _ {Key Id Name : Type 0} (m : Meaning Key Id Name) where
     rooted = rooted;
     formed = filled;
     numbers_name_nothing = λ j i f. below j i f (VarKind_discrete j k);
-    first_universe = b.universe ∙ l.first_universe;
     keyed = λ j. go j (VarKind_discrete j k);
     numbers = b.numbers ∙ l.numbers;
   }

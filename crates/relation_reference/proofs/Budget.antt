@@ -50,7 +50,6 @@ budget_lawful m x b l = record {
   rooted = l.rooted;
   formed = l.formed;
   numbers_name_nothing = l.numbers_name_nothing;
-  first_universe = l.first_universe;
   keyed = l.keyed;
   numbers = l.numbers;
 }

@@ -33,7 +33,7 @@ use Rattle.relation_reference.specs.declared.context.generalising.Fate.TheVarian
 use Rattle.relation_reference.specs.declared.context.inner.InferCtxtInner.{InferCtxtInner}
 use Rattle.relation_reference.specs.declared.context.variables.RefCtxt.{RefCtxt}
 use Rattle.relation_reference.specs.Tables.{store_of, IsLawful}
-use Rattle.relation_reference.specs.Generalises.{met_at, IsFate, IsSure, Keeps, HasCome, ObstacleError, Becomes, StopsAlways, BecomesAlways, GeneralisesTo, Generalises, IsGeneralisedFor}
+use Rattle.relation_reference.specs.Generalises.{met_at, IsFate, IsSure, Keeps, HasCome, GivenError, Becomes, StopsAlways, BecomesAlways, GeneralisesTo, Generalises, IsGeneralisedFor}
 use Rattle.relation_reference.proofs.Grows.{store_grows, lawful_grows}
 use Rattle.relation_reference.proofs.Resolving.{context_part}
 use Rattle.relation_reference.proofs.Recalling.{sure_grows, keeps_none, keeps_grows}
@@ -439,32 +439,6 @@ stays_covered (next_part g f) cov all = let a = stays_covered g cov.0 all in let
 pub generalised_covered : {c : Items} {start st : Store} {k : VarKind} {n : ℕ} {turn : Turn} {q : Stage} {t x : Tree} → Generalised c start k n turn (record { store = st; met = [] }) t q x → IsCovered t → IsCovered x
 generalised_covered g cov = (stays_covered g cov (All-nil _)).0
 
--- Only a type variable becomes one.
-gives_type : (l : Leaf) (j : VarKind) (d e : ℕ) → gives_way_to l ≡ Some j → ((m : ℕ) → leaf l ≢ leaf (variable type_var m)) → leaf (variable j d) ≢ leaf (variable type_var e)
-gives_type (variable type_var m) j d e g o h = o m refl
-gives_type (variable int_var m) j d e g o h = absurd (cc)
-gives_type (variable float_var m) j d e g o h = absurd (cc)
-gives_type (variable const_var m) j d e g o h = absurd (cc)
-gives_type (variable region_var m) j d e g o h = absurd (cc)
-gives_type (bound q b m) j d e g o h = absurd (cc)
-gives_type (placeholder (bound_kind region_kind x) w m) j d e g o h = absurd (cc)
-gives_type (placeholder (bound_kind type_kind x) w m) j d e g o h = absurd (cc)
-gives_type (placeholder (bound_kind const_kind x) w m) j d e g o h = absurd (cc)
-gives_type (atom static_region) j d e g o h = absurd (cc)
-gives_type (atom (early_region b x)) j d e g o h = absurd (cc)
-gives_type (atom x) j d e g o h = absurd (cc)
-gives_type unknown j d e g o h = absurd (cc)
-
-new_no_type : {c : Items} {start : Store} {k : VarKind} {n : ℕ} {v : Variance} {r q : Stage} {t x : Tree} → Generalised c start k n (new_part v) r t q x → ((m : ℕ) → t ≢ leaf (variable type_var m)) → (m : ℕ) → x ≢ leaf (variable type_var m)
-new_no_type (stays o s) f m h = f m h
-new_no_type (gives_way {l = l} {j = j} {m = d} o s e g b) f m h = gives_type l j d m e f h
-new_no_type (by_parts p g) f m h = cc
-new_no_type (in_binder g) f m h = cc
-
-none_met : (es : List Met) (d : Met) → es ≡ [] → Contains es d → ⊥
+-- Nothing was met at the start.
+pub none_met : (es : List Met) (d : Met) → es ≡ [] → Contains es d → ⊥
 none_met es d e h = let l = h.1 in let z = ap length e in omega (arith, l, z)
-
-pub generalised_no_type : {c : Items} {start : Store} {k : VarKind} {n : ℕ} {v : Variance} {r q : Stage} {t x : Tree} → Generalised c start k n (any_part v) r t q x → r.met ≡ [] → ((m : ℕ) → t ≢ leaf (variable type_var m)) → (m : ℕ) → x ≢ leaf (variable type_var m)
-generalised_no_type (met_before {r = r} s h) e f = absurd (none_met r.met _ e h)
-generalised_no_type (met_first s o g a b) e f = new_no_type g f
-generalised_no_type (no_type s g) e f = new_no_type g f

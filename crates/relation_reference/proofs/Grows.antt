@@ -141,7 +141,6 @@ module _ {Key Id Name : Type 0} {m n : Meaning Key Id Name} (e : Extends m n) (x
     rooted = subst IsRooted (sym store_grows) l.rooted;
     formed = subst IsFilled (sym store_grows) l.formed;
     numbers_name_nothing = l.numbers_name_nothing;
-    first_universe = l.first_universe;
     keyed = λ k. subst (λ ts. (i : ℕ) → i < length ts → get_or ts i nil ≡ leaf (variable k i)) (sym (keys_grow k)) (l.keyed k);
     numbers = keys_stay m.ty n.ty e.ty x.numbers.items (numbers_known m x l) ∙ l.numbers;
   }

@@ -82,7 +82,6 @@ module _ {Key Id Name : Type 0} (m : Meaning Key Id Name) (x y : InferCtxtInner 
     rooted = subst IsRooted (sym same_store) l.rooted;
     formed = subst IsFilled (sym same_store) l.formed;
     numbers_name_nothing = subst NumbersNameNothing (sym same_store) l.numbers_name_nothing;
-    first_universe = ap (λ u. u.0) s.universe ∙ l.first_universe;
     keyed = λ k. keyed_still m x y k (same_keys k) l;
     numbers = ap (map m.ty) s.numbers ∙ l.numbers;
   }
@@ -307,7 +306,6 @@ module _ {Key Id Name : Type 0} (m : Meaning Key Id Name) (x : InferCtxtInner Ke
     rooted = l.rooted;
     formed = l.formed;
     numbers_name_nothing = l.numbers_name_nothing;
-    first_universe = l.first_universe;
     keyed = l.keyed;
     numbers = l.numbers;
   }

@@ -34,13 +34,12 @@ module _ {Key Id Name : Type 0} (m : Meaning Key Id Name) (x : InferCtxtInner Ke
   keys const_var = ap (trees_of m.const_) n.consts
   keys region_var = refl
 
-  pub new_lawful : (x.universe).0 ≡ 0 → map m.ty x.numbers.items ≡ number_trees → IsLawful m x
-  new_lawful first numbers = record {
+  pub new_lawful : map m.ty x.numbers.items ≡ number_trees → IsLawful m x
+  new_lawful numbers = record {
     sound = empty_sound (store_of m x) entries universes (ap (map (constraint_of m)) n.constraints);
     rooted = λ k i r p h. absurd (let e = ap (λ es. get_or es i unbound) (entries k) in cc (e, h));
     formed = λ k i t h. absurd (let e = ap (λ es. get_or es i unbound) (entries k) in cc (e, h));
     numbers_name_nothing = λ k i h. ap (λ us. get_or us i 0) (universes k);
-    first_universe = first;
     keyed = λ k i h. absurd (let e = ap length (keys k) in omega (arith, h, e));
     numbers = numbers;
   }

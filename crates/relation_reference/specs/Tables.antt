@@ -57,14 +57,13 @@ module _ {Key Id Name : Type 0} (m : Meaning Key Id Name) where
       (trees_of m.const_ x.consts.items) []
 
   -- The invariant of a context: its store is sound; each entry of another variable names a root; what variables are
-  -- bound to is no variable, and may be related; variables of numbers stand in the first universe; there is no universe
-  -- yet but that one; the key beside each variable is the variable's; and the keys of integer and float types are theirs.
+  -- bound to is no variable, and may be related; variables of numbers stand in the first universe; the key beside each
+  -- variable is the variable's; and the keys of integer and float types are theirs.
   pub record IsLawful (x : InferCtxtInner Key) : Type 0 where
     pub sound : IsSound (store_of x)
     pub rooted : IsRooted (store_of x)
     pub formed : IsFilled (store_of x)
     pub numbers_name_nothing : NumbersNameNothing (store_of x)
-    pub first_universe : (x.universe).0 ≡ 0
     pub keyed : (k : VarKind) (n : ℕ) → n < length (keys_in x k) → get_or (keys_in x k) n nil ≡ leaf (variable k n)
     pub numbers : map m.ty x.numbers.items ≡ number_trees
 

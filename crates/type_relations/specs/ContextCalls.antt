@@ -1,6 +1,7 @@
 -- What each call of a lawful context does, over the keys of its terms.
-use Rattle.std.specs.Prelude.{◌≡◌, ◌≢◌, ℕ, IsTrue, max, min, length, Result, Ok, Err}
+use Rattle.std.specs.Prelude.{◌≡◌, ◌≢◌, ℕ, ◌<◌, IsTrue, max, min, length, Result, Ok, Err}
 use Rattle.relation_terms.specs.declared.terms.enums.Variance.{Variance}
+use Rattle.relation_terms.specs.declared.terms.numbers.UniverseIndex.{UniverseIndex}
 use Rattle.relation_terms.specs.Heads.{VarKind, variable}
 use Rattle.relation_terms.specs.Trees.{Tree, leaf, known, apply}
 use Rattle.relation_terms.specs.Meaning.{Meaning, Extends}
@@ -16,6 +17,7 @@ use Rattle.type_relations.specs.Generalising.{Obstacle, cycle, beyond, Instantia
 use Rattle.type_relations.specs.Lawful.{items_of}
 use Rattle.type_relations.specs.Resolving.{IsRoot}
 use Rattle.type_relations.specs.Steps.{Equates, InstantiatesNumber, MakesVariable, AddsConstraint, Resolves, LeadsTo}
+use Rattle.type_relations.specs.Steps.{ChangesNothing}
 use Rattle.type_relations.specs.Stores.{Store, Constraint, IsMade, unbound, bound_to, entry_of, universe_of, resolved}
 
 -- What variables are bound to is of forms that relating has rules for.
@@ -70,6 +72,13 @@ module _ {Key Id Name : Type 0} (c d : Context Key Id Name) where
       (tree d.meaning t ≡ leaf (variable k n)) × MakesVariable c.store d.store k n (c.store).universe
   MakesNext k tree (Err f) = d.store ≡ c.store
 
+  -- A universe was made, above that of each variable and the one that was current, and is the current one; or nothing
+  -- was recorded.
+  abbrev pub EntersNext : {F : Type 0} → Result UniverseIndex F → Type 0
+  EntersNext (Ok u) = ChangesNothing c.store d.store × ((d.store).universe ≡ u.0) × ((c.store).universe < u.0) ×
+      ((k : VarKind) (n : ℕ) → universe_of c.store k n < u.0)
+  EntersNext (Err f) = d.store ≡ c.store
+
   -- Two variables were made one, the smaller number being the root; one with itself changes nothing.
   pub record EquatesTwo (k : VarKind) (a b : ℕ) : Type 0 where
     pub stands : Stands
@@ -86,9 +95,9 @@ module _ {Key Id Name : Type 0} (c d : Context Key Id Name) where
   Constrains q (Ok x) = AddsConstraint c.store d.store q
   Constrains q (Err f) = d.store ≡ c.store
 
-  -- What binding a variable, at a variance, to what a term comes to answers: the term that it was bound to by the rules,
-  -- for one of the budget; or nothing was bound, since an obstacle stands in what the term comes to, or nothing is left
-  -- of the budget, or a growth was refused. Variables that were made on the way stay unbound.
+  -- What binding a variable, at a variance, to what a term comes to answers: the term that it was bound to by the
+  -- rules, for one of the budget; or nothing was bound, since an obstacle stands in what the term comes to, or nothing
+  -- is left of the budget, or a growth was refused. Variables that were made on the way stay unbound.
   abbrev pub Instantiated : {K : Type 0} → Variance → VarKind → ℕ → Tree → (Meaning Key Id Name → K → Tree) →
       (K → TypeError Key Id Name) → Result K (RelateFault Key Id Name) → Type 0
   Instantiated v k n source tree cyclic (Ok t) = IsTrue (known (tree d.meaning t)) ×

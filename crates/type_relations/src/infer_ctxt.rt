@@ -15,7 +15,7 @@ ghost use Rattle.type_relations.specs.Generalising.{NumbersNameNothing};
 ghost use Rattle.type_relations.specs.Resolving.{IsShallow, IsShallowTy, IsShallowConst};
 ghost use Rattle.type_relations.specs.NumberValues.{int_value_tree, float_value_tree};
 ghost use Rattle.type_relations.specs.ContextCalls.{IsUnresolved, IsRootOf, Reads, Knows, Stands, Grows, MakesNext};
-ghost use Rattle.type_relations.specs.ContextCalls.{EquatesTwo, BindsNumber, Constrains, Instantiated};
+ghost use Rattle.type_relations.specs.ContextCalls.{EntersNext, EquatesTwo, BindsNumber, Constrains, Instantiated};
 ghost use Rattle.type_relations.specs.ContextCalls.{HasCoveredBindings};
 
 use crate::relate::StructurallyRelateAliases;
@@ -148,6 +148,12 @@ pub trait InferCtxtLike {
         ensures grows { Grows (state self.old) (state self.new) }
         ensures makes { MakesNext (state self.old) (state self.new) region_var (λ m. m.region) result };
 
+    /// A new universe, above all earlier ones, and the current one from then on. After `OutOfMemory` there is none.
+    fn create_next_universe(&mut self) -> Result<UniverseIndex, OutOfMemory>
+        requires lawful { (state self.old).lawful }
+        ensures stands { Stands (state self.old) (state self.new) }
+        ensures enters { EntersNext (state self.old) (state self.new) result };
+
     /// Makes two unresolved type variables one. The smaller number is the root, with the smaller of both universes.
     fn equate_ty_vids_raw(&mut self, a: TyVid, b: TyVid)
         requires lawful { (state self.old).lawful }
@@ -194,9 +200,9 @@ pub trait InferCtxtLike {
     /// name, for one of the budget, and answers the bound type. The type is no type variable, and has rules.
     ///
     /// # Errors
-    /// `Budget` where no instantiation is left; `CyclicTy` where the variable stands in what the type comes to, `Mismatch`
-    /// where a placeholder does that the variable can't name; `Memory` where a growth was refused. Then nothing was bound,
-    /// though variables may have been made on the way, but for `Budget`.
+    /// `Budget` where no instantiation is left; `CyclicTy` where the variable stands in what the type comes to,
+    /// `Mismatch` where a placeholder does that the variable can't name; `Memory` where a growth was refused. Then
+    /// nothing was bound, though variables may have been made on the way, but for `Budget`.
     fn instantiate_ty_var_raw(
         &mut self,
         structurally_relate_aliases: StructurallyRelateAliases,

@@ -83,6 +83,10 @@ impl<I: Interner> InferCtxtLike for RefCtxt<I> {
         self.next_region_infer()
     }
 
+    fn create_next_universe(&mut self) -> Result<UniverseIndex, OutOfMemory> {
+        self.create_next_universe()
+    }
+
     fn equate_ty_vids_raw(&mut self, a: TyVid, b: TyVid) {
         self.equate_ty_vids_raw(a, b);
     }
@@ -111,10 +115,10 @@ impl<I: Interner> InferCtxtLike for RefCtxt<I> {
         &mut self,
         _structurally_relate_aliases: StructurallyRelateAliases,
         target_vid: TyVid,
-        _instantiation_variance: Variance,
+        instantiation_variance: Variance,
         source_ty: &Ty<I>,
     ) -> RelateResult<I, Ty<I>> {
-        self.instantiate_ty_var_raw(target_vid, source_ty)
+        self.instantiate_ty_var_raw(target_vid, instantiation_variance, source_ty)
     }
 
     fn instantiate_const_var_raw(
@@ -149,6 +153,8 @@ impl<I: Interner> InferCtxtLike for RefCtxt<I> {
     ghost reads = { λ c. refl };
 
     ghost sound = { λ c l. l.sound };
+
+    ghost numbers = { λ c l. l.numbers_name_nothing };
 
     ghost covered = { λ c l. covered_bindings (I.meaning c.interner) c.inner l };
 }

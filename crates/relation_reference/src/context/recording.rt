@@ -1,5 +1,5 @@
-//! Recording in a context: new variables, constraints on regions.
-ghost use Rattle.std.specs.Prelude.{◌≡◌, ◌≢◌, ◌≤◌, IfSome, IsTrue, IfOk, OnErr, OnOk, length};
+//! Recording in a context: new variables and universes, constraints on regions.
+ghost use Rattle.std.specs.Prelude.{◌≡◌, ◌≢◌, ◌≤◌, suc, IfSome, IsTrue, IfOk, OnErr, OnOk, length};
 ghost use Rattle.relation_terms.specs.Heads.{type_var, int_var, float_var, const_var, region_var, variable};
 ghost use Rattle.relation_terms.specs.Trees.{leaf, known};
 ghost use Rattle.relation_terms.specs.Meaning.{Extends};
@@ -217,6 +217,23 @@ impl<I: Interner> RefCtxt<I> {
         ensures refused { OnErr result (store_in I.meaning self.new ≡ store_in I.meaning self.old) }
     {
         self.next_region_var_in(self.inner.universe)
+    }
+
+    /// A new universe, one above the last, and the current one from then on.
+    ///
+    /// After `OutOfMemory`, where it cannot be counted, there is none.
+    pub fn create_next_universe(&mut self) -> Result<UniverseIndex, OutOfMemory>
+        requires { IsLawful (I.meaning self.old.interner) self.old.inner }
+        ensures interner { self.new.interner ≡ self.old.interner }
+        ensures lawful { IsLawful (I.meaning self.old.interner) self.new.inner }
+        ensures enters { IfOk result (λ u. self.new.inner ≡ record self.old.inner { universe = u }) }
+        ensures next { IfOk result (λ u. u.0 ≡ suc self.old.inner.universe.0) }
+        ensures refused { OnErr result (self.new.inner ≡ self.old.inner) }
+    {
+        let next = self.inner.universe.0.checked_add(1).ok_or(OutOfMemory)?;
+        let inner = &mut self.inner;
+        inner.universe = UniverseIndex(next);
+        Ok(inner.universe)
     }
 
     // Records that two regions outlive each other, also where both are one.

@@ -47,6 +47,7 @@ impl<I: Interner + Drop> RefCtxt<I> {
         ensures grown { IfOk result (λ c. Extends (I.meaning interner) (I.meaning c.interner)) }
         ensures lawful { IfOk result (λ c. IsLawful (I.meaning c.interner) c.inner) }
         ensures new { IfOk result (λ c. IsNew c.inner) }
+        ensures first_universe { IfOk result (λ c. c.inner.universe.0 ≡ 0) }
         ensures budget { IfOk result (λ c. c.inner.budget ≡ budget) }
     {
         let mut interner = interner;
@@ -63,6 +64,7 @@ impl<I: Interner> RefCtxt<I> {
         ensures interner { result.interner ≡ self.interner }
         ensures lawful { IsLawful (I.meaning self.interner) result.inner }
         ensures new { IsNew result.inner }
+        ensures first_universe { result.inner.universe.0 ≡ 0 }
         ensures budget { result.inner.budget ≡ budget }
     {
         let RefCtxt { interner, inner } = self;
