@@ -53,4 +53,5 @@ budget_lawful m x b l = record {
   first_universe = l.first_universe;
   keyed = l.keyed;
   numbers = l.numbers;
+  sub_rooted = record { count = l.sub_rooted.count; rooted = l.sub_rooted.rooted };
 }
