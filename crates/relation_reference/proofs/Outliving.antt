@@ -6,8 +6,8 @@ use Rattle.relation_terms.specs.declared.terms.keys.TyKey.{TyKey}
 use Rattle.relation_reference.specs.declared.context.inner.InferCtxtInner.{InferCtxtInner}
 use Rattle.relation_reference.specs.Tables.{IsLawful}
 
-pub outliving_lawful : {Key Id Name : Type 0} (m : Meaning Key Id Name) (x : InferCtxtInner Key) (qs : Vec (OutlivesPredicate Key (TyKey Key))) →
-    IsLawful m x → IsLawful m (record x { ty_outlives = qs })
+pub outliving_lawful : {Key Id Name : Type 0} (m : Meaning Key Id Name) (x : InferCtxtInner Key)
+    (qs : Vec (OutlivesPredicate Key (TyKey Key))) → IsLawful m x → IsLawful m (record x { ty_outlives = qs })
 outliving_lawful m x qs l = record {
   sound = l.sound;
   rooted = l.rooted;

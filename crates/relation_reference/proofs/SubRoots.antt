@@ -1,5 +1,7 @@
 -- The roots of variables that are marked as related.
-use Rattle.std.proofs.Common.{◌≡◌, ◌≢◌, ◌⊎◌, ℕ, suc, ◌+◌, ◌<◌, ◌≤◌, refl, sym, ap, ◌∙◌, subst, subst₂, arith, List, [], ◌∷◌, ◌++◌, length, length-append, map, get_or, min, eqb, cond, true, false, le_refl}
+use Rattle.std.proofs.Common.{◌≡◌, ◌≢◌, ◌⊎◌, inl, inr, ℕ, suc, ◌+◌, ◌<◌, ◌≤◌, refl, sym, ap, ◌∙◌, subst, subst₂, arith}
+use Rattle.std.proofs.Common.{List, [], ◌∷◌, ◌++◌, length, length-append, map, get_or, min, eqb, cond, true, false}
+use Rattle.std.proofs.Common.{le_refl}
 use Rattle.std.proofs.lemmas.List.{get_or-map, get_or_default, get_or_past, get_or_append_left, length-map}
 use Rattle.std.proofs.Math.Seq.{get_or-append_seam}
 use Rattle.std.proofs.lemmas.Bool.{eqb-true, eq-eqb}
@@ -37,7 +39,8 @@ module _ (rs : List ℕ) (child root : ℕ) (there : child < length rs) where
       go (no o) =
           let past : length rs ≤ n = omega (arith, o) in
           let long = length-map rs (led_root child root) in
-          get_or_past after n n (omega (arith, past, long)) ∙ sym (led_other child root n (λ e. omega (arith, e, there, past)))
+          get_or_past after n n (omega (arith, past, long))
+          ∙ sym (led_other child root n (λ e. omega (arith, e, there, past)))
           ∙ ap (led_root child root) (sym (get_or_past rs n n past))
 
   -- Of a class whose root leads to another.
@@ -63,14 +66,16 @@ module _ (rs : List ℕ) (child root : ℕ) (there : child < length rs) where
       where
         own : (n : ℕ) → Dec (root_in rs n ≡ child) → root_in after (root_in after n) ≡ root_in after n
         own n (yes q) = ap (root_in after) (at_child n q) ∙ at_root root root_own ∙ sym (at_child n q)
-        own n (no o) = ap (root_in after) (at_other n o) ∙ at_other (root_in rs n) (λ e. o (sym (t.own n) ∙ e)) ∙ t.own n ∙ sym (at_other n o)
+        own n (no o) = ap (root_in after) (at_other n o) ∙ at_other (root_in rs n) (λ e. o (sym (t.own n) ∙ e))
+            ∙ t.own n ∙ sym (at_other n o)
 
         below : (n : ℕ) → Dec (root_in rs n ≡ child) → root_in after n ≤ n
         below n (yes q) = let e = at_child n q in let b = t.below n in omega (arith, e, b, q, smaller)
         below n (no o) = let e = at_other n o in let b = t.below n in omega (arith, e, b)
 
     -- So two classes are one, whichever of both has the child as its root.
-    pub led_joins : (a b : ℕ) → (root_in rs a ≡ child) × (root_in rs b ≡ root) ⊎ (root_in rs a ≡ root) × (root_in rs b ≡ child) →
+    pub led_joins : (a b : ℕ) →
+        (root_in rs a ≡ child) × (root_in rs b ≡ root) ⊎ (root_in rs a ≡ root) × (root_in rs b ≡ child) →
         JoinsRoots (root_in rs) (root_in after) a b
     led_joins a b (inl (p, q)) = record {
       joined = λ n e. joined n e ∙ lower;
@@ -106,7 +111,8 @@ pub record Joined (rs ys : List ℕ) (a b : ℕ) : Type 0 where
   pub joins : JoinsRoots (root_in rs) (root_in ys) a b
 
 module _ (rs : List ℕ) (t : IsRootTable rs) (a b : ℕ) (a_in : a < length rs) (b_in : b < length rs) where
-  pub joined_low : (ys : List ℕ) → root_in rs a ≤ root_in rs b → ys ≡ map (led_root (root_in rs b) (root_in rs a)) rs → Joined rs ys a b
+  pub joined_low : (ys : List ℕ) → root_in rs a ≤ root_in rs b → ys ≡ map (led_root (root_in rs b) (root_in rs a)) rs →
+      Joined rs ys a b
   joined_low ys h e =
       let below = t.below b in
       let there : root_in rs b < length rs = omega (arith, below, b_in) in
@@ -116,7 +122,8 @@ module _ (rs : List ℕ) (t : IsRootTable rs) (a b : ℕ) (a_in : a < length rs)
         joins = led_joins rs (root_in rs b) (root_in rs a) there t (t.own a) h a b (inr (refl, refl));
       })
 
-  pub joined_high : (ys : List ℕ) → root_in rs b ≤ root_in rs a → ys ≡ map (led_root (root_in rs a) (root_in rs b)) rs → Joined rs ys a b
+  pub joined_high : (ys : List ℕ) → root_in rs b ≤ root_in rs a → ys ≡ map (led_root (root_in rs a) (root_in rs b)) rs →
+      Joined rs ys a b
   joined_high ys h e =
       let below = t.below a in
       let there : root_in rs a < length rs = omega (arith, below, a_in) in
@@ -132,14 +139,16 @@ root_more rs k = go (dec_le (suc k) (length rs)) (ℕ_discrete k (length rs))
   where
     go : Dec (suc k ≤ length rs) → Dec (k ≡ length rs) → root_in (rs ++ length rs ∷ []) k ≡ root_in rs k
     go (yes h) d = get_or_append_left rs (length rs ∷ []) k k (omega (arith, h))
-    go (no o) (yes e) = subst (λ i. root_in (rs ++ length rs ∷ []) i ≡ root_in rs i) (sym e) (get_or-append_seam rs (length rs) [] (length rs)
+    go (no o) (yes e) = subst (λ i. root_in (rs ++ length rs ∷ []) i ≡ root_in rs i) (sym e)
+        (get_or-append_seam rs (length rs) [] (length rs)
         ∙ sym (get_or_past rs (length rs) (length rs) (le_refl (length rs))))
     go (no o) (no d) = let long = length-append rs (length rs ∷ []) in
         get_or_past (rs ++ length rs ∷ []) k k (omega (arith, o, d, long)) ∙ sym (get_or_past rs k k (omega (arith, o)))
 
 pub more_table : (rs : List ℕ) → IsRootTable rs → IsRootTable (rs ++ length rs ∷ [])
 more_table rs t = record {
-  own = λ n. ap (root_in (rs ++ length rs ∷ [])) (root_more rs n) ∙ root_more rs (root_in rs n) ∙ t.own n ∙ sym (root_more rs n);
+  own = λ n. ap (root_in (rs ++ length rs ∷ [])) (root_more rs n) ∙ root_more rs (root_in rs n) ∙ t.own n
+      ∙ sym (root_more rs n);
   below = λ n. subst (λ z. z ≤ n) (sym (root_more rs n)) (t.below n);
 }
 
@@ -153,19 +162,26 @@ joins_itself f a b e = record { joined = λ n q. joined n q; others = λ n o z. 
 
 module _ {Key Id Name : Type 0} (m : Meaning Key Id Name) where
   -- A type variable has a root there.
-  pub root_there : (x : InferCtxtInner Key) → HasSubRoots m x → (n : ℕ) → n < length x.types.items → n < length x.sub_roots.items
+  pub root_there : (x : InferCtxtInner Key) → HasSubRoots m x → (n : ℕ) → n < length x.types.items →
+      n < length x.sub_roots.items
   root_there x h n made = let there = table_made m.ty x.types.items n made in let c = h.count in omega (arith, there, c)
 
   -- The roots with that of one more.
-  pub roots_made : (x : InferCtxtInner Key) (rs : Vec ℕ) → rs.items ≡ x.sub_roots.items ++ length x.sub_roots.items ∷ [] → HasSubRoots m x →
+  pub roots_made : (x : InferCtxtInner Key) (rs : Vec ℕ) →
+      rs.items ≡ x.sub_roots.items ++ length x.sub_roots.items ∷ [] → HasSubRoots m x →
       HasSubRoots m (record x { sub_roots = rs })
   roots_made x rs e h = record {
-    count = let c = h.count in let a = ap length e in let b = length-append x.sub_roots.items (length x.sub_roots.items ∷ []) in omega (arith, a, b, c);
+    count =
+        let c = h.count in
+        let a = ap length e in
+        let b = length-append x.sub_roots.items (length x.sub_roots.items ∷ []) in
+        omega (arith, a, b, c);
     rooted = subst IsRootTable (sym e) (more_table x.sub_roots.items h.rooted);
   }
 
   -- Then there is room for one more variable.
-  pub roots_room : (x : InferCtxtInner Key) (rs : Vec ℕ) → rs.items ≡ x.sub_roots.items ++ length x.sub_roots.items ∷ [] → HasSubRoots m x →
+  pub roots_room : (x : InferCtxtInner Key) (rs : Vec ℕ) →
+      rs.items ≡ x.sub_roots.items ++ length x.sub_roots.items ∷ [] → HasSubRoots m x →
       length x.types.items + 1 ≤ length rs.items
   roots_room x rs e h =
       let c = h.count in
@@ -175,12 +191,17 @@ module _ {Key Id Name : Type 0} (m : Meaning Key Id Name) where
       omega (arith, a, b, c, d)
 
   -- The roots of as many.
-  pub roots_kept : (x : InferCtxtInner Key) (rs : Vec ℕ) → length rs.items ≡ length x.sub_roots.items → IsRootTable rs.items → HasSubRoots m x →
+  pub roots_kept : (x : InferCtxtInner Key) (rs : Vec ℕ) → length rs.items ≡ length x.sub_roots.items →
+      IsRootTable rs.items → HasSubRoots m x →
       HasSubRoots m (record x { sub_roots = rs })
-  roots_kept x rs long t h = record { count = subst (λ z. length ((store_of m x).entries type_var) ≤ z) (sym long) h.count; rooted = t }
+  roots_kept x rs long t h = record {
+    count = subst (λ z. length ((store_of m x).entries type_var) ≤ z) (sym long) h.count;
+    rooted = t;
+  }
 
   -- As many type variables, and the same roots.
-  pub roots_same : (x y : InferCtxtInner Key) → length ((store_of m y).entries type_var) ≡ length ((store_of m x).entries type_var) →
+  pub roots_same : (x y : InferCtxtInner Key) →
+      length ((store_of m y).entries type_var) ≡ length ((store_of m x).entries type_var) →
       y.sub_roots.items ≡ x.sub_roots.items → HasSubRoots m x → HasSubRoots m y
   roots_same x y e same h = record {
     count = subst₂ ◌≤◌ (sym e) (sym (ap length same)) h.count;
@@ -188,7 +209,8 @@ module _ {Key Id Name : Type 0} (m : Meaning Key Id Name) where
   }
 
   -- Nothing else that a lawful context says of its tables speaks of these roots.
-  pub roots_lawful : (x : InferCtxtInner Key) (rs : Vec ℕ) → HasSubRoots m (record x { sub_roots = rs }) → IsLawful m x → IsLawful m (record x { sub_roots = rs })
+  pub roots_lawful : (x : InferCtxtInner Key) (rs : Vec ℕ) → HasSubRoots m (record x { sub_roots = rs }) → IsLawful m x →
+      IsLawful m (record x { sub_roots = rs })
   roots_lawful x rs h l = record {
     sound = l.sound;
     rooted = l.rooted;

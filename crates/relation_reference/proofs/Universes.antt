@@ -15,7 +15,8 @@ use Rattle.relation_reference.specs.declared.context.inner.Variable.{Variable}
 use Rattle.relation_reference.specs.declared.context.inner.VariableValue.{VariableValue}
 use Rattle.relation_reference.specs.declared.context.inner.VariableValue.TheVariants.{Unknown, SameAs, Known}
 use Rattle.relation_reference.specs.declared.context.inner.InferCtxtInner.{InferCtxtInner}
-use Rattle.relation_reference.specs.Variables.{keys_of, value_at, universe_at, root_at, free_universe, entry_of_value, entries_of, universes_of}
+use Rattle.relation_reference.specs.Variables.{keys_of, value_at, universe_at, root_at, free_universe}
+use Rattle.relation_reference.specs.Variables.{entry_of_value, entries_of, universes_of}
 use Rattle.relation_reference.specs.Tables.{IsRooted, IsLawful}
 use Rattle.relation_reference.proofs.Reading.{entry_is, root_leads, root_stands, root_made, keys_reach, trees_reach}
 
@@ -38,7 +39,9 @@ module _ {Key Id Name K : Type 0} (c : Context Key Id Name) (tree : K → Tree) 
       })
 
 -- The key beside a region variable is its own.
-pub region_key : {Key Id Name : Type 0} (m : Meaning Key Id Name) (x : InferCtxtInner Key) → IsLawful m x → (n : ℕ) → n < length x.regions.items →
-    (r : RegionKey Key) → ((d : RegionKey Key) → r ≡ get_or (keys_of x.regions.items) n d) → m.region r ≡ leaf (variable region_var n)
-region_key m x l n h r e = ap m.region (e r) ∙ sym (get_or-map m.region (keys_of x.regions.items) n r nil (keys_reach x.regions.items n h))
+pub region_key : {Key Id Name : Type 0} (m : Meaning Key Id Name) (x : InferCtxtInner Key) → IsLawful m x → (n : ℕ) →
+    n < length x.regions.items → (r : RegionKey Key) → ((d : RegionKey Key) → r ≡ get_or (keys_of x.regions.items) n d) →
+    m.region r ≡ leaf (variable region_var n)
+region_key m x l n h r e = ap m.region (e r)
+    ∙ sym (get_or-map m.region (keys_of x.regions.items) n r nil (keys_reach x.regions.items n h))
     ∙ l.keyed region_var n (trees_reach m.region x.regions.items n h)

@@ -1,5 +1,6 @@
 -- What each call of a lawful context does, over the keys of its terms.
-use Rattle.std.specs.Prelude.{◌≡◌, ◌≢◌, ◌⊎◌, ℕ, IsTrue, max, min, List, [], ◌∷◌, ◌++◌, length, Option, Some, None, Result, Ok, Err}
+use Rattle.std.specs.Prelude.{◌≡◌, ◌≢◌, ◌⊎◌, ℕ, IsTrue, max, min, List, [], ◌∷◌, ◌++◌, length, Option, Some, None}
+use Rattle.std.specs.Prelude.{Result, Ok, Err}
 use Rattle.relation_terms.specs.declared.predicate.OutlivesPredicate.{OutlivesPredicate}
 use Rattle.relation_terms.specs.declared.terms.enums.Variance.{Variance}
 use Rattle.relation_terms.specs.declared.terms.keys.RegionKey.{RegionKey}
@@ -56,7 +57,8 @@ module _ {Key Id Name : Type 0} (c : Context Key Id Name) where
 
   -- What the universe of a variable is answered to be: of an unresolved one its root's, of one with a term none.
   abbrev pub HasUniverse : VarKind → ℕ → Option UniverseIndex → Type 0
-  HasUniverse k n (Some u) = (r : ℕ) × IsRootOf k n r × (entry_of c.store k r ≡ unbound) × (u.0 ≡ universe_of c.store k r)
+  HasUniverse k n (Some u) = (r : ℕ) × IsRootOf k n r × (entry_of c.store k r ≡ unbound) ×
+      (u.0 ≡ universe_of c.store k r)
   HasUniverse k n None = (r : ℕ) × IsRootOf k n r × ((t : Tree) × (entry_of c.store k r ≡ bound_to t))
 
   -- A known term that another is read as by what is recorded, and so one of the same value.

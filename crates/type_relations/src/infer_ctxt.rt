@@ -199,8 +199,8 @@ pub trait InferCtxtLike {
         ensures grows { Grows (state self.old) (state self.new) }
         ensures makes { MakesNext (state self.old) (state self.new) region_var (λ m. m.region) result };
 
-    /// Makes two unresolved type variables one. The smaller number is the root, with the smaller of both universes. Both
-    /// are marked as related too.
+    /// Makes two unresolved type variables one. The smaller number is the root, with the smaller of both universes.
+    /// Both are marked as related too.
     fn equate_ty_vids_raw(&mut self, a: TyVid, b: TyVid)
         requires lawful { (state self.old).lawful }
         requires a_unresolved { IsUnresolved (state self.old) type_var a.0 }
@@ -208,8 +208,8 @@ pub trait InferCtxtLike {
         ensures equates { EquatesTwo (state self.old) (state self.new) type_var a.0 b.0 }
         ensures marks { JoinsRoots (sub_root self.old) (sub_root self.new) a.0 b.0 };
 
-    /// Marks two type variables as related, with all that either is related to: the smaller of both roots is that of all
-    /// of them. Nothing else is recorded.
+    /// Marks two type variables as related, with all that either is related to: the smaller of both roots is that of
+    /// all of them. Nothing else is recorded.
     fn sub_unify_ty_vids_raw(&mut self, a: TyVid, b: TyVid)
         requires lawful { (state self.old).lawful }
         requires a_made { IsMade (state self.old).store type_var a.0 }

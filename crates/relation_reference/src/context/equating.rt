@@ -21,7 +21,8 @@ use relation_terms::terms::{
 
 impl<I: Interner> RefCtxt<I> {
     /// Makes two roots of type variables one: the one of the larger number leads to the other, with all of its class,
-    /// and the other gets the smaller of both universes. Both are marked as related. A root with itself changes nothing.
+    /// and the other gets the smaller of both universes. Both are marked as related. A root with itself changes
+    /// nothing.
     pub fn equate_ty_vids_raw(&mut self, a: TyVid, b: TyVid)
         requires lawful { IsLawful (I.meaning self.old.interner) self.old.inner }
         requires a_made { a.0 < length self.old.inner.types.items }

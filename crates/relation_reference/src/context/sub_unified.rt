@@ -55,8 +55,8 @@ impl<I: Interner> RefCtxt<I> {
         TyVid(self.inner.sub_roots[var.0])
     }
 
-    /// Marks two type variables as related, with all that either is related to: the smaller of both roots is that of all
-    /// of them. It takes no memory.
+    /// Marks two type variables as related, with all that either is related to: the smaller of both roots is that of
+    /// all of them. It takes no memory.
     pub fn sub_unify_ty_vids_raw(&mut self, a: TyVid, b: TyVid)
         requires lawful { IsLawful (I.meaning self.old.interner) self.old.inner }
         requires a_made { a.0 < length self.old.inner.types.items }

@@ -47,16 +47,12 @@ fn empty_tables<X>(
 }
 
 impl<I: Interner + Drop> RefCtxt<I> {
-    /// A context at the first universe, without variables and constraints, for the next solver or the old one, which may
-    /// make so many instantiations. It makes the keys of all integer and float types.
+    /// A context at the first universe, without variables and constraints, for the next solver or the old one, which
+    /// may make so many instantiations. It makes the keys of all integer and float types.
     ///
     /// # Errors
     /// `OutOfMemory` where a growth was refused.
-    pub fn new(
-        interner: I,
-        next_solver: bool,
-        budget: usize,
-    ) -> Result<RefCtxt<I>, OutOfMemory>
+    pub fn new(interner: I, next_solver: bool, budget: usize) -> Result<RefCtxt<I>, OutOfMemory>
         ensures grown { IfOk result (λ c. Extends (I.meaning interner) (I.meaning c.interner)) }
         ensures lawful { IfOk result (λ c. IsLawful (I.meaning c.interner) c.inner) }
         ensures new { IfOk result (λ c. IsNew c.inner) }
