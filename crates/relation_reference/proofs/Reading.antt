@@ -48,10 +48,10 @@ pub data Found (st : Store) (k : VarKind) (n : ℕ) (u : Tree) : Type 0 where
   found_root : (r : ℕ) → LeadsTo st k n r → entry_of st k r ≡ unbound → u ≡ leaf (variable k r) → Found st k n u
   found_term : (r : ℕ) → LeadsTo st k n r → entry_of st k r ≡ bound_to u → Found st k n u
 
-keys_reach : {K : Type 0} (vs : List (Variable K)) (n : ℕ) → n < length vs → n < length (keys_of vs)
+pub keys_reach : {K : Type 0} (vs : List (Variable K)) (n : ℕ) → n < length vs → n < length (keys_of vs)
 keys_reach vs n h = subst (λ z. n < z) (sym (length-map vs (λ v. v.key))) h
 
-trees_reach : {K : Type 0} (tree : K → Tree) (vs : List (Variable K)) (n : ℕ) → n < length vs → n < length (trees_of tree vs)
+pub trees_reach : {K : Type 0} (tree : K → Tree) (vs : List (Variable K)) (n : ℕ) → n < length vs → n < length (trees_of tree vs)
 trees_reach tree vs n h = subst (λ z. n < z) (sym (length-map (keys_of vs) tree)) (keys_reach vs n h)
 
 -- A table of a store.

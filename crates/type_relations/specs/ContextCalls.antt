@@ -1,6 +1,10 @@
 -- What each call of a lawful context does, over the keys of its terms.
-use Rattle.std.specs.Prelude.{◌≡◌, ◌≢◌, ℕ, ◌<◌, IsTrue, max, min, length, Result, Ok, Err}
+use Rattle.std.specs.Prelude.{◌≡◌, ◌≢◌, ◌⊎◌, ℕ, ◌<◌, IsTrue, max, min, List, [], ◌∷◌, ◌++◌, length, Option, Some, None}
+use Rattle.std.specs.Prelude.{Result, Ok, Err}
+use Rattle.relation_terms.specs.declared.predicate.OutlivesPredicate.{OutlivesPredicate}
 use Rattle.relation_terms.specs.declared.terms.enums.Variance.{Variance}
+use Rattle.relation_terms.specs.declared.terms.keys.RegionKey.{RegionKey}
+use Rattle.relation_terms.specs.declared.terms.keys.TyKey.{TyKey}
 use Rattle.relation_terms.specs.declared.terms.numbers.UniverseIndex.{UniverseIndex}
 use Rattle.relation_terms.specs.Heads.{VarKind, variable}
 use Rattle.relation_terms.specs.Trees.{Tree, leaf, known, apply}
@@ -30,6 +34,17 @@ abbrev pub ObstacleError : {Key Id Name K : Type 0} → (K → Tree) → (K → 
 ObstacleError {K = K} tree cyclic t e cycle = (x : K) × (tree x ≡ t) × (e ≡ cyclic x)
 ObstacleError tree cyclic t e beyond = e ≡ Mismatch
 
+-- Two classes of variables became one, with the smaller of both roots; all others' roots stand.
+pub record JoinsRoots (before after : ℕ → ℕ) (a b : ℕ) : Type 0 where
+  pub joined : (n : ℕ) → (before n ≡ before a) ⊎ (before n ≡ before b) → after n ≡ min (before a) (before b)
+  pub others : (n : ℕ) → before n ≢ before a → before n ≢ before b → after n ≡ before n
+
+-- A type and a region that it is to outlive were put behind those that there were; or nothing was.
+abbrev pub Registers : {Key A F : Type 0} → List (OutlivesPredicate Key (TyKey Key)) →
+    List (OutlivesPredicate Key (TyKey Key)) → TyKey Key → RegionKey Key → Result A F → Type 0
+Registers before after t r (Ok x) = after ≡ before ++ record { 0 = t; 1 = r } ∷ []
+Registers before after t r (Err f) = after ≡ before
+
 module _ {Key Id Name : Type 0} (c : Context Key Id Name) where
   -- The variable is the context's, and nothing is recorded of it.
   abbrev pub IsUnresolved : VarKind → ℕ → Type 0
@@ -40,6 +55,12 @@ module _ {Key Id Name : Type 0} (c : Context Key Id Name) where
     pub made : IsMade c.store k r
     pub leads : LeadsTo c.store k n r
     pub root : IsRoot c.store k r
+
+  -- What the universe of a variable is answered to be: of an unresolved one its root's, of one with a term none.
+  abbrev pub HasUniverse : VarKind → ℕ → Option UniverseIndex → Type 0
+  HasUniverse k n (Some u) = (r : ℕ) × IsRootOf k n r × (entry_of c.store k r ≡ unbound) ×
+      (u.0 ≡ universe_of c.store k r)
+  HasUniverse k n None = (r : ℕ) × IsRootOf k n r × ((t : Tree) × (entry_of c.store k r ≡ bound_to t))
 
   -- A known term that another is read as by what is recorded, and so one of the same value.
   pub record Reads (t u : Tree) : Type 0 where

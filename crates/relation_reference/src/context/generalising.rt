@@ -238,7 +238,7 @@ impl<I: Interner> RefCtxt<I> {
         requires { vid.0 < length self.now.inner.regions.items }
         ensures { result ≡ universe_of (store_in I.meaning self.now) region_var vid.0 }
     {
-        self.inner.regions[vid.0].0
+        self.inner.regions[vid.0].universe.0
     }
 
     // What becomes of a region for a target, at a variance.

@@ -58,7 +58,7 @@ returns-in-Some-ty_var g c =
     let s = g.Infcx.InferCtxtLike.state r.infcx.now in
     let sound = g.met.Infcx.InferCtxtLike.sound r.infcx.now c.requires.lawful in
     let d = g.Infcx.InferCtxtLike.state c.equate_ty_vids_raw.new.self in
-    let done = c.equate_ty_vids_raw.ensures in
+    let done = c.equate_ty_vids_raw.ensures.equates in
     roots_step r.infcx.ghost_name IsFormed s.meaning d.meaning s.store d.store s.lawful d.lawful r.ambient_variance r.param_env
     type_var (no_region type_var tt) c.in-Some.x.0 c.in-Some-ty_var.y.0 ((s.meaning).ty c.args.a.now) ((s.meaning).ty c.args.b.now)
     (d.meaning).ty c.args.a.now done.stands.meaning c.requires.env_known sound done.stands.lawful done.same done.equates
