@@ -179,8 +179,8 @@ pub trait InferCtxtLike {
         ensures reads { let c = state self.now in Reads c ((c.meaning).const_ ct.now) ((c.meaning).const_ result) }
         ensures shallow { let c = state self.now in IsShallowConst c.store ((c.meaning).const_ result) };
 
-    /// The type with each variable that has a term replaced by it, at every depth, and each other by its root. Nothing is
-    /// recorded.
+    /// The type with each variable that has a term replaced by it, at every depth, and each other by its root. Nothing
+    /// is recorded.
     fn resolve_vars_if_possible(
         &mut self,
         ty: &Ty<Self::Interner>,
