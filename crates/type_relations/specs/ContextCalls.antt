@@ -87,6 +87,12 @@ module _ {Key Id Name : Type 0} (c d : Context Key Id Name) where
     pub extends : Extends c.meaning d.meaning
     pub lawful : d.lawful
 
+  -- What a term comes to at every depth was answered; or a growth was refused.
+  abbrev pub ComesTo : {K F : Type 0} → (Meaning Key Id Name → K → Tree) → K → Result K F → Type 0
+  ComesTo tree t (Ok x) = IsTrue (known (tree d.meaning x)) ×
+      (tree d.meaning x ≡ apply (resolved c.store) (tree c.meaning t))
+  ComesTo tree t (Err f) = Unit {0}
+
   -- A new variable of the current universe was made, and its key answered; or nothing was recorded.
   abbrev pub MakesNext : {K F : Type 0} → VarKind → (Meaning Key Id Name → K → Tree) → Result K F → Type 0
   MakesNext k tree (Ok t) = let n = length ((c.store).entries k) in IsTrue (known (tree d.meaning t)) ×

@@ -18,7 +18,7 @@ ghost use Rattle.type_relations.specs.Resolving.{IsShallow, IsShallowTy, IsShall
 ghost use Rattle.type_relations.specs.NumberValues.{int_value_tree, float_value_tree};
 ghost use Rattle.type_relations.specs.ContextCalls.{IsUnresolved, IsRootOf, Reads, Knows, Stands, Grows, MakesNext};
 ghost use Rattle.type_relations.specs.ContextCalls.{EntersNext, EquatesTwo, BindsNumber, Constrains, Instantiated};
-ghost use Rattle.type_relations.specs.ContextCalls.{HasUniverse, JoinsRoots, Registers, HasCoveredBindings};
+ghost use Rattle.type_relations.specs.ContextCalls.{HasUniverse, ComesTo, JoinsRoots, Registers, HasCoveredBindings};
 
 use crate::relate::StructurallyRelateAliases;
 use relation_terms::terms::{
@@ -178,6 +178,31 @@ pub trait InferCtxtLike {
         requires ct_in { HasConst (state self.now) ct.now }
         ensures reads { let c = state self.now in Reads c ((c.meaning).const_ ct.now) ((c.meaning).const_ result) }
         ensures shallow { let c = state self.now in IsShallowConst c.store ((c.meaning).const_ result) };
+
+    /// The type with each variable that has a term replaced by it, at every depth, and each other by its root. Nothing
+    /// is recorded.
+    fn resolve_vars_if_possible(
+        &mut self,
+        ty: &Ty<Self::Interner>,
+    ) -> Result<Ty<Self::Interner>, OutOfMemory>
+        requires lawful { (state self.old).lawful }
+        requires ty_known { KnowsTy (state self.old) ty.now }
+        requires ty_in { HasTy (state self.old) ty.now }
+        ensures grows { Grows (state self.old) (state self.new) }
+        ensures same_record { (state self.new).store ≡ (state self.old).store }
+        ensures comes { ComesTo (state self.old) (state self.new) (λ m. m.ty) ty.now result };
+
+    /// The same of a constant.
+    fn resolve_const_vars_if_possible(
+        &mut self,
+        ct: &Const<Self::Interner>,
+    ) -> Result<Const<Self::Interner>, OutOfMemory>
+        requires lawful { (state self.old).lawful }
+        requires ct_known { KnowsConst (state self.old) ct.now }
+        requires ct_in { HasConst (state self.old) ct.now }
+        ensures grows { Grows (state self.old) (state self.new) }
+        ensures same_record { (state self.new).store ≡ (state self.old).store }
+        ensures comes { ComesTo (state self.old) (state self.new) (λ m. m.const_) ct.now result };
 
     /// A new type variable in the current universe, which is marked as related to no other. After `OutOfMemory` no
     /// variable was made.

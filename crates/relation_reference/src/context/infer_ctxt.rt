@@ -102,6 +102,14 @@ impl<I: Interner> InferCtxtLike for RefCtxt<I> {
         self.shallow_resolve_const(ct)
     }
 
+    fn resolve_vars_if_possible(&mut self, ty: &Ty<I>) -> Result<Ty<I>, OutOfMemory> {
+        self.resolve_vars_if_possible(ty)
+    }
+
+    fn resolve_const_vars_if_possible(&mut self, ct: &Const<I>) -> Result<Const<I>, OutOfMemory> {
+        self.resolve_const_vars_if_possible(ct)
+    }
+
     fn next_ty_infer(&mut self) -> Result<Ty<I>, OutOfMemory> {
         self.next_ty_infer()
     }
