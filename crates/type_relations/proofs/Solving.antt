@@ -502,7 +502,7 @@ module _ {Key Id Name : Type 0} (j : ℕ) (gs : List (KeyedGoal Key (PredicateKe
       WithMeaning (solving j gs c.meaning c.store c.lawful v e) n (solving j gs d.meaning d.store d.lawful v e)
   solver_grows c d n grown h v e env =
       let stays : (d.meaning).param_env e ≡ (c.meaning).param_env e =
-          ap (λ z. z.param_env e) h.meaning ∙ grown.param_env e env.0 in
+      ap (λ z. z.param_env e) h.meaning ∙ grown.param_env e env.0 in
       record {
         meaning = h.meaning;
         store = h.store;

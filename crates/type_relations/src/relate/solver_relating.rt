@@ -148,8 +148,16 @@ fn relate_in<Infcx: InferCtxtLike>(
         let after = solving_in result.1.items (Infcx.state infcx.new) variance param_env in
         RelatedTys solver_manner before after a.now b.now result.0 }
 {
-    let mut relation = SolverRelating::new(infcx, variance, param_env, span);
+    let goals = Vec::new(infcx.cx().alloc());
+    let mut relation = SolverRelating {
+        infcx,
+        ambient_variance: variance,
+        param_env,
+        span,
+        goals,
+    };
     let related = relation.relate_tys(a, b);
-    let (_infcx, goals) = relation.into_parts();
+    let goals = relation.take_goals();
+    let _infcx = relation.into_infcx();
     (related, goals)
 }

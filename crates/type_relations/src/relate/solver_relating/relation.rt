@@ -24,6 +24,7 @@ use relation_terms::terms::{
     Variance,
 };
 use relation_tools::error::{ExpectedFound, RelateFault, RelateFaultOf, RelateResult, TypeError};
+use std::mem::replace;
 
 /// A goal over an interner's keys.
 pub type GoalOf<I> = Goal<<I as Keys>::Key, Predicate<I>>;
@@ -36,11 +37,11 @@ pub type GoalOf<I> = Goal<<I as Keys>::Key, Predicate<I>>;
 /// of the other.
 #[derive(Drop)]
 pub struct SolverRelating<'a, Infcx: InferCtxtLike> {
-    infcx: &'a mut Infcx,
-    ambient_variance: Variance,
-    param_env: ParamEnv<Infcx::Interner>,
-    span: Span<Infcx::Interner>,
-    goals: Vec<GoalOf<Infcx::Interner>>,
+    pub(super) infcx: &'a mut Infcx,
+    pub(super) ambient_variance: Variance,
+    pub(super) param_env: ParamEnv<Infcx::Interner>,
+    pub(super) span: Span<Infcx::Interner>,
+    pub(super) goals: Vec<GoalOf<Infcx::Interner>>,
 }
 
 impl<'a, Infcx: InferCtxtLike> SolverRelating<'a, Infcx> {
@@ -147,21 +148,27 @@ impl<'a, Infcx: InferCtxtLike> SolverRelating<'a, Infcx> {
         requires b_unresolved { IsUnresolved (Infcx.state self.old.infcx.now) type_var y.0 }
         ensures { let r = self.old in let q = self.new in
             let before = solving_through r.infcx.ghost_name r.goals.items (Infcx.state r.infcx.now) r.ambient_variance
-                r.param_env in
+            r.param_env in
             let after = solving_through q.infcx.ghost_name q.goals.items (Infcx.state q.infcx.now) q.ambient_variance
-                q.param_env in
+            q.param_env in
             SteppedTys solver_manner before after a.now b.now result }
     {
         let param_env = self.param_env;
         match self.ambient_variance {
             Variance::Covariant => {
                 let predicate = subtype_predicate(&mut *self.infcx, true, a, b)?;
-                self.goals.push(Goal { param_env, predicate })?;
+                self.goals.push(Goal {
+                    param_env,
+                    predicate,
+                })?;
                 Ok(Step::Done(*a))
             }
             Variance::Contravariant => {
                 let predicate = subtype_predicate(&mut *self.infcx, false, b, a)?;
-                self.goals.push(Goal { param_env, predicate })?;
+                self.goals.push(Goal {
+                    param_env,
+                    predicate,
+                })?;
                 Ok(Step::Done(*a))
             }
             Variance::Invariant => {
@@ -185,15 +192,15 @@ impl<'a, Infcx: InferCtxtLike> SolverRelating<'a, Infcx> {
         requires decides { self.old.ambient_variance ≢ Bivariant }
         requires asked { let r = self.old in
             let before = solving_through r.infcx.ghost_name r.goals.items (Infcx.state r.infcx.now) r.ambient_variance
-                r.param_env in
+            r.param_env in
             AskedTys solver_manner before a.now b.now }
         requires a_shallow { let r = Infcx.state self.old.infcx.now in IsShallow r.store ((r.meaning).ty a.now) }
         requires b_shallow { let r = Infcx.state self.old.infcx.now in IsShallow r.store ((r.meaning).ty b.now) }
         ensures { let r = self.old in let q = self.new in
             let before = solving_through r.infcx.ghost_name r.goals.items (Infcx.state r.infcx.now) r.ambient_variance
-                r.param_env in
+            r.param_env in
             let after = solving_through q.infcx.ghost_name q.goals.items (Infcx.state q.infcx.now) q.ambient_variance
-                q.param_env in
+            q.param_env in
             SteppedTys solver_manner before after a.now b.now result }
     {
         match ty_var(&*self.infcx, a) {
@@ -247,7 +254,7 @@ impl<'a, Infcx: InferCtxtLike> SolverRelating<'a, Infcx> {
         requires decides { self.old.ambient_variance ≢ Bivariant }
         requires asked { let r = self.old in
             let before = solving_through r.infcx.ghost_name r.goals.items (Infcx.state r.infcx.now) r.ambient_variance
-                r.param_env in
+            r.param_env in
             AskedTys solver_manner before a.now b.now }
         requires a_shallow { let r = Infcx.state self.old.infcx.now in IsShallow r.store ((r.meaning).ty a.now) }
         requires b_shallow { let r = Infcx.state self.old.infcx.now in IsShallow r.store ((r.meaning).ty b.now) }
@@ -257,9 +264,9 @@ impl<'a, Infcx: InferCtxtLike> SolverRelating<'a, Infcx> {
             (n : ℕ) → (r.meaning).ty b.now ≢ leaf (variable type_var n) }
         ensures { let r = self.old in let q = self.new in
             let before = solving_through r.infcx.ghost_name r.goals.items (Infcx.state r.infcx.now) r.ambient_variance
-                r.param_env in
+            r.param_env in
             let after = solving_through q.infcx.ghost_name q.goals.items (Infcx.state q.infcx.now) q.ambient_variance
-                q.param_env in
+            q.param_env in
             SteppedTys solver_manner before after a.now b.now result }
     {
         match number_var(&*self.infcx, a) {
@@ -302,7 +309,7 @@ impl<'a, Infcx: InferCtxtLike> SolverRelating<'a, Infcx> {
         requires decides { self.old.ambient_variance ≢ Bivariant }
         requires asked { let r = self.old in
             let before = solving_through r.infcx.ghost_name r.goals.items (Infcx.state r.infcx.now) r.ambient_variance
-                r.param_env in
+            r.param_env in
             AskedConsts solver_manner before a.now b.now }
         requires a_shallow { let r = Infcx.state self.old.infcx.now in
             IsShallowConst r.store ((r.meaning).const_ a.now) }
@@ -310,9 +317,9 @@ impl<'a, Infcx: InferCtxtLike> SolverRelating<'a, Infcx> {
             IsShallowConst r.store ((r.meaning).const_ b.now) }
         ensures { let r = self.old in let q = self.new in
             let before = solving_through r.infcx.ghost_name r.goals.items (Infcx.state r.infcx.now) r.ambient_variance
-                r.param_env in
+            r.param_env in
             let after = solving_through q.infcx.ghost_name q.goals.items (Infcx.state q.infcx.now) q.ambient_variance
-                q.param_env in
+            q.param_env in
             SteppedConsts solver_manner before after a.now b.now result }
     {
         match const_var(&*self.infcx, a) {
@@ -354,29 +361,30 @@ impl<'a, Infcx: InferCtxtLike> SolverRelating<'a, Infcx> {
         }
     }
 
+    /// The goals that were registered. None is left.
+    pub fn take_goals(&mut self) -> Vec<GoalOf<Infcx::Interner>>
+        ensures goals { result.items ≡ self.old.goals.items }
+        ensures none_left { self.new.goals.items ≡ [] }
+        ensures same_reference { self.new.infcx.ghost_name ≡ self.old.infcx.ghost_name }
+        ensures infcx { self.new.infcx.now ≡ self.old.infcx.now }
+    {
+        let none = Vec::new(self.infcx.cx().alloc());
+        replace(&mut self.goals, none)
+    }
+
     /// The context, with all that was recorded.
     pub fn into_infcx(self) -> &'a mut Infcx
         ensures same_reference { result.ghost_name ≡ self.entry.infcx.ghost_name }
         ensures value { result.now ≡ self.entry.infcx.now }
-    {
-        let (infcx, _goals) = self.into_parts();
-        infcx
-    }
-
-    /// The context, with all that was recorded, and the goals that were registered.
-    pub fn into_parts(self) -> (&'a mut Infcx, Vec<GoalOf<Infcx::Interner>>)
-        ensures same_reference { result.0.ghost_name ≡ self.entry.infcx.ghost_name }
-        ensures value { result.0.now ≡ self.entry.infcx.now }
-        ensures goals { result.1.items ≡ self.entry.goals.items }
     {
         let SolverRelating {
             infcx,
             ambient_variance: _,
             param_env: _,
             span: _,
-            goals,
+            goals: _,
         } = self;
-        (infcx, goals)
+        infcx
     }
 }
 
