@@ -1,10 +1,12 @@
 -- Binding a variable in a context, as a step, and being refused.
-use Rattle.std.proofs.Common.{◌≡◌, ◌≢◌, ◌⊎◌, ℕ, ◌+◌, ◌*◌, ◌≤◌, ◌<◌, refl, sym, ap, ap₂, ◌∙◌, arith, inl, inr, subst, subst₂, [], IsTrue}
+use Rattle.std.proofs.Common.{◌≡◌, ◌≢◌, ◌⊎◌, ℕ, ◌+◌, ◌*◌, ◌≤◌, ◌<◌, refl, sym, ap, ap₂, ◌∙◌, arith, inl, inr, subst, subst₂, List, [], IsTrue}
 use Rattle.std.proofs.Common.{Result, Ok, Err}
 use Rattle.relation_terms.specs.declared.terms.enums.Variance.{Variance}
 use Rattle.relation_terms.specs.declared.terms.enums.Variance.TheVariants.{Invariant}
 use Rattle.relation_terms.specs.declared.terms.enums.Variance.TheVariants.{Bivariant}
+use Rattle.relation_terms.specs.declared.terms.goal.Goal.{Goal}
 use Rattle.relation_terms.specs.declared.terms.keys.ParamEnvKey.{ParamEnvKey}
+use Rattle.relation_terms.specs.declared.terms.keys.PredicateKey.{PredicateKey}
 use Rattle.relation_terms.specs.Variances.{xform}
 use Rattle.relation_terms.specs.Heads.{VarKind, type_var, const_var, atom, variable, bound, placeholder, unknown}
 use Rattle.relation_terms.specs.Trees.{Tree, leaf, node, bind, nil, cons, Assign, apply, known}
@@ -25,13 +27,13 @@ use Rattle.type_relations.specs.ErasureLaws.{IsTypeOrConst}
 use Rattle.type_relations.specs.Parts.{IsFormed}
 use Rattle.type_relations.specs.FirstOrder.{IsFirstOrder, IsFirstOrderStore}
 use Rattle.type_relations.specs.Generalising.{Obstacle, cycle, beyond, InstantiatesBy, RefusesBy, NumbersNameNothing}
-use Rattle.type_relations.specs.Taken.{IsTaken}
 use Rattle.type_relations.specs.Covered.{IsCovered}
 use Rattle.type_relations.specs.Resolving.{IsShallow, root as shallow_root, stays_bound, formed, IsShallowConst, const_root, no_variable}
 use Rattle.type_relations.specs.Lawful.{Passes, Asked, Stepped, Leads, LeadsAgain, items_of, State}
 use Rattle.type_relations.specs.Contexts.{Context}
 use Rattle.type_relations.specs.ContextCalls.{Instantiated, ObstacleError, HasCoveredBindings}
-use Rattle.type_relations.specs.Solving.{solving, solver_manner}
+use Rattle.type_relations.specs.Goals.{goals_of}
+use Rattle.type_relations.specs.Solving.{KnowsGoals, solving, solver_manner}
 use Rattle.type_relations.proofs.Going.{goes_nowhere, goes_within}
 use Rattle.type_relations.proofs.ReadAs.{read_later}
 use Rattle.type_relations.proofs.Resolved.{resolved_free, resolved_weight}
@@ -43,7 +45,7 @@ use Rattle.type_relations.proofs.BindingGeneralised.{generalised_instantiates, g
 use Rattle.type_relations.proofs.BindingRefused.{generalising_refuses, refused}
 use Rattle.type_relations.proofs.GeneralisingErrors.{beyond_error}
 use Rattle.type_relations.proofs.NewVariables.{adds, adds_goes, instantiates_one}
-use Rattle.type_relations.proofs.Solving.{solver_passes}
+use Rattle.type_relations.proofs.Solving.{solver_passes, all_taken}
 
 -- What a term comes to is a variable only where the term is one.
 variable_alone : (s : Assign) (t : Tree) (k : VarKind) (n : ℕ) → ((j : VarKind) (m : ℕ) → t ≡ leaf (variable j m) → ⊥) →
@@ -74,13 +76,13 @@ pub const_comes_to_none : (st : Store) (t : Tree) (n : ℕ) → IsShallowConst s
 const_comes_to_none st t n (const_root m e f) o h = o m e
 const_comes_to_none st t n (no_variable f) o h = variable_alone (resolved st) t const_var n f h
 
-module _ {Key Id Name : Type 0} (j : ℕ) where
+module _ {Key Id Name : Type 0} (j : ℕ) (gs : List (Goal Key (PredicateKey Key))) where
   -- A variable was bound to what a term comes to.
   module _ (k : VarKind) (counted : IsTypeOrConst k) (c d : Context Key Id Name) (grown : Extends c.meaning d.meaning)
-      (e : ParamEnvKey Key) (env : IsTrue (known ((c.meaning).param_env e))) (before : IsSound c.store)
+      (e : ParamEnvKey Key) (env : KnowsGoals c.meaning e gs) (before : IsSound c.store)
       (numbers : NumbersNameNothing c.store) (after : d.lawful) (all : HasCoveredBindings d.store) (target : ℕ) (t u : Tree)
       (covered : IsCovered t) (t_in : IsTermIn c.store t) (t_known : IsTrue (known t)) (stands : MayStandFor k t)
-      (v x : Variance) (takes : (z : Tree) → IsCovered z → IsTaken v z) (u_known : IsTrue (known u))
+      (v x : Variance) (u_known : IsTrue (known u))
       (f : InstantiatesBy (items_of c.meaning) c.store d.store x k target t u) where
     abbrev was : Store
     was = c.store
@@ -129,10 +131,10 @@ module _ {Key Id Name : Type 0} (j : ℕ) where
     root_value w s sat = sat.bindings k target u (ap (entry_term k) steps.now_bound)
 
     abbrev r : State Key Id Name
-    r = solving j c.meaning was c.lawful v e
+    r = solving j gs c.meaning was c.lawful v e
 
     abbrev q : State Key Id Name
-    q = solving j d.meaning now d.lawful v e
+    q = solving j gs d.meaning now d.lawful v e
 
     asked_now : (a b : Tree) → IsTrue (known a) → IsTrue (known b) → IsTermIn now a → IsTermIn now b → IsCovered a →
         IsCovered b → Asked solver_manner q v a b
@@ -141,8 +143,8 @@ module _ {Key Id Name : Type 0} (j : ℕ) where
       right_known = l;
       left_in = h;
       right_in = i;
-      left_taken = takes a c;
-      right_taken = takes b d;
+      left_taken = all_taken v a c;
+      right_taken = all_taken v b d;
     }
 
     left_above : weight was t + 1 ≤ weight was root + weight was t
@@ -151,9 +153,9 @@ module _ {Key Id Name : Type 0} (j : ℕ) where
     right_above : weight was t + 1 ≤ weight was t + weight was root
     right_above = let h = root_weight in omega (arith, h)
 
-    both : StepsTo (items_of c.meaning) ((c.meaning).param_env e) was now [] [] (at v) root t (at v) u t ×
-        StepsTo (items_of c.meaning) ((c.meaning).param_env e) was now [] [] (at v) t root (at v) t u
-    both = instantiating_steps (items_of c.meaning) ((c.meaning).param_env e) v x was now [] k target t u
+    both : StepsTo (items_of c.meaning) ((c.meaning).param_env e) was now (goals_of c.meaning gs) [] (at v) root t (at v) u t ×
+        StepsTo (items_of c.meaning) ((c.meaning).param_env e) was now (goals_of c.meaning gs) [] (at v) t root (at v) t u
+    both = instantiating_steps (items_of c.meaning) ((c.meaning).param_env e) v x was now (goals_of c.meaning gs) k target t u
         (term_context was t t_in) steps
 
     left_leads : Leads r q [] root t v u t
@@ -176,7 +178,7 @@ module _ {Key Id Name : Type 0} (j : ℕ) where
     pair_left f h = let stays = first_order h f in record { left = stays.0; right = h; bindings = stays.1 }
 
     abbrev Answers : Tree → Tree → Tree → Tree → Type 0
-    Answers x y a an = CarriesOver (items_of d.meaning) ((d.meaning).param_env e) now [] (at v) x y (at v) a an
+    Answers x y a an = CarriesOver (items_of d.meaning) ((d.meaning).param_env e) now (goals_of d.meaning gs) (at v) x y (at v) a an
 
     left_again : (b : Variance) (an : Tree) → xform v b ≡ v → IsTrue (known an) → Answers u t root an →
         LeadsAgain solver_manner r q [] root t root t b u t an
@@ -186,7 +188,7 @@ module _ {Key Id Name : Type 0} (j : ℕ) where
       read_asked = asked_now root t refl t_known root_in (later t t_in) tt covered;
       asked = subst (λ z. Asked solver_manner q z u t) (sym seen)
           (asked_now u t u_known t_known u_in (later t t_in) u_covered covered);
-      answers = subst (λ z. CarriesOver (items_of d.meaning) ((d.meaning).param_env e) now [] (at z) u t (at v) root an)
+      answers = subst (λ z. CarriesOver (items_of d.meaning) ((d.meaning).param_env e) now (goals_of d.meaning gs) (at z) u t (at v) root an)
           (sym seen) answers;
       left = λ k. absurd k;
       answer_known = sure;
@@ -202,7 +204,7 @@ module _ {Key Id Name : Type 0} (j : ℕ) where
       read_asked = asked_now t root t_known refl (later t t_in) root_in covered tt;
       asked = subst (λ z. Asked solver_manner q z t u) (sym seen)
           (asked_now t u t_known u_known (later t t_in) u_in covered u_covered);
-      answers = subst (λ z. CarriesOver (items_of d.meaning) ((d.meaning).param_env e) now [] (at z) t u (at v) t an)
+      answers = subst (λ z. CarriesOver (items_of d.meaning) ((d.meaning).param_env e) now (goals_of d.meaning gs) (at z) t u (at v) t an)
           (sym seen) answers;
       left = λ k. absurd k;
       answer_known = sure;
@@ -230,7 +232,7 @@ module _ {Key Id Name : Type 0} (j : ℕ) where
           Stepped solver_manner F r q root t tree (Ok (Again y z i l b a))
       unfolding solver_passes
       left_step ey ez ei el ea = record {
-        passes = solver_passes j v e grown env (goes (weight was root + weight was t) (let h = left_above in omega (arith, h)))
+        passes = solver_passes j gs v e grown env (goes (weight was root + weight was t) (let h = left_above in omega (arith, h)))
             after;
         verdict = subst₂ (λ f g. LeadsAgain solver_manner r q [] root t f g b (tree i) (tree l) (tree a)) (sym ey)
             (sym ez) (subst₂ (λ f g. LeadsAgain solver_manner r q [] root t root t b f g (tree a)) (sym ei) (sym el)
@@ -244,7 +246,7 @@ module _ {Key Id Name : Type 0} (j : ℕ) where
           Stepped solver_manner F r q t root tree (Ok (Again y z i l b a))
       unfolding solver_passes
       right_step ey ez ei el ea = record {
-        passes = solver_passes j v e grown env
+        passes = solver_passes j gs v e grown env
             (goes (weight was t + weight was root) (let h = right_above in omega (arith, h))) after;
         verdict = subst₂ (λ f g. LeadsAgain solver_manner r q [] t root f g b (tree i) (tree l) (tree a)) (sym ey)
             (sym ez) (subst₂ (λ f g. LeadsAgain solver_manner r q [] t root t root b f g (tree a)) (sym ei) (sym el)
@@ -258,7 +260,7 @@ module _ {Key Id Name : Type 0} (j : ℕ) where
 
   -- Nothing was bound.
   module _ {X : Type 0} (F : Tree → Type 0) (c d : Context Key Id Name) (grown : Extends c.meaning d.meaning)
-      (v : Variance) (decides : v ≢ Bivariant) (e : ParamEnvKey Key) (env : IsTrue (known ((c.meaning).param_env e)))
+      (v : Variance) (decides : v ≢ Bivariant) (e : ParamEnvKey Key) (env : KnowsGoals c.meaning e gs)
       (before : IsSound c.store) (after : d.lawful) (k : VarKind) (counted : IsTypeOrConst k) (target : ℕ) (t : Tree)
       (unresolved : IsMade c.store k target × (entry_of c.store k target ≡ unbound))
       (other : apply (resolved c.store) t ≢ leaf (variable k target)) (means : Meaning Key Id Name → X → Tree)
@@ -275,8 +277,8 @@ module _ {Key Id Name : Type 0} (j : ℕ) where
         (adds before (before.below_current k target) h.1))
 
     passes : (N : ℕ) (f : RelateFault Key Id Name) → Instantiated c d x k target t means cyclic (Err f) →
-        Passes N (solving j c.meaning c.store c.lawful v e) (solving j d.meaning d.store d.lawful v e)
-    passes N f h = solver_passes j v e grown env (refusing N f h) after
+        Passes N (solving j gs c.meaning c.store c.lawful v e) (solving j gs d.meaning d.store d.lawful v e)
+    passes N f h = solver_passes j gs v e grown env (refusing N f h) after
 
     -- The error is that of the obstacle.
     binding_error : (g : TypeError Key Id Name) (o : Obstacle) → RefusesBy c.store d.store k target t o →
@@ -295,7 +297,7 @@ module _ {Key Id Name : Type 0} (j : ℕ) where
     refuses g h = refused c.store d.store Invariant k target t h.1.0 counted h.1.1 before other
 
     pub left_refused : (f : RelateFault Key Id Name) → Instantiated c d x k target t means cyclic (Err f) →
-        Stepped solver_manner F (solving j c.meaning c.store c.lawful v e) (solving j d.meaning d.store d.lawful v e)
+        Stepped solver_manner F (solving j gs c.meaning c.store c.lawful v e) (solving j gs d.meaning d.store d.lawful v e)
         (leaf (variable k target)) t tree (Err f)
     left_refused (Unrelated g) h = record {
       passes = passes _ (Unrelated g) h;
@@ -310,7 +312,7 @@ module _ {Key Id Name : Type 0} (j : ℕ) where
     left_refused Memory h = record { passes = passes _ Memory h; verdict = tt; exact = λ o is pair. tt }
 
     pub right_refused : (f : RelateFault Key Id Name) → Instantiated c d x k target t means cyclic (Err f) →
-        Stepped solver_manner F (solving j c.meaning c.store c.lawful v e) (solving j d.meaning d.store d.lawful v e)
+        Stepped solver_manner F (solving j gs c.meaning c.store c.lawful v e) (solving j gs d.meaning d.store d.lawful v e)
         t (leaf (variable k target)) tree (Err f)
     right_refused (Unrelated g) h = record {
       passes = passes _ (Unrelated g) h;

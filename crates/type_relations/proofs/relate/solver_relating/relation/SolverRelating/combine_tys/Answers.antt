@@ -1,5 +1,5 @@
 use Rattle.std.proofs.Common.{◌≡◌, refl, sym, ap, ◌∙◌, inl, inr, subst, Ok, Err}
-use Rattle.relation_terms.specs.declared.terms.enums.Variance.TheVariants.{Covariant, Invariant}
+use Rattle.relation_terms.specs.declared.terms.enums.Variance.TheVariants.{Covariant}
 use Rattle.relation_terms.specs.Heads.{type_var, variable}
 use Rattle.relation_terms.specs.Trees.{leaf}
 use Rattle.relation_tools.specs.declared.error.TypeError.TheVariants.{CyclicTy}
@@ -9,30 +9,12 @@ use Rattle.type_relations.specs.Parts.{IsFormed}
 use Rattle.type_relations.specs.Lawful.{Stepped}
 use Rattle.type_relations.specs.Solving.{solving_through, solver_manner}
 use Rattle.type_relations.proofs.Passing.{as_err}
-use Rattle.type_relations.proofs.Binding.{no_region}
 use Rattle.type_relations.proofs.Shallowly.{shallow_free, variable_made}
 use Rattle.type_relations.proofs.GeneralisingErrors.{cycle_error}
-use Rattle.type_relations.proofs.Solving.{roots_step, taken_invariantly, all_taken, decides_back, ty_sorted}
+use Rattle.type_relations.proofs.Answering.{covariantly}
+use Rattle.type_relations.proofs.Solving.{decides_back, ty_sorted}
 use Rattle.type_relations.proofs.SolvingVariables.{left_step, right_step, left_refused, right_refused, type_comes_to_none}
 use Rattle.type_relations.proofs.relate.solver_relating.relation.SolverRelating.combine_tys.Goals as goal
-
-pub equate_ty_vids_raw-requires-clause-a_unresolved : goal.equate_ty_vids_raw-requires-clause-a_unresolved
-equate_ty_vids_raw-requires-clause-a_unresolved g c =
-    let r = c.args.self.now in
-    let s = g.Infcx.InferCtxtLike.state r.infcx.now in
-    let k = c.requires.asked in (
-      variable_made s.store type_var c.in-Some.x.0 ((s.meaning).ty c.args.a.now) c.in-Some.ensures.is k.left_in,
-      shallow_free s.store type_var c.in-Some.x.0 ((s.meaning).ty c.args.a.now) c.in-Some.ensures.is c.requires.a_shallow,
-    )
-
-pub equate_ty_vids_raw-requires-clause-b_unresolved : goal.equate_ty_vids_raw-requires-clause-b_unresolved
-equate_ty_vids_raw-requires-clause-b_unresolved g c =
-    let r = c.args.self.now in
-    let s = g.Infcx.InferCtxtLike.state r.infcx.now in
-    let k = c.requires.asked in (
-      variable_made s.store type_var c.in-Some-ty_var.y.0 ((s.meaning).ty c.args.b.now) c.in-Some-ty_var.ensures.is k.right_in,
-      shallow_free s.store type_var c.in-Some-ty_var.y.0 ((s.meaning).ty c.args.b.now) c.in-Some-ty_var.ensures.is c.requires.b_shallow,
-    )
 
 pub instantiate_ty_var_raw-requires-clause-target_unresolved : goal.instantiate_ty_var_raw-requires-clause-target_unresolved
 instantiate_ty_var_raw-requires-clause-target_unresolved g c =
@@ -52,17 +34,23 @@ instantiate_ty_var_raw-requires-in-Some-ty_var-2-clause-target_unresolved g c =
       shallow_free s.store type_var c.in-Some-ty_var-2.y.0 ((s.meaning).ty c.args.b.now) c.in-Some-ty_var-2.ensures.is c.requires.b_shallow,
     )
 
-pub returns-in-Some-ty_var : goal.returns-in-Some-ty_var
-returns-in-Some-ty_var g c =
+pub combine_ty_vars-requires-clause-a_unresolved : goal.combine_ty_vars-requires-clause-a_unresolved
+combine_ty_vars-requires-clause-a_unresolved g c =
     let r = c.args.self.now in
     let s = g.Infcx.InferCtxtLike.state r.infcx.now in
-    let sound = g.met.Infcx.InferCtxtLike.sound r.infcx.now c.requires.lawful in
-    let d = g.Infcx.InferCtxtLike.state c.equate_ty_vids_raw.new.self in
-    let done = c.equate_ty_vids_raw.ensures.equates in
-    roots_step r.infcx.ghost_name IsFormed s.meaning d.meaning s.store d.store s.lawful d.lawful r.ambient_variance r.param_env
-    type_var (no_region type_var tt) c.in-Some.x.0 c.in-Some-ty_var.y.0 ((s.meaning).ty c.args.a.now) ((s.meaning).ty c.args.b.now)
-    (d.meaning).ty c.args.a.now done.stands.meaning c.requires.env_known sound done.stands.lawful done.same done.equates
-    c.in-Some.ensures.is c.in-Some-ty_var.ensures.is (ap (λ z. z.ty c.args.a.now) done.stands.meaning)
+    let k = c.requires.asked in (
+      variable_made s.store type_var c.in-Some.x.0 ((s.meaning).ty c.args.a.now) c.in-Some.ensures.is k.left_in,
+      shallow_free s.store type_var c.in-Some.x.0 ((s.meaning).ty c.args.a.now) c.in-Some.ensures.is c.requires.a_shallow,
+    )
+
+pub combine_ty_vars-requires-clause-b_unresolved : goal.combine_ty_vars-requires-clause-b_unresolved
+combine_ty_vars-requires-clause-b_unresolved g c =
+    let r = c.args.self.now in
+    let s = g.Infcx.InferCtxtLike.state r.infcx.now in
+    let k = c.requires.asked in (
+      variable_made s.store type_var c.in-Some-ty_var.y.0 ((s.meaning).ty c.args.b.now) c.in-Some-ty_var.ensures.is k.right_in,
+      shallow_free s.store type_var c.in-Some-ty_var.y.0 ((s.meaning).ty c.args.b.now) c.in-Some-ty_var.ensures.is c.requires.b_shallow,
+    )
 
 pub returns-in_err-bound-in-None-ty_var : goal.returns-in_err-bound-in-None-ty_var
 returns-in_err-bound-in-None-ty_var g c =
@@ -81,15 +69,15 @@ returns-in_err-bound-in-None-ty_var g c =
       shallow_free s.store type_var n ((s.meaning).ty c.args.a.now) is c.requires.a_shallow,
     ) in
     let other = type_comes_to_none s.store t n c.requires.b_shallow c.in-None-ty_var.ensures.is_none in
-    subst (λ res. Stepped solver_manner IsFormed (solving_through r.infcx.ghost_name s r.ambient_variance r.param_env)
-    (solving_through r.infcx.ghost_name d r.ambient_variance r.param_env)
+    subst (λ res. Stepped solver_manner IsFormed (solving_through r.infcx.ghost_name r.goals.items s r.ambient_variance r.param_env)
+    (solving_through r.infcx.ghost_name r.goals.items d r.ambient_variance r.param_env)
     ((s.meaning).ty c.args.a.now) ((s.meaning).ty c.args.b.now) (d.meaning).ty res)
     (sym (as_err c.from_residual.result f c.from_residual.ensures.0 c.from_residual.ensures.1))
-    (subst (λ l. Stepped solver_manner IsFormed (solving_through r.infcx.ghost_name s r.ambient_variance r.param_env)
-    (solving_through r.infcx.ghost_name d r.ambient_variance r.param_env) l t
+    (subst (λ l. Stepped solver_manner IsFormed (solving_through r.infcx.ghost_name r.goals.items s r.ambient_variance r.param_env)
+    (solving_through r.infcx.ghost_name r.goals.items d r.ambient_variance r.param_env) l t
     (d.meaning).ty (Err f)) (sym is)
-    (left_refused r.infcx.ghost_name IsFormed s d h.grows.extends r.ambient_variance c.requires.decides r.param_env
-    c.requires.env_known sound h.grows.lawful type_var tt n t unresolved other (λ m. m.ty) CyclicTy r.ambient_variance
+    (left_refused r.infcx.ghost_name r.goals.items IsFormed s d h.grows.extends r.ambient_variance c.requires.decides r.param_env
+    (c.requires.env_known, c.requires.goals_known) sound h.grows.lawful type_var tt n t unresolved other (λ m. m.ty) CyclicTy r.ambient_variance
     (d.meaning).ty (λ o z i x. cycle_error d.meaning s.store d.store n t sound o z i other x) f h.instantiates))
 
 pub returns-in_err-bound-in-Some-ty_var-2 : goal.returns-in_err-bound-in-Some-ty_var-2
@@ -109,15 +97,15 @@ returns-in_err-bound-in-Some-ty_var-2 g c =
       shallow_free s.store type_var n ((s.meaning).ty c.args.b.now) is c.requires.b_shallow,
     ) in
     let other = type_comes_to_none s.store t n c.requires.a_shallow c.in-None.ensures.is_none in
-    subst (λ res. Stepped solver_manner IsFormed (solving_through r.infcx.ghost_name s r.ambient_variance r.param_env)
-    (solving_through r.infcx.ghost_name d r.ambient_variance r.param_env)
+    subst (λ res. Stepped solver_manner IsFormed (solving_through r.infcx.ghost_name r.goals.items s r.ambient_variance r.param_env)
+    (solving_through r.infcx.ghost_name r.goals.items d r.ambient_variance r.param_env)
     ((s.meaning).ty c.args.a.now) ((s.meaning).ty c.args.b.now) (d.meaning).ty res)
     (sym (as_err c.from_residual-in_err-bound-in-Some-ty_var-2.result f c.from_residual-in_err-bound-in-Some-ty_var-2.ensures.0 c.from_residual-in_err-bound-in-Some-ty_var-2.ensures.1))
-    (subst (λ l. Stepped solver_manner IsFormed (solving_through r.infcx.ghost_name s r.ambient_variance r.param_env)
-    (solving_through r.infcx.ghost_name d r.ambient_variance r.param_env) t l
+    (subst (λ l. Stepped solver_manner IsFormed (solving_through r.infcx.ghost_name r.goals.items s r.ambient_variance r.param_env)
+    (solving_through r.infcx.ghost_name r.goals.items d r.ambient_variance r.param_env) t l
     (d.meaning).ty (Err f)) (sym is)
-    (right_refused r.infcx.ghost_name IsFormed s d h.grows.extends r.ambient_variance c.requires.decides r.param_env
-    c.requires.env_known sound h.grows.lawful type_var tt n t unresolved other (λ m. m.ty) CyclicTy c.xform-variance.result
+    (right_refused r.infcx.ghost_name r.goals.items IsFormed s d h.grows.extends r.ambient_variance c.requires.decides r.param_env
+    (c.requires.env_known, c.requires.goals_known) sound h.grows.lawful type_var tt n t unresolved other (λ m. m.ty) CyclicTy c.xform-variance.result
     (d.meaning).ty (λ o z i x. cycle_error d.meaning s.store d.store n t sound o z i other x) f h.instantiates))
 
 pub returns-in_ok-bound-in-None-ty_var : goal.returns-in_ok-bound-in-None-ty_var
@@ -135,23 +123,19 @@ returns-in_ok-bound-in-None-ty_var g c =
     let grown = h.grows.extends in
     let t = (s.meaning).ty c.args.b.now in
     let is = c.in-Some.ensures.is in
-    let inv = taken_invariantly r.ambient_variance type_var tt c.in-Some.x.0 ((s.meaning).ty c.args.a.now) is c.requires.decides
-    k.left_taken in
     let root_stays : (d.meaning).ty c.args.a.now ≡ leaf (variable type_var c.in-Some.x.0) =
     grown.ty c.args.a.now k.left_known ∙ is in
     let t_stays : (d.meaning).ty c.args.b.now ≡ t = grown.ty c.args.b.now k.right_known in
-    subst (λ l. Stepped solver_manner IsFormed (solving_through r.infcx.ghost_name s r.ambient_variance r.param_env)
-    (solving_through r.infcx.ghost_name d r.ambient_variance r.param_env) l t
+    subst (λ l. Stepped solver_manner IsFormed (solving_through r.infcx.ghost_name r.goals.items s r.ambient_variance r.param_env)
+    (solving_through r.infcx.ghost_name r.goals.items d r.ambient_variance r.param_env) l t
     (d.meaning).ty (Ok (Again c.args.a.now c.args.b.now z c.args.b.now Covariant c.args.a.now))) (sym is)
-    (subst (λ v. Stepped solver_manner IsFormed (solving_through r.infcx.ghost_name s v r.param_env)
-    (solving_through r.infcx.ghost_name d v r.param_env) (leaf (variable type_var c.in-Some.x.0)) t
-    (d.meaning).ty (Ok (Again c.args.a.now c.args.b.now z c.args.b.now Covariant c.args.a.now))) (sym inv)
-    (left_step r.infcx.ghost_name type_var tt s d grown r.param_env c.requires.env_known sound
+    (left_step r.infcx.ghost_name r.goals.items type_var tt s d grown r.param_env (c.requires.env_known, c.requires.goals_known) sound
     (g.met.Infcx.InferCtxtLike.numbers r.infcx.now c.requires.lawful) h.grows.lawful
     (g.met.Infcx.InferCtxtLike.covered q h.grows.lawful) c.in-Some.x.0 t ((d.meaning).ty z) k.right_taken.1 k.right_in
     k.right_known (ty_sorted of c.args.b.now (g.met.Infcx.Interner.Interner.is_ty cx c.args.b.now) k.right_known)
-    Invariant r.ambient_variance all_taken h.instantiates.0 h.instantiates.1 IsFormed c.args.a.now c.args.b.now z
-    c.args.b.now c.args.a.now Covariant refl (d.meaning).ty root_stays t_stays refl t_stays (inl root_stays)))
+    r.ambient_variance r.ambient_variance h.instantiates.0 h.instantiates.1 IsFormed c.args.a.now c.args.b.now z
+    c.args.b.now c.args.a.now Covariant (covariantly r.ambient_variance) (d.meaning).ty root_stays t_stays refl t_stays
+    (inl root_stays))
 
 pub returns-in_ok-bound-in-Some-ty_var-2 : goal.returns-in_ok-bound-in-Some-ty_var-2
 returns-in_ok-bound-in-Some-ty_var-2 g c =
@@ -168,23 +152,19 @@ returns-in_ok-bound-in-Some-ty_var-2 g c =
     let grown = h.grows.extends in
     let t = (s.meaning).ty c.args.a.now in
     let is = c.in-Some-ty_var-2.ensures.is in
-    let inv = taken_invariantly r.ambient_variance type_var tt c.in-Some-ty_var-2.y.0 ((s.meaning).ty c.args.b.now) is c.requires.decides
-    k.right_taken in
     let root_stays : (d.meaning).ty c.args.b.now ≡ leaf (variable type_var c.in-Some-ty_var-2.y.0) =
     grown.ty c.args.b.now k.right_known ∙ is in
     let t_stays : (d.meaning).ty c.args.a.now ≡ t = grown.ty c.args.a.now k.left_known in
-    subst (λ l. Stepped solver_manner IsFormed (solving_through r.infcx.ghost_name s r.ambient_variance r.param_env)
-    (solving_through r.infcx.ghost_name d r.ambient_variance r.param_env) t l
+    subst (λ l. Stepped solver_manner IsFormed (solving_through r.infcx.ghost_name r.goals.items s r.ambient_variance r.param_env)
+    (solving_through r.infcx.ghost_name r.goals.items d r.ambient_variance r.param_env) t l
     (d.meaning).ty (Ok (Again c.args.a.now c.args.b.now c.args.a.now z Covariant c.args.a.now))) (sym is)
-    (subst (λ v. Stepped solver_manner IsFormed (solving_through r.infcx.ghost_name s v r.param_env)
-    (solving_through r.infcx.ghost_name d v r.param_env) t (leaf (variable type_var c.in-Some-ty_var-2.y.0))
-    (d.meaning).ty (Ok (Again c.args.a.now c.args.b.now c.args.a.now z Covariant c.args.a.now))) (sym inv)
-    (right_step r.infcx.ghost_name type_var tt s d grown r.param_env c.requires.env_known sound
+    (right_step r.infcx.ghost_name r.goals.items type_var tt s d grown r.param_env (c.requires.env_known, c.requires.goals_known) sound
     (g.met.Infcx.InferCtxtLike.numbers r.infcx.now c.requires.lawful) h.grows.lawful
     (g.met.Infcx.InferCtxtLike.covered q h.grows.lawful) c.in-Some-ty_var-2.y.0 t ((d.meaning).ty z) k.left_taken.1
     k.left_in k.left_known (ty_sorted of c.args.a.now (g.met.Infcx.Interner.Interner.is_ty cx c.args.a.now) k.left_known)
-    Invariant c.xform-variance.result all_taken h.instantiates.0 h.instantiates.1 IsFormed c.args.a.now c.args.b.now
-    c.args.a.now z c.args.a.now Covariant refl (d.meaning).ty t_stays root_stays t_stays refl (inr t_stays)))
+    r.ambient_variance c.xform-variance.result h.instantiates.0 h.instantiates.1 IsFormed c.args.a.now c.args.b.now
+    c.args.a.now z c.args.a.now Covariant (covariantly r.ambient_variance) (d.meaning).ty t_stays root_stays t_stays refl
+    (inr t_stays))
 
 pub instantiate_ty_var_raw-requires-clause-source_covered : goal.instantiate_ty_var_raw-requires-clause-source_covered
 instantiate_ty_var_raw-requires-clause-source_covered g c = c.requires.asked.right_taken.1
@@ -194,9 +174,4 @@ instantiate_ty_var_raw-requires-in-Some-ty_var-2-clause-source_covered g c = c.r
 
 pub instantiate_ty_var_raw-requires-in-Some-ty_var-2-clause-decides : goal.instantiate_ty_var_raw-requires-in-Some-ty_var-2-clause-decides
 instantiate_ty_var_raw-requires-in-Some-ty_var-2-clause-decides g c =
-    let r = c.args.self.now in
-    let s = g.Infcx.InferCtxtLike.state r.infcx.now in
-    let k = c.requires.asked in
-    let inv = taken_invariantly r.ambient_variance type_var tt c.in-Some-ty_var-2.y.0 ((s.meaning).ty c.args.b.now)
-    c.in-Some-ty_var-2.ensures.is c.requires.decides k.right_taken in
-    decides_back r.ambient_variance c.xform-variance.result c.xform-variance.ensures inv
+    decides_back c.args.self.now.ambient_variance c.xform-variance.result c.requires.decides c.xform-variance.ensures

@@ -1,5 +1,5 @@
 use Rattle.type_relations.proofs.Solving.{constrained_goes}
-use Rattle.type_relations.proofs.relate.solver_relating.relation.relate_regions.Goals as goal
+use Rattle.type_relations.proofs.relate.solver_relating.recording.relate_regions.Goals as goal
 
 pub returns-in-Covariant-clause-goes : goal.returns-in-Covariant-clause-goes
 returns-in-Covariant-clause-goes g c =
