@@ -4,7 +4,7 @@ use Rattle.relation_terms.specs.Heads.{VarKind, variable}
 use Rattle.relation_terms.specs.Trees.{Tree, leaf, known}
 use Rattle.relation_terms.specs.Meaning.{Meaning}
 use Rattle.type_relations.specs.Contexts.{Context}
-use Rattle.type_relations.specs.ContextCalls.{Reads, Stands, MakesNext, EquatesTwo, BindsNumber, Constrains}
+use Rattle.type_relations.specs.ContextCalls.{Reads, MakesNext, EquatesTwo, BindsNumber, Constrains}
 use Rattle.type_relations.specs.Errors.{IsReadAs}
 use Rattle.type_relations.specs.Steps.{Equates, InstantiatesNumber, MakesVariable, AddsConstraint}
 use Rattle.type_relations.specs.Stores.{Constraint}

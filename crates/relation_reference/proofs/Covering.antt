@@ -1,14 +1,13 @@
 -- Terms that relating has rules for, in a context: their parts, and what they come to.
 use Rattle.std.proofs.Common.{◌≡◌, ℕ, zero, suc, ◌<◌, refl, sym, ap, ◌∙◌, subst, Some}
-use Rattle.relation_terms.specs.Heads.{Sort, const_sort, Admits, bound_sort, atom_sort, head_sort, Leaf}
-use Rattle.relation_terms.specs.Heads.{Head, VarKind, type_var, int_var, float_var, const_var, region_var, alias, expression, value, unevaluated}
+use Rattle.relation_terms.specs.Heads.{VarKind, type_var, int_var, float_var, const_var, region_var}
 use Rattle.relation_terms.specs.Heads.{variable, bound, placeholder, atom, unknown}
-use Rattle.relation_terms.specs.Trees.{Tree, leaf, node, bind, nil, cons, IsTerm, Assign, apply, count, nth}
+use Rattle.relation_terms.specs.Trees.{Tree, leaf, node, bind, nil, cons, Assign, apply, count, nth}
 use Rattle.relation_terms.specs.Parts.{parts_of}
 use Rattle.relation_terms.specs.Meaning.{Meaning}
 use Rattle.type_relations.specs.Stores.{Store, Entry, unbound, same_as, bound_to, entry_of, entry_term, bound_term}
 use Rattle.type_relations.specs.Stores.{resolve, rounds_for, all_taken, resolved}
-use Rattle.type_relations.specs.Covered.{IsCovered, IsCoveredHead}
+use Rattle.type_relations.specs.Covered.{IsCovered}
 use Rattle.type_relations.proofs.Covered.{covered_nth}
 use Rattle.type_relations.proofs.Resolved.{resolve_free, resolve_bound, HasTerm, is_free, is_bound, has_term}
 use Rattle.relation_reference.specs.declared.context.inner.InferCtxtInner.{InferCtxtInner}

@@ -1,14 +1,13 @@
 -- Binding a variable of a type or a constant to what a term comes to, generalised for it, in the tables of a context.
-use Rattle.std.proofs.Common.{◌≡◌, ◌≢◌, ℕ, suc, ◌≤◌, ◌<◌, refl, sym, ap, ap₂, ◌∙◌, arith, subst, subst₂, set, IsTrue, Some, List, [], length, get_or, Result, Ok, Err}
+use Rattle.std.proofs.Common.{◌≡◌, ◌≢◌, ℕ, suc, ◌<◌, refl, sym, ap, ◌∙◌, subst, subst₂, set, Some, List, [], length, get_or, Result, Ok, Err}
 use Rattle.std.proofs.lemmas.List.{get_or-map}
 use Rattle.std.specs.Result.{IsErr, IsErrAnd}
 use Rattle.relation_terms.specs.declared.terms.enums.Variance.{Variance}
 use Rattle.relation_terms.specs.declared.terms.part_kind.Part.{Part}
-use Rattle.relation_terms.specs.Heads.{region_kind, type_kind, const_kind, type_sort, const_sort, bound_kind, VarKind, type_var, int_var, float_var, const_var, region_var, static_region, early_region, Leaf, variable, bound, placeholder, atom, unknown}
-use Rattle.relation_terms.specs.Trees.{Tree, leaf, node, bind, nil, cons, known, apply, IsTerm}
+use Rattle.relation_terms.specs.Heads.{region_kind, type_sort, const_sort, bound_kind, VarKind, type_var, int_var, float_var, const_var, region_var, static_region, early_region, Leaf, variable, bound, placeholder, atom, unknown}
+use Rattle.relation_terms.specs.Trees.{Tree, leaf, node, bind, nil, cons, apply, IsTerm}
 use Rattle.relation_terms.specs.Meaning.{Meaning, Extends}
-use Rattle.relation_terms.specs.Parts.{part_tree, part_sort}
-use Rattle.relation_terms.proofs.Stays.{extends_on}
+use Rattle.relation_terms.specs.Parts.{part_tree}
 use Rattle.relation_tools.specs.declared.error.TypeError.{TypeError}
 use Rattle.relation_tools.specs.declared.error.RelateFault.{RelateFault}
 use Rattle.relation_tools.specs.declared.error.RelateFault.TheVariants.{Memory, Budget, Unrelated}
@@ -17,11 +16,10 @@ use Rattle.type_relations.specs.Relation.{Items}
 use Rattle.type_relations.specs.Lawful.{items_of}
 use Rattle.type_relations.specs.Covered.{IsCovered}
 use Rattle.type_relations.specs.ErasureLaws.{IsTypeOrConst}
-use Rattle.type_relations.specs.Stores.{Store, unbound, bound_to, entry_of, universe_of, IsMade, MayStandFor, InContext, IsTermIn, IsSound, resolved, weight}
-use Rattle.type_relations.specs.Steps.{BindsTo, Instantiates}
-use Rattle.type_relations.specs.Measures.{Goes}
-use Rattle.type_relations.specs.Generalising.{gives_way_to, Stage, Turn, any_part, new_part, Generalised, met_before, met_first, no_type, stays, gives_way, by_parts, in_binder, variance_for, InstantiatesBy, MakesUnbound, makes_none, Obstacle, cycle, beyond, StopsAt, RefusesBy}
-use Rattle.type_relations.specs.ContextCalls.{Grows, Instantiated, ObstacleError}
+use Rattle.type_relations.specs.Stores.{Store, unbound, bound_to, entry_of, universe_of, IsMade, MayStandFor, InContext, IsTermIn, resolved}
+use Rattle.type_relations.specs.Steps.{BindsTo}
+use Rattle.type_relations.specs.Generalising.{gives_way_to, Stage, Turn, any_part, new_part, Generalised, met_before, met_first, no_type, stays, gives_way, by_parts, in_binder, variance_for, InstantiatesBy, MakesUnbound, makes_none, Obstacle, cycle, beyond, StopsAt}
+use Rattle.type_relations.specs.ContextCalls.{Instantiated, ObstacleError}
 use Rattle.type_relations.proofs.NewVariables.{Adds, adds}
 use Rattle.type_relations.proofs.Standing.{term_context}
 use Rattle.type_relations.proofs.StoreCalls.{resolved_in}

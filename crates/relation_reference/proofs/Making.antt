@@ -4,16 +4,14 @@ use Rattle.std.proofs.lemmas.List.{map-append, length-map, get_or_append_left}
 use Rattle.std.proofs.Math.Seq.{get_or-append_seam}
 use native.Mathlib.Decide.{ℕ_discrete}
 use Rattle.std.specs.Global.{Vec}
-use Rattle.relation_terms.specs.Heads.{VarKind, type_var, int_var, float_var, const_var, region_var, region_sort, Admits, var_sort, variable, bound, placeholder, atom, unknown}
-use Rattle.relation_terms.specs.Trees.{Tree, leaf, node, bind, nil, cons, IsTerm, Assign, apply}
+use Rattle.relation_terms.specs.Heads.{VarKind, type_var, int_var, float_var, const_var, region_var, variable}
+use Rattle.relation_terms.specs.Trees.{Tree, leaf, nil}
 use Rattle.relation_terms.specs.Meaning.{Meaning, Extends}
 use Rattle.relation_terms.specs.declared.predicate.RegionConstraint.{RegionConstraint}
 use Rattle.relation_terms.specs.declared.terms.numbers.UniverseIndex.{UniverseIndex}
-use Rattle.type_relations.specs.Relation.{sort_of}
-use Rattle.type_relations.specs.Stores.{Store, unbound, entry_of, IsSound, IsAssignment, IsTermIn, Constraint, ConstraintIn}
+use Rattle.type_relations.specs.Stores.{Store, unbound, entry_of, IsSound, Constraint, ConstraintIn}
 use Rattle.type_relations.specs.Steps.{IsNumberKind, MakesVariable, AddsConstraint, IsLater}
 use Rattle.type_relations.specs.Measures.{Goes}
-use Rattle.type_relations.proofs.Standing.{made_of_term, stands_term, term_sort_of}
 use Rattle.type_relations.proofs.Growing.{same_entries, made_sound, made_is_later, constraint_sound, constraint_is_later, constraint_bound, constraint_weight}
 use Rattle.type_relations.proofs.Going.{later_itself, goes_nowhere}
 use Rattle.relation_terms.specs.declared.terms.keys.TyKey.{TyKey}

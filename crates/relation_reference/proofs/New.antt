@@ -3,7 +3,7 @@ use Rattle.std.proofs.Common.{◌≡◌, ℕ, ◌<◌, refl, sym, ap, arith, sub
 use Rattle.relation_terms.specs.Heads.{VarKind, type_var, int_var, float_var, const_var, region_var, variable}
 use Rattle.relation_terms.specs.Trees.{leaf, nil}
 use Rattle.relation_terms.specs.Meaning.{Meaning}
-use Rattle.type_relations.specs.Stores.{unbound, entry_of, same_as}
+use Rattle.type_relations.specs.Stores.{unbound}
 use Rattle.type_relations.specs.Constraints.{constraint_of}
 use Rattle.type_relations.proofs.Empty.{empty_sound}
 use Rattle.relation_reference.specs.declared.context.inner.InferCtxtInner.{InferCtxtInner}

@@ -1,8 +1,7 @@
 -- A new universe of a context: nothing but the current one's number changes.
-use Rattle.std.proofs.Common.{◌≡◌, ℕ, suc, ◌<◌, ◌≤◌, refl, sym, ap, ◌∙◌, arith, subst, Result, Ok, Err, IfOk, OnErr}
+use Rattle.std.proofs.Common.{◌≡◌, suc, ◌<◌, refl, sym, ap, arith, subst, Result, Ok, Err, IfOk, OnErr}
 use Rattle.relation_terms.specs.Meaning.{Meaning}
 use Rattle.relation_terms.specs.declared.terms.numbers.UniverseIndex.{UniverseIndex}
-use Rattle.type_relations.specs.Stores.{universe_of}
 use Rattle.type_relations.specs.Steps.{ChangesNothing}
 use Rattle.type_relations.specs.ContextCalls.{Stands, EntersNext}
 use Rattle.type_relations.proofs.StoreCalls.{nothing_is_seen}

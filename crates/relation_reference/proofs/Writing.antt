@@ -14,7 +14,7 @@ use Rattle.relation_reference.specs.declared.context.inner.VariableValue.{Variab
 use Rattle.relation_reference.specs.declared.context.inner.VariableValue.TheVariants.{Unknown, SameAs, Known}
 use Rattle.relation_reference.specs.declared.context.inner.Variable.{Variable}
 use Rattle.relation_reference.specs.declared.context.inner.InferCtxtInner.{InferCtxtInner}
-use Rattle.relation_reference.specs.Variables.{values_of, universes_of, universe_at, led, entry_of_value, entries_of}
+use Rattle.relation_reference.specs.Variables.{values_of, led, entry_of_value, entries_of}
 use Rattle.relation_reference.specs.Tables.{store_of, keys_in, MayBeBoundTo, IsRooted, IsFilled, IsLawful}
 use Rattle.relation_reference.proofs.Beside.{Beside, lawful_beside, keyed_still}
 

@@ -1,4 +1,4 @@
-use Rattle.std.proofs.Common.{◌≡◌, ◌<◌, suc, arith}
+use Rattle.std.proofs.Common.{◌≡◌, suc, arith}
 use Rattle.std.proofs.lemmas.Grind.{common_steps}
 use Rattle.relation_reference.proofs.Universes.{universe_lawful}
 use Rattle.relation_reference.proofs.context.variables.RefCtxt.create_next_universe.Goals as goal

@@ -1,14 +1,11 @@
-use Rattle.std.proofs.Common.{◌≡◌, ◌≢◌, [], refl, ◌∙◌, ap, sym, subst, suc, arith, map, length, ◌<◌, IsTrue, ◌-◌}
+use Rattle.std.proofs.Common.{◌≡◌, [], refl, ap, sym, subst, suc, arith, map, length, ◌<◌, IsTrue, ◌-◌}
 use Rattle.relation_terms.specs.declared.terms.enums.Variance.TheVariants.{Invariant}
 use Rattle.relation_terms.specs.declared.terms.part_kind.Part.TheVariants.{Const}
 use Rattle.relation_terms.specs.Heads.{const_var}
-use Rattle.relation_terms.specs.Meaning.{Meaning, Extends}
 use Rattle.relation_terms.specs.Trees.{known}
-use Rattle.relation_terms.specs.Parts.{part_tree, part_sort}
+use Rattle.relation_terms.specs.Parts.{part_tree}
 use Rattle.relation_terms.proofs.Stays.{extends_on, knows_as}
 use Rattle.relation_tools.specs.declared.error.TypeError.TheVariants.{CyclicConst}
-use Rattle.type_relations.specs.Covered.{IsCovered}
-use Rattle.type_relations.specs.Stores.{resolved, universe_of}
 use Rattle.type_relations.specs.Lawful.{items_of}
 use Rattle.type_relations.specs.Generalising.{Stage, any_part, Generalised}
 use Rattle.type_relations.proofs.Passing.{as_err}
