@@ -31,7 +31,7 @@ module _ {Key Id Name : Type 0} (m : Meaning Key Id Name) (x : InferCtxtInner Ke
     numbers_name_nothing = l.numbers_name_nothing;
     keyed = l.keyed;
     numbers = l.numbers;
-    sub_rooted = l.sub_rooted;
+    sub_rooted = record { count = l.sub_rooted.count; rooted = l.sub_rooted.rooted };
   }
 
 -- As the trait of contexts asks it.
