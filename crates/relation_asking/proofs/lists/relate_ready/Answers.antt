@@ -8,7 +8,7 @@ use Rattle.relation_reference.proofs.Grows.{lawful_grows}
 use Rattle.relation_asking.specs.Needs.{both_needs}
 use Rattle.relation_asking.specs.Asking.{IsReady, Has}
 use Rattle.relation_asking.proofs.AskingLemmas.{one_ready, as_arguments, has_left, has_right, ready_in}
-use Rattle.relation_asking.proofs.AskingLemmas.{left_taken, right_taken}
+use Rattle.type_relations.proofs.Solving.{all_taken}
 use Rattle.relation_asking.proofs.lists.relate_ready.Goals as goal
 
 pub relate_args-requires-clause-lawful : goal.relate_args-requires-clause-lawful
@@ -37,8 +37,8 @@ relate_args-requires-clause-asked g c =
       right_known = right.0;
       left_in = ready_in n x a (has_left x a b has) (node arguments (n.args s)) may.left_rules left;
       right_in = ready_in n x b (has_right x a b has) (node arguments (n.args t)) may.right_rules right;
-      left_taken = left_taken Invariant a b (node arguments (n.args s)) may.at may.left_rules left;
-      right_taken = right_taken Invariant a b (node arguments (n.args t)) may.at may.right_rules right;
+      left_taken = all_taken Invariant (node arguments (n.args s)) ((left.1).1 may.left_rules);
+      right_taken = all_taken Invariant (node arguments (n.args t)) ((right.1).1 may.right_rules);
     }
 
 -- Neither list changes while the interner grows.
