@@ -3,20 +3,19 @@ ghost use Rattle.std.specs.Prelude.{◌≡◌, [], IfOk};
 ghost use Rattle.relation_terms.specs.Heads.{type_var, int_var, float_var, const_var};
 ghost use Rattle.relation_terms.specs.Heads.{atom, char_type, const_param};
 ghost use Rattle.relation_terms.specs.Trees.{leaf};
-ghost use Rattle.type_relations.specs.Contexts.{HasRegion};
+ghost use Rattle.relation_terms.specs.Meaning.{region_tree};
 ghost use Rattle.type_relations.specs.ContextCalls.{IsUnresolved, Grows};
 
-use crate::relating::{make_two, only, outlives};
-use reference_interner::{NodeKey, RefInterner, SymbolId};
+use crate::relating::{only, outlives};
+use reference_interner::{RefInterner, SymbolId};
 use relation_reference::context::RefCtxt;
 use relation_terms::predicate::{RegionConstraint, RegionEqPredicate};
 use relation_terms::terms::{
-    Const, ConstKind, ConstVid, FloatTy, FloatVarValue, FloatVid, IntTy, IntVarValue, IntVid,
-    Interner, Keys, OutOfMemory, ParamConst, Region, RegionKey, Ty, TyKind, TyVid, UniverseIndex,
-    Variance,
+    Const, ConstKind, ConstVid, EarlyParamRegion, FloatTy, FloatVarValue, FloatVid, IntTy,
+    IntVarValue, IntVid, Interner, Keys, OutOfMemory, ParamConst, Region, RegionKind, Ty, TyKind,
+    TyVid, UniverseIndex, Variance,
 };
 use relation_tools::error::RelateResult;
-use std::alloc::Global;
 use std::test::Fail;
 use type_relations::infer_ctxt::{InferCtxtLike, VisibleForLeakCheck};
 use type_relations::relate::StructurallyRelateAliases;
@@ -181,20 +180,53 @@ fn binds_const<C: InferCtxtLike>(ctx: &mut C, name: NameOf<C>) -> RelateResult<C
     Ok(read == source && bound == source)
 }
 
-// Records that the second of two regions outlives the first, and that they outlive each other.
-fn constrain<C: InferCtxtLike>(
+// The region of a form.
+fn make_region<C: InferCtxtLike>(
     ctx: &mut C,
-    a: &Region<C::Interner>,
-    b: &Region<C::Interner>,
-) -> Result<(), OutOfMemory>
-    requires lawful { (C.state ctx.old).lawful }
-    requires a_in { HasRegion (C.state ctx.old) a.now }
-    requires b_in { HasRegion (C.state ctx.old) b.now }
+    kind: RegionKind<NameOf<C>>,
+) -> Result<Region<C::Interner>, OutOfMemory>
+    requires { (C.state ctx.old).lawful }
+    ensures grows { Grows (C.state ctx.old) (C.state ctx.new) }
+    ensures store { (C.state ctx.new).store ≡ (C.state ctx.old).store }
+    ensures is { let m = (C.state ctx.old).meaning in
+        IfOk result (λ k. ((C.state ctx.new).meaning).region k ≡ region_tree m kind) }
 {
+    ctx.interner_grows();
+    ctx.cx_mut().mk_region(kind)
+}
+
+// Two regions, of which it was recorded that the second outlives the first.
+fn records_order<C: InferCtxtLike>(
+    ctx: &mut C,
+    name: NameOf<C>,
+) -> Result<(Region<C::Interner>, Region<C::Interner>), OutOfMemory>
+    requires { (C.state ctx.old).lawful }
+{
+    let a = make_region(ctx, RegionKind::ReStatic)?;
+    let b = make_region(
+        ctx,
+        RegionKind::ReEarlyParam(EarlyParamRegion { index: 0, name }),
+    )?;
     let span = ctx.cx().dummy_span();
-    ctx.sub_regions(a, b, VisibleForLeakCheck::Yes, span)?;
+    ctx.sub_regions(&a, &b, VisibleForLeakCheck::Yes, span)?;
+    Ok((a, b))
+}
+
+// Two regions, of which it was recorded that they outlive each other.
+fn records_equality<C: InferCtxtLike>(
+    ctx: &mut C,
+    name: NameOf<C>,
+) -> Result<(Region<C::Interner>, Region<C::Interner>), OutOfMemory>
+    requires { (C.state ctx.old).lawful }
+{
+    let a = make_region(ctx, RegionKind::ReStatic)?;
+    let b = make_region(
+        ctx,
+        RegionKind::ReEarlyParam(EarlyParamRegion { index: 0, name }),
+    )?;
     let span = ctx.cx().dummy_span();
-    ctx.equate_regions(a, b, VisibleForLeakCheck::No, span)
+    ctx.equate_regions(&a, &b, VisibleForLeakCheck::No, span)?;
+    Ok((a, b))
 }
 
 #[test]
@@ -266,23 +298,15 @@ fn a_constant_is_taken_for_one_of_the_budget(rt: HostRuntime) -> Result<(), Fail
     Ok(())
 }
 
-// The constraints of two regions that `constrain` records.
-fn asks(
-    alloc: Global,
-    a: RegionKey<NodeKey>,
-    b: RegionKey<NodeKey>,
-) -> Result<Vec<RegionConstraint<NodeKey>>, OutOfMemory> {
-    let mut list = only(alloc, outlives(b, a))?;
-    list.push(RegionConstraint::Eq(RegionEqPredicate(a, b)))?;
-    Ok(list)
-}
-
 #[test]
 fn constraints_are_recorded(rt: HostRuntime) -> Result<(), Fail> {
-    let mut cx = RefInterner::new(rt.alloc());
-    let two = make_two(&mut cx, &SymbolId(0))?;
-    let mut ctx = RefCtxt::new(cx, 0)?;
-    constrain(&mut ctx, &two.a, &two.b)?;
-    assert!(rt; ctx.region_constraints() == asks(rt.alloc(), two.a, two.b)?.as_slice());
+    let mut ctx = RefCtxt::new(RefInterner::new(rt.alloc()), 0)?;
+    let (a, b) = records_order(&mut ctx, SymbolId(0))?;
+    let asks = only(rt.alloc(), outlives(b, a))?;
+    assert!(rt; ctx.region_constraints() == asks.as_slice());
+    let mut ctx = RefCtxt::new(RefInterner::new(rt.alloc()), 0)?;
+    let (a, b) = records_equality(&mut ctx, SymbolId(0))?;
+    let asks = only(rt.alloc(), RegionConstraint::Eq(RegionEqPredicate(a, b)))?;
+    assert!(rt; ctx.region_constraints() == asks.as_slice());
     Ok(())
 }
