@@ -50,7 +50,7 @@ fn ask_ready<I: SizedKeys + Drop, W: Write>(
 ) -> fmt::Result
     requires { AreReady (I.meaning interner) terms.now.built.now terms.now.needs.now }
 {
-    let Ok(made) = RefCtxt::new(interner, BUDGET) else {
+    let Ok(made) = RefCtxt::new(interner, true, BUDGET) else {
         return refuse_all(program, between, out);
     };
     let mut ctx = made;

@@ -1,16 +1,17 @@
 -- Tables that differ in what is recorded of one kind of variables, and in the budget.
-use Rattle.std.proofs.Common.{◌≡◌, ℕ, ◌<◌, refl, sym, ap, ◌∙◌, subst, map, length, get_or}
+use Rattle.std.proofs.Common.{◌≡◌, ℕ, ◌<◌, ◌≤◌, refl, sym, ap, ◌∙◌, subst, map, length, get_or}
 use Rattle.std.specs.Global.{Vec}
 use Rattle.relation_terms.specs.Heads.{VarKind, VarKind_discrete, type_var, int_var, float_var, const_var, region_var, variable}
 use Rattle.relation_terms.specs.Trees.{leaf, nil}
 use Rattle.relation_terms.specs.Meaning.{Meaning}
 use Rattle.relation_terms.specs.declared.terms.keys.TyKey.{TyKey}
 use Rattle.relation_terms.specs.declared.terms.keys.ConstKey.{ConstKey}
-use Rattle.relation_terms.specs.declared.terms.numbers.UniverseIndex.{UniverseIndex}
+use Rattle.relation_terms.specs.declared.terms.keys.RegionKey.{RegionKey}
 use Rattle.type_relations.specs.Stores.{IsSound, universe_of}
 use Rattle.relation_reference.specs.declared.context.inner.Variable.{Variable}
 use Rattle.relation_reference.specs.declared.context.inner.InferCtxtInner.{InferCtxtInner}
 use Rattle.type_relations.specs.Steps.{IsNumberKind}
+use Rattle.relation_reference.specs.SubRoots.{IsRootTable}
 use Rattle.relation_reference.specs.Tables.{store_of, keys_in, IsRooted, IsFilled, IsLawful}
 
 module _ {Key Id Name : Type 0} (m : Meaning Key Id Name) where
@@ -22,6 +23,7 @@ module _ {Key Id Name : Type 0} (m : Meaning Key Id Name) where
     pub constraints : (store_of m y).constraints ≡ (store_of m x).constraints
     pub universe : (store_of m y).universe ≡ (store_of m x).universe
     pub numbers : map m.ty y.numbers.items ≡ map m.ty x.numbers.items
+    pub sub_roots : y.sub_roots.items ≡ x.sub_roots.items
 
   module _ (x : InferCtxtInner Key) (ts : Vec (Variable (TyKey Key))) (b : ℕ) where
     types_entries : (j : VarKind) → (j ≡ type_var → ⊥) → (store_of m (record x { types = ts; budget = b })).entries j ≡ (store_of m x).entries j
@@ -46,7 +48,7 @@ module _ {Key Id Name : Type 0} (m : Meaning Key Id Name) where
     types_keys region_var o = refl
 
     pub types_beside : Beside x (record x { types = ts; budget = b }) type_var
-    types_beside = record { entries = types_entries; universes = types_universes; keys = types_keys; constraints = refl; universe = refl; numbers = refl }
+    types_beside = record { entries = types_entries; universes = types_universes; keys = types_keys; constraints = refl; universe = refl; numbers = refl; sub_roots = refl }
 
   module _ (x : InferCtxtInner Key) (ts : Vec (Variable (TyKey Key))) (b : ℕ) where
     ints_entries : (j : VarKind) → (j ≡ int_var → ⊥) → (store_of m (record x { ints = ts; budget = b })).entries j ≡ (store_of m x).entries j
@@ -71,7 +73,7 @@ module _ {Key Id Name : Type 0} (m : Meaning Key Id Name) where
     ints_keys region_var o = refl
 
     pub ints_beside : Beside x (record x { ints = ts; budget = b }) int_var
-    ints_beside = record { entries = ints_entries; universes = ints_universes; keys = ints_keys; constraints = refl; universe = refl; numbers = refl }
+    ints_beside = record { entries = ints_entries; universes = ints_universes; keys = ints_keys; constraints = refl; universe = refl; numbers = refl; sub_roots = refl }
 
   module _ (x : InferCtxtInner Key) (ts : Vec (Variable (TyKey Key))) (b : ℕ) where
     floats_entries : (j : VarKind) → (j ≡ float_var → ⊥) → (store_of m (record x { floats = ts; budget = b })).entries j ≡ (store_of m x).entries j
@@ -96,7 +98,7 @@ module _ {Key Id Name : Type 0} (m : Meaning Key Id Name) where
     floats_keys region_var o = refl
 
     pub floats_beside : Beside x (record x { floats = ts; budget = b }) float_var
-    floats_beside = record { entries = floats_entries; universes = floats_universes; keys = floats_keys; constraints = refl; universe = refl; numbers = refl }
+    floats_beside = record { entries = floats_entries; universes = floats_universes; keys = floats_keys; constraints = refl; universe = refl; numbers = refl; sub_roots = refl }
 
   module _ (x : InferCtxtInner Key) (ts : Vec (Variable (ConstKey Key))) (b : ℕ) where
     consts_entries : (j : VarKind) → (j ≡ const_var → ⊥) → (store_of m (record x { consts = ts; budget = b })).entries j ≡ (store_of m x).entries j
@@ -121,9 +123,9 @@ module _ {Key Id Name : Type 0} (m : Meaning Key Id Name) where
     consts_keys region_var o = refl
 
     pub consts_beside : Beside x (record x { consts = ts; budget = b }) const_var
-    consts_beside = record { entries = consts_entries; universes = consts_universes; keys = consts_keys; constraints = refl; universe = refl; numbers = refl }
+    consts_beside = record { entries = consts_entries; universes = consts_universes; keys = consts_keys; constraints = refl; universe = refl; numbers = refl; sub_roots = refl }
 
-  module _ (x : InferCtxtInner Key) (ts : Vec UniverseIndex) (b : ℕ) where
+  module _ (x : InferCtxtInner Key) (ts : Vec (Variable (RegionKey Key))) (b : ℕ) where
     regions_entries : (j : VarKind) → (j ≡ region_var → ⊥) → (store_of m (record x { regions = ts; budget = b })).entries j ≡ (store_of m x).entries j
     regions_entries type_var o = refl
     regions_entries int_var o = refl
@@ -146,21 +148,22 @@ module _ {Key Id Name : Type 0} (m : Meaning Key Id Name) where
     regions_keys region_var o = absurd (o refl)
 
     pub regions_beside : Beside x (record x { regions = ts; budget = b }) region_var
-    regions_beside = record { entries = regions_entries; universes = regions_universes; keys = regions_keys; constraints = refl; universe = refl; numbers = refl }
+    regions_beside = record { entries = regions_entries; universes = regions_universes; keys = regions_keys; constraints = refl; universe = refl; numbers = refl; sub_roots = refl }
 
   -- So the context is lawful where its table is.
   pub lawful_beside : (x y : InferCtxtInner Key) (k : VarKind) → Beside x y k →
       ((n : ℕ) → n < length (keys_in m y k) → get_or (keys_in m y k) n nil ≡ leaf (variable k n)) →
       IsSound (store_of m y) → IsRooted (store_of m y) → IsFilled (store_of m y) →
-      (IsNumberKind k → (n : ℕ) → universe_of (store_of m y) k n ≡ 0) → IsLawful m x → IsLawful m y
-  lawful_beside x y k b keyed sound rooted filled first l = record {
+      (IsNumberKind k → (n : ℕ) → universe_of (store_of m y) k n ≡ 0) →
+      length ((store_of m y).entries type_var) ≤ length y.sub_roots.items → IsLawful m x → IsLawful m y
+  lawful_beside x y k b keyed sound rooted filled first roots l = record {
     sound = sound;
     rooted = rooted;
     formed = filled;
     numbers_name_nothing = λ j i f. below j i f (VarKind_discrete j k);
-    first_universe = b.universe ∙ l.first_universe;
     keyed = λ j. go j (VarKind_discrete j k);
     numbers = b.numbers ∙ l.numbers;
+    sub_rooted = record { count = roots; rooted = subst IsRootTable (sym b.sub_roots) l.sub_rooted.rooted };
   }
     where
       go : (j : VarKind) → Dec (j ≡ k) → (n : ℕ) → n < length (keys_in m y j) → get_or (keys_in m y j) n nil ≡ leaf (variable j n)

@@ -50,7 +50,7 @@ budget_lawful m x b l = record {
   rooted = l.rooted;
   formed = l.formed;
   numbers_name_nothing = l.numbers_name_nothing;
-  first_universe = l.first_universe;
   keyed = l.keyed;
   numbers = l.numbers;
+  sub_rooted = record { count = l.sub_rooted.count; rooted = l.sub_rooted.rooted };
 }

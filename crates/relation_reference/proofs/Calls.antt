@@ -1,31 +1,17 @@
 -- What the calls of a reference context show, as the trait of contexts asks it.
-use Rattle.std.proofs.Common.{◌≡◌, ◌≢◌, ℕ, refl, sym, ap, ◌∙◌, subst, subst₂, max, min, length, IsTrue, Result, Ok, Err, IfOk, IfErr, OnOk, OnErr}
-use Rattle.std.proofs.Common.{arith}
-use Rattle.relation_terms.specs.declared.terms.enums.Variance.{Variance}
-use Rattle.relation_terms.specs.declared.terms.enums.Variance.TheVariants.{Covariant, Contravariant, Invariant, Bivariant}
-use Rattle.relation_terms.specs.declared.terms.keys.TyKey.{TyKey}
-use Rattle.relation_terms.specs.declared.terms.keys.ConstKey.{ConstKey}
-use Rattle.relation_terms.specs.Heads.{VarKind, type_var, const_var, variable}
-use Rattle.relation_terms.specs.Trees.{Tree, leaf, known, apply, Occurs}
-use Rattle.relation_tools.specs.declared.error.TypeError.{TypeError}
-use Rattle.relation_tools.specs.declared.error.TypeError.TheVariants.{CyclicTy, CyclicConst}
-use Rattle.relation_tools.specs.declared.error.RelateFault.{RelateFault}
-use Rattle.relation_tools.specs.declared.error.RelateFault.TheVariants.{Memory, Budget, Unrelated}
-use Rattle.relation_tools.specs.Faults.{KnowsFault}
+use Rattle.std.proofs.Common.{◌≡◌, ℕ, refl, sym, ap, ◌∙◌, subst, max, min, length, IsTrue, Result, Ok, Err, IfOk, OnOk, OnErr}
+use Rattle.relation_terms.specs.Heads.{VarKind, variable}
+use Rattle.relation_terms.specs.Trees.{Tree, leaf, known}
 use Rattle.relation_terms.specs.Meaning.{Meaning}
 use Rattle.type_relations.specs.Contexts.{Context}
-use Rattle.type_relations.specs.ContextCalls.{Reads, Stands, MakesNext, EquatesTwo, BindsNumber, Constrains, BindsTerm, Instantiated}
-use Rattle.type_relations.specs.Errors.{IsReadAs, BindingError, StandsOutside, cyclic_ty, cyclic_const}
-use Rattle.type_relations.specs.ErasureLaws.{IsTypeOrConst}
+use Rattle.type_relations.specs.ContextCalls.{Reads, MakesNext, EquatesTwo, BindsNumber, Constrains}
+use Rattle.type_relations.specs.Errors.{IsReadAs}
 use Rattle.type_relations.specs.Steps.{Equates, InstantiatesNumber, MakesVariable, AddsConstraint}
-use Rattle.type_relations.specs.Steps.{Instantiates, RefusesToInstantiate}
-use Rattle.type_relations.specs.Stores.{Store, Constraint, IsTermIn, MayStandFor, resolved}
-use Rattle.type_relations.proofs.Binding.{binding_goes_at, binding_square, bound_pair}
+use Rattle.type_relations.specs.Stores.{Constraint}
 use Rattle.type_relations.proofs.ReadAs.{read_resolves}
 use Rattle.relation_reference.specs.declared.context.variables.RefCtxt.{RefCtxt}
 use Rattle.relation_reference.specs.Tables.{store_of, context_of, IsLawful}
 use Rattle.relation_reference.specs.RefCtxt.{store_in, context_in}
-use Rattle.relation_reference.specs.Answers.{Instantiated as Answered, StepsByInstantiating}
 
 module _ {I Key Id Name Span : Type 0} (meaning : I → Meaning Key Id Name) (p : RefCtxt I Key Id Name Span) where
   pub read : (t u : Tree) → IsLawful (meaning p.interner) p.inner → IsTrue (known u) → IsReadAs (store_in meaning p) t u →
@@ -81,56 +67,3 @@ module _ {I Key Id Name Span : Type 0} (meaning : I → Meaning Key Id Name) (p 
         stands = record { meaning = refl; lawful = l };
         binds = binds;
       })
-
--- The cycle of a type, and of a constant.
-module _ {Key Id Name : Type 0} (m : Meaning Key Id Name) (st : Store) (target : ℕ) (t : Tree) where
-  pub type_cycles : apply (resolved st) t ≢ leaf (variable type_var target) → (c : TyKey Key) →
-      m.ty c ≡ apply (resolved st) t → StandsOutside (variable type_var target) (m.ty c) →
-      BindingError m st (leaf (variable type_var target)) t (CyclicTy c)
-  type_cycles o c e h = cyclic_ty target c refl e (h, λ q. o (sym e ∙ q)) refl
-
-  pub const_cycles : apply (resolved st) t ≢ leaf (variable const_var target) → (c : ConstKey Key) →
-      m.const_ c ≡ apply (resolved st) t → StandsOutside (variable const_var target) (m.const_ c) →
-      BindingError m st (leaf (variable const_var target)) t (CyclicConst c)
-  const_cycles o c e h = cyclic_const target c refl e (h, λ q. o (sym e ∙ q)) refl
-
--- A variable was bound to what a term comes to, or nothing was recorded.
-module _ {I Key Id Name Span : Type 0} (meaning : I → Meaning Key Id Name) (p q : RefCtxt I Key Id Name Span)
-    (l : IsLawful (meaning p.interner) p.inner) (v : Variance) (is : v ≡ Invariant) (k : VarKind)
-    (counted : IsTypeOrConst k) (n : ℕ) (t : Tree) (t_in : IsTermIn (store_in meaning p) t) {K : Type 0}
-    (tree : Meaning Key Id Name → K → Tree) (cyclic : K → TypeError Key Id Name)
-    (stands : (x : K) → IsTrue (known (tree (meaning q.interner) x)) → MayStandFor k (tree (meaning q.interner) x))
-    (cycles : (x : K) → tree (meaning q.interner) x ≡ apply (resolved (store_in meaning p)) t →
-    StandsOutside (variable k n) (tree (meaning q.interner) x) →
-    BindingError (meaning q.interner) (store_in meaning p) (leaf (variable k n)) t (cyclic x)) where
-  abbrev was : Store
-  was = store_in meaning p
-
-  abbrev now : Store
-  now = store_in meaning q
-
-  pub instantiated : (r : Result K (RelateFault Key Id Name)) →
-      IfOk r (λ x. IsTrue (known (tree (meaning q.interner) x))) →
-      Answered (tree (meaning q.interner)) cyclic k was now n t r →
-      StepsByInstantiating (tree (meaning q.interner)) k was now n t r → IfErr r (KnowsFault (meaning q.interner)) →
-      Instantiated (context_in meaning p) (context_in meaning q) v k n t tree r
-  instantiated (Ok x) sure a steps why =
-      let u = tree (meaning q.interner) x in
-      record {
-        sure = sure;
-        binds = subst (λ z. Instantiates was now z k n t u) (sym is) steps;
-        goes = λ size small. binding_goes_at was now k counted n t u a.1 l.sound l.first_universe t_in a.0 a.2
-            (stands x sure) size (omega (arith, small));
-        squares = λ size small. binding_square was now k counted n t u a.1 l.sound l.first_universe t_in a.0 a.2
-            (stands x sure) size (omega (arith, small));
-        first_order = λ _ f h. (bound_pair Invariant was now k n t u l.sound t_in a.0 steps h f).bindings;
-      }
-  instantiated (Err (Unrelated e)) sure a steps why = (
-    why,
-    subst₂ (λ st g. BindingError (meaning q.interner) st (leaf (variable k n)) t g) (sym a.5) (sym a.1)
-        (cycles a.0 a.2 a.3),
-    subst (λ z. RefusesToInstantiate was now z k n t) (sym is) steps,
-    a.5,
-  )
-  instantiated (Err Budget) sure a steps why = a
-  instantiated (Err Memory) sure a steps why = a.1

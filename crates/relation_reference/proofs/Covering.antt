@@ -1,22 +1,19 @@
 -- Terms that relating has rules for, in a context: their parts, and what they come to.
 use Rattle.std.proofs.Common.{◌≡◌, ℕ, zero, suc, ◌<◌, refl, sym, ap, ◌∙◌, subst, Some}
-use Rattle.relation_terms.specs.Heads.{Sort, const_sort, Admits, bound_sort, atom_sort, head_sort, Leaf}
-use Rattle.relation_terms.specs.Heads.{Head, VarKind, type_var, int_var, float_var, const_var, region_var, alias, expression, value, unevaluated}
+use Rattle.relation_terms.specs.Heads.{VarKind, type_var, int_var, float_var, const_var, region_var}
 use Rattle.relation_terms.specs.Heads.{variable, bound, placeholder, atom, unknown}
-use Rattle.relation_terms.specs.Trees.{Tree, leaf, node, bind, nil, cons, IsTerm, Assign, apply, count, nth}
+use Rattle.relation_terms.specs.Trees.{Tree, leaf, node, bind, nil, cons, Assign, apply, count, nth}
 use Rattle.relation_terms.specs.Parts.{parts_of}
 use Rattle.relation_terms.specs.Meaning.{Meaning}
 use Rattle.type_relations.specs.Stores.{Store, Entry, unbound, same_as, bound_to, entry_of, entry_term, bound_term}
 use Rattle.type_relations.specs.Stores.{resolve, rounds_for, all_taken, resolved}
-use Rattle.type_relations.specs.Errors.{StandsOutside}
-use Rattle.type_relations.specs.Parts.{IsFormedConst}
-use Rattle.type_relations.specs.Covered.{IsCovered, IsCoveredHead}
+use Rattle.type_relations.specs.Covered.{IsCovered}
 use Rattle.type_relations.proofs.Covered.{covered_nth}
 use Rattle.type_relations.proofs.Resolved.{resolve_free, resolve_bound, HasTerm, is_free, is_bound, has_term}
 use Rattle.relation_reference.specs.declared.context.inner.InferCtxtInner.{InferCtxtInner}
 use Rattle.relation_reference.specs.Tables.{store_of, MayBeBoundTo, IsLawful}
 
--- A part of a covered term is covered, and what stands in one stands in the term.
+-- A part of a covered term is covered.
 parts_covered : (t : Tree) → IsCovered t → IsCovered (parts_of t)
 parts_covered (node h ts) c = c.1
 parts_covered (bind ks t) c = absurd c
@@ -24,12 +21,6 @@ parts_covered t c = tt
 
 pub part_covered : (t : Tree) (i : ℕ) → i < count (parts_of t) → IsCovered t → IsCovered (nth i (parts_of t))
 part_covered t i l c = covered_nth (parts_of t) i l (parts_covered t c)
-
-pub covered_open : (l : Leaf) (t : Tree) → IsCovered t → StandsOutside l (parts_of t) → StandsOutside l t
-covered_open l (node (alias k d) ts) c o = absurd c.0
-covered_open l (node h ts) c o = o
-covered_open l (bind ks t) c o = absurd c
-covered_open l t c o = absurd o
 
 -- What a covered term comes to is covered, where each binding is.
 covered_apply : (s : Assign) → ((k : VarKind) (n : ℕ) → IsCovered (leaf (variable k n)) → IsCovered (s k n)) →

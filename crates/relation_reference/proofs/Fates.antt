@@ -1,38 +1,21 @@
 -- What becomes of leaves.
-use Rattle.std.proofs.Common.{◌≡◌, ◌≢◌, ℕ, ◌<◌, ◌≤◌, refl, sym, ap, ◌∙◌, arith, subst, Bool, true, false, IsTrue, IsFalse, Option, Some, None, IfNone}
+use Rattle.std.proofs.Common.{◌≡◌, ◌≢◌, ℕ, ◌≤◌, refl, sym, ap, ◌∙◌, subst, Option, Some}
 use Rattle.relation_terms.specs.declared.terms.enums.Variance.{Variance}
 use Rattle.relation_terms.specs.declared.terms.part_kind.Part.{Part}
-use Rattle.relation_terms.specs.declared.terms.keys.TyKey.{TyKey}
-use Rattle.relation_terms.specs.declared.terms.keys.ConstKey.{ConstKey}
 use Rattle.relation_terms.specs.declared.terms.part_kind.Part.TheVariants.{Region, Ty, Const, ValTree, Pat, ValueType, Binder, Signature, Inputs, Existential, Object}
 use Rattle.relation_terms.specs.declared.terms.keys.RegionKey.{RegionKey}
-use Rattle.relation_terms.specs.declared.terms.numbers.UniverseIndex.{UniverseIndex}
-use Rattle.relation_terms.specs.declared.terms.ty_kind.TyKind.{TyKind}
-use Rattle.relation_terms.specs.declared.terms.ty_kind.TyKind.TheVariants.{Infer, Placeholder as TyPlaceholder}
-use Rattle.relation_terms.specs.declared.terms.ty_kind.InferTy.{InferTy}
-use Rattle.relation_terms.specs.declared.terms.ty_kind.InferTy.TheVariants.{TyVar, IntVar, FloatVar, FreshTy, FreshIntTy, FreshFloatTy}
-use Rattle.relation_terms.specs.declared.terms.const_kind.ConstKind.{ConstKind}
-use Rattle.relation_terms.specs.declared.terms.const_kind.ConstKind.TheVariants.{Infer as ConstInfer, Placeholder as ConstPlaceholder}
-use Rattle.relation_terms.specs.declared.terms.const_kind.InferConst.{InferConst}
-use Rattle.relation_terms.specs.declared.terms.const_kind.InferConst.TheVariants.{Var, Fresh}
-use Rattle.relation_terms.specs.declared.terms.placeholder.Placeholder.{Placeholder}
-use Rattle.relation_terms.specs.declared.terms.placeholder.BoundTy.{BoundTy}
-use Rattle.relation_terms.specs.declared.terms.placeholder.BoundConst.{BoundConst}
-use Rattle.relation_terms.specs.Heads.{Kind, region_kind, type_kind, const_kind, region_sort, type_sort, const_sort, BoundKind, bound_kind, bound_sort, VarKind, type_var, int_var, float_var, const_var, region_var, static_region, early_region, Atom, Leaf, leaf_sort, var_sort, variable, bound, placeholder, atom, unknown}
-use Rattle.relation_terms.specs.Trees.{Tree, leaf, node, bind, nil, cons, known}
-use Rattle.relation_terms.specs.Meaning.{Meaning, kind_tree, infer_tree, const_tree, infer_const_tree}
-use Rattle.relation_terms.specs.Parts.{part_tree, part_sort, tree_sort}
-use Rattle.type_relations.specs.Stores.{Store, universe_of}
-use Rattle.type_relations.specs.Generalising.{Stays, gives_way_to}
+use Rattle.relation_terms.specs.Heads.{region_kind, type_kind, const_kind, region_sort, BoundKind, bound_kind, bound_sort, VarKind, type_var, int_var, float_var, const_var, region_var, static_region, early_region, Leaf, leaf_sort, var_sort, variable, bound, placeholder, atom, unknown}
+use Rattle.relation_terms.specs.Trees.{Tree, leaf}
+use Rattle.relation_terms.specs.Parts.{part_sort, tree_sort}
+use Rattle.type_relations.specs.Stores.{Store}
+use Rattle.type_relations.specs.Generalising.{Stays}
 use Rattle.type_relations.specs.Steps.{MakesVariable}
 use Rattle.type_relations.specs.Covered.{IsCovered}
-use Rattle.relation_reference.specs.declared.context.generalising.Fate.{Fate}
-use Rattle.relation_reference.specs.declared.context.generalising.Fate.TheVariants.{ByParts, GivesWay}
+use Rattle.relation_reference.specs.declared.context.generalising.Fate.TheVariants.{ByParts}
 use Rattle.relation_reference.specs.declared.context.memory.TermVid.{TermVid}
 use Rattle.relation_reference.specs.declared.context.memory.TermVid.TheVariants.{Ty as TyTerm, Const as ConstTerm}
 use Rattle.relation_reference.specs.Remembering.{vid_kind, vid_number}
 use Rattle.relation_reference.specs.Generalises.{new_kind, IsFate}
-use Rattle.relation_reference.proofs.Resolving.{not_type, not_const}
 
 -- All that is left stays.
 pub left_stays : (st : Store) (k : VarKind) (n u : ℕ) (v : Variance) (t : Tree) → IsCovered t → (tree_sort t ≡ region_sort → ⊥) →

@@ -1,5 +1,5 @@
 -- Generalising in a context: what each way out of it answers.
-use Rattle.std.proofs.Common.{◌≡◌, ◌≢◌, ℕ, zero, suc, ◌<◌, ◌≤◌, refl, sym, ap, ap₂, ◌∙◌, arith, subst, subst₂, Bool, IsTrue, Option, Some, None, List, [], ◌∷◌, ◌++◌, length, Contains, All, Result, Ok, Err}
+use Rattle.std.proofs.Common.{◌≡◌, ◌≢◌, ℕ, zero, suc, ◌<◌, ◌≤◌, refl, sym, ap, ap₂, ◌∙◌, arith, subst, subst₂, Bool, IsTrue, Option, Some, List, [], ◌∷◌, ◌++◌, length, Contains, All, Result, Ok, Err}
 use Rattle.std.proofs.lemmas.List.Elements.{All-nil, All-cons, All-contains}
 use Rattle.std.specs.Result.{IsErr, IsErrAnd}
 use Rattle.std.specs.HashMap.{HashMap, IsEmpty}
@@ -7,11 +7,10 @@ use Rattle.relation_terms.specs.declared.terms.enums.Variance.{Variance}
 use Rattle.relation_terms.specs.declared.terms.keys.TyKey.{TyKey}
 use Rattle.relation_terms.specs.declared.terms.part_kind.Part.{Part}
 use Rattle.relation_terms.specs.declared.terms.part_kind.Part.TheVariants.{Ty}
-use Rattle.relation_terms.specs.Heads.{region_kind, type_kind, const_kind, region_sort, type_sort, no_sort, BoundKind, bound_kind, bound_sort, VarKind, type_var, int_var, float_var, const_var, region_var, static_region, early_region, Atom, alias, Head, Leaf, variable, bound, placeholder, atom, unknown}
-use Rattle.relation_terms.specs.Trees.{Tree, leaf, node, bind, nil, cons, Leaves, known, IsList, count, nth, list_tree}
+use Rattle.relation_terms.specs.Heads.{region_kind, type_kind, const_kind, region_sort, type_sort, no_sort, BoundKind, bound_kind, bound_sort, VarKind, type_var, int_var, float_var, const_var, region_var, static_region, early_region, alias, Head, Leaf, variable, bound, placeholder, atom, unknown}
+use Rattle.relation_terms.specs.Trees.{Tree, leaf, node, bind, nil, cons, Leaves, known, IsList, count, nth}
 use Rattle.relation_terms.specs.Meaning.{Meaning, Extends}
 use Rattle.relation_terms.specs.Parts.{part_tree, part_sort, tree_sort, parts_of, over, Fit}
-use Rattle.relation_terms.proofs.Stays.{stays_same, extends_on}
 use Rattle.relation_tools.specs.declared.error.TypeError.{TypeError}
 use Rattle.relation_tools.specs.declared.error.TypeError.TheVariants.{Mismatch}
 use Rattle.relation_tools.specs.declared.error.RelateFault.{RelateFault}
@@ -20,21 +19,19 @@ use Rattle.type_relations.specs.Relation.{Items, sort_of}
 use Rattle.type_relations.specs.Lawful.{declared_by, items_of}
 use Rattle.type_relations.specs.Covered.{IsCovered, IsCoveredHead}
 use Rattle.type_relations.specs.Stores.{Store, universe_of, IsMade, IsMadeLeaf, InContext, IsSound}
-use Rattle.type_relations.specs.Steps.{MakesVariable, IsNumberKind}
-use Rattle.type_relations.specs.Generalising.{Stays, gives_way_to, Met, Stage, Turn, any_part, new_part, variance_of_part, IsPlainHead, Generalised, met_before, met_first, no_type, stays, gives_way, by_parts, in_binder, no_parts, next_part, MakesUnbound, makes_none, makes_one, Obstacle, cycle, beyond, IsNoObstacle, StopsAt, at_itself, at_placeholder, in_parts, in_body, in_first, in_others}
+use Rattle.type_relations.specs.Steps.{MakesVariable}
+use Rattle.type_relations.specs.Generalising.{Stays, gives_way_to, Met, Stage, Turn, any_part, new_part, variance_of_part, IsPlainHead, Generalised, met_before, met_first, no_type, stays, gives_way, by_parts, in_binder, no_parts, next_part, MakesUnbound, makes_none, makes_one, Obstacle, cycle, beyond, IsNoObstacle, StopsAt, at_itself, at_placeholder, in_parts, in_first, in_others}
 use Rattle.type_relations.proofs.Trees.{Leaves_map}
 use Rattle.type_relations.proofs.NewVariables.{Adds, adds, makes_then}
 use Rattle.type_relations.proofs.Generalising.{gives_no_number}
 use Rattle.type_relations.proofs.GeneralisingOnce.{still_new}
 use Rattle.type_relations.proofs.GeneralisingParts.{PartsDone, none_done, one_done, form_done}
-use Rattle.type_relations.proofs.Lists.{firsts, firsts_all, snoc, firsts_more}
+use Rattle.type_relations.proofs.Lists.{firsts, firsts_all, snoc}
 use Rattle.relation_reference.specs.declared.context.generalising.MetKey.{MetKey}
-use Rattle.relation_reference.specs.declared.context.generalising.Fate.TheVariants.{ByParts, GivesWay, Cycle, Beyond}
-use Rattle.relation_reference.specs.declared.context.inner.InferCtxtInner.{InferCtxtInner}
+use Rattle.relation_reference.specs.declared.context.generalising.Fate.TheVariants.{ByParts}
 use Rattle.relation_reference.specs.declared.context.variables.RefCtxt.{RefCtxt}
-use Rattle.relation_reference.specs.Tables.{store_of, IsLawful}
-use Rattle.relation_reference.specs.Generalises.{met_at, IsFate, IsSure, Keeps, HasCome, ObstacleError, Becomes, StopsAlways, BecomesAlways, GeneralisesTo, Generalises, IsGeneralisedFor}
-use Rattle.relation_reference.proofs.Grows.{store_grows, lawful_grows}
+use Rattle.relation_reference.specs.Tables.{store_of}
+use Rattle.relation_reference.specs.Generalises.{met_at, IsFate, IsSure, Keeps, HasCome, Becomes, StopsAlways, BecomesAlways, GeneralisesTo, Generalises, IsGeneralisedFor}
 use Rattle.relation_reference.proofs.Resolving.{context_part}
 use Rattle.relation_reference.proofs.Recalling.{sure_grows, keeps_none, keeps_grows}
 
@@ -439,32 +436,6 @@ stays_covered (next_part g f) cov all = let a = stays_covered g cov.0 all in let
 pub generalised_covered : {c : Items} {start st : Store} {k : VarKind} {n : ℕ} {turn : Turn} {q : Stage} {t x : Tree} → Generalised c start k n turn (record { store = st; met = [] }) t q x → IsCovered t → IsCovered x
 generalised_covered g cov = (stays_covered g cov (All-nil _)).0
 
--- Only a type variable becomes one.
-gives_type : (l : Leaf) (j : VarKind) (d e : ℕ) → gives_way_to l ≡ Some j → ((m : ℕ) → leaf l ≢ leaf (variable type_var m)) → leaf (variable j d) ≢ leaf (variable type_var e)
-gives_type (variable type_var m) j d e g o h = o m refl
-gives_type (variable int_var m) j d e g o h = absurd (cc)
-gives_type (variable float_var m) j d e g o h = absurd (cc)
-gives_type (variable const_var m) j d e g o h = absurd (cc)
-gives_type (variable region_var m) j d e g o h = absurd (cc)
-gives_type (bound q b m) j d e g o h = absurd (cc)
-gives_type (placeholder (bound_kind region_kind x) w m) j d e g o h = absurd (cc)
-gives_type (placeholder (bound_kind type_kind x) w m) j d e g o h = absurd (cc)
-gives_type (placeholder (bound_kind const_kind x) w m) j d e g o h = absurd (cc)
-gives_type (atom static_region) j d e g o h = absurd (cc)
-gives_type (atom (early_region b x)) j d e g o h = absurd (cc)
-gives_type (atom x) j d e g o h = absurd (cc)
-gives_type unknown j d e g o h = absurd (cc)
-
-new_no_type : {c : Items} {start : Store} {k : VarKind} {n : ℕ} {v : Variance} {r q : Stage} {t x : Tree} → Generalised c start k n (new_part v) r t q x → ((m : ℕ) → t ≢ leaf (variable type_var m)) → (m : ℕ) → x ≢ leaf (variable type_var m)
-new_no_type (stays o s) f m h = f m h
-new_no_type (gives_way {l = l} {j = j} {m = d} o s e g b) f m h = gives_type l j d m e f h
-new_no_type (by_parts p g) f m h = cc
-new_no_type (in_binder g) f m h = cc
-
-none_met : (es : List Met) (d : Met) → es ≡ [] → Contains es d → ⊥
+-- Nothing was met at the start.
+pub none_met : (es : List Met) (d : Met) → es ≡ [] → Contains es d → ⊥
 none_met es d e h = let l = h.1 in let z = ap length e in omega (arith, l, z)
-
-pub generalised_no_type : {c : Items} {start : Store} {k : VarKind} {n : ℕ} {v : Variance} {r q : Stage} {t x : Tree} → Generalised c start k n (any_part v) r t q x → r.met ≡ [] → ((m : ℕ) → t ≢ leaf (variable type_var m)) → (m : ℕ) → x ≢ leaf (variable type_var m)
-generalised_no_type (met_before {r = r} s h) e f = absurd (none_met r.met _ e h)
-generalised_no_type (met_first s o g a b) e f = new_no_type g f
-generalised_no_type (no_type s g) e f = new_no_type g f

@@ -98,10 +98,10 @@ module _ {Key Id Name : Type 0} {m n : Meaning Key Id Name} (e : Extends m n) (x
       at : (i : ℕ) → i < length x.constraints.items → i < length (map (constraint_of m) x.constraints.items)
       at i p = subst (λ z. i < z) (sym (length-map x.constraints.items (constraint_of m))) p
 
-  with_lists : List Entry → List Entry → List Entry → List Entry → List Constraint → Store
-  with_lists ts is fs ks cs = record {
-    entries = by_kind ts is fs ks (map (λ u. unbound) x.regions.items);
-    universes = by_kind (universes_of x.types.items) (universes_of x.ints.items) (universes_of x.floats.items) (universes_of x.consts.items) (map (λ u. u.0) x.regions.items);
+  with_lists : List Entry → List Entry → List Entry → List Entry → List Entry → List Constraint → Store
+  with_lists ts is fs ks rs cs = record {
+    entries = by_kind ts is fs ks rs;
+    universes = by_kind (universes_of x.types.items) (universes_of x.ints.items) (universes_of x.floats.items) (universes_of x.consts.items) (universes_of x.regions.items);
     universe = (x.universe).0;
     constraints = cs;
     tainted = false;
@@ -120,20 +120,24 @@ module _ {Key Id Name : Type 0} {m n : Meaning Key Id Name} (e : Extends m n) (x
   abbrev consts_at : Meaning Key Id Name → List Entry
   consts_at o = entries_of o.const_ x.consts.items
 
+  abbrev regions_at : Meaning Key Id Name → List Entry
+  regions_at o = entries_of o.region x.regions.items
+
   pub store_grows : store_of n x ≡ store_of m x
   unfolding with_lists
   store_grows =
-      ap (λ es. with_lists es (ints_at n) (floats_at n) (consts_at n) (map (constraint_of n) x.constraints.items)) (values_stay m.ty n.ty e.ty (values_of x.types.items) (bound_known m x l type_var))
-      ∙ ap (λ es. with_lists (types_at m) es (floats_at n) (consts_at n) (map (constraint_of n) x.constraints.items)) (values_stay m.ty n.ty e.ty (values_of x.ints.items) (bound_known m x l int_var))
-      ∙ ap (λ es. with_lists (types_at m) (ints_at m) es (consts_at n) (map (constraint_of n) x.constraints.items)) (values_stay m.ty n.ty e.ty (values_of x.floats.items) (bound_known m x l float_var))
-      ∙ ap₂ (with_lists (types_at m) (ints_at m) (floats_at m)) (values_stay m.const_ n.const_ e.const_ (values_of x.consts.items) (bound_known m x l const_var)) constraints_stay
+      ap (λ es. with_lists es (ints_at n) (floats_at n) (consts_at n) (regions_at n) (map (constraint_of n) x.constraints.items)) (values_stay m.ty n.ty e.ty (values_of x.types.items) (bound_known m x l type_var))
+      ∙ ap (λ es. with_lists (types_at m) es (floats_at n) (consts_at n) (regions_at n) (map (constraint_of n) x.constraints.items)) (values_stay m.ty n.ty e.ty (values_of x.ints.items) (bound_known m x l int_var))
+      ∙ ap (λ es. with_lists (types_at m) (ints_at m) es (consts_at n) (regions_at n) (map (constraint_of n) x.constraints.items)) (values_stay m.ty n.ty e.ty (values_of x.floats.items) (bound_known m x l float_var))
+      ∙ ap (λ es. with_lists (types_at m) (ints_at m) (floats_at m) es (regions_at n) (map (constraint_of n) x.constraints.items)) (values_stay m.const_ n.const_ e.const_ (values_of x.consts.items) (bound_known m x l const_var))
+      ∙ ap₂ (with_lists (types_at m) (ints_at m) (floats_at m) (consts_at m)) (values_stay m.region n.region e.region (values_of x.regions.items) (bound_known m x l region_var)) constraints_stay
 
   pub keys_grow : (k : VarKind) → keys_in n x k ≡ keys_in m x k
   keys_grow type_var = keys_stay m.ty n.ty e.ty (keys_of x.types.items) (keys_known m x l type_var)
   keys_grow int_var = keys_stay m.ty n.ty e.ty (keys_of x.ints.items) (keys_known m x l int_var)
   keys_grow float_var = keys_stay m.ty n.ty e.ty (keys_of x.floats.items) (keys_known m x l float_var)
   keys_grow const_var = keys_stay m.const_ n.const_ e.const_ (keys_of x.consts.items) (keys_known m x l const_var)
-  keys_grow region_var = refl
+  keys_grow region_var = keys_stay m.region n.region e.region (keys_of x.regions.items) (keys_known m x l region_var)
 
   pub lawful_grows : IsLawful n x
   lawful_grows = record {
@@ -141,9 +145,12 @@ module _ {Key Id Name : Type 0} {m n : Meaning Key Id Name} (e : Extends m n) (x
     rooted = subst IsRooted (sym store_grows) l.rooted;
     formed = subst IsFilled (sym store_grows) l.formed;
     numbers_name_nothing = l.numbers_name_nothing;
-    first_universe = l.first_universe;
     keyed = λ k. subst (λ ts. (i : ℕ) → i < length ts → get_or ts i nil ≡ leaf (variable k i)) (sym (keys_grow k)) (l.keyed k);
     numbers = keys_stay m.ty n.ty e.ty x.numbers.items (numbers_known m x l) ∙ l.numbers;
+    sub_rooted = record {
+      count = subst (λ st. length (st.entries type_var) ≤ length x.sub_roots.items) (sym store_grows) l.sub_rooted.count;
+      rooted = l.sub_rooted.rooted;
+    };
   }
 
   pub term_grows : (t : Tree) → IsTermIn (store_of m x) t → IsTermIn (store_of n x) t

@@ -1,23 +1,22 @@
 -- New variables, new constraints, and growths that were refused.
-use Rattle.std.proofs.Common.{◌≡◌, ℕ, zero, suc, ◌<◌, ◌≤◌, refl, sym, ap, ap₂, ◌∙◌, arith, subst, List, [], ◌∷◌, ◌++◌, length, map, get_or, length-append, le_refl, false, Result, Ok, Err, OnErr}
+use Rattle.std.proofs.Common.{◌≡◌, ℕ, zero, suc, ◌+◌, ◌<◌, ◌≤◌, refl, sym, ap, ap₂, ◌∙◌, arith, subst, List, [], ◌∷◌, ◌++◌, length, map, get_or, length-append, le_refl, false, Result, Ok, Err, OnErr}
 use Rattle.std.proofs.lemmas.List.{map-append, length-map, get_or_append_left}
 use Rattle.std.proofs.Math.Seq.{get_or-append_seam}
 use native.Mathlib.Decide.{ℕ_discrete}
 use Rattle.std.specs.Global.{Vec}
-use Rattle.relation_terms.specs.Heads.{VarKind, type_var, int_var, float_var, const_var, region_var, region_sort, Admits, var_sort, variable, bound, placeholder, atom, unknown}
-use Rattle.relation_terms.specs.Trees.{Tree, leaf, node, bind, nil, cons, IsTerm, Assign, apply}
+use Rattle.relation_terms.specs.Heads.{VarKind, type_var, int_var, float_var, const_var, region_var, variable}
+use Rattle.relation_terms.specs.Trees.{Tree, leaf, nil}
 use Rattle.relation_terms.specs.Meaning.{Meaning, Extends}
 use Rattle.relation_terms.specs.declared.predicate.RegionConstraint.{RegionConstraint}
 use Rattle.relation_terms.specs.declared.terms.numbers.UniverseIndex.{UniverseIndex}
-use Rattle.type_relations.specs.Relation.{sort_of}
-use Rattle.type_relations.specs.Stores.{Store, unbound, entry_of, IsSound, IsAssignment, IsTermIn, Constraint, ConstraintIn}
+use Rattle.type_relations.specs.Stores.{Store, unbound, entry_of, IsSound, Constraint, ConstraintIn}
 use Rattle.type_relations.specs.Steps.{IsNumberKind, MakesVariable, AddsConstraint, IsLater}
 use Rattle.type_relations.specs.Measures.{Goes}
-use Rattle.type_relations.proofs.Standing.{made_of_term, stands_term, term_sort_of}
 use Rattle.type_relations.proofs.Growing.{same_entries, made_sound, made_is_later, constraint_sound, constraint_is_later, constraint_bound, constraint_weight}
 use Rattle.type_relations.proofs.Going.{later_itself, goes_nowhere}
 use Rattle.relation_terms.specs.declared.terms.keys.TyKey.{TyKey}
 use Rattle.relation_terms.specs.declared.terms.keys.ConstKey.{ConstKey}
+use Rattle.relation_terms.specs.declared.terms.keys.RegionKey.{RegionKey}
 use Rattle.relation_reference.specs.declared.context.inner.VariableValue.TheVariants.{Unknown}
 use Rattle.relation_reference.specs.declared.context.inner.Variable.{Variable}
 use Rattle.relation_reference.specs.declared.context.inner.InferCtxtInner.{InferCtxtInner}
@@ -26,6 +25,7 @@ use Rattle.relation_reference.specs.Tables.{by_kind, store_of, keys_in, IsRooted
 use Rattle.type_relations.specs.Generalising.{NumbersNameNothing}
 use Rattle.type_relations.specs.Constraints.{constraint_of}
 use Rattle.relation_reference.proofs.Grows.{store_grows, lawful_grows}
+use Rattle.relation_reference.proofs.SubRoots.{roots_same}
 use Rattle.relation_reference.proofs.Beside.{Beside, types_beside, ints_beside, floats_beside, consts_beside, regions_beside, lawful_beside, keyed_still}
 
 -- Tables with the same lists.
@@ -39,12 +39,13 @@ pub record SameTables {Key : Type 0} (x y : InferCtxtInner Key) : Type 0 where
   pub universe : y.universe ≡ x.universe
   pub budget : y.budget ≡ x.budget
   pub numbers : y.numbers.items ≡ x.numbers.items
+  pub sub_roots : y.sub_roots.items ≡ x.sub_roots.items
 
 module _ {Key Id Name : Type 0} (m : Meaning Key Id Name) (x y : InferCtxtInner Key) (s : SameTables x y) where
-  of_variables : List (Variable (TyKey Key)) → List (Variable (TyKey Key)) → List (Variable (TyKey Key)) → List (Variable (ConstKey Key)) → List UniverseIndex → Store
+  of_variables : List (Variable (TyKey Key)) → List (Variable (TyKey Key)) → List (Variable (TyKey Key)) → List (Variable (ConstKey Key)) → List (Variable (RegionKey Key)) → Store
   of_variables ts is fs cs rs = record {
-    entries = by_kind (entries_of m.ty ts) (entries_of m.ty is) (entries_of m.ty fs) (entries_of m.const_ cs) (map (λ u. unbound) rs);
-    universes = by_kind (universes_of ts) (universes_of is) (universes_of fs) (universes_of cs) (map (λ u. u.0) rs);
+    entries = by_kind (entries_of m.ty ts) (entries_of m.ty is) (entries_of m.ty fs) (entries_of m.const_ cs) (entries_of m.region rs);
+    universes = by_kind (universes_of ts) (universes_of is) (universes_of fs) (universes_of cs) (universes_of rs);
     universe = (x.universe).0;
     constraints = map (constraint_of m) x.constraints.items;
     tainted = false;
@@ -74,7 +75,7 @@ module _ {Key Id Name : Type 0} (m : Meaning Key Id Name) (x y : InferCtxtInner 
   same_keys int_var = ap (trees_of m.ty) s.ints
   same_keys float_var = ap (trees_of m.ty) s.floats
   same_keys const_var = ap (trees_of m.const_) s.consts
-  same_keys region_var = refl
+  same_keys region_var = ap (trees_of m.region) s.regions
 
   pub same_lawful : IsLawful m x → IsLawful m y
   same_lawful l = record {
@@ -82,9 +83,9 @@ module _ {Key Id Name : Type 0} (m : Meaning Key Id Name) (x y : InferCtxtInner 
     rooted = subst IsRooted (sym same_store) l.rooted;
     formed = subst IsFilled (sym same_store) l.formed;
     numbers_name_nothing = subst NumbersNameNothing (sym same_store) l.numbers_name_nothing;
-    first_universe = ap (λ u. u.0) s.universe ∙ l.first_universe;
     keyed = λ k. keyed_still m x y k (same_keys k) l;
     numbers = ap (map m.ty) s.numbers ∙ l.numbers;
+    sub_rooted = roots_same m x y (ap (λ st. length (st.entries type_var)) same_store) s.sub_roots l.sub_rooted;
   }
 
 pub later_same : (old new : Store) → new ≡ old → IsLater old new
@@ -151,13 +152,14 @@ module _ {Key Id Name : Type 0} {m n : Meaning Key Id Name} (e : Extends m n) (x
   entry_still = same_entries (store_of m x) (store_of n y) k number u variable_made
 
   -- `keyed` says that the key beside each variable of the kind is its own.
-  pub variable_lawful : (IsNumberKind k → u ≡ 0) → ((i : ℕ) → i < length (keys_in n y k) → get_or (keys_in n y k) i nil ≡ leaf (variable k i)) → IsLawful n y
-  variable_lawful first keyed = lawful_beside n x y k b keyed
+  pub variable_lawful : (IsNumberKind k → u ≡ 0) → length ((store_of n y).entries type_var) ≤ length y.sub_roots.items →
+      ((i : ℕ) → i < length (keys_in n y k) → get_or (keys_in n y k) i nil ≡ leaf (variable k i)) → IsLawful n y
+  variable_lawful first roots keyed = lawful_beside n x y k b keyed
       (made_sound (store_of m x) (store_of n y) k number u variable_made l.sound below)
       (λ j i r p c d. l.rooted j i r p (sym (entry_still j i) ∙ c) (sym (entry_still j r) ∙ d))
       (λ j i t h. l.formed j i t (sym (entry_still j i) ∙ h))
       (λ f i. ap (λ us. get_or us i 0) universes ∙ zero_more ((store_of n x).universes k) u (first f) (λ j. (lawful_grows e x l).numbers_name_nothing k j f) i)
-      (lawful_grows e x l)
+      roots (lawful_grows e x l)
 
   pub keyed_more : keys_in n y k ≡ keys_in n x k ++ leaf (variable k number) ∷ [] → number ≡ length (keys_in n x k) → (i : ℕ) → i < length (keys_in n y k) → get_or (keys_in n y k) i nil ≡ leaf (variable k i)
   keyed_more keys long = subst (λ ts. (i : ℕ) → i < length ts → get_or ts i nil ≡ leaf (variable k i))
@@ -182,11 +184,12 @@ module _ {Key Id Name : Type 0} {m n : Meaning Key Id Name} (e : Extends m n) (x
   pub type_made_later : IsLater (store_of m x) (store_of n (record x { types = ts }))
   type_made_later = variable_later e x (record x { types = ts }) l type_var (length x.types.items) u below (types_beside n x ts x.budget) type_numbered type_entries type_universes refl
 
-  pub type_made_lawful : IsLawful n (record x { types = ts })
-  type_made_lawful =
+  -- There is room for its root among those that are marked as related.
+  pub type_made_lawful : length x.types.items + 1 ≤ length x.sub_roots.items → IsLawful n (record x { types = ts })
+  type_made_lawful room =
       let keyed = keyed_more e x (record x { types = ts }) l type_var (length x.types.items) u below (types_beside n x ts x.budget) type_numbered type_entries type_universes refl
       (made_keys n.ty x.types.items ts.items v (leaf (variable type_var (length x.types.items))) more key) (sym (keys_long n.ty x.types.items)) in
-      variable_lawful e x (record x { types = ts }) l type_var (length x.types.items) u below (types_beside n x ts x.budget) type_numbered type_entries type_universes refl (λ f. absurd f) keyed
+      variable_lawful e x (record x { types = ts }) l type_var (length x.types.items) u below (types_beside n x ts x.budget) type_numbered type_entries type_universes refl (λ f. absurd f) (subst (λ z. z ≤ length x.sub_roots.items) (sym (entries_long n.ty ts.items ∙ ap length more ∙ length-append x.types.items (v ∷ []))) room) keyed
 
 -- A new variable in the table of `ints`.
 module _ {Key Id Name : Type 0} {m n : Meaning Key Id Name} (e : Extends m n) (x : InferCtxtInner Key) (l : IsLawful m x) (ts : Vec (Variable (TyKey Key))) (v : Variable (TyKey Key))
@@ -211,7 +214,7 @@ module _ {Key Id Name : Type 0} {m n : Meaning Key Id Name} (e : Extends m n) (x
   int_made_lawful =
       let keyed = keyed_more e x (record x { ints = ts }) l int_var (length x.ints.items) 0 (omega arith) (ints_beside n x ts x.budget) int_numbered int_entries int_universes refl
       (made_keys n.ty x.ints.items ts.items v (leaf (variable int_var (length x.ints.items))) more key) (sym (keys_long n.ty x.ints.items)) in
-      variable_lawful e x (record x { ints = ts }) l int_var (length x.ints.items) 0 (omega arith) (ints_beside n x ts x.budget) int_numbered int_entries int_universes refl (λ f. refl) keyed
+      variable_lawful e x (record x { ints = ts }) l int_var (length x.ints.items) 0 (omega arith) (ints_beside n x ts x.budget) int_numbered int_entries int_universes refl (λ f. refl) (lawful_grows e x l).sub_rooted.count keyed
 
 -- A new variable in the table of `floats`.
 module _ {Key Id Name : Type 0} {m n : Meaning Key Id Name} (e : Extends m n) (x : InferCtxtInner Key) (l : IsLawful m x) (ts : Vec (Variable (TyKey Key))) (v : Variable (TyKey Key))
@@ -236,7 +239,7 @@ module _ {Key Id Name : Type 0} {m n : Meaning Key Id Name} (e : Extends m n) (x
   float_made_lawful =
       let keyed = keyed_more e x (record x { floats = ts }) l float_var (length x.floats.items) 0 (omega arith) (floats_beside n x ts x.budget) float_numbered float_entries float_universes refl
       (made_keys n.ty x.floats.items ts.items v (leaf (variable float_var (length x.floats.items))) more key) (sym (keys_long n.ty x.floats.items)) in
-      variable_lawful e x (record x { floats = ts }) l float_var (length x.floats.items) 0 (omega arith) (floats_beside n x ts x.budget) float_numbered float_entries float_universes refl (λ f. refl) keyed
+      variable_lawful e x (record x { floats = ts }) l float_var (length x.floats.items) 0 (omega arith) (floats_beside n x ts x.budget) float_numbered float_entries float_universes refl (λ f. refl) (lawful_grows e x l).sub_rooted.count keyed
 
 -- A new variable in the table of `consts`.
 module _ {Key Id Name : Type 0} {m n : Meaning Key Id Name} (e : Extends m n) (x : InferCtxtInner Key) (l : IsLawful m x) (ts : Vec (Variable (ConstKey Key))) (v : Variable (ConstKey Key))
@@ -261,26 +264,32 @@ module _ {Key Id Name : Type 0} {m n : Meaning Key Id Name} (e : Extends m n) (x
   const_made_lawful =
       let keyed = keyed_more e x (record x { consts = ts }) l const_var (length x.consts.items) u below (consts_beside n x ts x.budget) const_numbered const_entries const_universes refl
       (made_keys n.const_ x.consts.items ts.items v (leaf (variable const_var (length x.consts.items))) more key) (sym (keys_long n.const_ x.consts.items)) in
-      variable_lawful e x (record x { consts = ts }) l const_var (length x.consts.items) u below (consts_beside n x ts x.budget) const_numbered const_entries const_universes refl (λ f. absurd f) keyed
+      variable_lawful e x (record x { consts = ts }) l const_var (length x.consts.items) u below (consts_beside n x ts x.budget) const_numbered const_entries const_universes refl (λ f. absurd f) (lawful_grows e x l).sub_rooted.count keyed
 
--- A new region variable.
-module _ {Key Id Name : Type 0} {m n : Meaning Key Id Name} (e : Extends m n) (x : InferCtxtInner Key) (l : IsLawful m x) (rs : Vec UniverseIndex)
-    (u : UniverseIndex) (below : u.0 ≤ (x.universe).0) (more : rs.items ≡ x.regions.items ++ u ∷ []) where
-  abbrev region_entries : (store_of n (record x { regions = rs })).entries region_var ≡ (store_of n x).entries region_var ++ unbound ∷ []
-  region_entries = ap (map (λ w. unbound)) more ∙ map-append (λ w. unbound) x.regions.items (u ∷ [])
+-- A new variable in the table of `regions`.
+module _ {Key Id Name : Type 0} {m n : Meaning Key Id Name} (e : Extends m n) (x : InferCtxtInner Key) (l : IsLawful m x) (ts : Vec (Variable (RegionKey Key))) (v : Variable (RegionKey Key))
+    (more : ts.items ≡ x.regions.items ++ v ∷ []) (free : v.value ≡ Unknown) (u : ℕ) (below : u ≤ (x.universe).0) (universe_is : (v.universe).0 ≡ u)
+    (key : n.region v.key ≡ leaf (variable region_var (length x.regions.items))) where
+  abbrev region_entries : (store_of n (record x { regions = ts })).entries region_var ≡ (store_of n x).entries region_var ++ unbound ∷ []
+  region_entries = made_entries n.region x.regions.items ts.items v more free
 
-  abbrev region_universes : (store_of n (record x { regions = rs })).universes region_var ≡ (store_of n x).universes region_var ++ u.0 ∷ []
-  region_universes = ap (map (λ w. w.0)) more ∙ map-append (λ w. w.0) x.regions.items (u ∷ [])
+  abbrev region_universes : (store_of n (record x { regions = ts })).universes region_var ≡ (store_of n x).universes region_var ++ u ∷ []
+  region_universes = made_universes x.regions.items ts.items v u more universe_is
 
-  pub region_made : MakesVariable (store_of m x) (store_of n (record x { regions = rs })) region_var (length x.regions.items) (u.0)
-  region_made = variable_made e x (record x { regions = rs }) l region_var (length x.regions.items) (u.0) below (regions_beside n x rs x.budget) (sym (length-map x.regions.items (λ w. unbound))) region_entries region_universes refl
+  abbrev region_numbered : length x.regions.items ≡ length ((store_of m x).entries region_var)
+  region_numbered = sym (entries_long m.region x.regions.items)
 
-  pub region_made_later : IsLater (store_of m x) (store_of n (record x { regions = rs }))
-  region_made_later = variable_later e x (record x { regions = rs }) l region_var (length x.regions.items) (u.0) below (regions_beside n x rs x.budget) (sym (length-map x.regions.items (λ w. unbound))) region_entries region_universes refl
+  pub region_made : MakesVariable (store_of m x) (store_of n (record x { regions = ts })) region_var (length x.regions.items) u
+  region_made = variable_made e x (record x { regions = ts }) l region_var (length x.regions.items) u below (regions_beside n x ts x.budget) region_numbered region_entries region_universes refl
 
-  pub region_made_lawful : IsLawful n (record x { regions = rs })
-  region_made_lawful = variable_lawful e x (record x { regions = rs }) l region_var (length x.regions.items) (u.0) below (regions_beside n x rs x.budget) (sym (length-map x.regions.items (λ w. unbound))) region_entries region_universes refl (λ f. absurd f)
-      (λ i h. absurd (omega (arith, h)))
+  pub region_made_later : IsLater (store_of m x) (store_of n (record x { regions = ts }))
+  region_made_later = variable_later e x (record x { regions = ts }) l region_var (length x.regions.items) u below (regions_beside n x ts x.budget) region_numbered region_entries region_universes refl
+
+  pub region_made_lawful : IsLawful n (record x { regions = ts })
+  region_made_lawful =
+      let keyed = keyed_more e x (record x { regions = ts }) l region_var (length x.regions.items) u below (regions_beside n x ts x.budget) region_numbered region_entries region_universes refl
+      (made_keys n.region x.regions.items ts.items v (leaf (variable region_var (length x.regions.items))) more key) (sym (keys_long n.region x.regions.items)) in
+      variable_lawful e x (record x { regions = ts }) l region_var (length x.regions.items) u below (regions_beside n x ts x.budget) region_numbered region_entries region_universes refl (λ f. absurd f) (lawful_grows e x l).sub_rooted.count keyed
 
 -- A new constraint.
 module _ {Key Id Name : Type 0} (m : Meaning Key Id Name) (x : InferCtxtInner Key) (l : IsLawful m x) (r : RegionConstraint Key)
@@ -307,9 +316,9 @@ module _ {Key Id Name : Type 0} (m : Meaning Key Id Name) (x : InferCtxtInner Ke
     rooted = l.rooted;
     formed = l.formed;
     numbers_name_nothing = l.numbers_name_nothing;
-    first_universe = l.first_universe;
     keyed = l.keyed;
     numbers = l.numbers;
+    sub_rooted = record { count = l.sub_rooted.count; rooted = l.sub_rooted.rooted };
   }
 
   pub constraint_goes : Goes 0 (store_of m x) (store_of m y)

@@ -1,14 +1,15 @@
 -- A context that has recorded nothing.
-use Rattle.std.proofs.Common.{◌≡◌, ℕ, ◌<◌, refl, ap, arith, [], length, map, get_or}
+use Rattle.std.proofs.Common.{◌≡◌, ℕ, ◌<◌, refl, sym, ap, arith, subst, [], length, map, get_or, le_refl}
 use Rattle.relation_terms.specs.Heads.{VarKind, type_var, int_var, float_var, const_var, region_var, variable}
 use Rattle.relation_terms.specs.Trees.{leaf, nil}
 use Rattle.relation_terms.specs.Meaning.{Meaning}
-use Rattle.type_relations.specs.Stores.{unbound, entry_of, same_as}
+use Rattle.type_relations.specs.Stores.{unbound}
 use Rattle.type_relations.specs.Constraints.{constraint_of}
 use Rattle.type_relations.proofs.Empty.{empty_sound}
 use Rattle.relation_reference.specs.declared.context.inner.InferCtxtInner.{InferCtxtInner}
 use Rattle.relation_reference.specs.Variables.{entries_of, universes_of, trees_of}
 use Rattle.relation_reference.specs.Numbers.{number_trees}
+use Rattle.relation_reference.specs.SubRoots.{IsRootTable}
 use Rattle.relation_reference.specs.Tables.{store_of, keys_in, IsLawful}
 use Rattle.relation_reference.specs.RefCtxt.{IsNew}
 
@@ -18,29 +19,32 @@ module _ {Key Id Name : Type 0} (m : Meaning Key Id Name) (x : InferCtxtInner Ke
   entries int_var = ap (entries_of m.ty) n.ints
   entries float_var = ap (entries_of m.ty) n.floats
   entries const_var = ap (entries_of m.const_) n.consts
-  entries region_var = ap (map (λ u. unbound)) n.regions
+  entries region_var = ap (entries_of m.region) n.regions
 
   universes : (k : VarKind) → (store_of m x).universes k ≡ []
   universes type_var = ap universes_of n.types
   universes int_var = ap universes_of n.ints
   universes float_var = ap universes_of n.floats
   universes const_var = ap universes_of n.consts
-  universes region_var = ap (map (λ u. u.0)) n.regions
+  universes region_var = ap universes_of n.regions
 
   keys : (k : VarKind) → keys_in m x k ≡ []
   keys type_var = ap (trees_of m.ty) n.types
   keys int_var = ap (trees_of m.ty) n.ints
   keys float_var = ap (trees_of m.ty) n.floats
   keys const_var = ap (trees_of m.const_) n.consts
-  keys region_var = refl
+  keys region_var = ap (trees_of m.region) n.regions
 
-  pub new_lawful : (x.universe).0 ≡ 0 → map m.ty x.numbers.items ≡ number_trees → IsLawful m x
-  new_lawful first numbers = record {
+  pub new_lawful : map m.ty x.numbers.items ≡ number_trees → IsLawful m x
+  new_lawful numbers = record {
     sound = empty_sound (store_of m x) entries universes (ap (map (constraint_of m)) n.constraints);
     rooted = λ k i r p h. absurd (let e = ap (λ es. get_or es i unbound) (entries k) in cc (e, h));
     formed = λ k i t h. absurd (let e = ap (λ es. get_or es i unbound) (entries k) in cc (e, h));
     numbers_name_nothing = λ k i h. ap (λ us. get_or us i 0) (universes k);
-    first_universe = first;
     keyed = λ k i h. absurd (let e = ap length (keys k) in omega (arith, h, e));
     numbers = numbers;
+    sub_rooted = record {
+      count = let e = ap length (entries type_var) in omega (arith, e);
+      rooted = subst IsRootTable (sym n.sub_roots) (record { own = λ i. refl; below = λ i. le_refl i });
+    };
   }

@@ -1,18 +1,17 @@
 -- Reading the tables.
-use Rattle.std.proofs.Common.{◌≡◌, ℕ, ◌<◌, IsTrue, Option, Some, None, IfSome, IfNone, refl, sym, ap, ◌∙◌, subst, List, length, get_or, map}
+use Rattle.std.proofs.Common.{◌≡◌, ℕ, ◌<◌, IsTrue, refl, sym, ap, ◌∙◌, subst, List, length, get_or}
 use Rattle.std.proofs.lemmas.List.{get_or-map, length-map}
 use Rattle.std.proofs.Math.ListN.{get_or-map as at_map}
-use Rattle.relation_terms.specs.Heads.{VarKind, type_var, int_var, float_var, const_var, region_var, variable, type_sort, const_sort}
-use Rattle.relation_terms.specs.Trees.{Tree, leaf, nil, known, IsTerm}
-use Rattle.relation_terms.specs.Meaning.{Meaning, kind_tree, infer_tree, const_tree, infer_const_tree}
+use Rattle.relation_terms.specs.Heads.{VarKind, type_var, const_var, variable}
+use Rattle.relation_terms.specs.Trees.{Tree, leaf, nil, known}
+use Rattle.relation_terms.specs.Meaning.{Meaning, kind_tree, infer_tree, const_tree}
 use Rattle.relation_terms.specs.declared.terms.ty_kind.TyKind.{TyKind}
 use Rattle.relation_terms.specs.declared.terms.ty_kind.TyKind.TheVariants.{Infer, Bound as TyBound}
 use Rattle.relation_terms.specs.declared.terms.ty_kind.InferTy.{InferTy}
 use Rattle.relation_terms.specs.declared.terms.ty_kind.InferTy.TheVariants.{TyVar, IntVar, FloatVar, FreshTy, FreshIntTy, FreshFloatTy}
 use Rattle.relation_terms.specs.declared.terms.const_kind.ConstKind.{ConstKind}
 use Rattle.relation_terms.specs.declared.terms.const_kind.ConstKind.TheVariants.{Infer as ConstInfer}
-use Rattle.relation_terms.specs.declared.terms.const_kind.InferConst.{InferConst}
-use Rattle.relation_terms.specs.declared.terms.const_kind.InferConst.TheVariants.{Var, Fresh}
+use Rattle.relation_terms.specs.declared.terms.const_kind.InferConst.TheVariants.{Var}
 use Rattle.relation_terms.specs.declared.terms.numbers.TyVid.{TyVid}
 use Rattle.relation_terms.specs.declared.terms.numbers.IntVid.{IntVid}
 use Rattle.relation_terms.specs.declared.terms.numbers.FloatVid.{FloatVid}
@@ -32,9 +31,8 @@ use Rattle.relation_reference.specs.declared.context.memory.TermVid.{TermVid}
 use Rattle.relation_reference.specs.declared.context.memory.TermVid.TheVariants.{Ty as TyTerm, Const as ConstTerm}
 use Rattle.relation_reference.specs.Remembering.{vid_kind, vid_number}
 use Rattle.relation_reference.specs.Variables.{value_at, root_by, root_at, term_by, term_at, entry_of_value, entries_of, trees_of, keys_of}
-use Rattle.relation_reference.specs.Tables.{store_of, keys_in, MayBeBoundTo, IsRooted, IsLawful}
+use Rattle.relation_reference.specs.Tables.{store_of, MayBeBoundTo, IsRooted, IsLawful}
 use Rattle.type_relations.specs.Resolving.{IsRoot, IsShallow, root, stays_bound, formed, IsShallowTy, ty_root, no_ty_variable, IsShallowConst, const_root, no_variable}
-use Rattle.relation_reference.specs.Answers.{HasBinding, HasNoBinding}
 use Rattle.relation_reference.proofs.Grows.{entry_at, bound_known}
 use Rattle.relation_reference.proofs.Covering.{may_covered}
 use Rattle.type_relations.proofs.Variables.{kind_variable, kind_no_const, const_no_variable}
@@ -48,10 +46,10 @@ pub data Found (st : Store) (k : VarKind) (n : ℕ) (u : Tree) : Type 0 where
   found_root : (r : ℕ) → LeadsTo st k n r → entry_of st k r ≡ unbound → u ≡ leaf (variable k r) → Found st k n u
   found_term : (r : ℕ) → LeadsTo st k n r → entry_of st k r ≡ bound_to u → Found st k n u
 
-keys_reach : {K : Type 0} (vs : List (Variable K)) (n : ℕ) → n < length vs → n < length (keys_of vs)
+pub keys_reach : {K : Type 0} (vs : List (Variable K)) (n : ℕ) → n < length vs → n < length (keys_of vs)
 keys_reach vs n h = subst (λ z. n < z) (sym (length-map vs (λ v. v.key))) h
 
-trees_reach : {K : Type 0} (tree : K → Tree) (vs : List (Variable K)) (n : ℕ) → n < length vs → n < length (trees_of tree vs)
+pub trees_reach : {K : Type 0} (tree : K → Tree) (vs : List (Variable K)) (n : ℕ) → n < length vs → n < length (trees_of tree vs)
 trees_reach tree vs n h = subst (λ z. n < z) (sym (length-map (keys_of vs) tree)) (keys_reach vs n h)
 
 -- A table of a store.

@@ -1,5 +1,5 @@
 -- Types that were met, as a memory keeps them.
-use Rattle.std.proofs.Common.{◌≡◌, ℕ, zero, suc, ◌<◌, ◌⊎◌, inl, inr, refl, sym, ap, ap₂, ◌∙◌, arith, subst, IsTrue, Bool, true, false, cond, ◌&&◌, Option, Some, None, IfSome, IfNone, List, [], ◌∷◌, length, get_or, Contains, All}
+use Rattle.std.proofs.Common.{◌≡◌, zero, suc, ◌⊎◌, inl, inr, refl, sym, ap, ap₂, ◌∙◌, arith, subst, IsTrue, Bool, true, false, cond, ◌&&◌, Option, Some, None, IfSome, IfNone, List, [], ◌∷◌, Contains}
 use Rattle.std.proofs.lemmas.Bool.{and_parts}
 use Rattle.std.specs.Cmp.{IsEquivalence}
 use Rattle.std.proofs.lemmas.Bool.{false≢true}

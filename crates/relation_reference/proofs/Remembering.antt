@@ -1,13 +1,10 @@
 -- What walks through terms remember, as they go on.
 use Rattle.std.proofs.Common.{ℕ, ◌≡◌, ◌↔◌, IsTrue, Bool, true, false, cond, Option, Some, None, option_map, IfSome, refl, sym, ap}
-use Rattle.std.proofs.Common.{ap₂, ◌∙◌, ◌&&◌, eqb, subst, [], Result, Ok, Err, OnOk}
-use Rattle.std.proofs.lemmas.Bool.{and_parts, eqb-true, false≢true}
+use Rattle.std.proofs.Common.{ap₂, ◌∙◌, ◌&&◌, eqb, subst, Result, Ok, Err, OnOk}
+use Rattle.std.proofs.lemmas.Bool.{and_parts, eqb-true}
 use Rattle.std.specs.HashMap.{HashMap, get, IsEmpty}
-use Rattle.std.specs.HashSet.{HashSet, contains}
-use Rattle.std.specs.List.{list_any}
 use Rattle.std.specs.Map.{lookup}
-use Rattle.relation_terms.specs.Heads.{VarKind}
-use Rattle.relation_terms.specs.Trees.{known, apply, Occurs}
+use Rattle.relation_terms.specs.Trees.{known, apply}
 use Rattle.relation_terms.specs.Meaning.{Meaning, Extends}
 use Rattle.relation_terms.specs.Parts.{part_tree, part_sort, part_key}
 use Rattle.relation_terms.specs.declared.terms.part_kind.Part.{Part}
@@ -21,7 +18,7 @@ use Rattle.relation_reference.specs.declared.context.memory.PartKey.{PartKey}
 use Rattle.relation_reference.specs.declared.context.variables.RefCtxt.{RefCtxt}
 use Rattle.relation_reference.specs.Tables.{IsLawful}
 use Rattle.relation_reference.specs.RefCtxt.{resolved_in}
-use Rattle.relation_reference.specs.Remembering.{key_of, ComesTo, IsKept, Remembers, IsWithout, IsLacking, Lacks}
+use Rattle.relation_reference.specs.Remembering.{key_of, ComesTo, IsKept, Remembers}
 use Rattle.relation_reference.proofs.Resolving.{store_now}
 
 -- Parts are looked for by their sorts and their keys.
@@ -149,34 +146,3 @@ module _ {I Key Id Name Span : Type 0} (meaning : I → Meaning Key Id Name) (c 
           (o : Option (Part Key Id)) → o ≡ get (key_eq eq) memory key → IfSome o (ComesTo meaning c p)
       recalled memory r p key s k None e = tt
       recalled memory r p key s k (Some by) e = kept_comes p by key s k (r key by (sym e))
-
--- Parts that a variable doesn't stand in.
-module _ {Key Id Name : Type 0} (m : Meaning Key Id Name) (v : VarKind) (n : ℕ) where
-  or_more : (b o : Bool) (P : Type 0) → (IsTrue b → P) → (IsTrue o → P) → IsTrue (cond b true o) → P
-  or_more true o P f g h = f refl
-  or_more false o P f g h = g h
-
-  pub lacks_more : {S : Type 0} (eq : PartKey Key → PartKey Key → Bool) (old new : HashSet (PartKey Key) S)
-      (p : Part Key Id) (key : PartKey Key) → key_of p ≡ Some key → IsWithout m v n p →
-      ((q : PartKey Key) → contains eq new q ≡ cond (eq key q) true (contains eq old q)) →
-      Lacks m v n eq old → Lacks m v n eq new
-  lacks_more eq old new p key o i u r = λ q h.
-      or_more (eq key q) (contains eq old q) (IsLacking m v n eq q)
-      (λ t. record { part = p; key = key; stands = o; same = t; is = i }) (r q) (subst (λ b. IsTrue b) (u q) h)
-
-  pub lacks_none : {S : Type 0} (eq : PartKey Key → PartKey Key → Bool) (lacking : HashSet (PartKey Key) S) →
-      lacking.keys ≡ [] → Lacks m v n eq lacking
-  lacks_none eq lacking u = λ q h. absurd (false≢true (sym (ap (λ ks. list_any (eq q) ks) u) ∙ h))
-
-  pub found_absent : (eq : Key → Key → Bool)
-      (same : (p q : Part Key Id) (x y : Key) → part_key p ≡ Some x → part_key q ≡ Some y → part_sort q ≡ part_sort p →
-      IsTrue (known (part_tree m p)) → IsTrue (known (part_tree m q)) →
-      (IsTrue (eq x y) ↔ (part_tree m p ≡ part_tree m q)))
-      {S : Type 0} (lacking : HashSet (PartKey Key) S) → Lacks m v n (key_eq eq) lacking → (p : Part Key Id)
-      (key : PartKey Key) → key_of p ≡ Some key →
-      IsTrue (known (part_tree m p)) → IsTrue (contains (key_eq eq) lacking key) →
-      Occurs v n (part_tree m p) → ⊥
-  found_absent eq same lacking r p key s k h o =
-      let found = r key h in
-      found.is.absent (subst (Occurs v n)
-      (sym (found_tree m eq same found.part p found.key key found.stands s found.same found.is.there k)) o)

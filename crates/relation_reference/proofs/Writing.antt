@@ -1,10 +1,10 @@
 -- Writing what is recorded of variables of a kind: two were made one, or one was bound.
-use Rattle.std.proofs.Common.{◌≡◌, ℕ, zero, suc, ◌<◌, refl, sym, ap, ap₂, ◌∙◌, arith, subst, List, [], ◌∷◌, length, map, get_or, set, min, eqb, cond, Bool, true, false}
+use Rattle.std.proofs.Common.{◌≡◌, ℕ, zero, suc, ◌<◌, ◌≤◌, refl, sym, ap, ap₂, ◌∙◌, arith, subst, subst₂, List, [], ◌∷◌, length, map, get_or, set, min, eqb, cond, Bool, true, false}
 use Rattle.std.proofs.lemmas.Bool.{eqb-true, eq-eqb}
 use Rattle.std.proofs.lemmas.List.{map-set, length-set, length-map, get_or-set_same, get_or-set_other}
 use Rattle.std.proofs.Math.ListN.{get_or-map}
 use native.Mathlib.Decide.{ℕ_discrete}
-use Rattle.relation_terms.specs.Heads.{VarKind, VarKind_discrete, region_var}
+use Rattle.relation_terms.specs.Heads.{VarKind, VarKind_discrete, type_var, region_var}
 use Rattle.relation_terms.specs.Trees.{Tree}
 use Rattle.relation_terms.specs.Meaning.{Meaning}
 use Rattle.type_relations.specs.Stores.{Store, Entry, unbound, same_as, bound_to, entry_of, universe_of, IsMade, IsSound}
@@ -14,7 +14,7 @@ use Rattle.relation_reference.specs.declared.context.inner.VariableValue.{Variab
 use Rattle.relation_reference.specs.declared.context.inner.VariableValue.TheVariants.{Unknown, SameAs, Known}
 use Rattle.relation_reference.specs.declared.context.inner.Variable.{Variable}
 use Rattle.relation_reference.specs.declared.context.inner.InferCtxtInner.{InferCtxtInner}
-use Rattle.relation_reference.specs.Variables.{values_of, universes_of, universe_at, led, entry_of_value, entries_of}
+use Rattle.relation_reference.specs.Variables.{values_of, led, entry_of_value, entries_of}
 use Rattle.relation_reference.specs.Tables.{store_of, keys_in, MayBeBoundTo, IsRooted, IsFilled, IsLawful}
 use Rattle.relation_reference.proofs.Beside.{Beside, lawful_beside, keyed_still}
 
@@ -274,7 +274,8 @@ module _ {Key Id Name : Type 0} (m : Meaning Key Id Name) (x y : InferCtxtInner 
 
   module _ (keys : keys_in m y k ≡ keys_in m x k) (l : IsLawful m x) where
     written_lawful : (n : ℕ) (e : Entry) → WritesEntry (store_of m x) (store_of m y) k n e → ((t : Tree) → e ≡ bound_to t → MayBeBoundTo k t) → IsSound (store_of m y) → IsRooted (store_of m y) → (IsNumberKind k → (i : ℕ) → universe_of (store_of m y) k i ≡ 0) → IsLawful m y
-    written_lawful n e w f g r first = lawful_beside m x y k b (keyed_still m x y k keys l) g r (filled_after (store_of m x) (store_of m y) k n e w f l.formed) first l
+    written_lawful n e w f g r first = lawful_beside m x y k b (keyed_still m x y k keys l) g r (filled_after (store_of m x) (store_of m y) k n e w f l.formed) first
+        (subst₂ ◌≤◌ (sym (w.as_many type_var)) (sym (ap length b.sub_roots)) l.sub_rooted.count) l
 
     -- `entries` and `universes` are what linking writes.
     module _ (child root : ℕ) (entries : (store_of m y).entries k ≡ set (map (led_entry child root) ((store_of m x).entries k)) child (same_as root))

@@ -1,5 +1,6 @@
 -- What a context generalises, and which types it has met on the way.
-use Rattle.std.specs.Prelude.{◌≡◌, ◌≢◌, ℕ, ◌<◌, Bool, IsTrue, List, [], Contains, All, Option, Some, None, Result, Ok, Err}
+use Rattle.std.specs.Prelude.{◌≡◌, ◌≢◌, ℕ, ◌<◌, Bool, IsTrue, List, [], Contains, All, Option, Some, None}
+use Rattle.std.specs.Prelude.{Result, Ok, Err}
 use Rattle.std.specs.HashMap.{HashMap, get}
 use Rattle.relation_terms.specs.declared.terms.enums.Variance.{Variance}
 use Rattle.relation_terms.specs.declared.terms.keys.TyKey.{TyKey}
@@ -7,7 +8,7 @@ use Rattle.relation_terms.specs.declared.terms.part_kind.Part.{Part}
 use Rattle.relation_terms.specs.declared.terms.part_kind.Part.TheVariants.{Region, Ty, Const}
 use Rattle.relation_terms.specs.Heads.{region_sort, BoundKind, bound_sort, VarKind, type_var, const_var, region_var}
 use Rattle.relation_terms.specs.Heads.{Leaf, variable, placeholder}
-use Rattle.relation_terms.specs.Trees.{Tree, leaf, Leaves, known, apply}
+use Rattle.relation_terms.specs.Trees.{Tree, leaf, Leaves, known}
 use Rattle.relation_terms.specs.Meaning.{Meaning, Extends}
 use Rattle.relation_terms.specs.Parts.{part_tree, part_sort}
 use Rattle.relation_tools.specs.declared.error.TypeError.{TypeError}
@@ -16,10 +17,10 @@ use Rattle.relation_tools.specs.declared.error.RelateFault.{RelateFault}
 use Rattle.relation_tools.specs.declared.error.RelateFault.TheVariants.{Memory, Budget, Unrelated}
 use Rattle.type_relations.specs.Relation.{Items}
 use Rattle.type_relations.specs.Lawful.{items_of}
-use Rattle.type_relations.specs.Stores.{Store, universe_of, InContext, IsSound, resolved}
-use Rattle.type_relations.specs.Generalising.{Stays, gives_way_to, Met, Stage, Turn, any_part, Generalised, MakesUnbound}
+use Rattle.type_relations.specs.Stores.{Store, universe_of, InContext, IsSound}
+use Rattle.type_relations.specs.Generalising.{Stays, gives_way_to, Met, Stage, Turn, any_part, Generalised}
+use Rattle.type_relations.specs.Generalising.{MakesUnbound}
 use Rattle.type_relations.specs.Generalising.{Obstacle, cycle, beyond, IsNoObstacle, StopsAt}
-use Rattle.type_relations.specs.Generalising.{InstantiatesBy, RefusesBy}
 use Rattle.relation_reference.specs.declared.context.generalising.MetKey.{MetKey}
 use Rattle.relation_reference.specs.declared.context.generalising.Fate.{Fate}
 use Rattle.relation_reference.specs.declared.context.generalising.Fate.TheVariants.{ByParts, GivesWay, Cycle, Beyond}
@@ -75,8 +76,8 @@ module _ {Key Id Name S : Type 0} (eq : MetKey Key → MetKey Key → Bool) (m :
     pub found : (q : MetKey Key) (became : TyKey Key) → get eq memory q ≡ Some became → WasMet es q became
     pub kept : (e : Met) → Contains es e → IsFound e
 
-  -- How far generalising has come for variable `n` of kind `k` in universe `u`, from a sound start: variables were made,
-  -- and types were met in which no obstacle stands.
+  -- How far generalising has come for variable `n` of kind `k` in universe `u`, from a sound start: variables were
+  -- made, and types were met in which no obstacle stands.
   pub record HasCome (c : Items) (start : Store) (k : VarKind) (n u : ℕ) (st : Store) (es : List Met) : Type 0 where
     pub items : items_of m ≡ c
     pub sound : IsSound start
@@ -86,9 +87,9 @@ module _ {Key Id Name S : Type 0} (eq : MetKey Key → MetKey Key → Bool) (m :
     pub clear : All (λ e. Leaves (IsNoObstacle start k n) e.type) es
 
 -- The error that an obstacle makes; a variable that stands in its own source makes the given one.
-abbrev pub ObstacleError : {Key Id Name : Type 0} → TypeError Key Id Name → TypeError Key Id Name → Obstacle → Type 0
-ObstacleError cyclic e cycle = e ≡ cyclic
-ObstacleError cyclic e beyond = e ≡ Mismatch
+abbrev pub GivenError : {Key Id Name : Type 0} → TypeError Key Id Name → TypeError Key Id Name → Obstacle → Type 0
+GivenError cyclic e cycle = e ≡ cyclic
+GivenError cyclic e beyond = e ≡ Mismatch
 
 module _ {Key Id Name S : Type 0} (eq : MetKey Key → MetKey Key → Bool) (m n : Meaning Key Id Name)
     (before after : Store) (k : VarKind) (i u : ℕ) (turn : Turn) (old new : HashMap (MetKey Key) (TyKey Key) S)
@@ -108,18 +109,19 @@ module _ {Key Id Name S : Type 0} (eq : MetKey Key → MetKey Key → Bool) (m n
 
   abbrev pub StopsAlways : TypeError Key Id Name → TypeError Key Id Name → Type 0
   StopsAlways cyclic e = (c : Items) (start : Store) (es : List Met) → HasCome eq m old c start k i u before es →
-      InContext start t → (o : Obstacle) × StopsAt start k i o t × ObstacleError cyclic e o
+      InContext start t → (o : Obstacle) × StopsAt start k i o t × GivenError cyclic e o
 
   -- A part became another of its sort; or an obstacle stands in it; or memory ran out.
-  abbrev pub GeneralisesTo : TypeError Key Id Name → Part Key Id → Result (Part Key Id) (RelateFault Key Id Name) → Type 0
+  abbrev pub GeneralisesTo : TypeError Key Id Name → Part Key Id → Result (Part Key Id) (RelateFault Key Id Name) →
+      Type 0
   GeneralisesTo cyclic p (Ok x) = IsTrue (known (part_tree n x)) × (part_sort x ≡ part_sort p) × IsSure eq n new ×
       BecomesAlways (part_tree n x)
   GeneralisesTo cyclic p (Err (Unrelated e)) = StopsAlways cyclic e
   GeneralisesTo cyclic p (Err Budget) = ⊥
   GeneralisesTo cyclic p (Err Memory) = Unit {0}
 
--- A part was generalised in a context, for variable `i` of kind `k` in universe `u`; unbound variables may have been made,
--- also where that failed.
+-- A part was generalised in a context, for variable `i` of kind `k` in universe `u`; unbound variables may have been
+-- made, also where that failed.
 pub record Generalises {I Key Id Name Span S : Type 0} (meaning : I → Meaning Key Id Name)
     (eq : MetKey Key → MetKey Key → Bool) (before after : RefCtxt I Key Id Name Span) (k : VarKind) (i u : ℕ)
     (cyclic : TypeError Key Id Name) (turn : Turn) (old new : HashMap (MetKey Key) (TyKey Key) S) (p : Part Key Id)
@@ -130,27 +132,18 @@ pub record Generalises {I Key Id Name Span S : Type 0} (meaning : I → Meaning 
   pub makes : MakesUnbound u (store_of (meaning before.interner) before.inner)
       (store_of (meaning after.interner) after.inner)
   pub answers : GeneralisesTo eq (meaning before.interner) (meaning after.interner)
-      (store_of (meaning before.interner) before.inner) (store_of (meaning after.interner) after.inner) k i u turn old new
-      (part_tree (meaning before.interner) p) cyclic p result
+      (store_of (meaning before.interner) before.inner) (store_of (meaning after.interner) after.inner) k i u turn old
+      new (part_tree (meaning before.interner) p) cyclic p result
 
--- What generalising a part for a variable answers: what it became by the rules; or the error of the first obstacle; or that
--- memory ran out.
-abbrev pub IsGeneralisedFor : {Key Id Name : Type 0} → Meaning Key Id Name → Meaning Key Id Name → Store → Store → VarKind →
-    ℕ → Variance → TypeError Key Id Name → Part Key Id → Result (Part Key Id) (RelateFault Key Id Name) → Type 0
+-- What generalising a part for a variable answers: what it became by the rules; or the error of the first obstacle; or
+-- that memory ran out.
+abbrev pub IsGeneralisedFor : {Key Id Name : Type 0} → Meaning Key Id Name → Meaning Key Id Name → Store → Store →
+    VarKind → ℕ → Variance → TypeError Key Id Name → Part Key Id →
+    Result (Part Key Id) (RelateFault Key Id Name) → Type 0
 IsGeneralisedFor m n before after k i v cyclic p (Ok x) = IsTrue (known (part_tree n x)) × (part_sort x ≡ part_sort p) ×
     ((last : Stage) × (last.store ≡ after) × Generalised (items_of m) before k i (any_part v)
     (record { store = before; met = [] }) (part_tree m p) last (part_tree n x))
-IsGeneralisedFor m n before after k i v cyclic p (Err (Unrelated e)) = (o : Obstacle) × StopsAt before k i o (part_tree m p) ×
-    ObstacleError cyclic e o
+IsGeneralisedFor m n before after k i v cyclic p (Err (Unrelated e)) = (o : Obstacle) ×
+    StopsAt before k i o (part_tree m p) × GivenError cyclic e o
 IsGeneralisedFor m n before after k i v cyclic p (Err Budget) = ⊥
 IsGeneralisedFor m n before after k i v cyclic p (Err Memory) = Unit {0}
-
--- What instantiating a variable answers, in keys that mean trees: the term that it is bound to by the rules; the error of the
--- first obstacle; that no instantiation is left; or that memory ran out, and then variables may have been made.
-abbrev pub InstantiatesOr : {Key Id Name K : Type 0} → Items → (K → Tree) → (K → TypeError Key Id Name) → VarKind → Variance →
-    Store → Store → ℕ → Tree → Result K (RelateFault Key Id Name) → Type 0
-InstantiatesOr c tree cyclic k v before after n t (Ok x) = InstantiatesBy c before after v k n t (tree x)
-InstantiatesOr {K = K} c tree cyclic k v before after n t (Err (Unrelated e)) = (o : Obstacle) ×
-    RefusesBy before after k n t o × (x : K) × (tree x ≡ apply (resolved before) t) × ObstacleError (cyclic x) e o
-InstantiatesOr c tree cyclic k v before after n t (Err Budget) = (before.budget ≡ 0) × (after ≡ before)
-InstantiatesOr c tree cyclic k v before after n t (Err Memory) = MakesUnbound (universe_of before k n) before after

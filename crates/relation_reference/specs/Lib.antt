@@ -1,5 +1,6 @@
 pub mod Variables
 pub mod Numbers
+pub mod SubRoots
 pub mod Tables
 pub mod RefCtxt
 pub mod Remembering

@@ -8,7 +8,7 @@ use Rattle.relation_reference.specs.declared.context.variables.RefCtxt.{RefCtxt}
 use Rattle.relation_reference.specs.declared.context.inner.InferCtxtInner.{InferCtxtInner}
 use Rattle.relation_reference.specs.Tables.{store_of, context_of}
 
--- It has no variable and no constraint.
+-- It has no variable, no constraint, and no type that is to outlive a region.
 pub record IsNew {Key : Type 0} (x : InferCtxtInner Key) : Type 0 where
   pub types : x.types.items ≡ []
   pub ints : x.ints.items ≡ []
@@ -16,6 +16,8 @@ pub record IsNew {Key : Type 0} (x : InferCtxtInner Key) : Type 0 where
   pub consts : x.consts.items ≡ []
   pub regions : x.regions.items ≡ []
   pub constraints : x.constraints.items ≡ []
+  pub ty_outlives : x.ty_outlives.items ≡ []
+  pub sub_roots : x.sub_roots.items ≡ []
 
 module _ {I Key Id Name Span : Type 0} (meaning : I → Meaning Key Id Name) where
   -- The store that its tables record.

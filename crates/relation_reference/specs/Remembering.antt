@@ -1,9 +1,8 @@
 -- What walks through terms remember of the parts that they have met.
 use Rattle.std.specs.Prelude.{◌≡◌, ℕ, Bool, IsTrue, Option, Some, option_map}
 use Rattle.std.specs.HashMap.{HashMap, get}
-use Rattle.std.specs.HashSet.{HashSet, contains}
 use Rattle.relation_terms.specs.Heads.{VarKind, type_var, const_var}
-use Rattle.relation_terms.specs.Trees.{known, Occurs}
+use Rattle.relation_terms.specs.Trees.{known}
 use Rattle.relation_terms.specs.Meaning.{Meaning}
 use Rattle.relation_terms.specs.Parts.{part_sort, part_key, part_tree}
 use Rattle.relation_terms.specs.declared.terms.part_kind.Part.{Part}
@@ -47,26 +46,3 @@ module _ {I Key Id Name Span : Type 0} (meaning : I → Meaning Key Id Name) (c 
   abbrev pub Remembers : {S : Type 0} → (PartKey Key → PartKey Key → Bool) →
       HashMap (PartKey Key) (Part Key Id) S → Type 0
   Remembers eq memory = (q : PartKey Key) (by : Part Key Id) → get eq memory q ≡ Some by → IsKept eq q by
-
-module _ {Key Id Name : Type 0} (m : Meaning Key Id Name) (k : VarKind) (n : ℕ) where
-  -- A known part that a variable doesn't stand in.
-  pub record IsWithout (p : Part Key Id) : Type 0 where
-    pub there : IsTrue (known (part_tree m p))
-    pub absent : Occurs k n (part_tree m p) → ⊥
-
-  -- It stands in no part of an equal key.
-  pub record IsLacking (eq : PartKey Key → PartKey Key → Bool) (q : PartKey Key) : Type 0 where
-    pub part : Part Key Id
-    pub key : PartKey Key
-    pub stands : key_of part ≡ Some key
-    pub same : IsTrue (eq key q)
-    pub is : IsWithout part
-
-  -- What is found is such a part.
-  abbrev pub Lacks : {S : Type 0} → (PartKey Key → PartKey Key → Bool) → HashSet (PartKey Key) S → Type 0
-  Lacks eq lacking = (q : PartKey Key) → IsTrue (contains eq lacking q) → IsLacking eq q
-
--- No part that is found has the variable in it.
-abbrev pub LacksVid : {Key Id Name S : Type 0} → Meaning Key Id Name → TermVid →
-    (PartKey Key → PartKey Key → Bool) → HashSet (PartKey Key) S → Type 0
-LacksVid m v eq lacking = Lacks m (vid_kind v) (vid_number v) eq lacking

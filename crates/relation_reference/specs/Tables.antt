@@ -1,9 +1,9 @@
 -- What the tables of a context mean: the store that they record, and the invariant of a context.
-use Rattle.std.specs.Prelude.{◌≡◌, ◌≢◌, ℕ, ◌<◌, false, List, [], map, length, get_or}
+use Rattle.std.specs.Prelude.{◌≡◌, ◌≢◌, ℕ, ◌<◌, ◌≤◌, false, List, map, length, get_or}
 use Rattle.relation_terms.specs.Heads.{VarKind, type_var, int_var, float_var, const_var, region_var, variable}
 use Rattle.relation_terms.specs.Trees.{Tree, leaf, nil}
 use Rattle.relation_terms.specs.Meaning.{Meaning}
-use Rattle.type_relations.specs.Stores.{Store, Entry, entry_of, unbound, same_as, bound_to, IsSound}
+use Rattle.type_relations.specs.Stores.{Store, Entry, entry_of, same_as, bound_to, IsSound}
 use Rattle.type_relations.specs.Generalising.{NumbersNameNothing}
 use Rattle.type_relations.specs.Constraints.{constraint_of}
 use Rattle.type_relations.specs.Parts.{IsFormed, IsFormedConst}
@@ -13,6 +13,7 @@ use Rattle.type_relations.specs.ContextCalls.{HasCoveredBindings}
 use Rattle.relation_reference.specs.declared.context.inner.InferCtxtInner.{InferCtxtInner}
 use Rattle.relation_reference.specs.Variables.{entries_of, universes_of, trees_of}
 use Rattle.relation_reference.specs.Numbers.{number_trees}
+use Rattle.relation_reference.specs.SubRoots.{IsRootTable}
 
 -- One thing for each kind of variables: types, integers, floats, constants, regions.
 abbrev pub by_kind : {A : Type 0} → A → A → A → A → A → VarKind → A
@@ -42,31 +43,36 @@ module _ {Key Id Name : Type 0} (m : Meaning Key Id Name) where
   abbrev pub store_of : InferCtxtInner Key → Store
   store_of x = record {
     entries = by_kind (entries_of m.ty x.types.items) (entries_of m.ty x.ints.items) (entries_of m.ty x.floats.items)
-        (entries_of m.const_ x.consts.items) (map (λ u. unbound) x.regions.items);
+        (entries_of m.const_ x.consts.items) (entries_of m.region x.regions.items);
     universes = by_kind (universes_of x.types.items) (universes_of x.ints.items) (universes_of x.floats.items)
-        (universes_of x.consts.items) (map (λ u. u.0) x.regions.items);
+        (universes_of x.consts.items) (universes_of x.regions.items);
     universe = (x.universe).0;
     constraints = map (constraint_of m) x.constraints.items;
     tainted = false;
     budget = x.budget;
   }
 
-  -- The trees of the keys beside the variables. Beside region variables there are none.
+  -- The trees of the keys beside the variables.
   abbrev pub keys_in : InferCtxtInner Key → VarKind → List Tree
   keys_in x = by_kind (trees_of m.ty x.types.items) (trees_of m.ty x.ints.items) (trees_of m.ty x.floats.items)
-      (trees_of m.const_ x.consts.items) []
+      (trees_of m.const_ x.consts.items) (trees_of m.region x.regions.items)
+
+  -- Each type variable has a root among those that are marked as related.
+  pub record HasSubRoots (x : InferCtxtInner Key) : Type 0 where
+    pub count : length ((store_of x).entries type_var) ≤ length x.sub_roots.items
+    pub rooted : IsRootTable x.sub_roots.items
 
   -- The invariant of a context: its store is sound; each entry of another variable names a root; what variables are
-  -- bound to is no variable, and may be related; variables of numbers stand in the first universe; there is no universe
-  -- yet but that one; the key beside each variable is the variable's; and the keys of integer and float types are theirs.
+  -- bound to is no variable, and may be related; variables of numbers stand in the first universe; the key beside each
+  -- variable is the variable's; and the keys of integer and float types are theirs.
   pub record IsLawful (x : InferCtxtInner Key) : Type 0 where
     pub sound : IsSound (store_of x)
     pub rooted : IsRooted (store_of x)
     pub formed : IsFilled (store_of x)
     pub numbers_name_nothing : NumbersNameNothing (store_of x)
-    pub first_universe : (x.universe).0 ≡ 0
     pub keyed : (k : VarKind) (n : ℕ) → n < length (keys_in x k) → get_or (keys_in x k) n nil ≡ leaf (variable k n)
     pub numbers : map m.ty x.numbers.items ≡ number_trees
+    pub sub_rooted : HasSubRoots x
 
   -- So all that is bound is of forms that relating has rules for.
   pub covered_bindings : (x : InferCtxtInner Key) → IsLawful x → HasCoveredBindings (store_of x)

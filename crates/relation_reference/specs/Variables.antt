@@ -1,6 +1,7 @@
 -- One table of variables, as lists: what is recorded of them, and what leading a class on makes of it.
-use Rattle.std.specs.Prelude.{ℕ, List, map, get_or, eqb, cond}
+use Rattle.std.specs.Prelude.{ℕ, List, map, get_or, eqb, cond, Option, Some, None}
 use Rattle.relation_terms.specs.Trees.{Tree}
+use Rattle.relation_terms.specs.declared.terms.numbers.UniverseIndex.{UniverseIndex}
 use Rattle.type_relations.specs.Stores.{Entry, unbound, same_as, bound_to}
 use Rattle.relation_reference.specs.declared.context.inner.Variable.{Variable}
 use Rattle.relation_reference.specs.declared.context.inner.VariableValue.{VariableValue}
@@ -32,6 +33,12 @@ module _ {K : Type 0} where
 
   abbrev pub root_at : List (Variable K) → ℕ → ℕ
   root_at vs n = root_by n (value_at vs n)
+
+  -- The universe of a variable of which nothing is recorded, or none.
+  abbrev pub free_universe : ℕ → VariableValue K → Option UniverseIndex
+  free_universe u Unknown = Some (record { 0 = u })
+  free_universe u (SameAs r) = None
+  free_universe u (Known t) = None
 
   -- The term that a root is bound to, or else its key.
   abbrev pub term_by : K → VariableValue K → K

@@ -7,10 +7,13 @@ mod inner;
 mod instantiating;
 mod memory;
 mod numbers;
+mod outliving;
 mod reading;
 mod recording;
 mod resolving;
+mod sub_unified;
 mod table;
+mod universes;
 mod variables;
 
 pub use inner::{InferCtxtInner, Variable, VariableValue};

@@ -52,7 +52,7 @@ fn recorded_in<I: Interner + Drop>(
     requires rhs { IsConcrete ((I.meaning cx).ty b.now) }
 {
     let param_env = cx.empty_param_env()?;
-    let mut ctx = RefCtxt::new(cx, 0)?;
+    let mut ctx = RefCtxt::new(cx, true, 0)?;
     recorded(&mut ctx, variance, param_env, a, b, asks)
 }
 
@@ -68,7 +68,7 @@ fn the_context_has_what_was_recorded(rt: HostRuntime) -> Result<(), Fail> {
 
 #[test]
 fn a_budget_is_set_anew(rt: HostRuntime) -> Result<(), Fail> {
-    let mut ctx = RefCtxt::new(RefInterner::new(rt.alloc()), 0)?;
+    let mut ctx = RefCtxt::new(RefInterner::new(rt.alloc()), true, 0)?;
     ctx.set_budget(3);
     assert!(rt; ctx.budget_left() == 3);
     Ok(())

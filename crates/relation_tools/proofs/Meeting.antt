@@ -1,6 +1,6 @@
 -- What a collection of components has met, as it goes over parts.
 use Rattle.std.proofs.Common.{◌≡◌, ◌<◌, ◌≤◌, ◌+◌, ◌-◌, ℕ, suc, Bool, true, false, cond, nat_lt, IsTrue, refl, sym, ap, subst, arith}
-use Rattle.std.proofs.Common.{List, [], Option, Some, None, option_map, Result, Ok, Err, OnOk}
+use Rattle.std.proofs.Common.{List, [], Option, Some, None, option_map, Result, Ok, Err, IsErr, OnOk}
 use Rattle.std.proofs.lemmas.Bool.{ltb-true, ltb-false}
 use Rattle.relation_terms.specs.Heads.{Sort}
 use Rattle.relation_terms.specs.Trees.{Tree, leaf, node, bind, nil, cons, known, size, count, nth, IsList, AreTerms}
@@ -21,10 +21,14 @@ use Rattle.relation_tools.specs.Collecting.{Settled, Meets, Keeps, kept_of, foun
 use Rattle.relation_tools.specs.declared.outlives.Component.{Component}
 use Rattle.relation_tools.proofs.Outliving.{meets_none, meets_kept, meets_after, settled_kept, adds_none}
 
--- What holds anyway, and what follows where there is a value.
+-- What holds anyway, what is asked of no fault, and what follows where there is a value.
 pub ok_any : {E P : Type 0} (r : Result (Unit {0}) E) → P → OnOk r P
 ok_any (Ok u) p = p
 ok_any (Err e) p = tt
+
+pub ok_never : {E : Type 0} (P : Type 0) (r : Result (Unit {0}) E) → IsErr r → OnOk r P
+ok_never P (Ok u) f = absurd (cc)
+ok_never P (Err e) f = tt
 
 pub ok_map : {E P Q : Type 0} (r : Result (Unit {0}) E) → (P → Q) → OnOk r P → OnOk r Q
 ok_map (Ok u) f p = f p

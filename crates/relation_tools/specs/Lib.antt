@@ -10,6 +10,7 @@ pub mod Clashes
 pub mod Outlines
 pub mod Pairs
 pub mod Instances
+pub mod Hashing
 pub mod HeadKeys
 pub mod Shifts
 pub mod KeyLaws

@@ -12,14 +12,15 @@ ghost use Rattle.relation_tools.specs.Outliving.{AddsSome, HasAll};
 
 mod chosen;
 mod collecting;
+mod met;
 
 use crate::outlives::collecting::{collect_alias_args, collect_part};
+use crate::outlives::met::none_met;
 use relation_terms::terms::{
     AliasTy, InferTy, Interner, Keys, OutOfMemory, ParamTy, Part, PlaceholderType, RegionKey, Ty,
 };
 use smallvec::SmallVec;
 use std::alloc::Global;
-use std::collections::HashSet;
 use std::default::MadeWith;
 
 /// What has to outlive a region for a type to outlive it, over keys, ids of items and names.
@@ -85,7 +86,7 @@ pub(crate) fn components_of<I: Interner>(
         HasAll (I.meaning cx.now) (components every ((I.meaning cx.now).ty ty.now)) list.items) }
 {
     let mut list = Vec::new(cx.alloc());
-    let mut visited = HashSet::new(cx.alloc());
+    let mut visited = none_met(cx);
     collect_part(cx, &Part::Ty(*ty), &mut list, &mut visited)?;
     Ok(list)
 }

@@ -17,6 +17,7 @@ use Rattle.type_relations.specs.Arguments.{args_head, AreOverItem, adts, functio
 use Rattle.type_relations.specs.Lawful.{State, Manners, MayAnswer, Passes, Refuses, Related, ExactlyRelated, items_in}
 use Rattle.type_relations.proofs.OneParts.{parts_equal}
 use Rattle.type_relations.proofs.PartSizes.{weight_parts_most}
+use Rattle.type_relations.proofs.Registered.{registered_in}
 use Rattle.type_relations.proofs.Passing.{passes_within, manner_then}
 use Rattle.type_relations.proofs.Fronts.{Fronted, AreParts, IsLookedAt, fronted_all, fronted_never, fronted_passes, fronted_apart, fronted_exactly}
 use Rattle.type_relations.proofs.Structural.{types_never}
@@ -69,7 +70,7 @@ module _ {Key Id Name : Type 0} {r q : State Key Id Name} (M : Manners) (v : Var
     verdict = record {
       outcome = record {
         later = ((f.passes).goes).later;
-        goals_in = (f.passes).goals_in;
+        goals_in = registered_in (f.passes).added (f.passes).goals_in;
         relates = λ w s sat all. forms is refl ((fronted_all h v i ts us are e (e ∙ n) f).relates w s sat all);
         keeps = λ w s sat z. (f.front).keeps w s sat (parts_equal (node h ts) (node h us) one_form s z);
       };

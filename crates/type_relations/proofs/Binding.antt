@@ -29,7 +29,7 @@ no_region int_var i e = i
 no_region float_var i e = i
 no_region region_var i e = i
 
-square_above : (W N M : ℕ) → M ≡ W + W → W + 1 ≤ N → M ≤ N * N
+pub square_above : (W N M : ℕ) → M ≡ W + W → W + 1 ≤ N → M ≤ N * N
 square_above W N M e h =
     let d : (W + 1) * (W + 1) ≤ N * N = mul-le-mul h h in
     let s : (W + 1) * (W + 1) ≡ W * W + W + W + 1 = grind arith in omega arith

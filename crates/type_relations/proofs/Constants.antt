@@ -57,13 +57,13 @@ AreConstantParts (row [] (Some p)) = IsConstantPart p
 AreConstantParts (row (p ∷ ps) r) = IsConstantPart p × AreConstantParts (row ps r)
 
 -- What is covariant in what is not bivariant is not, and what is invariant there is so.
-still : (v : Variance) → v ≢ Bivariant → xform v Covariant ≢ Bivariant
+pub still : (v : Variance) → v ≢ Bivariant → xform v Covariant ≢ Bivariant
 still Covariant n p = cc
 still Contravariant n p = cc
 still Invariant n p = cc
 still Bivariant n p = n p
 
-fixed : (v : Variance) → v ≢ Bivariant → xform v Invariant ≡ Invariant
+pub fixed : (v : Variance) → v ≢ Bivariant → xform v Invariant ≡ Invariant
 fixed Bivariant n = absurd (n refl)
 fixed v n = refl
 

@@ -17,6 +17,7 @@ pub mod Composing
 pub mod Opening
 pub mod Exactness
 pub mod Going
+pub mod Registered
 pub mod Passing
 pub mod Arguments
 pub mod Relatable
@@ -58,6 +59,10 @@ pub mod Binding
 pub mod Numbers
 pub mod Variables
 pub mod Exactly
+pub mod ConstErrors
 pub mod Shallowly
 pub mod NumberVars
+pub mod Turning
 pub mod Solving
+pub mod SolvingVariables
+pub mod SolvingGoals

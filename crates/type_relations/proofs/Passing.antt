@@ -18,7 +18,7 @@ use Rattle.type_relations.specs.declared.relate.Step.TheVariants.{Done, Parts}
 use Rattle.relation_tools.specs.Faults.{KnowsError}
 use Rattle.type_relations.specs.Errors.{ErrorOf}
 use Rattle.type_relations.specs.Stores.{Store, Satisfies, weight}
-use Rattle.type_relations.specs.Goals.{Goal, GoalInContext, Holds, Relates, Asked as Asks, asked, asks_too_much, asks_nothing, IsQuiet, AsksNoPair, HasOneTree, MakesOneTree}
+use Rattle.type_relations.specs.Goals.{Goal, GoalInContext, Registered, Holds, Relates, Asked as Asks, asked, asks_too_much, asks_nothing, IsQuiet, AsksNoPair, HasOneTree, MakesOneTree}
 use Rattle.type_relations.specs.Outcomes.{Outcome, CarriesOver, NeverOne, Exact, ExactStep}
 use Rattle.type_relations.specs.Headline.{IsFirstOrderPair}
 use Rattle.type_relations.specs.FirstOrder.{IsFirstOrderStore, IsErasedSolution}
@@ -28,8 +28,9 @@ use Rattle.type_relations.specs.Lawful.{State, Manner, Manners, Takes, MayAnswer
 use Rattle.type_relations.specs.Lawful.{ExactResult, ExactlyRelated}
 use Rattle.type_relations.proofs.Exactness.{exact_steps_compose}
 use Rattle.type_relations.specs.Lawful.{LeadsToParts, LeadsAgain, Noted, Turned, Stepped, OnlyMemory, WithMeaning, declared_by, items_of, items_in}
+use Rattle.type_relations.proofs.Registered.{registered_in, registered_both, registered_as}
 use Rattle.type_relations.proofs.Going.{goes_nowhere, goes_within, goes_then, le_grown, later_itself, later_through}
-use Rattle.type_relations.proofs.Composing.{steps_compose, goals_both, first_goals}
+use Rattle.type_relations.proofs.Composing.{steps_compose, first_goals}
 use Rattle.type_relations.proofs.Growing.{All_front}
 use Rattle.type_relations.proofs.Standing.{later_term}
 use Rattle.type_relations.proofs.Answering.{same_items, may_itself, may_later, if_ok_both}
@@ -70,7 +71,7 @@ module _ {Key Id Name : Type 0} where
     goes = goes_nowhere n r.store;
     added = [];
     lengthens = sym (append-nil r.goals);
-    goals_in = All-nil (GoalInContext r.store);
+    goals_in = All-nil (Registered r.environment r.store r.store);
     environment = refl;
     ambient = refl;
     settings = refl;
@@ -99,7 +100,7 @@ module _ {Key Id Name : Type 0} where
     goes = goes_then g.goes f.goes h;
     added = g.added ++ f.added;
     lengthens = f.lengthens ∙ ap (λ gs. gs ++ f.added) g.lengthens ∙ append_assoc r.goals g.added f.added;
-    goals_in = goals_both q.store p.store g.added f.added (f.goes).later g.goals_in f.goals_in;
+    goals_in = registered_both g.added f.added g.environment (g.goes).later (f.goes).later g.goals_in f.goals_in;
     environment = f.environment ∙ g.environment;
     ambient = f.ambient ∙ g.ambient;
     settings = f.settings ∙ g.settings;
@@ -299,8 +300,9 @@ module _ {Key Id Name : Type 0} where
     outcome : Outcome (items_in r) r.environment (at v) r.store p.store r.goals ((f.passes).added ++ (h.passes).added) a b
     outcome = record {
       later = later_through ((f.passes).goes).later ((h.passes).goes).later;
-      goals_in = goals_both q.store p.store (f.passes).added (h.passes).added ((h.passes).goes).later
-          (f.passes).goals_in (h.passes).goals_in;
+      goals_in = registered_in ((f.passes).added ++ (h.passes).added) (registered_both (f.passes).added (h.passes).added
+          (f.passes).environment ((f.passes).goes).later ((h.passes).goes).later (f.passes).goals_in
+          (h.passes).goals_in);
       relates = λ w s sat all. ((f.verdict).outcome).relates w s (((h.passes).goes).later.shrinks w s sat)
           (first_goals (Holds (items_in r) w s) r.goals (f.passes).added (h.passes).added all);
       keeps = λ w s sat one. let z = ((f.verdict).outcome).keeps w s sat one in (
@@ -349,7 +351,7 @@ module _ {Key Id Name : Type 0} where
       goes = subst₂ (λ s z. Goes (weight s a + weight s b) s z) there.store (sym back.store) f.goes;
       added = f.added;
       lengthens = back.goals ∙ f.lengthens ∙ ap (λ gs. gs ++ f.added) there.goals;
-      goals_in = subst (λ s. All (GoalInContext s) f.added) (sym back.store) f.goals_in;
+      goals_in = registered_as f.added there.environment there.store (sym back.store) f.goals_in;
       environment = back.environment ∙ f.environment ∙ there.environment;
       ambient = back.ambient;
       settings = back.settings ∙ f.settings ∙ there.settings;
@@ -436,7 +438,7 @@ module _ {Key Id Name : Type 0} where
     goes = subst (Goes n r.store) (sym w.store) g.goes;
     added = g.added;
     lengthens = w.goals ∙ g.lengthens;
-    goals_in = subst (λ s. All (GoalInContext s) g.added) (sym w.store) g.goals_in;
+    goals_in = registered_as g.added refl refl (sym w.store) g.goals_in;
     environment = w.environment ∙ g.environment;
     ambient = w.ambient ∙ g.ambient;
     settings = w.settings ∙ g.settings;

@@ -1,8 +1,9 @@
 -- Relating in a context, step by step.
 use Rattle.std.proofs.Common.{◌≡◌, ◌≢◌, ◌⊎◌, ℕ, ◌+◌, ◌*◌, ◌≤◌, refl, sym, ap, ◌∙◌, arith, inl, inr, subst, subst₂, [], All}
 use Rattle.std.proofs.Common.{IsTrue, Some, IfSome, ◌++◌, ◌<◌, max, min, length}
-use Rattle.std.proofs.Common.{Result, Ok, Err}
+use Rattle.std.proofs.Common.{Result, Ok, Err, List}
 use Rattle.std.proofs.lemmas.List.Elements.{All-nil}
+use Rattle.std.proofs.lemmas.List.{append-nil}
 use Rattle.relation_terms.specs.declared.terms.enums.Variance.{Variance}
 use Rattle.relation_terms.specs.declared.terms.enums.Variance.TheVariants.{Covariant, Contravariant, Invariant}
 use Rattle.relation_terms.specs.declared.terms.enums.Variance.TheVariants.{Bivariant}
@@ -13,8 +14,10 @@ use Rattle.relation_terms.specs.declared.terms.keys.TyKey.{TyKey}
 use Rattle.relation_terms.specs.declared.terms.keys.ConstKey.{ConstKey}
 use Rattle.relation_terms.specs.declared.terms.keys.RegionKey.{RegionKey}
 use Rattle.relation_terms.specs.declared.terms.keys.ParamEnvKey.{ParamEnvKey}
+use Rattle.relation_terms.specs.declared.terms.keys.PredicateKey.{PredicateKey}
+use Rattle.relation_terms.specs.declared.terms.goal.Goal.{Goal as KeyedGoal}
 use Rattle.relation_terms.specs.Variances.{xform}
-use Rattle.relation_terms.specs.Heads.{type_sort, region_sort, VarKind, type_var, region_var, const_var, int_var, float_var, atom, variable}
+use Rattle.relation_terms.specs.Heads.{type_sort, const_sort, region_sort, VarKind, type_var, region_var, const_var, int_var, float_var, atom, variable}
 use Rattle.relation_terms.specs.Heads.{bound, placeholder, unknown}
 use Rattle.relation_terms.specs.Trees.{Tree, leaf, node, bind, nil, cons, Assign, apply, Leaves, IsTerm, known, Occurs}
 use Rattle.relation_terms.specs.Erasure.{erase}
@@ -25,11 +28,12 @@ use Rattle.relation_tools.specs.declared.error.TypeError.TheVariants.{Sorts, Cyc
 use Rattle.relation_tools.specs.declared.error.RelateFault.{RelateFault}
 use Rattle.relation_tools.specs.declared.error.RelateFault.TheVariants.{Memory, Budget, Unrelated}
 use Rattle.relation_tools.specs.Faults.{KnowsError, KnowsFault}
+use Rattle.type_relations.specs.declared.relate.Step.{Step}
 use Rattle.type_relations.specs.declared.relate.Step.TheVariants.{Done, Parts, Again}
 use Rattle.type_relations.specs.Relation.{Interpretation, Rel, RegionRule, regions, at, same as same_rel}
 use Rattle.type_relations.specs.Stores.{Store, Constraint, entry_of, entry_term, bound_to, IsTermIn, IsRegionIn, IsSound, Satisfies}
 use Rattle.type_relations.specs.Stores.{IsMade, InContext, MayStandFor, IsIntegerTerm, IsFloatTerm, ConstraintHolds, weight, resolved}
-use Rattle.type_relations.specs.Goals.{GoalInContext, Holds, MakesOneTree}
+use Rattle.type_relations.specs.Goals.{goals_of, KnowsGoal, Registered, GoalInContext, Holds, MakesOneTree}
 use Rattle.type_relations.specs.Headline.{AnswersGoals, KeepsEqualTerms, IsFirstOrderPair}
 use Rattle.type_relations.specs.Steps.{AddsConstraint, Equates, BindsTo, Instantiates, InstantiatesNumber}
 use Rattle.type_relations.specs.Outcomes.{Outcome, StepsTo, CarriesOver, Exact, ExactStep, NoEqualTerms, NoUnifier}
@@ -40,7 +44,6 @@ use Rattle.type_relations.specs.ErasureLaws.{IsTypeOrConst}
 use Rattle.type_relations.specs.Parts.{IsFormedConst}
 use Rattle.type_relations.specs.FirstOrder.{IsFirstOrder, IsFirstOrderStore}
 use Rattle.type_relations.specs.Constraints.{constraint_at, constraint_of, asked_constraints}
-use Rattle.type_relations.specs.Taken.{IsFixedVariable, IsFixedLeaf, IsTakenLeaf, IsTaken}
 use Rattle.type_relations.specs.Covered.{IsCovered}
 use Rattle.type_relations.specs.Lawful.{Passes, Asked, Takes, Related, Stepped, Leads, LeadsAgain, items_of, State}
 use Rattle.type_relations.specs.Lawful.{Verdict, WithMeaning}
@@ -58,86 +61,23 @@ use Rattle.type_relations.proofs.Answering.{may_itself}
 use Rattle.type_relations.proofs.Roots.{roots_goes, roots_equal, roots_keep, roots_exactly, exact_turned}
 use Rattle.type_relations.proofs.Numbers.{IsNumber, number_goes, number_equal, number_keep, number_exactly, number_apart}
 use Rattle.type_relations.proofs.Numbers.{number_no_unifier, number_error, number_error_back}
-use Rattle.type_relations.specs.Solving.{solving, solver_settings, solver_manner}
+use Rattle.type_relations.specs.Solving.{KnowsGoals, solving, solver_settings, solver_manner}
+use Rattle.type_relations.proofs.Registered.{goals_stay, goals_known}
 use Rattle.type_relations.proofs.Exactly.{region_value, regions_exactly, read_pair, reading_exact}
 use Rattle.type_relations.proofs.Growing.{constraint_is_later, constraint_bound, constraint_weight}
 use Rattle.type_relations.specs.Contexts.{Context}
-use Rattle.type_relations.specs.ContextCalls.{BindsTerm, Instantiated, HasCoveredBindings, Knows, Constrains}
+use Rattle.type_relations.specs.ContextCalls.{HasCoveredBindings, Knows, Constrains}
 
--- A type or constant variable is taken at invariance alone.
-not_fixed : (k : VarKind) (n : ℕ) → IsTypeOrConst k → IsFixedLeaf (variable k n) → ⊥
-not_fixed type_var n c h = h
-not_fixed const_var n c h = h
-not_fixed k n c h = c
+-- What is covered is taken at each variance.
+pub all_taken : (v : Variance) (t : Tree) → IsCovered t → Takes (solver_manner solver_settings) v t
+all_taken v t c = (all_leaves _ (λ l. tt) t, c)
 
-pub taken_invariantly : (v : Variance) (k : VarKind) → IsTypeOrConst k → (n : ℕ) (t : Tree) → t ≡ leaf (variable k n) →
-    v ≢ Bivariant → Takes (solver_manner solver_settings) v t → v ≡ Invariant
-taken_invariantly Covariant k c n t e d h = absurd (not_fixed k n c (subst (Leaves IsFixedLeaf) e h.0))
-taken_invariantly Contravariant k c n t e d h = absurd (not_fixed k n c (subst (Leaves IsFixedLeaf) e h.0))
-taken_invariantly Invariant k c n t e d h = refl
-taken_invariantly Bivariant k c n t e d h = absurd (d refl)
-
--- So where such a variable is taken, and the variance decides something, it is invariance.
-pub variable_taken : (v : Variance) (k : VarKind) → IsTypeOrConst k → (n : ℕ) → v ≢ Bivariant →
-    IsTaken v (leaf (variable k n)) → v ≡ Invariant
-variable_taken v k c n d h = taken_invariantly v k c n (leaf (variable k n)) refl d h
-
--- What is taken is read as what is: a number variable as a type of its kind or another variable of it.
-integer_fixed : (t : Tree) → IsIntegerTerm t → Leaves IsFixedLeaf t
-integer_fixed (leaf (variable int_var n)) h = tt
-integer_fixed (leaf (atom x)) h = tt
-integer_fixed t h = absurd h
-
-float_fixed : (t : Tree) → IsFloatTerm t → Leaves IsFixedLeaf t
-float_fixed (leaf (variable float_var n)) h = tt
-float_fixed (leaf (atom x)) h = tt
-float_fixed t h = absurd h
-
-binding_fixed : (k : VarKind) (t : Tree) → IsFixedVariable k → (k ≡ region_var → ⊥) → MayStandFor k t →
-    Leaves IsFixedLeaf t
-binding_fixed int_var t f o h = integer_fixed t h
-binding_fixed float_var t f o h = float_fixed t h
-binding_fixed region_var t f o h = absurd (o refl)
-binding_fixed k t f o h = absurd f
-
-no_region_bound : (st : Store) → IsSound st → (k : VarKind) (n : ℕ) (t : Tree) → entry_of st k n ≡ bound_to t →
-    k ≡ region_var → ⊥
-no_region_bound st g k n t b q =
-    let h : entry_of st region_var n ≡ bound_to t = subst (λ j. entry_of st j n ≡ bound_to t) q b in
-    let i = g.regions_unbound n in cc
-
-read_fixed : (st : Store) → IsSound st → (a u : Tree) → IsReadAs st a u → Leaves IsFixedLeaf a → Leaves IsFixedLeaf u
-read_fixed st g a u (itself e) h = subst (Leaves IsFixedLeaf) e h
-read_fixed st g a u (by_class k n m e c r) h =
-    read_fixed st g (leaf (variable k m)) u r (subst (Leaves IsFixedLeaf) e h)
-read_fixed st g a u (by_binding {u = x} k n e b r) h = read_fixed st g x u r
-    (binding_fixed k x (subst (Leaves IsFixedLeaf) e h) (no_region_bound st g k n x b)
-    (g.bindings k n x (ap (entry_term k) b)).stands)
-
-read_leaves : (st : Store) → IsSound st → (v : Variance) (a u : Tree) → IsReadAs st a u → Leaves (IsTakenLeaf v) a →
-    Leaves (IsTakenLeaf v) u
-read_leaves st g Covariant a u r h = read_fixed st g a u r h
-read_leaves st g Contravariant a u r h = read_fixed st g a u r h
-read_leaves st g Invariant a u r h = all_leaves _ (λ l. tt) u
-read_leaves st g Bivariant a u r h = all_leaves _ (λ l. tt) u
-
-pub read_taken : (st : Store) → IsSound st → (v : Variance) (a u : Tree) → IsReadAs st a u →
-    (IsCovered a → IsCovered u) → Takes (solver_manner solver_settings) v a → Takes (solver_manner solver_settings) v u
-read_taken st g v a u r c h = (read_leaves st g v a u r h.0, c h.1)
-
--- At invariance all leaves may stand.
-pub all_taken : (t : Tree) → IsCovered t → Takes (solver_manner solver_settings) Invariant t
-all_taken t c = (all_leaves _ (λ l. tt) t, c)
-
--- So where a variance is seen from the other side.
-pub seen_back : (v w : Variance) → w ≡ xform v Contravariant → v ≡ Invariant → w ≡ Invariant
-seen_back v w e is = e ∙ ap (λ z. xform z Contravariant) is
-
-pub taken_back : (v w : Variance) → w ≡ xform v Contravariant → v ≡ Invariant → (t : Tree) → IsCovered t → IsTaken w t
-taken_back v w e is t c = subst (λ z. IsTaken z t) (sym (seen_back v w e is)) (all_taken t c)
-
-pub decides_back : (v w : Variance) → w ≡ xform v Contravariant → v ≡ Invariant → w ≢ Bivariant
-decides_back v w e is h = let z : Invariant ≡ Bivariant = sym (seen_back v w e is) ∙ h in cc
+-- Seen from the other side too the variance decides something.
+pub decides_back : (v w : Variance) → v ≢ Bivariant → w ≡ xform v Contravariant → w ≢ Bivariant
+decides_back Covariant w d e h = let z : Contravariant ≡ Bivariant = sym e ∙ h in cc
+decides_back Contravariant w d e h = let z : Covariant ≡ Bivariant = sym e ∙ h in cc
+decides_back Invariant w d e h = let z : Invariant ≡ Bivariant = sym e ∙ h in cc
+decides_back Bivariant w d e h = d refl
 
 -- What is read of what is covered is covered, where all that is bound is.
 pub read_covered : (st : Store) → HasCoveredBindings st → (a u : Tree) → IsReadAs st a u → IsCovered a → IsCovered u
@@ -150,6 +90,11 @@ module _ {Key Id Name : Type 0} {m n : Meaning Key Id Name} (e : m ≡ n) where
   pub ty_sorted : (t : TyKey Key) → (IsTrue (known (n.ty t)) → IsTerm type_sort (n.ty t)) → IsTrue (known (m.ty t)) →
       IsTerm type_sort (m.ty t)
   ty_sorted t f h = subst (λ z. IsTerm type_sort (z.ty t)) (sym e) (f (subst (λ z. IsTrue (known (z.ty t))) e h))
+
+  pub const_sorted : (t : ConstKey Key) → (IsTrue (known (n.const_ t)) → IsTerm const_sort (n.const_ t)) →
+      IsTrue (known (m.const_ t)) → IsTerm const_sort (m.const_ t)
+  const_sorted t f h =
+      subst (λ z. IsTerm const_sort (z.const_ t)) (sym e) (f (subst (λ z. IsTrue (known (z.const_ t))) e h))
 
   pub region_sorted : (t : RegionKey Key) → (IsTrue (known (n.region t)) → IsTerm region_sort (n.region t)) →
       IsTrue (known (m.region t)) → IsTerm region_sort (m.region t)
@@ -194,33 +139,33 @@ pub constrained_goes : {Key Id Name A F : Type 0} (c d : Context Key Id Name) (q
 constrained_goes c d q (Ok x) h = constraint_goes c.store d.store q h
 constrained_goes c d q (Err f) h = subst (Goes 0 c.store) (sym h) (goes_nowhere 0 c.store)
 
-module _ {Key Id Name : Type 0} (j : ℕ) where
+module _ {Key Id Name : Type 0} (j : ℕ) (gs : List (KeyedGoal Key (PredicateKey Key))) where
   -- Work that recorded something, and registered no goal.
   unfoldable pub solver_passes : {N : ℕ} {m n : Meaning Key Id Name} {was now : Store} {L K : Type 0} (v : Variance)
-      (e : ParamEnvKey Key) → Extends m n → IsTrue (known (m.param_env e)) → Goes N was now →
-      K → Passes N (solving j m was L v e) (solving j n now K v e)
-  solver_passes {n = n} {now = now} v e grown env goes l = record {
+      (e : ParamEnvKey Key) → Extends m n → KnowsGoals m e gs → Goes N was now →
+      K → Passes N (solving j gs m was L v e) (solving j gs n now K v e)
+  solver_passes {m = m} {n = n} {was = was} {now = now} v e grown env goes l = record {
     extends = grown;
     goes = goes;
     added = [];
-    lengthens = refl;
-    goals_in = All-nil (GoalInContext now);
-    environment = grown.param_env e env;
+    lengthens = goals_stay grown gs env.1 ∙ sym (append-nil (goals_of m gs));
+    goals_in = All-nil (Registered (m.param_env e) was now);
+    environment = grown.param_env e env.0;
     ambient = refl;
     settings = refl;
     reference = refl;
-    lawful = λ k. (l, subst (λ t. IsTrue (known t)) (sym (grown.param_env e env)) k.1);
+    lawful = λ k. (l, (subst (λ t. IsTrue (known t)) (sym (grown.param_env e env.0)) env.0, goals_known grown gs env.1));
   }
 
   -- A context that did no more than note that something was done.
   module _ (X : Type 0) (m n : Meaning Key Id Name) (was now : Store) (L K : Type 0) (v : Variance) (e : ParamEnvKey Key)
-      (env : IsTrue (known (m.param_env e))) (same : n ≡ m) (l : K) (a b : Tree) where
+      (env : KnowsGoals m e gs) (same : n ≡ m) (l : K) (a b : Tree) where
     -- Memory ran out.
     pub memory_refused : (tree : X → Tree) (r : Result X (RelateFault Key Id Name)) → r ≡ Err Memory →
-        Goes 0 was now → Related solver_manner (solving j m was L v e)
-        (solving j n now K v e) v a b tree r
-    memory_refused tree r is goes = subst₂ (λ n r. Related solver_manner (solving j m was L v e)
-        (solving j n now K v e) v a b tree r)
+        Goes 0 was now → Related solver_manner (solving j gs m was L v e)
+        (solving j gs n now K v e) v a b tree r
+    memory_refused tree r is goes = subst₂ (λ n r. Related solver_manner (solving j gs m was L v e)
+        (solving j gs n now K v e) v a b tree r)
         (sym same) (sym is)
         (record {
           passes = solver_passes v e (stays_same m) env (goes_within (omega arith) goes) l;
@@ -243,7 +188,7 @@ module _ {Key Id Name : Type 0} (j : ℕ) where
         ConstraintHolds w s (constraint_of m c)
     met w s h = subst (λ o. IfSome o (λ c. ConstraintHolds w s (constraint_of m c))) is (asked_met m a b w s v h)
 
-    outcome : Outcome (items_of m) (m.param_env e) (at v) was now [] [] (m.region a)
+    outcome : Outcome (items_of m) (m.param_env e) (at v) was now (goals_of m gs) [] (m.region a)
         (m.region b)
     outcome = record {
       later = goes.later;
@@ -263,18 +208,18 @@ module _ {Key Id Name : Type 0} (j : ℕ) where
     }
 
     pub regions_related : (n : Meaning Key Id Name) (k : RegionKey Key) → n ≡ m → k ≡ a → K →
-        IsTrue (known (m.param_env e)) → IsTrue (known (m.region a)) →
-        Related solver_manner (solving j m was L v e) (solving j n now K v e) v (m.region a) (m.region b) n.region (Ok k)
+        KnowsGoals m e gs → IsTrue (known (m.region a)) →
+        Related solver_manner (solving j gs m was L v e) (solving j gs n now K v e) v (m.region a) (m.region b) n.region (Ok k)
     unfolding solver_passes
     regions_related n k same is l env sure = subst₂
-        (λ n k. Related solver_manner (solving j m was L v e) (solving j n now K v e) v
+        (λ n k. Related solver_manner (solving j gs m was L v e) (solving j gs n now K v e) v
         (m.region a) (m.region b) n.region (Ok k)) (sym same) (sym is) answer
       where
-        answer : Related solver_manner (solving j m was L v e) (solving j m now K v e) v (m.region a)
+        answer : Related solver_manner (solving j gs m was L v e) (solving j gs m now K v e) v (m.region a)
             (m.region b) m.region (Ok a)
         answer = record {
           passes = solver_passes v e (stays_same m) env (goes_within (omega arith) goes) l;
-          verdict = record { outcome = outcome; answer = may_itself solver_manner (solving j m now K v e) v (m.region a); known = sure };
+          verdict = record { outcome = outcome; answer = may_itself solver_manner (solving j gs m now K v e) v (m.region a); known = sure };
           exact = λ k is pair. regions_exactly was now (m.region a) (m.region b) left right goes.later
               added.same_entries added.same_universes pair.bindings;
         }
@@ -284,9 +229,9 @@ module _ {Key Id Name : Type 0} (j : ℕ) where
       (a b : RegionKey Key) → v ≢ Bivariant → IsRegionIn was (m.region a) →
       IsRegionIn was (m.region b) → Goes 0 was now →
       IfSome (constraint_at v a b) (λ c. AddsConstraint was now (constraint_of m c)) →
-      (n : Meaning Key Id Name) (k : RegionKey Key) → n ≡ m → k ≡ a → K → IsTrue (known (m.param_env e)) →
+      (n : Meaning Key Id Name) (k : RegionKey Key) → n ≡ m → k ≡ a → K → KnowsGoals m e gs →
       IsTrue (known (m.region a)) →
-      Related solver_manner (solving j m was L v e) (solving j n now K v e) v (m.region a) (m.region b) n.region (Ok k)
+      Related solver_manner (solving j gs m was L v e) (solving j gs n now K v e) v (m.region a) (m.region b) n.region (Ok k)
   regions_recorded m was now L K Covariant e a b d left right goes added =
       regions_related m was now L K Covariant e a b (Outlives (record { 0 = Lifetime a; 1 = b })) refl left right goes added
   regions_recorded m was now L K Contravariant e a b d left right goes added =
@@ -298,24 +243,24 @@ module _ {Key Id Name : Type 0} (j : ℕ) where
   -- A step that answers.
   pub answered_step : {X : Type 0} (F : Tree → Type 0) (m n : Meaning Key Id Name) (was now : Store) (L K : Type 0)
       (v : Variance) (e : ParamEnvKey Key) (a b : Tree) (tree : X → Tree) (t : X) →
-      Related solver_manner (solving j m was L v e) (solving j n now K v e) v a b tree (Ok t) →
-      Stepped solver_manner F (solving j m was L v e) (solving j n now K v e) a b tree (Ok (Done t))
+      Related solver_manner (solving j gs m was L v e) (solving j gs n now K v e) v a b tree (Ok t) →
+      Stepped solver_manner F (solving j gs m was L v e) (solving j gs n now K v e) a b tree (Ok (Done t))
   answered_step F m n was now L K v e a b tree t h =
       record { passes = h.passes; verdict = h.verdict; exact = h.exact }
 
   -- Two terms were made one, and one of them is the answer.
   pub one_step : {X : Type 0} (F : Tree → Type 0) (m n : Meaning Key Id Name) (was now : Store) (L K : Type 0) (v : Variance)
-      (e : ParamEnvKey Key) (a b : Tree) (tree : X → Tree) (t : X) → n ≡ m → IsTrue (known (m.param_env e)) →
+      (e : ParamEnvKey Key) (a b : Tree) (tree : X → Tree) (t : X) → n ≡ m → KnowsGoals m e gs →
       Goes (weight was a + weight was b) was now → K →
       ((w : Interpretation) (s : Assign) → Satisfies w now s → apply s a ≡ apply s b) →
       ((w : Interpretation) (s : Assign) → Satisfies w was s → apply s a ≡ apply s b →
       Satisfies w now s) →
       (IsFirstOrderStore was → IsFirstOrderStore now × Exact was now a b) →
       (tree t ≡ a) ⊎ (tree t ≡ b) → IsTrue (known (tree t)) →
-      Stepped solver_manner F (solving j m was L v e) (solving j n now K v e) a b tree (Ok (Done t))
+      Stepped solver_manner F (solving j gs m was L v e) (solving j gs n now K v e) a b tree (Ok (Done t))
   unfolding solver_passes
   one_step {X} F m n was now L K v e a b tree t same env goes l equal keep exactly answer sure =
-      subst (λ n. Stepped solver_manner F (solving j m was L v e) (solving j n now K v e) a b tree (Ok (Done t))) (sym same)
+      subst (λ n. Stepped solver_manner F (solving j gs m was L v e) (solving j gs n now K v e) a b tree (Ok (Done t))) (sym same)
       (answered_step F m m was now L K v e a b tree t related)
     where
       answers : (tree t ≡ a) ⊎ (tree t ≡ b) → (w : Interpretation) (s : Assign) → Satisfies w now s →
@@ -323,7 +268,7 @@ module _ {Key Id Name : Type 0} (j : ℕ) where
       answers (inl p) w s sat = ap (apply s) (sym p)
       answers (inr p) w s sat = equal w s sat ∙ ap (apply s) (sym p)
 
-      related : Related solver_manner (solving j m was L v e) (solving j m now K v e) v a b tree (Ok t)
+      related : Related solver_manner (solving j gs m was L v e) (solving j gs m now K v e) v a b tree (Ok t)
       related = record {
         passes = solver_passes v e (stays_same m) env goes l;
         verdict = record {
@@ -342,12 +287,12 @@ module _ {Key Id Name : Type 0} (j : ℕ) where
   -- Nothing was recorded, and an error tells two terms apart.
   pub unrelated_step : {X : Type 0} (F : Tree → Type 0) (m n : Meaning Key Id Name) (was now : Store) (L K : Type 0)
       (v : Variance) (e : ParamEnvKey Key) (a b : Tree) (tree : X → Tree) (f : RelateFault Key Id Name)
-      (g : TypeError Key Id Name) → n ≡ m → now ≡ was → IsTrue (known (m.param_env e)) → K → f ≡ Unrelated g →
+      (g : TypeError Key Id Name) → n ≡ m → now ≡ was → KnowsGoals m e gs → K → f ≡ Unrelated g →
       NoEqualTerms was a b → NoUnifier was a b → ErrorOf m (items_of m) was v g a b → KnowsError m g →
-      Stepped solver_manner F (solving j m was L v e) (solving j n now K v e) a b tree (Err f)
+      Stepped solver_manner F (solving j gs m was L v e) (solving j gs n now K v e) a b tree (Err f)
   unrelated_step {X} F m n was now L K v e a b tree f g same stays env l is apart no_unifier error sure =
-      subst₂ (λ n now. Stepped solver_manner F (solving j m was L v e) (solving j n now K v e) a b tree (Err f)) (sym same)
-      (sym stays) (subst (λ f. Stepped solver_manner F (solving j m was L v e) (solving j m was K v e) a b tree (Err f))
+      subst₂ (λ n now. Stepped solver_manner F (solving j gs m was L v e) (solving j gs n now K v e) a b tree (Err f)) (sym same)
+      (sym stays) (subst (λ f. Stepped solver_manner F (solving j gs m was L v e) (solving j gs m was K v e) a b tree (Err f))
       (sym is) (record {
         passes = solver_passes v e (stays_same m) env (goes_nowhere _ was) l;
         verdict = (apart, error, sure);
@@ -357,10 +302,10 @@ module _ {Key Id Name : Type 0} (j : ℕ) where
   -- Two roots of a kind were made one.
   pub roots_step : {X : Type 0} (F : Tree → Type 0) (m n : Meaning Key Id Name) (was now : Store) (L K : Type 0) (v : Variance)
       (e : ParamEnvKey Key) (k : VarKind) → k ≢ region_var → (i l : ℕ) (a b : Tree) (tree : X → Tree) (t : X) → n ≡ m →
-      IsTrue (known (m.param_env e)) → IsSound was → K → (i ≡ l → now ≡ was) →
+      KnowsGoals m e gs → IsSound was → K → (i ≡ l → now ≡ was) →
       ((i ≡ l → ⊥) → Equates was now k (max i l) (min i l)) → a ≡ leaf (variable k i) →
       b ≡ leaf (variable k l) → tree t ≡ a →
-      Stepped solver_manner F (solving j m was L v e) (solving j n now K v e) a b tree (Ok (Done t))
+      Stepped solver_manner F (solving j gs m was L v e) (solving j gs n now K v e) a b tree (Ok (Done t))
   roots_step F m n was now L K v e k o i l a b tree t same env sound after still equates p q answer =
       one_step F m n was now L K v e a b tree t same env (roots_goes was now k o i l sound still equates _) after
       (λ w s sat. ap (apply s) p ∙ roots_equal was now k o i l sound still equates w s sat ∙ sym (ap (apply s) q))
@@ -373,9 +318,9 @@ module _ {Key Id Name : Type 0} (j : ℕ) where
   -- A root of a number variable was bound to the other side, a type of its kind.
   pub number_step : {X : Type 0} (F : Tree → Type 0) (m n : Meaning Key Id Name) (was now : Store) (L K : Type 0) (v : Variance)
       (e : ParamEnvKey Key) (k : VarKind) (i : ℕ) (a b : Tree) (tree : X → Tree) (t : X) → n ≡ m →
-      IsTrue (known (m.param_env e)) → IsSound was → K →
+      KnowsGoals m e gs → IsSound was → K →
       InstantiatesNumber was now k i b → a ≡ leaf (variable k i) → tree t ≡ b →
-      IsTrue (known b) → Stepped solver_manner F (solving j m was L v e) (solving j n now K v e) a b tree (Ok (Done t))
+      IsTrue (known b) → Stepped solver_manner F (solving j gs m was L v e) (solving j gs n now K v e) a b tree (Ok (Done t))
   number_step F m n was now L K v e k i a b tree t same env sound after h p answer sure =
       one_step F m n was now L K v e a b tree t same env (number_goes was now k i b h sound _) after
       (λ w s sat. ap (apply s) p ∙ number_equal was now k i b h sound w s sat)
@@ -386,9 +331,9 @@ module _ {Key Id Name : Type 0} (j : ℕ) where
 
   pub number_step_back : {X : Type 0} (F : Tree → Type 0) (m n : Meaning Key Id Name) (was now : Store) (L K : Type 0)
       (v : Variance) (e : ParamEnvKey Key) (k : VarKind) (i : ℕ) (a b : Tree) (tree : X → Tree) (t : X) → n ≡ m →
-      IsTrue (known (m.param_env e)) → IsSound was → K →
+      KnowsGoals m e gs → IsSound was → K →
       InstantiatesNumber was now k i a → b ≡ leaf (variable k i) → tree t ≡ a →
-      IsTrue (known a) → Stepped solver_manner F (solving j m was L v e) (solving j n now K v e) a b tree (Ok (Done t))
+      IsTrue (known a) → Stepped solver_manner F (solving j gs m was L v e) (solving j gs n now K v e) a b tree (Ok (Done t))
   number_step_back F m n was now L K v e k i a b tree t same env sound after h p answer sure =
       one_step F m n was now L K v e a b tree t same env (number_goes was now k i a h sound _) after
       (λ w s sat. sym (ap (apply s) p ∙ number_equal was now k i a h sound w s sat))
@@ -404,13 +349,13 @@ module _ {Key Id Name : Type 0} (j : ℕ) where
   -- Or the other side is a type that may not stand for it.
   module _ {X : Type 0} (F : Tree → Type 0) (m n : Meaning Key Id Name) (was now : Store) (L K : Type 0) (v : Variance)
       (decides : v ≢ Bivariant) (e : ParamEnvKey Key) (p q : TyKey Key) (tree : X → Tree)
-      (f : RelateFault Key Id Name) (same : n ≡ m) (stays : now ≡ was) (env : IsTrue (known (m.param_env e))) (l : K)
+      (f : RelateFault Key Id Name) (same : n ≡ m) (stays : now ≡ was) (env : KnowsGoals m e gs) (l : K)
       (is : f ≡ Unrelated (Sorts (record { expected = p; found = q }))) (k : VarKind) (number : IsNumber k) (i : ℕ)
       (made : IsMade was k i) (p_known : IsTrue (known (m.ty p))) (q_known : IsTrue (known (m.ty q))) where
     pub left_unlike : m.ty p ≡ leaf (variable k i) → IsTerm type_sort (m.ty q) → IsCovered (m.ty q) →
         ((l : ℕ) → m.ty q ≢ leaf (variable type_var l)) → InContext was (m.ty q) →
         (MayStandFor k (m.ty q) → ⊥) →
-        Stepped solver_manner F (solving j m was L v e) (solving j n now K v e) (m.ty p) (m.ty q) tree (Err f)
+        Stepped solver_manner F (solving j gs m was L v e) (solving j gs n now K v e) (m.ty p) (m.ty q) tree (Err f)
     left_unlike h s c o g d = unrelated_step F m n was now L K v e (m.ty p) (m.ty q) tree f
         (Sorts (record { expected = p; found = q })) same stays env l is
         (subst (λ z. NoEqualTerms was z (m.ty q)) (sym h)
@@ -423,7 +368,7 @@ module _ {Key Id Name : Type 0} (j : ℕ) where
     pub right_unlike : m.ty q ≡ leaf (variable k i) → IsTerm type_sort (m.ty p) → IsCovered (m.ty p) →
         ((l : ℕ) → m.ty p ≢ leaf (variable type_var l)) → InContext was (m.ty p) →
         (MayStandFor k (m.ty p) → ⊥) →
-        Stepped solver_manner F (solving j m was L v e) (solving j n now K v e) (m.ty p) (m.ty q) tree (Err f)
+        Stepped solver_manner F (solving j gs m was L v e) (solving j gs n now K v e) (m.ty p) (m.ty q) tree (Err f)
     right_unlike h s c o g d = unrelated_step F m n was now L K v e (m.ty p) (m.ty q) tree f
         (Sorts (record { expected = p; found = q })) same stays env l is
         (λ w s' sat one. number_apart was k number i made (m.ty p) s c o g d w s' sat
@@ -437,11 +382,11 @@ module _ {Key Id Name : Type 0} (j : ℕ) where
   pub parts_step : (m : Meaning Key Id Name) (was : Store) (L : Type 0) (v : Variance) (e : ParamEnvKey Key)
       {X : Type 0} (F : Tree → Type 0) (a b : Tree) (tree : X → Tree) (t u : X) → IsSound was →
       IsReadAs was a (tree t) → IsReadAs was b (tree u) →
-      Asked solver_manner (solving j m was L v e) v (tree t) (tree u) → F (tree t) → F (tree u) →
-      Stepped solver_manner F (solving j m was L v e) (solving j m was L v e) a b tree (Ok (Parts t u))
+      Asked solver_manner (solving j gs m was L v e) v (tree t) (tree u) → F (tree t) → F (tree u) →
+      Stepped solver_manner F (solving j gs m was L v e) (solving j gs m was L v e) a b tree (Ok (Parts t u))
   unfolding passes_nowhere
   parts_step m was L v e F a b tree t u g p q k f h = record {
-    passes = passes_nowhere _ (solving j m was L v e);
+    passes = passes_nowhere _ (solving j gs m was L v e);
     verdict = record {
       leads = record {
         steps = record {
@@ -481,239 +426,38 @@ module _ {Key Id Name : Type 0} (j : ℕ) where
     );
   }
 
-  -- A variable was bound to what a term comes to.
-  module _ (k : VarKind) (counted : IsTypeOrConst k) (c d : Context Key Id Name) (grown : Extends c.meaning d.meaning)
-      (e : ParamEnvKey Key) (env : IsTrue (known ((c.meaning).param_env e))) (before : IsSound c.store) (after : d.lawful)
-      (all : HasCoveredBindings d.store) (target : ℕ) (t u : Tree) (covered : IsCovered t) (t_in : IsTermIn c.store t)
-      (t_known : IsTrue (known t)) (bound : BindsTerm c d Invariant k target t u) where
-    abbrev was : Store
-    was = c.store
-
-    abbrev now : Store
-    now = d.store
-
-    abbrev root : Tree
-    root = leaf (variable k target)
-
-    abbrev steps : Instantiates was now Invariant k target t u
-    steps = bound.binds
-
-    u_in : IsTermIn now u
-    u_in = steps.term_in
-
-    u_covered : IsCovered u
-    u_covered = all k target u steps.now_bound
-
-    later : (z : Tree) → IsTermIn was z → IsTermIn now z
-    later z h = later_term was now (steps.later).grows (steps.later).universe_stands z h
-
-    root_in : IsTermIn now root
-    root_in = later root (term_of_made was k target steps.made)
-
-    root_reads : IsReadAs now root u
-    root_reads = by_binding k target refl steps.now_bound (itself refl)
-
-    root_weight : weight was root ≡ 1
-    root_weight = resolved_weight was k target (ap (entry_term k) steps.was_unbound)
-
-    root_value : (w : Interpretation) (s : Assign) → Satisfies w now s → apply s root ≡ apply s u
-    root_value w s sat = sat.bindings k target u (ap (entry_term k) steps.now_bound)
-
-    asked_now : (a b : Tree) → IsTrue (known a) → IsTrue (known b) → IsTermIn now a → IsTermIn now b → IsCovered a →
-        IsCovered b → Asked solver_manner (solving j d.meaning now d.lawful Invariant e) Invariant a b
-    asked_now a b k l h i c d = record {
-      left_known = k;
-      right_known = l;
-      left_in = h;
-      right_in = i;
-      left_taken = all_taken a c;
-      right_taken = all_taken b d;
-    }
-
-    left_above : weight was t < weight was root + weight was t
-    left_above = let h = root_weight in omega (arith, h)
-
-    right_above : weight was t < weight was t + weight was root
-    right_above = let h = root_weight in omega (arith, h)
-
-    both : StepsTo (items_of c.meaning) ((c.meaning).param_env e) was now [] [] (at Invariant) root t (at Invariant) u t ×
-        StepsTo (items_of c.meaning) ((c.meaning).param_env e) was now [] [] (at Invariant) t root (at Invariant) t u
-    both = instantiating_steps (items_of c.meaning) ((c.meaning).param_env e) Invariant Invariant was now [] k target t u
-        (term_context was t t_in) steps
-
-    abbrev r : State Key Id Name
-    r = solving j c.meaning was c.lawful Invariant e
-
-    abbrev q : State Key Id Name
-    q = solving j d.meaning now d.lawful Invariant e
-
-    left_leads : Leads r q [] root t Invariant u t
-    left_leads = record {
-      steps = both.0;
-      errors = λ i c st f l o. of_entries (read_later now st l root u root_reads) (itself refl) o;
-    }
-
-    right_leads : Leads r q [] t root Invariant t u
-    right_leads = record {
-      steps = both.1;
-      errors = λ i c st f l o. of_entries (itself refl) (read_later now st l root u root_reads) o;
-    }
-
-    exactly : ExactStep was now root t u t × ExactStep was now t root t u
-    exactly = instantiating_is_exact_step Invariant was now k target t u (λ j i z e. (before.bindings j i z e).made)
-        (term_context was t t_in) steps
-
-    pair_left : IsFirstOrderStore was → IsFirstOrder t → IsFirstOrderPair now u t
-    pair_left f h = let stays = bound.first_order refl h f in record {
-      left = stays k target u (ap (entry_term k) steps.now_bound);
-      right = h;
-      bindings = stays;
-    }
-
-    abbrev Answers : Tree → Tree → Tree → Tree → Type 0
-    Answers x y a an = CarriesOver (items_of d.meaning) ((d.meaning).param_env e) now [] (at Invariant) x y
-        (at Invariant) a an
-
-    left_again : (v : Variance) (an : Tree) → IsTrue (known an) → Answers u t root an →
-        LeadsAgain solver_manner r q [] root t root t v u t an
-    left_again v an sure answers = record {
-      leads = left_leads;
-      read_leads = left_leads;
-      read_asked = asked_now root t refl t_known root_in (later t t_in) tt covered;
-      asked = asked_now u t bound.sure t_known u_in (later t t_in) u_covered covered;
-      answers = answers;
-      left = λ k. absurd k;
-      answer_known = sure;
-      falls = steps.one_spent;
-      not_larger = bound.squares (weight was root + weight was t) left_above;
-    }
-
-    right_again : (v : Variance) (an : Tree) → IsTrue (known an) → Answers t u t an →
-        LeadsAgain solver_manner r q [] t root t root v t u an
-    right_again v an sure answers = record {
-      leads = right_leads;
-      read_leads = right_leads;
-      read_asked = asked_now t root t_known refl (later t t_in) root_in covered tt;
-      asked = asked_now t u t_known bound.sure (later t t_in) u_in covered u_covered;
-      answers = answers;
-      left = λ k. absurd k;
-      answer_known = sure;
-      falls = steps.one_spent;
-      not_larger = let i = bound.squares (weight was t + weight was root) right_above in omega (arith, i);
-    }
-
-    module _ {X : Type 0} (F : Tree → Type 0) (v : Variance) (is : v ≡ Invariant) (y z i l a : X) (b : Variance)
-        (tree : X → Tree) where
-      sure : (tree a ≡ root) ⊎ (tree a ≡ t) → IsTrue (known (tree a))
-      sure (inl h) = subst (λ x. IsTrue (known x)) (sym h) refl
-      sure (inr h) = subst (λ x. IsTrue (known x)) (sym h) t_known
-
-      to_root : (tree a ≡ root) ⊎ (tree a ≡ t) → Answers u t root (tree a)
-      to_root (inl h) w s sat holds f = same_rel (ap (apply s) (sym h))
-      to_root (inr h) w s sat holds f = subst₂ (Rel (items_of d.meaning) w ((d.meaning).param_env e) (at Invariant))
-          (sym (root_value w s sat)) (ap (apply s) (sym h)) f
-
-      to_term : (tree a ≡ root) ⊎ (tree a ≡ t) → Answers t u t (tree a)
-      to_term (inl h) w s sat holds f = subst (Rel (items_of d.meaning) w ((d.meaning).param_env e) (at Invariant)
-          (apply s t)) (sym (root_value w s sat) ∙ ap (apply s) (sym h)) f
-      to_term (inr h) w s sat holds f = same_rel (ap (apply s) (sym h))
-
-      -- The variable stood on the left.
-      pub left_step : tree y ≡ root → tree z ≡ t → tree i ≡ u → tree l ≡ t → (tree a ≡ root) ⊎ (tree a ≡ t) →
-          Stepped solver_manner F (solving j c.meaning was c.lawful v e) (solving j d.meaning now d.lawful v e) root t
-          tree (Ok (Again y z i l b a))
-      unfolding solver_passes
-      left_step ey ez ei el ea = subst (λ v. Stepped solver_manner F (solving j c.meaning was c.lawful v e)
-          (solving j d.meaning now d.lawful v e) root t tree (Ok (Again y z i l b a))) (sym is) (record {
-            passes = solver_passes Invariant e grown env (bound.goes (weight was root + weight was t) left_above) after;
-            verdict = subst₂ (λ f g. LeadsAgain solver_manner r q [] root t f g b (tree i) (tree l) (tree a)) (sym ey)
-                (sym ez) (subst₂ (λ f g. LeadsAgain solver_manner r q [] root t root t b f g (tree a)) (sym ei) (sym el)
-                (left_again b (tree a) (sure ea) (to_root ea)));
-            exact = λ o same pair. subst₂ (λ f g. IsFirstOrderPair now f g × ExactStep was now root t f g) (sym ei)
-                (sym el) (pair_left pair.bindings pair.right, exactly.0);
-          })
-
-      -- It stood on the right.
-      pub right_step : tree y ≡ t → tree z ≡ root → tree i ≡ t → tree l ≡ u → (tree a ≡ root) ⊎ (tree a ≡ t) →
-          Stepped solver_manner F (solving j c.meaning was c.lawful v e) (solving j d.meaning now d.lawful v e) t root
-          tree (Ok (Again y z i l b a))
-      unfolding solver_passes
-      right_step ey ez ei el ea = subst (λ v. Stepped solver_manner F (solving j c.meaning was c.lawful v e)
-          (solving j d.meaning now d.lawful v e) t root tree (Ok (Again y z i l b a))) (sym is) (record {
-            passes = solver_passes Invariant e grown env (bound.goes (weight was t + weight was root) right_above) after;
-            verdict = subst₂ (λ f g. LeadsAgain solver_manner r q [] t root f g b (tree i) (tree l) (tree a)) (sym ey)
-                (sym ez) (subst₂ (λ f g. LeadsAgain solver_manner r q [] t root t root b f g (tree a)) (sym ei) (sym el)
-                (right_again b (tree a) (sure ea) (to_term ea)));
-            exact = λ o same pair. subst₂ (λ f g. IsFirstOrderPair now f g × ExactStep was now t root f g) (sym ei)
-                (sym el) (turned (pair_left pair.bindings pair.left), exactly.1);
-          })
-        where
-          turned : IsFirstOrderPair now u t → IsFirstOrderPair now t u
-          turned f = record { left = f.right; right = f.left; bindings = f.bindings }
-
-  -- Nothing was bound.
-  module _ {X : Type 0} (F : Tree → Type 0) (c d : Context Key Id Name) (grown : Extends c.meaning d.meaning)
-      (v : Variance) (decides : v ≢ Bivariant) (e : ParamEnvKey Key) (env : IsTrue (known ((c.meaning).param_env e)))
-      (after : d.lawful) (k : VarKind) (target : ℕ) (t : Tree) (means : Meaning Key Id Name → X → Tree) (x : Variance)
-      (still : v ≡ Invariant → x ≡ Invariant) (tree : X → Tree) where
-    nothing : (f : RelateFault Key Id Name) → Instantiated c d x k target t means (Err f) → d.store ≡ c.store
-    nothing (Unrelated g) h = h.3
-    nothing Budget h = h.1
-    nothing Memory h = h
-
-    passes : (N : ℕ) (f : RelateFault Key Id Name) → Instantiated c d x k target t means (Err f) →
-        Passes N (solving j c.meaning c.store c.lawful v e) (solving j d.meaning d.store d.lawful v e)
-    passes N f h = solver_passes v e grown env
-        (subst (Goes N c.store) (sym (nothing f h)) (goes_nowhere N c.store)) after
-
-    pub left_refused : (f : RelateFault Key Id Name) → Instantiated c d x k target t means (Err f) →
-        Stepped solver_manner F (solving j c.meaning c.store c.lawful v e) (solving j d.meaning d.store d.lawful v e)
-        (leaf (variable k target)) t tree (Err f)
-    left_refused (Unrelated g) h = record {
-      passes = passes _ (Unrelated g) h;
-      verdict = ((h.2).apart, of_binding decides h.1, h.0);
-      exact = λ o is pair. (h.2).apart_erased (still is) pair.right pair.bindings;
-    }
-    left_refused Budget h = record {
-      passes = passes _ Budget h;
-      verdict = ap (λ st. st.budget) h.1 ∙ h.0;
-      exact = λ o is pair. tt;
-    }
-    left_refused Memory h = record { passes = passes _ Memory h; verdict = tt; exact = λ o is pair. tt }
-
-    pub right_refused : (f : RelateFault Key Id Name) → Instantiated c d x k target t means (Err f) →
-        Stepped solver_manner F (solving j c.meaning c.store c.lawful v e) (solving j d.meaning d.store d.lawful v e)
-        t (leaf (variable k target)) tree (Err f)
-    right_refused (Unrelated g) h = record {
-      passes = passes _ (Unrelated g) h;
-      verdict = ((λ w s sat one. (h.2).apart w s sat (sym one)), of_binding_back decides h.1, h.0);
-      exact = λ o is pair. λ s sol one. (h.2).apart_erased (still is) pair.left pair.bindings s sol (sym one);
-    }
-    right_refused Budget h = record {
-      passes = passes _ Budget h;
-      verdict = ap (λ st. st.budget) h.1 ∙ h.0;
-      exact = λ o is pair. tt;
-    }
-    right_refused Memory h = record { passes = passes _ Memory h; verdict = tt; exact = λ o is pair. tt }
+  -- Memory ran out in a step, where the interner may know more.
+  pub memory_step : {X : Type 0} (F : Tree → Type 0) (m n : Meaning Key Id Name) (was now : Store) (L K : Type 0)
+      (v : Variance) (e : ParamEnvKey Key) (a b : Tree) (tree : X → Tree)
+      (result : Result (Step X) (RelateFault Key Id Name)) → Extends m n → KnowsGoals m e gs → now ≡ was → K →
+      result ≡ Err Memory →
+      Stepped solver_manner F (solving j gs m was L v e) (solving j gs n now K v e) a b tree result
+  memory_step F m n was now L K v e a b tree result grown env stays l is =
+      subst₂ (λ now r. Stepped solver_manner F (solving j gs m was L v e) (solving j gs n now K v e) a b tree r) (sym stays)
+      (sym is) (record {
+        passes = solver_passes v e grown env (goes_nowhere _ was) l;
+        verdict = tt;
+        exact = λ k is pair. tt;
+      })
 
   -- What a relation leaves as it was need not be named, nor the reference that it held.
-  module _ {X : Type 0} (m n : Meaning Key Id Name) (was now : Store) (L K : Type 0) (v w : Variance)
-      (e f : ParamEnvKey Key) (i : ℕ) (env : IsTrue (known (m.param_env e))) (a b : Tree) (tree : X → Tree)
-      (result : Result X (RelateFault Key Id Name)) where
+  module _ {X : Type 0} (hs : List (KeyedGoal Key (PredicateKey Key))) (m n : Meaning Key Id Name) (was now : Store)
+      (L K : Type 0) (v w : Variance) (e f : ParamEnvKey Key) (i : ℕ) (env : IsTrue (known (m.param_env e))) (a b : Tree)
+      (tree : X → Tree) (result : Result X (RelateFault Key Id Name)) where
     abbrev state_at : ℕ → Variance → Tree → State Key Id Name
     state_at l u t = record {
       meaning = n;
       store = now;
-      goals = [];
+      goals = goals_of n hs;
       environment = t;
       ambient = u;
       settings = solver_settings;
       reference = l;
-      lawful = K × IsTrue (known t);
+      lawful = K × (IsTrue (known t) × All (KnowsGoal n) hs);
     }
 
-    unnamed : Related solver_manner (solving j m was L v e) (solving j n now K v e) v a b tree result →
-        Related solver_manner (solving 0 m was L v e) (solving 0 n now K v e) v a b tree result
+    unnamed : Related solver_manner (solving j gs m was L v e) (solving j hs n now K v e) v a b tree result →
+        Related solver_manner (solving 0 gs m was L v e) (solving 0 hs n now K v e) v a b tree result
     unnamed h = record {
       passes = record {
         extends = (h.passes).extends;
@@ -732,8 +476,8 @@ module _ {Key Id Name : Type 0} (j : ℕ) where
     }
       where
         verdict : (r : Result X (RelateFault Key Id Name)) →
-            Verdict solver_manner (solving j m was L v e) (solving j n now K v e) ((h.passes).added) v a b tree r →
-            Verdict solver_manner (solving 0 m was L v e) (solving 0 n now K v e) ((h.passes).added) v a b tree r
+            Verdict solver_manner (solving j gs m was L v e) (solving j hs n now K v e) ((h.passes).added) v a b tree r →
+            Verdict solver_manner (solving 0 gs m was L v e) (solving 0 hs n now K v e) ((h.passes).added) v a b tree r
         verdict (Ok t) o = record {
           outcome = o.outcome;
           answer = record { related = (o.answer).related; left = (o.answer).left };
@@ -743,48 +487,61 @@ module _ {Key Id Name : Type 0} (j : ℕ) where
         verdict (Err Budget) o = o
         verdict (Err Memory) o = tt
 
-    pub as_before : Related solver_manner (solving j m was L v e) (solving i n now K w f) v a b tree result →
-        Related solver_manner (solving 0 m was L v e) (solving 0 n now K v e) v a b tree result
+    pub as_before : Related solver_manner (solving j gs m was L v e) (solving i hs n now K w f) v a b tree result →
+        Related solver_manner (solving 0 gs m was L v e) (solving 0 hs n now K v e) v a b tree result
     as_before h =
         let same_environment = (h.passes).environment ∙ sym (((h.passes).extends).param_env e env) in
-        unnamed (subst (λ l. Related solver_manner (solving j m was L v e) (state_at l v (n.param_env e)) v a b tree result)
-        (h.passes).reference (subst₂ (λ u t. Related solver_manner (solving j m was L v e)
+        unnamed (subst (λ l. Related solver_manner (solving j gs m was L v e) (state_at l v (n.param_env e)) v a b tree
+        result) (h.passes).reference (subst₂ (λ u t. Related solver_manner (solving j gs m was L v e)
         (state_at i u t) v a b tree result)
         (h.passes).ambient same_environment h))
 
-  -- What relating has shown, as a solver answers it: no goal was registered.
-  module _ {X : Type 0} (m n : Meaning Key Id Name) (was now : Store) (L K : Type 0) (v : Variance) (e : ParamEnvKey Key)
-      (a b : Tree) (tree : X → Tree) where
-    pub answers_goals : (t : X) → Related solver_manner (solving j m was L v e) (solving j n now K v e) v a b tree (Ok t) →
-        AnswersGoals (items_of m) was now [] (m.param_env e) v a b
-    answers_goals t h = (
-      λ w s sat all. ((h.verdict).outcome).relates w s sat
-          (subst (All (Holds (items_of m) w s)) (h.passes).lengthens
-          (All-nil (Holds (items_of m) w s))),
-      ((h.passes).goes).later.shrinks,
-    )
-
-    pub keeps_equal : (t : X) → Related solver_manner (solving j m was L v e) (solving j n now K v e) v a b tree (Ok t) →
-        KeepsEqualTerms was now [] a b
-    keeps_equal t h = λ w s sat one. let z = ((h.verdict).outcome).keeps w s sat one in
-        (z.0, z.1, (z.2.0, All-nil (MakesOneTree z.0)))
-
   -- Making terms changes nothing of the relation but what its interner knows.
   pub solver_grows : (c d : Context Key Id Name) (n : Meaning Key Id Name) → Extends c.meaning n → Knows c n d →
-      (v : Variance) (e : ParamEnvKey Key) → IsTrue (known ((c.meaning).param_env e)) →
-      WithMeaning (solving j c.meaning c.store c.lawful v e) n (solving j d.meaning d.store d.lawful v e)
+      (v : Variance) (e : ParamEnvKey Key) → KnowsGoals c.meaning e gs →
+      WithMeaning (solving j gs c.meaning c.store c.lawful v e) n (solving j gs d.meaning d.store d.lawful v e)
   solver_grows c d n grown h v e env =
-      let stays : (d.meaning).param_env e ≡ (c.meaning).param_env e = ap (λ z. z.param_env e) h.meaning ∙ grown.param_env e env in
+      let stays : (d.meaning).param_env e ≡ (c.meaning).param_env e =
+      ap (λ z. z.param_env e) h.meaning ∙ grown.param_env e env.0 in
       record {
         meaning = h.meaning;
         store = h.store;
-        goals = refl;
+        goals = ap (λ z. goals_of z gs) h.meaning ∙ goals_stay grown gs env.1;
         environment = stays;
         ambient = refl;
         settings = refl;
         reference = refl;
-        lawful = λ k. (h.lawful, subst (λ t. IsTrue (known t)) (sym stays) env);
+        lawful = λ k. (
+          h.lawful,
+          (
+            subst (λ t. IsTrue (known t)) (sym stays) env.0,
+            subst (λ z. All (KnowsGoal z) gs) (sym h.meaning) (goals_known grown gs env.1),
+          ),
+        );
       }
+
+-- What relating has shown, as a solver answers it.
+module _ {Key Id Name X : Type 0} (m n : Meaning Key Id Name) (was now : Store) (L K : Type 0) (v : Variance)
+    (e : ParamEnvKey Key) (a b : Tree) (tree : X → Tree) (hs : List (KeyedGoal Key (PredicateKey Key))) where
+  pub answers_goals : (t : X) → Related solver_manner (solving 0 [] m was L v e) (solving 0 hs n now K v e) v a b tree (Ok t) →
+      AnswersGoals (items_of m) was now (goals_of n hs) (m.param_env e) v a b
+  answers_goals t h = (
+    λ w s sat all. ((h.verdict).outcome).relates w s sat (subst (All (Holds (items_of m) w s)) (h.passes).lengthens all),
+    ((h.passes).goes).later.shrinks,
+  )
+
+  pub keeps_equal : (t : X) → Related solver_manner (solving 0 [] m was L v e) (solving 0 hs n now K v e) v a b tree (Ok t) →
+      KeepsEqualTerms was now (goals_of n hs) a b
+  keeps_equal t h = λ w s sat one. let z = ((h.verdict).outcome).keeps w s sat one in
+      (z.0, z.1, (z.2.0, subst (All (MakesOneTree z.0)) (sym (h.passes).lengthens) z.2.1))
+
+  pub registers_goals : (result : Result X (RelateFault Key Id Name)) → L → KnowsGoals m e [] →
+      Related solver_manner (solving 0 [] m was L v e) (solving 0 hs n now K v e) v a b tree result →
+      All (KnowsGoal n) hs × All (Registered (m.param_env e) was now) (goals_of n hs)
+  registers_goals result l env h = (
+    ((h.passes).lawful (l, env)).1.1,
+    subst (All (Registered (m.param_env e) was now)) (sym (h.passes).lengthens) (h.passes).goals_in,
+  )
 
 -- What was recorded of two regions is what their variance asks for, behind all that was.
 pub asked_recorded : {Key Id Name : Type 0} (m : Meaning Key Id Name) (was now : Store) (v : Variance)

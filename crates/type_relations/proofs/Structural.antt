@@ -23,6 +23,7 @@ use Rattle.type_relations.specs.Errors.{AreOfOneConst}
 use Rattle.type_relations.specs.Parts.{IsFormed, parts_of, const_parts_of, head_of, const_head_of}
 use Rattle.type_relations.specs.Handing.{IsPassedOn, IsNoLength, IsFaultOfTy, passed, sized, IsFaultOfConst, passed_const, whole}
 use Rattle.type_relations.specs.Lawful.{State, Manners, MayAnswer, Passes, Refuses, Related, ExactResult, ExactlyRelated, items_in}
+use Rattle.type_relations.proofs.Registered.{registered_in}
 use Rattle.type_relations.proofs.Passing.{passes_within, manner_then}
 use Rattle.type_relations.proofs.Fronts.{Fronted, AreParts, fronted_never, fronted_all, fronted_passes, fronted_apart, fronted_exactly}
 use Rattle.type_relations.proofs.Unifying.{first_order_parts, formed_looked_at, types_unify, exact_as, apart_as}
@@ -216,7 +217,7 @@ module _ {Key Id Name : Type 0} {r q : State Key Id Name} (M : Manners) (v : Var
     verdict = record {
       outcome = record {
         later = ((f.passes).goes).later;
-        goals_in = (f.passes).goals_in;
+        goals_in = registered_in (f.passes).added (f.passes).goals_in;
         relates = types_relate is_formed o f are ea eb;
         keeps = λ w s sat z. (f.front).keeps w s sat (parts_equal a b o s z);
       };

@@ -1,5 +1,6 @@
 -- Constants that are related by their outermost forms and their parts, and terms whose outermost forms differ.
 use Rattle.std.proofs.Common.{◌≡◌, ◌≢◌, ℕ, ◌+◌, ◌<◌, refl, sym, ap, ◌∙◌, subst, subst₂, arith, ◌++◌, All, IsTrue, Ok, Err}
+use Rattle.std.proofs.lemmas.List.Elements.{All-nil}
 use Rattle.relation_terms.specs.declared.terms.enums.Variance.{Variance}
 use Rattle.relation_terms.specs.declared.terms.enums.Variance.TheVariants.{Bivariant}
 use Rattle.relation_terms.specs.Heads.{type_sort, const_sort, region_sort, Sort, expression, value, value_type, value_branch}
@@ -17,7 +18,7 @@ use Rattle.relation_tools.specs.declared.error.RelateFault.TheVariants.{Memory, 
 use Rattle.relation_tools.specs.Faults.{KnowsError, KnowsFault}
 use Rattle.type_relations.specs.Relation.{Items, Interpretation, at, parts, part_at, Rel, same, atoms, forms, anything, no_parts, next_part, sort_of}
 use Rattle.type_relations.specs.Stores.{Store, Satisfies, IsTermIn, weight}
-use Rattle.type_relations.specs.Goals.{Holds}
+use Rattle.type_relations.specs.Goals.{Holds, GoalInContext}
 use Rattle.type_relations.specs.Outcomes.{NeverOne, NoUnifier}
 use Rattle.type_relations.specs.Headline.{IsFirstOrderPair}
 use Rattle.type_relations.specs.Errors.{ErrorOf, of_parts, of_branches, of_kinds, of_forms, of_const_forms, FormError, ConstFormError}
@@ -25,6 +26,7 @@ use Rattle.type_relations.specs.Errors.{AreOfOneConst, AreOfOneValue, values, ex
 use Rattle.type_relations.specs.Parts.{IsFormed, IsFormedConst, const_parts_of, branches_of, const_head_of}
 use Rattle.type_relations.specs.Handing.{IsPassedOnConst, IsFaultOfConst, passed_const, whole}
 use Rattle.type_relations.specs.Lawful.{State, Manners, MayAnswer, Passes, Refuses, Related, ExactResult, ExactlyRelated, items_in}
+use Rattle.type_relations.proofs.Registered.{registered_in}
 use Rattle.type_relations.proofs.Passing.{passes_within, passes_nowhere, manner_then}
 use Rattle.type_relations.proofs.Fronts.{Fronted, AreParts, fronted_never, fronted_all, fronted_passes, fronted_apart, fronted_exactly}
 use Rattle.type_relations.proofs.Unifying.{first_order_const_parts, const_looked_at, consts_unify, exact_as, apart_as, exact_itself}
@@ -213,7 +215,7 @@ module _ {Key Id Name : Type 0} {r q : State Key Id Name} (M : Manners) (v : Var
     verdict = record {
       outcome = record {
         later = ((f.passes).goes).later;
-        goals_in = (f.passes).goals_in;
+        goals_in = registered_in (f.passes).added (f.passes).goals_in;
         relates = consts_relate o f are ea eb;
         keeps = λ w s sat z. (f.front).keeps w s sat (const_parts_equal a b o s z);
       };
@@ -236,7 +238,7 @@ module _ {Key Id Name : Type 0} {X : Type 0} (M : Manners) (r : State Key Id Nam
     verdict = record {
       outcome = record {
         later = ((passes_nowhere 0 r).goes).later;
-        goals_in = (passes_nowhere 0 r).goals_in;
+        goals_in = All-nil (GoalInContext r.store);
         relates = λ w s sat all. same (ap (apply s) e);
         keeps = λ w s sat one. (s, (λ k n h. refl), (sat, λ k d h. absurd (omega (arith, h))));
       };

@@ -1,6 +1,11 @@
 -- What each call of a lawful context does, over the keys of its terms.
-use Rattle.std.specs.Prelude.{◌≡◌, ◌≢◌, ℕ, IsTrue, max, min, length, Result, Ok, Err}
+use Rattle.std.specs.Prelude.{◌≡◌, ◌≢◌, ◌⊎◌, ℕ, ◌<◌, IsTrue, max, min, List, [], ◌∷◌, ◌++◌, length, Option, Some, None}
+use Rattle.std.specs.Prelude.{Result, Ok, Err}
+use Rattle.relation_terms.specs.declared.predicate.OutlivesPredicate.{OutlivesPredicate}
 use Rattle.relation_terms.specs.declared.terms.enums.Variance.{Variance}
+use Rattle.relation_terms.specs.declared.terms.keys.RegionKey.{RegionKey}
+use Rattle.relation_terms.specs.declared.terms.keys.TyKey.{TyKey}
+use Rattle.relation_terms.specs.declared.terms.numbers.UniverseIndex.{UniverseIndex}
 use Rattle.relation_terms.specs.Heads.{VarKind, variable}
 use Rattle.relation_terms.specs.Trees.{Tree, leaf, known, apply}
 use Rattle.relation_terms.specs.Meaning.{Meaning, Extends}
@@ -16,6 +21,7 @@ use Rattle.type_relations.specs.Generalising.{Obstacle, cycle, beyond, Instantia
 use Rattle.type_relations.specs.Lawful.{items_of}
 use Rattle.type_relations.specs.Resolving.{IsRoot}
 use Rattle.type_relations.specs.Steps.{Equates, InstantiatesNumber, MakesVariable, AddsConstraint, Resolves, LeadsTo}
+use Rattle.type_relations.specs.Steps.{ChangesNothing}
 use Rattle.type_relations.specs.Stores.{Store, Constraint, IsMade, unbound, bound_to, entry_of, universe_of, resolved}
 
 -- What variables are bound to is of forms that relating has rules for.
@@ -28,6 +34,17 @@ abbrev pub ObstacleError : {Key Id Name K : Type 0} → (K → Tree) → (K → 
 ObstacleError {K = K} tree cyclic t e cycle = (x : K) × (tree x ≡ t) × (e ≡ cyclic x)
 ObstacleError tree cyclic t e beyond = e ≡ Mismatch
 
+-- Two classes of variables became one, with the smaller of both roots; all others' roots stand.
+pub record JoinsRoots (before after : ℕ → ℕ) (a b : ℕ) : Type 0 where
+  pub joined : (n : ℕ) → (before n ≡ before a) ⊎ (before n ≡ before b) → after n ≡ min (before a) (before b)
+  pub others : (n : ℕ) → before n ≢ before a → before n ≢ before b → after n ≡ before n
+
+-- A type and a region that it is to outlive were put behind those that there were; or nothing was.
+abbrev pub Registers : {Key A F : Type 0} → List (OutlivesPredicate Key (TyKey Key)) →
+    List (OutlivesPredicate Key (TyKey Key)) → TyKey Key → RegionKey Key → Result A F → Type 0
+Registers before after t r (Ok x) = after ≡ before ++ record { 0 = t; 1 = r } ∷ []
+Registers before after t r (Err f) = after ≡ before
+
 module _ {Key Id Name : Type 0} (c : Context Key Id Name) where
   -- The variable is the context's, and nothing is recorded of it.
   abbrev pub IsUnresolved : VarKind → ℕ → Type 0
@@ -38,6 +55,12 @@ module _ {Key Id Name : Type 0} (c : Context Key Id Name) where
     pub made : IsMade c.store k r
     pub leads : LeadsTo c.store k n r
     pub root : IsRoot c.store k r
+
+  -- What the universe of a variable is answered to be: of an unresolved one its root's, of one with a term none.
+  abbrev pub HasUniverse : VarKind → ℕ → Option UniverseIndex → Type 0
+  HasUniverse k n (Some u) = (r : ℕ) × IsRootOf k n r × (entry_of c.store k r ≡ unbound) ×
+      (u.0 ≡ universe_of c.store k r)
+  HasUniverse k n None = (r : ℕ) × IsRootOf k n r × ((t : Tree) × (entry_of c.store k r ≡ bound_to t))
 
   -- A known term that another is read as by what is recorded, and so one of the same value.
   pub record Reads (t u : Tree) : Type 0 where
@@ -64,11 +87,24 @@ module _ {Key Id Name : Type 0} (c d : Context Key Id Name) where
     pub extends : Extends c.meaning d.meaning
     pub lawful : d.lawful
 
+  -- What a term comes to at every depth was answered; or a growth was refused.
+  abbrev pub ComesTo : {K F : Type 0} → (Meaning Key Id Name → K → Tree) → K → Result K F → Type 0
+  ComesTo tree t (Ok x) = IsTrue (known (tree d.meaning x)) ×
+      (tree d.meaning x ≡ apply (resolved c.store) (tree c.meaning t))
+  ComesTo tree t (Err f) = Unit {0}
+
   -- A new variable of the current universe was made, and its key answered; or nothing was recorded.
   abbrev pub MakesNext : {K F : Type 0} → VarKind → (Meaning Key Id Name → K → Tree) → Result K F → Type 0
   MakesNext k tree (Ok t) = let n = length ((c.store).entries k) in IsTrue (known (tree d.meaning t)) ×
       (tree d.meaning t ≡ leaf (variable k n)) × MakesVariable c.store d.store k n (c.store).universe
   MakesNext k tree (Err f) = d.store ≡ c.store
+
+  -- A universe was made, above that of each variable and the one that was current, and is the current one; or nothing
+  -- was recorded.
+  abbrev pub EntersNext : {F : Type 0} → Result UniverseIndex F → Type 0
+  EntersNext (Ok u) = ChangesNothing c.store d.store × ((d.store).universe ≡ u.0) × ((c.store).universe < u.0) ×
+      ((k : VarKind) (n : ℕ) → universe_of c.store k n < u.0)
+  EntersNext (Err f) = d.store ≡ c.store
 
   -- Two variables were made one, the smaller number being the root; one with itself changes nothing.
   pub record EquatesTwo (k : VarKind) (a b : ℕ) : Type 0 where
@@ -86,9 +122,9 @@ module _ {Key Id Name : Type 0} (c d : Context Key Id Name) where
   Constrains q (Ok x) = AddsConstraint c.store d.store q
   Constrains q (Err f) = d.store ≡ c.store
 
-  -- What binding a variable, at a variance, to what a term comes to answers: the term that it was bound to by the rules,
-  -- for one of the budget; or nothing was bound, since an obstacle stands in what the term comes to, or nothing is left
-  -- of the budget, or a growth was refused. Variables that were made on the way stay unbound.
+  -- What binding a variable, at a variance, to what a term comes to answers: the term that it was bound to by the
+  -- rules, for one of the budget; or nothing was bound, since an obstacle stands in what the term comes to, or nothing
+  -- is left of the budget, or a growth was refused. Variables that were made on the way stay unbound.
   abbrev pub Instantiated : {K : Type 0} → Variance → VarKind → ℕ → Tree → (Meaning Key Id Name → K → Tree) →
       (K → TypeError Key Id Name) → Result K (RelateFault Key Id Name) → Type 0
   Instantiated v k n source tree cyclic (Ok t) = IsTrue (known (tree d.meaning t)) ×

@@ -1,5 +1,5 @@
 -- What contracts see of a context, and what relating two types in it asks and promises.
-use Rattle.std.specs.Prelude.{◌≡◌, ◌+◌, IsTrue, IfOk, Result, []}
+use Rattle.std.specs.Prelude.{◌≡◌, ◌+◌, IsTrue, IfOk, Result, [], All}
 use Rattle.std.specs.Global.{Vec}
 use Rattle.std.specs.Result.{IsOkAnd}
 use Rattle.relation_terms.specs.declared.terms.enums.Variance.{Variance}
@@ -15,12 +15,12 @@ use Rattle.relation_terms.specs.Meaning.{Meaning}
 use Rattle.relation_tools.specs.declared.error.RelateFault.{RelateFault}
 use Rattle.relation_tools.specs.Faults.{IfUnrelated}
 use Rattle.type_relations.specs.Stores.{Store, IsTermIn, IsRegionIn, all_bound}
-use Rattle.type_relations.specs.Goals.{goals_of}
+use Rattle.type_relations.specs.Goals.{goals_of, KnowsGoal, Registered}
 use Rattle.type_relations.specs.FirstOrder.{IsFirstOrderStore}
 use Rattle.type_relations.specs.Outcomes.{NoEqualTerms, Exact, NoUnifier}
 use Rattle.type_relations.specs.Headline.{AnswersGoals, KeepsEqualTerms, IsFirstOrderPair}
 use Rattle.type_relations.specs.Errors.{ErrorOf}
-use Rattle.type_relations.specs.Taken.{IsTaken}
+use Rattle.type_relations.specs.Covered.{IsCovered}
 use Rattle.type_relations.specs.Lawful.{items_of}
 
 -- A context as it stands: what the keys of its interner mean, what it has recorded, and its own invariant.
@@ -40,12 +40,12 @@ module _ {Key Id Name : Type 0} where
   abbrev pub KnowsConst : Context Key Id Name → ConstKey Key → Type 0
   KnowsConst c t = IsTrue (known ((c.meaning).const_ t))
 
-  -- The type, or the constant, may be related at a variance.
-  abbrev pub TakesTy : Context Key Id Name → Variance → TyKey Key → Type 0
-  TakesTy c v t = IsTaken v ((c.meaning).ty t)
+  -- The type, or the constant, may be related: it is of forms that have rules.
+  abbrev pub TakesTy : Context Key Id Name → TyKey Key → Type 0
+  TakesTy c t = IsCovered ((c.meaning).ty t)
 
-  abbrev pub TakesConst : Context Key Id Name → Variance → ConstKey Key → Type 0
-  TakesConst c v t = IsTaken v ((c.meaning).const_ t)
+  abbrev pub TakesConst : Context Key Id Name → ConstKey Key → Type 0
+  TakesConst c t = IsCovered ((c.meaning).const_ t)
 
   -- The variables in the type, or the constant, are the context's, and nothing in it is of a later universe or escapes
   -- a binder.
@@ -85,6 +85,13 @@ module _ {Key Id Name : Type 0} (c d : Context Key Id Name) where
   abbrev pub AnswersError : {A : Type 0} → Variance → TyKey Key → TyKey Key → Result A (RelateFault Key Id Name) → Type 0
   AnswersError v a b result = IfUnrelated result (λ e. ErrorOf d.meaning (items_of d.meaning) d.store v e
       ((c.meaning).ty a) ((c.meaning).ty b))
+
+  -- Each goal is known, and registered in the environment: that of two type variables, each unbound before or made on
+  -- the way, the one is a subtype of the other.
+  abbrev pub RegistersGoals : ParamEnvKey Key → Result (Vec (Goal Key (PredicateKey Key))) (RelateFault Key Id Name) →
+      Type 0
+  RegistersGoals e result = IfOk result (λ goals. All (KnowsGoal d.meaning) goals.items ×
+      All (Registered ((c.meaning).param_env e) c.store d.store) (goals_of d.meaning goals.items))
 
   -- No goal is answered, and nothing is recorded.
   abbrev pub DoesNothing : Result (Vec (Goal Key (PredicateKey Key))) (RelateFault Key Id Name) → Type 0

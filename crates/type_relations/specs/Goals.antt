@@ -1,5 +1,5 @@
 -- Registered goals, what they ask of an assignment, and when they hold.
-use Rattle.std.specs.Prelude.{◌≡◌, Bool, List, [], All, map}
+use Rattle.std.specs.Prelude.{◌≡◌, ℕ, true, Bool, List, [], All, IsTrue, map}
 use Rattle.relation_terms.specs.Meaning.{Meaning}
 use Rattle.relation_terms.specs.declared.terms.goal.Goal.{Goal as KeyedGoal}
 use Rattle.relation_terms.specs.declared.terms.keys.PredicateKey.{PredicateKey}
@@ -7,10 +7,10 @@ use Rattle.relation_terms.specs.declared.terms.enums.AliasRelationDirection.{Ali
 use Rattle.relation_terms.specs.declared.terms.enums.AliasRelationDirection.TheVariants.{Equate, Subtype}
 use Rattle.relation_terms.specs.declared.terms.enums.Variance.{Variance}
 use Rattle.relation_terms.specs.declared.terms.enums.Variance.TheVariants.{Covariant}
-use Rattle.relation_terms.specs.Heads.{ambiguous, subtype, well_formed, alias_relate, atom}
-use Rattle.relation_terms.specs.Trees.{Tree, leaf, node, bind, nil, cons, Assign, apply}
+use Rattle.relation_terms.specs.Heads.{type_var, ambiguous, subtype, well_formed, alias_relate, variable, atom}
+use Rattle.relation_terms.specs.Trees.{Tree, leaf, node, bind, nil, cons, Assign, apply, known}
 use Rattle.type_relations.specs.Relation.{Items, Interpretation, IsEqualPair, IsOrderedPair, Rel, at}
-use Rattle.type_relations.specs.Stores.{Store, Satisfies, InContext}
+use Rattle.type_relations.specs.Stores.{Store, unbound, entry_of, IsMade, Satisfies, InContext}
 
 -- A registered goal: a predicate, whole, in the environment in which it is to hold.
 pub record Goal : Type 0 where
@@ -24,6 +24,10 @@ goal_of e p = record { environment = e; predicate = p }
 -- What goals over an interner's keys mean.
 abbrev pub goals_of : {Key Id Name : Type 0} → Meaning Key Id Name → List (KeyedGoal Key (PredicateKey Key)) → List Goal
 goals_of m gs = map (λ g. goal_of (m.param_env g.param_env) (m.predicate g.predicate)) gs
+
+-- An interner knows a goal's environment and predicate.
+abbrev pub KnowsGoal : {Key Id Name : Type 0} → Meaning Key Id Name → KeyedGoal Key (PredicateKey Key) → Type 0
+KnowsGoal m g = IsTrue (known (m.param_env g.param_env)) × IsTrue (known (m.predicate g.predicate))
 
 -- The predicates that relating registers. Each stands under a binder of no variables.
 abbrev pub subtype_predicate : Bool → Tree → Tree → Tree
@@ -71,6 +75,21 @@ Holds c w s g = IsSo c w s g.environment (asked g.predicate)
 -- Each variable of a goal's predicate is the context's.
 abbrev pub GoalInContext : Store → Goal → Type 0
 GoalInContext st g = InContext st g.predicate
+
+-- A type variable that was unbound before, or was made on the way.
+abbrev pub IsOpen : Store → Store → ℕ → Type 0
+IsOpen before after n = IsMade after type_var n × (entry_of before type_var n ≡ unbound)
+
+-- What relating registers between two stores: that of two such variables the one is a subtype of the other.
+pub data IsRegistered (before after : Store) (p : Tree) : Type 0 where
+  of_variables : (x : Bool) (n m : ℕ) →
+      p ≡ subtype_predicate x (leaf (variable type_var n)) (leaf (variable type_var m)) → IsOpen before after n →
+      IsOpen before after m → IsRegistered before after p
+
+-- A goal that relating registers between two stores, in an environment.
+pub record Registered (e : Tree) (before after : Store) (g : Goal) : Type 0 where
+  pub environment : g.environment ≡ e
+  pub asks : IsRegistered before after g.predicate
 
 -- Both sides of a subtype or alias goal are one tree.
 abbrev pub HasOneTree : Assign → Asked → Type 0

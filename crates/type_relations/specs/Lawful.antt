@@ -17,7 +17,7 @@ use Rattle.type_relations.specs.declared.relate.Step.TheVariants.{Done, Parts, A
 use Rattle.type_relations.specs.Relation.{Items, Interpretation, part_at, Way, at, parts, second_opened}
 use Rattle.type_relations.specs.Relation.{first_opened}
 use Rattle.type_relations.specs.Stores.{Store, Satisfies, IsTermIn, weight}
-use Rattle.type_relations.specs.Goals.{Goal, GoalInContext, IsQuiet, Relates}
+use Rattle.type_relations.specs.Goals.{Goal, Registered, IsQuiet, Relates}
 use Rattle.type_relations.specs.Steps.{IsLater}
 use Rattle.type_relations.specs.Outcomes.{Outcome, StepsTo, CarriesOver, NeverOne, Exact, ExactStep, NoUnifier}
 use Rattle.type_relations.specs.Headline.{IsFirstOrderPair}
@@ -119,14 +119,14 @@ module _ {Key Id Name : Type 0} where
     pub lawful : r.lawful → q.lawful
 
   -- From one state to another with a pair of size `n` related, or a part of the work for it done: keys mean what they
-  -- meant, all that was recorded and registered stands, and the variance, the settings and the reference are as they
-  -- were.
+  -- meant, all that was recorded and registered stands, goals are registered in the relation's environment, and the
+  -- variance, the settings and the reference are as they were.
   pub record Passes (n : ℕ) (r q : State Key Id Name) : Type 0 where
     pub extends : ExtendsMeaning r.meaning q.meaning
     pub goes : Goes n r.store q.store
     pub added : List Goal
     pub lengthens : q.goals ≡ r.goals ++ added
-    pub goals_in : All (GoalInContext q.store) added
+    pub goals_in : All (Registered r.environment r.store q.store) added
     pub environment : q.environment ≡ r.environment
     pub ambient : q.ambient ≡ r.ambient
     pub settings : q.settings ≡ r.settings

@@ -22,7 +22,6 @@ pub mod Parts
 pub mod Handing
 pub mod Lawful
 pub mod Constraints
-pub mod Taken
 pub mod Arguments
 pub mod Making
 pub mod Keyed

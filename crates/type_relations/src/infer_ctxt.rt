@@ -1,7 +1,9 @@
 //! Inference contexts, by what each of their calls does.
-ghost use Rattle.std.specs.Prelude.{◌≡◌, ◌≢◌, ℕ};
+ghost use Rattle.std.specs.Prelude.{◌≡◌, ◌≢◌, ℕ, Bool, List};
 ghost use Rattle.std.specs.Borrow.{sem, Lends};
+ghost use Rattle.relation_terms.specs.declared.predicate.OutlivesPredicate.{OutlivesPredicate};
 ghost use Rattle.relation_terms.specs.declared.terms.enums.Variance.TheVariants.{Invariant, Bivariant};
+ghost use Rattle.relation_terms.specs.declared.terms.keys.TyKey.{TyKey};
 ghost use Rattle.relation_terms.specs.declared.terms.ty_kind.IntVarValue.TheVariants.{Unknown};
 ghost use Rattle.relation_terms.specs.declared.terms.ty_kind.FloatVarValue.TheVariants.{Unknown as UnknownFloat};
 ghost use Rattle.relation_terms.specs.Heads.{type_var, int_var, float_var, const_var, region_var, variable};
@@ -15,13 +17,13 @@ ghost use Rattle.type_relations.specs.Generalising.{NumbersNameNothing};
 ghost use Rattle.type_relations.specs.Resolving.{IsShallow, IsShallowTy, IsShallowConst};
 ghost use Rattle.type_relations.specs.NumberValues.{int_value_tree, float_value_tree};
 ghost use Rattle.type_relations.specs.ContextCalls.{IsUnresolved, IsRootOf, Reads, Knows, Stands, Grows, MakesNext};
-ghost use Rattle.type_relations.specs.ContextCalls.{EquatesTwo, BindsNumber, Constrains, Instantiated};
-ghost use Rattle.type_relations.specs.ContextCalls.{HasCoveredBindings};
+ghost use Rattle.type_relations.specs.ContextCalls.{EntersNext, EquatesTwo, BindsNumber, Constrains, Instantiated};
+ghost use Rattle.type_relations.specs.ContextCalls.{HasUniverse, ComesTo, JoinsRoots, Registers, HasCoveredBindings};
 
 use crate::relate::StructurallyRelateAliases;
 use relation_terms::terms::{
     Const, ConstVid, FloatVarValue, FloatVid, IntVarValue, IntVid, Interner, OutOfMemory, Region,
-    Span, Ty, TyVid, UniverseIndex, Variance,
+    RegionVid, Span, Ty, TyVid, UniverseIndex, Variance,
 };
 use relation_tools::error::RelateResult;
 
@@ -49,6 +51,15 @@ pub trait InferCtxtLike {
     // The context with another interner.
     ghost with_interner: { Self → Self.Interner → Self };
 
+    // Whether the next solver is on.
+    ghost is_next_solver: { Self → Bool };
+
+    // The types that are to outlive regions, in the order in which that was recorded.
+    ghost outliving: { Self → List (OutlivesPredicate Self.Interner.Key (TyKey Self.Interner.Key)) };
+
+    // The roots of the classes of type variables that are marked as related.
+    ghost sub_root: { Self → ℕ → ℕ };
+
     /// The interner, to read terms.
     fn cx(&self) -> &Self::Interner
         ensures { Self.Interner.meaning result.now ≡ (state self.now).meaning };
@@ -65,6 +76,10 @@ pub trait InferCtxtLike {
             (state self.now).lawful →
             Knows (state self.now) (Self.Interner.meaning cx) (state (with_interner self.now cx)) };
 
+    /// Whether the next trait solver is on, as it is everywhere but in parts of the compiler.
+    fn next_trait_solver(&self) -> bool
+        ensures { result ≡ is_next_solver self.now };
+
     /// The current universe.
     fn universe(&self) -> UniverseIndex
         ensures { result.0 ≡ ((state self.now).store).universe };
@@ -73,11 +88,37 @@ pub trait InferCtxtLike {
     fn budget_left(&self) -> usize
         ensures { result ≡ ((state self.now).store).budget };
 
+    /// The universe of an unresolved type variable, or none.
+    fn universe_of_ty(&self, vid: TyVid) -> Option<UniverseIndex>
+        requires lawful { (state self.now).lawful }
+        requires made { IsMade (state self.now).store type_var vid.0 }
+        ensures { HasUniverse (state self.now) type_var vid.0 result };
+
+    /// The universe of a region variable. None is ever resolved.
+    fn universe_of_lt(&self, vid: RegionVid) -> Option<UniverseIndex>
+        requires lawful { (state self.now).lawful }
+        requires made { IsMade (state self.now).store region_var vid.0 }
+        ensures { HasUniverse (state self.now) region_var vid.0 result };
+
+    /// The universe of an unresolved constant variable, or none.
+    fn universe_of_ct(&self, vid: ConstVid) -> Option<UniverseIndex>
+        requires lawful { (state self.now).lawful }
+        requires made { IsMade (state self.now).store const_var vid.0 }
+        ensures { HasUniverse (state self.now) const_var vid.0 result };
+
     /// The root of a type variable's class.
     fn root_ty_var(&self, var: TyVid) -> TyVid
         requires lawful { (state self.now).lawful }
         requires made { IsMade (state self.now).store type_var var.0 }
         ensures { IsRootOf (state self.now) type_var var.0 result.0 };
+
+    /// The root of the class of those that are marked as related to a type variable. No other call asks for it.
+    fn sub_unification_table_root_var(&self, var: TyVid) -> TyVid
+        requires lawful { (state self.now).lawful }
+        requires made { IsMade (state self.now).store type_var var.0 }
+        ensures made { IsMade (state self.now).store type_var result.0 }
+        ensures root { result.0 ≡ sub_root self.now var.0 }
+        ensures own { sub_root self.now result.0 ≡ result.0 };
 
     /// The root of a constant variable's class.
     fn root_const_var(&self, var: ConstVid) -> ConstVid
@@ -114,6 +155,14 @@ pub trait InferCtxtLike {
             Reads c (leaf (variable const_var vid.0)) ((c.meaning).const_ result) }
         ensures shallow { let c = state self.now in IsShallowConst c.store ((c.meaning).const_ result) };
 
+    /// The region of a region variable: itself, since regions are only constrained.
+    fn opportunistic_resolve_lt_var(&self, vid: RegionVid) -> Region<Self::Interner>
+        requires lawful { (state self.now).lawful }
+        requires made { IsMade (state self.now).store region_var vid.0 }
+        ensures reads { let c = state self.now in
+            Reads c (leaf (variable region_var vid.0)) ((c.meaning).region result) }
+        ensures itself { ((state self.now).meaning).region result ≡ leaf (variable region_var vid.0) };
+
     /// The type itself, or for a variable what its class is bound to, or else its root. It takes no memory.
     fn shallow_resolve(&self, ty: &Ty<Self::Interner>) -> Ty<Self::Interner>
         requires lawful { (state self.now).lawful }
@@ -130,11 +179,38 @@ pub trait InferCtxtLike {
         ensures reads { let c = state self.now in Reads c ((c.meaning).const_ ct.now) ((c.meaning).const_ result) }
         ensures shallow { let c = state self.now in IsShallowConst c.store ((c.meaning).const_ result) };
 
-    /// A new type variable in the current universe. After `OutOfMemory` no variable was made.
+    /// The type with each variable that has a term replaced by it, at every depth, and each other by its root. Nothing
+    /// is recorded.
+    fn resolve_vars_if_possible(
+        &mut self,
+        ty: &Ty<Self::Interner>,
+    ) -> Result<Ty<Self::Interner>, OutOfMemory>
+        requires lawful { (state self.old).lawful }
+        requires ty_known { KnowsTy (state self.old) ty.now }
+        requires ty_in { HasTy (state self.old) ty.now }
+        ensures grows { Grows (state self.old) (state self.new) }
+        ensures same_record { (state self.new).store ≡ (state self.old).store }
+        ensures comes { ComesTo (state self.old) (state self.new) (λ m. m.ty) ty.now result };
+
+    /// The same of a constant.
+    fn resolve_const_vars_if_possible(
+        &mut self,
+        ct: &Const<Self::Interner>,
+    ) -> Result<Const<Self::Interner>, OutOfMemory>
+        requires lawful { (state self.old).lawful }
+        requires ct_known { KnowsConst (state self.old) ct.now }
+        requires ct_in { HasConst (state self.old) ct.now }
+        ensures grows { Grows (state self.old) (state self.new) }
+        ensures same_record { (state self.new).store ≡ (state self.old).store }
+        ensures comes { ComesTo (state self.old) (state self.new) (λ m. m.const_) ct.now result };
+
+    /// A new type variable in the current universe, which is marked as related to no other. After `OutOfMemory` no
+    /// variable was made.
     fn next_ty_infer(&mut self) -> Result<Ty<Self::Interner>, OutOfMemory>
         requires lawful { (state self.old).lawful }
         ensures grows { Grows (state self.old) (state self.new) }
-        ensures makes { MakesNext (state self.old) (state self.new) type_var (λ m. m.ty) result };
+        ensures makes { MakesNext (state self.old) (state self.new) type_var (λ m. m.ty) result }
+        ensures unmarked { (n : ℕ) → sub_root self.new n ≡ sub_root self.old n };
 
     /// A new constant variable in the current universe. After `OutOfMemory` no variable was made.
     fn next_const_infer(&mut self) -> Result<Const<Self::Interner>, OutOfMemory>
@@ -148,12 +224,30 @@ pub trait InferCtxtLike {
         ensures grows { Grows (state self.old) (state self.new) }
         ensures makes { MakesNext (state self.old) (state self.new) region_var (λ m. m.region) result };
 
+    /// A new universe, above all earlier ones, and the current one from then on. After `OutOfMemory` there is none.
+    fn create_next_universe(&mut self) -> Result<UniverseIndex, OutOfMemory>
+        requires lawful { (state self.old).lawful }
+        ensures stands { Stands (state self.old) (state self.new) }
+        ensures enters { EntersNext (state self.old) (state self.new) result };
+
     /// Makes two unresolved type variables one. The smaller number is the root, with the smaller of both universes.
+    /// Both are marked as related too.
     fn equate_ty_vids_raw(&mut self, a: TyVid, b: TyVid)
         requires lawful { (state self.old).lawful }
         requires a_unresolved { IsUnresolved (state self.old) type_var a.0 }
         requires b_unresolved { IsUnresolved (state self.old) type_var b.0 }
-        ensures { EquatesTwo (state self.old) (state self.new) type_var a.0 b.0 };
+        ensures equates { EquatesTwo (state self.old) (state self.new) type_var a.0 b.0 }
+        ensures marks { JoinsRoots (sub_root self.old) (sub_root self.new) a.0 b.0 };
+
+    /// Marks two type variables as related, with all that either is related to: the smaller of both roots is that of
+    /// all of them. Nothing else is recorded.
+    fn sub_unify_ty_vids_raw(&mut self, a: TyVid, b: TyVid)
+        requires lawful { (state self.old).lawful }
+        requires a_made { IsMade (state self.old).store type_var a.0 }
+        requires b_made { IsMade (state self.old).store type_var b.0 }
+        ensures stands { Stands (state self.old) (state self.new) }
+        ensures same_record { (state self.new).store ≡ (state self.old).store }
+        ensures marks { JoinsRoots (sub_root self.old) (sub_root self.new) a.0 b.0 };
 
     /// Makes two unresolved integer variables one. The smaller number is the root, with the smaller of both universes.
     fn equate_int_vids_raw(&mut self, a: IntVid, b: IntVid)
@@ -194,9 +288,9 @@ pub trait InferCtxtLike {
     /// name, for one of the budget, and answers the bound type. The type is no type variable, and has rules.
     ///
     /// # Errors
-    /// `Budget` where no instantiation is left; `CyclicTy` where the variable stands in what the type comes to, `Mismatch`
-    /// where a placeholder does that the variable can't name; `Memory` where a growth was refused. Then nothing was bound,
-    /// though variables may have been made on the way, but for `Budget`.
+    /// `Budget` where no instantiation is left; `CyclicTy` where the variable stands in what the type comes to,
+    /// `Mismatch` where a placeholder does that the variable can't name; `Memory` where a growth was refused. Then
+    /// nothing was bound, though variables may have been made on the way, but for `Budget`.
     fn instantiate_ty_var_raw(
         &mut self,
         structurally_relate_aliases: StructurallyRelateAliases,
@@ -266,6 +360,19 @@ pub trait InferCtxtLike {
         ensures stands { Stands (state self.old) (state self.new) }
         ensures constrains { let m = (state self.old).meaning in
             Constrains (state self.old) (state self.new) (equal_constraint (m.region a.now) (m.region b.now)) result };
+
+    /// Registers that a type is to outlive a region, behind what was registered before. Nothing else is recorded. After
+    /// `OutOfMemory` nothing was registered.
+    fn register_ty_outlives(
+        &mut self,
+        ty: &Ty<Self::Interner>,
+        r: &Region<Self::Interner>,
+        span: Span<Self::Interner>,
+    ) -> Result<(), OutOfMemory>
+        requires { (state self.old).lawful }
+        ensures stands { Stands (state self.old) (state self.new) }
+        ensures same_record { (state self.new).store ≡ (state self.old).store }
+        ensures registers { Registers (outliving self.old) (outliving self.new) ty.now r.now result };
 
     // Its keys mean what they mean to the interner.
     ghost reads: { (c : Self) → (state c).meaning ≡ Self.Interner.meaning (interner c) };

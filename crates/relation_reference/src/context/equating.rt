@@ -5,12 +5,15 @@ ghost use Rattle.relation_terms.specs.declared.terms.ty_kind.IntVarValue.TheVari
 ghost use Rattle.relation_terms.specs.declared.terms.ty_kind.FloatVarValue.TheVariants.{Unknown as UnknownFloat};
 ghost use Rattle.type_relations.specs.Stores.{unbound, entry_of};
 ghost use Rattle.type_relations.specs.Steps.{Equates, InstantiatesNumber};
+ghost use Rattle.type_relations.specs.ContextCalls.{JoinsRoots};
 ghost use Rattle.type_relations.specs.NumberValues.{int_value_tree, float_value_tree};
+ghost use Rattle.relation_reference.specs.SubRoots.{root_in};
 ghost use Rattle.relation_reference.specs.Tables.{store_of, IsLawful};
 ghost use Rattle.relation_reference.specs.RefCtxt.{store_in};
 
 use crate::context::RefCtxt;
 use crate::context::numbers::{float_value_place, int_value_place};
+use crate::context::sub_unified::join_roots;
 use crate::context::table::{bind, link};
 use relation_terms::terms::{
     ConstVid, FloatVarValue, FloatVid, IntVarValue, IntVid, Interner, TyVid,
@@ -18,7 +21,8 @@ use relation_terms::terms::{
 
 impl<I: Interner> RefCtxt<I> {
     /// Makes two roots of type variables one: the one of the larger number leads to the other, with all of its class,
-    /// and the other gets the smaller of both universes. A root with itself changes nothing.
+    /// and the other gets the smaller of both universes. Both are marked as related. A root with itself changes
+    /// nothing.
     pub fn equate_ty_vids_raw(&mut self, a: TyVid, b: TyVid)
         requires lawful { IsLawful (I.meaning self.old.interner) self.old.inner }
         requires a_made { a.0 < length self.old.inner.types.items }
@@ -31,11 +35,15 @@ impl<I: Interner> RefCtxt<I> {
         ensures equates { let m = I.meaning self.old.interner in
             (a.0 ≡ b.0 → ⊥) →
             Equates (store_of m self.old.inner) (store_of m self.new.inner) type_var (max a.0 b.0) (min a.0 b.0) }
+        ensures marks { JoinsRoots (root_in self.old.inner.sub_roots.items) (root_in self.new.inner.sub_roots.items)
+            a.0 b.0 }
     {
         if a.0 < b.0 {
             link(&mut self.inner.types, b.0, a.0);
+            join_roots(&mut self.inner.sub_roots, a.0, b.0);
         } else if b.0 < a.0 {
             link(&mut self.inner.types, a.0, b.0);
+            join_roots(&mut self.inner.sub_roots, a.0, b.0);
         }
     }
 

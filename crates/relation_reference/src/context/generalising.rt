@@ -1,7 +1,9 @@
 //! Generalising what a variable is bound to: new variables take the places of what the variable can't name, and of what
 //! may still vary. A type that was met before, at the same variance, is not gone through again.
-ghost use Rattle.std.specs.Prelude.{◌≡◌, ◌≢◌, ◌≤◌, ◌<◌, ℕ, IsTrue, IsFalse, IfOk, IfSome, IfNone, OnOk, OnErr, List, ◌∷◌, Contains, Some, length};
-ghost use Rattle.relation_terms.specs.Heads.{VarKind, Leaf, variable, placeholder, BoundKind, bound_sort, region_sort, const_sort, region_var, type_var};
+ghost use Rattle.std.specs.Prelude.{◌≡◌, ◌≢◌, ◌≤◌, ◌<◌, ℕ, IsTrue, IsFalse, IfOk, IfSome, IfNone, OnOk, OnErr};
+ghost use Rattle.std.specs.Prelude.{List, ◌∷◌, Contains, Some, length};
+ghost use Rattle.relation_terms.specs.Heads.{VarKind, Leaf, variable, placeholder, BoundKind, bound_sort, region_sort};
+ghost use Rattle.relation_terms.specs.Heads.{const_sort, region_var};
 ghost use Rattle.relation_terms.specs.Trees.{Tree, leaf, known, count, IsTerm};
 ghost use Rattle.relation_terms.specs.Meaning.{Extends};
 ghost use Rattle.relation_terms.specs.Parts.{part_tree, part_sort, parts_of};
@@ -9,26 +11,24 @@ ghost use Rattle.relation_terms.specs.Variances.{xform};
 ghost use Rattle.type_relations.specs.Relation.{pointee_variance};
 ghost use Rattle.type_relations.specs.Lawful.{items_of};
 ghost use Rattle.type_relations.specs.Covered.{IsCovered};
-ghost use Rattle.type_relations.specs.Stores.{InContext, IsMade, universe_of, unbound, entry_of, IsTermIn};
+ghost use Rattle.type_relations.specs.Stores.{InContext, IsMade, universe_of};
 ghost use Rattle.type_relations.specs.Steps.{MakesVariable};
 ghost use Rattle.type_relations.specs.Generalising.{Met, Stays, any_part, new_part, variance_of_part, MakesUnbound};
 ghost use Rattle.relation_reference.specs.Tables.{IsLawful};
 ghost use Rattle.relation_reference.specs.RefCtxt.{store_in};
 ghost use Rattle.relation_reference.specs.Remembering.{vid_kind, vid_number};
 ghost use Rattle.relation_reference.specs.Generalises.{new_kind, met_at, IsFate, IsSure, Keeps, Generalises};
-ghost use Rattle.relation_reference.specs.Generalises.{IsGeneralisedFor, InstantiatesOr};
-ghost use Rattle.relation_tools.specs.declared.error.TypeError.TheVariants.{CyclicTy};
+ghost use Rattle.relation_reference.specs.Generalises.{IsGeneralisedFor};
 ghost use Rattle.relation_reference.specs.declared.context.generalising.Fate.TheVariants.{ByParts, GivesWay};
 ghost use Rattle.relation_terms.specs.declared.terms.enums.Variance.TheVariants.{Invariant};
 
 use crate::context::RefCtxt;
 use crate::context::memory::TermVid;
 use crate::context::resolving::{is_same_vid, variable_of};
-use crate::context::table::bind;
 use relation_terms::terms::parts::{is_same, part, parts_count, the_ty, with_parts};
 use relation_terms::terms::{
     Const, ConstKind, DefId, Interner, ItemOf, Keys, Mutability, OutOfMemory, Part, PartOf, Region,
-    RegionKind, RegionVid, Ty, TyKey, TyKind, TyVid, UniverseIndex, Variance,
+    RegionKind, RegionVid, Ty, TyKey, TyKind, UniverseIndex, Variance,
 };
 use relation_tools::error::{RelateFault, RelateFaultOf, TypeError};
 use std::collections::HashMap;
@@ -95,9 +95,11 @@ fn recall<I: Interner>(
     requires known { IsTrue (known ((I.meaning cx.now).ty ty.now)) }
     requires sure { IsSure ⟦<MetKey<I::Key> as PartialEq>⟧.eq (I.meaning cx.now) met.now }
     ensures sure { IfSome result (λ x. IsTrue (known ((I.meaning cx.now).ty x))) }
-    ensures met { IfSome result (λ x. (es : List Met) → Keeps ⟦<MetKey<I::Key> as PartialEq>⟧.eq (I.meaning cx.now) met.now es →
+    ensures met { IfSome result (λ x. (es : List Met) →
+        Keeps ⟦<MetKey<I::Key> as PartialEq>⟧.eq (I.meaning cx.now) met.now es →
         Contains es (met_at variance ((I.meaning cx.now).ty ty.now) ((I.meaning cx.now).ty x))) }
-    ensures not_met { IfNone result ((es : List Met) → Keeps ⟦<MetKey<I::Key> as PartialEq>⟧.eq (I.meaning cx.now) met.now es →
+    ensures not_met { IfNone result ((es : List Met) →
+        Keeps ⟦<MetKey<I::Key> as PartialEq>⟧.eq (I.meaning cx.now) met.now es →
         (x : Tree) → Contains es (met_at variance ((I.meaning cx.now).ty ty.now) x) → ⊥) }
 {
     let _ = cx;
@@ -116,7 +118,8 @@ fn keep<I: Interner>(
     requires became_known { IsTrue (known ((I.meaning cx.now).ty became)) }
     requires sure { IsSure ⟦<MetKey<I::Key> as PartialEq>⟧.eq (I.meaning cx.now) met.old }
     ensures sure { OnOk result (IsSure ⟦<MetKey<I::Key> as PartialEq>⟧.eq (I.meaning cx.now) met.new) }
-    ensures keeps { OnOk result ((es : List Met) → Keeps ⟦<MetKey<I::Key> as PartialEq>⟧.eq (I.meaning cx.now) met.old es →
+    ensures keeps { OnOk result ((es : List Met) →
+        Keeps ⟦<MetKey<I::Key> as PartialEq>⟧.eq (I.meaning cx.now) met.old es →
         ((x : Tree) → Contains es (met_at variance ((I.meaning cx.now).ty ty.now) x) → ⊥) →
         Keeps ⟦<MetKey<I::Key> as PartialEq>⟧.eq (I.meaning cx.now) met.new
         (met_at variance ((I.meaning cx.now).ty ty.now) ((I.meaning cx.now).ty became) ∷ es)) }
@@ -169,7 +172,8 @@ fn mode_in_ty<I: Interner>(cx: &I, ty: &Ty<I>, i: usize) -> Variance
 // How the parts of a constant vary with the constant.
 fn mode_in_const<I: Interner>(cx: &I, constant: &Const<I>) -> Variance
     requires { IsTrue (known ((I.meaning cx.now).const_ constant.now)) }
-    ensures { let t = (I.meaning cx.now).const_ constant.now in (i : ℕ) (v : Variance) → IsTerm const_sort t → i < count (parts_of t) →
+    ensures { let t = (I.meaning cx.now).const_ constant.now in
+        (i : ℕ) (v : Variance) → IsTerm const_sort t → i < count (parts_of t) →
         variance_of_part (items_of (I.meaning cx.now)) t i v ≡ xform v result }
 {
     match cx.const_kind(constant) {
@@ -188,7 +192,8 @@ fn variance_of<I: Interner>(cx: &I, term: &PartOf<I>, i: usize, variance: Varian
     requires term_known { IsTrue (known (part_tree (I.meaning cx.now) term.now)) }
     requires term_covered { IsCovered (part_tree (I.meaning cx.now) term.now) }
     requires in_bounds { i < count (parts_of (part_tree (I.meaning cx.now) term.now)) }
-    ensures { result ≡ variance_of_part (items_of (I.meaning cx.now)) (part_tree (I.meaning cx.now) term.now) i variance }
+    ensures { let m = I.meaning cx.now in
+        result ≡ variance_of_part (items_of m) (part_tree m term.now) i variance }
 {
     match term {
         Part::Ty(ty) => variance.xform(mode_in_ty(cx, ty, i)),
@@ -233,7 +238,7 @@ impl<I: Interner> RefCtxt<I> {
         requires { vid.0 < length self.now.inner.regions.items }
         ensures { result ≡ universe_of (store_in I.meaning self.now) region_var vid.0 }
     {
-        self.inner.regions[vid.0].0
+        self.inner.regions[vid.0].universe.0
     }
 
     // What becomes of a region for a target, at a variance.
@@ -265,7 +270,8 @@ impl<I: Interner> RefCtxt<I> {
         requires made { IsMade (store_in I.meaning self.now) (vid_kind vid) (vid_number vid) }
         requires other { vid ≢ target.now.vid }
         ensures { IsFate (store_in I.meaning self.now) (vid_kind target.now.vid) (vid_number target.now.vid)
-            target.now.universe.0 variance (leaf (variable (vid_kind vid) (vid_number vid))) (Some (vid_kind vid)) result }
+            target.now.universe.0 variance (leaf (variable (vid_kind vid) (vid_number vid)))
+            (Some (vid_kind vid)) result }
     {
         match vid {
             TermVid::Ty(vid) => {
@@ -286,7 +292,8 @@ impl<I: Interner> RefCtxt<I> {
             InContext (store_in I.meaning self.now) (part_tree m term.now) }
         requires term_covered { IsCovered (part_tree (I.meaning self.now.interner) term.now) }
         ensures { IsFate (store_in I.meaning self.now) (vid_kind target.now.vid) (vid_number target.now.vid)
-            target.now.universe.0 variance (part_tree (I.meaning self.now.interner) term.now) (new_kind term.now) result }
+            target.now.universe.0 variance (part_tree (I.meaning self.now.interner) term.now)
+            (new_kind term.now) result }
     {
         if let Part::Region(region) = term {
             return self.fate_of_region(region, variance, target);
@@ -407,7 +414,8 @@ impl<I: Interner> RefCtxt<I> {
         requires term_covered { IsCovered (part_tree (I.meaning self.old.interner) term.now) }
         requires sure { IsSure ⟦<MetKey<I::Key> as PartialEq>⟧.eq (I.meaning self.old.interner) met.old }
         requires stays { IsFate (store_in I.meaning self.old) (vid_kind target.now.vid) (vid_number target.now.vid)
-            target.now.universe.0 variance (part_tree (I.meaning self.old.interner) term.now) (new_kind term.now) ByParts }
+            target.now.universe.0 variance (part_tree (I.meaning self.old.interner) term.now)
+            (new_kind term.now) ByParts }
         ensures { Generalises I.meaning ⟦<MetKey<I::Key> as PartialEq>⟧.eq self.old self.new
             (vid_kind target.now.vid) (vid_number target.now.vid) target.now.universe.0 target.now.cyclic
             (new_part variance) met.old met.new term.now result }
@@ -450,44 +458,5 @@ impl<I: Interner> RefCtxt<I> {
     {
         let mut met = HashMap::new(self.interner.alloc());
         self.generalise_part(source, variance, target, &mut met)
-    }
-
-    // Binds the root of a type variable to what a type comes to, generalised for it at a variance, for one of the budget, and
-    // answers that.
-    pub(crate) fn instantiate_ty_var_at(
-        &mut self,
-        target: TyVid,
-        variance: Variance,
-        source: &Ty<I>,
-    ) -> Result<Ty<I>, RelateFaultOf<I>>
-        requires lawful { IsLawful (I.meaning self.old.interner) self.old.inner }
-        requires target_made { target.0 < length self.old.inner.types.items }
-        requires target_unbound { entry_of (store_in I.meaning self.old) type_var target.0 ≡ unbound }
-        requires source_known { IsTrue (known ((I.meaning self.old.interner).ty source.now)) }
-        requires source_in { IsTermIn (store_in I.meaning self.old) ((I.meaning self.old.interner).ty source.now) }
-        requires source_no_variable { (n : ℕ) →
-            (I.meaning self.old.interner).ty source.now ≢ leaf (variable type_var n) }
-        requires source_covered { IsCovered ((I.meaning self.old.interner).ty source.now) }
-        ensures lawful { IsLawful (I.meaning self.new.interner) self.new.inner }
-        ensures grown { Extends (I.meaning self.old.interner) (I.meaning self.new.interner) }
-        ensures sure { IfOk result (λ t. IsTrue (known ((I.meaning self.new.interner).ty t))) }
-        ensures answers { let t = (I.meaning self.old.interner).ty source.now in
-            InstantiatesOr (items_of (I.meaning self.old.interner)) (I.meaning self.new.interner).ty CyclicTy type_var
-            variance (store_in I.meaning self.old) (store_in I.meaning self.new) target.0 t result }
-    {
-        if self.inner.budget == 0 {
-            return Err(RelateFault::Budget);
-        }
-        let resolved = self.resolve_vars_if_possible(source)?;
-        let goal = Target {
-            vid: TermVid::Ty(target),
-            universe: self.inner.types[target.0].universe,
-            cyclic: TypeError::CyclicTy(resolved),
-        };
-        let bound = self.generalise(&Part::Ty(resolved), variance, &goal)?;
-        let bound = the_ty(&bound);
-        bind(&mut self.inner.types, target.0, bound);
-        self.inner.budget -= 1;
-        Ok(bound)
     }
 }

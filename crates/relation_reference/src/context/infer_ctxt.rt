@@ -2,7 +2,7 @@
 use crate::context::RefCtxt;
 use relation_terms::terms::{
     Const, ConstVid, FloatVarValue, FloatVid, IntVarValue, IntVid, Interner, OutOfMemory, Region,
-    Span, Ty, TyVid, UniverseIndex, Variance,
+    RegionVid, Span, Ty, TyVid, UniverseIndex, Variance,
 };
 use relation_tools::error::RelateResult;
 use type_relations::infer_ctxt::{InferCtxtLike, VisibleForLeakCheck};
@@ -14,12 +14,19 @@ impl<I: Interner> InferCtxtLike for RefCtxt<I> {
     ghost use Rattle.std.specs.Prelude.{refl};
     ghost use Rattle.relation_reference.specs.Tables.{covered_bindings};
     ghost use Rattle.relation_reference.specs.RefCtxt.{context_in};
+    ghost use Rattle.relation_reference.specs.SubRoots.{root_in};
 
     ghost state = { λ c. context_in I.meaning c };
 
     ghost interner = { λ c. c.interner };
 
     ghost with_interner = { λ c cx. record c { interner = cx } };
+
+    ghost is_next_solver = { λ c. c.inner.next_solver };
+
+    ghost outliving = { λ c. c.inner.ty_outlives.items };
+
+    ghost sub_root = { λ c. root_in c.inner.sub_roots.items };
 
     fn cx(&self) -> &I {
         &self.interner
@@ -31,6 +38,10 @@ impl<I: Interner> InferCtxtLike for RefCtxt<I> {
 
     fn interner_grows(&self) {}
 
+    fn next_trait_solver(&self) -> bool {
+        self.next_trait_solver()
+    }
+
     fn universe(&self) -> UniverseIndex {
         self.inner.universe
     }
@@ -39,8 +50,24 @@ impl<I: Interner> InferCtxtLike for RefCtxt<I> {
         self.budget_left()
     }
 
+    fn universe_of_ty(&self, vid: TyVid) -> Option<UniverseIndex> {
+        self.universe_of_ty(vid)
+    }
+
+    fn universe_of_lt(&self, vid: RegionVid) -> Option<UniverseIndex> {
+        self.universe_of_lt(vid)
+    }
+
+    fn universe_of_ct(&self, vid: ConstVid) -> Option<UniverseIndex> {
+        self.universe_of_ct(vid)
+    }
+
     fn root_ty_var(&self, var: TyVid) -> TyVid {
         self.root_ty_var(var)
+    }
+
+    fn sub_unification_table_root_var(&self, var: TyVid) -> TyVid {
+        self.sub_unification_table_root_var(var)
     }
 
     fn root_const_var(&self, var: ConstVid) -> ConstVid {
@@ -63,12 +90,24 @@ impl<I: Interner> InferCtxtLike for RefCtxt<I> {
         self.opportunistic_resolve_ct_var(vid)
     }
 
+    fn opportunistic_resolve_lt_var(&self, vid: RegionVid) -> Region<I> {
+        self.opportunistic_resolve_lt_var(vid)
+    }
+
     fn shallow_resolve(&self, ty: &Ty<I>) -> Ty<I> {
         self.shallow_resolve(ty)
     }
 
     fn shallow_resolve_const(&self, ct: &Const<I>) -> Const<I> {
         self.shallow_resolve_const(ct)
+    }
+
+    fn resolve_vars_if_possible(&mut self, ty: &Ty<I>) -> Result<Ty<I>, OutOfMemory> {
+        self.resolve_vars_if_possible(ty)
+    }
+
+    fn resolve_const_vars_if_possible(&mut self, ct: &Const<I>) -> Result<Const<I>, OutOfMemory> {
+        self.resolve_const_vars_if_possible(ct)
     }
 
     fn next_ty_infer(&mut self) -> Result<Ty<I>, OutOfMemory> {
@@ -83,8 +122,16 @@ impl<I: Interner> InferCtxtLike for RefCtxt<I> {
         self.next_region_infer()
     }
 
+    fn create_next_universe(&mut self) -> Result<UniverseIndex, OutOfMemory> {
+        self.create_next_universe()
+    }
+
     fn equate_ty_vids_raw(&mut self, a: TyVid, b: TyVid) {
         self.equate_ty_vids_raw(a, b);
+    }
+
+    fn sub_unify_ty_vids_raw(&mut self, a: TyVid, b: TyVid) {
+        self.sub_unify_ty_vids_raw(a, b);
     }
 
     fn equate_int_vids_raw(&mut self, a: IntVid, b: IntVid) {
@@ -111,10 +158,10 @@ impl<I: Interner> InferCtxtLike for RefCtxt<I> {
         &mut self,
         _structurally_relate_aliases: StructurallyRelateAliases,
         target_vid: TyVid,
-        _instantiation_variance: Variance,
+        instantiation_variance: Variance,
         source_ty: &Ty<I>,
     ) -> RelateResult<I, Ty<I>> {
-        self.instantiate_ty_var_raw(target_vid, source_ty)
+        self.instantiate_ty_var_raw(target_vid, instantiation_variance, source_ty)
     }
 
     fn instantiate_const_var_raw(
@@ -146,9 +193,20 @@ impl<I: Interner> InferCtxtLike for RefCtxt<I> {
         self.equate_regions(a, b)
     }
 
+    fn register_ty_outlives(
+        &mut self,
+        ty: &Ty<I>,
+        r: &Region<I>,
+        _span: Span<I>,
+    ) -> Result<(), OutOfMemory> {
+        self.register_ty_outlives(ty, r)
+    }
+
     ghost reads = { λ c. refl };
 
     ghost sound = { λ c l. l.sound };
+
+    ghost numbers = { λ c l. l.numbers_name_nothing };
 
     ghost covered = { λ c l. covered_bindings (I.meaning c.interner) c.inner l };
 }

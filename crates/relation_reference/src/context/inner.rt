@@ -1,8 +1,8 @@
 //! The tables of a context.
-use relation_terms::predicate::RegionConstraint;
-use relation_terms::terms::{ConstKey, TyKey, UniverseIndex};
+use relation_terms::predicate::{OutlivesPredicate, RegionConstraint};
+use relation_terms::terms::{ConstKey, RegionKey, TyKey, UniverseIndex};
 
-/// What is recorded of a variable, whose terms are `K`.
+/// What is recorded of a variable, whose terms are `K`. Of a region variable nothing is.
 #[derive(Clone, Copy)]
 pub enum VariableValue<K> {
     /// Nothing.
@@ -21,17 +21,22 @@ pub struct Variable<K> {
     pub universe: UniverseIndex,
 }
 
-/// What a context has recorded: its variables of each kind by their numbers, the constraints on regions in order, the
-/// current universe, and how many instantiations may still be made; and the keys of all integer and float types.
+/// What a context has recorded: its variables of each kind by their numbers, the constraints on regions and the types
+/// that are to outlive regions in order, of each type variable the root of those that it is marked as related to, the
+/// current universe, and how many instantiations may still be made; whether the next solver is on; and the keys of all
+/// integer and float types.
 #[derive(Drop)]
 pub struct InferCtxtInner<X> {
     pub types: Vec<Variable<TyKey<X>>>,
     pub ints: Vec<Variable<TyKey<X>>>,
     pub floats: Vec<Variable<TyKey<X>>>,
     pub consts: Vec<Variable<ConstKey<X>>>,
-    pub regions: Vec<UniverseIndex>,
+    pub regions: Vec<Variable<RegionKey<X>>>,
     pub constraints: Vec<RegionConstraint<X>>,
+    pub ty_outlives: Vec<OutlivesPredicate<X, TyKey<X>>>,
+    pub sub_roots: Vec<usize>,
     pub universe: UniverseIndex,
     pub budget: usize,
+    pub next_solver: bool,
     pub numbers: Vec<TyKey<X>>,
 }

@@ -1,34 +1,35 @@
-//! Binding type and constant variables of a context to what terms come to.
-ghost use Rattle.std.specs.Prelude.{◌≡◌, ◌≢◌, ℕ, ◌<◌, IsTrue, IfOk, IfErr, length};
+//! Binding type and constant variables of a context to what terms come to, generalised for what the variables can name.
+ghost use Rattle.std.specs.Prelude.{◌≡◌, ◌≢◌, ℕ, ◌<◌, IsTrue, length};
+ghost use Rattle.relation_terms.specs.declared.terms.enums.Variance.TheVariants.{Invariant};
 ghost use Rattle.relation_terms.specs.Heads.{type_var, const_var, variable};
 ghost use Rattle.relation_terms.specs.Trees.{leaf, known};
-ghost use Rattle.relation_terms.specs.Meaning.{Extends};
-ghost use Rattle.relation_tools.specs.Faults.{KnowsFault};
 ghost use Rattle.relation_tools.specs.declared.error.TypeError.TheVariants.{CyclicTy, CyclicConst};
 ghost use Rattle.type_relations.specs.Stores.{unbound, entry_of, IsTermIn};
-ghost use Rattle.type_relations.specs.Parts.{IsFormedConst};
 ghost use Rattle.type_relations.specs.Covered.{IsCovered};
+ghost use Rattle.type_relations.specs.ContextCalls.{Grows, Instantiated};
 ghost use Rattle.relation_reference.specs.Tables.{IsLawful};
-ghost use Rattle.relation_reference.specs.RefCtxt.{store_in};
-ghost use Rattle.relation_reference.specs.Answers.{Instantiated, StepsByInstantiating};
+ghost use Rattle.relation_reference.specs.RefCtxt.{store_in, context_in};
 
 use crate::context::RefCtxt;
+use crate::context::generalising::Target;
 use crate::context::memory::TermVid;
-use crate::context::resolving::occurs;
 use crate::context::table::bind;
-use relation_terms::terms::{Const, ConstVid, Interner, Part, Ty, TyVid};
+use relation_terms::terms::parts::{the_const, the_ty};
+use relation_terms::terms::{Const, ConstVid, Interner, Part, Ty, TyVid, Variance};
 use relation_tools::error::{RelateFault, RelateFaultOf, TypeError};
 
 impl<I: Interner> RefCtxt<I> {
-    /// Binds the root of a type variable to what a type comes to, for one of the budget, and answers that. The type
-    /// does not come to the root itself.
+    /// Binds the root of a type variable, at a variance, to what a type comes to, generalised for what the root can
+    /// name, for one of the budget, and answers that. The type is no type variable.
     ///
     /// # Errors
-    /// `Budget` where no instantiation is left, `CyclicTy` where the root stands in what the type comes to, `Memory`
-    /// where a growth was refused. Then nothing is bound.
+    /// `Budget` where no instantiation is left; `CyclicTy` where the root stands in what the type comes to, `Mismatch`
+    /// where a placeholder does that the root can't name; `Memory` where a growth was refused. Then nothing is bound,
+    /// though variables may have been made on the way, but for `Budget`.
     pub fn instantiate_ty_var_raw(
         &mut self,
         target: TyVid,
+        variance: Variance,
         source: &Ty<I>,
     ) -> Result<Ty<I>, RelateFaultOf<I>>
         requires lawful { IsLawful (I.meaning self.old.interner) self.old.inner }
@@ -39,36 +40,28 @@ impl<I: Interner> RefCtxt<I> {
         requires source_no_variable { (n : ℕ) →
             (I.meaning self.old.interner).ty source.now ≢ leaf (variable type_var n) }
         requires source_covered { IsCovered ((I.meaning self.old.interner).ty source.now) }
-        ensures lawful { IsLawful (I.meaning self.new.interner) self.new.inner }
-        ensures grown { Extends (I.meaning self.old.interner) (I.meaning self.new.interner) }
-        ensures sure { IfOk result (λ t. IsTrue (known ((I.meaning self.new.interner).ty t))) }
-        ensures answers { let t = (I.meaning self.old.interner).ty source.now in
-            Instantiated (I.meaning self.new.interner).ty CyclicTy type_var
-            (store_in I.meaning self.old) (store_in I.meaning self.new) target.0 t result }
-        ensures steps { let t = (I.meaning self.old.interner).ty source.now in
-            StepsByInstantiating (I.meaning self.new.interner).ty type_var
-            (store_in I.meaning self.old) (store_in I.meaning self.new) target.0 t result }
-        ensures why_known { IfErr result (KnowsFault (I.meaning self.new.interner)) }
+        ensures grows { Grows (context_in I.meaning self.old) (context_in I.meaning self.new) }
+        ensures instantiates { let t = (I.meaning self.old.interner).ty source.now in
+            Instantiated (context_in I.meaning self.old) (context_in I.meaning self.new) variance type_var target.0 t
+            (λ m. m.ty) CyclicTy result }
     {
         if self.inner.budget == 0 {
             return Err(RelateFault::Budget);
         }
-        let bound = self.resolve_vars_if_possible(source)?;
-        let cyclic = occurs(&self.interner, &Part::Ty(bound), TermVid::Ty(target))?;
-        if cyclic {
-            return Err(RelateFault::Unrelated(TypeError::CyclicTy(bound)));
-        }
+        let resolved = self.resolve_vars_if_possible(source)?;
+        let goal = Target {
+            vid: TermVid::Ty(target),
+            universe: self.inner.types[target.0].universe,
+            cyclic: TypeError::CyclicTy(resolved),
+        };
+        let part = self.generalise(&Part::Ty(resolved), variance, &goal)?;
+        let bound = the_ty(&part);
         bind(&mut self.inner.types, target.0, bound);
         self.inner.budget -= 1;
         Ok(bound)
     }
 
-    /// Binds the root of a constant variable to what a constant comes to, for one of the budget, and answers that.
-    /// The constant does not come to the root itself.
-    ///
-    /// # Errors
-    /// `Budget` where no instantiation is left, `CyclicConst` where the root stands in what the constant comes to,
-    /// `Memory` where a growth was refused. Then nothing is bound.
+    /// The same of a constant variable and a constant that is no variable, at `Invariant`, with `CyclicConst`.
     pub fn instantiate_const_var_raw(
         &mut self,
         target: ConstVid,
@@ -79,27 +72,25 @@ impl<I: Interner> RefCtxt<I> {
         requires target_unbound { entry_of (store_in I.meaning self.old) const_var target.0 ≡ unbound }
         requires source_known { IsTrue (known ((I.meaning self.old.interner).const_ source.now)) }
         requires source_in { IsTermIn (store_in I.meaning self.old) ((I.meaning self.old.interner).const_ source.now) }
-        requires source_formed { IsFormedConst ((I.meaning self.old.interner).const_ source.now) }
+        requires source_no_variable { (n : ℕ) →
+            (I.meaning self.old.interner).const_ source.now ≢ leaf (variable const_var n) }
         requires source_covered { IsCovered ((I.meaning self.old.interner).const_ source.now) }
-        ensures lawful { IsLawful (I.meaning self.new.interner) self.new.inner }
-        ensures grown { Extends (I.meaning self.old.interner) (I.meaning self.new.interner) }
-        ensures sure { IfOk result (λ t. IsTrue (known ((I.meaning self.new.interner).const_ t))) }
-        ensures answers { let t = (I.meaning self.old.interner).const_ source.now in
-            Instantiated (I.meaning self.new.interner).const_ CyclicConst const_var
-            (store_in I.meaning self.old) (store_in I.meaning self.new) target.0 t result }
-        ensures steps { let t = (I.meaning self.old.interner).const_ source.now in
-            StepsByInstantiating (I.meaning self.new.interner).const_ const_var
-            (store_in I.meaning self.old) (store_in I.meaning self.new) target.0 t result }
-        ensures why_known { IfErr result (KnowsFault (I.meaning self.new.interner)) }
+        ensures grows { Grows (context_in I.meaning self.old) (context_in I.meaning self.new) }
+        ensures instantiates { let t = (I.meaning self.old.interner).const_ source.now in
+            Instantiated (context_in I.meaning self.old) (context_in I.meaning self.new) Invariant const_var target.0 t
+            (λ m. m.const_) CyclicConst result }
     {
         if self.inner.budget == 0 {
             return Err(RelateFault::Budget);
         }
-        let bound = self.resolve_const_vars_if_possible(source)?;
-        let cyclic = occurs(&self.interner, &Part::Const(bound), TermVid::Const(target))?;
-        if cyclic {
-            return Err(RelateFault::Unrelated(TypeError::CyclicConst(bound)));
-        }
+        let resolved = self.resolve_const_vars_if_possible(source)?;
+        let goal = Target {
+            vid: TermVid::Const(target),
+            universe: self.inner.consts[target.0].universe,
+            cyclic: TypeError::CyclicConst(resolved),
+        };
+        let part = self.generalise(&Part::Const(resolved), Variance::Invariant, &goal)?;
+        let bound = the_const(&part);
         bind(&mut self.inner.consts, target.0, bound);
         self.inner.budget -= 1;
         Ok(bound)

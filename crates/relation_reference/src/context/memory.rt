@@ -1,14 +1,12 @@
 //! What walks through terms have met: a part that was met is not gone through again.
 ghost use Rattle.std.specs.Prelude.{◌≡◌, IsTrue, IfSome, OnOk};
-ghost use Rattle.std.specs.HashMap.{IsEmpty};
-ghost use Rattle.relation_terms.specs.Trees.{known, Occurs};
+ghost use Rattle.relation_terms.specs.Trees.{known};
 ghost use Rattle.relation_terms.specs.Parts.{part_tree};
-ghost use Rattle.relation_reference.specs.Remembering.{ComesTo, Remembers, LacksVid, IsWithout, key_of as the_key};
-ghost use Rattle.relation_reference.specs.Remembering.{vid_kind, vid_number};
+ghost use Rattle.relation_reference.specs.Remembering.{ComesTo, Remembers, key_of as the_key};
 
 use crate::context::RefCtxt;
 use relation_terms::terms::{ConstVid, Interner, OutOfMemory, Part, PartOf, TyVid};
-use std::collections::{HashMap, HashSet};
+use std::collections::HashMap;
 
 /// A part as it is looked for: of which sort it is, and its key.
 #[derive(Clone, Copy, PartialEq, Eq, Hash)]
@@ -27,9 +25,6 @@ pub enum TermVid {
 /// What parts that were met were resolved to.
 pub type Resolutions<X, D> = HashMap<PartKey<X>, Part<X, D>>;
 
-/// Parts that were met, and that a variable doesn't stand in.
-pub type Lacking<X> = HashSet<PartKey<X>>;
-
 // A part as it is looked for, where it has a key.
 fn key_of<X: Copy, D: Copy>(part: &Part<X, D>) -> Option<PartKey<X>>
     ensures { result ≡ the_key part.now }
@@ -47,44 +42,6 @@ fn key_of<X: Copy, D: Copy>(part: &Part<X, D>) -> Option<PartKey<X>>
         }
     };
     Some(PartKey { sort, key })
-}
-
-// Whether a variable was looked for in the part before, and doesn't stand in it.
-pub(crate) fn is_lacking<I: Interner>(
-    cx: &I,
-    part: &PartOf<I>,
-    var: TermVid,
-    lacking: &Lacking<I::Key>,
-) -> bool
-    requires known { IsTrue (known (part_tree (I.meaning cx.now) part.now)) }
-    requires lacks { LacksVid (I.meaning cx.now) var ⟦<PartKey<I::Key> as PartialEq>⟧.eq lacking.now }
-    ensures { IsTrue result → Occurs (vid_kind var) (vid_number var) (part_tree (I.meaning cx.now) part.now) → ⊥ }
-{
-    let _ = cx;
-    let _ = var;
-    match key_of(part) {
-        Some(key) => lacking.contains(&key),
-        None => false,
-    }
-}
-
-// Keeps that a variable doesn't stand in the part.
-pub(crate) fn keep_lacking<I: Interner>(
-    cx: &I,
-    part: &PartOf<I>,
-    var: TermVid,
-    lacking: &mut Lacking<I::Key>,
-) -> Result<(), OutOfMemory>
-    requires without { IsWithout (I.meaning cx.now) (vid_kind var) (vid_number var) part.now }
-    requires lacks { LacksVid (I.meaning cx.now) var ⟦<PartKey<I::Key> as PartialEq>⟧.eq lacking.old }
-    ensures { OnOk result (LacksVid (I.meaning cx.now) var ⟦<PartKey<I::Key> as PartialEq>⟧.eq lacking.new) }
-{
-    let _ = cx;
-    let _ = var;
-    if let Some(key) = key_of(part) {
-        lacking.insert(key)?;
-    }
-    Ok(())
 }
 
 impl<I: Interner> RefCtxt<I> {

@@ -1,5 +1,5 @@
-//! Recording in a context: new variables, constraints on regions.
-ghost use Rattle.std.specs.Prelude.{◌≡◌, ◌≢◌, ◌≤◌, IfSome, IsTrue, IfOk, OnErr, OnOk, length};
+//! Recording in a context: new variables and universes, constraints on regions.
+ghost use Rattle.std.specs.Prelude.{◌≡◌, ◌≢◌, ℕ, ◌≤◌, suc, IfSome, IsTrue, IfOk, OnErr, OnOk, length};
 ghost use Rattle.relation_terms.specs.Heads.{type_var, int_var, float_var, const_var, region_var, variable};
 ghost use Rattle.relation_terms.specs.Trees.{leaf, known};
 ghost use Rattle.relation_terms.specs.Meaning.{Extends};
@@ -7,6 +7,7 @@ ghost use Rattle.type_relations.specs.Stores.{IsRegionIn, equal_constraint};
 ghost use Rattle.type_relations.specs.Stores.{outlives_constraint};
 ghost use Rattle.type_relations.specs.Steps.{MakesVariable, AddsConstraint, IsLater};
 ghost use Rattle.type_relations.specs.Measures.{Goes};
+ghost use Rattle.relation_reference.specs.SubRoots.{root_in};
 ghost use Rattle.relation_reference.specs.Tables.{store_of, IsLawful};
 ghost use Rattle.relation_reference.specs.RefCtxt.{store_in};
 
@@ -19,7 +20,7 @@ use relation_terms::terms::{
 
 impl<I: Interner> RefCtxt<I> {
     /// A new type variable in a universe, the current one or an earlier. Variables are numbered from 0 as they are
-    /// made.
+    /// made. It is marked as related to no other.
     ///
     /// After `OutOfMemory` no variable was made.
     pub fn next_ty_var_in(&mut self, universe: UniverseIndex) -> Result<Ty<I>, OutOfMemory>
@@ -34,21 +35,27 @@ impl<I: Interner> RefCtxt<I> {
         ensures makes { let number = length self.old.inner.types.items in
             OnOk result (MakesVariable (store_in I.meaning self.old) (store_in I.meaning self.new)
             type_var number universe.0) }
+        ensures unmarked { (n : ℕ) →
+            root_in self.new.inner.sub_roots.items n ≡ root_in self.old.inner.sub_roots.items n }
         ensures refused { OnErr result (store_in I.meaning self.new ≡ store_in I.meaning self.old) }
     {
         let number = self.inner.types.len();
         let key = self
             .interner
             .mk_ty(TyKind::Infer(InferTy::TyVar(TyVid(number))))?;
+        self.inner.sub_roots.reserve(1)?;
         self.inner.types.push(Variable {
             key,
             value: VariableValue::Unknown,
             universe,
         })?;
+        let own_root = self.inner.sub_roots.len();
+        self.inner.sub_roots.push_reserved(own_root);
         Ok(key)
     }
 
-    /// A new type variable in the current universe. Variables are numbered from 0 as they are made.
+    /// A new type variable in the current universe. Variables are numbered from 0 as they are made. It is marked as
+    /// related to no other.
     ///
     /// After `OutOfMemory` no variable was made.
     pub fn next_ty_infer(&mut self) -> Result<Ty<I>, OutOfMemory>
@@ -62,6 +69,8 @@ impl<I: Interner> RefCtxt<I> {
         ensures makes { let number = length self.old.inner.types.items in
             OnOk result (MakesVariable (store_in I.meaning self.old) (store_in I.meaning self.new)
             type_var number self.old.inner.universe.0) }
+        ensures unmarked { (n : ℕ) →
+            root_in self.new.inner.sub_roots.items n ≡ root_in self.old.inner.sub_roots.items n }
         ensures refused { OnErr result (store_in I.meaning self.new ≡ store_in I.meaning self.old) }
     {
         self.next_ty_var_in(self.inner.universe)
@@ -196,7 +205,11 @@ impl<I: Interner> RefCtxt<I> {
         let key = self
             .interner
             .mk_region(RegionKind::ReVar(RegionVid(number)))?;
-        self.inner.regions.push(universe)?;
+        self.inner.regions.push(Variable {
+            key,
+            value: VariableValue::Unknown,
+            universe,
+        })?;
         Ok(key)
     }
 
@@ -217,6 +230,23 @@ impl<I: Interner> RefCtxt<I> {
         ensures refused { OnErr result (store_in I.meaning self.new ≡ store_in I.meaning self.old) }
     {
         self.next_region_var_in(self.inner.universe)
+    }
+
+    /// A new universe, one above the last, and the current one from then on.
+    ///
+    /// After `OutOfMemory`, where it cannot be counted, there is none.
+    pub fn create_next_universe(&mut self) -> Result<UniverseIndex, OutOfMemory>
+        requires { IsLawful (I.meaning self.old.interner) self.old.inner }
+        ensures interner { self.new.interner ≡ self.old.interner }
+        ensures lawful { IsLawful (I.meaning self.old.interner) self.new.inner }
+        ensures enters { IfOk result (λ u. self.new.inner ≡ record self.old.inner { universe = u }) }
+        ensures next { IfOk result (λ u. u.0 ≡ suc self.old.inner.universe.0) }
+        ensures refused { OnErr result (self.new.inner ≡ self.old.inner) }
+    {
+        let next = self.inner.universe.0.checked_add(1).ok_or(OutOfMemory)?;
+        let inner = &mut self.inner;
+        inner.universe = UniverseIndex(next);
+        Ok(inner.universe)
     }
 
     // Records that two regions outlive each other, also where both are one.

@@ -1,21 +1,19 @@
 //! Resolving terms in a context at every depth.
-ghost use Rattle.std.specs.Prelude.{◌≡◌, ◌↔◌, IsTrue, IsFalse, IfOk, IfSome, IfNone, OnOk};
+ghost use Rattle.std.specs.Prelude.{◌≡◌, ◌↔◌, IsTrue, IfOk, IfSome, IfNone, OnOk};
 ghost use Rattle.relation_terms.specs.Heads.{variable};
-ghost use Rattle.relation_terms.specs.Trees.{leaf, known, Occurs};
+ghost use Rattle.relation_terms.specs.Trees.{leaf, known};
 ghost use Rattle.relation_terms.specs.Meaning.{Extends};
 ghost use Rattle.relation_terms.specs.Parts.{part_tree, part_sort, parts_of, over};
 ghost use Rattle.type_relations.specs.Stores.{InContext};
-ghost use Rattle.type_relations.specs.Errors.{StandsOutside};
-ghost use Rattle.type_relations.specs.Covered.{IsCovered};
 ghost use Rattle.relation_reference.specs.Tables.{IsLawful};
 ghost use Rattle.relation_reference.specs.RefCtxt.{store_in, resolved_in};
-ghost use Rattle.relation_reference.specs.Remembering.{Remembers, LacksVid, vid_kind, vid_number};
+ghost use Rattle.relation_reference.specs.Remembering.{Remembers, vid_kind, vid_number};
 
 use crate::context::RefCtxt;
-use crate::context::memory::{Lacking, PartKey, Resolutions, TermVid, is_lacking, keep_lacking};
+use crate::context::memory::{PartKey, Resolutions, TermVid};
 use relation_terms::terms::parts::{is_same, part, parts_count, the_const, the_ty, with_parts};
 use relation_terms::terms::{Const, Interner, OutOfMemory, Part, PartOf, Ty};
-use std::collections::{HashMap, HashSet};
+use std::collections::HashMap;
 use type_relations::relate::variables::{const_vid, ty_vid};
 
 // The type or constant variable that a term is, or none.
@@ -47,55 +45,6 @@ pub(crate) fn is_same_vid(a: TermVid, b: TermVid) -> bool
             TermVid::Ty(_) => false,
         },
     }
-}
-
-// Whether a variable stands in a term, of forms that relating has rules for. A part that it was looked for in before,
-// and doesn't stand in, is not gone through again.
-fn occurs_in<I: Interner>(
-    cx: &I,
-    term: &PartOf<I>,
-    var: TermVid,
-    lacking: &mut Lacking<I::Key>,
-) -> Result<bool, OutOfMemory>
-    requires term_known { IsTrue (known (part_tree (I.meaning cx.now) term.now)) }
-    requires term_covered { IsCovered (part_tree (I.meaning cx.now) term.now) }
-    requires lacks { LacksVid (I.meaning cx.now) var ⟦<PartKey<I::Key> as PartialEq>⟧.eq lacking.old }
-    ensures lacks { OnOk result (LacksVid (I.meaning cx.now) var ⟦<PartKey<I::Key> as PartialEq>⟧.eq lacking.new) }
-    ensures stands { IfOk result (λ b. IsTrue b →
-        StandsOutside (variable (vid_kind var) (vid_number var)) (part_tree (I.meaning cx.now) term.now)) }
-    ensures absent { IfOk result (λ b. IsFalse b →
-        Occurs (vid_kind var) (vid_number var) (part_tree (I.meaning cx.now) term.now) → ⊥) }
-{
-    if let Some(other) = variable_of(cx, term) {
-        return Ok(is_same_vid(other, var));
-    }
-    if is_lacking(cx, term, var, lacking) {
-        return Ok(false);
-    }
-    for i in 0..parts_count(cx, term) {
-        let stands = occurs_in(cx, &part(cx, term, i), var, lacking)?;
-        if stands {
-            return Ok(true);
-        }
-    }
-    keep_lacking(cx, term, var, lacking)?;
-    Ok(false)
-}
-
-// Whether a variable stands in a term, of forms that relating has rules for.
-pub(crate) fn occurs<I: Interner>(
-    cx: &I,
-    term: &PartOf<I>,
-    var: TermVid,
-) -> Result<bool, OutOfMemory>
-    requires term_known { IsTrue (known (part_tree (I.meaning cx.now) term.now)) }
-    requires term_covered { IsCovered (part_tree (I.meaning cx.now) term.now) }
-    ensures stands { IfOk result (λ b. IsTrue b →
-        StandsOutside (variable (vid_kind var) (vid_number var)) (part_tree (I.meaning cx.now) term.now)) }
-    ensures absent { IfOk result (λ b. IsFalse b →
-        Occurs (vid_kind var) (vid_number var) (part_tree (I.meaning cx.now) term.now) → ⊥) }
-{
-    occurs_in(cx, term, var, &mut HashSet::new(cx.alloc()))
 }
 
 impl<I: Interner> RefCtxt<I> {

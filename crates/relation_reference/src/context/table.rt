@@ -2,7 +2,7 @@
 ghost use Rattle.std.specs.Prelude.{◌≡◌, ◌<◌, length, get_or, map, min, slice_set};
 ghost use Rattle.relation_reference.specs.declared.context.inner.VariableValue.TheVariants.{SameAs, Known};
 ghost use Rattle.relation_reference.specs.Variables.{keys_of, values_of, universes_of, value_at, root_at};
-ghost use Rattle.relation_reference.specs.Variables.{universe_at, term_at, led, led_variable};
+ghost use Rattle.relation_reference.specs.Variables.{universe_at, free_universe, term_at, led, led_variable};
 
 use crate::context::{Variable, VariableValue};
 use relation_terms::terms::UniverseIndex;
@@ -42,6 +42,14 @@ pub(crate) fn term_of<K: Copy>(table: &Vec<Variable<K>>, v: usize) -> K
     }
 }
 
+// The key of a variable.
+pub(crate) fn key_of<K: Copy>(table: &Vec<Variable<K>>, v: usize) -> K
+    requires { v < length table.now.items }
+    ensures { (d : _) → result ≡ get_or (keys_of table.now.items) v d }
+{
+    table[v].key
+}
+
 // The variable, led to the root where it led to the child.
 fn led_to<K: Copy>(entry: &Variable<K>, child: usize, root: usize) -> Variable<K>
     ensures { result ≡ led_variable child root entry.now }
@@ -77,6 +85,24 @@ fn universe_of<K: Copy>(table: &Vec<Variable<K>>, v: usize) -> usize
     ensures { result ≡ universe_at table.now.items v }
 {
     table[v].universe.0
+}
+
+// The universe of the root of a variable's class, or none where that is bound to a term.
+pub(crate) fn universe_of_class<K: Copy>(
+    table: &Vec<Variable<K>>,
+    v: usize,
+) -> Option<UniverseIndex>
+    requires made { v < length table.now.items }
+    requires root_made { root_at table.now.items v < length table.now.items }
+    ensures { let r = root_at table.now.items v in
+        result ≡ free_universe (universe_at table.now.items r) (value_at table.now.items r) }
+{
+    let root = root_of(table, v);
+    match probe(table, root) {
+        VariableValue::Unknown => Some(UniverseIndex(universe_of(table, root))),
+        VariableValue::SameAs(_) => None,
+        VariableValue::Known(_) => None,
+    }
 }
 
 // Writes what is recorded of a variable.

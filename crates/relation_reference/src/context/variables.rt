@@ -18,11 +18,17 @@ pub struct RefCtxt<I: Interner> {
 }
 
 // Tables without variables and constraints, at the first universe.
-fn empty_tables<X>(alloc: Global, budget: usize, numbers: Vec<TyKey<X>>) -> InferCtxtInner<X>
+fn empty_tables<X>(
+    alloc: Global,
+    next_solver: bool,
+    budget: usize,
+    numbers: Vec<TyKey<X>>,
+) -> InferCtxtInner<X>
     ensures new { IsNew result }
     ensures first_universe { result.universe.0 ≡ 0 }
     ensures budget { result.budget ≡ budget }
     ensures numbers { result.numbers ≡ numbers }
+    ensures next_solver { result.next_solver ≡ next_solver }
 {
     InferCtxtInner {
         types: Vec::new(alloc),
@@ -31,43 +37,57 @@ fn empty_tables<X>(alloc: Global, budget: usize, numbers: Vec<TyKey<X>>) -> Infe
         consts: Vec::new(alloc),
         regions: Vec::new(alloc),
         constraints: Vec::new(alloc),
+        ty_outlives: Vec::new(alloc),
+        sub_roots: Vec::new(alloc),
         universe: UniverseIndex(0),
         budget,
+        next_solver,
         numbers,
     }
 }
 
 impl<I: Interner + Drop> RefCtxt<I> {
-    /// A context at the first universe, without variables and constraints, which may make so many instantiations. It
-    /// makes the keys of all integer and float types.
+    /// A context at the first universe, without variables and constraints, for the next solver or the old one, which
+    /// may make so many instantiations. It makes the keys of all integer and float types.
     ///
     /// # Errors
     /// `OutOfMemory` where a growth was refused.
-    pub fn new(interner: I, budget: usize) -> Result<RefCtxt<I>, OutOfMemory>
+    pub fn new(interner: I, next_solver: bool, budget: usize) -> Result<RefCtxt<I>, OutOfMemory>
         ensures grown { IfOk result (λ c. Extends (I.meaning interner) (I.meaning c.interner)) }
         ensures lawful { IfOk result (λ c. IsLawful (I.meaning c.interner) c.inner) }
         ensures new { IfOk result (λ c. IsNew c.inner) }
+        ensures first_universe { IfOk result (λ c. c.inner.universe.0 ≡ 0) }
         ensures budget { IfOk result (λ c. c.inner.budget ≡ budget) }
+        ensures next_solver { IfOk result (λ c. c.inner.next_solver ≡ next_solver) }
     {
         let mut interner = interner;
         let numbers = number_keys(&mut interner)?;
-        let inner = empty_tables(interner.alloc(), budget, numbers);
+        let inner = empty_tables(interner.alloc(), next_solver, budget, numbers);
         Ok(RefCtxt { interner, inner })
     }
 }
 
 impl<I: Interner> RefCtxt<I> {
-    /// A context over the same interner, as `new` makes one. It takes no memory.
+    /// A context over the same interner and for the same solver, as `new` makes one. It takes no memory.
     pub fn renewed(self, budget: usize) -> RefCtxt<I>
         requires { IsLawful (I.meaning self.interner) self.inner }
         ensures interner { result.interner ≡ self.interner }
         ensures lawful { IsLawful (I.meaning self.interner) result.inner }
         ensures new { IsNew result.inner }
+        ensures first_universe { result.inner.universe.0 ≡ 0 }
         ensures budget { result.inner.budget ≡ budget }
+        ensures next_solver { result.inner.next_solver ≡ self.inner.next_solver }
     {
         let RefCtxt { interner, inner } = self;
-        let inner = empty_tables(interner.alloc(), budget, inner.numbers);
+        let inner = empty_tables(interner.alloc(), inner.next_solver, budget, inner.numbers);
         RefCtxt { interner, inner }
+    }
+
+    /// Whether the next trait solver is on, by how the context was made.
+    pub fn next_trait_solver(&self) -> bool
+        ensures { result ≡ self.now.inner.next_solver }
+    {
+        self.inner.next_solver
     }
 
     /// How many instantiations may still be made.

@@ -11,21 +11,18 @@ ghost use Rattle.relation_tools.specs.Collecting.{meant, of_member, kept_of, fou
 ghost use Rattle.relation_tools.specs.Collecting.{Settled, Meets, Keeps};
 
 use crate::outlives::chosen::{Chosen, alias_chosen, is_chosen};
+use crate::outlives::met::{Met, none_met};
 use crate::outlives::{Component, ComponentOf};
 use crate::visit::has_escaping_bound_vars;
 use relation_terms::terms::parts::{member, member_count, parts_of, ty_parts, visited_place};
 use relation_terms::terms::{
-    AliasTy, GenericArg, GenericArgKind, GenericArgs, Interner, OutOfMemory, Part, PartOf, Parts,
-    PartsOf, Region, RegionKind, Ty, TyKind, closure_upvars, coroutine_resume_ty, coroutine_upvars,
+    AliasTy, GenericArgKind, GenericArgs, Interner, OutOfMemory, Part, PartOf, Parts, PartsOf,
+    Region, RegionKind, Ty, TyKind, Tys, closure_upvars, coroutine_resume_ty, coroutine_upvars,
 };
-use std::collections::HashSet;
 
 // Whether a part is met for the first time. A type and a constant are kept; of all else no account is kept.
-fn meet<I: Interner>(
-    cx: &I,
-    part: &PartOf<I>,
-    visited: &mut HashSet<GenericArg<I>>,
-) -> Result<bool, OutOfMemory>
+#[inline(always)]
+fn meet<I: Interner>(cx: &I, part: &PartOf<I>, visited: &mut Met<I>) -> Result<bool, OutOfMemory>
     ensures { IfOk result (λ new.
         Keeps ⟦<GenericArgKind<I::Key> as PartialEq>⟧.eq (kept_of part.now) new visited.old.keys visited.new.keys) }
 {
@@ -75,7 +72,7 @@ pub fn collect_part<I: Interner>(
     cx: &I,
     part: &PartOf<I>,
     out: &mut Vec<ComponentOf<I>>,
-    visited: &mut HashSet<GenericArg<I>>,
+    visited: &mut Met<I>,
 ) -> Result<(), OutOfMemory>
     requires known { IsTrue (known (part_tree (I.meaning cx.now) part.now)) }
     requires settled { Settled (I.meaning cx.now) ⟦<GenericArgKind<I::Key> as PartialEq>⟧.eq
@@ -87,15 +84,66 @@ pub fn collect_part<I: Interner>(
     ensures meets { OnOk result (Meets (I.meaning cx.now) ⟦<GenericArgKind<I::Key> as PartialEq>⟧.eq
         visited.old.keys visited.new.keys out.new.items) }
 {
-    let first = meet(cx, part, visited)?;
+    match part {
+        Part::Region(region) => collect_region(cx, region, out),
+        Part::Ty(ty) => collect_type(cx, ty, out, visited),
+        _ => {
+            let first = meet(cx, part, visited)?;
+            if !first {
+                return Ok(());
+            }
+            collect_members(cx, &parts_of(cx, part), &Chosen::Every, out, visited)
+        }
+    }
+}
+
+// Adds the components of a type, but where it was met before. Types are most of what stands in types.
+#[cycle(collect)]
+fn collect_type<I: Interner>(
+    cx: &I,
+    ty: &Ty<I>,
+    out: &mut Vec<ComponentOf<I>>,
+    visited: &mut Met<I>,
+) -> Result<(), OutOfMemory>
+    requires known { IsTrue (known ((I.meaning cx.now).ty ty.now)) }
+    requires settled { Settled (I.meaning cx.now) ⟦<GenericArgKind<I::Key> as PartialEq>⟧.eq
+        (suc (size ((I.meaning cx.now).ty ty.now))) visited.old.keys out.old.items }
+    ensures some { AddsSome (I.meaning cx.now) (components every ((I.meaning cx.now).ty ty.now))
+        out.old.items out.new.items }
+    ensures all { OnOk result (HasAll (I.meaning cx.now) (components every ((I.meaning cx.now).ty ty.now))
+        out.new.items) }
+    ensures meets { OnOk result (Meets (I.meaning cx.now) ⟦<GenericArgKind<I::Key> as PartialEq>⟧.eq
+        visited.old.keys visited.new.keys out.new.items) }
+{
+    let first = meet(cx, &Part::Ty(*ty), visited)?;
     if !first {
         return Ok(());
     }
-    match part {
-        Part::Region(region) => collect_region(cx, region, out),
-        Part::Ty(ty) => collect_ty(cx, ty, out, visited),
-        _ => collect_members(cx, &parts_of(cx, part), &Chosen::Every, out, visited),
+    collect_ty(cx, ty, out, visited)
+}
+
+// Adds the components of the types of a list.
+#[cycle(collect)]
+fn collect_tys<I: Interner>(
+    cx: &I,
+    tys: &Tys<I>,
+    out: &mut Vec<ComponentOf<I>>,
+    visited: &mut Met<I>,
+) -> Result<(), OutOfMemory>
+    requires known { IsTrue (known ((I.meaning cx.now).tys tys.now)) }
+    requires settled { Settled (I.meaning cx.now) ⟦<GenericArgKind<I::Key> as PartialEq>⟧.eq
+        (size ((I.meaning cx.now).tys tys.now)) visited.old.keys out.old.items }
+    ensures some { AddsSome (I.meaning cx.now) (components every ((I.meaning cx.now).tys tys.now))
+        out.old.items out.new.items }
+    ensures all { OnOk result (HasAll (I.meaning cx.now) (components every ((I.meaning cx.now).tys tys.now))
+        out.new.items) }
+    ensures meets { OnOk result (Meets (I.meaning cx.now) ⟦<GenericArgKind<I::Key> as PartialEq>⟧.eq
+        visited.old.keys visited.new.keys out.new.items) }
+{
+    for ty in cx.tys(tys) {
+        collect_type(cx, ty, out, visited)?;
     }
+    Ok(())
 }
 
 // Adds the components of the members of a list that are chosen.
@@ -105,7 +153,7 @@ fn collect_members<I: Interner>(
     parts: &PartsOf<I>,
     chosen: &Chosen<I::Id>,
     out: &mut Vec<ComponentOf<I>>,
-    visited: &mut HashSet<GenericArg<I>>,
+    visited: &mut Met<I>,
 ) -> Result<(), OutOfMemory>
     requires known { IsTrue (known (parts_tree (I.meaning cx.now) parts.now)) }
     requires settled { Settled (I.meaning cx.now) ⟦<GenericArgKind<I::Key> as PartialEq>⟧.eq
@@ -135,7 +183,7 @@ fn collect_member<I: Interner>(
     chosen: &Chosen<I::Id>,
     i: usize,
     out: &mut Vec<ComponentOf<I>>,
-    visited: &mut HashSet<GenericArg<I>>,
+    visited: &mut Met<I>,
 ) -> Result<(), OutOfMemory>
     requires known { IsTrue (known (parts_tree (I.meaning cx.now) parts.now)) }
     requires in_bounds { i < count (parts_tree (I.meaning cx.now) parts.now) }
@@ -163,7 +211,7 @@ fn collect_found<I: Interner>(
     cx: &I,
     found: Option<Ty<I>>,
     out: &mut Vec<ComponentOf<I>>,
-    visited: &mut HashSet<GenericArg<I>>,
+    visited: &mut Met<I>,
 ) -> Result<(), OutOfMemory>
     requires known { IfSome found (λ t. IsTrue (known ((I.meaning cx.now).ty t))) }
     requires settled { Settled (I.meaning cx.now) ⟦<GenericArgKind<I::Key> as PartialEq>⟧.eq
@@ -176,7 +224,7 @@ fn collect_found<I: Interner>(
         visited.old.keys visited.new.keys out.new.items) }
 {
     match found {
-        Some(ty) => collect_part(cx, &Part::Ty(ty), out, visited),
+        Some(ty) => collect_type(cx, &ty, out, visited),
         None => Ok(()),
     }
 }
@@ -187,7 +235,7 @@ fn collect_closure<I: Interner>(
     cx: &I,
     args: &GenericArgs<I>,
     out: &mut Vec<ComponentOf<I>>,
-    visited: &mut HashSet<GenericArg<I>>,
+    visited: &mut Met<I>,
 ) -> Result<(), OutOfMemory>
     requires known { IsTrue (known ((I.meaning cx.now).args args.now)) }
     requires settled { Settled (I.meaning cx.now) ⟦<GenericArgKind<I::Key> as PartialEq>⟧.eq
@@ -208,7 +256,7 @@ fn collect_coroutine<I: Interner>(
     cx: &I,
     args: &GenericArgs<I>,
     out: &mut Vec<ComponentOf<I>>,
-    visited: &mut HashSet<GenericArg<I>>,
+    visited: &mut Met<I>,
 ) -> Result<(), OutOfMemory>
     requires known { IsTrue (known ((I.meaning cx.now).args args.now)) }
     requires settled { Settled (I.meaning cx.now) ⟦<GenericArgKind<I::Key> as PartialEq>⟧.eq
@@ -231,7 +279,7 @@ fn collect_ty<I: Interner>(
     cx: &I,
     ty: &Ty<I>,
     out: &mut Vec<ComponentOf<I>>,
-    visited: &mut HashSet<GenericArg<I>>,
+    visited: &mut Met<I>,
 ) -> Result<(), OutOfMemory>
     requires known { IsTrue (known ((I.meaning cx.now).ty ty.now)) }
     requires settled { Settled (I.meaning cx.now) ⟦<GenericArgKind<I::Key> as PartialEq>⟧.eq
@@ -255,6 +303,13 @@ fn collect_ty<I: Interner>(
         TyKind::Param(param) => add(cx, out, Component::Param(*param)),
         TyKind::Placeholder(placeholder) => add(cx, out, Component::Placeholder(*placeholder)),
         TyKind::Infer(var) => add(cx, out, Component::UnresolvedInferenceVariable(*var)),
+        TyKind::Slice(element) => collect_type(cx, element, out, visited),
+        TyKind::RawPtr(pointee, _) => collect_type(cx, pointee, out, visited),
+        TyKind::Ref(region, pointee, _) => {
+            collect_region(cx, region, out)?;
+            collect_type(cx, pointee, out, visited)
+        }
+        TyKind::Tuple(members) => collect_tys(cx, members, out, visited),
         TyKind::Alias(alias) if has_escaping_bound_vars(cx, ty) => collect_escaping(cx, alias, out),
         TyKind::Alias(alias) => add(cx, out, Component::Alias(*alias)),
         _ => collect_members(cx, &ty_parts(&kind), &Chosen::Every, out, visited),
@@ -295,7 +350,7 @@ pub fn collect_alias_args<I: Interner>(
         (inside_alias (I.meaning cx.now).alias_variances (kind_tree (I.meaning cx.now) (AliasForm alias.now)))
         out.new.items) }
 {
-    let mut visited = HashSet::new(cx.alloc());
+    let mut visited = none_met(cx);
     let chosen = alias_chosen(&alias.kind);
     collect_members(cx, &Parts::Args(alias.args), &chosen, out, &mut visited)
 }

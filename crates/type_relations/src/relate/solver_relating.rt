@@ -1,36 +1,38 @@
 //! Relating as a solver does: by what a context has recorded, and by recording more.
-ghost use Rattle.std.specs.Prelude.{◌≡◌, ◌≢◌, IfOk, IfErr, []};
+ghost use Rattle.std.specs.Prelude.{◌≡◌, ◌≢◌, IfErr, []};
 ghost use Rattle.relation_terms.specs.Meaning.{Extends};
 ghost use Rattle.relation_tools.specs.Faults.{KnowsFault, IfSpent};
 ghost use Rattle.type_relations.specs.Stores.{IsSound};
 ghost use Rattle.type_relations.specs.Steps.{IsLater, MakesToInstantiate, BindsItsOwn};
 ghost use Rattle.type_relations.specs.Contexts.{KnowsEnv, KnowsTy, TakesTy, HasTy, AreOneTy, AnswersTys};
 ghost use Rattle.type_relations.specs.Contexts.{KeepsEqualTys, TellsApart, AnswersError, DoesNothing, AnswersExactly};
-ghost use Rattle.type_relations.specs.Contexts.{ProvesApart, SpendsByBinding};
+ghost use Rattle.type_relations.specs.Contexts.{ProvesApart, SpendsByBinding, RegistersGoals};
+ghost use Rattle.type_relations.specs.Keyed.{AskedTys, RelatedTys};
+ghost use Rattle.type_relations.specs.Solving.{solving_in, solver_manner};
 
+mod recording;
 mod relation;
 
 use crate::infer_ctxt::InferCtxtLike;
-pub use relation::SolverRelating;
-use relation::relate_in;
-use relation_terms::terms::{Goal, Interner, Keys, ParamEnv, Predicate, Span, Ty, Variance};
+pub use relation::{GoalOf, SolverRelating};
+use relation_terms::terms::{Interner, ParamEnv, Span, Ty, Variance};
 use relation_tools::error::RelateResult;
 
 /// The goals that relating answers, or why it stopped.
-pub type RelateGoals<I> = RelateResult<I, Vec<Goal<<I as Keys>::Key, Predicate<I>>>>;
+pub type RelateGoals<I> = RelateResult<I, Vec<GoalOf<I>>>;
 
 /// An inference context that relates terms.
 pub trait RelateExt: InferCtxtLike {
     /// Relates two types at a variance, and answers the goals under which they are related.
     ///
-    /// Both types and the environment are the interner's, and the variables in them are the context's. Types with type
-    /// or constant variables are related at `Invariant`, all others at each variance but `Bivariant`. Not related yet,
-    /// at any variance, are types in which an alias stands, an unevaluated constant, a pattern type, an error, a binder
-    /// or what it binds, or a stand-in.
+    /// Both types and the environment are the interner's, and the variables in them are the context's. They are related
+    /// at each variance but `Bivariant`. Not related yet are types in which an alias stands, an unevaluated constant, a
+    /// pattern type, an error, a binder or what it binds, or a stand-in.
     ///
     /// After `Ok`, each assignment that satisfies what is recorded and makes the goals true relates the types; and each
-    /// that satisfied what was recorded and made them one extends to such a one. No goal is answered yet. Equal types
-    /// record nothing. Of first-order types in a first-order record at `Invariant` just those solutions up to erasure
+    /// that satisfied what was recorded and made them one extends to such a one. Each goal asks, in the environment, that
+    /// of two type variables the one is a subtype of the other: such as met at `Covariant` or `Contravariant`, each
+    /// unbound before or made on the way. Equal types record nothing, and ask for no goal. Of first-order types in a first-order record at `Invariant` just those solutions up to erasure
     /// stay that unify them: what is recorded is then a most general unifier.
     ///
     /// Answers `Unrelated` only where no assignment that satisfied what was recorded makes the types one: with the
@@ -55,8 +57,8 @@ pub trait RelateExt: InferCtxtLike {
         requires env_known { KnowsEnv (Self.state self.old) param_env }
         requires lhs_known { KnowsTy (Self.state self.old) lhs }
         requires rhs_known { KnowsTy (Self.state self.old) rhs }
-        requires lhs_taken { TakesTy (Self.state self.old) variance lhs }
-        requires rhs_taken { TakesTy (Self.state self.old) variance rhs }
+        requires lhs_taken { TakesTy (Self.state self.old) lhs }
+        requires rhs_taken { TakesTy (Self.state self.old) rhs }
         requires lhs_in { HasTy (Self.state self.old) lhs }
         requires rhs_in { HasTy (Self.state self.old) rhs }
         ensures answers { AnswersTys (Self.state self.old) (Self.state self.new) param_env variance lhs rhs result }
@@ -66,7 +68,7 @@ pub trait RelateExt: InferCtxtLike {
         ensures spent { IfSpent result ((Self.state self.new).store.budget ≡ 0) }
         ensures same { AreOneTy (Self.state self.old) lhs rhs →
             DoesNothing (Self.state self.old) (Self.state self.new) result }
-        ensures goals { IfOk result (λ goals. goals.items ≡ []) }
+        ensures goals { RegistersGoals (Self.state self.old) (Self.state self.new) param_env result }
         ensures exact { AnswersExactly (Self.state self.old) (Self.state self.new) variance lhs rhs result }
         ensures no_unifier { ProvesApart (Self.state self.old) (Self.state self.new) variance lhs rhs result }
         ensures later { IsLater (Self.state self.old).store (Self.state self.new).store }
@@ -93,8 +95,8 @@ impl<Infcx: InferCtxtLike> RelateExt for Infcx {
         requires env_known { KnowsEnv (Infcx.state self.old) param_env }
         requires lhs_known { KnowsTy (Infcx.state self.old) lhs }
         requires rhs_known { KnowsTy (Infcx.state self.old) rhs }
-        requires lhs_taken { TakesTy (Infcx.state self.old) variance lhs }
-        requires rhs_taken { TakesTy (Infcx.state self.old) variance rhs }
+        requires lhs_taken { TakesTy (Infcx.state self.old) lhs }
+        requires rhs_taken { TakesTy (Infcx.state self.old) rhs }
         requires lhs_in { HasTy (Infcx.state self.old) lhs }
         requires rhs_in { HasTy (Infcx.state self.old) rhs }
         ensures answers { AnswersTys (Infcx.state self.old) (Infcx.state self.new) param_env variance lhs rhs result }
@@ -104,7 +106,7 @@ impl<Infcx: InferCtxtLike> RelateExt for Infcx {
         ensures spent { IfSpent result ((Infcx.state self.new).store.budget ≡ 0) }
         ensures same { AreOneTy (Infcx.state self.old) lhs rhs →
             DoesNothing (Infcx.state self.old) (Infcx.state self.new) result }
-        ensures goals { IfOk result (λ goals. goals.items ≡ []) }
+        ensures goals { RegistersGoals (Infcx.state self.old) (Infcx.state self.new) param_env result }
         ensures exact { AnswersExactly (Infcx.state self.old) (Infcx.state self.new) variance lhs rhs result }
         ensures no_unifier { ProvesApart (Infcx.state self.old) (Infcx.state self.new) variance lhs rhs result }
         ensures later { IsLater (Infcx.state self.old).store (Infcx.state self.new).store }
@@ -119,7 +121,43 @@ impl<Infcx: InferCtxtLike> RelateExt for Infcx {
         if lhs == rhs {
             return Ok(Vec::new(self.cx().alloc()));
         }
-        relate_in(self, param_env, &lhs, variance, &rhs, span)?;
-        Ok(Vec::new(self.cx().alloc()))
+        let (related, goals) = relate_in(self, param_env, &lhs, variance, &rhs, span);
+        related?;
+        Ok(goals)
     }
+}
+
+// Relates two types of a context at a variance, in an environment, and answers what comes of it and the goals that were
+// registered.
+fn relate_in<Infcx: InferCtxtLike>(
+    infcx: &mut Infcx,
+    param_env: ParamEnv<Infcx::Interner>,
+    a: &Ty<Infcx::Interner>,
+    variance: Variance,
+    b: &Ty<Infcx::Interner>,
+    span: Span<Infcx::Interner>,
+) -> (
+    RelateResult<Infcx::Interner, Ty<Infcx::Interner>>,
+    Vec<GoalOf<Infcx::Interner>>,
+)
+    requires lawful { (Infcx.state infcx.old).lawful }
+    requires env_known { KnowsEnv (Infcx.state infcx.old) param_env }
+    requires decides { variance ≢ Variance.Bivariant }
+    requires asked { AskedTys solver_manner (solving_in [] (Infcx.state infcx.old) variance param_env) a.now b.now }
+    ensures { let before = solving_in [] (Infcx.state infcx.old) variance param_env in
+        let after = solving_in result.1.items (Infcx.state infcx.new) variance param_env in
+        RelatedTys solver_manner before after a.now b.now result.0 }
+{
+    let goals = Vec::new(infcx.cx().alloc());
+    let mut relation = SolverRelating {
+        infcx,
+        ambient_variance: variance,
+        param_env,
+        span,
+        goals,
+    };
+    let related = relation.relate_tys(a, b);
+    let goals = relation.take_goals();
+    let _infcx = relation.into_infcx();
+    (related, goals)
 }

@@ -1,45 +1,52 @@
 //! The relation of a context.
-ghost use Rattle.std.specs.Prelude.{◌≡◌, ◌≢◌, ℕ, IfSome, IfOk, OnOk};
+ghost use Rattle.std.specs.Prelude.{◌≡◌, ◌≢◌, ℕ, [], All};
 ghost use Rattle.relation_terms.specs.Heads.{arguments, type_var, variable};
 ghost use Rattle.relation_terms.specs.Trees.{leaf};
 ghost use Rattle.relation_terms.specs.declared.terms.enums.Variance.TheVariants.{Bivariant};
 ghost use Rattle.relation_tools.specs.declared.error.TypeError.TheVariants.{Sorts};
 ghost use Rattle.relation_tools.specs.declared.error.RelateFault.TheVariants.{Unrelated};
-ghost use Rattle.type_relations.specs.Steps.{AddsConstraint};
-ghost use Rattle.type_relations.specs.Measures.{Goes};
-ghost use Rattle.type_relations.specs.Contexts.{KnowsEnv, HasRegion};
-ghost use Rattle.type_relations.specs.ContextCalls.{Stands};
-ghost use Rattle.type_relations.specs.Constraints.{constraint_at, constraint_of};
+ghost use Rattle.type_relations.specs.Contexts.{KnowsEnv, KnowsTy};
+ghost use Rattle.type_relations.specs.ContextCalls.{IsUnresolved};
+ghost use Rattle.type_relations.specs.Goals.{KnowsGoal};
 ghost use Rattle.type_relations.specs.Keyed.{AreAsMany, AskedLists, RelatedLists, AskedTys, AskedConsts, RelatedTys};
 ghost use Rattle.type_relations.specs.Keyed.{SteppedTys, SteppedConsts};
 ghost use Rattle.type_relations.specs.Resolving.{IsShallow, IsShallowConst};
 ghost use Rattle.type_relations.specs.Solving.{solving_in, solving_through, solver_manner};
 
-use crate::infer_ctxt::{InferCtxtLike, VisibleForLeakCheck};
+use crate::infer_ctxt::InferCtxtLike;
 use crate::relate::number_vars::{bind_number, equate_numbers, number_var};
+use crate::relate::solver_relating::recording::{relate_regions, subtype_predicate};
 use crate::relate::structural::tys;
 use crate::relate::variables::{const_var, have_no_variable, ty_var};
 use crate::relate::{Step, StructurallyRelateAliases, TypeRelation, relate_args_invariantly};
 use relation_terms::terms::{
-    Const, GenericArgs, Interner, ItemOf, OutOfMemory, ParamEnv, Region, Span, Ty, Variance,
+    Const, GenericArgs, Goal, Interner, ItemOf, Keys, ParamEnv, Predicate, Region, Span, Ty, TyVid,
+    Variance,
 };
 use relation_tools::error::{ExpectedFound, RelateFault, RelateFaultOf, RelateResult, TypeError};
+use std::mem::replace;
+
+/// A goal over an interner's keys.
+pub type GoalOf<I> = Goal<<I as Keys>::Key, Predicate<I>>;
 
 /// Relates the terms of a context, at an ambient variance and in an environment.
 ///
 /// Types and constants are read by what is recorded of variables. A variable and a term that it is related with are made
 /// one, an integer or float variable and a type only where that is a type of its kind; of two regions it is recorded
-/// which has to outlive the other. Terms with type or constant variables are related at `Invariant` alone.
+/// which has to outlive the other. Of two type variables it is registered, but at `Invariant`, that the one is a subtype
+/// of the other.
 #[derive(Drop)]
 pub struct SolverRelating<'a, Infcx: InferCtxtLike> {
-    infcx: &'a mut Infcx,
-    ambient_variance: Variance,
-    param_env: ParamEnv<Infcx::Interner>,
-    span: Span<Infcx::Interner>,
+    pub(super) infcx: &'a mut Infcx,
+    pub(super) ambient_variance: Variance,
+    pub(super) param_env: ParamEnv<Infcx::Interner>,
+    pub(super) span: Span<Infcx::Interner>,
+    pub(super) goals: Vec<GoalOf<Infcx::Interner>>,
 }
 
 impl<'a, Infcx: InferCtxtLike> SolverRelating<'a, Infcx> {
-    /// The relation of a context. Constraints on regions are recorded with the span.
+    /// The relation of a context. Constraints on regions are recorded with the span, and goals are registered in the
+    /// environment: none yet.
     pub fn new(
         infcx: &'a mut Infcx,
         ambient_variance: Variance,
@@ -51,12 +58,15 @@ impl<'a, Infcx: InferCtxtLike> SolverRelating<'a, Infcx> {
         ensures ambient_variance { result.ambient_variance ≡ ambient_variance }
         ensures param_env { result.param_env ≡ param_env }
         ensures span { result.span ≡ span }
+        ensures goals { result.goals.items ≡ [] }
     {
+        let goals = Vec::new(infcx.cx().alloc());
         SolverRelating {
             infcx,
             ambient_variance,
             param_env,
             span,
+            goals,
         }
     }
 
@@ -73,13 +83,15 @@ impl<'a, Infcx: InferCtxtLike> SolverRelating<'a, Infcx> {
     ) -> RelateResult<Infcx::Interner, Ty<Infcx::Interner>>
         requires lawful { (Infcx.state self.old.infcx.now).lawful }
         requires env_known { KnowsEnv (Infcx.state self.old.infcx.now) self.old.param_env }
+        requires goals_known { All (KnowsGoal (Infcx.state self.old.infcx.now).meaning) self.old.goals.items }
         requires decides { self.old.ambient_variance ≢ Bivariant }
         requires asked { let before = Infcx.state self.old.infcx.now in
-            AskedTys solver_manner (solving_in before self.old.ambient_variance self.old.param_env) a.now b.now }
+            AskedTys solver_manner (solving_in self.old.goals.items before self.old.ambient_variance self.old.param_env)
+            a.now b.now }
         ensures same_reference { self.new.infcx.ghost_name ≡ self.old.infcx.ghost_name }
         ensures related { let v = self.old.ambient_variance in
-            let before = solving_in (Infcx.state self.old.infcx.now) v self.old.param_env in
-            let after = solving_in (Infcx.state self.new.infcx.now) v self.old.param_env in
+            let before = solving_in self.old.goals.items (Infcx.state self.old.infcx.now) v self.old.param_env in
+            let after = solving_in self.new.goals.items (Infcx.state self.new.infcx.now) v self.old.param_env in
             RelatedTys solver_manner before after a.now b.now result }
     {
         tys(self, a, b)
@@ -99,22 +111,75 @@ impl<'a, Infcx: InferCtxtLike> SolverRelating<'a, Infcx> {
     ) -> RelateResult<Infcx::Interner, GenericArgs<Infcx::Interner>>
         requires lawful { (Infcx.state self.old.infcx.now).lawful }
         requires env_known { KnowsEnv (Infcx.state self.old.infcx.now) self.old.param_env }
+        requires goals_known { All (KnowsGoal (Infcx.state self.old.infcx.now).meaning) self.old.goals.items }
         requires decides { self.old.ambient_variance ≢ Bivariant }
         requires asked { let v = self.old.ambient_variance in
-            let before = solving_in (Infcx.state self.old.infcx.now) v self.old.param_env in
+            let before = solving_in self.old.goals.items (Infcx.state self.old.infcx.now) v self.old.param_env in
             AskedLists solver_manner before (λ m. arguments) a.now b.now }
         requires as_many { let v = self.old.ambient_variance in
-            AreAsMany (solving_in (Infcx.state self.old.infcx.now) v self.old.param_env) a.now b.now }
+            AreAsMany (solving_in self.old.goals.items (Infcx.state self.old.infcx.now) v self.old.param_env) a.now b.now }
         ensures same_reference { self.new.infcx.ghost_name ≡ self.old.infcx.ghost_name }
         ensures related { let v = self.old.ambient_variance in
-            let before = solving_in (Infcx.state self.old.infcx.now) v self.old.param_env in
-            let after = solving_in (Infcx.state self.new.infcx.now) v self.old.param_env in
+            let before = solving_in self.old.goals.items (Infcx.state self.old.infcx.now) v self.old.param_env in
+            let after = solving_in self.new.goals.items (Infcx.state self.new.infcx.now) v self.old.param_env in
             RelatedLists solver_manner before after (λ m. arguments) a.now b.now result }
     {
         relate_args_invariantly(self, a, b)
     }
 
-    // What comes of two types that were resolved shallowly: a type variable is made one with another, or bound to a type,
+    // What comes of two type variables, of which nothing is recorded: at invariance they are made one, else it is
+    // registered that the one is a subtype of the other.
+    fn combine_ty_vars(
+        &mut self,
+        a: &Ty<Infcx::Interner>,
+        x: TyVid,
+        b: &Ty<Infcx::Interner>,
+        y: TyVid,
+    ) -> RelateResult<Infcx::Interner, Step<Ty<Infcx::Interner>>>
+        requires lawful { (Infcx.state self.old.infcx.now).lawful }
+        requires env_known { KnowsEnv (Infcx.state self.old.infcx.now) self.old.param_env }
+        requires goals_known { All (KnowsGoal (Infcx.state self.old.infcx.now).meaning) self.old.goals.items }
+        requires decides { self.old.ambient_variance ≢ Bivariant }
+        requires a_known { KnowsTy (Infcx.state self.old.infcx.now) a.now }
+        requires b_known { KnowsTy (Infcx.state self.old.infcx.now) b.now }
+        requires a_is { ((Infcx.state self.old.infcx.now).meaning).ty a.now ≡ leaf (variable type_var x.0) }
+        requires b_is { ((Infcx.state self.old.infcx.now).meaning).ty b.now ≡ leaf (variable type_var y.0) }
+        requires a_unresolved { IsUnresolved (Infcx.state self.old.infcx.now) type_var x.0 }
+        requires b_unresolved { IsUnresolved (Infcx.state self.old.infcx.now) type_var y.0 }
+        ensures { let r = self.old in let q = self.new in
+            let before = solving_through r.infcx.ghost_name r.goals.items (Infcx.state r.infcx.now) r.ambient_variance
+            r.param_env in
+            let after = solving_through q.infcx.ghost_name q.goals.items (Infcx.state q.infcx.now) q.ambient_variance
+            q.param_env in
+            SteppedTys solver_manner before after a.now b.now result }
+    {
+        let param_env = self.param_env;
+        match self.ambient_variance {
+            Variance::Covariant => {
+                let predicate = subtype_predicate(&mut *self.infcx, true, a, b)?;
+                self.goals.push(Goal {
+                    param_env,
+                    predicate,
+                })?;
+                Ok(Step::Done(*a))
+            }
+            Variance::Contravariant => {
+                let predicate = subtype_predicate(&mut *self.infcx, false, b, a)?;
+                self.goals.push(Goal {
+                    param_env,
+                    predicate,
+                })?;
+                Ok(Step::Done(*a))
+            }
+            Variance::Invariant => {
+                self.infcx.equate_ty_vids_raw(x, y);
+                Ok(Step::Done(*a))
+            }
+            Variance::Bivariant => unreachable!(),
+        }
+    }
+
+    // What comes of two types that were resolved shallowly: two type variables as above; a type variable is bound to a type,
     // which is then related with that.
     fn combine_tys(
         &mut self,
@@ -123,23 +188,24 @@ impl<'a, Infcx: InferCtxtLike> SolverRelating<'a, Infcx> {
     ) -> RelateResult<Infcx::Interner, Step<Ty<Infcx::Interner>>>
         requires lawful { (Infcx.state self.old.infcx.now).lawful }
         requires env_known { KnowsEnv (Infcx.state self.old.infcx.now) self.old.param_env }
+        requires goals_known { All (KnowsGoal (Infcx.state self.old.infcx.now).meaning) self.old.goals.items }
         requires decides { self.old.ambient_variance ≢ Bivariant }
         requires asked { let r = self.old in
-            let before = solving_through r.infcx.ghost_name (Infcx.state r.infcx.now) r.ambient_variance r.param_env in
+            let before = solving_through r.infcx.ghost_name r.goals.items (Infcx.state r.infcx.now) r.ambient_variance
+            r.param_env in
             AskedTys solver_manner before a.now b.now }
         requires a_shallow { let r = Infcx.state self.old.infcx.now in IsShallow r.store ((r.meaning).ty a.now) }
         requires b_shallow { let r = Infcx.state self.old.infcx.now in IsShallow r.store ((r.meaning).ty b.now) }
         ensures { let r = self.old in let q = self.new in
-            let before = solving_through r.infcx.ghost_name (Infcx.state r.infcx.now) r.ambient_variance r.param_env in
-            let after = solving_through q.infcx.ghost_name (Infcx.state q.infcx.now) q.ambient_variance q.param_env in
+            let before = solving_through r.infcx.ghost_name r.goals.items (Infcx.state r.infcx.now) r.ambient_variance
+            r.param_env in
+            let after = solving_through q.infcx.ghost_name q.goals.items (Infcx.state q.infcx.now) q.ambient_variance
+            q.param_env in
             SteppedTys solver_manner before after a.now b.now result }
     {
         match ty_var(&*self.infcx, a) {
             Some(x) => match ty_var(&*self.infcx, b) {
-                Some(y) => {
-                    self.infcx.equate_ty_vids_raw(x, y);
-                    Ok(Step::Done(*a))
-                }
+                Some(y) => self.combine_ty_vars(a, x, b, y),
                 None => {
                     let variance = self.ambient_variance;
                     let bound = self
@@ -184,9 +250,11 @@ impl<'a, Infcx: InferCtxtLike> SolverRelating<'a, Infcx> {
     ) -> RelateResult<Infcx::Interner, Step<Ty<Infcx::Interner>>>
         requires lawful { (Infcx.state self.old.infcx.now).lawful }
         requires env_known { KnowsEnv (Infcx.state self.old.infcx.now) self.old.param_env }
+        requires goals_known { All (KnowsGoal (Infcx.state self.old.infcx.now).meaning) self.old.goals.items }
         requires decides { self.old.ambient_variance ≢ Bivariant }
         requires asked { let r = self.old in
-            let before = solving_through r.infcx.ghost_name (Infcx.state r.infcx.now) r.ambient_variance r.param_env in
+            let before = solving_through r.infcx.ghost_name r.goals.items (Infcx.state r.infcx.now) r.ambient_variance
+            r.param_env in
             AskedTys solver_manner before a.now b.now }
         requires a_shallow { let r = Infcx.state self.old.infcx.now in IsShallow r.store ((r.meaning).ty a.now) }
         requires b_shallow { let r = Infcx.state self.old.infcx.now in IsShallow r.store ((r.meaning).ty b.now) }
@@ -195,8 +263,10 @@ impl<'a, Infcx: InferCtxtLike> SolverRelating<'a, Infcx> {
         requires b_no_ty_var { let r = Infcx.state self.old.infcx.now in
             (n : ℕ) → (r.meaning).ty b.now ≢ leaf (variable type_var n) }
         ensures { let r = self.old in let q = self.new in
-            let before = solving_through r.infcx.ghost_name (Infcx.state r.infcx.now) r.ambient_variance r.param_env in
-            let after = solving_through q.infcx.ghost_name (Infcx.state q.infcx.now) q.ambient_variance q.param_env in
+            let before = solving_through r.infcx.ghost_name r.goals.items (Infcx.state r.infcx.now) r.ambient_variance
+            r.param_env in
+            let after = solving_through q.infcx.ghost_name q.goals.items (Infcx.state q.infcx.now) q.ambient_variance
+            q.param_env in
             SteppedTys solver_manner before after a.now b.now result }
     {
         match number_var(&*self.infcx, a) {
@@ -235,17 +305,21 @@ impl<'a, Infcx: InferCtxtLike> SolverRelating<'a, Infcx> {
     ) -> RelateResult<Infcx::Interner, Step<Const<Infcx::Interner>>>
         requires lawful { (Infcx.state self.old.infcx.now).lawful }
         requires env_known { KnowsEnv (Infcx.state self.old.infcx.now) self.old.param_env }
+        requires goals_known { All (KnowsGoal (Infcx.state self.old.infcx.now).meaning) self.old.goals.items }
         requires decides { self.old.ambient_variance ≢ Bivariant }
         requires asked { let r = self.old in
-            let before = solving_through r.infcx.ghost_name (Infcx.state r.infcx.now) r.ambient_variance r.param_env in
+            let before = solving_through r.infcx.ghost_name r.goals.items (Infcx.state r.infcx.now) r.ambient_variance
+            r.param_env in
             AskedConsts solver_manner before a.now b.now }
         requires a_shallow { let r = Infcx.state self.old.infcx.now in
             IsShallowConst r.store ((r.meaning).const_ a.now) }
         requires b_shallow { let r = Infcx.state self.old.infcx.now in
             IsShallowConst r.store ((r.meaning).const_ b.now) }
         ensures { let r = self.old in let q = self.new in
-            let before = solving_through r.infcx.ghost_name (Infcx.state r.infcx.now) r.ambient_variance r.param_env in
-            let after = solving_through q.infcx.ghost_name (Infcx.state q.infcx.now) q.ambient_variance q.param_env in
+            let before = solving_through r.infcx.ghost_name r.goals.items (Infcx.state r.infcx.now) r.ambient_variance
+            r.param_env in
+            let after = solving_through q.infcx.ghost_name q.goals.items (Infcx.state q.infcx.now) q.ambient_variance
+            q.param_env in
             SteppedConsts solver_manner before after a.now b.now result }
     {
         match const_var(&*self.infcx, a) {
@@ -263,7 +337,7 @@ impl<'a, Infcx: InferCtxtLike> SolverRelating<'a, Infcx> {
                         b: *b,
                         x: value,
                         y: *b,
-                        variance: Variance::Invariant,
+                        variance: Variance::Covariant,
                         answer: *b,
                     })
                 }
@@ -278,13 +352,24 @@ impl<'a, Infcx: InferCtxtLike> SolverRelating<'a, Infcx> {
                         b: *b,
                         x: *a,
                         y: value,
-                        variance: Variance::Invariant,
+                        variance: Variance::Covariant,
                         answer: *a,
                     })
                 }
                 None => Ok(Step::Parts { a: *a, b: *b }),
             },
         }
+    }
+
+    /// The goals that were registered. None is left.
+    pub fn take_goals(&mut self) -> Vec<GoalOf<Infcx::Interner>>
+        ensures goals { result.items ≡ self.old.goals.items }
+        ensures none_left { self.new.goals.items ≡ [] }
+        ensures same_reference { self.new.infcx.ghost_name ≡ self.old.infcx.ghost_name }
+        ensures infcx { self.new.infcx.now ≡ self.old.infcx.now }
+    {
+        let none = Vec::new(self.infcx.cx().alloc());
+        replace(&mut self.goals, none)
     }
 
     /// The context, with all that was recorded.
@@ -297,6 +382,7 @@ impl<'a, Infcx: InferCtxtLike> SolverRelating<'a, Infcx> {
             ambient_variance: _,
             param_env: _,
             span: _,
+            goals: _,
         } = self;
         infcx
     }
@@ -309,64 +395,12 @@ fn unlike<I: Interner>(a: &Ty<I>, b: &Ty<I>) -> RelateFaultOf<I>
     RelateFault::Unrelated(TypeError::Sorts(ExpectedFound::new(*a, *b)))
 }
 
-// Records what two regions that are related at a variance are asked for.
-fn relate_regions<Infcx: InferCtxtLike>(
-    infcx: &mut Infcx,
-    variance: Variance,
-    a: &Region<Infcx::Interner>,
-    b: &Region<Infcx::Interner>,
-    span: Span<Infcx::Interner>,
-) -> Result<(), OutOfMemory>
-    requires lawful { (Infcx.state infcx.old).lawful }
-    requires decides { variance ≢ Bivariant }
-    requires a_in { HasRegion (Infcx.state infcx.old) a.now }
-    requires b_in { HasRegion (Infcx.state infcx.old) b.now }
-    ensures stands { Stands (Infcx.state infcx.old) (Infcx.state infcx.new) }
-    ensures adds { let c = Infcx.state infcx.old in
-        OnOk result (IfSome (constraint_at variance a.now b.now) (λ q.
-        AddsConstraint c.store (Infcx.state infcx.new).store (constraint_of c.meaning q))) }
-    ensures goes { Goes 0 (Infcx.state infcx.old).store (Infcx.state infcx.new).store }
-{
-    match variance {
-        Variance::Covariant => infcx.sub_regions(b, a, VisibleForLeakCheck::Yes, span),
-        Variance::Contravariant => infcx.sub_regions(a, b, VisibleForLeakCheck::Yes, span),
-        Variance::Invariant => infcx.equate_regions(a, b, VisibleForLeakCheck::Yes, span),
-        Variance::Bivariant => unreachable!(),
-    }
-}
-
-// Relates two types of a context at a variance, in an environment.
-pub(crate) fn relate_in<Infcx: InferCtxtLike>(
-    infcx: &mut Infcx,
-    param_env: ParamEnv<Infcx::Interner>,
-    a: &Ty<Infcx::Interner>,
-    variance: Variance,
-    b: &Ty<Infcx::Interner>,
-    span: Span<Infcx::Interner>,
-) -> RelateResult<Infcx::Interner, Ty<Infcx::Interner>>
-    requires lawful { (Infcx.state infcx.old).lawful }
-    requires env_known { KnowsEnv (Infcx.state infcx.old) param_env }
-    requires decides { variance ≢ Bivariant }
-    requires asked { AskedTys solver_manner (solving_in (Infcx.state infcx.old) variance param_env) a.now b.now }
-    ensures { let before = solving_in (Infcx.state infcx.old) variance param_env in
-        RelatedTys solver_manner before (solving_in (Infcx.state infcx.new) variance param_env) a.now b.now result }
-{
-    let mut relation = SolverRelating {
-        infcx,
-        ambient_variance: variance,
-        param_env,
-        span,
-    };
-    let related = relation.relate_tys(a, b);
-    let _infcx = relation.into_infcx();
-    related
-}
-
 impl<'a, Infcx: InferCtxtLike> TypeRelation<Infcx::Interner> for SolverRelating<'a, Infcx> {
     ghost use Rattle.std.specs.Prelude.{refl};
     ghost use Rattle.type_relations.specs.Solving.{solving_through, solver_manner, solver_takes};
 
-    ghost state = { λ r. solving_through r.infcx.ghost_name (Infcx.state r.infcx.now) r.ambient_variance r.param_env };
+    ghost state = { λ r. solving_through r.infcx.ghost_name r.goals.items (Infcx.state r.infcx.now) r.ambient_variance
+        r.param_env };
 
     ghost interner = { λ r. Infcx.interner r.infcx.now };
 

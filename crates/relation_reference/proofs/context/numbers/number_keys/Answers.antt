@@ -1,4 +1,4 @@
-use Rattle.std.proofs.Common.{◌≡◌, ◌<◌, IsTrue, refl, sym, ap, ◌∙◌, subst, arith, map, suc, ◌+◌}
+use Rattle.std.proofs.Common.{◌<◌, IsTrue, refl, sym, ap, ◌∙◌, subst, arith, map, ◌+◌}
 use Rattle.relation_terms.specs.Trees.{known}
 use Rattle.relation_terms.proofs.Stays.{stays_same, extends_on}
 use Rattle.relation_reference.specs.Numbers.{number_trees}

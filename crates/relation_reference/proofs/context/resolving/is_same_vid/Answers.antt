@@ -1,6 +1,6 @@
-use Rattle.std.proofs.Common.{◌≡◌, ℕ, IsTrue, nat_eq, false, ap, sym, ◌∙◌}
+use Rattle.std.proofs.Common.{◌≡◌, IsTrue, nat_eq, false, ap, sym, ◌∙◌}
 use Rattle.std.proofs.lemmas.Bool.{eqb-true, eq-eqb, false≢true}
-use Rattle.relation_terms.specs.Heads.{VarKind, type_var, const_var}
+use Rattle.relation_terms.specs.Heads.{type_var, const_var}
 use Rattle.relation_terms.specs.declared.terms.numbers.TyVid.{TyVid}
 use Rattle.relation_terms.specs.declared.terms.numbers.ConstVid.{ConstVid}
 use Rattle.relation_reference.specs.declared.context.memory.TermVid.{TermVid}

@@ -1,4 +1,4 @@
-use Rattle.std.proofs.Common.{ap₂, ◌∙◌, min, ap, sym, subst, ◌<◌, length, arith}
+use Rattle.std.proofs.Common.{ap₂, ◌∙◌, min, ap, length, arith}
 use Rattle.std.proofs.lemmas.List.{length-map}
 use Rattle.relation_reference.proofs.Linking.{linked_keys, linked_values, linked_universes, led_long}
 use Rattle.relation_reference.proofs.context.table.link.Goals as goal

@@ -8,4 +8,6 @@ returns-clause-new g c = record {
   consts = c.new-4.ensures.items;
   regions = c.new-5.ensures.items;
   constraints = c.new-6.ensures.items;
+  ty_outlives = c.new-7.ensures.items;
+  sub_roots = c.new-8.ensures.items;
 }

@@ -1,5 +1,5 @@
 use Rattle.std.proofs.Common.{rules, arith, refl, sym, ap, ◌∙◌, ◌≡◌, ◌<◌, ◌+◌, ◌*◌, suc, subst, IsTrue, false, true}
-use Rattle.std.proofs.Common.{[], ◌∷◌, ◌++◌, OnOk, IfSome, cond}
+use Rattle.std.proofs.Common.{[], ◌∷◌, ◌++◌, ◌≤◌, append-nil, OnOk, IfSome, cond}
 use Rattle.relation_terms.specs.contracts.terms.generic_arg.GenericArgKindPartialEq.TheImpl.{ghosts}
 use Rattle.relation_terms.specs.Heads.{argument_sort}
 use Rattle.relation_terms.specs.Trees.{size, count, known, nth}
@@ -9,9 +9,10 @@ use Rattle.relation_terms.specs.Parts.{part_tree, parts_tree, parts_of}
 use Rattle.relation_terms.specs.Closures.{captured_types, resume_type}
 use Rattle.relation_terms.specs.declared.terms.ty_kind.TyKind.TheVariants.{Param as ParamForm, Infer as InferForm}
 use Rattle.relation_terms.specs.declared.terms.ty_kind.TyKind.TheVariants.{Placeholder as PlaceholderForm}
-use Rattle.relation_terms.specs.declared.terms.ty_kind.TyKind.TheVariants.{Alias as AliasForm}
+use Rattle.relation_terms.specs.declared.terms.ty_kind.TyKind.TheVariants.{Alias as AliasForm, Ref as RefForm}
+use Rattle.relation_terms.specs.declared.terms.part_kind.Part.TheVariants.{Ty as TyPart}
 use Rattle.relation_terms.proofs.Sorted.{Sorted}
-use Rattle.relation_terms.proofs.Members.{member_small, parts_small}
+use Rattle.relation_terms.proofs.Members.{member_small, parts_small, slice_counts, slice_list, slice_nth, slice_sure}
 use Rattle.relation_terms.proofs.Parts.{ty_seen, known_parts}
 use Rattle.relation_tools.specs.Visits.{bound_var_escapes}
 use Rattle.relation_tools.specs.Components.{every, last_types, components, inside_alias}
@@ -23,7 +24,7 @@ use Rattle.relation_tools.proofs.Arguments.{arg_same}
 use Rattle.relation_tools.proofs.Choosing.{member_is, member_in, has_members, each_place, of_found, found_is, captured_is}
 use Rattle.relation_tools.proofs.Choosing.{resumed_is}
 use Rattle.relation_tools.proofs.Components.{part_has, witness_has, infer_is, form_parts}
-use Rattle.relation_tools.proofs.Meeting.{ok_any, ok_map, ok_both, next_place, terms_list, found_small, part_settled}
+use Rattle.relation_tools.proofs.Meeting.{ok_any, ok_never, ok_map, ok_both, next_place, terms_list, found_small, part_settled}
 use Rattle.relation_tools.proofs.Meeting.{part_meets, part_had, meets_on}
 use Rattle.relation_tools.proofs.Outliving.{in_left, in_right, adds_none, adds_after, adds_within, adds_as, has_as, has_both}
 use Rattle.relation_tools.proofs.Outliving.{has_grown, added_some, added_all, stands_escaping, meets_none, meets_after}
@@ -31,10 +32,14 @@ use Rattle.relation_tools.proofs.Outliving.{settled_below, settled_after, settle
 use Rattle.relation_tools.proofs.Visiting.{rest}
 use Rattle.relation_tools.proofs.outlives.collecting.+collect.Goals as goal
 
-pub collect_part-returns-in_err-first-clause-some : goal.collect_part-returns-in_err-first-clause-some
-collect_part-returns-in_err-first-clause-some g t' c =
+pub collect_part-returns-in_err-first-in_default : goal.collect_part-returns-in_err-first-in_default
+collect_part-returns-in_err-first-in_default g t' c =
     let m = g.I.Interner.meaning c.args.cx.now in
-    adds_none m (components every (part_tree m c.args.part.now)) c.args.out.now.items
+    record {
+      some = adds_none m (components every (part_tree m c.args.part.now)) c.args.out.now.items;
+      all = ok_never _ c.from_residual.result c.from_residual.ensures.0;
+      meets = ok_never _ c.from_residual.result c.from_residual.ensures.0;
+    }
 
 pub collect_alias_args-collect_members-requires : goal.collect_alias_args-collect_members-requires
 collect_alias_args-collect_members-requires g t' c κs within =
@@ -43,8 +48,8 @@ collect_alias_args-collect_members-requires g t' c κs within =
     let w = m.args (c.args.alias.now).args in
     let d = c.decreases in
     let k = c.requires in
-    let small : 4 * size w + 1 < 4 * size w + 2 = omega arith in
-    let s = settled_none m eq (size w) c.new-visited.result.keys c.args.out.now.items c.new-visited.ensures.empty in
+    let small : 5 * size w + 1 < 5 * size w + 2 = omega arith in
+    let s = settled_none m eq (size w) c.none_met-visited.result.keys c.args.out.now.items c.none_met-visited.ensures in
     search rules
 
 pub collect_alias_args-returns-clause-some : goal.collect_alias_args-returns-clause-some
@@ -71,7 +76,7 @@ collect_closure-collect_found-requires g t' c κs within =
     let fits = found_small m 0 w f c.closure_upvars.ensures.means in
     let d = c.decreases in
     let k = c.closure_upvars.ensures.sure in
-    let small : 4 * found_size m f + 4 < 4 * size w + 1 = omega (arith, fits) in
+    let small : 5 * found_size m f + 4 < 5 * size w + 1 = omega (arith, fits) in
     let s = settled_below m eq (size w) (suc (found_size m f)) c.args.visited.now.keys c.args.out.now.items fits
     c.requires.settled in
     search rules
@@ -105,7 +110,7 @@ collect_coroutine-collect_found-requires g t' c κs within =
     let fits = found_small m 0 w f c.coroutine_upvars.ensures.means in
     let d = c.decreases in
     let k = c.coroutine_upvars.ensures.sure in
-    let small : 4 * found_size m f + 4 < 4 * size w + 1 = omega (arith, fits) in
+    let small : 5 * found_size m f + 4 < 5 * size w + 1 = omega (arith, fits) in
     let s = settled_below m eq (size w) (suc (found_size m f)) c.args.visited.now.keys c.args.out.now.items fits
     c.requires.settled in
     search rules
@@ -134,7 +139,7 @@ collect_coroutine-collect_found-requires-2 g t' c κs within =
     let fits = found_small m 1 w f c.coroutine_resume_ty.ensures.means in
     let d = c.decreases in
     let k = c.coroutine_resume_ty.ensures.sure in
-    let small : 4 * found_size m f + 4 < 4 * size w + 1 = omega (arith, fits) in
+    let small : 5 * found_size m f + 4 < 5 * size w + 1 = omega (arith, fits) in
     let s = settled_below m eq (size w) (suc (found_size m f)) c.collect_found.new.visited.keys
     c.collect_found.new.out.items fits
     (settled_after m eq (size w) c.args.visited.now.keys c.collect_found.new.visited.keys
@@ -201,7 +206,7 @@ collect_escaping-collect_alias_args-requires g t' c κs within =
     let w = m.args (c.args.alias.now).args in
     let d = c.decreases in
     let k = c.requires.known in
-    let small : 4 * size w + 2 < 4 * size w + 4 = omega arith in
+    let small : 5 * size w + 2 < 5 * size w + 4 = omega arith in
     search rules
 
 pub collect_escaping-returns-in_err-collect_alias_args-clause-some : goal.collect_escaping-returns-in_err-collect_alias_args-clause-some
@@ -231,28 +236,28 @@ collect_escaping-returns-clause-all g t' c =
     let s = stands_escaping m v w c.requires.escapes some all in
     added_all m (w ∷ []) (EscapingAlias v) w _ _ c.add.result c.add.ensures.ok refl s
 
-pub collect_found-collect_part-requires : goal.collect_found-collect_part-requires
-collect_found-collect_part-requires g t' c κs within =
+pub collect_found-collect_type-requires : goal.collect_found-collect_type-requires
+collect_found-collect_type-requires g t' c κs within =
     let m = g.I.Interner.meaning c.args.cx.now in
     let eq = (ghosts g.row.I-Key g.I.Key.PartialEq g.I.Key.PartialEq-dict).eq in
     let is = c.in-Some.is in
     let d = c.decreases in
     let k = subst (λ o. IfSome o (λ t. IsTrue (known (m.ty t)))) is c.requires.known in
     let e : found_size m c.args.found ≡ size (m.ty c.in-Some.ty) = ap (found_size m) is in
-    let small : 4 * size (m.ty c.in-Some.ty) + 3 < 4 * found_size m c.args.found + 4 = omega (arith, e) in
+    let small : 5 * size (m.ty c.in-Some.ty) + 3 < 5 * found_size m c.args.found + 4 = omega (arith, e) in
     let s = subst (λ n. Settled m eq (suc n) c.args.visited.now.keys c.args.out.now.items) e c.requires.settled in
     search rules
 
 pub collect_found-returns-in-Some-clause-some : goal.collect_found-returns-in-Some-clause-some
 collect_found-returns-in-Some-clause-some g t' c =
     let m = g.I.Interner.meaning c.args.cx.now in
-    adds_as m _ _ _ _ (sym (ap (found_components m) c.in-Some.is)) c.collect_part.ensures.some
+    adds_as m _ _ _ _ (sym (ap (found_components m) c.in-Some.is)) c.collect_type.ensures.some
 
 pub collect_found-returns-in-Some-clause-all : goal.collect_found-returns-in-Some-clause-all
 collect_found-returns-in-Some-clause-all g t' c =
     let m = g.I.Interner.meaning c.args.cx.now in
-    subst (λ z. OnOk c.collect_part.result (HasAll m z c.collect_part.new.out.items))
-    (sym (ap (found_components m) c.in-Some.is)) c.collect_part.ensures.all
+    subst (λ z. OnOk c.collect_type.result (HasAll m z c.collect_type.new.out.items))
+    (sym (ap (found_components m) c.in-Some.is)) c.collect_type.ensures.all
 
 pub collect_found-returns-in-None-clause-some : goal.collect_found-returns-in-None-clause-some
 collect_found-returns-in-None-clause-some g t' c =
@@ -297,7 +302,7 @@ collect_members-collect_member-requires g t' c κs within =
     let d = c.decreases in
     let k = c.requires.known in
     let below : i < count ts = omega (arith, counted, bound) in
-    let small : 4 * size ts < 4 * size ts + 1 = omega arith in
+    let small : 5 * size ts < 5 * size ts + 1 = omega arith in
     let s = settled_after m eq (size ts) c.args.visited.now.keys c.loop-step.visited.keys (components ch ts)
     c.args.out.now.items c.loop-step.out.items inv.adds c.requires.settled inv.meets in
     search rules
@@ -421,7 +426,7 @@ collect_member-collect_part-requires g t' c κs within =
     let is : size x ≡ size (nth c.args.i ts) = ap size c.member-part.ensures.means in
     let d = c.decreases in
     let k = c.member-part.ensures.sure in
-    let small : 4 * size x + 3 < 4 * size ts = omega (arith, less, is) in
+    let small : 5 * size x + 3 < 5 * size ts = omega (arith, less, is) in
     let s = settled_below m eq (size ts) (suc (size x)) c.args.visited.now.keys c.args.out.now.items
     (omega (arith, less, is)) c.requires.settled in
     search rules
@@ -482,8 +487,8 @@ collect_part-returns-then-not-first-clause-all g t' c =
     (laws.same_const a) sorted in
     let p = c.args.part.now in
     let w = part_tree m p in
-    let kept = c.in_ok-first.ensures in
-    let b = c.in_ok-first.first in
+    let kept = c.in_ok-first-in_default.ensures in
+    let b = c.in_ok-first-in_default.first in
     let xs = c.args.visited.now.keys in
     let ys = c.meet.new.visited.keys in
     let had = part_had m eq same p b (suc (size w)) xs ys c.args.out.now.items kept c.if-not-first.true
@@ -513,8 +518,8 @@ collect_part-returns-then-not-first-clause-meets g t' c =
     (laws.same_const a) sorted in
     let p = c.args.part.now in
     let w = part_tree m p in
-    let kept = c.in_ok-first.ensures in
-    let b = c.in_ok-first.first in
+    let kept = c.in_ok-first-in_default.ensures in
+    let b = c.in_ok-first-in_default.first in
     let xs = c.args.visited.now.keys in
     let ys = c.meet.new.visited.keys in
     let had = part_had m eq same p b (suc (size w)) xs ys c.args.out.now.items kept c.if-not-first.true
@@ -525,43 +530,6 @@ pub collect_part-collect_region-requires : goal.collect_part-collect_region-requ
 collect_part-collect_region-requires g t' c =
     let m = g.I.Interner.meaning c.args.cx.now in
     let k = subst (λ z. IsTrue (known (part_tree m z))) c.in-Region.is c.requires.known in
-    search rules
-
-pub collect_part-collect_ty-requires : goal.collect_part-collect_ty-requires
-collect_part-collect_ty-requires g t' c κs within =
-    let m = g.I.Interner.meaning c.args.cx.now in
-    let eq = (ghosts g.row.I-Key g.I.Key.PartialEq g.I.Key.PartialEq-dict).eq in
-    let a = c.args.cx.now in
-    let laws = g.met.I.Interner in
-    let sorted : Sorted m = record {
-      ty = laws.is_ty a;
-      region = laws.is_region a;
-      tys = laws.are_tys a;
-      const_ = laws.is_const a;
-      valtree = laws.is_valtree a;
-      args = laws.are_args a;
-      branches = laws.are_branches a;
-      pat = laws.is_pat a;
-      alternatives = laws.are_alternatives a;
-      existential_predicates = laws.are_existential_predicates a;
-    } in
-    let same = arg_same m g.I.Key.PartialEq.eq eq (λ a b. refl) (λ a b. refl) (λ a b. refl) (λ a b. refl)
-    (λ a b. refl) (λ a b. refl) (λ a b. refl) (λ a b. refl) (λ a b. refl) (laws.same_region a) (laws.same_ty a)
-    (laws.same_const a) sorted in
-    let p = c.args.part.now in
-    let w = part_tree m p in
-    let kept = c.in_ok-first.ensures in
-    let b = c.in_ok-first.first in
-    let xs = c.args.visited.now.keys in
-    let ys = c.meet.new.visited.keys in
-    let below = settled_below m eq (suc (size w)) (size w) xs c.args.out.now.items (omega arith) c.requires.settled in
-    let on = part_settled m eq same p b (size w) xs ys c.args.out.now.items kept c.requires.known refl below in
-    let is = ap (part_tree m) c.in-Ty.is in
-    let d = c.decreases in
-    let k = subst (λ z. IsTrue (known z)) is c.requires.known in
-    let e : size w ≡ size (m.ty c.in-Ty.ty) = ap size is in
-    let small : 4 * size (m.ty c.in-Ty.ty) + 2 < 4 * size w + 3 = omega (arith, e) in
-    let s = subst (λ n. Settled m eq n ys c.args.out.now.items) e on in
     search rules
 
 pub collect_part-collect_members-requires : goal.collect_part-collect_members-requires
@@ -587,8 +555,8 @@ collect_part-collect_members-requires g t' c κs within =
     (laws.same_const a) sorted in
     let p = c.args.part.now in
     let w = part_tree m p in
-    let kept = c.in_ok-first.ensures in
-    let b = c.in_ok-first.first in
+    let kept = c.in_ok-first-in_default.ensures in
+    let b = c.in_ok-first-in_default.first in
     let xs = c.args.visited.now.keys in
     let ys = c.meet.new.visited.keys in
     let below = settled_below m eq (suc (size w)) (size w) xs c.args.out.now.items (omega arith) c.requires.settled in
@@ -598,7 +566,7 @@ collect_part-collect_members-requires g t' c κs within =
     let is : size ts ≡ size (parts_of w) = ap size c.parts_of.ensures.means in
     let d = c.decreases in
     let k = c.parts_of.ensures.sure in
-    let small : 4 * size ts + 1 < 4 * size w + 3 = omega (arith, less, is) in
+    let small : 5 * size ts + 1 < 5 * size w + 4 = omega (arith, less, is) in
     let s = settled_below m eq (size w) (size ts) ys c.args.out.now.items (omega (arith, less, is)) on in
     search rules
 
@@ -617,47 +585,22 @@ pub collect_part-returns-in-Region-clause-meets : goal.collect_part-returns-in-R
 collect_part-returns-in-Region-clause-meets g t' c =
     let m = g.I.Interner.meaning c.args.cx.now in
     let eq = (ghosts g.row.I-Key g.I.Key.PartialEq g.I.Key.PartialEq-dict).eq in
-    let a = c.args.cx.now in
-    let laws = g.met.I.Interner in
-    let sorted : Sorted m = record {
-      ty = laws.is_ty a;
-      region = laws.is_region a;
-      tys = laws.are_tys a;
-      const_ = laws.is_const a;
-      valtree = laws.is_valtree a;
-      args = laws.are_args a;
-      branches = laws.are_branches a;
-      pat = laws.is_pat a;
-      alternatives = laws.are_alternatives a;
-      existential_predicates = laws.are_existential_predicates a;
-    } in
-    let same = arg_same m g.I.Key.PartialEq.eq eq (λ a b. refl) (λ a b. refl) (λ a b. refl) (λ a b. refl)
-    (λ a b. refl) (λ a b. refl) (λ a b. refl) (λ a b. refl) (λ a b. refl) (laws.same_region a) (laws.same_ty a)
-    (laws.same_const a) sorted in
-    let p = c.args.part.now in
-    let w = part_tree m p in
-    let kept = c.in_ok-first.ensures in
-    let b = c.in_ok-first.first in
-    let xs = c.args.visited.now.keys in
-    let ys = c.meet.new.visited.keys in
-    let e = sym (ap (λ z. components every (part_tree m z)) c.in-Region.is) in
-    ok_map c.collect_region.result
-    (λ h. part_meets m eq same p b xs ys c.collect_region.new.out.items kept c.requires.known (has_as m _ _ _ e h))
-    c.collect_region.ensures.all
+    ok_any c.collect_region.result
+    (meets_none m eq c.args.visited.now.keys c.args.visited.now.keys c.collect_region.new.out.items refl)
 
 pub collect_part-returns-in-Ty-clause-some : goal.collect_part-returns-in-Ty-clause-some
 collect_part-returns-in-Ty-clause-some g t' c =
     let m = g.I.Interner.meaning c.args.cx.now in
-    adds_as m _ _ _ _ (sym (ap (λ z. components every (part_tree m z)) c.in-Ty.is)) c.collect_ty.ensures.some
+    adds_as m _ _ _ _ (sym (ap (λ z. components every (part_tree m z)) c.in-Ty.is)) c.collect_type.ensures.some
 
 pub collect_part-returns-in-Ty-clause-all : goal.collect_part-returns-in-Ty-clause-all
 collect_part-returns-in-Ty-clause-all g t' c =
     let m = g.I.Interner.meaning c.args.cx.now in
-    subst (λ z. OnOk c.collect_ty.result (HasAll m z c.collect_ty.new.out.items))
-    (sym (ap (λ z. components every (part_tree m z)) c.in-Ty.is)) c.collect_ty.ensures.all
+    subst (λ z. OnOk c.collect_type.result (HasAll m z c.collect_type.new.out.items))
+    (sym (ap (λ z. components every (part_tree m z)) c.in-Ty.is)) c.collect_type.ensures.all
 
-pub collect_part-returns-in-Ty-clause-meets : goal.collect_part-returns-in-Ty-clause-meets
-collect_part-returns-in-Ty-clause-meets g t' c =
+pub collect_part-returns-else-not-first : goal.collect_part-returns-else-not-first
+collect_part-returns-else-not-first g t' c =
     let m = g.I.Interner.meaning c.args.cx.now in
     let eq = (ghosts g.row.I-Key g.I.Key.PartialEq g.I.Key.PartialEq-dict).eq in
     let a = c.args.cx.now in
@@ -679,43 +622,8 @@ collect_part-returns-in-Ty-clause-meets g t' c =
     (laws.same_const a) sorted in
     let p = c.args.part.now in
     let w = part_tree m p in
-    let kept = c.in_ok-first.ensures in
-    let b = c.in_ok-first.first in
-    let xs = c.args.visited.now.keys in
-    let ys = c.meet.new.visited.keys in
-    let e = sym (ap (λ z. components every (part_tree m z)) c.in-Ty.is) in
-    let zs = c.collect_ty.new.visited.keys in
-    let ds = c.collect_ty.new.out.items in
-    ok_both c.collect_ty.result
-    (λ h o. meets_on m eq same xs ys zs ds
-    (part_meets m eq same p b xs ys ds kept c.requires.known (has_as m _ _ _ e h)) o)
-    c.collect_ty.ensures.all c.collect_ty.ensures.meets
-
-pub collect_part-returns-in_default : goal.collect_part-returns-in_default
-collect_part-returns-in_default g t' c =
-    let m = g.I.Interner.meaning c.args.cx.now in
-    let eq = (ghosts g.row.I-Key g.I.Key.PartialEq g.I.Key.PartialEq-dict).eq in
-    let a = c.args.cx.now in
-    let laws = g.met.I.Interner in
-    let sorted : Sorted m = record {
-      ty = laws.is_ty a;
-      region = laws.is_region a;
-      tys = laws.are_tys a;
-      const_ = laws.is_const a;
-      valtree = laws.is_valtree a;
-      args = laws.are_args a;
-      branches = laws.are_branches a;
-      pat = laws.is_pat a;
-      alternatives = laws.are_alternatives a;
-      existential_predicates = laws.are_existential_predicates a;
-    } in
-    let same = arg_same m g.I.Key.PartialEq.eq eq (λ a b. refl) (λ a b. refl) (λ a b. refl) (λ a b. refl)
-    (λ a b. refl) (λ a b. refl) (λ a b. refl) (λ a b. refl) (λ a b. refl) (laws.same_region a) (laws.same_ty a)
-    (laws.same_const a) sorted in
-    let p = c.args.part.now in
-    let w = part_tree m p in
-    let kept = c.in_ok-first.ensures in
-    let b = c.in_ok-first.first in
+    let kept = c.in_ok-first-in_default.ensures in
+    let b = c.in_ok-first-in_default.first in
     let xs = c.args.visited.now.keys in
     let ys = c.meet.new.visited.keys in
     let d = c.in_default in
@@ -732,6 +640,249 @@ collect_part-returns-in_default g t' c =
           c.collect_members.ensures.all c.collect_members.ensures.meets;
     }
 
+pub collect_type-returns-in_err-first-clause-some : goal.collect_type-returns-in_err-first-clause-some
+collect_type-returns-in_err-first-clause-some g t' c =
+    let m = g.I.Interner.meaning c.args.cx.now in
+    adds_none m (components every (m.ty c.args.ty.now)) c.args.out.now.items
+
+pub collect_type-returns-then-not-first-clause-some : goal.collect_type-returns-then-not-first-clause-some
+collect_type-returns-then-not-first-clause-some g t' c =
+    let m = g.I.Interner.meaning c.args.cx.now in
+    adds_none m (components every (m.ty c.args.ty.now)) c.args.out.now.items
+
+pub collect_type-returns-then-not-first-clause-all : goal.collect_type-returns-then-not-first-clause-all
+collect_type-returns-then-not-first-clause-all g t' c =
+    let m = g.I.Interner.meaning c.args.cx.now in
+    let eq = (ghosts g.row.I-Key g.I.Key.PartialEq g.I.Key.PartialEq-dict).eq in
+    let a = c.args.cx.now in
+    let laws = g.met.I.Interner in
+    let sorted : Sorted m = record {
+      ty = laws.is_ty a;
+      region = laws.is_region a;
+      tys = laws.are_tys a;
+      const_ = laws.is_const a;
+      valtree = laws.is_valtree a;
+      args = laws.are_args a;
+      branches = laws.are_branches a;
+      pat = laws.is_pat a;
+      alternatives = laws.are_alternatives a;
+      existential_predicates = laws.are_existential_predicates a;
+    } in
+    let same = arg_same m g.I.Key.PartialEq.eq eq (λ a b. refl) (λ a b. refl) (λ a b. refl) (λ a b. refl)
+    (λ a b. refl) (λ a b. refl) (λ a b. refl) (λ a b. refl) (λ a b. refl) (laws.same_region a) (laws.same_ty a)
+    (laws.same_const a) sorted in
+    let p = TyPart c.args.ty.now in
+    let w = m.ty c.args.ty.now in
+    let kept = c.in_ok-first.ensures in
+    let b = c.in_ok-first.first in
+    let xs = c.args.visited.now.keys in
+    let ys = c.meet.new.visited.keys in
+    let had = part_had m eq same p b (suc (size w)) xs ys c.args.out.now.items kept c.if-not-first.true
+    c.requires.known refl c.requires.settled in
+    had
+
+pub collect_type-returns-then-not-first-clause-meets : goal.collect_type-returns-then-not-first-clause-meets
+collect_type-returns-then-not-first-clause-meets g t' c =
+    let m = g.I.Interner.meaning c.args.cx.now in
+    let eq = (ghosts g.row.I-Key g.I.Key.PartialEq g.I.Key.PartialEq-dict).eq in
+    let a = c.args.cx.now in
+    let laws = g.met.I.Interner in
+    let sorted : Sorted m = record {
+      ty = laws.is_ty a;
+      region = laws.is_region a;
+      tys = laws.are_tys a;
+      const_ = laws.is_const a;
+      valtree = laws.is_valtree a;
+      args = laws.are_args a;
+      branches = laws.are_branches a;
+      pat = laws.is_pat a;
+      alternatives = laws.are_alternatives a;
+      existential_predicates = laws.are_existential_predicates a;
+    } in
+    let same = arg_same m g.I.Key.PartialEq.eq eq (λ a b. refl) (λ a b. refl) (λ a b. refl) (λ a b. refl)
+    (λ a b. refl) (λ a b. refl) (λ a b. refl) (λ a b. refl) (λ a b. refl) (laws.same_region a) (laws.same_ty a)
+    (laws.same_const a) sorted in
+    let p = TyPart c.args.ty.now in
+    let w = m.ty c.args.ty.now in
+    let kept = c.in_ok-first.ensures in
+    let b = c.in_ok-first.first in
+    let xs = c.args.visited.now.keys in
+    let ys = c.meet.new.visited.keys in
+    let had = part_had m eq same p b (suc (size w)) xs ys c.args.out.now.items kept c.if-not-first.true
+    c.requires.known refl c.requires.settled in
+    part_meets m eq same p b xs ys c.args.out.now.items kept c.requires.known had
+
+pub collect_type-collect_ty-requires : goal.collect_type-collect_ty-requires
+collect_type-collect_ty-requires g t' c κs within =
+    let m = g.I.Interner.meaning c.args.cx.now in
+    let eq = (ghosts g.row.I-Key g.I.Key.PartialEq g.I.Key.PartialEq-dict).eq in
+    let a = c.args.cx.now in
+    let laws = g.met.I.Interner in
+    let sorted : Sorted m = record {
+      ty = laws.is_ty a;
+      region = laws.is_region a;
+      tys = laws.are_tys a;
+      const_ = laws.is_const a;
+      valtree = laws.is_valtree a;
+      args = laws.are_args a;
+      branches = laws.are_branches a;
+      pat = laws.is_pat a;
+      alternatives = laws.are_alternatives a;
+      existential_predicates = laws.are_existential_predicates a;
+    } in
+    let same = arg_same m g.I.Key.PartialEq.eq eq (λ a b. refl) (λ a b. refl) (λ a b. refl) (λ a b. refl)
+    (λ a b. refl) (λ a b. refl) (λ a b. refl) (λ a b. refl) (λ a b. refl) (laws.same_region a) (laws.same_ty a)
+    (laws.same_const a) sorted in
+    let p = TyPart c.args.ty.now in
+    let w = m.ty c.args.ty.now in
+    let kept = c.in_ok-first.ensures in
+    let b = c.in_ok-first.first in
+    let xs = c.args.visited.now.keys in
+    let ys = c.meet.new.visited.keys in
+    let below = settled_below m eq (suc (size w)) (size w) xs c.args.out.now.items (omega arith) c.requires.settled in
+    let s = part_settled m eq same p b (size w) xs ys c.args.out.now.items kept c.requires.known refl below in
+    let d = c.decreases in
+    let k = c.requires.known in
+    let small : 5 * size w + 2 < 5 * size w + 3 = omega arith in
+    search rules
+
+pub collect_type-returns-clause-meets : goal.collect_type-returns-clause-meets
+collect_type-returns-clause-meets g t' c =
+    let m = g.I.Interner.meaning c.args.cx.now in
+    let eq = (ghosts g.row.I-Key g.I.Key.PartialEq g.I.Key.PartialEq-dict).eq in
+    let a = c.args.cx.now in
+    let laws = g.met.I.Interner in
+    let sorted : Sorted m = record {
+      ty = laws.is_ty a;
+      region = laws.is_region a;
+      tys = laws.are_tys a;
+      const_ = laws.is_const a;
+      valtree = laws.is_valtree a;
+      args = laws.are_args a;
+      branches = laws.are_branches a;
+      pat = laws.is_pat a;
+      alternatives = laws.are_alternatives a;
+      existential_predicates = laws.are_existential_predicates a;
+    } in
+    let same = arg_same m g.I.Key.PartialEq.eq eq (λ a b. refl) (λ a b. refl) (λ a b. refl) (λ a b. refl)
+    (λ a b. refl) (λ a b. refl) (λ a b. refl) (λ a b. refl) (λ a b. refl) (laws.same_region a) (laws.same_ty a)
+    (laws.same_const a) sorted in
+    let p = TyPart c.args.ty.now in
+    let w = m.ty c.args.ty.now in
+    let kept = c.in_ok-first.ensures in
+    let b = c.in_ok-first.first in
+    let xs = c.args.visited.now.keys in
+    let ys = c.meet.new.visited.keys in
+    let zs = c.collect_ty.new.visited.keys in
+    let ds = c.collect_ty.new.out.items in
+    ok_both c.collect_ty.result
+    (λ h o. meets_on m eq same xs ys zs ds (part_meets m eq same p b xs ys ds kept c.requires.known h) o)
+    c.collect_ty.ensures.all c.collect_ty.ensures.meets
+
+pub collect_tys-loop-ty-init : goal.collect_tys-loop-ty-init
+collect_tys-loop-ty-init g t' c =
+    let m = g.I.Interner.meaning c.args.cx.now in
+    let eq = (ghosts g.row.I-Key g.I.Key.PartialEq g.I.Key.PartialEq-dict).eq in
+    let ts = m.tys c.args.tys.now in
+    record {
+      adds = adds_none m (components every ts) c.args.out.now.items;
+      has = λ k l. absurd (omega (arith, l));
+      meets = meets_none m eq c.args.visited.now.keys c.args.visited.now.keys c.args.out.now.items refl;
+    }
+
+pub collect_tys-collect_type-requires : goal.collect_tys-collect_type-requires
+collect_tys-collect_type-requires g t' c κs within =
+    let m = g.I.Interner.meaning c.args.cx.now in
+    let eq = (ghosts g.row.I-Key g.I.Key.PartialEq g.I.Key.PartialEq-dict).eq in
+    let ts = m.tys c.args.tys.now in
+    let list = c.tys-ty-items.result.now in
+    let said = c.tys-ty-items.ensures in
+    let counts = slice_counts m.ty list ts said in
+    let inv = c.loop-ty.invariant in
+    let i = c.loop-ty.ty-index in
+    let x = c.ty-item.result in
+    let below : i < count ts = omega (arith, counts, c.loop-ty-test.true) in
+    let at : m.ty x ≡ nth i ts = slice_nth m.ty list ts said i x x below c.ty-item.is in
+    let k = slice_sure m.ty list ts said c.requires.known i x x below c.ty-item.is in
+    let less = member_small ts i below in
+    let size_is : size (m.ty x) ≡ size (nth i ts) = ap size at in
+    let d = c.decreases in
+    let small : 5 * size (m.ty x) + 3 < 5 * size ts + 1 = omega (arith, less, size_is) in
+    let after = settled_after m eq (size ts) c.args.visited.now.keys c.loop-ty.visited.keys (components every ts)
+    c.args.out.now.items c.loop-ty.out.items inv.adds c.requires.settled inv.meets in
+    let s = settled_below m eq (size ts) (suc (size (m.ty x))) c.loop-ty.visited.keys c.loop-ty.out.items
+    (omega (arith, less, size_is)) after in
+    search rules
+
+pub collect_tys-returns-in_err-collect_type-clause-some : goal.collect_tys-returns-in_err-collect_type-clause-some
+collect_tys-returns-in_err-collect_type-clause-some g t' c =
+    let m = g.I.Interner.meaning c.args.cx.now in
+    let eq = (ghosts g.row.I-Key g.I.Key.PartialEq g.I.Key.PartialEq-dict).eq in
+    let ts = m.tys c.args.tys.now in
+    let list = c.tys-ty-items.result.now in
+    let said = c.tys-ty-items.ensures in
+    let counts = slice_counts m.ty list ts said in
+    let inv = c.loop-ty.invariant in
+    let i = c.loop-ty.ty-index in
+    let x = c.ty-item.result in
+    let below : i < count ts = omega (arith, counts, c.loop-ty-test.true) in
+    let at : m.ty x ≡ nth i ts = slice_nth m.ty list ts said i x x below c.ty-item.is in
+    let is : of_member every i ts ≡ components every (m.ty x) = member_is every i ts (m.ty x) true below at refl in
+    let adds : AddsSome m (components every ts) c.args.out.now.items c.collect_type.new.out.items =
+    adds_after m (components every ts) _ _ _ inv.adds
+    (adds_within m (components every (m.ty x)) (components every ts) _ _
+    (λ P s. member_in every i ts P (subst (SomeIs P) (sym is) s)) c.collect_type.ensures.some) in
+    adds
+
+pub collect_tys-loop-ty-preserved : goal.collect_tys-loop-ty-preserved
+collect_tys-loop-ty-preserved g t' c =
+    let m = g.I.Interner.meaning c.args.cx.now in
+    let eq = (ghosts g.row.I-Key g.I.Key.PartialEq g.I.Key.PartialEq-dict).eq in
+    let ts = m.tys c.args.tys.now in
+    let list = c.tys-ty-items.result.now in
+    let said = c.tys-ty-items.ensures in
+    let counts = slice_counts m.ty list ts said in
+    let inv = c.loop-ty.invariant in
+    let i = c.loop-ty.ty-index in
+    let x = c.ty-item.result in
+    let below : i < count ts = omega (arith, counts, c.loop-ty-test.true) in
+    let at : m.ty x ≡ nth i ts = slice_nth m.ty list ts said i x x below c.ty-item.is in
+    let is : of_member every i ts ≡ components every (m.ty x) = member_is every i ts (m.ty x) true below at refl in
+    let adds : AddsSome m (components every ts) c.args.out.now.items c.collect_type.new.out.items =
+    adds_after m (components every ts) _ _ _ inv.adds
+    (adds_within m (components every (m.ty x)) (components every ts) _ _
+    (λ P s. member_in every i ts P (subst (SomeIs P) (sym is) s)) c.collect_type.ensures.some) in
+    let next : i + 1 ≡ i + 1 = refl in
+    let some = c.collect_type.ensures.some in
+    let r = c.in_ok-collect_type.ensures in
+    record {
+      adds = adds;
+      has = next_place (λ k. HasAll m (of_member every k ts) c.collect_type.new.out.items) i (i + 1) next
+          (λ k l. has_grown m _ (components every (m.ty x)) _ _ some (inv.has k l)) (has_as m _ _ _ (sym is) r.all);
+      meets = meets_after m eq c.args.visited.now.keys c.loop-ty.visited.keys c.collect_type.new.visited.keys
+          (components every (m.ty x)) c.loop-ty.out.items c.collect_type.new.out.items some inv.meets r.meets;
+    }
+
+pub collect_tys-returns-clause-some : goal.collect_tys-returns-clause-some
+collect_tys-returns-clause-some g t' c = c.loop-ty.invariant.adds
+
+pub collect_tys-returns-clause-all : goal.collect_tys-returns-clause-all
+collect_tys-returns-clause-all g t' c =
+    let m = g.I.Interner.meaning c.args.cx.now in
+    let eq = (ghosts g.row.I-Key g.I.Key.PartialEq g.I.Key.PartialEq-dict).eq in
+    let ts = m.tys c.args.tys.now in
+    let list = c.tys-ty-items.result.now in
+    let said = c.tys-ty-items.ensures in
+    let counts = slice_counts m.ty list ts said in
+    let inv = c.loop-ty.invariant in
+    let test = c.loop-ty-test.false in
+    let end = (c.loop-ty.auto).ty-index-end in
+    has_members m c.loop-ty.out.items every ts (slice_list m.ty list ts said)
+    (λ j l. inv.has j (omega (arith, l, counts, test, end)))
+
+pub collect_tys-returns-clause-meets : goal.collect_tys-returns-clause-meets
+collect_tys-returns-clause-meets g t' c = c.loop-ty.invariant.meets
+
 pub collect_ty-collect_members-requires : goal.collect_ty-collect_members-requires
 collect_ty-collect_members-requires g t' c κs within =
     let m = g.I.Interner.meaning c.args.cx.now in
@@ -742,7 +893,7 @@ collect_ty-collect_members-requires g t' c κs within =
     let d = c.decreases in
     let k : IsTrue (known ts) = subst (λ z. IsTrue (known z)) e c.requires.known in
     let is : size w ≡ suc (size ts) = ap size e in
-    let small : 4 * size ts + 1 < 4 * size w + 2 = omega (arith, is) in
+    let small : 5 * size ts + 1 < 5 * size w + 2 = omega (arith, is) in
     let s = settled_below m eq (size w) (size ts) c.args.visited.now.keys c.args.out.now.items (omega (arith, is))
     c.requires.settled in
     search rules
@@ -772,7 +923,7 @@ collect_ty-collect_closure-requires g t' c κs within =
     let d = c.decreases in
     let k : IsTrue (known ts) = subst (λ z. IsTrue (known z)) e c.requires.known in
     let is : size w ≡ suc (size ts) = ap size e in
-    let small : 4 * size ts + 1 < 4 * size w + 2 = omega (arith, is) in
+    let small : 5 * size ts + 1 < 5 * size w + 2 = omega (arith, is) in
     let s = settled_below m eq (size w) (size ts) c.args.visited.now.keys c.args.out.now.items (omega (arith, is))
     c.requires.settled in
     search rules
@@ -802,7 +953,7 @@ collect_ty-collect_closure-requires-in-CoroutineClosure g t' c κs within =
     let d = c.decreases in
     let k : IsTrue (known ts) = subst (λ z. IsTrue (known z)) e c.requires.known in
     let is : size w ≡ suc (size ts) = ap size e in
-    let small : 4 * size ts + 1 < 4 * size w + 2 = omega (arith, is) in
+    let small : 5 * size ts + 1 < 5 * size w + 2 = omega (arith, is) in
     let s = settled_below m eq (size w) (size ts) c.args.visited.now.keys c.args.out.now.items (omega (arith, is))
     c.requires.settled in
     search rules
@@ -832,7 +983,7 @@ collect_ty-collect_coroutine-requires g t' c κs within =
     let d = c.decreases in
     let k : IsTrue (known ts) = subst (λ z. IsTrue (known z)) e c.requires.known in
     let is : size w ≡ suc (size ts) = ap size e in
-    let small : 4 * size ts + 1 < 4 * size w + 2 = omega (arith, is) in
+    let small : 5 * size ts + 1 < 5 * size w + 2 = omega (arith, is) in
     let s = settled_below m eq (size w) (size ts) c.args.visited.now.keys c.args.out.now.items (omega (arith, is))
     c.requires.settled in
     search rules
@@ -962,7 +1113,7 @@ collect_ty-collect_escaping-requires g t' c κs within =
     let d = c.decreases in
     let k : IsTrue (known ts) = subst (λ z. IsTrue (known z)) e c.requires.known in
     let is : size w ≡ suc (size ts) = ap size e in
-    let small : 4 * size ts + 4 < 4 * size w + 2 = omega (arith, is) in
+    let small : 5 * size ts + 4 < 5 * size w + 2 = omega (arith, is) in
     let f : bound_var_escapes (kind_tree m (AliasForm x)) ≡ true =
     ap bound_var_escapes (sym e) ∙ sym c.has_escaping_bound_vars.ensures ∙ c.if-has_escaping_bound_vars.true in
     search rules
@@ -1019,6 +1170,73 @@ collect_ty-returns-in-Alias-2-clause-meets g t' c =
     ok_any c.add-in-Alias-2.result
     (meets_none m eq c.args.visited.now.keys c.args.visited.now.keys c.add-in-Alias-2.new.out.items refl)
 
+pub collect_ty-returns-in_err-collect_region-in-Ref-clause-some : goal.collect_ty-returns-in_err-collect_region-in-Ref-clause-some
+collect_ty-returns-in_err-collect_region-in-Ref-clause-some g t' c =
+    let m = g.I.Interner.meaning c.args.cx.now in
+    let w = m.ty c.args.ty.now in
+    let x = c.in-Ref in
+    let e : w ≡ kind_tree m (RefForm x.region x.pointee _) = c.ty_kind-kind.ensures ∙ ap (kind_tree m) x.is in
+    let rs = components every (m.region x.region) in
+    let ts = components every (m.ty x.pointee) in
+    let is : components every w ≡ rs ++ ts = ap (components every) e ∙ ap (λ z. rs ++ z) (append-nil ts) in
+    let first : AddsSome m (components every w) c.args.out.now.items c.collect_region.new.out.items =
+    adds_within m rs (components every w) _ _ (λ P s. subst (SomeIs P) (sym is) (in_left rs ts P s))
+    c.collect_region.ensures.some in
+    first
+
+pub collect_ty-collect_type-requires-in-Ref : goal.collect_ty-collect_type-requires-in-Ref
+collect_ty-collect_type-requires-in-Ref g t' c κs within =
+    let m = g.I.Interner.meaning c.args.cx.now in
+    let w = m.ty c.args.ty.now in
+    let x = c.in-Ref in
+    let e : w ≡ kind_tree m (RefForm x.region x.pointee _) = c.ty_kind-kind.ensures ∙ ap (kind_tree m) x.is in
+    let rs = components every (m.region x.region) in
+    let ts = components every (m.ty x.pointee) in
+    let is : components every w ≡ rs ++ ts = ap (components every) e ∙ ap (λ z. rs ++ z) (append-nil ts) in
+    let eq = (ghosts g.row.I-Key g.I.Key.PartialEq g.I.Key.PartialEq-dict).eq in
+    let n = suc (size (m.ty x.pointee)) in
+    let xs = c.args.visited.now.keys in
+    let out = c.args.out.now.items in
+    let next = c.collect_region.new.out.items in
+    let size_is = ap size e in
+    let d = c.decreases in
+    let k = subst (λ z. IsTrue (known z)) e c.requires.known in
+    let small : 5 * size (m.ty x.pointee) + 3 < 5 * size w + 2 = omega (arith, size_is) in
+    let fits : n ≤ size w = omega (arith, size_is) in
+    let below = settled_below m eq (size w) n xs out fits c.requires.settled in
+    let s = settled_after m eq n xs xs rs out next c.collect_region.ensures.some below (meets_none m eq xs xs next refl) in
+    search rules
+
+pub collect_ty-returns-in_ok-collect_region-in-Ref-clause-some : goal.collect_ty-returns-in_ok-collect_region-in-Ref-clause-some
+collect_ty-returns-in_ok-collect_region-in-Ref-clause-some g t' c =
+    let m = g.I.Interner.meaning c.args.cx.now in
+    let w = m.ty c.args.ty.now in
+    let x = c.in-Ref in
+    let e : w ≡ kind_tree m (RefForm x.region x.pointee _) = c.ty_kind-kind.ensures ∙ ap (kind_tree m) x.is in
+    let rs = components every (m.region x.region) in
+    let ts = components every (m.ty x.pointee) in
+    let is : components every w ≡ rs ++ ts = ap (components every) e ∙ ap (λ z. rs ++ z) (append-nil ts) in
+    let first : AddsSome m (components every w) c.args.out.now.items c.collect_region.new.out.items =
+    adds_within m rs (components every w) _ _ (λ P s. subst (SomeIs P) (sym is) (in_left rs ts P s))
+    c.collect_region.ensures.some in
+    adds_after m (components every w) _ _ _ first
+    (adds_within m ts (components every w) _ _ (λ P s. subst (SomeIs P) (sym is) (in_right rs ts P s))
+    c.collect_type-in-Ref.ensures.some)
+
+pub collect_ty-returns-in_ok-collect_region-in-Ref-clause-all : goal.collect_ty-returns-in_ok-collect_region-in-Ref-clause-all
+collect_ty-returns-in_ok-collect_region-in-Ref-clause-all g t' c =
+    let m = g.I.Interner.meaning c.args.cx.now in
+    let w = m.ty c.args.ty.now in
+    let x = c.in-Ref in
+    let e : w ≡ kind_tree m (RefForm x.region x.pointee _) = c.ty_kind-kind.ensures ∙ ap (kind_tree m) x.is in
+    let rs = components every (m.region x.region) in
+    let ts = components every (m.ty x.pointee) in
+    let is : components every w ≡ rs ++ ts = ap (components every) e ∙ ap (λ z. rs ++ z) (append-nil ts) in
+    ok_map c.collect_type-in-Ref.result
+    (λ h. has_as m _ _ _ (sym is) (has_both m rs ts _
+    (has_grown m rs ts _ _ c.collect_type-in-Ref.ensures.some c.in_ok-collect_region-in-Ref.ensures.all) h))
+    c.collect_type-in-Ref.ensures.all
+
 pub collect_ty-collect_members-requires-in_default : goal.collect_ty-collect_members-requires-in_default
 collect_ty-collect_members-requires-in_default g t' c κs within =
     let m = g.I.Interner.meaning c.args.cx.now in
@@ -1032,7 +1250,7 @@ collect_ty-collect_members-requires-in_default g t' c κs within =
     let d = c.decreases in
     let k : IsTrue (known (parts_tree m ps)) =
     subst (λ z. IsTrue (known z)) (sym seen) (known_parts w c.requires.known) in
-    let small : 4 * size (parts_tree m ps) + 1 < 4 * size w + 2 = omega (arith, less, is) in
+    let small : 5 * size (parts_tree m ps) + 1 < 5 * size w + 2 = omega (arith, less, is) in
     let s = settled_below m eq (size w) (size (parts_tree m ps)) c.args.visited.now.keys c.args.out.now.items
     (omega (arith, less, is)) c.requires.settled in
     search rules

@@ -1,6 +1,5 @@
-use Rattle.std.proofs.lemmas.List.{length-map}
 use Rattle.relation_terms.specs.Heads.{region_var}
-use Rattle.type_relations.specs.Stores.{unbound}
+use Rattle.relation_reference.proofs.Making.{entries_long}
 use Rattle.relation_reference.proofs.Calls.{makes_next}
 use Rattle.relation_reference.proofs.context.infer_ctxt.RefCtxtInferCtxtLike.next_region_infer.Goals as goal
 
@@ -9,5 +8,5 @@ returns-clause-makes g c =
     let p = c.args.self.now in
     let done = c.next_region_infer.ensures in
     makes_next g.I.Interner.meaning p c.next_region_infer.new.self region_var (λ m. m.region) _
-    (length-map p.inner.regions.items (λ u. unbound)) c.next_region_infer.result done.sure done.means done.makes
-    done.refused
+    (entries_long (g.I.Interner.meaning p.interner).region p.inner.regions.items) c.next_region_infer.result done.sure done.means
+    done.makes done.refused

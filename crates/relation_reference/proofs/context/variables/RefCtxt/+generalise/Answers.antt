@@ -1,10 +1,9 @@
-use Rattle.std.proofs.Common.{rules, arith, refl, sym, ap, ap₂, ◌∙◌, Err, ◌≡◌, ◌<◌, ◌≤◌, ◌+◌, ◌*◌, suc, subst, subst₂, IsTrue, []}
+use Rattle.std.proofs.Common.{rules, arith, refl, sym, ap, ap₂, ◌∙◌, Err, ◌≡◌, ◌<◌, ◌≤◌, ◌+◌, ◌*◌, suc, subst, subst₂, IsTrue}
 use Rattle.std.proofs.lemmas.Bool.{and_parts}
 use Rattle.relation_terms.specs.Trees.{size, known, count, nth, list_tree}
 use Rattle.relation_terms.specs.Parts.{part_tree, part_sort, parts_of, tree_sort, over, Fit}
 use Rattle.relation_terms.proofs.Stays.{knows_as, extends_on, stays_same, stays_list}
 use Rattle.relation_terms.proofs.Sorted.{Sorted}
-use Rattle.relation_terms.proofs.Members.{if_ok}
 use Rattle.relation_terms.proofs.Parts.{sort_known, stays_part}
 use Rattle.relation_terms.specs.declared.terms.part_kind.Part.TheVariants.{Ty}
 use Rattle.type_relations.specs.Covered.{IsCovered}
@@ -17,7 +16,6 @@ use Rattle.type_relations.proofs.NewVariables.{makes_then}
 use Rattle.type_relations.proofs.Lists.{firsts, firsts_more, firsts_all, snoc, list_push, push_known}
 use Rattle.relation_reference.specs.Tables.{store_of}
 use Rattle.relation_reference.specs.Remembering.{vid_kind, vid_number}
-use Rattle.relation_reference.specs.declared.context.generalising.MetKey.{MetKey}
 use Rattle.relation_reference.proofs.Recalling.{met_eq, sure_grows}
 use Rattle.relation_reference.proofs.Resolving.{not_type, some_sort, over_itself, context_part}
 use Rattle.relation_reference.proofs.Grows.{store_grows, lawful_grows}

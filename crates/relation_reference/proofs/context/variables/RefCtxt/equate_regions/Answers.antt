@@ -9,7 +9,7 @@ pub returns-in_err-push-clause-lawful : goal.returns-in_err-push-clause-lawful
 returns-in_err-push-clause-lawful g c =
     let x = c.args.self.now.inner in
     same_lawful (g.I.Interner.meaning c.args.self.now.interner) x (record x { constraints = c.push.new.self })
-    (record { types = refl; ints = refl; floats = refl; consts = refl; regions = refl; constraints = c.in_err-push.ensures.items; universe = refl; budget = refl; numbers = refl })
+    (record { types = refl; ints = refl; floats = refl; consts = refl; regions = refl; constraints = c.in_err-push.ensures.items; universe = refl; budget = refl; numbers = refl; sub_roots = refl })
     c.requires.lawful
 
 pub returns-in_err-push-clause-goes : goal.returns-in_err-push-clause-goes
@@ -27,6 +27,7 @@ returns-in_err-push-clause-goes g c =
       universe = refl;
       budget = refl;
       numbers = refl;
+      sub_roots = refl;
     }))
 
 pub returns-in_err-push-clause-refused : goal.returns-in_err-push-clause-refused
@@ -43,6 +44,7 @@ returns-in_err-push-clause-refused g c =
       universe = refl;
       budget = refl;
       numbers = refl;
+      sub_roots = refl;
     }))
 
 pub returns : goal.returns

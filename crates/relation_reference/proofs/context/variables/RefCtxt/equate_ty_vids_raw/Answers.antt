@@ -3,6 +3,7 @@ use Rattle.relation_terms.specs.Heads.{type_var}
 use Rattle.type_relations.specs.Steps.{Equates}
 use Rattle.relation_reference.specs.Tables.{store_of}
 use Rattle.relation_reference.proofs.Beside.{types_beside}
+use Rattle.relation_reference.proofs.SubRoots.{root_there, roots_kept, roots_lawful}
 use Rattle.relation_reference.proofs.Writing.{linked_entries, link_equates, link_lawful, table_made}
 use Rattle.relation_reference.proofs.context.variables.RefCtxt.equate_ty_vids_raw.Goals as goal
 
@@ -12,10 +13,13 @@ returns-then-a-b-clause-lawful g c =
     let x = c.args.self.now.inner in
     let ts = c.link.new.table in
     let e = c.link.ensures in
-    link_lawful m x (record x { types = ts }) type_var (types_beside m x ts x.budget) (ap (map m.ty) e.keys)
+    let joins = c.join_roots.ensures in
+    let y = record x { types = ts } in
+    let linked = link_lawful m x y type_var (types_beside m x ts x.budget) (ap (map m.ty) e.keys)
     c.requires.lawful c.args.b.0 c.args.a.0 (linked_entries m.ty x.types.items ts.items c.args.b.0 c.args.a.0 e.values)
     e.universes refl (table_made m.ty x.types.items c.args.b.0 c.requires.b_made) c.if-a-b.true c.requires.b_unbound
-    c.requires.a_unbound (λ z. cc)
+    c.requires.a_unbound (λ z. cc) in
+    roots_lawful m y c.join_roots.new.roots (roots_kept m y c.join_roots.new.roots joins.as_many joins.rooted linked.sub_rooted) linked
 
 pub returns-then-a-b-clause-equates : goal.returns-then-a-b-clause-equates
 returns-then-a-b-clause-equates g c = λ o.
@@ -38,10 +42,13 @@ returns-then-b-a-clause-lawful g c =
     let x = c.args.self.now.inner in
     let ts = c.link-then-b-a.new.table in
     let e = c.link-then-b-a.ensures in
-    link_lawful m x (record x { types = ts }) type_var (types_beside m x ts x.budget) (ap (map m.ty) e.keys)
+    let joins = c.join_roots-then-b-a.ensures in
+    let y = record x { types = ts } in
+    let linked = link_lawful m x y type_var (types_beside m x ts x.budget) (ap (map m.ty) e.keys)
     c.requires.lawful c.args.a.0 c.args.b.0 (linked_entries m.ty x.types.items ts.items c.args.a.0 c.args.b.0 e.values)
     e.universes refl (table_made m.ty x.types.items c.args.a.0 c.requires.a_made) c.if-b-a.true c.requires.a_unbound
-    c.requires.b_unbound (λ z. cc)
+    c.requires.b_unbound (λ z. cc) in
+    roots_lawful m y c.join_roots-then-b-a.new.roots (roots_kept m y c.join_roots-then-b-a.new.roots joins.as_many joins.rooted linked.sub_rooted) linked
 
 pub returns-then-b-a-clause-equates : goal.returns-then-b-a-clause-equates
 returns-then-b-a-clause-equates g c = λ o.
@@ -57,3 +64,23 @@ returns-then-b-a-clause-equates g c = λ o.
     c.requires.lawful c.args.a.0 c.args.b.0 (linked_entries m.ty x.types.items ts.items c.args.a.0 c.args.b.0 e.values)
     e.universes refl (table_made m.ty x.types.items c.args.a.0 c.requires.a_made) less c.requires.a_unbound
     c.requires.b_unbound)
+
+pub join_roots-requires-clause-a_in : goal.join_roots-requires-clause-a_in
+join_roots-requires-clause-a_in g c =
+    root_there (g.I.Interner.meaning c.args.self.now.interner) c.args.self.now.inner c.requires.lawful.sub_rooted c.args.a.0
+    c.requires.a_made
+
+pub join_roots-requires-clause-b_in : goal.join_roots-requires-clause-b_in
+join_roots-requires-clause-b_in g c =
+    root_there (g.I.Interner.meaning c.args.self.now.interner) c.args.self.now.inner c.requires.lawful.sub_rooted c.args.b.0
+    c.requires.b_made
+
+pub join_roots-requires-then-b-a-clause-a_in : goal.join_roots-requires-then-b-a-clause-a_in
+join_roots-requires-then-b-a-clause-a_in g c =
+    root_there (g.I.Interner.meaning c.args.self.now.interner) c.args.self.now.inner c.requires.lawful.sub_rooted c.args.a.0
+    c.requires.a_made
+
+pub join_roots-requires-then-b-a-clause-b_in : goal.join_roots-requires-then-b-a-clause-b_in
+join_roots-requires-then-b-a-clause-b_in g c =
+    root_there (g.I.Interner.meaning c.args.self.now.interner) c.args.self.now.inner c.requires.lawful.sub_rooted c.args.b.0
+    c.requires.b_made

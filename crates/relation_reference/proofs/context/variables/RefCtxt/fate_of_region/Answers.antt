@@ -1,10 +1,9 @@
-use Rattle.std.proofs.Common.{◌≡◌, ◌<◌, ap, ◌∙◌, subst, length}
-use Rattle.std.proofs.lemmas.List.{length-map}
+use Rattle.std.proofs.Common.{ap, ◌∙◌}
 use Rattle.relation_terms.specs.Heads.{region_var}
 use Rattle.relation_terms.specs.Meaning.{region_tree}
-use Rattle.type_relations.specs.Stores.{unbound}
 use Rattle.relation_reference.specs.Tables.{store_of}
 use Rattle.relation_reference.proofs.Reading.{made_in_context}
+use Rattle.relation_reference.proofs.Writing.{table_of_entries}
 use Rattle.relation_reference.proofs.context.variables.RefCtxt.fate_of_region.Goals as goal
 
 pub region_universe-requires : goal.region_universe-requires
@@ -12,4 +11,4 @@ region_universe-requires g c =
     let m = g.I.Interner.meaning c.args.self.now.interner in
     let made = made_in_context (store_of m c.args.self.now.inner) region_var (m.region c.args.region.now) c.in-ReVar.vid.0
     (c.region_kind.ensures ∙ ap (region_tree m) c.in-ReVar.is) c.requires.term_in in
-    subst (λ z. c.in-ReVar.vid.0 < z) (length-map c.args.self.now.inner.regions.items (λ u. unbound)) made
+    table_of_entries m.region c.args.self.now.inner.regions.items c.in-ReVar.vid.0 made

@@ -1,21 +1,20 @@
-use Rattle.std.proofs.Common.{◌≡◌, refl, ◌∙◌, ap, sym, subst, suc, arith, map, IsTrue, ◌-◌}
-use Rattle.relation_terms.specs.Heads.{const_var}
-use Rattle.relation_terms.specs.Trees.{apply, Occurs, known}
-use Rattle.relation_terms.specs.Meaning.{Extends}
+use Rattle.std.proofs.Common.{◌≡◌, [], refl, ap, sym, subst, suc, arith, map, length, ◌<◌, IsTrue, ◌-◌}
 use Rattle.relation_terms.specs.declared.terms.enums.Variance.TheVariants.{Invariant}
+use Rattle.relation_terms.specs.declared.terms.part_kind.Part.TheVariants.{Const}
+use Rattle.relation_terms.specs.Heads.{const_var}
+use Rattle.relation_terms.specs.Trees.{known}
+use Rattle.relation_terms.specs.Parts.{part_tree}
+use Rattle.relation_terms.proofs.Stays.{extends_on, knows_as}
 use Rattle.relation_tools.specs.declared.error.TypeError.TheVariants.{CyclicConst}
-use Rattle.type_relations.specs.Steps.{RefusesToInstantiate}
-use Rattle.type_relations.specs.Stores.{resolved}
-use Rattle.type_relations.specs.Covered.{IsCovered}
+use Rattle.type_relations.specs.Lawful.{items_of}
+use Rattle.type_relations.specs.Generalising.{Stage, any_part, Generalised}
+use Rattle.type_relations.proofs.Passing.{as_err}
 use Rattle.type_relations.proofs.Standing.{term_context}
 use Rattle.relation_reference.specs.declared.context.inner.InferCtxtInner.{InferCtxtInner}
-use Rattle.relation_reference.specs.Tables.{store_of, IsLawful}
+use Rattle.relation_reference.specs.Tables.{store_of}
 use Rattle.relation_reference.proofs.Beside.{consts_beside}
-use Rattle.relation_reference.proofs.Covering.{comes_covered}
-use Rattle.relation_reference.proofs.Outside.{outside_occurs}
-use Rattle.relation_reference.proofs.Grows.{store_grows, lawful_grows}
-use Rattle.relation_reference.proofs.Writing.{bound_entries, table_made}
-use Rattle.relation_reference.proofs.Binding.{memory_instantiated, memory_steps, nothing_changed, const_refuses, const_may, target_bound, target_lawful, target_steps}
+use Rattle.relation_reference.proofs.Instantiating.{resolved_lawful, universe_read, out_of_memory, source_context, source_covered, left_still, made_still, stopped, generalised_here, by_rules, bound_lawful, const_may}
+use Rattle.relation_reference.proofs.Writing.{bound_entries, table_made, table_of_entries}
 use Rattle.relation_reference.proofs.context.variables.RefCtxt.instantiate_const_var_raw.Goals as goal
 
 pub resolve_const_vars_if_possible-requires-clause-const_in : goal.resolve_const_vars_if_possible-requires-clause-const_in
@@ -23,98 +22,138 @@ resolve_const_vars_if_possible-requires-clause-const_in g c =
     let m = g.I.Interner.meaning c.args.self.now.interner in
     term_context (store_of m c.args.self.now.inner) (m.const_ c.args.source.now) c.requires.source_in
 
-pub occurs-requires-clause-term_covered : goal.occurs-requires-clause-term_covered
-occurs-requires-clause-term_covered g c =
-    let m = g.I.Interner.meaning c.args.self.now.interner in
-    subst IsCovered (sym c.in_ok-bound.ensures.resolves)
-    (comes_covered m c.args.self.now.inner c.requires.lawful (m.const_ c.args.source.now) c.requires.source_covered)
+pub returns-in_err-resolved-clause-grows : goal.returns-in_err-resolved-clause-grows
+returns-in_err-resolved-clause-grows g c =
+    let r = c.resolve_const_vars_if_possible.ensures in
+    record { extends = r.grown; lawful = resolved_lawful r.grown c.args.self.now.inner c.resolve_const_vars_if_possible.new.self.inner r.inner c.requires.lawful }
 
-pub returns-then-self-eq0-clause-steps : goal.returns-then-self-eq0-clause-steps
-returns-then-self-eq0-clause-steps g c = nothing_changed _ _ refl
+pub returns-in_err-resolved-clause-instantiates : goal.returns-in_err-resolved-clause-instantiates
+returns-in_err-resolved-clause-instantiates g c =
+    let r = c.resolve_const_vars_if_possible.ensures in
+    out_of_memory r.grown c.args.self.now.inner c.resolve_const_vars_if_possible.new.self.inner r.inner c.requires.lawful (λ z. z.const_) CyclicConst const_var c.args.target.0 Invariant
+    ((g.I.Interner.meaning c.args.self.now.interner).const_ c.args.source.now) (let d = c.if-self-eq0.false in λ e. omega (arith, d, e))
+    c.from_residual.result c.from_residual.ensures.0 c.from_residual.ensures.1
 
-pub returns-in_err-bound-clause-lawful : goal.returns-in_err-bound-clause-lawful
-returns-in_err-bound-clause-lawful g c =
-    let n = g.I.Interner.meaning c.resolve_const_vars_if_possible.new.self.interner in
-    subst (IsLawful n) (sym c.resolve_const_vars_if_possible.ensures.inner) (lawful_grows c.resolve_const_vars_if_possible.ensures.grown c.args.self.now.inner c.requires.lawful)
+pub generalise-requires-clause-lawful : goal.generalise-requires-clause-lawful
+generalise-requires-clause-lawful g c =
+    let r = c.resolve_const_vars_if_possible.ensures in
+    resolved_lawful r.grown c.args.self.now.inner c.resolve_const_vars_if_possible.new.self.inner r.inner c.requires.lawful
 
-pub returns-in_err-bound-clause-answers : goal.returns-in_err-bound-clause-answers
-returns-in_err-bound-clause-answers g c =
-    let n = g.I.Interner.meaning c.resolve_const_vars_if_possible.new.self.interner in
-    let kept = ap (store_of n) c.resolve_const_vars_if_possible.ensures.inner ∙ store_grows c.resolve_const_vars_if_possible.ensures.grown c.args.self.now.inner c.requires.lawful in
-    memory_instantiated n.const_ CyclicConst const_var (store_of (g.I.Interner.meaning c.args.self.now.interner) c.args.self.now.inner) (store_of n c.resolve_const_vars_if_possible.new.self.inner) c.args.target.0 ((g.I.Interner.meaning c.args.self.now.interner).const_ c.args.source.now) c.from_residual.result c.from_residual.ensures.0 c.from_residual.ensures.1 (let d = c.if-self-eq0.false in omega arith) kept
+pub generalise-requires-clause-universe : goal.generalise-requires-clause-universe
+generalise-requires-clause-universe g c =
+    let within = subst (λ a. c.args.target.0 < length a.consts.items) (sym c.resolve_const_vars_if_possible.ensures.inner) c.requires.target_made in
+    universe_read c.resolve_const_vars_if_possible.new.self.inner.consts.items c.args.target.0 c.index.result.now within c.index.ensures
 
-pub returns-in_err-bound-clause-steps : goal.returns-in_err-bound-clause-steps
-returns-in_err-bound-clause-steps g c =
-    let n = g.I.Interner.meaning c.resolve_const_vars_if_possible.new.self.interner in
-    let kept = ap (store_of n) c.resolve_const_vars_if_possible.ensures.inner ∙ store_grows c.resolve_const_vars_if_possible.ensures.grown c.args.self.now.inner c.requires.lawful in
-    memory_steps n.const_ CyclicConst const_var (store_of (g.I.Interner.meaning c.args.self.now.interner) c.args.self.now.inner) (store_of n c.resolve_const_vars_if_possible.new.self.inner) c.args.target.0 ((g.I.Interner.meaning c.args.self.now.interner).const_ c.args.source.now) c.from_residual.result c.from_residual.ensures.0 c.from_residual.ensures.1 kept
-
-pub returns-in_err-cyclic-clause-lawful : goal.returns-in_err-cyclic-clause-lawful
-returns-in_err-cyclic-clause-lawful g c =
-    let n = g.I.Interner.meaning c.resolve_const_vars_if_possible.new.self.interner in
-    subst (IsLawful n) (sym c.resolve_const_vars_if_possible.ensures.inner) (lawful_grows c.resolve_const_vars_if_possible.ensures.grown c.args.self.now.inner c.requires.lawful)
-
-pub returns-in_err-cyclic-clause-answers : goal.returns-in_err-cyclic-clause-answers
-returns-in_err-cyclic-clause-answers g c =
-    let n = g.I.Interner.meaning c.resolve_const_vars_if_possible.new.self.interner in
-    let kept = ap (store_of n) c.resolve_const_vars_if_possible.ensures.inner ∙ store_grows c.resolve_const_vars_if_possible.ensures.grown c.args.self.now.inner c.requires.lawful in
-    memory_instantiated n.const_ CyclicConst const_var (store_of (g.I.Interner.meaning c.args.self.now.interner) c.args.self.now.inner) (store_of n c.resolve_const_vars_if_possible.new.self.inner) c.args.target.0 ((g.I.Interner.meaning c.args.self.now.interner).const_ c.args.source.now) c.from_residual-in_err-cyclic.result c.from_residual-in_err-cyclic.ensures.0 c.from_residual-in_err-cyclic.ensures.1 (let d = c.if-self-eq0.false in omega arith) kept
-
-pub returns-in_err-cyclic-clause-steps : goal.returns-in_err-cyclic-clause-steps
-returns-in_err-cyclic-clause-steps g c =
-    let n = g.I.Interner.meaning c.resolve_const_vars_if_possible.new.self.interner in
-    let kept = ap (store_of n) c.resolve_const_vars_if_possible.ensures.inner ∙ store_grows c.resolve_const_vars_if_possible.ensures.grown c.args.self.now.inner c.requires.lawful in
-    memory_steps n.const_ CyclicConst const_var (store_of (g.I.Interner.meaning c.args.self.now.interner) c.args.self.now.inner) (store_of n c.resolve_const_vars_if_possible.new.self.inner) c.args.target.0 ((g.I.Interner.meaning c.args.self.now.interner).const_ c.args.source.now) c.from_residual-in_err-cyclic.result c.from_residual-in_err-cyclic.ensures.0 c.from_residual-in_err-cyclic.ensures.1 kept
-
-pub returns-then-cyclic : goal.returns-then-cyclic
-returns-then-cyclic g c =
+pub generalise-requires-clause-source_in : goal.generalise-requires-clause-source_in
+generalise-requires-clause-source_in g c =
+    let r = c.resolve_const_vars_if_possible.ensures in
     let m = g.I.Interner.meaning c.args.self.now.interner in
     let n = g.I.Interner.meaning c.resolve_const_vars_if_possible.new.self.interner in
-    let st = store_of m c.args.self.now.inner in
-    let t = m.const_ c.args.source.now in
-    let kept = ap (store_of n) c.resolve_const_vars_if_possible.ensures.inner ∙ store_grows c.resolve_const_vars_if_possible.ensures.grown c.args.self.now.inner c.requires.lawful in
-    let stands = c.in_ok-cyclic.ensures.stands c.if-cyclic.true in
-    let means = c.in_ok-bound.ensures.resolves in
-    record {
-      lawful = subst (IsLawful n) (sym c.resolve_const_vars_if_possible.ensures.inner) (lawful_grows c.resolve_const_vars_if_possible.ensures.grown c.args.self.now.inner c.requires.lawful);
-      grown = c.resolve_const_vars_if_possible.ensures.grown;
-      sure = tt;
-      answers = (c.in_ok-bound.bound, refl, means, stands, (let d = c.if-self-eq0.false in omega arith), kept);
-      steps = subst (λ z. RefusesToInstantiate st z Invariant const_var c.args.target.0 t) (sym kept) (const_refuses st c.args.target.0 t c.requires.lawful.sound c.requires.source_formed
-          (subst (Occurs const_var c.args.target.0) means (outside_occurs const_var c.args.target.0 (n.const_ c.in_ok-bound.bound) stands)));
-      why_known = c.in_ok-bound.ensures.sure;
-    }
+    source_context r.grown c.args.self.now.inner c.resolve_const_vars_if_possible.new.self.inner r.inner c.requires.lawful (m.const_ c.args.source.now) (n.const_ c.in_ok-resolved.resolved)
+    c.in_ok-resolved.ensures.resolves c.requires.source_in
+
+pub generalise-requires-clause-source_covered : goal.generalise-requires-clause-source_covered
+generalise-requires-clause-source_covered g c =
+    let r = c.resolve_const_vars_if_possible.ensures in
+    let m = g.I.Interner.meaning c.args.self.now.interner in
+    let n = g.I.Interner.meaning c.resolve_const_vars_if_possible.new.self.interner in
+    source_covered r.grown c.args.self.now.inner c.resolve_const_vars_if_possible.new.self.inner r.inner c.requires.lawful (m.const_ c.args.source.now) (n.const_ c.in_ok-resolved.resolved)
+    c.in_ok-resolved.ensures.resolves c.requires.source_covered
+
+pub returns-in_err-part-clause-grows : goal.returns-in_err-part-clause-grows
+returns-in_err-part-clause-grows g c =
+    record { extends = extends_on c.resolve_const_vars_if_possible.ensures.grown c.in_err-part.ensures.grown; lawful = c.in_err-part.ensures.lawful }
+
+pub returns-in_err-part-clause-instantiates : goal.returns-in_err-part-clause-instantiates
+returns-in_err-part-clause-instantiates g c =
+    let m = g.I.Interner.meaning c.args.self.now.interner in
+    let n = g.I.Interner.meaning c.resolve_const_vars_if_possible.new.self.interner in
+    let o = g.I.Interner.meaning c.generalise.new.self.interner in
+    let x = c.args.self.now.inner in
+    let w = c.resolve_const_vars_if_possible.new.self.inner in
+    let z = c.generalise.new.self.inner in
+    let r = c.resolve_const_vars_if_possible.ensures in
+    let i = c.args.target.0 in
+    let l = c.requires.lawful in
+    let within = subst (λ a. i < length a.consts.items) (sym r.inner) c.requires.target_made in
+    let universe = universe_read w.consts.items i c.index.result.now within c.index.ensures in
+    let key = c.in_ok-resolved.resolved in
+    let f = c.in_err-part.field-0.0 in
+    let e = c.in_err-part.ensures in
+    let u = c.index.result.now.universe.0 in
+    let stay = e.grown.const_ key c.in_ok-resolved.ensures.sure in
+    stopped o r.grown x w z r.inner l const_var i u universe e.makes (λ a. a.const_) CyclicConst Invariant (m.const_ c.args.source.now)
+    (let d = c.if-self-eq0.false in λ q. omega (arith, d, q)) (table_made m.const_ x.consts.items i c.requires.target_made) c.requires.target_unbound key c.in_ok-resolved.ensures.resolves
+    (knows_as (n.const_ key) (o.const_ key) stay c.in_ok-resolved.ensures.sure) stay Invariant (Const key) refl f e.generalised c.from_residual-in_err-part.result
+    (as_err c.from_residual-in_err-part.result f c.from_residual-in_err-part.ensures.0 c.from_residual-in_err-part.ensures.1)
+
+pub bind-requires : goal.bind-requires
+bind-requires g c =
+    let m = g.I.Interner.meaning c.args.self.now.interner in
+    let n = g.I.Interner.meaning c.resolve_const_vars_if_possible.new.self.interner in
+    let o = g.I.Interner.meaning c.generalise.new.self.interner in
+    let x = c.args.self.now.inner in
+    let w = c.resolve_const_vars_if_possible.new.self.inner in
+    let z = c.generalise.new.self.inner in
+    let r = c.resolve_const_vars_if_possible.ensures in
+    let i = c.args.target.0 in
+    let l = c.requires.lawful in
+    let within = subst (λ a. i < length a.consts.items) (sym r.inner) c.requires.target_made in
+    let universe = universe_read w.consts.items i c.index.result.now within c.index.ensures in
+    table_of_entries o.const_ z.consts.items i (made_still o r.grown x w z r.inner l const_var i c.index.result.now.universe.0 universe c.in_ok-part.ensures.makes (table_made m.const_ x.consts.items i c.requires.target_made))
+
+pub overflow_sub-self : goal.overflow_sub-self
+overflow_sub-self g c =
+    let m = g.I.Interner.meaning c.args.self.now.interner in
+    let n = g.I.Interner.meaning c.resolve_const_vars_if_possible.new.self.interner in
+    let o = g.I.Interner.meaning c.generalise.new.self.interner in
+    let x = c.args.self.now.inner in
+    let w = c.resolve_const_vars_if_possible.new.self.inner in
+    let z = c.generalise.new.self.inner in
+    let r = c.resolve_const_vars_if_possible.ensures in
+    let i = c.args.target.0 in
+    let l = c.requires.lawful in
+    let within = subst (λ a. i < length a.consts.items) (sym r.inner) c.requires.target_made in
+    let universe = universe_read w.consts.items i c.index.result.now within c.index.ensures in
+    let s = left_still o r.grown x w z r.inner l const_var i c.index.result.now.universe.0 universe c.in_ok-part.ensures.makes in
+    let d = c.if-self-eq0.false in
+    omega (arith, s, d)
 
 pub returns : goal.returns
 returns g c =
     let m = g.I.Interner.meaning c.args.self.now.interner in
     let n = g.I.Interner.meaning c.resolve_const_vars_if_possible.new.self.interner in
-    let r = c.resolve_const_vars_if_possible.ensures in
+    let o = g.I.Interner.meaning c.generalise.new.self.interner in
     let x = c.args.self.now.inner in
-    let z = c.resolve_const_vars_if_possible.new.self.inner in
-    let st = store_of m x in
+    let w = c.resolve_const_vars_if_possible.new.self.inner in
+    let z = c.generalise.new.self.inner in
+    let r = c.resolve_const_vars_if_possible.ensures in
+    let i = c.args.target.0 in
+    let l = c.requires.lawful in
+    let within = subst (λ a. i < length a.consts.items) (sym r.inner) c.requires.target_made in
+    let universe = universe_read w.consts.items i c.index.result.now within c.index.ensures in
+    let key = c.in_ok-resolved.resolved in
     let t = m.const_ c.args.source.now in
-    let k = c.in_ok-bound.bound in
-    let means = c.in_ok-bound.ensures.resolves in
-    let sure = c.in_ok-bound.ensures.sure in
-    let absent : Occurs const_var c.args.target.0 (apply (resolved st) t) → ⊥ = λ h. c.in_ok-cyclic.ensures.absent c.if-cyclic.false (subst (Occurs const_var c.args.target.0) (sym means) h) in
-    let left : z.budget ≡ suc (z.budget - 1) = (let a = ap (λ i. i.budget) r.inner in let d = c.if-self-eq0.false in omega arith) in
+    let u = c.index.result.now.universe.0 in
+    let e = c.in_ok-part.ensures in
+    let s = left_still o r.grown x w z r.inner l const_var i u universe e.makes in
+    let left : z.budget ≡ suc (z.budget - 1) = (let d = c.if-self-eq0.false in omega (arith, s, d)) in
+    let b = c.the_const-bound.result in
+    let is : part_tree o c.in_ok-part.part ≡ o.const_ b = sym (ap (part_tree o) c.the_const-bound.ensures) in
+    let sure = subst (λ a. IsTrue (known a)) is e.generalised.0 in
     let ts = c.bind.new.table in
-    let e = c.bind.ensures in
     let y : InferCtxtInner g.row.I-Key.Denot = record z { consts = ts; budget = z.budget - 1 } in
-    let beside = consts_beside n z ts (z.budget - 1) in
-    let keys = ap (map n.const_) e.keys in
-    let entries = bound_entries n.const_ z.consts.items ts.items c.args.target.0 k e.values in
-    let made = table_made m.const_ x.consts.items c.args.target.0 c.requires.target_made in
-    let free = c.requires.target_unbound in
-    let may = const_may m x c.requires.lawful t (n.const_ k) means c.requires.source_formed c.requires.source_covered in
-    let stands = g.met.I.Interner.is_const c.resolve_const_vars_if_possible.new.self.interner k sure in
-    let bound = target_bound r.grown x z y r.inner c.requires.lawful const_var tt c.args.target.0 (n.const_ k) beside keys entries e.universes left made free t c.requires.source_in may means stands absent in
+    let beside = consts_beside o z ts (z.budget - 1) in
+    let keys = ap (map o.const_) c.bind.ensures.keys in
+    let entries = bound_entries o.const_ z.consts.items ts.items i b c.bind.ensures.values in
+    let made = table_made m.const_ x.consts.items i c.requires.target_made in
+    let sorted = g.met.I.Interner.is_const c.args.self.now.interner c.args.source.now c.requires.source_known in
+    let full = n.const_ key in
+    let comes = c.in_ok-resolved.ensures.resolves in
+    let gen : (last : Stage) × (last.store ≡ store_of o z) × Generalised (items_of n) (store_of n w) const_var i (any_part Invariant) (record { store = store_of n w; met = [] }) full last (o.const_ b) = (e.generalised.2.0, e.generalised.2.1, subst (λ a. Generalised (items_of n) (store_of n w) const_var i (any_part Invariant) (record { store = store_of n w; met = [] }) full e.generalised.2.0 a) is e.generalised.2.2) in
+    let here = generalised_here o r.grown x w z r.inner l const_var i u universe e.makes y (o.const_ b) full tt Invariant t made c.requires.target_unbound e.lawful beside keys entries c.bind.ensures.universes left comes gen c.requires.source_in sorted in
+    let may = const_may m x l t here c.requires.source_covered sorted c.requires.source_no_variable (g.met.I.Interner.is_const c.generalise.new.self.interner b sure) in
     record {
-      lawful = target_lawful r.grown x z y r.inner c.requires.lawful const_var tt c.args.target.0 (n.const_ k) beside keys entries e.universes left made free t c.requires.source_in may means stands absent;
-      grown = r.grown;
-      sure = sure;
-      answers = (means, bound, absent);
-      steps = target_steps r.grown x z y r.inner c.requires.lawful const_var tt c.args.target.0 (n.const_ k) beside keys entries e.universes left made free t c.requires.source_in may means stands absent;
-      why_known = tt;
+      grows = record { extends = extends_on r.grown e.grown; lawful = bound_lawful o r.grown x w z r.inner l const_var i u universe e.makes y (o.const_ b) full tt Invariant t made c.requires.target_unbound e.lawful beside keys entries c.bind.ensures.universes left comes gen c.requires.source_in sorted may };
+      instantiates = (sure, by_rules o r.grown x w z r.inner l const_var i u universe e.makes y (o.const_ b) full tt Invariant t made c.requires.target_unbound e.lawful beside keys entries c.bind.ensures.universes left comes gen c.requires.source_in sorted);
     }

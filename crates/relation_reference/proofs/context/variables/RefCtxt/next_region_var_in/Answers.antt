@@ -1,4 +1,6 @@
-use Rattle.std.proofs.Common.{refl, ap}
+use Rattle.std.proofs.Common.{◌≡◌, refl, ap, ◌∙◌, length, arith}
+use Rattle.relation_terms.specs.Heads.{region_var, variable}
+use Rattle.relation_terms.specs.Trees.{leaf}
 use Rattle.relation_reference.specs.Tables.{store_of}
 use Rattle.relation_reference.proofs.Making.{on_err, later_same, refused_lawful, refused_later, refused_store, region_made, region_made_later, region_made_lawful}
 use Rattle.relation_reference.proofs.context.variables.RefCtxt.next_region_var_in.Goals as goal
@@ -10,19 +12,22 @@ pub returns-in_err-key-clause-refused : goal.returns-in_err-key-clause-refused
 returns-in_err-key-clause-refused g c = on_err c.from_residual.result _ (ap (λ m. store_of m c.args.self.now.inner) c.in_err-key.ensures.refused)
 
 pub returns-in_err-push-clause-lawful : goal.returns-in_err-push-clause-lawful
-returns-in_err-push-clause-lawful g c = refused_lawful c.in_ok-key.ensures.grown c.args.self.now.inner (record c.args.self.now.inner { regions = c.push.new.self }) (record { types = refl; ints = refl; floats = refl; consts = refl; regions = c.in_err-push.ensures.items; constraints = refl; universe = refl; budget = refl; numbers = refl }) c.requires.lawful
+returns-in_err-push-clause-lawful g c = refused_lawful c.in_ok-key.ensures.grown c.args.self.now.inner (record c.args.self.now.inner { regions = c.push.new.self }) (record { types = refl; ints = refl; floats = refl; consts = refl; regions = c.in_err-push.ensures.items; constraints = refl; universe = refl; budget = refl; numbers = refl; sub_roots = refl }) c.requires.lawful
 
 pub returns-in_err-push-clause-later : goal.returns-in_err-push-clause-later
-returns-in_err-push-clause-later g c = refused_later c.in_ok-key.ensures.grown c.args.self.now.inner (record c.args.self.now.inner { regions = c.push.new.self }) (record { types = refl; ints = refl; floats = refl; consts = refl; regions = c.in_err-push.ensures.items; constraints = refl; universe = refl; budget = refl; numbers = refl }) c.requires.lawful
+returns-in_err-push-clause-later g c = refused_later c.in_ok-key.ensures.grown c.args.self.now.inner (record c.args.self.now.inner { regions = c.push.new.self }) (record { types = refl; ints = refl; floats = refl; consts = refl; regions = c.in_err-push.ensures.items; constraints = refl; universe = refl; budget = refl; numbers = refl; sub_roots = refl }) c.requires.lawful
 
 pub returns-in_err-push-clause-refused : goal.returns-in_err-push-clause-refused
-returns-in_err-push-clause-refused g c = on_err c.from_residual-in_err-push.result _ (refused_store c.in_ok-key.ensures.grown c.args.self.now.inner (record c.args.self.now.inner { regions = c.push.new.self }) (record { types = refl; ints = refl; floats = refl; consts = refl; regions = c.in_err-push.ensures.items; constraints = refl; universe = refl; budget = refl; numbers = refl }) c.requires.lawful)
+returns-in_err-push-clause-refused g c = on_err c.from_residual-in_err-push.result _ (refused_store c.in_ok-key.ensures.grown c.args.self.now.inner (record c.args.self.now.inner { regions = c.push.new.self }) (record { types = refl; ints = refl; floats = refl; consts = refl; regions = c.in_err-push.ensures.items; constraints = refl; universe = refl; budget = refl; numbers = refl; sub_roots = refl }) c.requires.lawful)
 
 pub returns-clause-lawful : goal.returns-clause-lawful
-returns-clause-lawful g c = region_made_lawful c.in_ok-key.ensures.grown c.args.self.now.inner c.requires.lawful c.push.new.self c.args.universe c.requires.below c.in_ok-push.ensures.items
+returns-clause-lawful g c = region_made_lawful c.in_ok-key.ensures.grown c.args.self.now.inner c.requires.lawful c.push.new.self _ c.in_ok-push.ensures.items refl (c.args.universe).0 c.requires.below refl
+    (c.in_ok-key.ensures.made ∙ ap (λ n. leaf (variable region_var n)) (let e : c.len-number.result ≡ length c.args.self.now.inner.regions.items = omega (arith, c.len-number.ensures, c.args.self.now.inner.regions.ok.0) in e))
 
 pub returns-clause-later : goal.returns-clause-later
-returns-clause-later g c = region_made_later c.in_ok-key.ensures.grown c.args.self.now.inner c.requires.lawful c.push.new.self c.args.universe c.requires.below c.in_ok-push.ensures.items
+returns-clause-later g c = region_made_later c.in_ok-key.ensures.grown c.args.self.now.inner c.requires.lawful c.push.new.self _ c.in_ok-push.ensures.items refl (c.args.universe).0 c.requires.below refl
+    (c.in_ok-key.ensures.made ∙ ap (λ n. leaf (variable region_var n)) (let e : c.len-number.result ≡ length c.args.self.now.inner.regions.items = omega (arith, c.len-number.ensures, c.args.self.now.inner.regions.ok.0) in e))
 
 pub returns-clause-makes : goal.returns-clause-makes
-returns-clause-makes g c = region_made c.in_ok-key.ensures.grown c.args.self.now.inner c.requires.lawful c.push.new.self c.args.universe c.requires.below c.in_ok-push.ensures.items
+returns-clause-makes g c = region_made c.in_ok-key.ensures.grown c.args.self.now.inner c.requires.lawful c.push.new.self _ c.in_ok-push.ensures.items refl (c.args.universe).0 c.requires.below refl
+    (c.in_ok-key.ensures.made ∙ ap (λ n. leaf (variable region_var n)) (let e : c.len-number.result ≡ length c.args.self.now.inner.regions.items = omega (arith, c.len-number.ensures, c.args.self.now.inner.regions.ok.0) in e))

@@ -1,7 +1,6 @@
 use Rattle.std.proofs.Common.{◌∙◌, sym}
-use Rattle.std.specs.HashMap.{get}
 use Rattle.relation_terms.proofs.Parts.{same_part}
-use Rattle.relation_reference.proofs.Remembering.{key_eq, recalled}
+use Rattle.relation_reference.proofs.Remembering.{recalled}
 use Rattle.relation_reference.proofs.context.variables.RefCtxt.recall.Goals as goal
 
 pub returns : goal.returns

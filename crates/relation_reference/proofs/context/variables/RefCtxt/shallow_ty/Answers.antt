@@ -1,6 +1,5 @@
 use Rattle.std.proofs.Common.{refl, ap, ◌∙◌}
-use Rattle.relation_terms.specs.Heads.{type_var, variable}
-use Rattle.relation_terms.specs.Trees.{leaf}
+use Rattle.relation_terms.specs.Heads.{type_var}
 use Rattle.relation_terms.specs.Meaning.{kind_tree}
 use Rattle.type_relations.specs.Errors.{itself}
 use Rattle.relation_reference.specs.Tables.{store_of}

@@ -1,16 +1,16 @@
-use Rattle.std.proofs.Common.{◌≡◌, refl, sym, ap, ◌∙◌, subst, All, IsTrue}
+use Rattle.std.proofs.Common.{◌≡◌, refl, sym, ap, ◌∙◌, subst, [], All, IsTrue}
 use Rattle.std.proofs.lemmas.Bool.{false≢true}
 use Rattle.std.proofs.lemmas.List.Elements.{All-nil}
 use Rattle.relation_terms.specs.Trees.{apply, known}
 use Rattle.type_relations.specs.Relation.{same}
-use Rattle.type_relations.specs.Goals.{goals_of, MakesOneTree}
-use Rattle.type_relations.specs.Headline.{AnswersGoals, KeepsEqualTerms}
-use Rattle.type_relations.specs.Lawful.{items_of}
+use Rattle.type_relations.specs.Goals.{goals_of, KnowsGoal, MakesOneTree}
+use Rattle.type_relations.specs.Lawful.{Related, ExactResult}
+use Rattle.type_relations.specs.Solving.{solving_in, solver_manner}
 use Rattle.type_relations.proofs.Going.{later_itself, goes_nowhere, binds_its_own}
 use Rattle.type_relations.proofs.Unifying.{exact_itself}
 use Rattle.type_relations.proofs.Passing.{as_err}
 use Rattle.type_relations.proofs.Exactly.{unrelated_apart}
-use Rattle.type_relations.proofs.Solving.{answers_goals, keeps_equal, one_ty}
+use Rattle.type_relations.proofs.Solving.{answers_goals, keeps_equal, registers_goals, all_taken, one_ty}
 use Rattle.type_relations.proofs.relate.solver_relating.AnyRelateExt.relate.Goals as goal
 
 pub returns-then-eq-clause-answers : goal.returns-then-eq-clause-answers
@@ -50,20 +50,37 @@ returns-then-eq-clause-bound g c =
     let st = (g.Infcx.InferCtxtLike.state c.args.self.now).store in
     binds_its_own (goes_nowhere 0 st) (λ m. (g.met.Infcx.InferCtxtLike.sound c.args.self.now c.requires.lawful).regions_unbound m)
 
-pub returns-in_err-relate_in-clause-bound : goal.returns-in_err-relate_in-clause-bound
-returns-in_err-relate_in-clause-bound g c =
-    let passes = (c.in_err-relate_in.ensures).passes in
-    let lawful = (passes.lawful (c.requires.lawful, c.requires.env_known)).0 in
-    binds_its_own passes.goes (λ m. (g.met.Infcx.InferCtxtLike.sound c.relate_in.new.infcx lawful).regions_unbound m)
+pub relate_in-related-requires-clause-asked : goal.relate_in-related-requires-clause-asked
+relate_in-related-requires-clause-asked g c =
+    let s = g.Infcx.InferCtxtLike.state c.args.self.now in
+    let k = c.requires in
+    record {
+      left_known = k.lhs_known;
+      right_known = k.rhs_known;
+      left_in = k.lhs_in;
+      right_in = k.rhs_in;
+      left_taken = all_taken c.args.variance ((s.meaning).ty c.args.lhs) k.lhs_taken;
+      right_taken = all_taken c.args.variance ((s.meaning).ty c.args.rhs) k.rhs_taken;
+    }
+
+pub returns-in_err-related-clause-bound : goal.returns-in_err-related-clause-bound
+returns-in_err-related-clause-bound g c =
+    let s = g.Infcx.InferCtxtLike.state c.args.self.now in
+    let passes = (c.relate_in-related.ensures).passes in
+    let lawful = (passes.lawful (c.requires.lawful, (c.requires.env_known, All-nil (KnowsGoal s.meaning)))).0 in
+    binds_its_own passes.goes
+    (λ m. (g.met.Infcx.InferCtxtLike.sound c.relate_in-related.new.infcx lawful).regions_unbound m)
 
 pub returns-clause-bound : goal.returns-clause-bound
 returns-clause-bound g c =
-    let passes = (c.in_ok-relate_in.ensures).passes in
-    let lawful = (passes.lawful (c.requires.lawful, c.requires.env_known)).0 in
-    binds_its_own passes.goes (λ m. (g.met.Infcx.InferCtxtLike.sound c.relate_in.new.infcx lawful).regions_unbound m)
+    let s = g.Infcx.InferCtxtLike.state c.args.self.now in
+    let passes = (c.relate_in-related.ensures).passes in
+    let lawful = (passes.lawful (c.requires.lawful, (c.requires.env_known, All-nil (KnowsGoal s.meaning)))).0 in
+    binds_its_own passes.goes
+    (λ m. (g.met.Infcx.InferCtxtLike.sound c.relate_in-related.new.infcx lawful).regions_unbound m)
 
-pub returns-in_err-relate_in-clause-same : goal.returns-in_err-relate_in-clause-same
-returns-in_err-relate_in-clause-same g c =
+pub returns-in_err-related-clause-same : goal.returns-in_err-related-clause-same
+returns-in_err-related-clause-same g c =
     let of = g.met.Infcx.InferCtxtLike.reads c.args.self.now in
     λ e. absurd (false≢true (c.if-eq.ensures
     ∙ (g.met.Infcx.Interner.Interner.same_ty (g.Infcx.InferCtxtLike.interner c.args.self.now) c.args.lhs c.args.rhs
@@ -83,38 +100,65 @@ returns-clause-same g c =
 pub returns-clause-answers : goal.returns-clause-answers
 returns-clause-answers g c =
     let s = g.Infcx.InferCtxtLike.state c.args.self.now in
-    let d = g.Infcx.InferCtxtLike.state c.relate_in.new.infcx in
+    let d = g.Infcx.InferCtxtLike.state c.relate_in-related.new.infcx in
     let a = (s.meaning).ty c.args.lhs in
     let b = (s.meaning).ty c.args.rhs in
-    subst (λ gs. AnswersGoals (items_of s.meaning) s.store d.store (goals_of d.meaning gs)
-    ((s.meaning).param_env c.args.param_env) c.args.variance a b) (sym c.new-2.ensures.items)
-    (answers_goals 0 s.meaning d.meaning s.store d.store s.lawful d.lawful c.args.variance c.args.param_env a b
-    (d.meaning).ty c.in_ok-relate_in.field-0 c.in_ok-relate_in.ensures)
+    let hs = c.relate_in-related.result.1.items in
+    answers_goals s.meaning d.meaning s.store d.store s.lawful d.lawful c.args.variance c.args.param_env a b
+    (d.meaning).ty hs c.in_ok-related.field-0 (subst (λ z. Related solver_manner
+    (solving_in [] s c.args.variance c.args.param_env) (solving_in hs d c.args.variance c.args.param_env)
+    c.args.variance a b (d.meaning).ty z) c.in_ok-related.was c.relate_in-related.ensures)
 
 pub returns-clause-keeps : goal.returns-clause-keeps
 returns-clause-keeps g c =
     let s = g.Infcx.InferCtxtLike.state c.args.self.now in
-    let d = g.Infcx.InferCtxtLike.state c.relate_in.new.infcx in
+    let d = g.Infcx.InferCtxtLike.state c.relate_in-related.new.infcx in
     let a = (s.meaning).ty c.args.lhs in
     let b = (s.meaning).ty c.args.rhs in
-    subst (λ gs. KeepsEqualTerms s.store d.store (goals_of d.meaning gs) a b) (sym c.new-2.ensures.items)
-    (keeps_equal 0 s.meaning d.meaning s.store d.store s.lawful d.lawful c.args.variance c.args.param_env a b
-    (d.meaning).ty c.in_ok-relate_in.field-0 c.in_ok-relate_in.ensures)
+    let hs = c.relate_in-related.result.1.items in
+    keeps_equal s.meaning d.meaning s.store d.store s.lawful d.lawful c.args.variance c.args.param_env a b
+    (d.meaning).ty hs c.in_ok-related.field-0 (subst (λ z. Related solver_manner
+    (solving_in [] s c.args.variance c.args.param_env) (solving_in hs d c.args.variance c.args.param_env)
+    c.args.variance a b (d.meaning).ty z) c.in_ok-related.was c.relate_in-related.ensures)
+
+pub returns-clause-goals : goal.returns-clause-goals
+returns-clause-goals g c =
+    let s = g.Infcx.InferCtxtLike.state c.args.self.now in
+    let d = g.Infcx.InferCtxtLike.state c.relate_in-related.new.infcx in
+    registers_goals s.meaning d.meaning s.store d.store s.lawful d.lawful c.args.variance c.args.param_env
+    ((s.meaning).ty c.args.lhs) ((s.meaning).ty c.args.rhs) (d.meaning).ty c.relate_in-related.result.1.items
+    c.relate_in-related.result.0 c.requires.lawful (c.requires.env_known, All-nil (KnowsGoal s.meaning))
+    c.relate_in-related.ensures
 
 pub returns-clause-exact : goal.returns-clause-exact
-returns-clause-exact g c = λ is pair. let o = (c.in_ok-relate_in.ensures).exact tt is pair in (o.1, o.0)
-
-pub returns-in_err-relate_in-clause-no_unifier : goal.returns-in_err-relate_in-clause-no_unifier
-returns-in_err-relate_in-clause-no_unifier g c =
+returns-clause-exact g c = λ is pair.
     let s = g.Infcx.InferCtxtLike.state c.args.self.now in
-    let d = g.Infcx.InferCtxtLike.state c.relate_in.new.infcx in
+    let d = g.Infcx.InferCtxtLike.state c.relate_in-related.new.infcx in
+    let o = subst (ExactResult s.store d.store ((s.meaning).ty c.args.lhs) ((s.meaning).ty c.args.rhs))
+    c.in_ok-related.was ((c.relate_in-related.ensures).exact tt is pair) in (o.1, o.0)
+
+pub returns-in_err-related-clause-no_unifier : goal.returns-in_err-related-clause-no_unifier
+returns-in_err-related-clause-no_unifier g c =
+    let s = g.Infcx.InferCtxtLike.state c.args.self.now in
+    let d = g.Infcx.InferCtxtLike.state c.relate_in-related.new.infcx in
     let a = (s.meaning).ty c.args.lhs in
     let b = (s.meaning).ty c.args.rhs in
-    let f = c.in_err-relate_in.field-0.0 in
+    let f = c.in_err-related.field-0.0 in
     unrelated_apart c.args.variance s.store d.store a b (d.meaning).ty c.from_residual.result f
     (as_err c.from_residual.result f c.from_residual.ensures.0 c.from_residual.ensures.1)
-    (λ is pair. (c.in_err-relate_in.ensures).exact tt is pair)
+    (λ is pair. subst (ExactResult s.store d.store a b) c.in_err-related.was
+    ((c.relate_in-related.ensures).exact tt is pair))
 
 pub returns-clause-sound : goal.returns-clause-sound
-returns-clause-sound g c = g.met.Infcx.InferCtxtLike.sound c.relate_in.new.infcx
-    (((c.in_ok-relate_in.ensures).passes).lawful (c.requires.lawful, c.requires.env_known)).0
+returns-clause-sound g c =
+    let s = g.Infcx.InferCtxtLike.state c.args.self.now in
+    g.met.Infcx.InferCtxtLike.sound c.relate_in-related.new.infcx
+    (((c.relate_in-related.ensures).passes).lawful
+    (c.requires.lawful, (c.requires.env_known, All-nil (KnowsGoal s.meaning)))).0
+
+pub returns-in_err-related-clause-sound : goal.returns-in_err-related-clause-sound
+returns-in_err-related-clause-sound g c =
+    let s = g.Infcx.InferCtxtLike.state c.args.self.now in
+    g.met.Infcx.InferCtxtLike.sound c.relate_in-related.new.infcx
+    (((c.relate_in-related.ensures).passes).lawful
+    (c.requires.lawful, (c.requires.env_known, All-nil (KnowsGoal s.meaning)))).0

@@ -1,37 +1,20 @@
 use Rattle.std.proofs.Common.{◌≡◌, refl, sym, ap, ◌∙◌, inl, inr, subst, Ok, Err}
-use Rattle.relation_terms.specs.declared.terms.enums.Variance.TheVariants.{Covariant, Invariant}
+use Rattle.relation_terms.specs.declared.terms.enums.Variance.TheVariants.{Covariant}
 use Rattle.relation_terms.specs.Heads.{type_var, variable}
 use Rattle.relation_terms.specs.Trees.{leaf}
+use Rattle.relation_tools.specs.declared.error.TypeError.TheVariants.{CyclicTy}
 use Rattle.type_relations.specs.declared.relate.Step.TheVariants.{Again}
+use Rattle.type_relations.specs.Stores.{unbound, entry_of, IsMade}
 use Rattle.type_relations.specs.Parts.{IsFormed}
 use Rattle.type_relations.specs.Lawful.{Stepped}
-use Rattle.type_relations.specs.Taken.{IsTaken}
-use Rattle.type_relations.specs.ContextCalls.{BindsTerm}
 use Rattle.type_relations.specs.Solving.{solving_through, solver_manner}
 use Rattle.type_relations.proofs.Passing.{as_err}
-use Rattle.type_relations.proofs.Binding.{no_region}
 use Rattle.type_relations.proofs.Shallowly.{shallow_free, variable_made}
-use Rattle.type_relations.proofs.Solving.{roots_step, left_step, right_step, left_refused, right_refused}
-use Rattle.type_relations.proofs.Solving.{taken_invariantly, seen_back, taken_back, decides_back}
+use Rattle.type_relations.proofs.GeneralisingErrors.{cycle_error}
+use Rattle.type_relations.proofs.Answering.{covariantly}
+use Rattle.type_relations.proofs.Solving.{decides_back, ty_sorted}
+use Rattle.type_relations.proofs.SolvingVariables.{left_step, right_step, left_refused, right_refused, type_comes_to_none}
 use Rattle.type_relations.proofs.relate.solver_relating.relation.SolverRelating.combine_tys.Goals as goal
-
-pub equate_ty_vids_raw-requires-clause-a_unresolved : goal.equate_ty_vids_raw-requires-clause-a_unresolved
-equate_ty_vids_raw-requires-clause-a_unresolved g c =
-    let r = c.args.self.now in
-    let s = g.Infcx.InferCtxtLike.state r.infcx.now in
-    let k = c.requires.asked in (
-      variable_made s.store type_var c.in-Some.x.0 ((s.meaning).ty c.args.a.now) c.in-Some.ensures.is k.left_in,
-      shallow_free s.store type_var c.in-Some.x.0 ((s.meaning).ty c.args.a.now) c.in-Some.ensures.is c.requires.a_shallow,
-    )
-
-pub equate_ty_vids_raw-requires-clause-b_unresolved : goal.equate_ty_vids_raw-requires-clause-b_unresolved
-equate_ty_vids_raw-requires-clause-b_unresolved g c =
-    let r = c.args.self.now in
-    let s = g.Infcx.InferCtxtLike.state r.infcx.now in
-    let k = c.requires.asked in (
-      variable_made s.store type_var c.in-Some-ty_var.y.0 ((s.meaning).ty c.args.b.now) c.in-Some-ty_var.ensures.is k.right_in,
-      shallow_free s.store type_var c.in-Some-ty_var.y.0 ((s.meaning).ty c.args.b.now) c.in-Some-ty_var.ensures.is c.requires.b_shallow,
-    )
 
 pub instantiate_ty_var_raw-requires-clause-target_unresolved : goal.instantiate_ty_var_raw-requires-clause-target_unresolved
 instantiate_ty_var_raw-requires-clause-target_unresolved g c =
@@ -51,60 +34,86 @@ instantiate_ty_var_raw-requires-in-Some-ty_var-2-clause-target_unresolved g c =
       shallow_free s.store type_var c.in-Some-ty_var-2.y.0 ((s.meaning).ty c.args.b.now) c.in-Some-ty_var-2.ensures.is c.requires.b_shallow,
     )
 
-pub returns-in-Some-ty_var : goal.returns-in-Some-ty_var
-returns-in-Some-ty_var g c =
+pub combine_ty_vars-requires-clause-a_unresolved : goal.combine_ty_vars-requires-clause-a_unresolved
+combine_ty_vars-requires-clause-a_unresolved g c =
     let r = c.args.self.now in
     let s = g.Infcx.InferCtxtLike.state r.infcx.now in
-    let sound = g.met.Infcx.InferCtxtLike.sound r.infcx.now c.requires.lawful in
-    let d = g.Infcx.InferCtxtLike.state c.equate_ty_vids_raw.new.self in
-    let done = c.equate_ty_vids_raw.ensures in
-    roots_step r.infcx.ghost_name IsFormed s.meaning d.meaning s.store d.store s.lawful d.lawful r.ambient_variance r.param_env
-    type_var (no_region type_var tt) c.in-Some.x.0 c.in-Some-ty_var.y.0 ((s.meaning).ty c.args.a.now) ((s.meaning).ty c.args.b.now)
-    (d.meaning).ty c.args.a.now done.stands.meaning c.requires.env_known sound done.stands.lawful done.same done.equates
-    c.in-Some.ensures.is c.in-Some-ty_var.ensures.is (ap (λ z. z.ty c.args.a.now) done.stands.meaning)
+    let k = c.requires.asked in (
+      variable_made s.store type_var c.in-Some.x.0 ((s.meaning).ty c.args.a.now) c.in-Some.ensures.is k.left_in,
+      shallow_free s.store type_var c.in-Some.x.0 ((s.meaning).ty c.args.a.now) c.in-Some.ensures.is c.requires.a_shallow,
+    )
+
+pub combine_ty_vars-requires-clause-b_unresolved : goal.combine_ty_vars-requires-clause-b_unresolved
+combine_ty_vars-requires-clause-b_unresolved g c =
+    let r = c.args.self.now in
+    let s = g.Infcx.InferCtxtLike.state r.infcx.now in
+    let k = c.requires.asked in (
+      variable_made s.store type_var c.in-Some-ty_var.y.0 ((s.meaning).ty c.args.b.now) c.in-Some-ty_var.ensures.is k.right_in,
+      shallow_free s.store type_var c.in-Some-ty_var.y.0 ((s.meaning).ty c.args.b.now) c.in-Some-ty_var.ensures.is c.requires.b_shallow,
+    )
 
 pub returns-in_err-bound-in-None-ty_var : goal.returns-in_err-bound-in-None-ty_var
 returns-in_err-bound-in-None-ty_var g c =
     let r = c.args.self.now in
     let s = g.Infcx.InferCtxtLike.state r.infcx.now in
+    let sound = g.met.Infcx.InferCtxtLike.sound r.infcx.now c.requires.lawful in
+    let k = c.requires.asked in
     let d = g.Infcx.InferCtxtLike.state c.instantiate_ty_var_raw.new.self in
     let f = c.in_err-bound-in-None-ty_var.field-0.0 in
     let h = c.in_err-bound-in-None-ty_var.ensures in
+    let n = c.in-Some.x.0 in
+    let is = c.in-Some.ensures.is in
     let t = (s.meaning).ty c.args.b.now in
-    subst (λ res. Stepped solver_manner IsFormed (solving_through r.infcx.ghost_name s r.ambient_variance r.param_env)
-    (solving_through r.infcx.ghost_name d r.ambient_variance r.param_env)
+    let unresolved : IsMade s.store type_var n × (entry_of s.store type_var n ≡ unbound) = (
+      variable_made s.store type_var n ((s.meaning).ty c.args.a.now) is k.left_in,
+      shallow_free s.store type_var n ((s.meaning).ty c.args.a.now) is c.requires.a_shallow,
+    ) in
+    let other = type_comes_to_none s.store t n c.requires.b_shallow c.in-None-ty_var.ensures.is_none in
+    subst (λ res. Stepped solver_manner IsFormed (solving_through r.infcx.ghost_name r.goals.items s r.ambient_variance r.param_env)
+    (solving_through r.infcx.ghost_name r.goals.items d r.ambient_variance r.param_env)
     ((s.meaning).ty c.args.a.now) ((s.meaning).ty c.args.b.now) (d.meaning).ty res)
     (sym (as_err c.from_residual.result f c.from_residual.ensures.0 c.from_residual.ensures.1))
-    (subst (λ l. Stepped solver_manner IsFormed (solving_through r.infcx.ghost_name s r.ambient_variance r.param_env)
-    (solving_through r.infcx.ghost_name d r.ambient_variance r.param_env) l t
-    (d.meaning).ty (Err f)) (sym c.in-Some.ensures.is)
-    (left_refused r.infcx.ghost_name IsFormed s d h.grows.extends r.ambient_variance c.requires.decides r.param_env
-    c.requires.env_known h.grows.lawful type_var c.in-Some.x.0 t (λ m. m.ty) r.ambient_variance
-    (λ i. i) (d.meaning).ty f h.instantiates))
+    (subst (λ l. Stepped solver_manner IsFormed (solving_through r.infcx.ghost_name r.goals.items s r.ambient_variance r.param_env)
+    (solving_through r.infcx.ghost_name r.goals.items d r.ambient_variance r.param_env) l t
+    (d.meaning).ty (Err f)) (sym is)
+    (left_refused r.infcx.ghost_name r.goals.items IsFormed s d h.grows.extends r.ambient_variance c.requires.decides r.param_env
+    (c.requires.env_known, c.requires.goals_known) sound h.grows.lawful type_var tt n t unresolved other (λ m. m.ty) CyclicTy r.ambient_variance
+    (d.meaning).ty (λ o z i x. cycle_error d.meaning s.store d.store n t sound o z i other x) f h.instantiates))
 
 pub returns-in_err-bound-in-Some-ty_var-2 : goal.returns-in_err-bound-in-Some-ty_var-2
 returns-in_err-bound-in-Some-ty_var-2 g c =
     let r = c.args.self.now in
     let s = g.Infcx.InferCtxtLike.state r.infcx.now in
+    let sound = g.met.Infcx.InferCtxtLike.sound r.infcx.now c.requires.lawful in
+    let k = c.requires.asked in
     let d = g.Infcx.InferCtxtLike.state c.instantiate_ty_var_raw-in-Some-ty_var-2.new.self in
     let f = c.in_err-bound-in-Some-ty_var-2.field-0.0 in
     let h = c.in_err-bound-in-Some-ty_var-2.ensures in
+    let n = c.in-Some-ty_var-2.y.0 in
+    let is = c.in-Some-ty_var-2.ensures.is in
     let t = (s.meaning).ty c.args.a.now in
-    subst (λ res. Stepped solver_manner IsFormed (solving_through r.infcx.ghost_name s r.ambient_variance r.param_env)
-    (solving_through r.infcx.ghost_name d r.ambient_variance r.param_env)
+    let unresolved : IsMade s.store type_var n × (entry_of s.store type_var n ≡ unbound) = (
+      variable_made s.store type_var n ((s.meaning).ty c.args.b.now) is k.right_in,
+      shallow_free s.store type_var n ((s.meaning).ty c.args.b.now) is c.requires.b_shallow,
+    ) in
+    let other = type_comes_to_none s.store t n c.requires.a_shallow c.in-None.ensures.is_none in
+    subst (λ res. Stepped solver_manner IsFormed (solving_through r.infcx.ghost_name r.goals.items s r.ambient_variance r.param_env)
+    (solving_through r.infcx.ghost_name r.goals.items d r.ambient_variance r.param_env)
     ((s.meaning).ty c.args.a.now) ((s.meaning).ty c.args.b.now) (d.meaning).ty res)
     (sym (as_err c.from_residual-in_err-bound-in-Some-ty_var-2.result f c.from_residual-in_err-bound-in-Some-ty_var-2.ensures.0 c.from_residual-in_err-bound-in-Some-ty_var-2.ensures.1))
-    (subst (λ l. Stepped solver_manner IsFormed (solving_through r.infcx.ghost_name s r.ambient_variance r.param_env)
-    (solving_through r.infcx.ghost_name d r.ambient_variance r.param_env) t l
-    (d.meaning).ty (Err f)) (sym c.in-Some-ty_var-2.ensures.is)
-    (right_refused r.infcx.ghost_name IsFormed s d h.grows.extends r.ambient_variance c.requires.decides r.param_env
-    c.requires.env_known h.grows.lawful type_var c.in-Some-ty_var-2.y.0 t (λ m. m.ty) c.xform-variance.result
-    (seen_back r.ambient_variance c.xform-variance.result c.xform-variance.ensures) (d.meaning).ty f h.instantiates))
+    (subst (λ l. Stepped solver_manner IsFormed (solving_through r.infcx.ghost_name r.goals.items s r.ambient_variance r.param_env)
+    (solving_through r.infcx.ghost_name r.goals.items d r.ambient_variance r.param_env) t l
+    (d.meaning).ty (Err f)) (sym is)
+    (right_refused r.infcx.ghost_name r.goals.items IsFormed s d h.grows.extends r.ambient_variance c.requires.decides r.param_env
+    (c.requires.env_known, c.requires.goals_known) sound h.grows.lawful type_var tt n t unresolved other (λ m. m.ty) CyclicTy c.xform-variance.result
+    (d.meaning).ty (λ o z i x. cycle_error d.meaning s.store d.store n t sound o z i other x) f h.instantiates))
 
 pub returns-in_ok-bound-in-None-ty_var : goal.returns-in_ok-bound-in-None-ty_var
 returns-in_ok-bound-in-None-ty_var g c =
     let r = c.args.self.now in
     let s = g.Infcx.InferCtxtLike.state r.infcx.now in
+    let cx = g.Infcx.InferCtxtLike.interner r.infcx.now in
+    let of = g.met.Infcx.InferCtxtLike.reads r.infcx.now in
     let sound = g.met.Infcx.InferCtxtLike.sound r.infcx.now c.requires.lawful in
     let k = c.requires.asked in
     let q = c.instantiate_ty_var_raw.new.self in
@@ -114,23 +123,26 @@ returns-in_ok-bound-in-None-ty_var g c =
     let grown = h.grows.extends in
     let t = (s.meaning).ty c.args.b.now in
     let is = c.in-Some.ensures.is in
-    let inv = taken_invariantly r.ambient_variance type_var tt c.in-Some.x.0 ((s.meaning).ty c.args.a.now) is c.requires.decides
-    k.left_taken in
     let root_stays : (d.meaning).ty c.args.a.now ≡ leaf (variable type_var c.in-Some.x.0) =
     grown.ty c.args.a.now k.left_known ∙ is in
     let t_stays : (d.meaning).ty c.args.b.now ≡ t = grown.ty c.args.b.now k.right_known in
-    subst (λ l. Stepped solver_manner IsFormed (solving_through r.infcx.ghost_name s r.ambient_variance r.param_env)
-    (solving_through r.infcx.ghost_name d r.ambient_variance r.param_env) l t
+    subst (λ l. Stepped solver_manner IsFormed (solving_through r.infcx.ghost_name r.goals.items s r.ambient_variance r.param_env)
+    (solving_through r.infcx.ghost_name r.goals.items d r.ambient_variance r.param_env) l t
     (d.meaning).ty (Ok (Again c.args.a.now c.args.b.now z c.args.b.now Covariant c.args.a.now))) (sym is)
-    (left_step r.infcx.ghost_name type_var tt s d grown r.param_env c.requires.env_known sound h.grows.lawful
+    (left_step r.infcx.ghost_name r.goals.items type_var tt s d grown r.param_env (c.requires.env_known, c.requires.goals_known) sound
+    (g.met.Infcx.InferCtxtLike.numbers r.infcx.now c.requires.lawful) h.grows.lawful
     (g.met.Infcx.InferCtxtLike.covered q h.grows.lawful) c.in-Some.x.0 t ((d.meaning).ty z) k.right_taken.1 k.right_in
-    k.right_known (subst (λ w. BindsTerm s d w type_var c.in-Some.x.0 t ((d.meaning).ty z)) inv h.instantiates) IsFormed r.ambient_variance inv c.args.a.now c.args.b.now z c.args.b.now c.args.a.now Covariant (d.meaning).ty
-    root_stays t_stays refl t_stays (inl root_stays))
+    k.right_known (ty_sorted of c.args.b.now (g.met.Infcx.Interner.Interner.is_ty cx c.args.b.now) k.right_known)
+    r.ambient_variance r.ambient_variance h.instantiates.0 h.instantiates.1 IsFormed c.args.a.now c.args.b.now z
+    c.args.b.now c.args.a.now Covariant (covariantly r.ambient_variance) (d.meaning).ty root_stays t_stays refl t_stays
+    (inl root_stays))
 
 pub returns-in_ok-bound-in-Some-ty_var-2 : goal.returns-in_ok-bound-in-Some-ty_var-2
 returns-in_ok-bound-in-Some-ty_var-2 g c =
     let r = c.args.self.now in
     let s = g.Infcx.InferCtxtLike.state r.infcx.now in
+    let cx = g.Infcx.InferCtxtLike.interner r.infcx.now in
+    let of = g.met.Infcx.InferCtxtLike.reads r.infcx.now in
     let sound = g.met.Infcx.InferCtxtLike.sound r.infcx.now c.requires.lawful in
     let k = c.requires.asked in
     let q = c.instantiate_ty_var_raw-in-Some-ty_var-2.new.self in
@@ -140,48 +152,26 @@ returns-in_ok-bound-in-Some-ty_var-2 g c =
     let grown = h.grows.extends in
     let t = (s.meaning).ty c.args.a.now in
     let is = c.in-Some-ty_var-2.ensures.is in
-    let inv = taken_invariantly r.ambient_variance type_var tt c.in-Some-ty_var-2.y.0 ((s.meaning).ty c.args.b.now) is c.requires.decides
-    k.right_taken in
     let root_stays : (d.meaning).ty c.args.b.now ≡ leaf (variable type_var c.in-Some-ty_var-2.y.0) =
     grown.ty c.args.b.now k.right_known ∙ is in
     let t_stays : (d.meaning).ty c.args.a.now ≡ t = grown.ty c.args.a.now k.left_known in
-    subst (λ l. Stepped solver_manner IsFormed (solving_through r.infcx.ghost_name s r.ambient_variance r.param_env)
-    (solving_through r.infcx.ghost_name d r.ambient_variance r.param_env) t l
+    subst (λ l. Stepped solver_manner IsFormed (solving_through r.infcx.ghost_name r.goals.items s r.ambient_variance r.param_env)
+    (solving_through r.infcx.ghost_name r.goals.items d r.ambient_variance r.param_env) t l
     (d.meaning).ty (Ok (Again c.args.a.now c.args.b.now c.args.a.now z Covariant c.args.a.now))) (sym is)
-    (right_step r.infcx.ghost_name type_var tt s d grown r.param_env c.requires.env_known sound h.grows.lawful
-    (g.met.Infcx.InferCtxtLike.covered q h.grows.lawful) c.in-Some-ty_var-2.y.0 t ((d.meaning).ty z) k.left_taken.1 k.left_in
-    k.left_known (subst (λ w. BindsTerm s d w type_var c.in-Some-ty_var-2.y.0 t ((d.meaning).ty z)) (seen_back r.ambient_variance c.xform-variance.result c.xform-variance.ensures inv) h.instantiates) IsFormed r.ambient_variance inv c.args.a.now c.args.b.now c.args.a.now z c.args.a.now Covariant (d.meaning).ty
-    t_stays root_stays t_stays refl (inr t_stays))
+    (right_step r.infcx.ghost_name r.goals.items type_var tt s d grown r.param_env (c.requires.env_known, c.requires.goals_known) sound
+    (g.met.Infcx.InferCtxtLike.numbers r.infcx.now c.requires.lawful) h.grows.lawful
+    (g.met.Infcx.InferCtxtLike.covered q h.grows.lawful) c.in-Some-ty_var-2.y.0 t ((d.meaning).ty z) k.left_taken.1
+    k.left_in k.left_known (ty_sorted of c.args.a.now (g.met.Infcx.Interner.Interner.is_ty cx c.args.a.now) k.left_known)
+    r.ambient_variance c.xform-variance.result h.instantiates.0 h.instantiates.1 IsFormed c.args.a.now c.args.b.now
+    c.args.a.now z c.args.a.now Covariant (covariantly r.ambient_variance) (d.meaning).ty t_stays root_stays t_stays refl
+    (inr t_stays))
 
-pub instantiate_ty_var_raw-requires-clause-target_taken : goal.instantiate_ty_var_raw-requires-clause-target_taken
-instantiate_ty_var_raw-requires-clause-target_taken g c =
-    subst (IsTaken c.args.self.now.ambient_variance) c.in-Some.ensures.is c.requires.asked.left_taken
+pub instantiate_ty_var_raw-requires-clause-source_covered : goal.instantiate_ty_var_raw-requires-clause-source_covered
+instantiate_ty_var_raw-requires-clause-source_covered g c = c.requires.asked.right_taken.1
+
+pub instantiate_ty_var_raw-requires-in-Some-ty_var-2-clause-source_covered : goal.instantiate_ty_var_raw-requires-in-Some-ty_var-2-clause-source_covered
+instantiate_ty_var_raw-requires-in-Some-ty_var-2-clause-source_covered g c = c.requires.asked.left_taken.1
 
 pub instantiate_ty_var_raw-requires-in-Some-ty_var-2-clause-decides : goal.instantiate_ty_var_raw-requires-in-Some-ty_var-2-clause-decides
 instantiate_ty_var_raw-requires-in-Some-ty_var-2-clause-decides g c =
-    let r = c.args.self.now in
-    let s = g.Infcx.InferCtxtLike.state r.infcx.now in
-    let k = c.requires.asked in
-    let inv = taken_invariantly r.ambient_variance type_var tt c.in-Some-ty_var-2.y.0 ((s.meaning).ty c.args.b.now)
-    c.in-Some-ty_var-2.ensures.is c.requires.decides k.right_taken in
-    decides_back r.ambient_variance c.xform-variance.result c.xform-variance.ensures inv
-
-pub instantiate_ty_var_raw-requires-in-Some-ty_var-2-clause-target_taken : goal.instantiate_ty_var_raw-requires-in-Some-ty_var-2-clause-target_taken
-instantiate_ty_var_raw-requires-in-Some-ty_var-2-clause-target_taken g c =
-    let r = c.args.self.now in
-    let s = g.Infcx.InferCtxtLike.state r.infcx.now in
-    let k = c.requires.asked in
-    let inv = taken_invariantly r.ambient_variance type_var tt c.in-Some-ty_var-2.y.0 ((s.meaning).ty c.args.b.now)
-    c.in-Some-ty_var-2.ensures.is c.requires.decides k.right_taken in
-    taken_back r.ambient_variance c.xform-variance.result c.xform-variance.ensures inv
-    (leaf (variable type_var c.in-Some-ty_var-2.y.0)) tt
-
-pub instantiate_ty_var_raw-requires-in-Some-ty_var-2-clause-source_taken : goal.instantiate_ty_var_raw-requires-in-Some-ty_var-2-clause-source_taken
-instantiate_ty_var_raw-requires-in-Some-ty_var-2-clause-source_taken g c =
-    let r = c.args.self.now in
-    let s = g.Infcx.InferCtxtLike.state r.infcx.now in
-    let k = c.requires.asked in
-    let inv = taken_invariantly r.ambient_variance type_var tt c.in-Some-ty_var-2.y.0 ((s.meaning).ty c.args.b.now)
-    c.in-Some-ty_var-2.ensures.is c.requires.decides k.right_taken in
-    taken_back r.ambient_variance c.xform-variance.result c.xform-variance.ensures inv
-    ((s.meaning).ty c.args.a.now) k.left_taken.1
+    decides_back c.args.self.now.ambient_variance c.xform-variance.result c.requires.decides c.xform-variance.ensures

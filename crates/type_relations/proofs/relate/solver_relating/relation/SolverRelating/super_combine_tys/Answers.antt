@@ -65,10 +65,10 @@ returns-else-not-equate_numbers g c =
     let w = c.in-Some-number_var.y in
     let one : (s.meaning).ty c.args.b.now ≡ leaf (variable (number_kind v) (number_of w)) =
     c.in-Some-number_var.ensures.is ∙ ap (λ k. leaf (variable k (number_of w))) (done.one_kind refl) in
-    roots_step r.infcx.ghost_name IsFormed s.meaning d.meaning s.store d.store s.lawful d.lawful r.ambient_variance
+    roots_step r.infcx.ghost_name r.goals.items IsFormed s.meaning d.meaning s.store d.store s.lawful d.lawful r.ambient_variance
     r.param_env (number_kind v) (number_no_region (number_kind v) (is_number v)) (number_of v) (number_of w)
     ((s.meaning).ty c.args.a.now) ((s.meaning).ty c.args.b.now) (d.meaning).ty c.args.a.now two.stands.meaning
-    c.requires.env_known sound two.stands.lawful two.same two.equates c.in-Some.ensures.is one
+    (c.requires.env_known, c.requires.goals_known) sound two.stands.lawful two.same two.equates c.in-Some.ensures.is one
     (ap (λ z. z.ty c.args.a.now) two.stands.meaning)
 
 pub returns-then-not-equate_numbers : goal.returns-then-not-equate_numbers
@@ -84,10 +84,10 @@ returns-then-not-equate_numbers g c =
     let still = done.refused refl in
     let v = c.in-Some.x in
     let t = (s.meaning).ty c.args.b.now in
-    left_unlike r.infcx.ghost_name IsFormed s.meaning d.meaning s.store d.store s.lawful d.lawful r.ambient_variance
+    left_unlike r.infcx.ghost_name r.goals.items IsFormed s.meaning d.meaning s.store d.store s.lawful d.lawful r.ambient_variance
     c.requires.decides r.param_env c.args.a.now c.args.b.now (d.meaning).ty c.unlike.result
     (ap (λ z. (g.Infcx.InferCtxtLike.state z).meaning) still) (ap (λ z. (g.Infcx.InferCtxtLike.state z).store) still)
-    c.requires.env_known (subst (λ z. (g.Infcx.InferCtxtLike.state z).lawful) (sym still) c.requires.lawful)
+    (c.requires.env_known, c.requires.goals_known) (subst (λ z. (g.Infcx.InferCtxtLike.state z).lawful) (sym still) c.requires.lawful)
     c.unlike.ensures (number_kind v) (is_number v) (number_of v)
     (variable_made s.store (number_kind v) (number_of v) ((s.meaning).ty c.args.a.now) c.in-Some.ensures.is k.left_in)
     k.left_known k.right_known c.in-Some.ensures.is
@@ -110,10 +110,10 @@ returns-then-not-bind_number g c =
     let still = done.refused refl in
     let v = c.in-Some.x in
     let t = (s.meaning).ty c.args.b.now in
-    left_unlike r.infcx.ghost_name IsFormed s.meaning d.meaning s.store d.store s.lawful d.lawful r.ambient_variance
+    left_unlike r.infcx.ghost_name r.goals.items IsFormed s.meaning d.meaning s.store d.store s.lawful d.lawful r.ambient_variance
     c.requires.decides r.param_env c.args.a.now c.args.b.now (d.meaning).ty c.unlike-then-not-bind_number.result
     (ap (λ z. (g.Infcx.InferCtxtLike.state z).meaning) still) (ap (λ z. (g.Infcx.InferCtxtLike.state z).store) still)
-    c.requires.env_known (subst (λ z. (g.Infcx.InferCtxtLike.state z).lawful) (sym still) c.requires.lawful)
+    (c.requires.env_known, c.requires.goals_known) (subst (λ z. (g.Infcx.InferCtxtLike.state z).lawful) (sym still) c.requires.lawful)
     c.unlike-then-not-bind_number.ensures (number_kind v) (is_number v) (number_of v)
     (variable_made s.store (number_kind v) (number_of v) ((s.meaning).ty c.args.a.now) c.in-Some.ensures.is k.left_in)
     k.left_known k.right_known c.in-Some.ensures.is
@@ -134,10 +134,10 @@ returns-then-not-bind_number-2 g c =
     let still = done.refused refl in
     let v = c.in-Some-number_var-2.y in
     let t = (s.meaning).ty c.args.a.now in
-    right_unlike r.infcx.ghost_name IsFormed s.meaning d.meaning s.store d.store s.lawful d.lawful r.ambient_variance
+    right_unlike r.infcx.ghost_name r.goals.items IsFormed s.meaning d.meaning s.store d.store s.lawful d.lawful r.ambient_variance
     c.requires.decides r.param_env c.args.a.now c.args.b.now (d.meaning).ty c.unlike-then-not-bind_number-2.result
     (ap (λ z. (g.Infcx.InferCtxtLike.state z).meaning) still) (ap (λ z. (g.Infcx.InferCtxtLike.state z).store) still)
-    c.requires.env_known (subst (λ z. (g.Infcx.InferCtxtLike.state z).lawful) (sym still) c.requires.lawful)
+    (c.requires.env_known, c.requires.goals_known) (subst (λ z. (g.Infcx.InferCtxtLike.state z).lawful) (sym still) c.requires.lawful)
     c.unlike-then-not-bind_number-2.ensures (number_kind v) (is_number v) (number_of v)
     (variable_made s.store (number_kind v) (number_of v) ((s.meaning).ty c.args.b.now) c.in-Some-number_var-2.ensures.is k.right_in)
     k.left_known k.right_known c.in-Some-number_var-2.ensures.is
@@ -153,9 +153,9 @@ returns-else-not-bind_number g c =
     let d = g.Infcx.InferCtxtLike.state c.bind_number.new.infcx in
     let done = c.if-not-bind_number.ensures.binds refl in
     let v = c.in-Some.x in
-    number_step r.infcx.ghost_name IsFormed s.meaning d.meaning s.store d.store s.lawful d.lawful r.ambient_variance
+    number_step r.infcx.ghost_name r.goals.items IsFormed s.meaning d.meaning s.store d.store s.lawful d.lawful r.ambient_variance
     r.param_env (number_kind v) (number_of v) ((s.meaning).ty c.args.a.now) ((s.meaning).ty c.args.b.now) (d.meaning).ty
-    c.args.b.now done.stands.meaning c.requires.env_known sound done.stands.lawful done.binds c.in-Some.ensures.is
+    c.args.b.now done.stands.meaning (c.requires.env_known, c.requires.goals_known) sound done.stands.lawful done.binds c.in-Some.ensures.is
     (ap (λ z. z.ty c.args.b.now) done.stands.meaning) c.requires.asked.right_known
 
 pub returns-else-not-bind_number-2 : goal.returns-else-not-bind_number-2
@@ -166,9 +166,9 @@ returns-else-not-bind_number-2 g c =
     let d = g.Infcx.InferCtxtLike.state c.bind_number-in-Some-number_var-2.new.infcx in
     let done = c.if-not-bind_number-2.ensures.binds refl in
     let v = c.in-Some-number_var-2.y in
-    number_step_back r.infcx.ghost_name IsFormed s.meaning d.meaning s.store d.store s.lawful d.lawful r.ambient_variance
+    number_step_back r.infcx.ghost_name r.goals.items IsFormed s.meaning d.meaning s.store d.store s.lawful d.lawful r.ambient_variance
     r.param_env (number_kind v) (number_of v) ((s.meaning).ty c.args.a.now) ((s.meaning).ty c.args.b.now) (d.meaning).ty
-    c.args.a.now done.stands.meaning c.requires.env_known sound done.stands.lawful done.binds c.in-Some-number_var-2.ensures.is
+    c.args.a.now done.stands.meaning (c.requires.env_known, c.requires.goals_known) sound done.stands.lawful done.binds c.in-Some-number_var-2.ensures.is
     (ap (λ z. z.ty c.args.a.now) done.stands.meaning) c.requires.asked.left_known
 
 pub returns-in-None-number_var-2 : goal.returns-in-None-number_var-2
@@ -184,7 +184,7 @@ returns-in-None-number_var-2 g c =
     let b = c.in-None-number_var-2.ensures.is_none in
     let t = (s.meaning).ty c.args.a.now in
     let u = (s.meaning).ty c.args.b.now in
-    parts_step r.infcx.ghost_name s.meaning s.store s.lawful r.ambient_variance r.param_env IsFormed t u (s.meaning).ty
+    parts_step r.infcx.ghost_name r.goals.items s.meaning s.store s.lawful r.ambient_variance r.param_env IsFormed t u (s.meaning).ty
     c.args.a.now c.args.b.now sound (itself refl) (itself refl) k
     (type_formed t (ty_sorted of c.args.a.now (is c.args.a.now) k.left_known) k.left_taken.1 c.requires.a_no_ty_var a.0
     a.1)

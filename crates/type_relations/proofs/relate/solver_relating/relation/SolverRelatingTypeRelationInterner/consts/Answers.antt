@@ -3,7 +3,7 @@ use Rattle.type_relations.specs.Parts.{IsFormedConst}
 use Rattle.type_relations.specs.Solving.{solving_through, solver_manner}
 use Rattle.type_relations.proofs.StructuralConsts.{itself_related}
 use Rattle.type_relations.proofs.Shallowly.{read_step}
-use Rattle.type_relations.proofs.Solving.{answered_step, read_taken, read_covered, one_const}
+use Rattle.type_relations.proofs.Solving.{answered_step, all_taken, read_covered, one_const}
 use Rattle.type_relations.proofs.relate.solver_relating.relation.SolverRelatingTypeRelationInterner.consts.Goals as goal
 
 pub returns-then-eq : goal.returns-then-eq
@@ -16,9 +16,9 @@ returns-then-eq g c =
     let same = one_const of c.args.a.now c.args.b.now (λ h i.
     (g.met.Infcx.Interner.Interner.same_const cx c.args.a.now c.args.b.now h i).0 (sym c.if-eq.ensures)) k.left_known
     k.right_known in
-    answered_step r.infcx.ghost_name IsFormedConst s.meaning s.meaning s.store s.store s.lawful s.lawful r.ambient_variance
+    answered_step r.infcx.ghost_name r.goals.items IsFormedConst s.meaning s.meaning s.store s.store s.lawful s.lawful r.ambient_variance
     r.param_env ((s.meaning).const_ c.args.a.now) ((s.meaning).const_ c.args.b.now) (s.meaning).const_ c.args.a.now
-    (itself_related solver_manner (solving_through r.infcx.ghost_name s r.ambient_variance r.param_env)
+    (itself_related solver_manner (solving_through r.infcx.ghost_name r.goals.items s r.ambient_variance r.param_env)
     r.ambient_variance (s.meaning).const_ ((s.meaning).const_ c.args.a.now) ((s.meaning).const_ c.args.b.now) c.args.a.now same
     refl k.left_known)
 
@@ -26,7 +26,6 @@ pub super_combine_consts-requires-clause-asked : goal.super_combine_consts-requi
 super_combine_consts-requires-clause-asked g c =
     let r = c.args.self.now in
     let s = g.Infcx.InferCtxtLike.state r.infcx.now in
-    let sound = g.met.Infcx.InferCtxtLike.sound r.infcx.now c.requires.lawful.0 in
     let all = g.met.Infcx.InferCtxtLike.covered r.infcx.now c.requires.lawful.0 in
     let k = c.requires.asked in
     let a = (s.meaning).const_ c.args.a.now in
@@ -40,10 +39,8 @@ super_combine_consts-requires-clause-asked g c =
       right_known = q.sure;
       left_in = (p.resolves).is_in k.left_in;
       right_in = (q.resolves).is_in k.right_in;
-      left_taken = read_taken s.store sound r.ambient_variance a l p.reads (read_covered s.store all a l p.reads)
-          k.left_taken;
-      right_taken = read_taken s.store sound r.ambient_variance b t q.reads (read_covered s.store all b t q.reads)
-          k.right_taken;
+      left_taken = all_taken r.ambient_variance l (read_covered s.store all a l p.reads k.left_taken.1);
+      right_taken = all_taken r.ambient_variance t (read_covered s.store all b t q.reads k.right_taken.1);
     }
 
 pub returns : goal.returns
@@ -52,8 +49,8 @@ returns g c =
     let s = g.Infcx.InferCtxtLike.state r.infcx.now in
     let q = c.super_combine_consts.new.self in
     let d = g.Infcx.InferCtxtLike.state q.infcx.now in
-    read_step (solving_through r.infcx.ghost_name s r.ambient_variance r.param_env)
-    (solving_through q.infcx.ghost_name d q.ambient_variance q.param_env)
+    read_step (solving_through r.infcx.ghost_name r.goals.items s r.ambient_variance r.param_env)
+    (solving_through q.infcx.ghost_name q.goals.items d q.ambient_variance q.param_env)
     (g.met.Infcx.InferCtxtLike.sound r.infcx.now c.requires.lawful.0) ((s.meaning).const_ c.args.a.now)
     ((s.meaning).const_ c.args.b.now) ((s.meaning).const_ c.shallow_resolve_const-left.result)
     ((s.meaning).const_ c.shallow_resolve_const-right.result) c.shallow_resolve_const-left.ensures.reads.reads

@@ -4,7 +4,7 @@ use Rattle.type_relations.specs.Parts.{IsFormed}
 use Rattle.type_relations.specs.Solving.{solving_through, solver_manner}
 use Rattle.type_relations.proofs.StructuralConsts.{itself_related}
 use Rattle.type_relations.proofs.Shallowly.{read_step}
-use Rattle.type_relations.proofs.Solving.{answered_step, read_taken, read_covered, one_ty, parts_step}
+use Rattle.type_relations.proofs.Solving.{answered_step, all_taken, read_covered, one_ty, parts_step}
 use Rattle.type_relations.proofs.relate.solver_relating.relation.SolverRelatingTypeRelationInterner.tys.Goals as goal
 
 pub returns-then-eq : goal.returns-then-eq
@@ -17,9 +17,9 @@ returns-then-eq g c =
     let same = one_ty of c.args.a.now c.args.b.now (λ h i.
     (g.met.Infcx.Interner.Interner.same_ty cx c.args.a.now c.args.b.now h i).0 (sym c.if-eq.ensures)) k.left_known
     k.right_known in
-    answered_step r.infcx.ghost_name IsFormed s.meaning s.meaning s.store s.store s.lawful s.lawful r.ambient_variance
+    answered_step r.infcx.ghost_name r.goals.items IsFormed s.meaning s.meaning s.store s.store s.lawful s.lawful r.ambient_variance
     r.param_env ((s.meaning).ty c.args.a.now) ((s.meaning).ty c.args.b.now) (s.meaning).ty c.args.a.now
-    (itself_related solver_manner (solving_through r.infcx.ghost_name s r.ambient_variance r.param_env)
+    (itself_related solver_manner (solving_through r.infcx.ghost_name r.goals.items s r.ambient_variance r.param_env)
     r.ambient_variance (s.meaning).ty ((s.meaning).ty c.args.a.now) ((s.meaning).ty c.args.b.now) c.args.a.now same
     refl k.left_known)
 
@@ -27,7 +27,6 @@ pub combine_tys-requires-clause-asked : goal.combine_tys-requires-clause-asked
 combine_tys-requires-clause-asked g c =
     let r = c.args.self.now in
     let s = g.Infcx.InferCtxtLike.state r.infcx.now in
-    let sound = g.met.Infcx.InferCtxtLike.sound r.infcx.now c.requires.lawful.0 in
     let all = g.met.Infcx.InferCtxtLike.covered r.infcx.now c.requires.lawful.0 in
     let k = c.requires.asked in
     let a = (s.meaning).ty c.args.a.now in
@@ -41,10 +40,8 @@ combine_tys-requires-clause-asked g c =
       right_known = q.sure;
       left_in = (p.resolves).is_in k.left_in;
       right_in = (q.resolves).is_in k.right_in;
-      left_taken = read_taken s.store sound r.ambient_variance a l p.reads (read_covered s.store all a l p.reads)
-          k.left_taken;
-      right_taken = read_taken s.store sound r.ambient_variance b t q.reads (read_covered s.store all b t q.reads)
-          k.right_taken;
+      left_taken = all_taken r.ambient_variance l (read_covered s.store all a l p.reads k.left_taken.1);
+      right_taken = all_taken r.ambient_variance t (read_covered s.store all b t q.reads k.right_taken.1);
     }
 
 pub returns : goal.returns
@@ -53,8 +50,8 @@ returns g c =
     let s = g.Infcx.InferCtxtLike.state r.infcx.now in
     let q = c.combine_tys.new.self in
     let d = g.Infcx.InferCtxtLike.state q.infcx.now in
-    read_step (solving_through r.infcx.ghost_name s r.ambient_variance r.param_env)
-    (solving_through q.infcx.ghost_name d q.ambient_variance q.param_env)
+    read_step (solving_through r.infcx.ghost_name r.goals.items s r.ambient_variance r.param_env)
+    (solving_through q.infcx.ghost_name q.goals.items d q.ambient_variance q.param_env)
     (g.met.Infcx.InferCtxtLike.sound r.infcx.now c.requires.lawful.0) ((s.meaning).ty c.args.a.now)
     ((s.meaning).ty c.args.b.now) ((s.meaning).ty c.shallow_resolve-left.result)
     ((s.meaning).ty c.shallow_resolve-right.result) c.shallow_resolve-left.ensures.reads.reads
@@ -66,7 +63,7 @@ returns-then-have_no_variable g c =
     let s = g.Infcx.InferCtxtLike.state r.infcx.now in
     let k = c.requires.asked in
     let none = c.have_no_variable.ensures in
-    parts_step r.infcx.ghost_name s.meaning s.store s.lawful r.ambient_variance r.param_env IsFormed
+    parts_step r.infcx.ghost_name r.goals.items s.meaning s.store s.lawful r.ambient_variance r.param_env IsFormed
     ((s.meaning).ty c.args.a.now) ((s.meaning).ty c.args.b.now) (s.meaning).ty c.args.a.now c.args.b.now
     (g.met.Infcx.InferCtxtLike.sound r.infcx.now c.requires.lawful.0) (itself refl) (itself refl) k
     (none.a_formed c.if-have_no_variable.true k.left_taken.1) (none.b_formed c.if-have_no_variable.true k.right_taken.1)

@@ -1,0 +1,8 @@
+use Rattle.relation_reference.proofs.Universes.{universe_entered}
+use Rattle.relation_reference.proofs.context.infer_ctxt.RefCtxtInferCtxtLike.create_next_universe.Goals as goal
+
+pub returns-clause-enters : goal.returns-clause-enters
+returns-clause-enters g c =
+    let done = c.create_next_universe.ensures in
+    universe_entered g.I.Interner.meaning c.args.self.now c.create_next_universe.new.self done.interner c.requires.lawful done.lawful
+    c.create_next_universe.result done.enters done.next done.refused

@@ -1,0 +1,8 @@
+use Rattle.std.proofs.Common.{ap, ◌∙◌}
+use Rattle.relation_reference.specs.Tables.{store_of}
+use Rattle.relation_reference.proofs.context.infer_ctxt.RefCtxtInferCtxtLike.sub_unify_ty_vids_raw.Goals as goal
+
+pub returns-clause-same_record : goal.returns-clause-same_record
+returns-clause-same_record g c =
+    let done = c.sub_unify_ty_vids_raw.ensures in
+    ap (λ i. store_of (g.I.Interner.meaning i) c.sub_unify_ty_vids_raw.new.self.inner) done.interner ∙ done.same_record

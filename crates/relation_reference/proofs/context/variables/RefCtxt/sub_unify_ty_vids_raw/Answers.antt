@@ -1,0 +1,20 @@
+use Rattle.relation_reference.proofs.SubRoots.{root_there, roots_kept, roots_lawful}
+use Rattle.relation_reference.proofs.context.variables.RefCtxt.sub_unify_ty_vids_raw.Goals as goal
+
+pub join_roots-requires-clause-a_in : goal.join_roots-requires-clause-a_in
+join_roots-requires-clause-a_in g c =
+    root_there (g.I.Interner.meaning c.args.self.now.interner) c.args.self.now.inner c.requires.lawful.sub_rooted c.args.a.0
+    c.requires.a_made
+
+pub join_roots-requires-clause-b_in : goal.join_roots-requires-clause-b_in
+join_roots-requires-clause-b_in g c =
+    root_there (g.I.Interner.meaning c.args.self.now.interner) c.args.self.now.inner c.requires.lawful.sub_rooted c.args.b.0
+    c.requires.b_made
+
+pub returns-clause-lawful : goal.returns-clause-lawful
+returns-clause-lawful g c =
+    let m = g.I.Interner.meaning c.args.self.now.interner in
+    let x = c.args.self.now.inner in
+    let l = c.requires.lawful in
+    let done = c.join_roots.ensures in
+    roots_lawful m x c.join_roots.new.roots (roots_kept m x c.join_roots.new.roots done.as_many done.rooted l.sub_rooted) l

@@ -1,0 +1,61 @@
+-- The error of two constants at one variance is theirs at each.
+use Rattle.std.proofs.Common.{◌≡◌, ◌≢◌, ℕ, zero, suc, ◌<◌, refl, sym, ap, ◌∙◌, subst, arith}
+use Rattle.relation_terms.specs.declared.terms.enums.Variance.{Variance}
+use Rattle.relation_terms.specs.declared.terms.enums.Variance.TheVariants.{Bivariant}
+use Rattle.relation_terms.specs.Heads.{Sort, const_sort, Admits, head_sort, VarKind, const_var, Head, unevaluated, expression, value, value_branch, variable}
+use Rattle.relation_terms.specs.Trees.{Tree, leaf, node, bind, nil, cons, IsTerm, AreTerms, count, nth}
+use Rattle.relation_terms.specs.Meaning.{Meaning}
+use Rattle.relation_tools.specs.declared.error.TypeError.{TypeError}
+use Rattle.type_relations.specs.Relation.{Items, part_at}
+use Rattle.type_relations.specs.Stores.{Store, entry_term, MayStandFor, IsSound}
+use Rattle.type_relations.specs.Errors.{IsHandedOn, IsReadAs, itself, by_class, by_binding, ErrorOf, of_forms, of_const_forms, of_kinds, of_entries, of_parts, of_length, of_inputs, of_outputs, of_branches, of_binding, of_binding_back}
+use Rattle.type_relations.proofs.Constants.{still, fixed}
+
+-- What a constant is read as is one.
+is_const_var : (k : VarKind) (n : ℕ) → IsTerm const_sort (leaf (variable k n)) → k ≡ const_var
+is_const_var const_var n h = refl
+is_const_var k n h = absurd h
+
+read_const : (st : Store) → IsSound st → (a t : Tree) → IsReadAs st a t → IsTerm const_sort a → IsTerm const_sort t
+read_const st g a t (itself e) h = subst (IsTerm const_sort) e h
+read_const st g a t (by_class k n m e c r) h = read_const st g (leaf (variable k m)) t r (subst (IsTerm const_sort) e h)
+read_const st g a t (by_binding {u = x} k n e b r) h =
+    read_const st g x t r (subst (λ j. MayStandFor j x) (is_const_var k n (subst (IsTerm const_sort) e h))
+    (g.bindings k n x (ap (entry_term k) b)).stands)
+
+nth_term : (s : Sort) (ts : Tree) (i : ℕ) → AreTerms s ts → i < count ts → IsTerm s (nth i ts)
+nth_term s (cons t ts) zero h l = h.0
+nth_term s (cons t ts) (suc i) h l = nth_term s ts i h.1 (omega (arith, l))
+nth_term s nil i h l = absurd (omega (arith, l))
+nth_term s (leaf x) i h l = absurd h
+nth_term s (node k ts) i h l = absurd h
+nth_term s (bind ks t) i h l = absurd h
+
+-- The parts of a constant whose errors are handed on stand at one variance.
+part_same : {Key Id Name : Type 0} (e : TypeError Key Id Name) (c : Items) (h : Head) (i : ℕ) (t u : Tree) (v v' : Variance) →
+    Admits const_sort (head_sort h) → v ≢ Bivariant → v' ≢ Bivariant → IsHandedOn e h i t u →
+    part_at c h i v ≡ part_at c h i v'
+part_same e c (unevaluated d) i t u v v' k n m o = fixed v n ∙ sym (fixed v' m)
+part_same e c (expression d) i t u v v' k n m o = fixed v n ∙ sym (fixed v' m)
+part_same e c value i t u v v' k n m o = absurd o
+part_same e c h i t u v v' k n m o = absurd k
+
+module _ {Key Id Name : Type 0} (m : Meaning Key Id Name) (c : Items) (st : Store) (g : IsSound st) where
+  pub const_error_alike : {v v' : Variance} {e : TypeError Key Id Name} {a b : Tree} → v ≢ Bivariant → v' ≢ Bivariant →
+      IsTerm const_sort a → ErrorOf m c st v e a b → ErrorOf m c st v' e a b
+  const_error_alike n n' h (of_forms x y d p q o f) = of_forms x y n' p q o f
+  const_error_alike n n' h (of_const_forms x y d p q o f) = of_const_forms x y n' p q o f
+  const_error_alike n n' h (of_kinds d o) = of_kinds n' o
+  const_error_alike {a = a} n n' h (of_entries {t = t} r q o) =
+      of_entries r q (const_error_alike n n' (read_const st g a t r h) o)
+  const_error_alike {v = v} {v' = v'} {e = e} n n' h (of_parts {h = k} {ts = ts} {us = us} i p q l b handed o) =
+      of_parts i p q l b handed (subst (λ z. ErrorOf m c st z e (nth i ts) (nth i us))
+      (part_same e c k i (nth i ts) (nth i us) v v' (subst (IsTerm const_sort) p h).0 n n' handed) o)
+  const_error_alike n n' h (of_length x y i p q l b d f o) = absurd (subst (IsTerm const_sort) p h).0
+  const_error_alike n n' h (of_inputs i p q l b o f) = absurd (subst (IsTerm const_sort) p h).0
+  const_error_alike n n' h (of_outputs p q l o f) = absurd (subst (IsTerm const_sort) p h).0
+  const_error_alike {v = v} {v' = v'} n n' h (of_branches {ts = ts} x y i p q l b o) = of_branches x y i p q l b
+      (const_error_alike (still v n) (still v' n')
+      (nth_term const_sort ts i (subst (IsTerm const_sort) p h).1.1.0.1 b) o)
+  const_error_alike n n' h (of_binding d f) = of_binding n' f
+  const_error_alike n n' h (of_binding_back d f) = of_binding_back n' f

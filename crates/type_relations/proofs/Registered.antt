@@ -1,0 +1,76 @@
+-- Goals that were registered.
+use Rattle.std.proofs.Common.{◌≡◌, ℕ, refl, sym, ap, ap₂, ◌∙◌, subst, subst₂, List, [], ◌∷◌, ◌++◌, All, IsTrue, Bool, true, Some, map}
+use Rattle.std.proofs.lemmas.Bool.{and_from}
+use Rattle.std.proofs.lemmas.List.Elements.{All-append, All-head, All-tail, All-weaker}
+use Rattle.relation_terms.specs.declared.terms.goal.Goal.{Goal as KeyedGoal}
+use Rattle.relation_terms.specs.declared.terms.keys.PredicateKey.{PredicateKey}
+use Rattle.relation_terms.specs.declared.terms.keys.BoundVarsKey.{BoundVarsKey}
+use Rattle.relation_terms.specs.declared.terms.keys.TyKey.{TyKey}
+use Rattle.relation_terms.specs.declared.terms.binder.Binder.{Binder}
+use Rattle.relation_terms.specs.declared.predicate.kinds.PredicateKind.{PredicateKind}
+use Rattle.relation_terms.specs.declared.predicate.kinds.PredicateKind.TheVariants.{Subtype}
+use Rattle.relation_terms.specs.Heads.{type_var, subtype}
+use Rattle.relation_terms.specs.Trees.{Tree, node, bind, nil, cons, known}
+use Rattle.relation_terms.specs.Meaning.{Meaning, Extends, under}
+use Rattle.relation_terms.specs.Predicates.{predicate_tree}
+use Rattle.type_relations.specs.Stores.{Store, Entry, unbound, same_as, bound_to, entry_of, InContext}
+use Rattle.type_relations.specs.Goals.{Goal, goal_of, goals_of, KnowsGoal, subtype_predicate, IsOpen, IsRegistered, of_variables, Registered, GoalInContext}
+use Rattle.type_relations.specs.Steps.{IsLater}
+use Rattle.type_relations.proofs.Classes.{stands_from}
+
+-- The variables of a registered goal are the later store's.
+goal_in : (before after : Store) (p : Tree) → IsRegistered before after p → InContext after p
+unfolding InContext
+goal_in before after p (of_variables x n m e f g) = subst (InContext after) (sym e) (f.0, (g.0, tt))
+
+pub registered_in : {e : Tree} {before after : Store} (gs : List Goal) → All (Registered e before after) gs → All (GoalInContext after) gs
+registered_in {e = e} {before = before} {after = after} gs h = All-weaker (Registered e before after) (GoalInContext after) (λ g r. goal_in before after g.predicate r.asks) gs h
+
+-- What was unbound later was unbound before.
+was_unbound : (before after : Store) → IsLater before after → (n : ℕ) → entry_of after type_var n ≡ unbound → entry_of before type_var n ≡ unbound
+was_unbound before after l n h = go (entry_of before type_var n) refl
+  where
+    go : (x : Entry) → entry_of before type_var n ≡ x → entry_of before type_var n ≡ unbound
+    go unbound q = q
+    go (same_as m) q = absurd (let s = stands_from before after l type_var n (same_as m) q in let e = s.1 in cc (e, h))
+    go (bound_to u) q = absurd (let e : entry_of after type_var n ≡ bound_to u = stands_from before after l type_var n (bound_to u) q in cc (e, h))
+
+-- Goals that were registered one after another.
+still_asks : {before middle after : Store} {p : Tree} → IsLater middle after → IsRegistered before middle p → IsRegistered before after p
+still_asks l (of_variables x n m e f g) = of_variables x n m e (l.grows type_var n f.0, f.1) (l.grows type_var m g.0, g.1)
+
+asks_since : {before middle after : Store} {p : Tree} → IsLater before middle → IsRegistered middle after p → IsRegistered before after p
+asks_since {before = before} {middle = middle} l (of_variables x n m e f g) = of_variables x n m e (f.0, was_unbound before middle l n f.1) (g.0, was_unbound before middle l m g.1)
+
+pub registered_both : {e d : Tree} {before middle after : Store} (first others : List Goal) → d ≡ e → IsLater before middle → IsLater middle after → All (Registered e before middle) first → All (Registered d middle after) others →
+    All (Registered e before after) (first ++ others)
+registered_both {e = e} {d = d} {before = before} {middle = middle} {after = after} first others same l k f g = All-append (Registered e before after) first others
+    (All-weaker (Registered e before middle) (Registered e before after) (λ x r. record { environment = r.environment; asks = still_asks k r.asks }) first f)
+    (All-weaker (Registered d middle after) (Registered e before after) (λ x r. record { environment = r.environment ∙ same; asks = asks_since l r.asks }) others g)
+
+-- The same in other states that are alike.
+pub registered_as : {e d : Tree} {before after was now : Store} (gs : List Goal) → e ≡ d → before ≡ was → after ≡ now → All (Registered e before after) gs → All (Registered d was now) gs
+registered_as {e = e} {was = was} {now = now} gs p q r h = subst (λ z. All (Registered z was now) gs) p (subst₂ (λ s t. All (Registered e s t) gs) q r h)
+
+-- Goals over known keys mean what they meant.
+pub goals_stay : {Key Id Name : Type 0} {m n : Meaning Key Id Name} → Extends m n → (gs : List (KeyedGoal Key (PredicateKey Key))) → All (KnowsGoal m) gs → goals_of n gs ≡ goals_of m gs
+goals_stay grown [] h = refl
+goals_stay {m = m} grown (g ∷ gs) h = let k = All-head (KnowsGoal m) g gs h in
+    ap₂ ◌∷◌ (ap₂ goal_of (grown.param_env g.param_env k.0) (grown.predicate g.predicate k.1)) (goals_stay grown gs (All-tail (KnowsGoal m) g gs h))
+
+pub goals_known : {Key Id Name : Type 0} {m n : Meaning Key Id Name} → Extends m n → (gs : List (KeyedGoal Key (PredicateKey Key))) → All (KnowsGoal m) gs → All (KnowsGoal n) gs
+goals_known {m = m} {n = n} grown gs h = All-weaker (KnowsGoal m) (KnowsGoal n)
+    (λ g k. (subst (λ t. IsTrue (known t)) (sym (grown.param_env g.param_env k.0)) k.0, subst (λ t. IsTrue (known t)) (sym (grown.predicate g.predicate k.1)) k.1)) gs h
+
+-- The predicate that one type is a subtype of another, as an interner makes it.
+module _ {Key Id Name : Type 0} {m n : Meaning Key Id Name} (grown : Extends m n) (vars : BoundVarsKey Key) (none : n.bound_vars vars ≡ Some []) (x : Bool) (a b : TyKey Key) (a_known : IsTrue (known (m.ty a))) (b_known : IsTrue (known (m.ty b))) where
+  abbrev form : Binder Key (PredicateKind Key Id Name)
+  form = record { value = Subtype (record { a_is_expected = x; a = a; b = b }); bound_vars = vars }
+
+  pub subtype_tree : predicate_tree n form ≡ subtype_predicate x (m.ty a) (m.ty b)
+  subtype_tree = ap (λ z. under z (node (subtype x) (cons (n.ty a) (cons (n.ty b) nil)))) none
+      ∙ ap₂ (λ t u. bind [] (node (subtype x) (cons t (cons u nil)))) (grown.ty a a_known) (grown.ty b b_known)
+
+  pub subtype_known : IsTrue (known (predicate_tree n form))
+  subtype_known = subst (λ t. IsTrue (known t)) (sym subtype_tree) (and_from (known (m.ty a)) (known (cons (m.ty b) nil)) a_known
+      (and_from (known (m.ty b)) true b_known refl))

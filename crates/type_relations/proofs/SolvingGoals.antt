@@ -1,0 +1,127 @@
+-- Registering that of two type variables the one is a subtype of the other, as a step.
+use Rattle.std.proofs.Common.{◌≡◌, ◌≢◌, ℕ, refl, sym, ap, ap₂, ◌∙◌, arith, subst, subst₂, Bool, List, [], ◌∷◌, ◌++◌, All, IsTrue, map, Ok}
+use Rattle.std.proofs.lemmas.List.Elements.{All-nil, All-cons, All-head, All-append}
+use Rattle.std.proofs.lemmas.List.{map-append}
+use Rattle.relation_terms.specs.declared.terms.enums.Variance.{Variance}
+use Rattle.relation_terms.specs.declared.terms.enums.Variance.TheVariants.{Covariant, Contravariant, Invariant}
+use Rattle.relation_terms.specs.declared.terms.goal.Goal.{Goal as KeyedGoal}
+use Rattle.relation_terms.specs.declared.terms.keys.ParamEnvKey.{ParamEnvKey}
+use Rattle.relation_terms.specs.declared.terms.keys.PredicateKey.{PredicateKey}
+use Rattle.relation_terms.specs.Heads.{type_var, variable}
+use Rattle.relation_terms.specs.Trees.{Tree, leaf, Assign, apply, known}
+use Rattle.relation_terms.specs.Meaning.{Meaning, Extends}
+use Rattle.type_relations.specs.declared.relate.Step.TheVariants.{Done}
+use Rattle.type_relations.specs.Relation.{Items, Interpretation, Rel, at}
+use Rattle.type_relations.specs.Stores.{Store, Satisfies}
+use Rattle.type_relations.specs.Goals.{Goal, goal_of, goals_of, KnowsGoal, subtype_predicate, IsOpen, of_variables, Registered, GoalInContext, Holds, MakesOneTree}
+use Rattle.type_relations.specs.Lawful.{Stepped, Passes, MayAnswer, items_of}
+use Rattle.type_relations.specs.Solving.{KnowsGoals, solving, solver_manner}
+use Rattle.type_relations.proofs.Answering.{may_itself}
+use Rattle.type_relations.proofs.Going.{goes_nowhere, later_itself}
+use Rattle.type_relations.proofs.Growing.{All_back}
+use Rattle.type_relations.proofs.Turning.{turned}
+use Rattle.type_relations.proofs.Registered.{registered_in, goals_stay, goals_known}
+
+module _ {Key Id Name : Type 0} (j : ℕ) (gs hs : List (KeyedGoal Key (PredicateKey Key))) (m n : Meaning Key Id Name)
+    (st : Store) (L K : Type 0) (v : Variance) (e : ParamEnvKey Key) (grown : Extends m n) (env : KnowsGoals m e gs) (l : K)
+    (p : PredicateKey Key) (x : Bool) (i k : ℕ)
+    (pushed : hs ≡ gs ++ record { param_env = e; predicate = p } ∷ [])
+    (means : n.predicate p ≡ subtype_predicate x (leaf (variable type_var i)) (leaf (variable type_var k)))
+    (i_open : IsOpen st st i) (k_open : IsOpen st st k) where
+  abbrev asked : Goal
+  asked = goal_of (m.param_env e) (subtype_predicate x (leaf (variable type_var i)) (leaf (variable type_var k)))
+
+  lengthens : goals_of n hs ≡ goals_of m gs ++ asked ∷ []
+  lengthens = ap (goals_of n) pushed ∙ map-append (λ g. goal_of (n.param_env g.param_env) (n.predicate g.predicate)) gs
+      (record { param_env = e; predicate = p } ∷ [])
+      ∙ ap₂ (λ z g. z ++ g ∷ []) (goals_stay grown gs env.1) (ap₂ goal_of (grown.param_env e env.0) means)
+
+  is_registered : All (Registered (m.param_env e) st st) (asked ∷ [])
+  is_registered = All-cons (Registered (m.param_env e) st st) asked []
+      (record { environment = refl; asks = of_variables x i k refl i_open k_open })
+      (All-nil (Registered (m.param_env e) st st))
+
+  env_known : IsTrue (known (n.param_env e))
+  env_known = subst (λ t. IsTrue (known t)) (sym (grown.param_env e env.0)) env.0
+
+  all_known : All (KnowsGoal n) hs
+  all_known = subst (All (KnowsGoal n)) (sym pushed) (All-append (KnowsGoal n) gs (record { param_env = e; predicate = p } ∷ [])
+      (goals_known grown gs env.1) (All-cons (KnowsGoal n) (record { param_env = e; predicate = p }) []
+      (env_known, subst (λ t. IsTrue (known t)) (sym means) refl) (All-nil (KnowsGoal n))))
+
+  unfoldable passes : (N : ℕ) → Passes N (solving j gs m st L v e) (solving j hs n st K v e)
+  passes N = record {
+    extends = grown;
+    goes = goes_nowhere N st;
+    added = asked ∷ [];
+    lengthens = lengthens;
+    goals_in = is_registered;
+    environment = grown.param_env e env.0;
+    ambient = refl;
+    settings = refl;
+    reference = refl;
+    lawful = λ h. (l, (env_known, all_known));
+  }
+
+  -- The goal relates two terms at the variance, and where they are one, its sides are.
+  pub registered_step : {X : Type 0} (F : Tree → Type 0) (a b : Tree) (tree : X → Tree) (t : X) → v ≢ Invariant → tree t ≡ a →
+      IsTrue (known a) →
+      ((c : Items) (w : Interpretation) (d : Tree) (s : Assign) →
+      Rel c w d (at Covariant) (apply s (leaf (variable type_var i))) (apply s (leaf (variable type_var k))) →
+      Rel c w d (at v) (apply s a) (apply s b)) →
+      ((s : Assign) → apply s a ≡ apply s b →
+      apply s (leaf (variable type_var i)) ≡ apply s (leaf (variable type_var k))) →
+      Stepped solver_manner F (solving j gs m st L v e) (solving j hs n st K v e) a b tree (Ok (Done t))
+  unfolding passes
+  registered_step F a b tree t o answer sure relates equal = record {
+    passes = passes _;
+    verdict = record {
+      outcome = record {
+        later = later_itself st;
+        goals_in = registered_in (asked ∷ []) is_registered;
+        relates = λ w s sat all. relates (items_of m) w (m.param_env e) s
+            (All-head (Holds (items_of m) w s) asked [] (All_back (Holds (items_of m) w s) (goals_of m gs) (asked ∷ []) all));
+        keeps = λ w s sat one. (
+          s,
+          (λ k n h. refl),
+          (sat, All-cons (MakesOneTree s) asked [] (equal s one) (All-nil (MakesOneTree s))),
+        );
+      };
+      answer = subst (MayAnswer solver_manner (solving j hs n st K v e) v a) (sym answer)
+          (may_itself solver_manner (solving j hs n st K v e) v a);
+      known = subst (λ z. IsTrue (known z)) (sym answer) sure;
+    };
+    exact = λ z is pair. absurd (o is);
+  }
+
+module _ {Key Id Name : Type 0} (j : ℕ) (gs hs : List (KeyedGoal Key (PredicateKey Key))) (m n : Meaning Key Id Name)
+    (st now : Store) (L K : Type 0) (v : Variance) (e : ParamEnvKey Key) (grown : Extends m n) (env : KnowsGoals m e gs) (l : K)
+    (stays : now ≡ st) (p : PredicateKey Key) (x : Bool)
+    (pushed : hs ≡ gs ++ record { param_env = e; predicate = p } ∷ []) (i k : ℕ) (a b : Tree)
+    (a_is : a ≡ leaf (variable type_var i)) (b_is : b ≡ leaf (variable type_var k)) (i_open : IsOpen st st i)
+    (k_open : IsOpen st st k) where
+  -- At covariance that the first is a subtype of the second.
+  pub covariant_step : {X : Type 0} (F : Tree → Type 0) (tree : X → Tree) (t : X) → v ≡ Covariant →
+      n.predicate p ≡ subtype_predicate x a b → tree t ≡ a → IsTrue (known a) →
+      Stepped solver_manner F (solving j gs m st L v e) (solving j hs n now K v e) a b tree (Ok (Done t))
+  covariant_step F tree t is means answer sure =
+      subst (λ z. Stepped solver_manner F (solving j gs m st L v e) (solving j hs n z K v e) a b tree (Ok (Done t)))
+      (sym stays) (registered_step j gs hs m n st L K v e grown env l p x i k pushed
+      (means ∙ ap₂ (subtype_predicate x) a_is b_is) i_open k_open F a b tree t
+      (λ z. (let q : Covariant ≡ Invariant = sym is ∙ z in cc)) answer sure
+      (λ c w d s r. subst (λ z. Rel c w d (at z) (apply s a) (apply s b)) (sym is)
+      (subst₂ (λ f g. Rel c w d (at Covariant) (apply s f) (apply s g)) (sym a_is) (sym b_is) r))
+      (λ s q. sym (ap (apply s) a_is) ∙ q ∙ ap (apply s) b_is))
+
+  -- At contravariance that the second is one of the first.
+  pub contravariant_step : {X : Type 0} (F : Tree → Type 0) (tree : X → Tree) (t : X) → v ≡ Contravariant →
+      n.predicate p ≡ subtype_predicate x b a → tree t ≡ a → IsTrue (known a) →
+      Stepped solver_manner F (solving j gs m st L v e) (solving j hs n now K v e) a b tree (Ok (Done t))
+  contravariant_step F tree t is means answer sure =
+      subst (λ z. Stepped solver_manner F (solving j gs m st L v e) (solving j hs n z K v e) a b tree (Ok (Done t)))
+      (sym stays) (registered_step j gs hs m n st L K v e grown env l p x k i pushed
+      (means ∙ ap₂ (subtype_predicate x) b_is a_is) k_open i_open F a b tree t
+      (λ z. (let q : Contravariant ≡ Invariant = sym is ∙ z in cc)) answer sure
+      (λ c w d s r. subst (λ z. Rel c w d (at z) (apply s a) (apply s b)) (sym is)
+      (subst₂ (λ f g. Rel c w d (at Contravariant) (apply s f) (apply s g)) (sym a_is) (sym b_is) (turned r)))
+      (λ s q. sym (ap (apply s) b_is) ∙ sym q ∙ ap (apply s) a_is))

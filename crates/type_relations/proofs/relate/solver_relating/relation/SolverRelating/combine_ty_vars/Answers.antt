@@ -1,0 +1,106 @@
+use Rattle.std.proofs.Common.{sym, ap, ◌∙◌, subst}
+use Rattle.relation_terms.specs.Heads.{type_var}
+use Rattle.relation_tools.specs.declared.error.RelateFault.TheVariants.{Memory}
+use Rattle.type_relations.specs.Parts.{IsFormed}
+use Rattle.type_relations.specs.Lawful.{Stepped}
+use Rattle.type_relations.specs.Solving.{solving_through, solver_manner}
+use Rattle.type_relations.proofs.Binding.{no_region}
+use Rattle.type_relations.proofs.Passing.{as_err}
+use Rattle.type_relations.proofs.Solving.{roots_step, memory_step}
+use Rattle.type_relations.proofs.SolvingGoals.{covariant_step, contravariant_step}
+use Rattle.type_relations.proofs.relate.solver_relating.relation.SolverRelating.combine_ty_vars.Goals as goal
+
+pub returns-in_err-predicate-in-Covariant : goal.returns-in_err-predicate-in-Covariant
+returns-in_err-predicate-in-Covariant g c =
+    let r = c.args.self.now in
+    let s = g.Infcx.InferCtxtLike.state r.infcx.now in
+    let d = g.Infcx.InferCtxtLike.state c.subtype_predicate.new.infcx in
+    let h = c.in_err-predicate-in-Covariant.ensures in
+    memory_step r.infcx.ghost_name r.goals.items IsFormed s.meaning d.meaning s.store d.store s.lawful d.lawful
+    r.ambient_variance r.param_env ((s.meaning).ty c.args.a.now) ((s.meaning).ty c.args.b.now) (d.meaning).ty
+    c.from_residual.result h.grown (c.requires.env_known, c.requires.goals_known) h.same_store h.lawful
+    (as_err c.from_residual.result Memory c.from_residual.ensures.0 c.from_residual.ensures.1)
+
+pub returns-in_err-push-in-Covariant : goal.returns-in_err-push-in-Covariant
+returns-in_err-push-in-Covariant g c =
+    let r = c.args.self.now in
+    let s = g.Infcx.InferCtxtLike.state r.infcx.now in
+    let d = g.Infcx.InferCtxtLike.state c.subtype_predicate.new.infcx in
+    let h = c.in_ok-predicate-in-Covariant.ensures in
+    let res = c.from_residual-in_err-push-in-Covariant.result in
+    subst (λ hs. Stepped solver_manner IsFormed
+    (solving_through r.infcx.ghost_name r.goals.items s r.ambient_variance r.param_env)
+    (solving_through r.infcx.ghost_name hs d r.ambient_variance r.param_env)
+    ((s.meaning).ty c.args.a.now) ((s.meaning).ty c.args.b.now) (d.meaning).ty res)
+    (sym c.in_err-push-in-Covariant.ensures.items)
+    (memory_step r.infcx.ghost_name r.goals.items IsFormed s.meaning d.meaning s.store d.store s.lawful d.lawful
+    r.ambient_variance r.param_env ((s.meaning).ty c.args.a.now) ((s.meaning).ty c.args.b.now) (d.meaning).ty
+    res h.grown (c.requires.env_known, c.requires.goals_known) h.same_store h.lawful
+    (as_err res Memory c.from_residual-in_err-push-in-Covariant.ensures.0 c.from_residual-in_err-push-in-Covariant.ensures.1))
+
+pub returns-in_ok-push-in-Covariant : goal.returns-in_ok-push-in-Covariant
+returns-in_ok-push-in-Covariant g c =
+    let r = c.args.self.now in
+    let s = g.Infcx.InferCtxtLike.state r.infcx.now in
+    let d = g.Infcx.InferCtxtLike.state c.subtype_predicate.new.infcx in
+    let h = c.in_ok-predicate-in-Covariant.ensures in
+    covariant_step r.infcx.ghost_name r.goals.items c.push.new.self.items s.meaning d.meaning s.store d.store s.lawful
+    d.lawful r.ambient_variance r.param_env h.grown (c.requires.env_known, c.requires.goals_known) h.lawful h.same_store
+    c.in_ok-predicate-in-Covariant.predicate _ c.in_ok-push-in-Covariant.ensures.items c.args.x.0 c.args.y.0
+    ((s.meaning).ty c.args.a.now) ((s.meaning).ty c.args.b.now) c.requires.a_is c.requires.b_is
+    c.requires.a_unresolved c.requires.b_unresolved IsFormed (d.meaning).ty c.args.a.now c.in-Covariant.is h.made
+    (h.grown.ty c.args.a.now c.requires.a_known) c.requires.a_known
+
+pub returns-in_err-predicate-in-Contravariant : goal.returns-in_err-predicate-in-Contravariant
+returns-in_err-predicate-in-Contravariant g c =
+    let r = c.args.self.now in
+    let s = g.Infcx.InferCtxtLike.state r.infcx.now in
+    let d = g.Infcx.InferCtxtLike.state c.subtype_predicate-in-Contravariant.new.infcx in
+    let h = c.in_err-predicate-in-Contravariant.ensures in
+    memory_step r.infcx.ghost_name r.goals.items IsFormed s.meaning d.meaning s.store d.store s.lawful d.lawful
+    r.ambient_variance r.param_env ((s.meaning).ty c.args.a.now) ((s.meaning).ty c.args.b.now) (d.meaning).ty
+    c.from_residual-in_err-predicate-in-Contravariant.result h.grown (c.requires.env_known, c.requires.goals_known) h.same_store h.lawful
+    (as_err c.from_residual-in_err-predicate-in-Contravariant.result Memory c.from_residual-in_err-predicate-in-Contravariant.ensures.0 c.from_residual-in_err-predicate-in-Contravariant.ensures.1)
+
+pub returns-in_err-push-in-Contravariant : goal.returns-in_err-push-in-Contravariant
+returns-in_err-push-in-Contravariant g c =
+    let r = c.args.self.now in
+    let s = g.Infcx.InferCtxtLike.state r.infcx.now in
+    let d = g.Infcx.InferCtxtLike.state c.subtype_predicate-in-Contravariant.new.infcx in
+    let h = c.in_ok-predicate-in-Contravariant.ensures in
+    let res = c.from_residual-in_err-push-in-Contravariant.result in
+    subst (λ hs. Stepped solver_manner IsFormed
+    (solving_through r.infcx.ghost_name r.goals.items s r.ambient_variance r.param_env)
+    (solving_through r.infcx.ghost_name hs d r.ambient_variance r.param_env)
+    ((s.meaning).ty c.args.a.now) ((s.meaning).ty c.args.b.now) (d.meaning).ty res)
+    (sym c.in_err-push-in-Contravariant.ensures.items)
+    (memory_step r.infcx.ghost_name r.goals.items IsFormed s.meaning d.meaning s.store d.store s.lawful d.lawful
+    r.ambient_variance r.param_env ((s.meaning).ty c.args.a.now) ((s.meaning).ty c.args.b.now) (d.meaning).ty
+    res h.grown (c.requires.env_known, c.requires.goals_known) h.same_store h.lawful
+    (as_err res Memory c.from_residual-in_err-push-in-Contravariant.ensures.0 c.from_residual-in_err-push-in-Contravariant.ensures.1))
+
+pub returns-in_ok-push-in-Contravariant : goal.returns-in_ok-push-in-Contravariant
+returns-in_ok-push-in-Contravariant g c =
+    let r = c.args.self.now in
+    let s = g.Infcx.InferCtxtLike.state r.infcx.now in
+    let d = g.Infcx.InferCtxtLike.state c.subtype_predicate-in-Contravariant.new.infcx in
+    let h = c.in_ok-predicate-in-Contravariant.ensures in
+    contravariant_step r.infcx.ghost_name r.goals.items c.push-in-Contravariant.new.self.items s.meaning d.meaning s.store d.store s.lawful
+    d.lawful r.ambient_variance r.param_env h.grown (c.requires.env_known, c.requires.goals_known) h.lawful h.same_store
+    c.in_ok-predicate-in-Contravariant.predicate _ c.in_ok-push-in-Contravariant.ensures.items c.args.x.0 c.args.y.0
+    ((s.meaning).ty c.args.a.now) ((s.meaning).ty c.args.b.now) c.requires.a_is c.requires.b_is
+    c.requires.a_unresolved c.requires.b_unresolved IsFormed (d.meaning).ty c.args.a.now c.in-Contravariant.is h.made
+    (h.grown.ty c.args.a.now c.requires.a_known) c.requires.a_known
+
+pub returns-in-Invariant : goal.returns-in-Invariant
+returns-in-Invariant g c =
+    let r = c.args.self.now in
+    let s = g.Infcx.InferCtxtLike.state r.infcx.now in
+    let sound = g.met.Infcx.InferCtxtLike.sound r.infcx.now c.requires.lawful in
+    let d = g.Infcx.InferCtxtLike.state c.equate_ty_vids_raw.new.self in
+    let done = c.equate_ty_vids_raw.ensures.equates in
+    roots_step r.infcx.ghost_name r.goals.items IsFormed s.meaning d.meaning s.store d.store s.lawful d.lawful
+    r.ambient_variance r.param_env type_var (no_region type_var tt) c.args.x.0 c.args.y.0 ((s.meaning).ty c.args.a.now)
+    ((s.meaning).ty c.args.b.now) (d.meaning).ty c.args.a.now done.stands.meaning
+    (c.requires.env_known, c.requires.goals_known) sound done.stands.lawful done.same done.equates c.requires.a_is
+    c.requires.b_is (ap (λ z. z.ty c.args.a.now) done.stands.meaning)

@@ -1,0 +1,87 @@
+//! What relating records of regions, and the goals that it registers.
+ghost use Rattle.std.specs.Prelude.{◌≡◌, ◌≢◌, IsTrue, IfSome, IfOk, OnOk};
+ghost use Rattle.relation_terms.specs.Trees.{known};
+ghost use Rattle.relation_terms.specs.Meaning.{Extends};
+ghost use Rattle.relation_terms.specs.declared.terms.enums.Variance.TheVariants.{Bivariant};
+ghost use Rattle.type_relations.specs.Steps.{AddsConstraint};
+ghost use Rattle.type_relations.specs.Measures.{Goes};
+ghost use Rattle.type_relations.specs.Contexts.{KnowsTy, HasRegion};
+ghost use Rattle.type_relations.specs.ContextCalls.{Stands};
+ghost use Rattle.type_relations.specs.Constraints.{constraint_at, constraint_of};
+ghost use Rattle.type_relations.specs.Goals.{subtype_predicate};
+
+use crate::infer_ctxt::{InferCtxtLike, VisibleForLeakCheck};
+use relation_terms::predicate::{PredicateKind, SubtypePredicate};
+use relation_terms::terms::{
+    Binder, BoundVariable, Interner, OutOfMemory, Predicate, Region, Span, Ty, Variance,
+};
+
+// Records what two regions that are related at a variance are asked for.
+pub(crate) fn relate_regions<Infcx: InferCtxtLike>(
+    infcx: &mut Infcx,
+    variance: Variance,
+    a: &Region<Infcx::Interner>,
+    b: &Region<Infcx::Interner>,
+    span: Span<Infcx::Interner>,
+) -> Result<(), OutOfMemory>
+    requires lawful { (Infcx.state infcx.old).lawful }
+    requires decides { variance ≢ Bivariant }
+    requires a_in { HasRegion (Infcx.state infcx.old) a.now }
+    requires b_in { HasRegion (Infcx.state infcx.old) b.now }
+    ensures stands { Stands (Infcx.state infcx.old) (Infcx.state infcx.new) }
+    ensures adds { let c = Infcx.state infcx.old in
+        OnOk result (IfSome (constraint_at variance a.now b.now) (λ q.
+        AddsConstraint c.store (Infcx.state infcx.new).store (constraint_of c.meaning q))) }
+    ensures goes { Goes 0 (Infcx.state infcx.old).store (Infcx.state infcx.new).store }
+{
+    match variance {
+        Variance::Covariant => infcx.sub_regions(b, a, VisibleForLeakCheck::Yes, span),
+        Variance::Contravariant => infcx.sub_regions(a, b, VisibleForLeakCheck::Yes, span),
+        Variance::Invariant => infcx.equate_regions(a, b, VisibleForLeakCheck::Yes, span),
+        Variance::Bivariant => unreachable!(),
+    }
+}
+
+// The predicate, under a binder of no variables, that a type is a subtype of another.
+fn mk_subtype<I: Interner>(
+    cx: &mut I,
+    a_is_expected: bool,
+    a: &Ty<I>,
+    b: &Ty<I>,
+) -> Result<Predicate<I>, OutOfMemory>
+    requires a_known { IsTrue (known ((I.meaning cx.old).ty a.now)) }
+    requires b_known { IsTrue (known ((I.meaning cx.old).ty b.now)) }
+    ensures grown { Extends (I.meaning cx.old) (I.meaning cx.new) }
+    ensures made { let m = I.meaning cx.old in IfOk result (λ p.
+        (I.meaning cx.new).predicate p ≡ subtype_predicate a_is_expected (m.ty a.now) (m.ty b.now)) }
+{
+    let none: Vec<BoundVariable<I>> = Vec::new(cx.alloc());
+    let bound_vars = cx.mk_bound_vars(&none)?;
+    let value = PredicateKind::Subtype(SubtypePredicate {
+        a_is_expected,
+        a: *a,
+        b: *b,
+    });
+    cx.mk_predicate(Binder { value, bound_vars })
+}
+
+// The same over a context's interner. Nothing is recorded.
+pub(crate) fn subtype_predicate<Infcx: InferCtxtLike>(
+    infcx: &mut Infcx,
+    a_is_expected: bool,
+    a: &Ty<Infcx::Interner>,
+    b: &Ty<Infcx::Interner>,
+) -> Result<Predicate<Infcx::Interner>, OutOfMemory>
+    requires lawful { (Infcx.state infcx.old).lawful }
+    requires a_known { KnowsTy (Infcx.state infcx.old) a.now }
+    requires b_known { KnowsTy (Infcx.state infcx.old) b.now }
+    ensures grown { Extends (Infcx.state infcx.old).meaning (Infcx.state infcx.new).meaning }
+    ensures same_store { (Infcx.state infcx.new).store ≡ (Infcx.state infcx.old).store }
+    ensures lawful { (Infcx.state infcx.new).lawful }
+    ensures made { let m = (Infcx.state infcx.old).meaning in IfOk result (λ p.
+        (Infcx.state infcx.new).meaning.predicate p ≡
+        subtype_predicate a_is_expected (m.ty a.now) (m.ty b.now)) }
+{
+    infcx.interner_grows();
+    mk_subtype(infcx.cx_mut(), a_is_expected, a, b)
+}
