@@ -73,7 +73,8 @@ fn relate_args<I: Interner>(
     let span = ctx.interner.dummy_span();
     let mut relation = SolverRelating::new(ctx, Variance::Invariant, param_env, span);
     let related = relation.relate_args(lhs, rhs);
-    let (_ctx, goals) = relation.into_parts();
+    let goals = relation.take_goals();
+    let _ctx = relation.into_infcx();
     (related, goals)
 }
 

@@ -1,6 +1,6 @@
 //! What a context does, call by call, through the trait that it meets.
 ghost use Rattle.std.specs.Prelude.{◌≡◌, [], IfOk};
-ghost use Rattle.relation_terms.specs.Heads.{type_var, int_var, float_var, const_var};
+ghost use Rattle.relation_terms.specs.Heads.{type_var, int_var, float_var, const_var, region_var};
 ghost use Rattle.relation_terms.specs.Heads.{atom, char_type, const_param};
 ghost use Rattle.relation_terms.specs.Trees.{leaf};
 ghost use Rattle.relation_terms.specs.Meaning.{region_tree};
@@ -9,24 +9,27 @@ ghost use Rattle.type_relations.specs.ContextCalls.{IsUnresolved, Grows};
 use crate::relating::{only, outlives};
 use reference_interner::{RefInterner, SymbolId};
 use relation_reference::context::RefCtxt;
-use relation_terms::predicate::{RegionConstraint, RegionEqPredicate};
+use relation_terms::predicate::{OutlivesPredicate, RegionConstraint, RegionEqPredicate};
 use relation_terms::terms::{
     Const, ConstKind, ConstVid, EarlyParamRegion, FloatTy, FloatVarValue, FloatVid, IntTy,
-    IntVarValue, IntVid, Interner, Keys, OutOfMemory, ParamConst, Region, RegionKind, Ty, TyKind,
-    TyVid, UniverseIndex, Variance,
+    IntVarValue, IntVid, Interner, Keys, OutOfMemory, ParamConst, Region, RegionKind, RegionVid,
+    Ty, TyKind, TyVid, UniverseIndex, Variance,
 };
 use relation_tools::error::RelateResult;
 use std::test::Fail;
 use type_relations::infer_ctxt::{InferCtxtLike, VisibleForLeakCheck};
 use type_relations::relate::StructurallyRelateAliases;
 
+// The universe of a variable that is made in a new context.
+const FIRST: Option<UniverseIndex> = Some(UniverseIndex(0));
+
 // A name of a context's interner.
 type NameOf<C> = <<C as InferCtxtLike>::Interner as Keys>::Name;
 
-// The current universe of a context, and its budget.
-fn read_whole<C: InferCtxtLike>(ctx: &C) -> (UniverseIndex, usize) {
+// Whether the next solver is on in a context, its current universe, and its budget.
+fn read_whole<C: InferCtxtLike>(ctx: &C) -> (bool, UniverseIndex, usize) {
     ctx.interner_grows();
-    (ctx.universe(), ctx.budget_left())
+    (ctx.next_trait_solver(), ctx.universe(), ctx.budget_left())
 }
 
 // Whether a type that the interner makes twice is one.
@@ -63,14 +66,17 @@ fn make_param<C: InferCtxtLike>(
         .mk_const(ConstKind::Param(ParamConst { index: 0, name }))
 }
 
-// Whether a new type variable is its own root, and read as itself.
+// Whether a new type variable is its own root, marked as related to no other, of the first universe, and read as itself.
 fn has_new_ty<C: InferCtxtLike>(ctx: &mut C) -> Result<bool, OutOfMemory>
     requires lawful { (C.state ctx.old).lawful }
     requires none { ((C.state ctx.old).store).entries type_var ≡ [] }
 {
     let ty = ctx.next_ty_infer()?;
+    let root = ctx.root_ty_var(TyVid(0));
+    let mark = ctx.sub_unification_table_root_var(TyVid(0));
+    let universe = ctx.universe_of_ty(TyVid(0));
     let read = ctx.opportunistic_resolve_ty_var(TyVid(0));
-    Ok(ctx.root_ty_var(TyVid(0)) == TyVid(0) && read == ty)
+    Ok(root == TyVid(0) && mark == root && universe == FIRST && read == ty)
 }
 
 // The same of a constant variable.
@@ -79,17 +85,29 @@ fn has_new_const<C: InferCtxtLike>(ctx: &mut C) -> Result<bool, OutOfMemory>
     requires none { ((C.state ctx.old).store).entries const_var ≡ [] }
 {
     let constant = ctx.next_const_infer()?;
+    let root = ctx.root_const_var(ConstVid(0));
+    let universe = ctx.universe_of_ct(ConstVid(0));
     let read = ctx.opportunistic_resolve_ct_var(ConstVid(0));
-    Ok(ctx.root_const_var(ConstVid(0)) == ConstVid(0) && read == constant)
+    Ok(root == ConstVid(0) && universe == FIRST && read == constant)
 }
 
-// Whether two new region variables are two.
-fn has_new_regions<C: InferCtxtLike>(ctx: &mut C) -> Result<bool, OutOfMemory>
+// Whether a new region variable is of the first universe, and read as itself.
+fn has_new_region<C: InferCtxtLike>(ctx: &mut C) -> Result<bool, OutOfMemory>
+    requires lawful { (C.state ctx.old).lawful }
+    requires none { ((C.state ctx.old).store).entries region_var ≡ [] }
+{
+    let region = ctx.next_region_infer()?;
+    let universe = ctx.universe_of_lt(RegionVid(0));
+    let read = ctx.opportunistic_resolve_lt_var(RegionVid(0));
+    Ok(universe == FIRST && read == region)
+}
+
+// Whether a new universe is the current one from then on.
+fn enters_next<C: InferCtxtLike>(ctx: &mut C) -> Result<bool, OutOfMemory>
     requires { (C.state ctx.old).lawful }
 {
-    let first = ctx.next_region_infer()?;
-    let second = ctx.next_region_infer()?;
-    Ok(first != second)
+    let next = ctx.create_next_universe()?;
+    Ok(ctx.universe() == next)
 }
 
 // Whether the second of two type variables is read as the first, once they were made one.
@@ -102,6 +120,18 @@ fn equates_tys<C: InferCtxtLike>(ctx: &mut C) -> Result<bool, OutOfMemory>
     ctx.equate_ty_vids_raw(TyVid(1), TyVid(0));
     let read = ctx.opportunistic_resolve_ty_var(TyVid(1));
     Ok(ctx.root_ty_var(TyVid(1)) == TyVid(0) && read == first)
+}
+
+// Whether two type variables that were marked as related have one root as such, and are two all the same.
+fn marks_tys<C: InferCtxtLike>(ctx: &mut C) -> Result<bool, OutOfMemory>
+    requires lawful { (C.state ctx.old).lawful }
+    requires none { ((C.state ctx.old).store).entries type_var ≡ [] }
+{
+    let _ = ctx.next_ty_infer()?;
+    let _ = ctx.next_ty_infer()?;
+    ctx.sub_unify_ty_vids_raw(TyVid(1), TyVid(0));
+    let mark = ctx.sub_unification_table_root_var(TyVid(1));
+    Ok(mark == TyVid(0) && ctx.root_ty_var(TyVid(1)) == TyVid(1))
 }
 
 // The same of two constant variables.
@@ -154,6 +184,26 @@ fn bind_float<C: InferCtxtLike>(ctx: &mut C, var: FloatVid) -> Ty<C::Interner>
     ctx.opportunistic_resolve_float_var(var)
 }
 
+// Whether `char` is read as itself, at the top and at every depth.
+fn resolves_ty<C: InferCtxtLike>(ctx: &mut C) -> Result<bool, OutOfMemory>
+    requires { (C.state ctx.old).lawful }
+{
+    let ty = make_char(ctx)?;
+    let read = ctx.shallow_resolve(&ty);
+    let resolved = ctx.resolve_vars_if_possible(&ty)?;
+    Ok(read == ty && resolved == ty)
+}
+
+// The same of a parameter for a constant.
+fn resolves_const<C: InferCtxtLike>(ctx: &mut C, name: NameOf<C>) -> Result<bool, OutOfMemory>
+    requires { (C.state ctx.old).lawful }
+{
+    let constant = make_param(ctx, name)?;
+    let read = ctx.shallow_resolve_const(&constant);
+    let resolved = ctx.resolve_const_vars_if_possible(&constant)?;
+    Ok(read == constant && resolved == constant)
+}
+
 // Whether a new type variable is bound to `char` where it is instantiated with it.
 fn binds_ty<C: InferCtxtLike>(ctx: &mut C) -> RelateResult<C::Interner, bool>
     requires lawful { (C.state ctx.old).lawful }
@@ -161,10 +211,9 @@ fn binds_ty<C: InferCtxtLike>(ctx: &mut C) -> RelateResult<C::Interner, bool>
 {
     let _ = ctx.next_ty_infer()?;
     let source = make_char(ctx)?;
-    let read = ctx.shallow_resolve(&source);
     let aliases = StructurallyRelateAliases::No;
     let bound = ctx.instantiate_ty_var_raw(aliases, TyVid(0), Variance::Covariant, &source)?;
-    Ok(read == source && bound == source)
+    Ok(bound == source)
 }
 
 // Whether a new constant variable is bound to a parameter where it is instantiated with it.
@@ -174,10 +223,9 @@ fn binds_const<C: InferCtxtLike>(ctx: &mut C, name: NameOf<C>) -> RelateResult<C
 {
     let _ = ctx.next_const_infer()?;
     let source = make_param(ctx, name)?;
-    let read = ctx.shallow_resolve_const(&source);
     let aliases = StructurallyRelateAliases::No;
     let bound = ctx.instantiate_const_var_raw(aliases, ConstVid(0), &source)?;
-    Ok(read == source && bound == source)
+    Ok(bound == source)
 }
 
 // The region of a form.
@@ -212,6 +260,19 @@ fn records_order<C: InferCtxtLike>(
     Ok((a, b))
 }
 
+// A type and a region, of which it was registered that the one is to outlive the other.
+fn registers_outlives<C: InferCtxtLike>(
+    ctx: &mut C,
+) -> Result<(Ty<C::Interner>, Region<C::Interner>), OutOfMemory>
+    requires { (C.state ctx.old).lawful }
+{
+    let ty = make_char(ctx)?;
+    let region = make_region(ctx, RegionKind::ReStatic)?;
+    let span = ctx.cx().dummy_span();
+    ctx.register_ty_outlives(&ty, &region, span)?;
+    Ok((ty, region))
+}
+
 // Two regions, of which it was recorded that they outlive each other.
 fn records_equality<C: InferCtxtLike>(
     ctx: &mut C,
@@ -231,38 +292,42 @@ fn records_equality<C: InferCtxtLike>(
 
 #[test]
 fn a_new_context_is_in_the_first_universe(rt: HostRuntime) -> Result<(), Fail> {
-    let mut ctx = RefCtxt::new(RefInterner::new(rt.alloc()), 3)?;
-    assert!(rt; read_whole(&ctx) == (UniverseIndex(0), 3));
+    let mut ctx = RefCtxt::new(RefInterner::new(rt.alloc()), true, 3)?;
+    assert!(rt; read_whole(&ctx) == (true, UniverseIndex(0), 3));
     assert!(rt; makes_once(&mut ctx)?);
+    assert!(rt; enters_next(&mut ctx)?);
+    assert!(rt; read_whole(&ctx) == (true, UniverseIndex(1), 3));
     Ok(())
 }
 
 #[test]
 fn a_new_variable_is_its_own_root(rt: HostRuntime) -> Result<(), Fail> {
-    let mut ctx = RefCtxt::new(RefInterner::new(rt.alloc()), 0)?;
+    let mut ctx = RefCtxt::new(RefInterner::new(rt.alloc()), true, 0)?;
     assert!(rt; has_new_ty(&mut ctx)?);
-    let mut ctx = RefCtxt::new(RefInterner::new(rt.alloc()), 0)?;
+    let mut ctx = RefCtxt::new(RefInterner::new(rt.alloc()), true, 0)?;
     assert!(rt; has_new_const(&mut ctx)?);
-    assert!(rt; has_new_regions(&mut ctx)?);
+    assert!(rt; has_new_region(&mut ctx)?);
     Ok(())
 }
 
 #[test]
 fn variables_are_made_one(rt: HostRuntime) -> Result<(), Fail> {
-    let mut ctx = RefCtxt::new(RefInterner::new(rt.alloc()), 0)?;
+    let mut ctx = RefCtxt::new(RefInterner::new(rt.alloc()), true, 0)?;
     assert!(rt; equates_tys(&mut ctx)?);
-    let mut ctx = RefCtxt::new(RefInterner::new(rt.alloc()), 0)?;
+    let mut ctx = RefCtxt::new(RefInterner::new(rt.alloc()), true, 0)?;
     assert!(rt; equates_consts(&mut ctx)?);
+    let mut ctx = RefCtxt::new(RefInterner::new(rt.alloc()), true, 0)?;
+    assert!(rt; marks_tys(&mut ctx)?);
     Ok(())
 }
 
 #[test]
 fn integers_are_made_one_and_bound(rt: HostRuntime) -> Result<(), Fail> {
-    let mut ctx = RefCtxt::new(RefInterner::new(rt.alloc()), 0)?;
+    let mut ctx = RefCtxt::new(RefInterner::new(rt.alloc()), true, 0)?;
     let first = ctx.next_int_var()?;
     let _ = ctx.next_int_var()?;
     assert!(rt; equate_ints(&mut ctx, IntVid(1), IntVid(0)) == first);
-    let mut ctx = RefCtxt::new(RefInterner::new(rt.alloc()), 0)?;
+    let mut ctx = RefCtxt::new(RefInterner::new(rt.alloc()), true, 0)?;
     let _ = ctx.next_int_var()?;
     let bound = bind_int(&mut ctx, IntVid(0));
     assert!(rt; bound == ctx.interner.mk_ty(TyKind::Int(IntTy::I8))?);
@@ -271,11 +336,11 @@ fn integers_are_made_one_and_bound(rt: HostRuntime) -> Result<(), Fail> {
 
 #[test]
 fn floats_are_made_one_and_bound(rt: HostRuntime) -> Result<(), Fail> {
-    let mut ctx = RefCtxt::new(RefInterner::new(rt.alloc()), 0)?;
+    let mut ctx = RefCtxt::new(RefInterner::new(rt.alloc()), true, 0)?;
     let first = ctx.next_float_var()?;
     let _ = ctx.next_float_var()?;
     assert!(rt; equate_floats(&mut ctx, FloatVid(1), FloatVid(0)) == first);
-    let mut ctx = RefCtxt::new(RefInterner::new(rt.alloc()), 0)?;
+    let mut ctx = RefCtxt::new(RefInterner::new(rt.alloc()), true, 0)?;
     let _ = ctx.next_float_var()?;
     let bound = bind_float(&mut ctx, FloatVid(0));
     assert!(rt; bound == ctx.interner.mk_ty(TyKind::Float(FloatTy::F64))?);
@@ -283,28 +348,46 @@ fn floats_are_made_one_and_bound(rt: HostRuntime) -> Result<(), Fail> {
 }
 
 #[test]
+fn what_has_no_variable_is_read_as_itself(rt: HostRuntime) -> Result<(), Fail> {
+    let mut ctx = RefCtxt::new(RefInterner::new(rt.alloc()), true, 0)?;
+    assert!(rt; resolves_ty(&mut ctx)?);
+    assert!(rt; resolves_const(&mut ctx, SymbolId(0))?);
+    Ok(())
+}
+
+#[test]
 fn a_type_is_taken_for_one_of_the_budget(rt: HostRuntime) -> Result<(), Fail> {
-    let mut ctx = RefCtxt::new(RefInterner::new(rt.alloc()), 2)?;
+    let mut ctx = RefCtxt::new(RefInterner::new(rt.alloc()), true, 2)?;
     assert!(rt; binds_ty(&mut ctx) == Ok(true));
-    assert!(rt; read_whole(&ctx) == (UniverseIndex(0), 1));
+    assert!(rt; read_whole(&ctx) == (true, UniverseIndex(0), 1));
     Ok(())
 }
 
 #[test]
 fn a_constant_is_taken_for_one_of_the_budget(rt: HostRuntime) -> Result<(), Fail> {
-    let mut ctx = RefCtxt::new(RefInterner::new(rt.alloc()), 2)?;
+    let mut ctx = RefCtxt::new(RefInterner::new(rt.alloc()), true, 2)?;
     assert!(rt; binds_const(&mut ctx, SymbolId(0)) == Ok(true));
-    assert!(rt; read_whole(&ctx) == (UniverseIndex(0), 1));
+    assert!(rt; read_whole(&ctx) == (true, UniverseIndex(0), 1));
+    Ok(())
+}
+
+#[test]
+fn a_type_is_to_outlive_a_region(rt: HostRuntime) -> Result<(), Fail> {
+    let mut ctx = RefCtxt::new(RefInterner::new(rt.alloc()), true, 0)?;
+    let (ty, region) = registers_outlives(&mut ctx)?;
+    let mut registered = Vec::new(rt.alloc());
+    registered.push(OutlivesPredicate(ty, region))?;
+    assert!(rt; ctx.ty_outlives() == registered.as_slice());
     Ok(())
 }
 
 #[test]
 fn constraints_are_recorded(rt: HostRuntime) -> Result<(), Fail> {
-    let mut ctx = RefCtxt::new(RefInterner::new(rt.alloc()), 0)?;
+    let mut ctx = RefCtxt::new(RefInterner::new(rt.alloc()), true, 0)?;
     let (a, b) = records_order(&mut ctx, SymbolId(0))?;
     let asks = only(rt.alloc(), outlives(b, a))?;
     assert!(rt; ctx.region_constraints() == asks.as_slice());
-    let mut ctx = RefCtxt::new(RefInterner::new(rt.alloc()), 0)?;
+    let mut ctx = RefCtxt::new(RefInterner::new(rt.alloc()), true, 0)?;
     let (a, b) = records_equality(&mut ctx, SymbolId(0))?;
     let asks = only(rt.alloc(), RegionConstraint::Eq(RegionEqPredicate(a, b)))?;
     assert!(rt; ctx.region_constraints() == asks.as_slice());

@@ -1,4 +1,5 @@
 use Rattle.std.proofs.Common.{rules, sym, ◌∙◌, ap, subst, IsTrue}
+use Rattle.std.proofs.lemmas.List.Elements.{All-nil}
 use Rattle.relation_terms.specs.declared.terms.enums.Variance.TheVariants.{Invariant}
 use Rattle.relation_terms.specs.Heads.{arguments}
 use Rattle.relation_terms.specs.Trees.{node, count}
@@ -54,13 +55,13 @@ relate_args-requires-clause-as_many g c =
 pub returns-in-Ok-relate_args-clause-lawful : goal.returns-in-Ok-relate_args-clause-lawful
 returns-in-Ok-relate_args-clause-lawful g c = (((c.relate_args.ensures).passes).lawful (
   lawful_grows c.empty_param_env.ensures.grown c.have_variables.new.ctx.inner c.have_variables.ensures.lawful,
-  c.in-Ok-empty_param_env.ensures.sure,
+  (c.in-Ok-empty_param_env.ensures.sure, All-nil),
 )).0
 
 pub returns-in-Err-clause-lawful : goal.returns-in-Err-clause-lawful
 returns-in-Err-clause-lawful g c = (((c.relate_args.ensures).passes).lawful (
   lawful_grows c.empty_param_env.ensures.grown c.have_variables.new.ctx.inner c.have_variables.ensures.lawful,
-  c.in-Ok-empty_param_env.ensures.sure,
+  (c.in-Ok-empty_param_env.ensures.sure, All-nil),
 )).0
 
 pub returns-in-Ok-relate_args-clause-grown : goal.returns-in-Ok-relate_args-clause-grown
