@@ -1,19 +1,24 @@
 -- Terms that are ready, and contexts that have what they need.
-use Rattle.std.proofs.Common.{◌≡◌, ◌≢◌, ℕ, ◌<◌, sym, subst, arith, List, [], ◌∷◌, Option, Some, map, slice_get, refl}
+use Rattle.std.proofs.Common.{◌≡◌, ℕ, ◌<◌, sym, subst, arith, List, [], ◌∷◌, Option, Some, map, slice_get, refl}
+use Rattle.std.proofs.Common.{All, Result, Ok, Err}
+use Rattle.std.specs.Prelude.{IfOk, IfErr}
+use Rattle.std.specs.Global.{Vec}
 use Rattle.std.proofs.Common.{IsTrue}
 use Rattle.std.proofs.lemmas.Bool.{and_parts}
-use Rattle.relation_terms.specs.declared.terms.enums.Variance.{Variance}
-use Rattle.relation_terms.specs.declared.terms.enums.Variance.TheVariants.{Covariant, Contravariant, Invariant, Bivariant}
 use Rattle.relation_terms.specs.declared.terms.generic_arg.GenericArgKind.{GenericArgKind}
+use Rattle.relation_terms.specs.declared.terms.goal.Goal.{Goal}
+use Rattle.relation_terms.specs.declared.terms.keys.PredicateKey.{PredicateKey}
 use Rattle.relation_terms.specs.Heads.{arguments, VarKind, type_var, int_var, float_var, const_var, region_var}
 use Rattle.relation_terms.specs.Trees.{Tree, node, known, list_tree}
 use Rattle.relation_terms.specs.Meaning.{Meaning, Extends, arg_tree}
 use Rattle.relation_terms.proofs.Stays.{stays_arg}
+use Rattle.relation_tools.specs.declared.error.RelateFault.{RelateFault}
+use Rattle.relation_tools.specs.Faults.{KnowsFault}
+use Rattle.type_relations.specs.Goals.{KnowsGoal}
 use Rattle.type_relations.specs.Stores.{IsTermIn}
 use Rattle.relation_reference.specs.declared.context.inner.InferCtxtInner.{InferCtxtInner}
 use Rattle.relation_reference.specs.Tables.{store_of}
 use Rattle.relation_asking.proofs.Counting.{entries_count}
-use Rattle.type_relations.specs.Taken.{IsTaken}
 use Rattle.relation_asking.specs.declared.needs.Needs.{Needs}
 use Rattle.relation_text.specs.declared.naming.program.Term.{Term}
 use Rattle.relation_text.specs.Terms.{at, trees_of}
@@ -23,10 +28,10 @@ use Rattle.relation_asking.specs.Meets.{AllKnown}
 use Rattle.relation_asking.specs.Puts.{AreMade, ArePuts}
 use Rattle.relation_asking.proofs.MeetLemmas.{and_both}
 use Rattle.relation_asking.specs.Needs.{Allows, Reaches, largest, both_needs, need_at, needs_with, needs_of}
-use Rattle.relation_asking.specs.Asking.{IsReady, AreReady, Has, MayBeAsked}
+use Rattle.relation_asking.specs.Asking.{IsReady, AreReady, Has, KnowsRelated}
 use Rattle.type_relations.specs.Covered.{IsCovered}
 use Rattle.relation_asking.proofs.CoverLemmas.{all_covered, rules_before}
-use Rattle.relation_asking.proofs.NeedLemmas.{reaches_left, reaches_right, allowed_in, fixed_taken, all_taken, all_enough}
+use Rattle.relation_asking.proofs.NeedLemmas.{reaches_left, reaches_right, allowed_in, all_enough}
 use Rattle.relation_asking.proofs.NeedLemmas.{allows_right, allows_still}
 
 -- What is ready stays so.
@@ -78,26 +83,12 @@ pub ready_in : {Key Id Name : Type 0} (m : Meaning Key Id Name) (x : InferCtxtIn
 ready_in m x n h t k r = allowed_in (store_of m x) n
     (λ v i o. subst (λ l. i < l) (sym (entries_count m x v)) (h.variables v i o)) h.universe k t r.0 r.1.0
 
--- What may be asked.
-pub left_taken : (v : Variance) (a b : Needs) (t : Tree) → MayBeAsked v a b → IsTrue a.has_rules → IsReady a t →
-    IsTaken v t
-left_taken Covariant a b t h r k = fixed_taken a h.0 r Covariant t k.1.0 (k.1.1 r)
-left_taken Contravariant a b t h r k = fixed_taken a h.0 r Contravariant t k.1.0 (k.1.1 r)
-left_taken Invariant a b t h r k = all_taken a t k.1.0 (k.1.1 r)
-left_taken Bivariant a b t h r k = absurd h
-
-pub right_taken : (v : Variance) (a b : Needs) (t : Tree) → MayBeAsked v a b → IsTrue b.has_rules → IsReady b t →
-    IsTaken v t
-right_taken Covariant a b t h r k = fixed_taken b h.1 r Covariant t k.1.0 (k.1.1 r)
-right_taken Contravariant a b t h r k = fixed_taken b h.1 r Contravariant t k.1.0 (k.1.1 r)
-right_taken Invariant a b t h r k = all_taken b t k.1.0 (k.1.1 r)
-right_taken Bivariant a b t h r k = absurd h
-
-pub asked_decides : (v : Variance) (a b : Needs) → MayBeAsked v a b → v ≢ Bivariant
-asked_decides Covariant a b h = λ e. absurd cc
-asked_decides Contravariant a b h = λ e. absurd cc
-asked_decides Invariant a b h = λ e. absurd cc
-asked_decides Bivariant a b h = absurd h
+-- What a relation answered is known where its goals are, or why it stopped.
+pub related_known : {Key Id Name : Type 0} (m : Meaning Key Id Name)
+    (r : Result (Vec (Goal Key (PredicateKey Key))) (RelateFault Key Id Name)) →
+    IfOk r (λ goals. All (KnowsGoal m) goals.items) → IfErr r (KnowsFault m) → KnowsRelated m r
+related_known m (Ok goals) h k = h
+related_known m (Err e) h k = k
 
 -- Keys that were built, and what their terms need.
 pub all_ready : {Key Id Name : Type 0} (m : Meaning Key Id Name) (items names parts : List ℕ) (xs : List Term)

@@ -15,7 +15,6 @@ use Rattle.relation_terms.specs.Meaning.{under}
 use Rattle.relation_terms.specs.declared.terms.fn_sig.FnHeader.{FnHeader}
 use Rattle.type_relations.specs.Relation.{StaysWithin}
 use Rattle.type_relations.specs.Stores.{Store, IsTermIn, InContext, IsMadeLeaf, IsMade, IsNamable}
-use Rattle.type_relations.specs.Taken.{IsTaken, IsTakenLeaf, IsFixedLeaf}
 use Rattle.type_relations.specs.Covered.{IsCovered}
 use Rattle.relation_asking.specs.declared.needs.Needs.{Needs}
 use Rattle.relation_text.specs.declared.reading.tree.ItemSort.{ItemSort}
@@ -25,7 +24,6 @@ use Rattle.relation_text.specs.declared.naming.program.Term.TheVariants as term
 use Rattle.relation_text.specs.Terms.{at, parts_tree, leaf_of, item_tree, term_tree, trees_from, trees_of}
 use Rattle.relation_text.specs.Terms.{variables_of, fn_ptr_tree, head_of, object_tree}
 use Rattle.relation_asking.specs.Needs.{larger, both_needs, no_needs, universe_need, without_rules, need_at, needs_with}
-use Rattle.relation_asking.specs.Asking.{NeedsNoVariable}
 use Rattle.relation_asking.specs.Needs.{item_need, parts_need, term_need, needs_from, needs_of, Reaches, largest, IsEnough, Allows, AreEnough}
 
 some_is_there : {x : ℕ} → Some x ≡ None → ⊥
@@ -388,28 +386,6 @@ module _ (st : Store) (n : Needs) (variables : (k : VarKind) (i : ℕ) → Reach
   unfolding IsTermIn InContext
   allowed_in t k h =
       (known_leaves (IsMadeLeaf st) is_made t k h, stays 0 t h, known_leaves (IsNamable st.universe) is_namable t k h)
-
--- A term that needs no variable of types or constants is taken at each variance.
-fixed : (n : Needs) → NeedsNoVariable n → IsTrue n.has_rules → (l : Leaf) → IsEnough n l → IsFixedLeaf l
-fixed n e r (variable region_var i) h = tt
-fixed n e r (variable type_var i) h = absurd (subst (λ o. Reaches o i) e.0 h)
-fixed n e r (variable int_var i) h = tt
-fixed n e r (variable float_var i) h = tt
-fixed n e r (variable const_var i) h = absurd (subst (λ o. Reaches o i) e.1 h)
-fixed n e r (bound k d i) h = tt
-fixed n e r (placeholder k u i) h = tt
-fixed n e r (atom x) h = tt
-fixed n e r unknown h = tt
-
-pub fixed_taken : (n : Needs) → NeedsNoVariable n → IsTrue n.has_rules → (v : Variance) (t : Tree) → Allows n t →
-    IsCovered t → IsTaken v t
-fixed_taken n e r Covariant t h k = (each_leaf (IsEnough n) (IsTakenLeaf Covariant) (fixed n e r) t h, k)
-fixed_taken n e r Contravariant t h k = (each_leaf (IsEnough n) (IsTakenLeaf Contravariant) (fixed n e r) t h, k)
-fixed_taken n e r Invariant t h k = (each_leaf (IsEnough n) (IsTakenLeaf Invariant) (λ l o. tt) t h, k)
-fixed_taken n e r Bivariant t h k = (each_leaf (IsEnough n) (IsTakenLeaf Bivariant) (λ l o. tt) t h, k)
-
-pub all_taken : (n : Needs) (t : Tree) → Allows n t → IsCovered t → IsTaken Invariant t
-all_taken n t h k = (each_leaf (IsEnough n) (IsTakenLeaf Invariant) (λ l o. tt) t h, k)
 
 -- One more place of a range: what stands there, or nothing.
 pub range_more : (xs : List ℕ) (a i x : ℕ) → a ≤ i → slice_get xs i ≡ Some x →

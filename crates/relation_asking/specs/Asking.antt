@@ -1,9 +1,12 @@
 -- What is ready to be asked about, and a context in which it may be.
-use Rattle.std.specs.Prelude.{◌≡◌, ℕ, ◌<◌, ◌≤◌, List, Option, Some, None, IsTrue, length, slice_get}
+use Rattle.std.specs.Prelude.{◌≡◌, ◌≢◌, ℕ, ◌<◌, ◌≤◌, List, Option, Some, IsTrue, length, slice_get, Result, Ok, Err}
+use Rattle.std.specs.Global.{Vec}
 use Rattle.std.specs.List.{All}
 use Rattle.relation_terms.specs.declared.terms.enums.Variance.{Variance}
-use Rattle.relation_terms.specs.declared.terms.enums.Variance.TheVariants.{Covariant, Contravariant, Invariant, Bivariant}
+use Rattle.relation_terms.specs.declared.terms.enums.Variance.TheVariants.{Bivariant}
 use Rattle.relation_terms.specs.declared.terms.generic_arg.GenericArgKind.{GenericArgKind}
+use Rattle.relation_terms.specs.declared.terms.goal.Goal.{Goal}
+use Rattle.relation_terms.specs.declared.terms.keys.PredicateKey.{PredicateKey}
 use Rattle.relation_terms.specs.Trees.{Tree, known}
 use Rattle.relation_terms.specs.Meaning.{Meaning, arg_tree}
 use Rattle.relation_terms.specs.Heads.{VarKind, type_var, int_var, float_var, const_var, region_var}
@@ -11,7 +14,10 @@ use Rattle.relation_reference.specs.declared.context.inner.InferCtxtInner.{Infer
 use Rattle.relation_reference.specs.declared.context.inner.Variable.{Variable}
 use Rattle.relation_reference.specs.declared.context.inner.VariableValue.TheVariants.{Known}
 use Rattle.relation_reference.specs.Variables.{value_at}
+use Rattle.relation_tools.specs.declared.error.RelateFault.{RelateFault}
+use Rattle.relation_tools.specs.Faults.{KnowsFault}
 use Rattle.type_relations.specs.Covered.{IsCovered}
+use Rattle.type_relations.specs.Goals.{KnowsGoal}
 use Rattle.relation_asking.specs.declared.context.VariableKind.{VariableKind}
 use Rattle.relation_asking.specs.declared.context.VariableKind.TheVariants.{Ty, Int, Float, Const, Region}
 use Rattle.relation_asking.specs.declared.needs.Needs.{Needs}
@@ -54,24 +60,19 @@ pub record Has {Key : Type 0} (x : InferCtxtInner Key) (n : Needs) : Type 0 wher
   pub variables : (k : VarKind) (i : ℕ) → Reaches (largest n k) i → i < variables_in x k
   pub universe : n.universe ≤ (x.universe).0
 
--- No variable of a type or a constant is needed.
-abbrev pub NeedsNoVariable : Needs → Type 0
-NeedsNoVariable n = (n.types ≡ None) × (n.consts ≡ None)
-
--- Types with these needs may be related at a variance: with variables of types and constants at invariance alone.
-abbrev pub MayBeAsked : Variance → Needs → Needs → Type 0
-MayBeAsked Covariant a b = NeedsNoVariable a × NeedsNoVariable b
-MayBeAsked Contravariant a b = NeedsNoVariable a × NeedsNoVariable b
-MayBeAsked Invariant a b = Unit {0}
-MayBeAsked Bivariant a b = ⊥
-
--- Two types may be asked about in a context of that universe.
+-- Two types may be asked about at a variance, in a context of that universe.
 pub record IsAskable (u : ℕ) (v : Variance) (a b : Needs) : Type 0 where
   pub left_rules : IsTrue a.has_rules
   pub right_rules : IsTrue b.has_rules
   pub left : a.universe ≤ u
   pub right : b.universe ≤ u
-  pub at : MayBeAsked v a b
+  pub decides : v ≢ Bivariant
+
+-- What a relation answered is known: its goals, or why it stopped.
+abbrev pub KnowsRelated : {Key Id Name : Type 0} → Meaning Key Id Name →
+    Result (Vec (Goal Key (PredicateKey Key))) (RelateFault Key Id Name) → Type 0
+KnowsRelated m (Ok goals) = All (KnowsGoal m) goals.items
+KnowsRelated m (Err e) = KnowsFault m e
 
 -- What an answer names is known: of a relation, what is asked of its answer.
 abbrev pub KnowsAnswer : {R K Key Id Name : Type 0} → Meaning Key Id Name → (R → Type 0) → Answer R K Key Id Name → Type 0

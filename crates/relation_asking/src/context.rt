@@ -1,13 +1,13 @@
 //! A question's context, and relating in it.
-ghost use Rattle.std.specs.Prelude.{◌≡◌, ◌≢◌, ℕ, suc, ◌<◌, ◌≤◌, IsFalse, IfNone, IfOk, IfErr, OnOk};
+ghost use Rattle.std.specs.Prelude.{◌≡◌, ◌≢◌, ℕ, suc, ◌<◌, ◌≤◌, IfNone, IfOk, IfErr, OnOk};
 ghost use Rattle.relation_terms.specs.Heads.{VarKind};
 ghost use Rattle.relation_terms.specs.Meaning.{Extends};
 ghost use Rattle.relation_tools.specs.Faults.{KnowsFault};
 ghost use Rattle.type_relations.specs.Contexts.{KnowsEnv, KnowsTy, TakesTy, HasTy};
-ghost use Rattle.type_relations.specs.Contexts.{AnswersTys, KeepsEqualTys, TellsApart};
+ghost use Rattle.type_relations.specs.Contexts.{AnswersTys, KeepsEqualTys, TellsApart, RegistersGoals};
 ghost use Rattle.relation_reference.specs.Tables.{IsLawful};
 ghost use Rattle.relation_asking.specs.Needs.{Reaches};
-ghost use Rattle.relation_asking.specs.Asking.{Has, IsAskable, NeedsNoVariable, var_kind, variables_in};
+ghost use Rattle.relation_asking.specs.Asking.{Has, IsAskable, var_kind, variables_in};
 
 use crate::needs::Needs;
 use relation_reference::context::RefCtxt;
@@ -22,8 +22,6 @@ use type_relations::relate::solver_relating::{RelateExt, RelateGoals};
 pub enum NotAsked {
     /// No rules relate terms of one of the forms.
     Rules,
-    /// Types with variables of types or constants are related at `==` alone.
-    Variables,
     /// The context's universe does not name a placeholder.
     Universe,
     /// Nothing is asked at this variance.
@@ -158,13 +156,6 @@ pub(super) fn have_variables<I: Interner>(
     reach(ctx, VariableKind::Region, needs.regions)
 }
 
-// Whether a variable of a type or a constant is needed.
-fn needs_variable(needs: Needs) -> bool
-    ensures { IsFalse result → NeedsNoVariable needs }
-{
-    needs.types.is_some() || needs.consts.is_some()
-}
-
 // Why two types are not related at a variance in a context, if they are not.
 pub(super) fn refusal<I: Interner>(
     ctx: &RefCtxt<I>,
@@ -182,14 +173,8 @@ pub(super) fn refusal<I: Interner>(
         return Some(NotAsked::Universe);
     }
     match variance {
-        Variance::Invariant => None,
+        Variance::Covariant | Variance::Contravariant | Variance::Invariant => None,
         Variance::Bivariant => Some(NotAsked::Variance),
-        Variance::Covariant | Variance::Contravariant => {
-            if needs_variable(lhs) || needs_variable(rhs) {
-                return Some(NotAsked::Variables);
-            }
-            None
-        }
     }
 }
 
@@ -209,13 +194,14 @@ pub(super) fn relate<C: InferCtxtLike>(
     requires env_known { KnowsEnv (C.state ctx.old) param_env }
     requires lhs_known { KnowsTy (C.state ctx.old) lhs }
     requires rhs_known { KnowsTy (C.state ctx.old) rhs }
-    requires lhs_taken { TakesTy (C.state ctx.old) variance lhs }
-    requires rhs_taken { TakesTy (C.state ctx.old) variance rhs }
+    requires lhs_taken { TakesTy (C.state ctx.old) lhs }
+    requires rhs_taken { TakesTy (C.state ctx.old) rhs }
     requires lhs_in { HasTy (C.state ctx.old) lhs }
     requires rhs_in { HasTy (C.state ctx.old) rhs }
     ensures answers { AnswersTys (C.state ctx.old) (C.state ctx.new) param_env variance lhs rhs result }
     ensures keeps { KeepsEqualTys (C.state ctx.old) (C.state ctx.new) lhs rhs result }
     ensures apart { TellsApart (C.state ctx.old) (C.state ctx.new) lhs rhs result }
+    ensures goals { RegistersGoals (C.state ctx.old) (C.state ctx.new) param_env result }
     ensures lawful { (C.state ctx.new).lawful }
     ensures grown { Extends (C.state ctx.old).meaning (C.state ctx.new).meaning }
     ensures why_known { IfErr result (λ e. KnowsFault (C.state ctx.new).meaning e) }
@@ -228,9 +214,6 @@ pub(super) fn write_not_asked<W: Write>(why: NotAsked, out: &mut W) -> fmt::Resu
     out.write_str("not asked: ")?;
     match why {
         NotAsked::Rules => out.write_str("a form in these types has no rules yet"),
-        NotAsked::Variables => {
-            out.write_str("types with variables of types or constants are related by `==` alone")
-        },
         NotAsked::Universe => {
             out.write_str("the context's universe, 0, does not name the placeholder")
         }

@@ -1,15 +1,14 @@
 //! Lists of arguments, and relating two of them.
-ghost use Rattle.std.specs.Prelude.{◌≡◌, IsTrue, IfOk, IfErr};
+ghost use Rattle.std.specs.Prelude.{◌≡◌, [], IsTrue, IfOk};
 ghost use Rattle.relation_terms.specs.declared.terms.enums.Variance.TheVariants.{Invariant};
 ghost use Rattle.relation_terms.specs.Heads.{arguments};
 ghost use Rattle.relation_terms.specs.Trees.{known, count};
 ghost use Rattle.relation_terms.specs.Meaning.{Extends};
-ghost use Rattle.relation_tools.specs.Faults.{KnowsFault};
 ghost use Rattle.type_relations.specs.Keyed.{AreAsMany, AskedLists, RelatedLists};
 ghost use Rattle.type_relations.specs.Solving.{solving_in, solver_manner};
 ghost use Rattle.relation_reference.specs.Tables.{IsLawful};
 ghost use Rattle.relation_reference.specs.RefCtxt.{context_in};
-ghost use Rattle.relation_asking.specs.Asking.{AreReady, IsReady};
+ghost use Rattle.relation_asking.specs.Asking.{AreReady, IsReady, KnowsRelated};
 
 use crate::context::{NotAsked, have_variables, refusal};
 use crate::needs::{Needs, both, parts_need};
@@ -20,7 +19,7 @@ use relation_terms::terms::{GenericArgs, Interner, ParamEnv, Parts as PartsOfTer
 use relation_text::building::keys_at;
 use relation_text::naming::{Parts, Question};
 use relation_tools::error::RelateResult;
-use type_relations::relate::solver_relating::{RelateGoals, SolverRelating};
+use type_relations::relate::solver_relating::{GoalOf, RelateGoals, SolverRelating};
 
 // The arguments of a list of terms, and what they need.
 pub(super) fn args_of<I: Interner>(
@@ -55,27 +54,28 @@ fn are_as_many<I: Interner>(cx: &I, lhs: &GenericArgs<I>, rhs: &GenericArgs<I>) 
     left == right
 }
 
-// Relates two lists of arguments of a context invariantly.
+// Relates two lists of arguments of a context invariantly, and answers the goals that this registers, too.
 fn relate_args<I: Interner>(
     ctx: &mut RefCtxt<I>,
     param_env: ParamEnv<I>,
     lhs: &GenericArgs<I>,
     rhs: &GenericArgs<I>,
-) -> RelateResult<I, GenericArgs<I>>
+) -> (RelateResult<I, GenericArgs<I>>, Vec<GoalOf<I>>)
     requires lawful { IsLawful (I.meaning ctx.old.interner) ctx.old.inner }
     requires env_known { IsTrue (known ((I.meaning ctx.old.interner).param_env param_env)) }
-    requires asked { let before = solving_in (context_in I.meaning ctx.old) Invariant param_env in
+    requires asked { let before = solving_in [] (context_in I.meaning ctx.old) Invariant param_env in
         AskedLists solver_manner before (λ m. arguments) lhs.now rhs.now }
-    requires as_many { AreAsMany (solving_in (context_in I.meaning ctx.old) Invariant param_env) lhs.now rhs.now }
-    ensures { let before = solving_in (context_in I.meaning ctx.old) Invariant param_env in
-        let after = solving_in (context_in I.meaning ctx.new) Invariant param_env in
-        RelatedLists solver_manner before after (λ m. arguments) lhs.now rhs.now result }
+    requires as_many { AreAsMany (solving_in [] (context_in I.meaning ctx.old) Invariant param_env) lhs.now rhs.now }
+    ensures { let before = solving_in [] (context_in I.meaning ctx.old) Invariant param_env in
+        let after = solving_in result.1.items (context_in I.meaning ctx.new) Invariant param_env in
+        RelatedLists solver_manner before after (λ m. arguments) lhs.now rhs.now result.0 }
 {
     let span = ctx.interner.dummy_span();
     let mut relation = SolverRelating::new(ctx, Variance::Invariant, param_env, span);
     let related = relation.relate_args(lhs, rhs);
+    let goals = relation.take_goals();
     let _ctx = relation.into_infcx();
-    related
+    (related, goals)
 }
 
 // Relates two lists of arguments, of which it is said what they need, if they may be asked about.
@@ -90,7 +90,7 @@ fn relate_ready<I: Interner>(
     requires rhs_ready { IsReady rhs.1 ((I.meaning ctx.old.interner).args rhs.0) }
     ensures lawful { IsLawful (I.meaning ctx.new.interner) ctx.new.inner }
     ensures grown { Extends (I.meaning ctx.old.interner) (I.meaning ctx.new.interner) }
-    ensures why_known { IfOk result (λ a. IfErr a (λ e. KnowsFault (I.meaning ctx.new.interner) e)) }
+    ensures known { IfOk result (KnowsRelated (I.meaning ctx.new.interner)) }
 {
     let (lhs, lhs_needs) = lhs;
     let (rhs, rhs_needs) = rhs;
@@ -106,8 +106,9 @@ fn relate_ready<I: Interner>(
     let Ok(param_env) = ctx.interner.empty_param_env() else {
         return Err(Unasked::Memory);
     };
-    match relate_args(ctx, param_env, &lhs, &rhs) {
-        Ok(_) => Ok(Ok(Vec::new(ctx.interner.alloc()))),
+    let (related, goals) = relate_args(ctx, param_env, &lhs, &rhs);
+    match related {
+        Ok(_) => Ok(Ok(goals)),
         Err(fault) => Ok(Err(fault)),
     }
 }
@@ -124,7 +125,7 @@ pub(super) fn ask_args_related<I: Interner>(
     requires ready { AreReady (I.meaning ctx.old.interner) terms.now.built.now terms.now.needs.now }
     ensures lawful { IsLawful (I.meaning ctx.new.interner) ctx.new.inner }
     ensures grown { Extends (I.meaning ctx.old.interner) (I.meaning ctx.new.interner) }
-    ensures why_known { IfOk result (λ a. IfErr a (λ e. KnowsFault (I.meaning ctx.new.interner) e)) }
+    ensures known { IfOk result (KnowsRelated (I.meaning ctx.new.interner)) }
 {
     let lhs = args_of(ctx, terms, lhs)?;
     let rhs = args_of(ctx, terms, rhs)?;

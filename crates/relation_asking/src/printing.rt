@@ -1,21 +1,26 @@
 //! How errors and answers print, over any interner.
-ghost use Rattle.std.specs.Prelude.{◌≡◌, IfSome, IfNone, IfErr};
-ghost use Rattle.relation_tools.specs.Faults.{KnowsBoth, KnowsError, KnowsFault};
+ghost use Rattle.std.specs.Prelude.{◌≡◌, IfSome, IfNone, IsTrue};
+ghost use Rattle.std.specs.List.{All};
+ghost use Rattle.relation_terms.specs.Trees.{known};
+ghost use Rattle.relation_terms.specs.Meaning.{term_tree};
+ghost use Rattle.relation_terms.specs.Predicates.{predicate_kind_tree};
+ghost use Rattle.relation_tools.specs.Faults.{KnowsBoth, KnowsError};
+ghost use Rattle.type_relations.specs.Goals.{KnowsGoal};
 ghost use Rattle.type_relations.specs.Stores.{ConstraintIn};
 ghost use Rattle.type_relations.specs.Constraints.{constraint_of};
 ghost use Rattle.relation_reference.specs.Tables.{IsLawful};
 ghost use Rattle.relation_reference.specs.Variables.{value_at};
 ghost use Rattle.relation_reference.specs.declared.context.inner.VariableValue.TheVariants.{Known};
 ghost use Rattle.relation_reference.specs.RefCtxt.{store_in};
-ghost use Rattle.relation_asking.specs.Asking.{AreBoundKnown};
+ghost use Rattle.relation_asking.specs.Asking.{AreBoundKnown, KnowsRelated};
 
 use relation_reference::context::{RefCtxt, Variable, VariableValue};
-use relation_terms::predicate::RegionConstraint;
-use relation_terms::terms::{Const, Interner, Ty};
+use relation_terms::predicate::{ClauseKind, PredicateKind, RegionConstraint};
+use relation_terms::terms::{Const, Interner, TermKind, Ty};
 use relation_text::printing::{TextsOf, write_arg, write_const, write_region, write_ty};
 use relation_tools::error::{ExpectedFound, RelateFault, TypeError, TypeErrorOf};
 use std::fmt::{self, Write};
-use type_relations::relate::solver_relating::RelateGoals;
+use type_relations::relate::solver_relating::{GoalOf, RelateGoals};
 
 // The name of an error.
 fn error_name<X, D, N>(error: &TypeError<X, D, N>) -> &'static str {
@@ -187,6 +192,107 @@ fn write_constraints<I: Interner, W: Write>(
     if any { out.write_str("]") } else { Ok(()) }
 }
 
+// The name of what a clause says.
+fn clause_name<X, D, N>(clause: &ClauseKind<X, D, N>) -> &'static str {
+    match clause {
+        ClauseKind::Trait(_) => "Trait",
+        ClauseKind::RegionOutlives(_) => "RegionOutlives",
+        ClauseKind::TypeOutlives(_) => "TypeOutlives",
+        ClauseKind::Projection(_) => "Projection",
+        ClauseKind::ConstArgHasType(..) => "ConstArgHasType",
+        ClauseKind::WellFormed(_) => "WellFormed",
+        ClauseKind::ConstEvaluatable(_) => "ConstEvaluatable",
+        ClauseKind::HostEffect(_) => "HostEffect",
+        ClauseKind::UnstableFeature(_) => "UnstableFeature",
+    }
+}
+
+// The name of what a predicate asks.
+fn predicate_name<X, D, N>(predicate: &PredicateKind<X, D, N>) -> &'static str {
+    match predicate {
+        PredicateKind::Clause(clause) => clause_name(clause),
+        PredicateKind::Subtype(_) => "Subtype",
+        PredicateKind::Coerce(_) => "Coerce",
+        PredicateKind::NormalizesTo(_) => "NormalizesTo",
+        PredicateKind::AliasRelate(..) => "AliasRelate",
+        PredicateKind::Ambiguous => "Ambiguous",
+    }
+}
+
+// Writes a type or a constant.
+fn write_term<I: Interner, W: Write>(
+    cx: &I,
+    texts: &TextsOf<I>,
+    term: &TermKind<I::Key>,
+    out: &mut W,
+) -> fmt::Result
+    requires { IsTrue (known (term_tree (I.meaning cx.now) term.now)) }
+{
+    match term {
+        TermKind::Ty(ty) => write_ty(cx, texts, ty, out),
+        TermKind::Const(constant) => write_const(cx, texts, constant, out),
+    }
+}
+
+// Writes the terms of what a goal asks, in parentheses. Relating leaves goals of these forms alone: of another one
+// nothing is written.
+fn write_goal_terms<I: Interner, W: Write>(
+    cx: &I,
+    texts: &TextsOf<I>,
+    predicate: &PredicateKind<I::Key, I::Id, I::Name>,
+    out: &mut W,
+) -> fmt::Result
+    requires { IsTrue (known (predicate_kind_tree (I.meaning cx.now) predicate.now)) }
+{
+    match predicate {
+        PredicateKind::Subtype(pair) => {
+            out.write_str("(")?;
+            write_ty(cx, texts, &pair.a, out)?;
+            out.write_str(", ")?;
+            write_ty(cx, texts, &pair.b, out)?;
+            write!(out, ", {})", pair.a_is_expected)
+        }
+        PredicateKind::Clause(ClauseKind::WellFormed(term)) => {
+            out.write_str("(")?;
+            write_term(cx, texts, term, out)?;
+            out.write_str(")")
+        }
+        _ => Ok(()),
+    }
+}
+
+// Writes a goal: the name of what it asks, and of its parts those that have a text.
+fn write_goal<I: Interner, W: Write>(
+    cx: &I,
+    texts: &TextsOf<I>,
+    goal: &GoalOf<I>,
+    out: &mut W,
+) -> fmt::Result
+    requires { KnowsGoal (I.meaning cx.now) goal.now }
+{
+    let predicate = cx.predicate_kind(&goal.predicate).value;
+    out.write_str(predicate_name(&predicate))?;
+    write_goal_terms(cx, texts, &predicate, out)
+}
+
+// Writes the goals that a relation leaves, if any, in the order in which they were registered.
+fn write_goals<I: Interner, W: Write>(
+    cx: &I,
+    texts: &TextsOf<I>,
+    goals: &[GoalOf<I>],
+    out: &mut W,
+) -> fmt::Result
+    requires { All (KnowsGoal (I.meaning cx.now)) goals.now }
+{
+    let mut any = false;
+    for goal in goals {
+        out.write_str(if any { ", " } else { "; goals=[" })?;
+        write_goal(cx, texts, goal, out)?;
+        any = true;
+    }
+    if any { out.write_str("]") } else { Ok(()) }
+}
+
 // The term that a root is bound to, or none, also where the variable is the same as another.
 fn bound_at<K: Copy>(variables: &[Variable<K>], number: usize) -> Option<K>
     ensures bound { IfSome result (λ t. value_at variables.now number ≡ Known t) }
@@ -264,8 +370,8 @@ fn write_bound<I: Interner, W: Write>(
     if any { out.write_str("]") } else { Ok(()) }
 }
 
-/// Writes what a relation answered, and then what its context has recorded: the constraints on regions, in the order
-/// in which they were recorded, and the roots that are bound to a term.
+/// Writes what a relation answered, the goals that it leaves, and then what its context has recorded: the constraints on
+/// regions, in the order in which they were recorded, and the roots that are bound to a term.
 ///
 /// # Errors
 /// `fmt::Error` where `out` refused to take some of the text. What it took before stands.
@@ -276,10 +382,13 @@ pub fn write_answer<I: Interner, W: Write>(
     out: &mut W,
 ) -> fmt::Result
     requires lawful { IsLawful (I.meaning ctx.now.interner) ctx.now.inner }
-    requires why_known { IfErr answer.now (λ e. KnowsFault (I.meaning ctx.now.interner) e) }
+    requires known { KnowsRelated (I.meaning ctx.now.interner) answer.now }
 {
     match answer {
-        Ok(_) => out.write_str("ok")?,
+        Ok(goals) => {
+            out.write_str("ok")?;
+            write_goals(&ctx.interner, texts, goals, out)?;
+        }
         Err(RelateFault::Memory) => out.write_str("memory")?,
         Err(RelateFault::Budget) => out.write_str("budget")?,
         Err(RelateFault::Unrelated(error)) => {

@@ -1,12 +1,11 @@
 //! A question that is asked, and its answer.
-ghost use Rattle.std.specs.Prelude.{◌≡◌, IsTrue, IfSome, IfOk, IfErr};
+ghost use Rattle.std.specs.Prelude.{◌≡◌, IsTrue, IfSome, IfOk};
 ghost use Rattle.relation_terms.specs.Trees.{known};
 ghost use Rattle.relation_terms.specs.Meaning.{Meaning, Extends, arg_tree};
-ghost use Rattle.relation_tools.specs.Faults.{KnowsFault};
 ghost use Rattle.relation_reference.specs.Tables.{IsLawful};
 ghost use Rattle.relation_asking.specs.Puts.{ArePuts};
 ghost use Rattle.relation_asking.specs.Meets.{AllKnown};
-ghost use Rattle.relation_asking.specs.Asking.{AreReady, IsReady, KnowsAnswer};
+ghost use Rattle.relation_asking.specs.Asking.{AreReady, IsReady, KnowsAnswer, KnowsRelated};
 
 use crate::BUDGET;
 use crate::context::{NotAsked, have_variables, refusal, relate, renewed, write_not_asked};
@@ -142,7 +141,7 @@ fn ask_related<I: Interner>(
     requires ready { AreReady (I.meaning ctx.old.interner) terms.now.built.now terms.now.needs.now }
     ensures lawful { IsLawful (I.meaning ctx.new.interner) ctx.new.inner }
     ensures grown { Extends (I.meaning ctx.old.interner) (I.meaning ctx.new.interner) }
-    ensures why_known { IfOk result (λ a. IfErr a (λ e. KnowsFault (I.meaning ctx.new.interner) e)) }
+    ensures known { IfOk result (KnowsRelated (I.meaning ctx.new.interner)) }
 {
     let Some((lhs, lhs_needs)) = type_of(terms, lhs) else {
         return Err(Unasked::Memory);
@@ -297,7 +296,7 @@ fn ask<I: SizedKeys>(ctx: &mut RefCtxt<I>, terms: &Ready<I>, question: &Question
     ensures lawful { IsLawful (I.meaning ctx.new.interner) ctx.new.inner }
     ensures grown { Extends (I.meaning ctx.old.interner) (I.meaning ctx.new.interner) }
     ensures known { let m = I.meaning ctx.new.interner in
-        IfOk result (KnowsAnswer m (λ r. IfErr r (λ e. KnowsFault m e))) }
+        IfOk result (KnowsAnswer m (KnowsRelated m)) }
 {
     match question.kind {
         QuestionKind::Relate { lhs, variance, rhs } => {
@@ -374,7 +373,7 @@ pub(super) fn ask_often<I: SizedKeys>(
     ensures lawful { IsLawful (I.meaning result.0.interner) result.0.inner }
     ensures grown { Extends (I.meaning ctx.interner) (I.meaning result.0.interner) }
     ensures known { let m = I.meaning result.0.interner in
-        IfOk result.1 (KnowsAnswer m (λ r. IfErr r (λ e. KnowsFault m e))) }
+        IfOk result.1 (KnowsAnswer m (KnowsRelated m)) }
 {
     let mut ctx = ctx;
     let mut outcome = ask(&mut ctx, terms, question);
@@ -395,7 +394,7 @@ fn write_given<I: Interner, W: Write>(
 ) -> fmt::Result
     requires lawful { IsLawful (I.meaning ctx.now.interner) ctx.now.inner }
     requires known { let m = I.meaning ctx.now.interner in
-        KnowsAnswer m (λ r. IfErr r (λ e. KnowsFault m e)) answer.now }
+        KnowsAnswer m (KnowsRelated m) answer.now }
 {
     match answer {
         Answer::Related(related) => {
@@ -426,7 +425,7 @@ pub(super) fn write_outcome<I: Interner, W: Write>(
 ) -> fmt::Result
     requires lawful { IsLawful (I.meaning ctx.now.interner) ctx.now.inner }
     requires known { let m = I.meaning ctx.now.interner in
-        IfOk outcome.now (KnowsAnswer m (λ r. IfErr r (λ e. KnowsFault m e))) }
+        IfOk outcome.now (KnowsAnswer m (KnowsRelated m)) }
 {
     match outcome {
         Err(Unasked::Memory) => out.write_str("memory"),

@@ -1,8 +1,6 @@
 -- Terms that stand in each context.
 use Rattle.std.proofs.Common.{◌≡◌, IsTrue, false, [], sym, ap, subst}
 use Rattle.relation_terms.specs.declared.terms.enums.Variance.{Variance}
-use Rattle.relation_terms.specs.declared.terms.enums.Variance.TheVariants.{Covariant, Contravariant, Invariant}
-use Rattle.relation_terms.specs.declared.terms.enums.Variance.TheVariants.{Bivariant}
 use Rattle.relation_terms.specs.declared.terms.keys.TyKey.{TyKey}
 use Rattle.relation_terms.specs.declared.terms.keys.RegionKey.{RegionKey}
 use Rattle.relation_terms.specs.declared.terms.keys.ArgsKey.{ArgsKey}
@@ -12,7 +10,6 @@ use Rattle.relation_terms.specs.Trees.{Tree, leaf, node, bind, nil, cons, known,
 use Rattle.relation_terms.specs.Meaning.{Meaning, Extends}
 use Rattle.type_relations.specs.Relation.{IsValueAtom, StaysWithin}
 use Rattle.type_relations.specs.Stores.{Store, IsTermIn, InContext, IsMadeLeaf, IsNamable}
-use Rattle.type_relations.specs.Taken.{IsTaken, IsTakenLeaf}
 use Rattle.type_relations.specs.Covered.{IsCovered, IsCoveredAtom}
 use Rattle.relation_terms.specs.Heads.{fresh_type, fresh_int, fresh_float, fresh_const}
 use Rattle.type_relations.specs.Lawful.{Asked}
@@ -83,12 +80,6 @@ concrete_known t h = known_of_term _ t (concrete_in (record {
   budget = 0;
 }) t h)
 
-pub concrete_taken : (v : Variance) (t : Tree) → IsConcrete t → IsTaken v t
-concrete_taken Covariant t h = (concrete_leaves (IsTakenLeaf Covariant) (λ x h. tt) t h, concrete_covered t h)
-concrete_taken Contravariant t h = (concrete_leaves (IsTakenLeaf Contravariant) (λ x h. tt) t h, concrete_covered t h)
-concrete_taken Invariant t h = (concrete_leaves (IsTakenLeaf Invariant) (λ x h. tt) t h, concrete_covered t h)
-concrete_taken Bivariant t h = (concrete_leaves (IsTakenLeaf Bivariant) (λ x h. tt) t h, concrete_covered t h)
-
 -- Such terms may be asked about.
 pub concrete_asked : {Key Id Name : Type 0} (m : Meaning Key Id Name) (v : Variance) (a b : Tree) → IsConcrete a →
     IsConcrete b → Asked plain_manner (plain_state m v []) v a b
@@ -103,14 +94,14 @@ concrete_asked m v a b h k = record {
 
 -- Also in a context.
 pub concrete_solved : {Key Id Name : Type 0} (c : Context Key Id Name) (v : Variance) (e : ParamEnvKey Key)
-    (a b : Tree) → IsConcrete a → IsConcrete b → Asked solver_manner (solving_in c v e) v a b
+    (a b : Tree) → IsConcrete a → IsConcrete b → Asked solver_manner (solving_in [] c v e) v a b
 concrete_solved c v e a b h k = record {
   left_known = concrete_known a h;
   right_known = concrete_known b k;
   left_in = concrete_in c.store a h;
   right_in = concrete_in c.store b k;
-  left_taken = concrete_taken v a h;
-  right_taken = concrete_taken v b k;
+  left_taken = (concrete_leaves (λ l. Unit {0}) (λ x h. tt) a h, concrete_covered a h);
+  right_taken = (concrete_leaves (λ l. Unit {0}) (λ x h. tt) b k, concrete_covered b k);
 }
 
 -- What an equal tree was, this one is.

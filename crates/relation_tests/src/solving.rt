@@ -1,5 +1,5 @@
 //! Relating through a relation that borrows a context, and gives it back.
-ghost use Rattle.std.specs.Prelude.{◌≢◌, IsTrue};
+ghost use Rattle.std.specs.Prelude.{◌≢◌, [], IsTrue};
 ghost use Rattle.relation_terms.specs.Trees.{known};
 ghost use Rattle.relation_terms.specs.declared.terms.enums.Variance.TheVariants.{Bivariant};
 ghost use Rattle.type_relations.specs.Lawful.{Asked};
@@ -29,7 +29,7 @@ fn recorded<I: Interner>(
     requires lawful { IsLawful (I.meaning ctx.old.interner) ctx.old.inner }
     requires env_known { IsTrue (known ((I.meaning ctx.old.interner).param_env param_env)) }
     requires decides { variance ≢ Bivariant }
-    requires asked { Asked solver_manner (solving_in (context_in I.meaning ctx.old) variance param_env) variance
+    requires asked { Asked solver_manner (solving_in [] (context_in I.meaning ctx.old) variance param_env) variance
         ((I.meaning ctx.old.interner).ty a.now) ((I.meaning ctx.old.interner).ty b.now) }
 {
     let span = ctx.interner.dummy_span();

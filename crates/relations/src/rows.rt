@@ -32,7 +32,7 @@ pub enum RowFault {
 }
 
 /// The rows, in the order of their numbers.
-pub const ROWS: [Row; 28] = [
+pub const ROWS: [Row; 30] = [
     Row {
         name: "r01",
         questions: "may unify[rigid, rigid] bool, char at 0; may unify[rigid, rigid] bool, char at 1;",
@@ -76,6 +76,11 @@ pub const ROWS: [Row; 28] = [
         stored: "err Sorts(u8, bool); bound=[?0=u8]",
     },
     Row {
+        name: "r12",
+        questions: "struct Vec<+T>; Vec<?0> <: ?1;",
+        stored: "ok; goals=[Subtype(?0, ?2, true)]; bound=[?1=Vec<?2>]",
+    },
+    Row {
         name: "r17",
         questions: "budget 1; (?0, ?1) == (u8, bool);",
         stored: "budget; bound=[?0=u8]; left=0",
@@ -110,6 +115,11 @@ pub const ROWS: [Row; 28] = [
         questions: "param 'a, 'b;
             &'a u8 <: &'b u8; &'a u8 :> &'b u8; &'a u8 == &'b u8;",
         stored: "ok; regions=['a: 'b] | ok; regions=['b: 'a] | ok; regions=['a == 'b]",
+    },
+    Row {
+        name: "r24",
+        questions: "struct P<*T>; P<?0> <: P<u8>; P<?0> == P<u8>;",
+        stored: "ok; goals=[WellFormed(P<?0>), WellFormed(P<u8>)] | ok; bound=[?0=u8]",
     },
     Row {
         name: "r26",
@@ -288,6 +298,7 @@ fn is_low_row(name: &str) -> bool
         || name == "r07"
         || name == "r08"
         || name == "r09"
+        || name == "r12"
         || name == "r17"
         || name == "r18"
         || name == "r19"
@@ -300,6 +311,7 @@ fn is_high_row(name: &str) -> bool
     name == "r20"
         || name == "r22"
         || name == "r23"
+        || name == "r24"
         || name == "r26"
         || name == "r28"
         || name == "r30"

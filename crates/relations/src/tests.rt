@@ -15,12 +15,14 @@ r05: Foo<Bar<i32>, Bar<i32>, i32> | Bar<i32> | i32 | end
 r07: err TupleSize(2, 3) | err Sorts((), (u8,))
 r08: err CyclicTy([?0])
 r09: err Sorts(u8, bool); bound=[?0=u8]
+r12: ok; goals=[Subtype(?0, ?2, true)]; bound=[?1=Vec<?2>]
 r17: budget; bound=[?0=u8]; left=0
 r18: 'a
 r19: false | ok
 r20: false | true | false
 r22: err ArraySize(2, 3)
 r23: ok; regions=['a: 'b] | ok; regions=['b: 'a] | ok; regions=['a == 'b]
+r24: ok; goals=[WellFormed(P<?0>), WellFormed(P<u8>)] | ok; bound=[?0=u8]
 r26: Placeholder | none | Closure(f) | Tuple(0) | Error
 r28: true
 r30: ok; bound=[?i0=u16] | err Sorts(?i0, bool)

@@ -1,4 +1,5 @@
 use Rattle.std.proofs.Common.{rules, sym, ◌∙◌, ap, subst, IsTrue}
+use Rattle.std.proofs.lemmas.List.Elements.{All-nil}
 use Rattle.relation_terms.specs.declared.terms.enums.Variance.TheVariants.{Invariant}
 use Rattle.relation_terms.specs.Heads.{arguments}
 use Rattle.relation_terms.specs.Trees.{node, count}
@@ -8,7 +9,7 @@ use Rattle.relation_reference.proofs.Grows.{lawful_grows}
 use Rattle.relation_asking.specs.Needs.{both_needs}
 use Rattle.relation_asking.specs.Asking.{IsReady, Has}
 use Rattle.relation_asking.proofs.AskingLemmas.{one_ready, as_arguments, has_left, has_right, ready_in}
-use Rattle.relation_asking.proofs.AskingLemmas.{left_taken, right_taken}
+use Rattle.type_relations.proofs.Solving.{all_taken}
 use Rattle.relation_asking.proofs.lists.relate_ready.Goals as goal
 
 pub relate_args-requires-clause-lawful : goal.relate_args-requires-clause-lawful
@@ -37,8 +38,8 @@ relate_args-requires-clause-asked g c =
       right_known = right.0;
       left_in = ready_in n x a (has_left x a b has) (node arguments (n.args s)) may.left_rules left;
       right_in = ready_in n x b (has_right x a b has) (node arguments (n.args t)) may.right_rules right;
-      left_taken = left_taken Invariant a b (node arguments (n.args s)) may.at may.left_rules left;
-      right_taken = right_taken Invariant a b (node arguments (n.args t)) may.at may.right_rules right;
+      left_taken = all_taken Invariant (node arguments (n.args s)) ((left.1).1 may.left_rules);
+      right_taken = all_taken Invariant (node arguments (n.args t)) ((right.1).1 may.right_rules);
     }
 
 -- Neither list changes while the interner grows.
@@ -54,13 +55,13 @@ relate_args-requires-clause-as_many g c =
 pub returns-in-Ok-relate_args-clause-lawful : goal.returns-in-Ok-relate_args-clause-lawful
 returns-in-Ok-relate_args-clause-lawful g c = (((c.relate_args.ensures).passes).lawful (
   lawful_grows c.empty_param_env.ensures.grown c.have_variables.new.ctx.inner c.have_variables.ensures.lawful,
-  c.in-Ok-empty_param_env.ensures.sure,
+  (c.in-Ok-empty_param_env.ensures.sure, All-nil),
 )).0
 
 pub returns-in-Err-clause-lawful : goal.returns-in-Err-clause-lawful
 returns-in-Err-clause-lawful g c = (((c.relate_args.ensures).passes).lawful (
   lawful_grows c.empty_param_env.ensures.grown c.have_variables.new.ctx.inner c.have_variables.ensures.lawful,
-  c.in-Ok-empty_param_env.ensures.sure,
+  (c.in-Ok-empty_param_env.ensures.sure, All-nil),
 )).0
 
 pub returns-in-Ok-relate_args-clause-grown : goal.returns-in-Ok-relate_args-clause-grown

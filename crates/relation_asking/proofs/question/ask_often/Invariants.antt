@@ -1,8 +1,7 @@
-use Rattle.std.proofs.Common.{IfOk, IfErr}
+use Rattle.std.proofs.Common.{IfOk}
 use Rattle.relation_terms.specs.Meaning.{Extends}
-use Rattle.relation_tools.specs.Faults.{KnowsFault}
 use Rattle.relation_reference.specs.Tables.{IsLawful}
-use Rattle.relation_asking.specs.Asking.{AreReady, KnowsAnswer}
+use Rattle.relation_asking.specs.Asking.{AreReady, KnowsAnswer, KnowsRelated}
 use Rattle.relation_asking.proofs.question.ask_often.Given as goal
 
 -- the terms stay ready, and what was answered last is known
@@ -13,5 +12,5 @@ invariant-loop g l =
       lawful : IsLawful m l.ctx.inner;
       grown : Extends (g.I.Interner.meaning l.fn.ctx.interner) m;
       ready : AreReady m l.terms.built.now l.terms.needs.now;
-      known : IfOk l.outcome (KnowsAnswer m (λ r. IfErr r (λ e. KnowsFault m e)));
+      known : IfOk l.outcome (KnowsAnswer m (KnowsRelated m));
     }

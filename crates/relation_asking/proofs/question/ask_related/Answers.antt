@@ -4,7 +4,7 @@ use Rattle.relation_terms.proofs.Stays.{extends_on}
 use Rattle.relation_reference.proofs.Grows.{lawful_grows}
 use Rattle.relation_asking.specs.Needs.{both_needs}
 use Rattle.relation_asking.specs.Asking.{IsReady, Has}
-use Rattle.relation_asking.proofs.AskingLemmas.{one_ready, has_left, has_right, ready_in, left_taken, right_taken}
+use Rattle.relation_asking.proofs.AskingLemmas.{one_ready, has_left, has_right, ready_in, related_known}
 use Rattle.relation_asking.proofs.question.ask_related.Goals as goal
 
 pub relate-requires-clause-lawful : goal.relate-requires-clause-lawful
@@ -21,7 +21,7 @@ relate-requires-clause-lhs_taken g c =
     let r : IsReady a (m.ty t) = c.in-Some.ensures m c.requires.ready in
     let ready = one_ready (m.ty t) (n.ty t) a (e.ty t r.0) r in
     let may = c.in_default-refusal.ensures in
-    left_taken c.args.variance a c.in-Some-type_of.rhs_needs (n.ty t) may.at may.left_rules ready
+    (ready.1).1 may.left_rules
 
 pub relate-requires-clause-rhs_taken : goal.relate-requires-clause-rhs_taken
 relate-requires-clause-rhs_taken g c =
@@ -33,7 +33,7 @@ relate-requires-clause-rhs_taken g c =
     let r : IsReady b (m.ty t) = c.in-Some-type_of.ensures m c.requires.ready in
     let ready = one_ready (m.ty t) (n.ty t) b (e.ty t r.0) r in
     let may = c.in_default-refusal.ensures in
-    right_taken c.args.variance c.in-Some.lhs_needs b (n.ty t) may.at may.right_rules ready
+    (ready.1).1 may.right_rules
 
 pub relate-requires-clause-lhs_in : goal.relate-requires-clause-lhs_in
 relate-requires-clause-lhs_in g c =
