@@ -7,3 +7,4 @@ pub mod Places
 pub mod Laws
 pub mod Adding
 pub mod Flags
+pub mod Hashing

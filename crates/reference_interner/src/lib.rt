@@ -8,11 +8,13 @@ ghost use Rattle.reference_interner.specs.Finding.{Finds};
 ghost use Rattle.reference_interner.specs.Flags.{AreFlags};
 
 mod flags;
+mod hashing;
 mod items;
 mod keys;
 mod node;
 mod table;
 
+use hashing::NodeHasher;
 pub use items::{DefKind, GenericParam, GenericParamKind, Item, ItemKind};
 pub use keys::{ItemId, NoSpan, NodeKey, SymbolId};
 pub use node::Node;
@@ -30,6 +32,7 @@ use relation_terms::terms::{
 };
 use std::alloc::Global;
 use std::collections::HashMap;
+use std::hash::BuildHasherDefault;
 
 /// An interner that keeps its nodes and its items in vectors. It finds a node by a hashed table, so that making takes
 /// the time of one look-up, however many nodes there are.
@@ -39,7 +42,7 @@ pub struct RefInterner {
     // What the keys stand for, by their numbers.
     nodes: Vec<Node>,
     // Where the nodes stand.
-    places: HashMap<Node, usize>,
+    places: HashMap<Node, usize, BuildHasherDefault<NodeHasher>>,
     // What the ids stand for, by their numbers.
     items: Vec<Item>,
     // What is asked of the nodes' terms as a whole, by the nodes' numbers.

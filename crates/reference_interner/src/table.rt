@@ -13,6 +13,7 @@ use crate::{Node, NodeKey, RefInterner};
 use relation_terms::terms::{Interner, OutOfMemory};
 use std::alloc::Global;
 use std::collections::HashMap;
+use std::hash::BuildHasherDefault;
 
 impl RefInterner {
     /// An interner that knows no key and has no item. This takes no memory.
@@ -24,7 +25,7 @@ impl RefInterner {
         RefInterner {
             alloc,
             nodes: Vec::new(alloc),
-            places: HashMap::new(alloc),
+            places: HashMap::with_hasher(alloc, BuildHasherDefault::new()),
             items: Vec::new(alloc),
             flags: Vec::new(alloc),
             next_solver: false,

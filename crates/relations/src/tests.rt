@@ -178,7 +178,7 @@ const ASKED: [(&str, &str); 11] = [
     ("budget 1; ?0 == u8;", "ok; bound=[?0=u8]; left=0"),
     (
         "u8 <: u8; u8 :> ?0;",
-        "ok | not asked: types with variables of types or constants are related by `==` alone",
+        "ok | ok; bound=[?0=u8]",
     ),
     (
         "param 'a; [?0; 4] == [&'a mut [u8]; 4]; then *mut u8 == *mut char;",

@@ -57,7 +57,7 @@ fn questions_follow_one_another(rt: HostRuntime) -> Result<(), Fail> {
     let all = answers(rt.alloc(), text)?;
     assert_eq!(rt;
         all.as_str(),
-        "not asked: types with variables of types or constants are related by `==` alone\n\
+        "ok; regions=['?0: 'a]; bound=[?0=&'?0 u8]\n\
          ok; bound=[?0=((u8, T), (u8, T))]\nok; bound=[?0=((u8, T), (u8, T))]\n\
          err Sorts(((u8, T), (u8, T)), T); bound=[?0=((u8, T), (u8, T))]\nok; bound=[?0=T]\n\
          ok\nok; bound=[?0=u8]\n\
