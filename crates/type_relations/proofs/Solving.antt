@@ -407,7 +407,7 @@ module _ {Key Id Name : Type 0} (j : ℕ) (gs : List (KeyedGoal Key (PredicateKe
             ),
           );
         };
-        errors = λ n c st f l o. of_entries (read_later was st l a (tree t) p)
+        errors = λ n c st f l g o. of_entries (read_later was st l a (tree t) p)
             (read_later was st l b (tree u) q) o;
       };
       asked = k;

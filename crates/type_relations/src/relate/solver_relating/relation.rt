@@ -337,7 +337,7 @@ impl<'a, Infcx: InferCtxtLike> SolverRelating<'a, Infcx> {
                         b: *b,
                         x: value,
                         y: *b,
-                        variance: Variance::Covariant,
+                        variance: Variance::Invariant,
                         answer: *b,
                     })
                 }
@@ -352,7 +352,7 @@ impl<'a, Infcx: InferCtxtLike> SolverRelating<'a, Infcx> {
                         b: *b,
                         x: *a,
                         y: value,
-                        variance: Variance::Covariant,
+                        variance: Variance::Invariant,
                         answer: *a,
                     })
                 }
