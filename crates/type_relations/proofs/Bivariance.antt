@@ -59,8 +59,8 @@ pub bivariant_parts : (c : Items) (st : Store) (d : ℕ) (a b ts us : Tree) → 
 bivariant_parts c st d a b ts us over h = go over
   where
     place : HasOpenArgument c st d ts ⊎ HasOpenArgument c st d us → (i : ℕ) × (c.declared d i ≡ Bivariant)
-    place (inl o) = (o.0, o.1.1.0)
-    place (inr o) = (o.0, o.1.1.0)
+    place (inl o) = (o.0, o.1.1)
+    place (inr o) = (o.0, o.1.1)
 
     go : AreOverItem d a b ts us → HasBivariantPart c a × HasBivariantPart c b
     go (adts p q) = (subst (HasBivariantPart c) (sym p) (place h), subst (HasBivariantPart c) (sym q) (place h))
@@ -87,10 +87,10 @@ module _ (c : Items) (st : Store) (e : Tree) (d : ℕ) (a b ts us : Tree) (befor
   registers_both middle h x y = record {
     both = λ o. y ∙ ap (λ gs. gs ++ goal_of e (well_formed_predicate b) ∷ []) x
         ∙ append_assoc before (goal_of e (well_formed_predicate a) ∷ []) (goal_of e (well_formed_predicate b) ∷ []);
-    none = λ no. absurd (no h);
+    none = λ closed. absurd (closed h);
   }
 
   -- Nothing was registered.
   pub registers_none : (HasOpenArgument c st d ts ⊎ HasOpenArgument c st d us → ⊥) → after ≡ before →
       RegistersWellFormed c st e d a b ts us before after
-  registers_none no same = record { both = λ o. absurd (no o); none = λ h. same }
+  registers_none closed same = record { both = λ o. absurd (closed o); none = λ h. same }
