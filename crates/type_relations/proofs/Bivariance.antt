@@ -1,13 +1,17 @@
 -- Bivariant arguments that are left open.
-use Rattle.std.proofs.Common.{◌≡◌, ◌⊎◌, ℕ, suc, ◌<◌, refl, sym, ap, ◌∙◌, arith, inl, inr, subst, Bool, true, false, List, [], ◌∷◌, ◌++◌, IsTrue}
+use Rattle.std.proofs.Common.{◌≡◌, ◌⊎◌, ◌↔◌, ℕ, suc, ◌<◌, refl, sym, ap, ap₂, ◌∙◌, arith, inl, inr, subst, subst₂, Bool, true, false, List, [], ◌∷◌, ◌++◌, IsTrue, Result, Ok, Err}
 use Rattle.std.proofs.Common.{append_assoc}
+use Rattle.std.proofs.lemmas.Bool.{false≢true}
+use Rattle.relation_terms.specs.declared.terms.keys.ArgsKey.{ArgsKey}
+use Rattle.relation_terms.specs.Meaning.{Meaning, Extends}
 use Rattle.relation_terms.specs.declared.terms.enums.Variance.TheVariants.{Bivariant}
 use Rattle.relation_terms.specs.Flags.{has_non_region_infer}
 use Rattle.relation_terms.specs.Heads.{region_sort, VarKind, type_var, int_var, float_var, const_var, region_var, Leaf, variable, bound, placeholder, atom, unknown, adt, fn_def}
-use Rattle.relation_terms.specs.Trees.{Tree, leaf, node, bind, nil, cons, IsTerm, count, nth}
+use Rattle.relation_terms.specs.Trees.{Tree, leaf, node, bind, nil, cons, known, IsTerm, count}
 use Rattle.type_relations.specs.Relation.{Items}
 use Rattle.type_relations.specs.Arguments.{AreOverItem, adts, functions}
-use Rattle.type_relations.specs.Bivariance.{is_left_open, IsOpenAt, HasOpenArgument, RegistersWellFormed}
+use Rattle.type_relations.specs.Bivariance.{is_left_open, IsOpenAt, HasOpenArgument, TellsOpen, TellsEitherOpen, RegistersWellFormed}
+use Rattle.type_relations.specs.Lawful.{declared_by, items_of}
 use Rattle.type_relations.specs.Goals.{Goal, goal_of, well_formed_predicate, HasBivariantPart}
 use Rattle.type_relations.specs.Stores.{Store, entry_term, IsSound, IsTermIn}
 use Rattle.type_relations.proofs.Composing.{below_or}
@@ -94,3 +98,26 @@ module _ (c : Items) (st : Store) (e : Tree) (d : ℕ) (a b ts us : Tree) (befor
   pub registers_none : (HasOpenArgument c st d ts ⊎ HasOpenArgument c st d us → ⊥) → after ≡ before →
       RegistersWellFormed c st e d a b ts us before after
   registers_none closed same = record { both = λ o. absurd (closed o); none = λ h. same }
+
+-- What one list and then the other were found to be.
+pub tells_either : {F : Type 0} (c : Items) (st : Store) (d : ℕ) (ts us : Tree) (b : Bool) → b ≡ false →
+    (IsTrue b ↔ HasOpenArgument c st d ts) → (result : Result Bool F) → TellsOpen c st d us result →
+    TellsEitherOpen c st d ts us result
+tells_either c st d ts us b e h (Ok x) f = ((λ y. inr (f.0 y)), go)
+  where
+    go : HasOpenArgument c st d ts ⊎ HasOpenArgument c st d us → IsTrue x
+    go (inl o) = absurd (false≢true (sym e ∙ h.1 o))
+    go (inr o) = f.1 o
+tells_either c st d ts us b e h (Err x) f = tt
+
+-- The same while keys are added to.
+pub items_stay : {Key Id Name : Type 0} {m n : Meaning Key Id Name} → Extends m n → items_of n ≡ items_of m
+items_stay e = ap₂ declared_by e.variances e.alias_variances
+
+pub tells_still : {Key Id Name F : Type 0} {m n : Meaning Key Id Name} (e : Extends m n) (d : Id) (xs : ArgsKey Key) →
+    IsTrue (known (m.args xs)) → (was now : Store) → now ≡ was → (result : Result Bool F) →
+    TellsOpen (items_of n) now (n.id d) (n.args xs) result → TellsOpen (items_of m) was (m.id d) (m.args xs) result
+tells_still {m = m} {n = n} e d xs k was now same result h =
+    subst (λ st. TellsOpen (items_of m) st (m.id d) (m.args xs) result) same
+    (subst₂ (λ i ts. TellsOpen (items_of m) now i ts result) (e.id d) (e.args xs k)
+    (subst (λ c. TellsOpen c now (n.id d) (n.args xs) result) (items_stay e) h))

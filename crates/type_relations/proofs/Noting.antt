@@ -9,14 +9,14 @@ use Rattle.relation_terms.specs.declared.terms.keys.PredicateKey.{PredicateKey}
 use Rattle.relation_terms.specs.Trees.{Tree, known}
 use Rattle.relation_terms.specs.Meaning.{Meaning, Extends}
 use Rattle.relation_tools.specs.declared.error.RelateFault.{RelateFault}
-use Rattle.type_relations.specs.Goals.{IsQuiet, well_formed_predicate, HasBivariantPart, of_type}
+use Rattle.type_relations.specs.Goals.{IsQuiet, goal_of, goals_of, well_formed_predicate, HasBivariantPart, of_type}
 use Rattle.type_relations.specs.Lawful.{State, Noted, OnlyMemory, items_of}
 use Rattle.type_relations.specs.Solving.{KnowsGoals, solving}
 use Rattle.type_relations.specs.Stores.{Store, IsTermIn}
 use Rattle.type_relations.proofs.Going.{goes_nowhere}
 use Rattle.type_relations.proofs.Passing.{passes_then}
 use Rattle.type_relations.proofs.Solving.{solver_passes}
-use Rattle.type_relations.proofs.SolvingGoals.{noted_goal}
+use Rattle.type_relations.proofs.SolvingGoals.{lengthens, noted_goal}
 use Rattle.type_relations.proofs.Standing.{term_context}
 
 module _ {Key Id Name : Type 0} where
@@ -75,3 +75,11 @@ module _ {Key Id Name : Type 0} (j : ℕ) (gs : List (KeyedGoal Key (PredicateKe
       subst (λ z. Noted (solving j gs m st L v e) (solving j hs n z K v e) result) (sym stays)
       (noted_goal j gs hs m n st L K v e grown env l p (well_formed_predicate t) pushed means
       (and_from (known t) true sure refl) (of_type t refl (term_context st t is_in) bivariant) result fault tt)
+
+  pub registered_well_formed : (hs : List (KeyedGoal Key (PredicateKey Key))) (p : PredicateKey Key) (t : Tree) →
+      hs ≡ gs ++ record { param_env = e; predicate = p } ∷ [] → n.predicate p ≡ well_formed_predicate t →
+      IsTrue (known t) → IsTermIn st t → HasBivariantPart (items_of m) t →
+      goals_of n hs ≡ goals_of m gs ++ goal_of (m.param_env e) (well_formed_predicate t) ∷ []
+  registered_well_formed hs p t pushed means sure is_in bivariant =
+      lengthens j gs hs m n st L K v e grown env l p (well_formed_predicate t) pushed means
+      (and_from (known t) true sure refl) (of_type t refl (term_context st t is_in) bivariant)
