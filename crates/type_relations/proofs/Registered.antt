@@ -1,5 +1,5 @@
 -- Goals that were registered.
-use Rattle.std.proofs.Common.{◌≡◌, ℕ, refl, sym, ap, ap₂, ◌∙◌, subst, subst₂, List, [], ◌∷◌, ◌++◌, All, IsTrue, Bool, true, Some, map}
+use Rattle.std.proofs.Common.{◌≡◌, ℕ, refl, sym, ap, ap₂, ◌∙◌, subst, subst₂, List, [], ◌∷◌, ◌++◌, All, IsTrue, Bool, true, Some}
 use Rattle.std.proofs.lemmas.Bool.{and_from}
 use Rattle.std.proofs.lemmas.List.Elements.{All-append, All-head, All-tail, All-weaker}
 use Rattle.relation_terms.specs.declared.terms.goal.Goal.{Goal as KeyedGoal}
@@ -17,7 +17,7 @@ use Rattle.relation_terms.specs.Meaning.{Meaning, Extends, under}
 use Rattle.relation_terms.specs.Predicates.{predicate_tree}
 use Rattle.type_relations.specs.Stores.{Store, Entry, unbound, same_as, bound_to, entry_of, InContext}
 use Rattle.type_relations.specs.Relation.{Items}
-use Rattle.type_relations.specs.Goals.{Goal, goal_of, goals_of, KnowsGoal, subtype_predicate, well_formed_predicate, IsOpen, IsRegistered, of_variables, of_type, Registered, GoalInContext}
+use Rattle.type_relations.specs.Goals.{Goal, goal_of, goals_of, KnowsGoal, subtype_predicate, well_formed_predicate, IsRegistered, of_variables, of_type, Registered, GoalInContext}
 use Rattle.type_relations.specs.Steps.{IsLater}
 use Rattle.type_relations.proofs.Classes.{stands_from}
 use Rattle.type_relations.proofs.Standing.{later_context}

@@ -1,6 +1,6 @@
 -- Registering goals: that of two type variables the one is a subtype of the other, as a step; what asks nothing of two
 -- terms, as a note.
-use Rattle.std.proofs.Common.{◌≡◌, ◌≢◌, ℕ, refl, sym, ap, ap₂, ◌∙◌, arith, subst, subst₂, Bool, List, [], ◌∷◌, ◌++◌, All, IsTrue, map, Result, Ok}
+use Rattle.std.proofs.Common.{◌≡◌, ◌≢◌, ℕ, refl, sym, ap, ap₂, ◌∙◌, subst, subst₂, Bool, List, [], ◌∷◌, ◌++◌, All, IsTrue, Result, Ok}
 use Rattle.std.proofs.lemmas.List.Elements.{All-nil, All-cons, All-head, All-append}
 use Rattle.std.proofs.lemmas.List.{map-append}
 use Rattle.relation_terms.specs.declared.terms.enums.Variance.{Variance}
@@ -13,7 +13,7 @@ use Rattle.relation_terms.specs.Trees.{Tree, leaf, Assign, apply, known}
 use Rattle.relation_terms.specs.Meaning.{Meaning, Extends}
 use Rattle.type_relations.specs.declared.relate.Step.TheVariants.{Done}
 use Rattle.type_relations.specs.Relation.{Items, Interpretation, Rel, at}
-use Rattle.type_relations.specs.Stores.{Store, Satisfies}
+use Rattle.type_relations.specs.Stores.{Store}
 use Rattle.relation_tools.specs.declared.error.RelateFault.{RelateFault}
 use Rattle.type_relations.specs.Goals.{Goal, goal_of, goals_of, KnowsGoal, subtype_predicate, IsOpen, IsRegistered, of_variables, Registered, Holds, IsQuiet, MakesOneTree}
 use Rattle.type_relations.specs.Lawful.{Stepped, Passes, MayAnswer, Noted, OnlyMemory, items_of}
