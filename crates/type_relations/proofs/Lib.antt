@@ -66,3 +66,5 @@ pub mod Turning
 pub mod Solving
 pub mod SolvingVariables
 pub mod SolvingGoals
+pub mod Bivariance
+pub mod Noting

@@ -17,7 +17,7 @@ use Rattle.type_relations.specs.Relation.{Items, Way, at, anything, Rel}
 use Rattle.type_relations.specs.declared.relate.Step.TheVariants.{Done, Parts}
 use Rattle.relation_tools.specs.Faults.{KnowsError}
 use Rattle.type_relations.specs.Errors.{ErrorOf}
-use Rattle.type_relations.specs.Stores.{Store, Satisfies, weight}
+use Rattle.type_relations.specs.Stores.{Store, IsSound, Satisfies, weight}
 use Rattle.type_relations.specs.Goals.{Goal, GoalInContext, Registered, Holds, Relates, Asked as Asks, asked, asks_too_much, asks_nothing, IsQuiet, AsksNoPair, HasOneTree, MakesOneTree}
 use Rattle.type_relations.specs.Outcomes.{Outcome, CarriesOver, NeverOne, Exact, ExactStep}
 use Rattle.type_relations.specs.Headline.{IsFirstOrderPair}
@@ -71,7 +71,7 @@ module _ {Key Id Name : Type 0} where
     goes = goes_nowhere n r.store;
     added = [];
     lengthens = sym (append-nil r.goals);
-    goals_in = All-nil (Registered r.environment r.store r.store);
+    goals_in = All-nil (Registered (items_in r) r.environment r.store r.store);
     environment = refl;
     ambient = refl;
     settings = refl;
@@ -100,7 +100,8 @@ module _ {Key Id Name : Type 0} where
     goes = goes_then g.goes f.goes h;
     added = g.added ++ f.added;
     lengthens = f.lengthens ∙ ap (λ gs. gs ++ f.added) g.lengthens ∙ append_assoc r.goals g.added f.added;
-    goals_in = registered_both g.added f.added g.environment (g.goes).later (f.goes).later g.goals_in f.goals_in;
+    goals_in = registered_both g.added f.added (same_items g) g.environment (g.goes).later (f.goes).later g.goals_in
+        f.goals_in;
     environment = f.environment ∙ g.environment;
     ambient = f.ambient ∙ g.ambient;
     settings = f.settings ∙ g.settings;
@@ -145,17 +146,17 @@ module _ {Key Id Name : Type 0} where
       (steps_compose (items_in r) r.environment (at r.ambient) (at v) r.store q.store p.store r.goals g.added f.added
       a b x y l.steps).0 (outcome_seen g (at v) p.store f.added x y o)
 
-  pub led_refuses : {n m : ℕ} {r q p : State Key Id Name} (g : Passes n r q) (f : Passes m q p) (a b x y : Tree)
-      (v : Variance) → Leads r q g.added a b v x y → (e : RelateFault Key Id Name) → Refuses q p v x y e →
-      Refuses r p r.ambient a b e
-  led_refuses {r = r} {q = q} {p = p} g f a b x y v l (Unrelated e) h = (
+  pub led_refuses : {n m : ℕ} {r q p : State Key Id Name} (g : Passes n r q) (f : Passes m q p) → IsSound p.store →
+      (a b x y : Tree) (v : Variance) → Leads r q g.added a b v x y → (e : RelateFault Key Id Name) →
+      Refuses q p v x y e → Refuses r p r.ambient a b e
+  led_refuses {r = r} {q = q} {p = p} g f sound a b x y v l (Unrelated e) h = (
     (steps_compose (items_in r) r.environment (at r.ambient) (at v) r.store q.store p.store r.goals g.added f.added
         a b x y l.steps).1 h.0,
-    l.errors p.meaning (items_in p) p.store e (f.goes).later h.1,
+    l.errors p.meaning (items_in p) p.store e (f.goes).later sound h.1,
     h.2,
   )
-  led_refuses g f a b x y v l Budget h = h
-  led_refuses g f a b x y v l Memory h = tt
+  led_refuses g f sound a b x y v l Budget h = h
+  led_refuses g f sound a b x y v l Memory h = tt
 
   -- A step led exactly to another pair, and what comes of that.
   abbrev pub LeadsExactly : Manners → State Key Id Name → State Key Id Name → Tree → Tree → Tree → Tree → Type 0
@@ -209,12 +210,12 @@ module _ {Key Id Name : Type 0} where
       (subst (λ c. All (Holds c w s) p.goals) (same_items g) all))))
 
   -- The two forms to which a step led were related by their parts.
-  pub parts_related : {X : Type 0} {r q p : State Key Id Name} (M : Manners) (F : Tree → Type 0) (a b x y : Tree)
-      (tree : X → Tree) (result : Result X (RelateFault Key Id Name))
+  pub parts_related : {X : Type 0} {r q p : State Key Id Name} (M : Manners) (F : Tree → Type 0) → IsSound p.store →
+      (a b x y : Tree) (tree : X → Tree) (result : Result X (RelateFault Key Id Name))
       (g : Passes (weight r.store a + weight r.store b) r q) → LeadsToParts M F r q g.added a b x y →
       LeadsExactly M r q a b x y → Related M q p r.ambient x y tree result → Related M r p r.ambient a b tree result
   unfolding passes_then
-  parts_related {X} {r} {q} {p} M F a b x y tree result g l exactly f = record {
+  parts_related {X} {r} {q} {p} M F sound a b x y tree result g l exactly f = record {
     passes = passes_then g f.passes small;
     verdict = verdict result f.verdict;
     exact = exact_led (M r.settings) r.store q.store p.store a b x y r.ambient r.ambient (λ e. e) exactly result
@@ -238,7 +239,7 @@ module _ {Key Id Name : Type 0} where
         };
         known = v.known;
       }
-      verdict (Err e) v = led_refuses g f.passes a b x y r.ambient l.leads e v
+      verdict (Err e) v = led_refuses g f.passes sound a b x y r.ambient l.leads e v
 
   -- The pair to which a step led was related, and the answer is the one that the step named.
   module _ {r q : State Key Id Name} (M : Manners) (a b k l x y u : Tree) (v : Variance)
@@ -271,12 +272,12 @@ module _ {Key Id Name : Type 0} where
           (Ok t)) g f.exact);
     }
 
-    pub again_refused : {X Y : Type 0} {p : State Key Id Name} (tree : X → Tree) (answer : Y → Tree) (e : RelateFault Key Id Name) →
-        Related M q p (xform r.ambient v) x y tree (Err e) → Related M r p r.ambient a b answer (Err e)
+    pub again_refused : {X Y : Type 0} {p : State Key Id Name} → IsSound p.store → (tree : X → Tree) (answer : Y → Tree)
+        (e : RelateFault Key Id Name) → Related M q p (xform r.ambient v) x y tree (Err e) → Related M r p r.ambient a b answer (Err e)
     unfolding passes_then
-    again_refused {X = X} {Y = Y} {p = p} tree answer e f = record {
+    again_refused {X = X} {Y = Y} {p = p} sound tree answer e f = record {
       passes = passes_then g f.passes small;
-      verdict = led_refuses g f.passes a b x y (xform r.ambient v) led.leads e f.verdict;
+      verdict = led_refuses g f.passes sound a b x y (xform r.ambient v) led.leads e f.verdict;
       exact = exact_led {X = Y} (M r.settings) r.store q.store p.store a b x y r.ambient (xform r.ambient v)
           (invariantly v) exactly (Err e) (λ k is pair. exact_fault X Y q.store p.store x y e
           (f.exact (manner_then M (λ z. z.is_exact) g k) is pair));
@@ -301,7 +302,7 @@ module _ {Key Id Name : Type 0} where
     outcome = record {
       later = later_through ((f.passes).goes).later ((h.passes).goes).later;
       goals_in = registered_in ((f.passes).added ++ (h.passes).added) (registered_both (f.passes).added (h.passes).added
-          (f.passes).environment ((f.passes).goes).later ((h.passes).goes).later (f.passes).goals_in
+          (same_items f.passes) (f.passes).environment ((f.passes).goes).later ((h.passes).goes).later (f.passes).goals_in
           (h.passes).goals_in);
       relates = λ w s sat all. ((f.verdict).outcome).relates w s (((h.passes).goes).later.shrinks w s sat)
           (first_goals (Holds (items_in r) w s) r.goals (f.passes).added (h.passes).added all);
@@ -351,7 +352,8 @@ module _ {Key Id Name : Type 0} where
       goes = subst₂ (λ s z. Goes (weight s a + weight s b) s z) there.store (sym back.store) f.goes;
       added = f.added;
       lengthens = back.goals ∙ f.lengthens ∙ ap (λ gs. gs ++ f.added) there.goals;
-      goals_in = registered_as f.added there.environment there.store (sym back.store) f.goals_in;
+      goals_in = registered_as f.added (ap items_of there.meaning) there.environment there.store (sym back.store)
+          f.goals_in;
       environment = back.environment ∙ f.environment ∙ there.environment;
       ambient = back.ambient;
       settings = back.settings ∙ f.settings ∙ there.settings;
@@ -438,7 +440,7 @@ module _ {Key Id Name : Type 0} where
     goes = subst (Goes n r.store) (sym w.store) g.goes;
     added = g.added;
     lengthens = w.goals ∙ g.lengthens;
-    goals_in = registered_as g.added refl refl (sym w.store) g.goals_in;
+    goals_in = registered_as g.added refl refl refl (sym w.store) g.goals_in;
     environment = w.environment ∙ g.environment;
     ambient = w.ambient ∙ g.ambient;
     settings = w.settings ∙ g.settings;
@@ -555,7 +557,7 @@ module _ {Key Id Name K : Type 0} (M : Manners) (F : Tree → Type 0) (r : State
           relates = λ w s sat all h. h;
           keeps = λ w s sat one. (s, (λ j i h. refl), (sat, All-nil (MakesOneTree s), one));
         };
-        errors = λ m c st e l h. h;
+        errors = λ m c st e l g h. h;
       };
       asked = k;
       left_form = f;

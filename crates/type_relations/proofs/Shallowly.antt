@@ -96,8 +96,8 @@ module _ {Key Id Name : Type 0} (r q : State Key Id Name) (g : IsSound r.store) 
           ((h.steps).relates i s sat all f);
       keeps = λ i s sat one. (h.steps).keeps i s sat (sym (value_a i s sat) ∙ one ∙ value_b i s sat);
     };
-    errors = λ m c st e l z. of_entries (read_later r.store st (later_through (h.steps).later l) a u p)
-        (read_later r.store st (later_through (h.steps).later l) b w o) (h.errors m c st e l z);
+    errors = λ m c st e l g z. of_entries (read_later r.store st (later_through (h.steps).later l) a u p)
+        (read_later r.store st (later_through (h.steps).later l) b w o) (h.errors m c st e l g z);
   }
 
   module _ {K : Type 0} (F : Tree → Type 0) (tree : K → Tree) (passes : Passes (weight r.store u + weight r.store w) r q)

@@ -1,28 +1,27 @@
 -- Binding a variable in a context, as a step, and being refused.
-use Rattle.std.proofs.Common.{◌≡◌, ◌≢◌, ◌⊎◌, ℕ, ◌+◌, ◌*◌, ◌≤◌, ◌<◌, refl, sym, ap, ap₂, ◌∙◌, arith, inl, inr, subst, subst₂, List, [], IsTrue}
-use Rattle.std.proofs.Common.{Result, Ok, Err}
+use Rattle.std.proofs.Common.{◌≡◌, ◌≢◌, ◌⊎◌, ℕ, ◌+◌, ◌*◌, ◌≤◌, refl, sym, ap, ap₂, ◌∙◌, arith, inl, inr, subst, subst₂, List, [], IsTrue}
+use Rattle.std.proofs.Common.{Ok, Err}
 use Rattle.relation_terms.specs.declared.terms.enums.Variance.{Variance}
-use Rattle.relation_terms.specs.declared.terms.enums.Variance.TheVariants.{Invariant}
-use Rattle.relation_terms.specs.declared.terms.enums.Variance.TheVariants.{Bivariant}
+use Rattle.relation_terms.specs.declared.terms.enums.Variance.TheVariants.{Covariant, Contravariant, Invariant, Bivariant}
 use Rattle.relation_terms.specs.declared.terms.goal.Goal.{Goal}
 use Rattle.relation_terms.specs.declared.terms.keys.ParamEnvKey.{ParamEnvKey}
 use Rattle.relation_terms.specs.declared.terms.keys.PredicateKey.{PredicateKey}
 use Rattle.relation_terms.specs.Variances.{xform}
-use Rattle.relation_terms.specs.Heads.{VarKind, type_var, const_var, atom, variable, bound, placeholder, unknown}
-use Rattle.relation_terms.specs.Trees.{Tree, leaf, node, bind, nil, cons, Assign, apply, known}
+use Rattle.relation_terms.specs.Heads.{const_sort, VarKind, type_var, const_var, atom, variable, bound, placeholder, unknown}
+use Rattle.relation_terms.specs.Trees.{Tree, leaf, node, bind, nil, cons, Assign, apply, known, IsTerm}
 use Rattle.relation_terms.specs.Meaning.{Meaning, Extends}
 use Rattle.relation_tools.specs.declared.error.TypeError.{TypeError}
 use Rattle.relation_tools.specs.declared.error.RelateFault.{RelateFault}
 use Rattle.relation_tools.specs.declared.error.RelateFault.TheVariants.{Memory, Budget, Unrelated}
 use Rattle.type_relations.specs.declared.relate.Step.TheVariants.{Again}
-use Rattle.type_relations.specs.Relation.{Interpretation, Rel, at, same as same_rel}
-use Rattle.type_relations.specs.Stores.{Store, unbound, entry_of, entry_term, bound_term, IsMade, IsTermIn, IsSound, Satisfies}
+use Rattle.type_relations.specs.Relation.{Items, Interpretation, Rel, at, same as same_rel}
+use Rattle.type_relations.specs.Stores.{Store, unbound, entry_of, entry_term, IsMade, IsTermIn, IsSound, Satisfies}
 use Rattle.type_relations.specs.Stores.{MayStandFor, resolved, weight}
 use Rattle.type_relations.specs.Headline.{IsFirstOrderPair}
 use Rattle.type_relations.specs.Steps.{Instantiates, RefusesToInstantiate}
 use Rattle.type_relations.specs.Outcomes.{StepsTo, CarriesOver, ExactStep}
 use Rattle.type_relations.specs.Measures.{Goes}
-use Rattle.type_relations.specs.Errors.{BindingError, of_binding, of_binding_back, of_entries, IsReadAs, itself, by_binding}
+use Rattle.type_relations.specs.Errors.{ErrorOf, BindingError, of_binding, of_binding_back, of_entries, IsReadAs, itself, by_binding}
 use Rattle.type_relations.specs.ErasureLaws.{IsTypeOrConst}
 use Rattle.type_relations.specs.Parts.{IsFormed}
 use Rattle.type_relations.specs.FirstOrder.{IsFirstOrder, IsFirstOrderStore}
@@ -34,6 +33,10 @@ use Rattle.type_relations.specs.Contexts.{Context}
 use Rattle.type_relations.specs.ContextCalls.{Instantiated, ObstacleError, HasCoveredBindings}
 use Rattle.type_relations.specs.Goals.{goals_of}
 use Rattle.type_relations.specs.Solving.{KnowsGoals, solving, solver_manner}
+use Rattle.type_relations.proofs.Answering.{covariantly}
+use Rattle.type_relations.proofs.Constants.{fixed, constants_at_each_variance}
+use Rattle.type_relations.proofs.ConstErrors.{const_error_alike}
+use Rattle.type_relations.proofs.Turning.{turned}
 use Rattle.type_relations.proofs.Going.{goes_nowhere, goes_within}
 use Rattle.type_relations.proofs.ReadAs.{read_later}
 use Rattle.type_relations.proofs.Resolved.{resolved_free, resolved_weight}
@@ -75,6 +78,46 @@ pub const_comes_to_none : (st : Store) (t : Tree) (n : ℕ) → IsShallowConst s
     ((m : ℕ) → t ≢ leaf (variable const_var m)) → apply (resolved st) t ≢ leaf (variable const_var n)
 const_comes_to_none st t n (const_root m e f) o h = o m e
 const_comes_to_none st t n (no_variable f) o h = variable_alone (resolved st) t const_var n f h
+
+-- Two terms that are related at one variance are related at another, and so are their errors.
+record Lifts (Key Id Name : Type 0) (st : Store) (w v : Variance) (x y : Tree) : Type 0 where
+  relates : (c : Items) (i : Interpretation) (e : Tree) (s : Assign) → Satisfies i st s →
+      Rel c i e (at w) (apply s x) (apply s y) → Rel c i e (at v) (apply s x) (apply s y)
+  errors : (m : Meaning Key Id Name) (c : Items) (now : Store) (f : TypeError Key Id Name) → IsSound now →
+      ErrorOf m c now w f x y → ErrorOf m c now v f x y
+
+lifts_itself : {Key Id Name : Type 0} (st : Store) (v : Variance) (x y : Tree) → Lifts Key Id Name st v v x y
+lifts_itself st v x y = record { relates = λ c i e s sat r. r; errors = λ m c now f g o. o }
+
+-- Constants from invariance to each variance.
+invariant_decides : Invariant ≢ Bivariant
+invariant_decides e = cc
+
+twice_back : (v : Variance) → v ≢ Bivariant →
+    (xform v Contravariant ≢ Bivariant) × (xform (xform v Contravariant) Contravariant ≡ v)
+twice_back Covariant d = ((λ e. cc), refl)
+twice_back Contravariant d = ((λ e. cc), refl)
+twice_back Invariant d = ((λ e. cc), refl)
+twice_back Bivariant d = absurd (d refl)
+
+const_lifts : {Key Id Name : Type 0} (st : Store) (v : Variance) → v ≢ Bivariant → (x y : Tree) → IsTerm const_sort x →
+    ((i : Interpretation) (s : Assign) → Satisfies i st s → IsTerm const_sort (apply s x)) →
+    Lifts Key Id Name st Invariant v x y
+const_lifts st v d x y k f = record {
+  relates = λ c i e s sat r. constants_at_each_variance c i e Invariant v const_sort (apply s x) (apply s y) tt (f i s sat)
+      invariant_decides d r;
+  errors = λ m c now f g o. const_error_alike m c now g invariant_decides d k o;
+}
+
+const_lifts_back : {Key Id Name : Type 0} (st : Store) (v : Variance) → v ≢ Bivariant → (x y : Tree) →
+    IsTerm const_sort x → ((i : Interpretation) (s : Assign) → Satisfies i st s → IsTerm const_sort (apply s y)) →
+    Lifts Key Id Name st Invariant v x y
+const_lifts_back st v d x y k f = record {
+  relates = λ c i e s sat r. let b = twice_back v d in
+      subst (λ z. Rel c i e (at z) (apply s x) (apply s y)) b.1 (turned (constants_at_each_variance c i e Invariant
+      (xform v Contravariant) const_sort (apply s y) (apply s x) tt (f i s sat) invariant_decides b.0 (turned r)));
+  errors = λ m c now f g o. const_error_alike m c now g invariant_decides d k o;
+}
 
 module _ {Key Id Name : Type 0} (j : ℕ) (gs : List (Goal Key (PredicateKey Key))) where
   -- A variable was bound to what a term comes to.
@@ -136,15 +179,15 @@ module _ {Key Id Name : Type 0} (j : ℕ) (gs : List (Goal Key (PredicateKey Key
     abbrev q : State Key Id Name
     q = solving j gs d.meaning now d.lawful v e
 
-    asked_now : (a b : Tree) → IsTrue (known a) → IsTrue (known b) → IsTermIn now a → IsTermIn now b → IsCovered a →
-        IsCovered b → Asked solver_manner q v a b
-    asked_now a b k l h i c d = record {
+    asked_now : (w : Variance) (a b : Tree) → IsTrue (known a) → IsTrue (known b) → IsTermIn now a → IsTermIn now b →
+        IsCovered a → IsCovered b → Asked solver_manner q w a b
+    asked_now w a b k l h i c d = record {
       left_known = k;
       right_known = l;
       left_in = h;
       right_in = i;
-      left_taken = all_taken v a c;
-      right_taken = all_taken v b d;
+      left_taken = all_taken w a c;
+      right_taken = all_taken w b d;
     }
 
     left_above : weight was t + 1 ≤ weight was root + weight was t
@@ -158,16 +201,28 @@ module _ {Key Id Name : Type 0} (j : ℕ) (gs : List (Goal Key (PredicateKey Key
     both = instantiating_steps (items_of c.meaning) ((c.meaning).param_env e) v x was now (goals_of c.meaning gs) k target t u
         (term_context was t t_in) steps
 
-    left_leads : Leads r q [] root t v u t
-    left_leads = record {
-      steps = both.0;
-      errors = λ i c st f l o. of_entries (read_later now st l root u root_reads) (itself refl) o;
+    left_leads : (w : Variance) → Lifts Key Id Name now w v u t → Leads r q [] root t w u t
+    left_leads w l = record {
+      steps = record {
+        later = (both.0).later;
+        goals_in = (both.0).goals_in;
+        relates = λ i s sat all o. (both.0).relates i s sat all
+            (l.relates (items_of c.meaning) i ((c.meaning).param_env e) s sat o);
+        keeps = (both.0).keeps;
+      };
+      errors = λ i c st f h g o. of_entries (read_later now st h root u root_reads) (itself refl) (l.errors i c st f g o);
     }
 
-    right_leads : Leads r q [] t root v t u
-    right_leads = record {
-      steps = both.1;
-      errors = λ i c st f l o. of_entries (itself refl) (read_later now st l root u root_reads) o;
+    right_leads : (w : Variance) → Lifts Key Id Name now w v t u → Leads r q [] t root w t u
+    right_leads w l = record {
+      steps = record {
+        later = (both.1).later;
+        goals_in = (both.1).goals_in;
+        relates = λ i s sat all o. (both.1).relates i s sat all
+            (l.relates (items_of c.meaning) i ((c.meaning).param_env e) s sat o);
+        keeps = (both.1).keeps;
+      };
+      errors = λ i c st f h g o. of_entries (itself refl) (read_later now st h root u root_reads) (l.errors i c st f g o);
     }
 
     exactly : ExactStep was now root t u t × ExactStep was now t root t u
@@ -177,86 +232,119 @@ module _ {Key Id Name : Type 0} (j : ℕ) (gs : List (Goal Key (PredicateKey Key
     pair_left : IsFirstOrderStore was → IsFirstOrder t → IsFirstOrderPair now u t
     pair_left f h = let stays = first_order h f in record { left = stays.0; right = h; bindings = stays.1 }
 
-    abbrev Answers : Tree → Tree → Tree → Tree → Type 0
-    Answers x y a an = CarriesOver (items_of d.meaning) ((d.meaning).param_env e) now (goals_of d.meaning gs) (at v) x y (at v) a an
+    -- A pair of a variance that relates another.
+    abbrev Answers : Variance → Tree → Tree → Tree → Tree → Type 0
+    Answers w x y a an =
+        CarriesOver (items_of d.meaning) ((d.meaning).param_env e) now (goals_of d.meaning gs) (at w) x y (at v) a an
 
-    left_again : (b : Variance) (an : Tree) → xform v b ≡ v → IsTrue (known an) → Answers u t root an →
-        LeadsAgain solver_manner r q [] root t root t b u t an
-    left_again b an seen sure answers = record {
-      leads = subst (λ z. Leads r q [] root t z u t) (sym seen) left_leads;
-      read_leads = subst (λ z. Leads r q [] root t z u t) (sym seen) left_leads;
-      read_asked = asked_now root t refl t_known root_in (later t t_in) tt covered;
-      asked = subst (λ z. Asked solver_manner q z u t) (sym seen)
-          (asked_now u t u_known t_known u_in (later t t_in) u_covered covered);
-      answers = subst (λ z. CarriesOver (items_of d.meaning) ((d.meaning).param_env e) now (goals_of d.meaning gs) (at z) u t (at v) root an)
-          (sym seen) answers;
+    left_again : (b w : Variance) (an : Tree) → xform v b ≡ w → Lifts Key Id Name now w v u t → IsTrue (known an) →
+        Answers w u t root an → LeadsAgain solver_manner r q [] root t root t b u t an
+    left_again b w an seen l sure answers = record {
+      leads = subst (λ z. Leads r q [] root t z u t) (sym seen) (left_leads w l);
+      read_leads = subst (λ z. Leads r q [] root t z u t) (sym seen) (left_leads w l);
+      read_asked = asked_now v root t refl t_known root_in (later t t_in) tt covered;
+      asked = asked_now (xform v b) u t u_known t_known u_in (later t t_in) u_covered covered;
+      answers = subst (λ z. Answers z u t root an) (sym seen) answers;
       left = λ k. absurd k;
       answer_known = sure;
       falls = steps.one_spent;
       not_larger = squares (weight was root + weight was t) left_above;
     }
 
-    right_again : (b : Variance) (an : Tree) → xform v b ≡ v → IsTrue (known an) → Answers t u t an →
-        LeadsAgain solver_manner r q [] t root t root b t u an
-    right_again b an seen sure answers = record {
-      leads = subst (λ z. Leads r q [] t root z t u) (sym seen) right_leads;
-      read_leads = subst (λ z. Leads r q [] t root z t u) (sym seen) right_leads;
-      read_asked = asked_now t root t_known refl (later t t_in) root_in covered tt;
-      asked = subst (λ z. Asked solver_manner q z t u) (sym seen)
-          (asked_now t u t_known u_known (later t t_in) u_in covered u_covered);
-      answers = subst (λ z. CarriesOver (items_of d.meaning) ((d.meaning).param_env e) now (goals_of d.meaning gs) (at z) t u (at v) t an)
-          (sym seen) answers;
+    right_again : (b w : Variance) (an : Tree) → xform v b ≡ w → Lifts Key Id Name now w v t u → IsTrue (known an) →
+        Answers w t u t an → LeadsAgain solver_manner r q [] t root t root b t u an
+    right_again b w an seen l sure answers = record {
+      leads = subst (λ z. Leads r q [] t root z t u) (sym seen) (right_leads w l);
+      read_leads = subst (λ z. Leads r q [] t root z t u) (sym seen) (right_leads w l);
+      read_asked = asked_now v t root t_known refl (later t t_in) root_in covered tt;
+      asked = asked_now (xform v b) t u t_known u_known (later t t_in) u_in covered u_covered;
+      answers = subst (λ z. Answers z t u t an) (sym seen) answers;
       left = λ k. absurd k;
       answer_known = sure;
       falls = steps.one_spent;
       not_larger = let i = squares (weight was t + weight was root) right_above in omega (arith, i);
     }
 
-    module _ {X : Type 0} (F : Tree → Type 0) (y z i l a : X) (b : Variance) (seen : xform v b ≡ v) (tree : X → Tree) where
+    module _ {X : Type 0} (F : Tree → Type 0) (y z i l a : X) (tree : X → Tree) where
       sure : (tree a ≡ root) ⊎ (tree a ≡ t) → IsTrue (known (tree a))
       sure (inl h) = subst (λ x. IsTrue (known x)) (sym h) refl
       sure (inr h) = subst (λ x. IsTrue (known x)) (sym h) t_known
 
-      to_root : (tree a ≡ root) ⊎ (tree a ≡ t) → Answers u t root (tree a)
-      to_root (inl h) w s sat holds f = same_rel (ap (apply s) (sym h))
-      to_root (inr h) w s sat holds f = subst₂ (Rel (items_of d.meaning) w ((d.meaning).param_env e) (at v))
-          (sym (root_value w s sat)) (ap (apply s) (sym h)) f
+      to_root : (w : Variance) → Lifts Key Id Name now w v u t → (tree a ≡ root) ⊎ (tree a ≡ t) →
+          Answers w u t root (tree a)
+      to_root w o (inl h) i s sat holds f = same_rel (ap (apply s) (sym h))
+      to_root w o (inr h) i s sat holds f = subst₂ (Rel (items_of d.meaning) i ((d.meaning).param_env e) (at v))
+          (sym (root_value i s sat)) (ap (apply s) (sym h))
+          (o.relates (items_of d.meaning) i ((d.meaning).param_env e) s sat f)
 
-      to_term : (tree a ≡ root) ⊎ (tree a ≡ t) → Answers t u t (tree a)
-      to_term (inl h) w s sat holds f = subst (Rel (items_of d.meaning) w ((d.meaning).param_env e) (at v)
-          (apply s t)) (sym (root_value w s sat) ∙ ap (apply s) (sym h)) f
-      to_term (inr h) w s sat holds f = same_rel (ap (apply s) (sym h))
+      to_term : (w : Variance) → Lifts Key Id Name now w v t u → (tree a ≡ root) ⊎ (tree a ≡ t) →
+          Answers w t u t (tree a)
+      to_term w o (inl h) i s sat holds f = subst (Rel (items_of d.meaning) i ((d.meaning).param_env e) (at v)
+          (apply s t)) (sym (root_value i s sat) ∙ ap (apply s) (sym h))
+          (o.relates (items_of d.meaning) i ((d.meaning).param_env e) s sat f)
+      to_term w o (inr h) i s sat holds f = same_rel (ap (apply s) (sym h))
 
-      -- The variable stood on the left.
-      pub left_step : tree y ≡ root → tree z ≡ t → tree i ≡ u → tree l ≡ t → (tree a ≡ root) ⊎ (tree a ≡ t) →
+      left_by : (b w : Variance) → xform v b ≡ w → Lifts Key Id Name now w v u t → tree y ≡ root → tree z ≡ t →
+          tree i ≡ u → tree l ≡ t → (tree a ≡ root) ⊎ (tree a ≡ t) →
           Stepped solver_manner F r q root t tree (Ok (Again y z i l b a))
       unfolding solver_passes
-      left_step ey ez ei el ea = record {
-        passes = solver_passes j gs v e grown env (goes (weight was root + weight was t) (let h = left_above in omega (arith, h)))
-            after;
+      left_by b w seen o ey ez ei el ea = record {
+        passes = solver_passes j gs v e grown env
+            (goes (weight was root + weight was t) (let h = left_above in omega (arith, h))) after;
         verdict = subst₂ (λ f g. LeadsAgain solver_manner r q [] root t f g b (tree i) (tree l) (tree a)) (sym ey)
             (sym ez) (subst₂ (λ f g. LeadsAgain solver_manner r q [] root t root t b f g (tree a)) (sym ei) (sym el)
-            (left_again b (tree a) seen (sure ea) (to_root ea)));
+            (left_again b w (tree a) seen o (sure ea) (to_root w o ea)));
         exact = λ o same pair. subst₂ (λ f g. IsFirstOrderPair now f g × ExactStep was now root t f g) (sym ei)
             (sym el) (pair_left pair.bindings pair.right, exactly.0);
       }
 
-      -- It stood on the right.
-      pub right_step : tree y ≡ t → tree z ≡ root → tree i ≡ t → tree l ≡ u → (tree a ≡ root) ⊎ (tree a ≡ t) →
+      right_by : (b w : Variance) → xform v b ≡ w → Lifts Key Id Name now w v t u → tree y ≡ t → tree z ≡ root →
+          tree i ≡ t → tree l ≡ u → (tree a ≡ root) ⊎ (tree a ≡ t) →
           Stepped solver_manner F r q t root tree (Ok (Again y z i l b a))
       unfolding solver_passes
-      right_step ey ez ei el ea = record {
+      right_by b w seen o ey ez ei el ea = record {
         passes = solver_passes j gs v e grown env
             (goes (weight was t + weight was root) (let h = right_above in omega (arith, h))) after;
         verdict = subst₂ (λ f g. LeadsAgain solver_manner r q [] t root f g b (tree i) (tree l) (tree a)) (sym ey)
             (sym ez) (subst₂ (λ f g. LeadsAgain solver_manner r q [] t root t root b f g (tree a)) (sym ei) (sym el)
-            (right_again b (tree a) seen (sure ea) (to_term ea)));
+            (right_again b w (tree a) seen o (sure ea) (to_term w o ea)));
         exact = λ o same pair. subst₂ (λ f g. IsFirstOrderPair now f g × ExactStep was now t root f g) (sym ei)
-            (sym el) (turned (pair_left pair.bindings pair.left), exactly.1);
+            (sym el) (back (pair_left pair.bindings pair.left), exactly.1);
       }
         where
-          turned : IsFirstOrderPair now u t → IsFirstOrderPair now t u
-          turned f = record { left = f.right; right = f.left; bindings = f.bindings }
+          back : IsFirstOrderPair now u t → IsFirstOrderPair now t u
+          back f = record { left = f.right; right = f.left; bindings = f.bindings }
+
+      -- The variable stood on the left, or on the right, and the pair is related again as it was.
+      pub left_step : tree y ≡ root → tree z ≡ t → tree i ≡ u → tree l ≡ t → (tree a ≡ root) ⊎ (tree a ≡ t) →
+          Stepped solver_manner F r q root t tree (Ok (Again y z i l Covariant a))
+      left_step = left_by Covariant v (covariantly v) (lifts_itself now v u t)
+
+      pub right_step : tree y ≡ t → tree z ≡ root → tree i ≡ t → tree l ≡ u → (tree a ≡ root) ⊎ (tree a ≡ t) →
+          Stepped solver_manner F r q t root tree (Ok (Again y z i l Covariant a))
+      right_step = right_by Covariant v (covariantly v) (lifts_itself now v t u)
+
+      -- The same of a variable of constants, and at invariance.
+      module _ (is : k ≡ const_var) (decides : v ≢ Bivariant) where
+        u_value : (i : Interpretation) (s : Assign) → Satisfies i now s → IsTerm const_sort (apply s u)
+        u_value i s sat = subst (IsTerm const_sort) (root_value i s sat) (subst (λ o. MayStandFor o (s k target)) is
+            (sat.assigns k target ((steps.later).grows k target steps.made)).0)
+
+        u_sorted : IsTerm const_sort u
+        u_sorted = subst (λ o. MayStandFor o u) is
+            ((steps.stays_sound before).bindings k target u (ap (entry_term k) steps.now_bound)).stands
+
+        t_sorted : IsTerm const_sort t
+        t_sorted = subst (λ o. MayStandFor o t) is stands
+
+        pub const_left_step : tree y ≡ root → tree z ≡ t → tree i ≡ u → tree l ≡ t → (tree a ≡ root) ⊎ (tree a ≡ t) →
+            Stepped solver_manner F r q root t tree (Ok (Again y z i l Invariant a))
+        const_left_step = left_by Invariant Invariant (fixed v decides) (const_lifts now v decides u t u_sorted u_value)
+
+        pub const_right_step : tree y ≡ t → tree z ≡ root → tree i ≡ t → tree l ≡ u → (tree a ≡ root) ⊎ (tree a ≡ t) →
+            Stepped solver_manner F r q t root tree (Ok (Again y z i l Invariant a))
+        const_right_step =
+            right_by Invariant Invariant (fixed v decides) (const_lifts_back now v decides t u t_sorted u_value)
 
   -- Nothing was bound.
   module _ {X : Type 0} (F : Tree → Type 0) (c d : Context Key Id Name) (grown : Extends c.meaning d.meaning)

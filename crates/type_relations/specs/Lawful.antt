@@ -16,7 +16,7 @@ use Rattle.type_relations.specs.declared.relate.Step.{Step}
 use Rattle.type_relations.specs.declared.relate.Step.TheVariants.{Done, Parts, Again}
 use Rattle.type_relations.specs.Relation.{Items, Interpretation, part_at, Way, at, parts, second_opened}
 use Rattle.type_relations.specs.Relation.{first_opened}
-use Rattle.type_relations.specs.Stores.{Store, Satisfies, IsTermIn, weight}
+use Rattle.type_relations.specs.Stores.{Store, IsSound, Satisfies, IsTermIn, weight}
 use Rattle.type_relations.specs.Goals.{Goal, Registered, IsQuiet, Relates}
 use Rattle.type_relations.specs.Steps.{IsLater}
 use Rattle.type_relations.specs.Outcomes.{Outcome, StepsTo, CarriesOver, NeverOne, Exact, ExactStep, NoUnifier}
@@ -126,7 +126,7 @@ module _ {Key Id Name : Type 0} where
     pub goes : Goes n r.store q.store
     pub added : List Goal
     pub lengthens : q.goals ≡ r.goals ++ added
-    pub goals_in : All (Registered r.environment r.store q.store) added
+    pub goals_in : All (Registered (items_in r) r.environment r.store q.store) added
     pub environment : q.environment ≡ r.environment
     pub ambient : q.ambient ≡ r.ambient
     pub settings : q.settings ≡ r.settings
@@ -228,7 +228,7 @@ module _ {Key Id Name : Type 0} where
       (x y : Tree) : Type 0 where
     pub steps : StepsTo (items_in r) r.environment r.store q.store r.goals added way a b way' x y
     pub errors : (m : Meaning Key Id Name) (c : Items) (st : Store) (e : TypeError Key Id Name) → IsLater q.store st →
-        ErrorOf m c st (seen_at way') e x y → ErrorOf m c st (seen_at way) e a b
+        IsSound st → ErrorOf m c st (seen_at way') e x y → ErrorOf m c st (seen_at way) e a b
 
   -- The same of terms: of the first two at the ambient variance.
   abbrev pub Leads : State Key Id Name → State Key Id Name → List Goal → Tree → Tree → Variance → Tree → Tree → Type 0

@@ -108,7 +108,8 @@ consts-returns-in_err-relate_with_variance-in-Again g t c =
     c.from_residual-in_err-relate_with_variance-in-Again.ensures.0
     c.from_residual-in_err-relate_with_variance-in-Again.ensures.1 in
     subst (λ z. Related M r p r.ambient a b (p.meaning).const_ z) (sym failed)
-    (again_refused M a b k l x y o v step.passes step.verdict step.exact (arg_tree p.meaning) (p.meaning).const_ c.in_err-relate_with_variance-in-Again.field-0.0 inner)
+    (again_refused M a b k l x y o v step.passes step.verdict step.exact
+    (g.met.R.TypeRelation.sound c.relate_with_variance.new.r ((inner.passes).lawful ((step.passes).lawful c.requires.lawful))) (arg_tree p.meaning) (p.meaning).const_ c.in_err-relate_with_variance-in-Again.field-0.0 inner)
 
 pub consts-returns-in_ok-relate_with_variance-in-Again : goal.consts-returns-in_ok-relate_with_variance-in-Again
 consts-returns-in_ok-relate_with_variance-in-Again g t c =
@@ -147,7 +148,8 @@ consts-returns-in-Parts g t c =
     let p = g.R.TypeRelation.state c.structurally_relate_consts.new.r in
     let inner = subst (λ z. Related M q p z x y (p.meaning).const_ c.structurally_relate_consts.result) (step.passes).ambient
     c.structurally_relate_consts.ensures in
-    parts_related M IsFormedConst a b x y (p.meaning).const_ c.structurally_relate_consts.result step.passes step.verdict step.exact inner
+    parts_related M IsFormedConst (g.met.R.TypeRelation.sound c.structurally_relate_consts.new.r ((inner.passes).lawful ((step.passes).lawful c.requires.lawful)))
+    a b x y (p.meaning).const_ c.structurally_relate_consts.result step.passes step.verdict step.exact inner
 
 pub tys-returns-in-Done : goal.tys-returns-in-Done
 tys-returns-in-Done g t c =
@@ -220,7 +222,8 @@ tys-returns-in_err-relate_with_variance-in-Again g t c =
     c.from_residual-in_err-relate_with_variance-in-Again.ensures.0
     c.from_residual-in_err-relate_with_variance-in-Again.ensures.1 in
     subst (λ z. Related M r p r.ambient a b (p.meaning).ty z) (sym failed)
-    (again_refused M a b k l x y o v step.passes step.verdict step.exact (arg_tree p.meaning) (p.meaning).ty c.in_err-relate_with_variance-in-Again.field-0.0 inner)
+    (again_refused M a b k l x y o v step.passes step.verdict step.exact
+    (g.met.R.TypeRelation.sound c.relate_with_variance.new.r ((inner.passes).lawful ((step.passes).lawful c.requires.lawful))) (arg_tree p.meaning) (p.meaning).ty c.in_err-relate_with_variance-in-Again.field-0.0 inner)
 
 pub tys-returns-in_err-answer-in-Parts : goal.tys-returns-in_err-answer-in-Parts
 tys-returns-in_err-answer-in-Parts g t c =
@@ -238,7 +241,8 @@ tys-returns-in_err-answer-in-Parts g t c =
     let failed = as_err c.from_residual-in_err-answer-in-Parts.result e.field-0.0
     c.from_residual-in_err-answer-in-Parts.ensures.0 c.from_residual-in_err-answer-in-Parts.ensures.1 in
     subst (λ z. Related M r p r.ambient a b (p.meaning).ty z) (sym failed)
-    (parts_related M IsFormed a b x y (p.meaning).ty (Err e.field-0.0) step.passes step.verdict step.exact inner)
+    (parts_related M IsFormed (g.met.R.TypeRelation.sound c.structurally_relate_tys.new.r ((inner.passes).lawful ((step.passes).lawful c.requires.lawful)))
+    a b x y (p.meaning).ty (Err e.field-0.0) step.passes step.verdict step.exact inner)
 
 pub tys-tys_done-requires-clause-asked : goal.tys-tys_done-requires-clause-asked
 tys-tys_done-requires-clause-asked g t c =
@@ -254,7 +258,8 @@ tys-tys_done-requires-clause-asked g t c =
     let z = c.in_ok-answer-in-Parts in
     let inner = subst (λ v. Related M q p v x y (p.meaning).ty (Ok z.answer)) (step.passes).ambient z.ensures in
     let done : Related M r p r.ambient a b (p.meaning).ty (Ok z.answer) =
-    parts_related M IsFormed a b x y (p.meaning).ty (Ok z.answer) step.passes step.verdict step.exact inner in
+    parts_related M IsFormed (g.met.R.TypeRelation.sound c.structurally_relate_tys.new.r ((inner.passes).lawful ((step.passes).lawful c.requires.lawful)))
+    a b x y (p.meaning).ty (Ok z.answer) step.passes step.verdict step.exact inner in
     let same_x : (p.meaning).ty c.in-Parts.a ≡ (q.meaning).ty c.in-Parts.a =
     ((inner.passes).extends).ty c.in-Parts.a ((step.verdict).asked).left_known in
     let same_y : (p.meaning).ty c.in-Parts.b ≡ (q.meaning).ty c.in-Parts.b =
@@ -277,7 +282,8 @@ tys-tys_done-requires-clause-related g t c =
     let z = c.in_ok-answer-in-Parts in
     let inner = subst (λ v. Related M q p v x y (p.meaning).ty (Ok z.answer)) (step.passes).ambient z.ensures in
     let done : Related M r p r.ambient a b (p.meaning).ty (Ok z.answer) =
-    parts_related M IsFormed a b x y (p.meaning).ty (Ok z.answer) step.passes step.verdict step.exact inner in
+    parts_related M IsFormed (g.met.R.TypeRelation.sound c.structurally_relate_tys.new.r ((inner.passes).lawful ((step.passes).lawful c.requires.lawful)))
+    a b x y (p.meaning).ty (Ok z.answer) step.passes step.verdict step.exact inner in
     let same_x : (p.meaning).ty c.in-Parts.a ≡ (q.meaning).ty c.in-Parts.a =
     ((inner.passes).extends).ty c.in-Parts.a ((step.verdict).asked).left_known in
     let same_y : (p.meaning).ty c.in-Parts.b ≡ (q.meaning).ty c.in-Parts.b =
@@ -300,7 +306,8 @@ tys-returns-in_err-tys_done-in-Parts g t c =
     let z = c.in_ok-answer-in-Parts in
     let inner = subst (λ v. Related M q p v x y (p.meaning).ty (Ok z.answer)) (step.passes).ambient z.ensures in
     let done : Related M r p r.ambient a b (p.meaning).ty (Ok z.answer) =
-    parts_related M IsFormed a b x y (p.meaning).ty (Ok z.answer) step.passes step.verdict step.exact inner in
+    parts_related M IsFormed (g.met.R.TypeRelation.sound c.structurally_relate_tys.new.r ((inner.passes).lawful ((step.passes).lawful c.requires.lawful)))
+    a b x y (p.meaning).ty (Ok z.answer) step.passes step.verdict step.exact inner in
     let u = g.R.TypeRelation.state c.tys_done.new.self in
     let e = c.in_err-tys_done-in-Parts in
     let failed = as_err c.from_residual-in_err-tys_done-in-Parts.result e.field-0.0
@@ -322,7 +329,8 @@ tys-returns-in_ok-tys_done-in-Parts g t c =
     let z = c.in_ok-answer-in-Parts in
     let inner = subst (λ v. Related M q p v x y (p.meaning).ty (Ok z.answer)) (step.passes).ambient z.ensures in
     let done : Related M r p r.ambient a b (p.meaning).ty (Ok z.answer) =
-    parts_related M IsFormed a b x y (p.meaning).ty (Ok z.answer) step.passes step.verdict step.exact inner in
+    parts_related M IsFormed (g.met.R.TypeRelation.sound c.structurally_relate_tys.new.r ((inner.passes).lawful ((step.passes).lawful c.requires.lawful)))
+    a b x y (p.meaning).ty (Ok z.answer) step.passes step.verdict step.exact inner in
     let u = g.R.TypeRelation.state c.tys_done.new.self in
     let n = c.in_ok-tys_done-in-Parts in
     noted_related M r.ambient a b (p.meaning).ty z.answer done (Ok n.field-0) n.ensures (u.meaning).ty

@@ -1,4 +1,4 @@
-use Rattle.std.proofs.Common.{◌≡◌, refl, sym, ap, ◌∙◌, inl, inr, subst, Ok, Err}
+use Rattle.std.proofs.Common.{◌≡◌, refl, sym, ◌∙◌, inl, inr, subst, Ok, Err}
 use Rattle.relation_terms.specs.declared.terms.enums.Variance.TheVariants.{Covariant}
 use Rattle.relation_terms.specs.Heads.{type_var, variable}
 use Rattle.relation_terms.specs.Trees.{leaf}
@@ -11,7 +11,6 @@ use Rattle.type_relations.specs.Solving.{solving_through, solver_manner}
 use Rattle.type_relations.proofs.Passing.{as_err}
 use Rattle.type_relations.proofs.Shallowly.{shallow_free, variable_made}
 use Rattle.type_relations.proofs.GeneralisingErrors.{cycle_error}
-use Rattle.type_relations.proofs.Answering.{covariantly}
 use Rattle.type_relations.proofs.Solving.{decides_back, ty_sorted}
 use Rattle.type_relations.proofs.SolvingVariables.{left_step, right_step, left_refused, right_refused, type_comes_to_none}
 use Rattle.type_relations.proofs.relate.solver_relating.relation.SolverRelating.combine_tys.Goals as goal
@@ -134,7 +133,7 @@ returns-in_ok-bound-in-None-ty_var g c =
     (g.met.Infcx.InferCtxtLike.covered q h.grows.lawful) c.in-Some.x.0 t ((d.meaning).ty z) k.right_taken.1 k.right_in
     k.right_known (ty_sorted of c.args.b.now (g.met.Infcx.Interner.Interner.is_ty cx c.args.b.now) k.right_known)
     r.ambient_variance r.ambient_variance h.instantiates.0 h.instantiates.1 IsFormed c.args.a.now c.args.b.now z
-    c.args.b.now c.args.a.now Covariant (covariantly r.ambient_variance) (d.meaning).ty root_stays t_stays refl t_stays
+    c.args.b.now c.args.a.now (d.meaning).ty root_stays t_stays refl t_stays
     (inl root_stays))
 
 pub returns-in_ok-bound-in-Some-ty_var-2 : goal.returns-in_ok-bound-in-Some-ty_var-2
@@ -163,7 +162,7 @@ returns-in_ok-bound-in-Some-ty_var-2 g c =
     (g.met.Infcx.InferCtxtLike.covered q h.grows.lawful) c.in-Some-ty_var-2.y.0 t ((d.meaning).ty z) k.left_taken.1
     k.left_in k.left_known (ty_sorted of c.args.a.now (g.met.Infcx.Interner.Interner.is_ty cx c.args.a.now) k.left_known)
     r.ambient_variance c.xform-variance.result h.instantiates.0 h.instantiates.1 IsFormed c.args.a.now c.args.b.now
-    c.args.a.now z c.args.a.now Covariant (covariantly r.ambient_variance) (d.meaning).ty t_stays root_stays t_stays refl
+    c.args.a.now z c.args.a.now (d.meaning).ty t_stays root_stays t_stays refl
     (inr t_stays))
 
 pub instantiate_ty_var_raw-requires-clause-source_covered : goal.instantiate_ty_var_raw-requires-clause-source_covered

@@ -1,5 +1,5 @@
-use Rattle.std.proofs.Common.{◌≡◌, refl, sym, ap, ◌∙◌, inl, inr, subst, Ok, Err}
-use Rattle.relation_terms.specs.declared.terms.enums.Variance.TheVariants.{Covariant, Invariant}
+use Rattle.std.proofs.Common.{◌≡◌, refl, sym, ap, ◌∙◌, inr, subst, Ok, Err}
+use Rattle.relation_terms.specs.declared.terms.enums.Variance.TheVariants.{Invariant}
 use Rattle.relation_terms.specs.Heads.{const_var, variable}
 use Rattle.relation_terms.specs.Trees.{leaf}
 use Rattle.relation_tools.specs.declared.error.TypeError.TheVariants.{CyclicConst}
@@ -13,9 +13,8 @@ use Rattle.type_relations.proofs.Passing.{as_err}
 use Rattle.type_relations.proofs.Binding.{no_region}
 use Rattle.type_relations.proofs.Shallowly.{shallow_free_const, variable_made}
 use Rattle.type_relations.proofs.GeneralisingErrors.{const_cycle_error}
-use Rattle.type_relations.proofs.Answering.{covariantly}
 use Rattle.type_relations.proofs.Solving.{roots_step, parts_step, const_sorted}
-use Rattle.type_relations.proofs.SolvingVariables.{left_step, right_step, left_refused, right_refused, const_comes_to_none}
+use Rattle.type_relations.proofs.SolvingVariables.{const_left_step, const_right_step, left_refused, right_refused, const_comes_to_none}
 use Rattle.type_relations.proofs.relate.solver_relating.relation.SolverRelating.super_combine_consts.Goals as goal
 
 pub equate_const_vids_raw-requires-clause-a_unresolved : goal.equate_const_vids_raw-requires-clause-a_unresolved
@@ -144,14 +143,14 @@ returns-in_ok-value-in-None-const_var g c =
     let t_stays : (d.meaning).const_ c.args.b.now ≡ t = grown.const_ c.args.b.now k.right_known in
     subst (λ l. Stepped solver_manner IsFormedConst (solving_through r.infcx.ghost_name r.goals.items s r.ambient_variance r.param_env)
     (solving_through r.infcx.ghost_name r.goals.items d r.ambient_variance r.param_env) l t
-    (d.meaning).const_ (Ok (Again c.args.a.now c.args.b.now z c.args.b.now Covariant c.args.b.now))) (sym is)
-    (left_step r.infcx.ghost_name r.goals.items const_var tt s d grown r.param_env (c.requires.env_known, c.requires.goals_known) sound
+    (d.meaning).const_ (Ok (Again c.args.a.now c.args.b.now z c.args.b.now Invariant c.args.b.now))) (sym is)
+    (const_left_step r.infcx.ghost_name r.goals.items const_var tt s d grown r.param_env (c.requires.env_known, c.requires.goals_known) sound
     (g.met.Infcx.InferCtxtLike.numbers r.infcx.now c.requires.lawful) h.grows.lawful
     (g.met.Infcx.InferCtxtLike.covered q h.grows.lawful) c.in-Some.x.0 t ((d.meaning).const_ z) k.right_taken.1
     k.right_in k.right_known
     (const_sorted of c.args.b.now (g.met.Infcx.Interner.Interner.is_const cx c.args.b.now) k.right_known)
     r.ambient_variance Invariant h.instantiates.0 h.instantiates.1 IsFormedConst c.args.a.now c.args.b.now z
-    c.args.b.now c.args.b.now Covariant (covariantly r.ambient_variance) (d.meaning).const_ root_stays t_stays refl
+    c.args.b.now c.args.b.now (d.meaning).const_ refl c.requires.decides root_stays t_stays refl
     t_stays (inr t_stays))
 
 pub returns-in_ok-value-in-Some-const_var-2 : goal.returns-in_ok-value-in-Some-const_var-2
@@ -174,14 +173,14 @@ returns-in_ok-value-in-Some-const_var-2 g c =
     let t_stays : (d.meaning).const_ c.args.a.now ≡ t = grown.const_ c.args.a.now k.left_known in
     subst (λ l. Stepped solver_manner IsFormedConst (solving_through r.infcx.ghost_name r.goals.items s r.ambient_variance r.param_env)
     (solving_through r.infcx.ghost_name r.goals.items d r.ambient_variance r.param_env) t l
-    (d.meaning).const_ (Ok (Again c.args.a.now c.args.b.now c.args.a.now z Covariant c.args.a.now))) (sym is)
-    (right_step r.infcx.ghost_name r.goals.items const_var tt s d grown r.param_env (c.requires.env_known, c.requires.goals_known) sound
+    (d.meaning).const_ (Ok (Again c.args.a.now c.args.b.now c.args.a.now z Invariant c.args.a.now))) (sym is)
+    (const_right_step r.infcx.ghost_name r.goals.items const_var tt s d grown r.param_env (c.requires.env_known, c.requires.goals_known) sound
     (g.met.Infcx.InferCtxtLike.numbers r.infcx.now c.requires.lawful) h.grows.lawful
     (g.met.Infcx.InferCtxtLike.covered q h.grows.lawful) c.in-Some-const_var-2.y.0 t ((d.meaning).const_ z)
     k.left_taken.1 k.left_in k.left_known
     (const_sorted of c.args.a.now (g.met.Infcx.Interner.Interner.is_const cx c.args.a.now) k.left_known)
     r.ambient_variance Invariant h.instantiates.0 h.instantiates.1 IsFormedConst c.args.a.now c.args.b.now
-    c.args.a.now z c.args.a.now Covariant (covariantly r.ambient_variance) (d.meaning).const_ t_stays root_stays t_stays
+    c.args.a.now z c.args.a.now (d.meaning).const_ refl c.requires.decides t_stays root_stays t_stays
     refl (inr t_stays))
 
 pub instantiate_const_var_raw-requires-clause-source_covered : goal.instantiate_const_var_raw-requires-clause-source_covered
