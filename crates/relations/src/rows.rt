@@ -32,7 +32,7 @@ pub enum RowFault {
 }
 
 /// The rows, in the order of their numbers.
-pub const ROWS: [Row; 29] = [
+pub const ROWS: [Row; 30] = [
     Row {
         name: "r01",
         questions: "may unify[rigid, rigid] bool, char at 0; may unify[rigid, rigid] bool, char at 1;",
@@ -115,6 +115,11 @@ pub const ROWS: [Row; 29] = [
         questions: "param 'a, 'b;
             &'a u8 <: &'b u8; &'a u8 :> &'b u8; &'a u8 == &'b u8;",
         stored: "ok; regions=['a: 'b] | ok; regions=['b: 'a] | ok; regions=['a == 'b]",
+    },
+    Row {
+        name: "r24",
+        questions: "struct P<*T>; P<?0> <: P<u8>; P<?0> == P<u8>;",
+        stored: "ok; goals=[WellFormed(P<?0>), WellFormed(P<u8>)] | ok; bound=[?0=u8]",
     },
     Row {
         name: "r26",
@@ -306,6 +311,7 @@ fn is_high_row(name: &str) -> bool
     name == "r20"
         || name == "r22"
         || name == "r23"
+        || name == "r24"
         || name == "r26"
         || name == "r28"
         || name == "r30"
