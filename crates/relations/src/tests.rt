@@ -177,10 +177,7 @@ const ASKED: [(&str, &str); 11] = [
         "ok; bound=[?0=[u8], ?1=[[u8]]]",
     ),
     ("budget 1; ?0 == u8;", "ok; bound=[?0=u8]; left=0"),
-    (
-        "u8 <: u8; u8 :> ?0;",
-        "ok | ok; bound=[?0=u8]",
-    ),
+    ("u8 <: u8; u8 :> ?0;", "ok | ok; bound=[?0=u8]"),
     (
         "param 'a; [?0; 4] == [&'a mut [u8]; 4]; then *mut u8 == *mut char;",
         "ok; bound=[?0=&'a mut [u8]] | err Sorts(u8, char); bound=[?0=&'a mut [u8]]",
