@@ -66,3 +66,7 @@ pub mod Turning
 pub mod Solving
 pub mod SolvingVariables
 pub mod SolvingGoals
+pub mod Bivariance
+pub mod Noting
+pub mod Emitting
+pub mod EmittingBoth

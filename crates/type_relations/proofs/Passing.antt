@@ -71,7 +71,7 @@ module _ {Key Id Name : Type 0} where
     goes = goes_nowhere n r.store;
     added = [];
     lengthens = sym (append-nil r.goals);
-    goals_in = All-nil (Registered r.environment r.store r.store);
+    goals_in = All-nil (Registered (items_in r) r.environment r.store r.store);
     environment = refl;
     ambient = refl;
     settings = refl;
@@ -100,7 +100,8 @@ module _ {Key Id Name : Type 0} where
     goes = goes_then g.goes f.goes h;
     added = g.added ++ f.added;
     lengthens = f.lengthens ∙ ap (λ gs. gs ++ f.added) g.lengthens ∙ append_assoc r.goals g.added f.added;
-    goals_in = registered_both g.added f.added g.environment (g.goes).later (f.goes).later g.goals_in f.goals_in;
+    goals_in = registered_both g.added f.added (same_items g) g.environment (g.goes).later (f.goes).later g.goals_in
+        f.goals_in;
     environment = f.environment ∙ g.environment;
     ambient = f.ambient ∙ g.ambient;
     settings = f.settings ∙ g.settings;
@@ -301,7 +302,7 @@ module _ {Key Id Name : Type 0} where
     outcome = record {
       later = later_through ((f.passes).goes).later ((h.passes).goes).later;
       goals_in = registered_in ((f.passes).added ++ (h.passes).added) (registered_both (f.passes).added (h.passes).added
-          (f.passes).environment ((f.passes).goes).later ((h.passes).goes).later (f.passes).goals_in
+          (same_items f.passes) (f.passes).environment ((f.passes).goes).later ((h.passes).goes).later (f.passes).goals_in
           (h.passes).goals_in);
       relates = λ w s sat all. ((f.verdict).outcome).relates w s (((h.passes).goes).later.shrinks w s sat)
           (first_goals (Holds (items_in r) w s) r.goals (f.passes).added (h.passes).added all);
@@ -351,7 +352,8 @@ module _ {Key Id Name : Type 0} where
       goes = subst₂ (λ s z. Goes (weight s a + weight s b) s z) there.store (sym back.store) f.goes;
       added = f.added;
       lengthens = back.goals ∙ f.lengthens ∙ ap (λ gs. gs ++ f.added) there.goals;
-      goals_in = registered_as f.added there.environment there.store (sym back.store) f.goals_in;
+      goals_in = registered_as f.added (ap items_of there.meaning) there.environment there.store (sym back.store)
+          f.goals_in;
       environment = back.environment ∙ f.environment ∙ there.environment;
       ambient = back.ambient;
       settings = back.settings ∙ f.settings ∙ there.settings;
@@ -438,7 +440,7 @@ module _ {Key Id Name : Type 0} where
     goes = subst (Goes n r.store) (sym w.store) g.goes;
     added = g.added;
     lengthens = w.goals ∙ g.lengthens;
-    goals_in = registered_as g.added refl refl (sym w.store) g.goals_in;
+    goals_in = registered_as g.added refl refl refl (sym w.store) g.goals_in;
     environment = w.environment ∙ g.environment;
     ambient = w.ambient ∙ g.ambient;
     settings = w.settings ∙ g.settings;

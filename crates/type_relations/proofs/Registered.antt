@@ -1,5 +1,5 @@
 -- Goals that were registered.
-use Rattle.std.proofs.Common.{◌≡◌, ℕ, refl, sym, ap, ap₂, ◌∙◌, subst, subst₂, List, [], ◌∷◌, ◌++◌, All, IsTrue, Bool, true, Some, map}
+use Rattle.std.proofs.Common.{◌≡◌, ℕ, refl, sym, ap, ap₂, ◌∙◌, subst, subst₂, List, [], ◌∷◌, ◌++◌, All, IsTrue, Bool, true, Some}
 use Rattle.std.proofs.lemmas.Bool.{and_from}
 use Rattle.std.proofs.lemmas.List.Elements.{All-append, All-head, All-tail, All-weaker}
 use Rattle.relation_terms.specs.declared.terms.goal.Goal.{Goal as KeyedGoal}
@@ -8,23 +8,30 @@ use Rattle.relation_terms.specs.declared.terms.keys.BoundVarsKey.{BoundVarsKey}
 use Rattle.relation_terms.specs.declared.terms.keys.TyKey.{TyKey}
 use Rattle.relation_terms.specs.declared.terms.binder.Binder.{Binder}
 use Rattle.relation_terms.specs.declared.predicate.kinds.PredicateKind.{PredicateKind}
-use Rattle.relation_terms.specs.declared.predicate.kinds.PredicateKind.TheVariants.{Subtype}
-use Rattle.relation_terms.specs.Heads.{type_var, subtype}
+use Rattle.relation_terms.specs.declared.predicate.kinds.PredicateKind.TheVariants.{Subtype, Clause}
+use Rattle.relation_terms.specs.declared.predicate.kinds.ClauseKind.TheVariants.{WellFormed}
+use Rattle.relation_terms.specs.declared.terms.generic_arg.TermKind.TheVariants.{Ty as TyTerm}
+use Rattle.relation_terms.specs.Heads.{type_var, subtype, well_formed}
 use Rattle.relation_terms.specs.Trees.{Tree, node, bind, nil, cons, known}
 use Rattle.relation_terms.specs.Meaning.{Meaning, Extends, under}
 use Rattle.relation_terms.specs.Predicates.{predicate_tree}
 use Rattle.type_relations.specs.Stores.{Store, Entry, unbound, same_as, bound_to, entry_of, InContext}
-use Rattle.type_relations.specs.Goals.{Goal, goal_of, goals_of, KnowsGoal, subtype_predicate, IsOpen, IsRegistered, of_variables, Registered, GoalInContext}
+use Rattle.type_relations.specs.Relation.{Items}
+use Rattle.type_relations.specs.Goals.{Goal, goal_of, goals_of, KnowsGoal, subtype_predicate, well_formed_predicate, IsRegistered, of_variables, of_type, Registered, GoalInContext}
 use Rattle.type_relations.specs.Steps.{IsLater}
 use Rattle.type_relations.proofs.Classes.{stands_from}
+use Rattle.type_relations.proofs.Standing.{later_context}
 
 -- The variables of a registered goal are the later store's.
-goal_in : (before after : Store) (p : Tree) → IsRegistered before after p → InContext after p
+goal_in : {c : Items} (before after : Store) (p : Tree) → IsRegistered c before after p → InContext after p
 unfolding InContext
 goal_in before after p (of_variables x n m e f g) = subst (InContext after) (sym e) (f.0, (g.0, tt))
+goal_in before after p (of_type t e i b) = subst (InContext after) (sym e) (i, tt)
 
-pub registered_in : {e : Tree} {before after : Store} (gs : List Goal) → All (Registered e before after) gs → All (GoalInContext after) gs
-registered_in {e = e} {before = before} {after = after} gs h = All-weaker (Registered e before after) (GoalInContext after) (λ g r. goal_in before after g.predicate r.asks) gs h
+pub registered_in : {c : Items} {e : Tree} {before after : Store} (gs : List Goal) → All (Registered c e before after) gs →
+    All (GoalInContext after) gs
+registered_in {c = c} {e = e} {before = before} {after = after} gs h =
+    All-weaker (Registered c e before after) (GoalInContext after) (λ g r. goal_in before after g.predicate r.asks) gs h
 
 -- What was unbound later was unbound before.
 was_unbound : (before after : Store) → IsLater before after → (n : ℕ) → entry_of after type_var n ≡ unbound → entry_of before type_var n ≡ unbound
@@ -36,21 +43,35 @@ was_unbound before after l n h = go (entry_of before type_var n) refl
     go (bound_to u) q = absurd (let e : entry_of after type_var n ≡ bound_to u = stands_from before after l type_var n (bound_to u) q in cc (e, h))
 
 -- Goals that were registered one after another.
-still_asks : {before middle after : Store} {p : Tree} → IsLater middle after → IsRegistered before middle p → IsRegistered before after p
-still_asks l (of_variables x n m e f g) = of_variables x n m e (l.grows type_var n f.0, f.1) (l.grows type_var m g.0, g.1)
+still_asks : {c : Items} {before middle after : Store} {p : Tree} → IsLater middle after → IsRegistered c before middle p →
+    IsRegistered c before after p
+still_asks l (of_variables x n m e f g) =
+    of_variables x n m e (l.grows type_var n f.0, f.1) (l.grows type_var m g.0, g.1)
+still_asks {middle = middle} {after = after} l (of_type t e i b) = of_type t e (later_context middle after l.grows t i) b
 
-asks_since : {before middle after : Store} {p : Tree} → IsLater before middle → IsRegistered middle after p → IsRegistered before after p
-asks_since {before = before} {middle = middle} l (of_variables x n m e f g) = of_variables x n m e (f.0, was_unbound before middle l n f.1) (g.0, was_unbound before middle l m g.1)
+asks_since : {c : Items} {before middle after : Store} {p : Tree} → IsLater before middle → IsRegistered c middle after p →
+    IsRegistered c before after p
+asks_since {before = before} {middle = middle} l (of_variables x n m e f g) =
+    of_variables x n m e (f.0, was_unbound before middle l n f.1) (g.0, was_unbound before middle l m g.1)
+asks_since l (of_type t e i b) = of_type t e i b
 
-pub registered_both : {e d : Tree} {before middle after : Store} (first others : List Goal) → d ≡ e → IsLater before middle → IsLater middle after → All (Registered e before middle) first → All (Registered d middle after) others →
-    All (Registered e before after) (first ++ others)
-registered_both {e = e} {d = d} {before = before} {middle = middle} {after = after} first others same l k f g = All-append (Registered e before after) first others
-    (All-weaker (Registered e before middle) (Registered e before after) (λ x r. record { environment = r.environment; asks = still_asks k r.asks }) first f)
-    (All-weaker (Registered d middle after) (Registered e before after) (λ x r. record { environment = r.environment ∙ same; asks = asks_since l r.asks }) others g)
+pub registered_both : {c k : Items} {e d : Tree} {before middle after : Store} (first others : List Goal) → k ≡ c → d ≡ e →
+    IsLater before middle → IsLater middle after → All (Registered c e before middle) first →
+    All (Registered k d middle after) others → All (Registered c e before after) (first ++ others)
+registered_both {c = c} {k = k} {e = e} {d = d} {before = before} {middle = middle} {after = after} first others items same l t
+    f g = All-append (Registered c e before after) first others
+    (All-weaker (Registered c e before middle) (Registered c e before after)
+    (λ x r. record { environment = r.environment; asks = still_asks t r.asks }) first f)
+    (All-weaker (Registered c d middle after) (Registered c e before after)
+    (λ x r. record { environment = r.environment ∙ same; asks = asks_since l r.asks }) others
+    (subst (λ z. All (Registered z d middle after) others) items g))
 
 -- The same in other states that are alike.
-pub registered_as : {e d : Tree} {before after was now : Store} (gs : List Goal) → e ≡ d → before ≡ was → after ≡ now → All (Registered e before after) gs → All (Registered d was now) gs
-registered_as {e = e} {was = was} {now = now} gs p q r h = subst (λ z. All (Registered z was now) gs) p (subst₂ (λ s t. All (Registered e s t) gs) q r h)
+pub registered_as : {c k : Items} {e d : Tree} {before after was now : Store} (gs : List Goal) → c ≡ k → e ≡ d →
+    before ≡ was → after ≡ now → All (Registered c e before after) gs → All (Registered k d was now) gs
+registered_as {c = c} {k = k} {e = e} {d = d} {was = was} {now = now} gs i p q r h =
+    subst (λ z. All (Registered z d was now) gs) i (subst (λ z. All (Registered c z was now) gs) p
+    (subst₂ (λ s t. All (Registered c e s t) gs) q r h))
 
 -- Goals over known keys mean what they meant.
 pub goals_stay : {Key Id Name : Type 0} {m n : Meaning Key Id Name} → Extends m n → (gs : List (KeyedGoal Key (PredicateKey Key))) → All (KnowsGoal m) gs → goals_of n gs ≡ goals_of m gs
@@ -74,3 +95,15 @@ module _ {Key Id Name : Type 0} {m n : Meaning Key Id Name} (grown : Extends m n
   pub subtype_known : IsTrue (known (predicate_tree n form))
   subtype_known = subst (λ t. IsTrue (known t)) (sym subtype_tree) (and_from (known (m.ty a)) (known (cons (m.ty b) nil)) a_known
       (and_from (known (m.ty b)) true b_known refl))
+
+-- The predicate that a type is well formed, as an interner makes it.
+module _ {Key Id Name : Type 0} {m n : Meaning Key Id Name} (grown : Extends m n) (vars : BoundVarsKey Key) (none : n.bound_vars vars ≡ Some []) (a : TyKey Key) (a_known : IsTrue (known (m.ty a))) where
+  abbrev well_formed_form : Binder Key (PredicateKind Key Id Name)
+  well_formed_form = record { value = Clause (WellFormed (TyTerm a)); bound_vars = vars }
+
+  pub well_formed_tree : predicate_tree n well_formed_form ≡ well_formed_predicate (m.ty a)
+  well_formed_tree = ap (λ z. under z (node well_formed (cons (n.ty a) nil))) none
+      ∙ ap well_formed_predicate (grown.ty a a_known)
+
+  pub well_formed_known : IsTrue (known (predicate_tree n well_formed_form))
+  well_formed_known = subst (λ t. IsTrue (known t)) (sym well_formed_tree) (and_from (known (m.ty a)) true a_known refl)

@@ -149,7 +149,7 @@ module _ {Key Id Name : Type 0} (j : ℕ) (gs : List (KeyedGoal Key (PredicateKe
     goes = goes;
     added = [];
     lengthens = goals_stay grown gs env.1 ∙ sym (append-nil (goals_of m gs));
-    goals_in = All-nil (Registered (m.param_env e) was now);
+    goals_in = All-nil (Registered (items_of m) (m.param_env e) was now);
     environment = grown.param_env e env.0;
     ambient = refl;
     settings = refl;
@@ -537,10 +537,10 @@ module _ {Key Id Name X : Type 0} (m n : Meaning Key Id Name) (was now : Store) 
 
   pub registers_goals : (result : Result X (RelateFault Key Id Name)) → L → KnowsGoals m e [] →
       Related solver_manner (solving 0 [] m was L v e) (solving 0 hs n now K v e) v a b tree result →
-      All (KnowsGoal n) hs × All (Registered (m.param_env e) was now) (goals_of n hs)
+      All (KnowsGoal n) hs × All (Registered (items_of m) (m.param_env e) was now) (goals_of n hs)
   registers_goals result l env h = (
     ((h.passes).lawful (l, env)).1.1,
-    subst (All (Registered (m.param_env e) was now)) (sym (h.passes).lengthens) (h.passes).goals_in,
+    subst (All (Registered (items_of m) (m.param_env e) was now)) (sym (h.passes).lengthens) (h.passes).goals_in,
   )
 
 -- What was recorded of two regions is what their variance asks for, behind all that was.

@@ -1,5 +1,5 @@
 -- Registering that of two type variables the one is a subtype of the other, as a step.
-use Rattle.std.proofs.Common.{◌≡◌, ◌≢◌, ℕ, refl, sym, ap, ap₂, ◌∙◌, arith, subst, subst₂, Bool, List, [], ◌∷◌, ◌++◌, All, IsTrue, map, Ok}
+use Rattle.std.proofs.Common.{◌≡◌, ◌≢◌, ℕ, refl, sym, ap, ap₂, ◌∙◌, subst, subst₂, Bool, List, [], ◌∷◌, ◌++◌, All, IsTrue, Ok}
 use Rattle.std.proofs.lemmas.List.Elements.{All-nil, All-cons, All-head, All-append}
 use Rattle.std.proofs.lemmas.List.{map-append}
 use Rattle.relation_terms.specs.declared.terms.enums.Variance.{Variance}
@@ -12,8 +12,8 @@ use Rattle.relation_terms.specs.Trees.{Tree, leaf, Assign, apply, known}
 use Rattle.relation_terms.specs.Meaning.{Meaning, Extends}
 use Rattle.type_relations.specs.declared.relate.Step.TheVariants.{Done}
 use Rattle.type_relations.specs.Relation.{Items, Interpretation, Rel, at}
-use Rattle.type_relations.specs.Stores.{Store, Satisfies}
-use Rattle.type_relations.specs.Goals.{Goal, goal_of, goals_of, KnowsGoal, subtype_predicate, IsOpen, of_variables, Registered, GoalInContext, Holds, MakesOneTree}
+use Rattle.type_relations.specs.Stores.{Store}
+use Rattle.type_relations.specs.Goals.{Goal, goal_of, goals_of, KnowsGoal, subtype_predicate, IsOpen, IsRegistered, of_variables, Registered, Holds, MakesOneTree}
 use Rattle.type_relations.specs.Lawful.{Stepped, Passes, MayAnswer, items_of}
 use Rattle.type_relations.specs.Solving.{KnowsGoals, solving, solver_manner}
 use Rattle.type_relations.proofs.Answering.{may_itself}
@@ -22,6 +22,44 @@ use Rattle.type_relations.proofs.Growing.{All_back}
 use Rattle.type_relations.proofs.Turning.{turned}
 use Rattle.type_relations.proofs.Registered.{registered_in, goals_stay, goals_known}
 
+-- One more goal was registered.
+module _ {Key Id Name : Type 0} (j : ℕ) (gs hs : List (KeyedGoal Key (PredicateKey Key))) (m n : Meaning Key Id Name)
+    (st : Store) (L K : Type 0) (v : Variance) (e : ParamEnvKey Key) (grown : Extends m n) (env : KnowsGoals m e gs) (l : K)
+    (p : PredicateKey Key) (t : Tree) (pushed : hs ≡ gs ++ record { param_env = e; predicate = p } ∷ [])
+    (means : n.predicate p ≡ t) (sure : IsTrue (known t)) (asks : IsRegistered (items_of m) st st t) where
+  lengthens : goals_of n hs ≡ goals_of m gs ++ goal_of (m.param_env e) t ∷ []
+  lengthens = ap (goals_of n) pushed ∙ map-append (λ g. goal_of (n.param_env g.param_env) (n.predicate g.predicate)) gs
+      (record { param_env = e; predicate = p } ∷ [])
+      ∙ ap₂ (λ z g. z ++ g ∷ []) (goals_stay grown gs env.1) (ap₂ goal_of (grown.param_env e env.0) means)
+
+  is_registered : All (Registered (items_of m) (m.param_env e) st st) (goal_of (m.param_env e) t ∷ [])
+  is_registered = All-cons (Registered (items_of m) (m.param_env e) st st) (goal_of (m.param_env e) t) []
+      (record { environment = refl; asks = asks })
+      (All-nil (Registered (items_of m) (m.param_env e) st st))
+
+  env_known : IsTrue (known (n.param_env e))
+  env_known = subst (λ z. IsTrue (known z)) (sym (grown.param_env e env.0)) env.0
+
+  all_known : All (KnowsGoal n) hs
+  all_known = subst (All (KnowsGoal n)) (sym pushed) (All-append (KnowsGoal n) gs (record { param_env = e; predicate = p } ∷ [])
+      (goals_known grown gs env.1) (All-cons (KnowsGoal n) (record { param_env = e; predicate = p }) []
+      (env_known, subst (λ z. IsTrue (known z)) (sym means) sure) (All-nil (KnowsGoal n))))
+
+  unfoldable passes : (N : ℕ) → Passes N (solving j gs m st L v e) (solving j hs n st K v e)
+  passes N = record {
+    extends = grown;
+    goes = goes_nowhere N st;
+    added = goal_of (m.param_env e) t ∷ [];
+    lengthens = lengthens;
+    goals_in = is_registered;
+    environment = grown.param_env e env.0;
+    ambient = refl;
+    settings = refl;
+    reference = refl;
+    lawful = λ h. (l, (env_known, all_known));
+  }
+
+-- That of two type variables the one is a subtype of the other was registered.
 module _ {Key Id Name : Type 0} (j : ℕ) (gs hs : List (KeyedGoal Key (PredicateKey Key))) (m n : Meaning Key Id Name)
     (st : Store) (L K : Type 0) (v : Variance) (e : ParamEnvKey Key) (grown : Extends m n) (env : KnowsGoals m e gs) (l : K)
     (p : PredicateKey Key) (x : Bool) (i k : ℕ)
@@ -31,37 +69,8 @@ module _ {Key Id Name : Type 0} (j : ℕ) (gs hs : List (KeyedGoal Key (Predicat
   abbrev asked : Goal
   asked = goal_of (m.param_env e) (subtype_predicate x (leaf (variable type_var i)) (leaf (variable type_var k)))
 
-  lengthens : goals_of n hs ≡ goals_of m gs ++ asked ∷ []
-  lengthens = ap (goals_of n) pushed ∙ map-append (λ g. goal_of (n.param_env g.param_env) (n.predicate g.predicate)) gs
-      (record { param_env = e; predicate = p } ∷ [])
-      ∙ ap₂ (λ z g. z ++ g ∷ []) (goals_stay grown gs env.1) (ap₂ goal_of (grown.param_env e env.0) means)
-
-  is_registered : All (Registered (m.param_env e) st st) (asked ∷ [])
-  is_registered = All-cons (Registered (m.param_env e) st st) asked []
-      (record { environment = refl; asks = of_variables x i k refl i_open k_open })
-      (All-nil (Registered (m.param_env e) st st))
-
-  env_known : IsTrue (known (n.param_env e))
-  env_known = subst (λ t. IsTrue (known t)) (sym (grown.param_env e env.0)) env.0
-
-  all_known : All (KnowsGoal n) hs
-  all_known = subst (All (KnowsGoal n)) (sym pushed) (All-append (KnowsGoal n) gs (record { param_env = e; predicate = p } ∷ [])
-      (goals_known grown gs env.1) (All-cons (KnowsGoal n) (record { param_env = e; predicate = p }) []
-      (env_known, subst (λ t. IsTrue (known t)) (sym means) refl) (All-nil (KnowsGoal n))))
-
-  unfoldable passes : (N : ℕ) → Passes N (solving j gs m st L v e) (solving j hs n st K v e)
-  passes N = record {
-    extends = grown;
-    goes = goes_nowhere N st;
-    added = asked ∷ [];
-    lengthens = lengthens;
-    goals_in = is_registered;
-    environment = grown.param_env e env.0;
-    ambient = refl;
-    settings = refl;
-    reference = refl;
-    lawful = λ h. (l, (env_known, all_known));
-  }
+  in_order : IsRegistered (items_of m) st st (subtype_predicate x (leaf (variable type_var i)) (leaf (variable type_var k)))
+  in_order = of_variables x i k refl i_open k_open
 
   -- The goal relates two terms at the variance, and where they are one, its sides are.
   pub registered_step : {X : Type 0} (F : Tree → Type 0) (a b : Tree) (tree : X → Tree) (t : X) → v ≢ Invariant → tree t ≡ a →
@@ -74,11 +83,12 @@ module _ {Key Id Name : Type 0} (j : ℕ) (gs hs : List (KeyedGoal Key (Predicat
       Stepped solver_manner F (solving j gs m st L v e) (solving j hs n st K v e) a b tree (Ok (Done t))
   unfolding passes
   registered_step F a b tree t o answer sure relates equal = record {
-    passes = passes _;
+    passes = passes j gs hs m n st L K v e grown env l p asked.predicate pushed means refl in_order _;
     verdict = record {
       outcome = record {
         later = later_itself st;
-        goals_in = registered_in (asked ∷ []) is_registered;
+        goals_in = registered_in (asked ∷ [])
+            (is_registered j gs hs m n st L K v e grown env l p asked.predicate pushed means refl in_order);
         relates = λ w s sat all. relates (items_of m) w (m.param_env e) s
             (All-head (Holds (items_of m) w s) asked [] (All_back (Holds (items_of m) w s) (goals_of m gs) (asked ∷ []) all));
         keeps = λ w s sat one. (

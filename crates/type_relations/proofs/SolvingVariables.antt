@@ -1,6 +1,6 @@
 -- Binding a variable in a context, as a step, and being refused.
-use Rattle.std.proofs.Common.{◌≡◌, ◌≢◌, ◌⊎◌, ℕ, ◌+◌, ◌*◌, ◌≤◌, ◌<◌, refl, sym, ap, ap₂, ◌∙◌, arith, inl, inr, subst, subst₂, List, [], IsTrue}
-use Rattle.std.proofs.Common.{Result, Ok, Err}
+use Rattle.std.proofs.Common.{◌≡◌, ◌≢◌, ◌⊎◌, ℕ, ◌+◌, ◌*◌, ◌≤◌, refl, sym, ap, ap₂, ◌∙◌, arith, inl, inr, subst, subst₂, List, [], IsTrue}
+use Rattle.std.proofs.Common.{Ok, Err}
 use Rattle.relation_terms.specs.declared.terms.enums.Variance.{Variance}
 use Rattle.relation_terms.specs.declared.terms.enums.Variance.TheVariants.{Covariant, Contravariant, Invariant, Bivariant}
 use Rattle.relation_terms.specs.declared.terms.goal.Goal.{Goal}
@@ -15,7 +15,7 @@ use Rattle.relation_tools.specs.declared.error.RelateFault.{RelateFault}
 use Rattle.relation_tools.specs.declared.error.RelateFault.TheVariants.{Memory, Budget, Unrelated}
 use Rattle.type_relations.specs.declared.relate.Step.TheVariants.{Again}
 use Rattle.type_relations.specs.Relation.{Items, Interpretation, Rel, at, same as same_rel}
-use Rattle.type_relations.specs.Stores.{Store, unbound, entry_of, entry_term, bound_term, IsMade, IsTermIn, IsSound, Satisfies}
+use Rattle.type_relations.specs.Stores.{Store, unbound, entry_of, entry_term, IsMade, IsTermIn, IsSound, Satisfies}
 use Rattle.type_relations.specs.Stores.{MayStandFor, resolved, weight}
 use Rattle.type_relations.specs.Headline.{IsFirstOrderPair}
 use Rattle.type_relations.specs.Steps.{Instantiates, RefusesToInstantiate}

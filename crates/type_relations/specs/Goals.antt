@@ -6,10 +6,10 @@ use Rattle.relation_terms.specs.declared.terms.keys.PredicateKey.{PredicateKey}
 use Rattle.relation_terms.specs.declared.terms.enums.AliasRelationDirection.{AliasRelationDirection}
 use Rattle.relation_terms.specs.declared.terms.enums.AliasRelationDirection.TheVariants.{Equate, Subtype}
 use Rattle.relation_terms.specs.declared.terms.enums.Variance.{Variance}
-use Rattle.relation_terms.specs.declared.terms.enums.Variance.TheVariants.{Covariant}
+use Rattle.relation_terms.specs.declared.terms.enums.Variance.TheVariants.{Covariant, Bivariant}
 use Rattle.relation_terms.specs.Heads.{type_var, ambiguous, subtype, well_formed, alias_relate, variable, atom}
 use Rattle.relation_terms.specs.Trees.{Tree, leaf, node, bind, nil, cons, Assign, apply, known}
-use Rattle.type_relations.specs.Relation.{Items, Interpretation, IsEqualPair, IsOrderedPair, Rel, at}
+use Rattle.type_relations.specs.Relation.{Items, Interpretation, IsEqualPair, IsOrderedPair, Rel, at, mode}
 use Rattle.type_relations.specs.Stores.{Store, unbound, entry_of, IsMade, Satisfies, InContext}
 
 -- A registered goal: a predicate, whole, in the environment in which it is to hold.
@@ -80,16 +80,24 @@ GoalInContext st g = InContext st g.predicate
 abbrev pub IsOpen : Store → Store → ℕ → Type 0
 IsOpen before after n = IsMade after type_var n × (entry_of before type_var n ≡ unbound)
 
--- What relating registers between two stores: that of two such variables the one is a subtype of the other.
-pub data IsRegistered (before after : Store) (p : Tree) : Type 0 where
+-- A type of a form one of whose parts is declared bivariant.
+abbrev pub HasBivariantPart : Items → Tree → Type 0
+HasBivariantPart c (node h ts) = (i : ℕ) × (mode c h i ≡ Bivariant)
+HasBivariantPart c t = ⊥
+
+-- What relating registers between two stores: that of two such variables the one is a subtype of the other; that a type
+-- of the context with a bivariant part is well formed.
+pub data IsRegistered (c : Items) (before after : Store) (p : Tree) : Type 0 where
   of_variables : (x : Bool) (n m : ℕ) →
       p ≡ subtype_predicate x (leaf (variable type_var n)) (leaf (variable type_var m)) → IsOpen before after n →
-      IsOpen before after m → IsRegistered before after p
+      IsOpen before after m → IsRegistered c before after p
+  of_type : (t : Tree) → p ≡ well_formed_predicate t → InContext after t → HasBivariantPart c t →
+      IsRegistered c before after p
 
 -- A goal that relating registers between two stores, in an environment.
-pub record Registered (e : Tree) (before after : Store) (g : Goal) : Type 0 where
+pub record Registered (c : Items) (e : Tree) (before after : Store) (g : Goal) : Type 0 where
   pub environment : g.environment ≡ e
-  pub asks : IsRegistered before after g.predicate
+  pub asks : IsRegistered c before after g.predicate
 
 -- Both sides of a subtype or alias goal are one tree.
 abbrev pub HasOneTree : Assign → Asked → Type 0

@@ -126,7 +126,7 @@ module _ {Key Id Name : Type 0} where
     pub goes : Goes n r.store q.store
     pub added : List Goal
     pub lengthens : q.goals ≡ r.goals ++ added
-    pub goals_in : All (Registered r.environment r.store q.store) added
+    pub goals_in : All (Registered (items_in r) r.environment r.store q.store) added
     pub environment : q.environment ≡ r.environment
     pub ambient : q.ambient ≡ r.ambient
     pub settings : q.settings ≡ r.settings

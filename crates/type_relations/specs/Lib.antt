@@ -31,3 +31,5 @@ pub mod NumberValues
 pub mod ContextCalls
 pub mod NumberVars
 pub mod Solving
+pub mod Bivariance
+pub mod Emitting

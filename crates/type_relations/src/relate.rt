@@ -3,6 +3,7 @@ ghost use Rattle.std.specs.Prelude.{◌≡◌};
 ghost use Rattle.type_relations.specs.DiagInfo.{first_invariant, NestingIsAssociative, NothingIsUnit};
 
 mod args;
+pub mod combine;
 pub mod comparing;
 mod forms;
 pub mod handing;

@@ -31,7 +31,7 @@ pub(crate) enum ArgVariances<D> {
 }
 
 // The number of arguments of a list.
-fn args_count<I: Interner>(cx: &I, args: &GenericArgs<I>) -> usize
+pub(crate) fn args_count<I: Interner>(cx: &I, args: &GenericArgs<I>) -> usize
     requires { IsTrue (known ((I.meaning cx.now).args args.now)) }
     ensures counts { result ≡ count ((I.meaning cx.now).args args.now) }
     ensures is_list { IsList ((I.meaning cx.now).args args.now) }
@@ -40,7 +40,7 @@ fn args_count<I: Interner>(cx: &I, args: &GenericArgs<I>) -> usize
 }
 
 // The argument at a place of a list.
-fn arg_at<I: Interner>(cx: &I, args: &GenericArgs<I>, i: usize) -> GenericArg<I>
+pub(crate) fn arg_at<I: Interner>(cx: &I, args: &GenericArgs<I>, i: usize) -> GenericArg<I>
     requires args_known { IsTrue (known ((I.meaning cx.now).args args.now)) }
     requires in_bounds { i < count ((I.meaning cx.now).args args.now) }
     ensures sure { IsTrue (known (arg_tree (I.meaning cx.now) result)) }

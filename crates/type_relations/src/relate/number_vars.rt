@@ -2,6 +2,8 @@
 ghost use Rattle.std.specs.Prelude.{◌≡◌, ◌≢◌, IsTrue, IsFalse, IfSome, IfNone};
 ghost use Rattle.relation_terms.specs.declared.terms.ty_kind.TyKind.TheVariants.{Infer, Int, Uint, Float};
 ghost use Rattle.relation_terms.specs.declared.terms.ty_kind.InferTy.TheVariants.{IntVar, FloatVar};
+ghost use Rattle.relation_tools.specs.declared.error.TypeError.TheVariants.{Sorts};
+ghost use Rattle.relation_tools.specs.declared.error.RelateFault.TheVariants.{Unrelated};
 ghost use Rattle.type_relations.specs.Contexts.{KnowsTy};
 ghost use Rattle.type_relations.specs.ContextCalls.{IsUnresolved, EquatesTwo, BindsNumber};
 ghost use Rattle.type_relations.specs.Steps.{IsNumberFor};
@@ -12,6 +14,7 @@ use crate::infer_ctxt::InferCtxtLike;
 use relation_terms::terms::{
     FloatVarValue, FloatVid, InferTy, IntVarValue, IntVid, Interner, Ty, TyKind,
 };
+use relation_tools::error::{ExpectedFound, RelateFault, RelateFaultOf, TypeError};
 
 // An integer variable, or a float variable.
 #[derive(Clone, Copy)]
@@ -135,4 +138,11 @@ pub(crate) fn bind_number<Infcx: InferCtxtLike>(
             true
         }
     }
+}
+
+// Two types of which one is a number variable that can't be bound to the other.
+pub(crate) fn unlike<I: Interner>(a: &Ty<I>, b: &Ty<I>) -> RelateFaultOf<I>
+    ensures { result ≡ Unrelated (Sorts (record { expected = a.now; found = b.now })) }
+{
+    RelateFault::Unrelated(TypeError::Sorts(ExpectedFound::new(*a, *b)))
 }

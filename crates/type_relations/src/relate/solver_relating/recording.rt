@@ -8,12 +8,12 @@ ghost use Rattle.type_relations.specs.Measures.{Goes};
 ghost use Rattle.type_relations.specs.Contexts.{KnowsTy, HasRegion};
 ghost use Rattle.type_relations.specs.ContextCalls.{Stands};
 ghost use Rattle.type_relations.specs.Constraints.{constraint_at, constraint_of};
-ghost use Rattle.type_relations.specs.Goals.{subtype_predicate};
+ghost use Rattle.type_relations.specs.Goals.{subtype_predicate, well_formed_predicate};
 
 use crate::infer_ctxt::{InferCtxtLike, VisibleForLeakCheck};
-use relation_terms::predicate::{PredicateKind, SubtypePredicate};
+use relation_terms::predicate::{ClauseKind, PredicateKind, SubtypePredicate};
 use relation_terms::terms::{
-    Binder, BoundVariable, Interner, OutOfMemory, Predicate, Region, Span, Ty, Variance,
+    Binder, BoundVariable, Interner, OutOfMemory, Predicate, Region, Span, TermKind, Ty, Variance,
 };
 
 // Records what two regions that are related at a variance are asked for.
@@ -84,4 +84,34 @@ pub(crate) fn subtype_predicate<Infcx: InferCtxtLike>(
 {
     infcx.interner_grows();
     mk_subtype(infcx.cx_mut(), a_is_expected, a, b)
+}
+
+// The predicate, under a binder of no variables, that a type is well formed.
+fn mk_well_formed<I: Interner>(cx: &mut I, ty: &Ty<I>) -> Result<Predicate<I>, OutOfMemory>
+    requires ty_known { IsTrue (known ((I.meaning cx.old).ty ty.now)) }
+    ensures grown { Extends (I.meaning cx.old) (I.meaning cx.new) }
+    ensures made { let m = I.meaning cx.old in
+        IfOk result (λ p. (I.meaning cx.new).predicate p ≡ well_formed_predicate (m.ty ty.now)) }
+{
+    let none: Vec<BoundVariable<I>> = Vec::new(cx.alloc());
+    let bound_vars = cx.mk_bound_vars(&none)?;
+    let value = PredicateKind::Clause(ClauseKind::WellFormed(TermKind::Ty(*ty)));
+    cx.mk_predicate(Binder { value, bound_vars })
+}
+
+// The same over a context's interner. Nothing is recorded.
+pub(crate) fn well_formed_predicate<Infcx: InferCtxtLike>(
+    infcx: &mut Infcx,
+    ty: &Ty<Infcx::Interner>,
+) -> Result<Predicate<Infcx::Interner>, OutOfMemory>
+    requires lawful { (Infcx.state infcx.old).lawful }
+    requires ty_known { KnowsTy (Infcx.state infcx.old) ty.now }
+    ensures grown { Extends (Infcx.state infcx.old).meaning (Infcx.state infcx.new).meaning }
+    ensures same_store { (Infcx.state infcx.new).store ≡ (Infcx.state infcx.old).store }
+    ensures lawful { (Infcx.state infcx.new).lawful }
+    ensures made { let m = (Infcx.state infcx.old).meaning in
+        IfOk result (λ p. (Infcx.state infcx.new).meaning.predicate p ≡ well_formed_predicate (m.ty ty.now)) }
+{
+    infcx.interner_grows();
+    mk_well_formed(infcx.cx_mut(), ty)
 }

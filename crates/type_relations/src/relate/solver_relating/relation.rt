@@ -3,8 +3,6 @@ ghost use Rattle.std.specs.Prelude.{◌≡◌, ◌≢◌, ℕ, [], All};
 ghost use Rattle.relation_terms.specs.Heads.{arguments, type_var, variable};
 ghost use Rattle.relation_terms.specs.Trees.{leaf};
 ghost use Rattle.relation_terms.specs.declared.terms.enums.Variance.TheVariants.{Bivariant};
-ghost use Rattle.relation_tools.specs.declared.error.TypeError.TheVariants.{Sorts};
-ghost use Rattle.relation_tools.specs.declared.error.RelateFault.TheVariants.{Unrelated};
 ghost use Rattle.type_relations.specs.Contexts.{KnowsEnv, KnowsTy};
 ghost use Rattle.type_relations.specs.ContextCalls.{IsUnresolved};
 ghost use Rattle.type_relations.specs.Goals.{KnowsGoal};
@@ -14,7 +12,8 @@ ghost use Rattle.type_relations.specs.Resolving.{IsShallow, IsShallowConst};
 ghost use Rattle.type_relations.specs.Solving.{solving_in, solving_through, solver_manner};
 
 use crate::infer_ctxt::InferCtxtLike;
-use crate::relate::number_vars::{bind_number, equate_numbers, number_var};
+use crate::relate::combine::combine_ty_args;
+use crate::relate::number_vars::{bind_number, equate_numbers, number_var, unlike};
 use crate::relate::solver_relating::recording::{relate_regions, subtype_predicate};
 use crate::relate::structural::tys;
 use crate::relate::variables::{const_var, have_no_variable, ty_var};
@@ -23,7 +22,7 @@ use relation_terms::terms::{
     Const, GenericArgs, Goal, Interner, ItemOf, Keys, ParamEnv, Predicate, Region, Span, Ty, TyVid,
     Variance,
 };
-use relation_tools::error::{ExpectedFound, RelateFault, RelateFaultOf, RelateResult, TypeError};
+use relation_tools::error::RelateResult;
 use std::mem::replace;
 
 /// A goal over an interner's keys.
@@ -34,14 +33,14 @@ pub type GoalOf<I> = Goal<<I as Keys>::Key, Predicate<I>>;
 /// Types and constants are read by what is recorded of variables. A variable and a term that it is related with are made
 /// one, an integer or float variable and a type only where that is a type of its kind; of two regions it is recorded
 /// which has to outlive the other. Of two type variables it is registered, but at `Invariant`, that the one is a subtype
-/// of the other.
+/// of the other; of two types one of whose bivariant arguments is left open, that they are well formed.
 #[derive(Drop)]
 pub struct SolverRelating<'a, Infcx: InferCtxtLike> {
-    pub(super) infcx: &'a mut Infcx,
-    pub(super) ambient_variance: Variance,
-    pub(super) param_env: ParamEnv<Infcx::Interner>,
-    pub(super) span: Span<Infcx::Interner>,
-    pub(super) goals: Vec<GoalOf<Infcx::Interner>>,
+    pub(crate) infcx: &'a mut Infcx,
+    pub(crate) ambient_variance: Variance,
+    pub(crate) param_env: ParamEnv<Infcx::Interner>,
+    pub(crate) span: Span<Infcx::Interner>,
+    pub(crate) goals: Vec<GoalOf<Infcx::Interner>>,
 }
 
 impl<'a, Infcx: InferCtxtLike> SolverRelating<'a, Infcx> {
@@ -388,13 +387,6 @@ impl<'a, Infcx: InferCtxtLike> SolverRelating<'a, Infcx> {
     }
 }
 
-// Two types of which one is a number variable that can't be bound to the other.
-fn unlike<I: Interner>(a: &Ty<I>, b: &Ty<I>) -> RelateFaultOf<I>
-    ensures { result ≡ Unrelated (Sorts (record { expected = a.now; found = b.now })) }
-{
-    RelateFault::Unrelated(TypeError::Sorts(ExpectedFound::new(*a, *b)))
-}
-
 impl<'a, Infcx: InferCtxtLike> TypeRelation<Infcx::Interner> for SolverRelating<'a, Infcx> {
     ghost use Rattle.std.specs.Prelude.{refl};
     ghost use Rattle.type_relations.specs.Solving.{solving_through, solver_manner, solver_takes};
@@ -484,13 +476,15 @@ impl<'a, Infcx: InferCtxtLike> TypeRelation<Infcx::Interner> for SolverRelating<
 
     fn ty_args_done(
         &mut self,
-        _a_ty: &Ty<Infcx::Interner>,
-        _b_ty: &Ty<Infcx::Interner>,
-        _def_id: &ItemOf<Infcx::Interner>,
-        _a_args: &GenericArgs<Infcx::Interner>,
-        _b_args: &GenericArgs<Infcx::Interner>,
+        a_ty: &Ty<Infcx::Interner>,
+        b_ty: &Ty<Infcx::Interner>,
+        def_id: &ItemOf<Infcx::Interner>,
+        a_args: &GenericArgs<Infcx::Interner>,
+        b_args: &GenericArgs<Infcx::Interner>,
     ) -> RelateResult<Infcx::Interner, ()> {
-        Ok(())
+        combine_ty_args::<Infcx, SolverRelating<'a, Infcx>>(
+            self, a_ty, b_ty, def_id, a_args, b_args,
+        )
     }
 
     ghost reads = { λ r. Infcx.reads r.infcx.now };

@@ -1,9 +1,0 @@
-use Rattle.type_relations.specs.Solving.{solving_through}
-use Rattle.type_relations.proofs.Passing.{noted_nothing}
-use Rattle.type_relations.proofs.relate.solver_relating.relation.SolverRelatingTypeRelationInterner.ty_args_done.Goals as goal
-
-pub returns : goal.returns
-returns g c =
-    let r = c.args.self.now in
-    let s = g.Infcx.InferCtxtLike.state r.infcx.now in
-    noted_nothing tt (solving_through r.infcx.ghost_name r.goals.items s r.ambient_variance r.param_env)

@@ -1,0 +1,255 @@
+//! Relations that register goals, and what they register of types over one item, whose arguments were related.
+ghost use Rattle.std.specs.Prelude.{◌≡◌, ◌<◌, [], ◌∷◌, All, IsTrue, IfOk, map};
+ghost use Rattle.std.specs.Borrow.{sem, Lends};
+ghost use Rattle.relation_terms.specs.Trees.{known, count, nth};
+ghost use Rattle.relation_terms.specs.Meaning.{arg_tree};
+ghost use Rattle.type_relations.specs.Bivariance.{is_left_open, TellsOpen, TellsEitherOpen, RegistersWellFormed};
+ghost use Rattle.type_relations.specs.ContextCalls.{Grows};
+ghost use Rattle.type_relations.specs.Emitting.{AddsGoals, IsOver, KnowsPredicate, goals_in};
+ghost use Rattle.type_relations.specs.Contexts.{KnowsTy};
+ghost use Rattle.type_relations.specs.Goals.{KnowsGoal, goals_of, well_formed_predicate};
+ghost use Rattle.type_relations.specs.Keyed.{AreOver};
+ghost use Rattle.type_relations.specs.Lawful.{State, Noted, WithMeaning, items_in, items_of, listed};
+ghost use Rattle.type_relations.specs.Stores.{IsTermIn};
+
+use crate::infer_ctxt::InferCtxtLike;
+use crate::relate::StructurallyRelateAliases;
+use crate::relate::args::{arg_at, args_count};
+use crate::relate::solver_relating::{GoalOf, recording};
+use relation_terms::terms::{
+    GenericArg, GenericArgKind, GenericArgs, Interner, ItemOf, OutOfMemory, ParamEnv, Predicate,
+    Span, Ty, Variance,
+};
+use relation_tools::error::RelateResult;
+
+/// A relation of the terms of a context, which registers goals.
+///
+/// Upstream each is a `TypeRelation`. Here it is not: else no step of a relation could call what is written over it.
+pub trait PredicateEmittingRelation<Infcx: InferCtxtLike> {
+    // The relation as it stands.
+    ghost state: { Self → State Infcx.Interner.Key Infcx.Interner.Id Infcx.Interner.Name };
+
+    // The context.
+    ghost context: { Self → Infcx };
+
+    // The relation over another context.
+    ghost with_context: { Self → Infcx → Self };
+
+    /// The context.
+    fn infcx(&self) -> &Infcx
+        ensures { result.now ≡ context self.now };
+
+    /// The context, to record in it.
+    fn infcx_mut(&mut self) -> &mut Infcx
+        ensures* writes_back { sem 𝓛 (Lends Self.row Infcx.row self.entry result (with_context self.entry.now)) }
+        ensures value { result.now ≡ context self.old };
+
+    /// Does nothing: it shows that, while nothing is recorded, a context that makes terms changes nothing of the
+    /// relation but what its interner knows.
+    fn context_grows(&self)
+        ensures { (c : Infcx) → Grows (Infcx.state (context self.now)) (Infcx.state c) →
+            (Infcx.state c).store ≡ (Infcx.state (context self.now)).store → (state self.now).lawful →
+            WithMeaning (state self.now) (Infcx.state c).meaning (state (with_context self.now c)) };
+
+    /// The span with which constraints on regions are recorded.
+    fn span(&self) -> Span<Infcx::Interner>;
+
+    /// The environment in which goals are registered.
+    fn param_env(&self) -> ParamEnv<Infcx::Interner>
+        ensures { (state self.now).meaning.param_env result ≡ (state self.now).environment };
+
+    /// Whether aliases are related by their items and arguments, or by a goal.
+    fn structurally_relate_aliases(&self) -> StructurallyRelateAliases
+        ensures { result ≡ ((state self.now).settings).structurally_relate_aliases };
+
+    /// Registers goals, behind those that there were. After `OutOfMemory` none was registered.
+    fn register_goals(&mut self, goals: &[GoalOf<Infcx::Interner>]) -> Result<(), OutOfMemory>
+        requires known { All (KnowsGoal (state self.old).meaning) goals.now }
+        ensures { AddsGoals (state self.old) (state self.new) (goals_of (state self.old).meaning goals.now) result };
+
+    /// The same of predicates, in the relation's environment.
+    fn register_predicates(
+        &mut self,
+        predicates: &[Predicate<Infcx::Interner>],
+    ) -> Result<(), OutOfMemory>
+        requires lawful { (state self.old).lawful }
+        requires known { All (KnowsPredicate (state self.old).meaning) predicates.now }
+        ensures { AddsGoals (state self.old) (state self.new) (goals_in (state self.old) predicates.now) result };
+
+    // What it has recorded is what the context has, over its keys.
+    ghost over: { (r : Self) → IsOver (state r) (Infcx.state (context r)) };
+}
+
+// The variance that an item declares of its parameter at a place.
+fn declared_variance<I: Interner>(cx: &I, def_id: &ItemOf<I>, i: usize) -> Variance
+    ensures { let m = I.meaning cx.now in result ≡ listed (m.variances (m.id (def_id.now).0)) i }
+{
+    match cx.variances_of(def_id).get(i) {
+        Some(variance) => *variance,
+        None => Variance::Invariant,
+    }
+}
+
+// The same, of a context's interner.
+fn variance_of<Infcx: InferCtxtLike>(
+    infcx: &Infcx,
+    def_id: &ItemOf<Infcx::Interner>,
+    i: usize,
+) -> Variance
+    ensures { let m = (Infcx.state infcx.now).meaning in result ≡ (items_of m).declared (m.id (def_id.now).0) i }
+{
+    declared_variance(infcx.cx(), def_id, i)
+}
+
+// The number of arguments of a list, and the one at a place.
+fn args_count_of<Infcx: InferCtxtLike>(infcx: &Infcx, args: &GenericArgs<Infcx::Interner>) -> usize
+    requires { IsTrue (known ((Infcx.state infcx.now).meaning.args args.now)) }
+    ensures { result ≡ count ((Infcx.state infcx.now).meaning.args args.now) }
+{
+    args_count(infcx.cx(), args)
+}
+
+fn arg_of<Infcx: InferCtxtLike>(
+    infcx: &Infcx,
+    args: &GenericArgs<Infcx::Interner>,
+    i: usize,
+) -> GenericArg<Infcx::Interner>
+    requires args_known { IsTrue (known ((Infcx.state infcx.now).meaning.args args.now)) }
+    requires in_bounds { i < count ((Infcx.state infcx.now).meaning.args args.now) }
+    ensures sure { IsTrue (known (arg_tree (Infcx.state infcx.now).meaning result)) }
+    ensures means { let m = (Infcx.state infcx.now).meaning in arg_tree m result ≡ nth i (m.args args.now) }
+{
+    arg_at(infcx.cx(), args, i)
+}
+
+// Whether a variable, but of regions, stands in what an argument comes to. Nothing is recorded.
+fn is_left_open<Infcx: InferCtxtLike>(
+    infcx: &mut Infcx,
+    arg: &GenericArg<Infcx::Interner>,
+) -> Result<bool, OutOfMemory>
+    requires lawful { (Infcx.state infcx.old).lawful }
+    requires arg_known { IsTrue (known (arg_tree (Infcx.state infcx.old).meaning arg.now)) }
+    requires arg_in { let c = Infcx.state infcx.old in IsTermIn c.store (arg_tree c.meaning arg.now) }
+    ensures grows { Grows (Infcx.state infcx.old) (Infcx.state infcx.new) }
+    ensures same_record { (Infcx.state infcx.new).store ≡ (Infcx.state infcx.old).store }
+    ensures tells { let c = Infcx.state infcx.old in
+        IfOk result (λ b. b ≡ is_left_open c.store (arg_tree c.meaning arg.now)) }
+{
+    match arg {
+        GenericArgKind::Lifetime(_) => Ok(false),
+        GenericArgKind::Ty(ty) => {
+            let resolved = infcx.resolve_vars_if_possible(ty)?;
+            Ok(infcx.cx().ty_flags(&resolved).has_non_region_infer)
+        }
+        GenericArgKind::Const(constant) => {
+            let resolved = infcx.resolve_const_vars_if_possible(constant)?;
+            Ok(infcx.cx().const_flags(&resolved).has_non_region_infer)
+        }
+    }
+}
+
+// Whether an argument of a list that an item declares bivariant is left open. Nothing is recorded.
+fn has_open_argument<Infcx: InferCtxtLike>(
+    infcx: &mut Infcx,
+    def_id: &ItemOf<Infcx::Interner>,
+    args: &GenericArgs<Infcx::Interner>,
+) -> Result<bool, OutOfMemory>
+    requires lawful { (Infcx.state infcx.old).lawful }
+    requires args_known { IsTrue (known ((Infcx.state infcx.old).meaning.args args.now)) }
+    requires args_in { let c = Infcx.state infcx.old in IsTermIn c.store (c.meaning.args args.now) }
+    ensures grows { Grows (Infcx.state infcx.old) (Infcx.state infcx.new) }
+    ensures same_record { (Infcx.state infcx.new).store ≡ (Infcx.state infcx.old).store }
+    ensures tells { let c = Infcx.state infcx.old in let m = c.meaning in
+        TellsOpen (items_of m) c.store (m.id (def_id.now).0) (m.args args.now) result }
+{
+    let n = args_count_of(&*infcx, args);
+    for i in 0..n {
+        if let Variance::Bivariant = variance_of(&*infcx, def_id, i) {
+            let arg = arg_of(&*infcx, args, i);
+            if is_left_open(infcx, &arg)? {
+                return Ok(true);
+            }
+        }
+    }
+    Ok(false)
+}
+
+// The same of one of two lists.
+fn have_open_argument<Infcx: InferCtxtLike>(
+    infcx: &mut Infcx,
+    def_id: &ItemOf<Infcx::Interner>,
+    a_args: &GenericArgs<Infcx::Interner>,
+    b_args: &GenericArgs<Infcx::Interner>,
+) -> Result<bool, OutOfMemory>
+    requires lawful { (Infcx.state infcx.old).lawful }
+    requires a_known { IsTrue (known ((Infcx.state infcx.old).meaning.args a_args.now)) }
+    requires b_known { IsTrue (known ((Infcx.state infcx.old).meaning.args b_args.now)) }
+    requires a_in { let c = Infcx.state infcx.old in IsTermIn c.store (c.meaning.args a_args.now) }
+    requires b_in { let c = Infcx.state infcx.old in IsTermIn c.store (c.meaning.args b_args.now) }
+    ensures grows { Grows (Infcx.state infcx.old) (Infcx.state infcx.new) }
+    ensures same_record { (Infcx.state infcx.new).store ≡ (Infcx.state infcx.old).store }
+    ensures tells { let c = Infcx.state infcx.old in let m = c.meaning in TellsEitherOpen (items_of m) c.store
+        (m.id (def_id.now).0) (m.args a_args.now) (m.args b_args.now) result }
+{
+    if has_open_argument(infcx, def_id, a_args)? {
+        return Ok(true);
+    }
+    has_open_argument(infcx, def_id, b_args)
+}
+
+// The predicates that two types are well formed. Nothing is recorded.
+fn both_well_formed<Infcx: InferCtxtLike>(
+    infcx: &mut Infcx,
+    a: &Ty<Infcx::Interner>,
+    b: &Ty<Infcx::Interner>,
+) -> Result<Vec<Predicate<Infcx::Interner>>, OutOfMemory>
+    requires lawful { (Infcx.state infcx.old).lawful }
+    requires a_known { KnowsTy (Infcx.state infcx.old) a.now }
+    requires b_known { KnowsTy (Infcx.state infcx.old) b.now }
+    ensures grows { Grows (Infcx.state infcx.old) (Infcx.state infcx.new) }
+    ensures same_record { (Infcx.state infcx.new).store ≡ (Infcx.state infcx.old).store }
+    ensures made { let m = (Infcx.state infcx.old).meaning in let n = (Infcx.state infcx.new).meaning in
+        IfOk result (λ ps. map n.predicate ps.items ≡
+        well_formed_predicate (m.ty a.now) ∷ well_formed_predicate (m.ty b.now) ∷ []) }
+{
+    let mut predicates = Vec::new(infcx.cx().alloc());
+    predicates.push(recording::well_formed_predicate(infcx, a)?)?;
+    predicates.push(recording::well_formed_predicate(infcx, b)?)?;
+    Ok(predicates)
+}
+
+/// Registers, in the relation's environment, that two types over one item are well formed, the first one's first, where
+/// an argument of either that the item declares bivariant is left open: a variable, but of regions, stands in what it
+/// comes to. Relating the types has left that argument aside, so nothing else would ever say what the variable is.
+///
+/// Both types are the relation's, and the lists are theirs. It is called where their arguments were related at the
+/// variances that the item declares. Answers `Memory` where a growth was refused, else nothing.
+/// Upstream it relates the arguments too, and looks at each as its place comes.
+pub fn combine_ty_args<Infcx: InferCtxtLike, R: PredicateEmittingRelation<Infcx>>(
+    relation: &mut R,
+    a_ty: &Ty<Infcx::Interner>,
+    b_ty: &Ty<Infcx::Interner>,
+    def_id: &ItemOf<Infcx::Interner>,
+    a_args: &GenericArgs<Infcx::Interner>,
+    b_args: &GenericArgs<Infcx::Interner>,
+) -> RelateResult<Infcx::Interner, ()>
+    requires lawful { (R.state relation.old).lawful }
+    requires a_known { IsTrue (known ((R.state relation.old).meaning.ty a_ty.now)) }
+    requires b_known { IsTrue (known ((R.state relation.old).meaning.ty b_ty.now)) }
+    requires a_in { let r = R.state relation.old in IsTermIn r.store (r.meaning.ty a_ty.now) }
+    requires b_in { let r = R.state relation.old in IsTermIn r.store (r.meaning.ty b_ty.now) }
+    requires over { AreOver (R.state relation.old) def_id.now a_ty.now b_ty.now a_args.now b_args.now }
+    ensures noted { Noted (R.state relation.old) (R.state relation.new) result }
+    ensures registers { let r = R.state relation.old in let m = r.meaning in
+        IfOk result (λ _. RegistersWellFormed (items_in r) r.store r.environment (m.id (def_id.now).0) (m.ty a_ty.now)
+        (m.ty b_ty.now) (m.args a_args.now) (m.args b_args.now) r.goals (R.state relation.new).goals) }
+{
+    relation.context_grows();
+    if !have_open_argument(relation.infcx_mut(), def_id, a_args, b_args)? {
+        return Ok(());
+    }
+    relation.context_grows();
+    let predicates = both_well_formed(relation.infcx_mut(), a_ty, b_ty)?;
+    relation.register_predicates(predicates.as_slice())?;
+    Ok(())
+}
