@@ -370,8 +370,8 @@ fn write_bound<I: Interner, W: Write>(
     if any { out.write_str("]") } else { Ok(()) }
 }
 
-/// Writes what a relation answered, the goals that it leaves, and then what its context has recorded: the constraints on
-/// regions, in the order in which they were recorded, and the roots that are bound to a term.
+/// Writes what a relation answered, the goals that it leaves, and then what its context has recorded: the constraints
+/// on regions, in the order in which they were recorded, and the roots that are bound to a term.
 ///
 /// # Errors
 /// `fmt::Error` where `out` refused to take some of the text. What it took before stands.

@@ -66,7 +66,8 @@ fn make_param<C: InferCtxtLike>(
         .mk_const(ConstKind::Param(ParamConst { index: 0, name }))
 }
 
-// Whether a new type variable is its own root, marked as related to no other, of the first universe, and read as itself.
+// Whether a new type variable is its own root, marked as related to no other, of the first universe, and read as
+// itself.
 fn has_new_ty<C: InferCtxtLike>(ctx: &mut C) -> Result<bool, OutOfMemory>
     requires lawful { (C.state ctx.old).lawful }
     requires none { ((C.state ctx.old).store).entries type_var ≡ [] }

@@ -155,8 +155,8 @@ module _ {Key Id Name : Type 0} where
   MayAnswerBy M q (second_opened ks ls v) t u = Unit {0}
   MayAnswerBy M q (first_opened ks ls v) t u = Unit {0}
 
-  -- What a fault says of two terms at a variance: a type error that no assignment makes them one, and which error it is,
-  -- over known terms; a spent budget that nothing is left of it; want of memory nothing.
+  -- What a fault says of two terms at a variance: a type error that no assignment makes them one, and which error it
+  -- is, over known terms; a spent budget that nothing is left of it; want of memory nothing.
   abbrev pub RefusesBy : State Key Id Name → State Key Id Name → Way → Tree → Tree → RelateFault Key Id Name → Type 0
   RefusesBy r q way a b (Unrelated e) = NeverOne way r.store a b ×
       ErrorOf q.meaning (items_in q) q.store (seen_at way) e a b × KnowsError q.meaning e

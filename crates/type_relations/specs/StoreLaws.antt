@@ -60,8 +60,8 @@ GeneralisingIsOne = (c : Items) (start : Store) (k : VarKind) (n : ℕ) (v : Var
     Generalised c start k n (any_part v) (record { store = start; met = [] }) t r x →
     Generalised c start k n (any_part v) (record { store = start; met = [] }) t q y → x ≡ y
 
--- Binding a variable of a type or a constant to what a term comes to, generalised for it, instantiates it; new variables
--- on the way cost nothing, and the binding squares sizes at most.
+-- Binding a variable of a type or a constant to what a term comes to, generalised for it, instantiates it; new
+-- variables on the way cost nothing, and the binding squares sizes at most.
 abbrev pub GeneralisingInstantiates : Type 0
 GeneralisingInstantiates = (c : Items) (before after : Store) (v : Variance) (k : VarKind) (n : ℕ)
     (source term : Tree) → IsTypeOrConst k → InstantiatesBy c before after v k n source term →

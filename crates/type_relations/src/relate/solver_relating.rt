@@ -30,12 +30,12 @@ pub trait RelateExt: InferCtxtLike {
     /// pattern type, an error, a binder or what it binds, or a stand-in.
     ///
     /// After `Ok`, each assignment that satisfies what is recorded and makes the goals true relates the types; and each
-    /// that satisfied what was recorded and made them one extends to such a one. Each goal asks, in the environment, that
-    /// of two type variables the one is a subtype of the other: such as met at `Covariant` or `Contravariant`, each
-    /// unbound before or made on the way; or that a type is well formed, one with a bivariant part: of types over one
-    /// item that met there, where a variable, but of regions, was left in a bivariant argument of either. Equal types
-    /// record nothing, and ask for no goal. Of first-order types in a first-order record at `Invariant` just those
-    /// solutions up to erasure stay that unify them: what is recorded is then a most general unifier.
+    /// that satisfied what was recorded and made them one extends to such a one. Each goal asks, in the environment,
+    /// that of two type variables the one is a subtype of the other: such as met at `Covariant` or `Contravariant`,
+    /// each unbound before or made on the way; or that a type is well formed, one with a bivariant part: of types over
+    /// one item that met there, where a variable, but of regions, was left in a bivariant argument of either. Equal
+    /// types record nothing, and ask for no goal. Of first-order types in a first-order record at `Invariant` just
+    /// those solutions up to erasure stay that unify them: what is recorded is then a most general unifier.
     ///
     /// Answers `Unrelated` only where no assignment that satisfied what was recorded makes the types one: with the
     /// error of two parts that stand at one place, the left side's first, or of a cycle. Of first-order types in a
@@ -43,8 +43,8 @@ pub trait RelateExt: InferCtxtLike {
     /// instantiation is left, and `Memory` where a growth was refused.
     ///
     /// On each outcome all that was recorded stands. It makes no variable of a number, and others only to instantiate
-    /// one: none where nothing was left of the budget, or no variable of a type or a constant was unbound. It binds only
-    /// what was the context's and unbound, or was made on the way: variables of types and constants each for one
+    /// one: none where nothing was left of the budget, or no variable of a type or a constant was unbound. It binds
+    /// only what was the context's and unbound, or was made on the way: variables of types and constants each for one
     /// instantiation, those of numbers for none. After an error more may have been recorded and made on the way.
     fn relate(
         &mut self,

@@ -30,10 +30,10 @@ pub type GoalOf<I> = Goal<<I as Keys>::Key, Predicate<I>>;
 
 /// Relates the terms of a context, at an ambient variance and in an environment.
 ///
-/// Types and constants are read by what is recorded of variables. A variable and a term that it is related with are made
-/// one, an integer or float variable and a type only where that is a type of its kind; of two regions it is recorded
-/// which has to outlive the other. Of two type variables it is registered, but at `Invariant`, that the one is a subtype
-/// of the other; of two types one of whose bivariant arguments is left open, that they are well formed.
+/// Types and constants are read by what is recorded of variables. A variable and a term that it is related with are
+/// made one, an integer or float variable and a type only where that is a type of its kind; of two regions it is
+/// recorded which has to outlive the other. Of two type variables it is registered, but at `Invariant`, that the one is
+/// a subtype of the other; of two types one of whose bivariant arguments is left open, that they are well formed.
 #[derive(Drop)]
 pub struct SolverRelating<'a, Infcx: InferCtxtLike> {
     pub(crate) infcx: &'a mut Infcx,
@@ -97,8 +97,8 @@ impl<'a, Infcx: InferCtxtLike> SolverRelating<'a, Infcx> {
     }
 
     /// Relates two lists of as many arguments, each pair at `Invariant` seen from the ambient variance, and answers the
-    /// list of what they are related as. The interner knows both, and they are arguments of the context. What was recorded
-    /// is in the context, also after an error.
+    /// list of what they are related as. The interner knows both, and they are arguments of the context. What was
+    /// recorded is in the context, also after an error.
     ///
     /// # Errors
     /// `Unrelated` where the arguments of a pair do not become one, `Budget` where no instantiation is left, `Memory`
@@ -116,7 +116,8 @@ impl<'a, Infcx: InferCtxtLike> SolverRelating<'a, Infcx> {
             let before = solving_in self.old.goals.items (Infcx.state self.old.infcx.now) v self.old.param_env in
             AskedLists solver_manner before (λ m. arguments) a.now b.now }
         requires as_many { let v = self.old.ambient_variance in
-            AreAsMany (solving_in self.old.goals.items (Infcx.state self.old.infcx.now) v self.old.param_env) a.now b.now }
+            let before = solving_in self.old.goals.items (Infcx.state self.old.infcx.now) v self.old.param_env in
+            AreAsMany before a.now b.now }
         ensures same_reference { self.new.infcx.ghost_name ≡ self.old.infcx.ghost_name }
         ensures related { let v = self.old.ambient_variance in
             let before = solving_in self.old.goals.items (Infcx.state self.old.infcx.now) v self.old.param_env in
@@ -178,8 +179,8 @@ impl<'a, Infcx: InferCtxtLike> SolverRelating<'a, Infcx> {
         }
     }
 
-    // What comes of two types that were resolved shallowly: two type variables as above; a type variable is bound to a type,
-    // which is then related with that.
+    // What comes of two types that were resolved shallowly: two type variables as above; a type variable is bound to a
+    // type, which is then related with that.
     fn combine_tys(
         &mut self,
         a: &Ty<Infcx::Interner>,
