@@ -1,6 +1,6 @@
 -- How many variables a context has, and after one more was made.
 use Rattle.std.proofs.Common.{◌≡◌, ℕ, zero, suc, ◌<◌, ◌≤◌, sym, ap, ◌∙◌, subst, arith, length, [], ◌∷◌, ◌++◌}
-use Rattle.std.proofs.lemmas.List.{length-map, length-append}
+use Rattle.std.proofs.lemmas.List.{length-append}
 use Rattle.relation_terms.specs.Heads.{VarKind, type_var, int_var, float_var, const_var, region_var}
 use Rattle.relation_terms.specs.Meaning.{Meaning}
 use Rattle.type_relations.specs.Stores.{unbound}
@@ -17,7 +17,7 @@ entries_count m x type_var = entries_long m.ty x.types.items
 entries_count m x int_var = entries_long m.ty x.ints.items
 entries_count m x float_var = entries_long m.ty x.floats.items
 entries_count m x const_var = entries_long m.const_ x.consts.items
-entries_count m x region_var = length-map x.regions.items _
+entries_count m x region_var = entries_long m.region x.regions.items
 
 -- What all smaller numbers are below is not smaller.
 as_many : (a b : ℕ) → ((i : ℕ) → i < a → i < b) → a ≤ b

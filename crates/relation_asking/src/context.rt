@@ -68,6 +68,7 @@ fn make_variable<I: Interner>(ctx: &mut RefCtxt<I>, kind: VariableKind) -> Resul
     ensures lawful { IsLawful (I.meaning ctx.new.interner) ctx.new.inner }
     ensures grown { Extends (I.meaning ctx.old.interner) (I.meaning ctx.new.interner) }
     ensures kept { (k : VarKind) → variables_in ctx.old.inner k ≤ variables_in ctx.new.inner k }
+    ensures universe { ctx.old.inner.universe.0 ≤ ctx.new.inner.universe.0 }
     ensures one_more { let k = var_kind kind in
         OnOk result (variables_in ctx.new.inner k ≡ suc (variables_in ctx.old.inner k)) }
 {
@@ -101,6 +102,7 @@ fn make_variables<I: Interner>(
     ensures lawful { IsLawful (I.meaning ctx.new.interner) ctx.new.inner }
     ensures grown { Extends (I.meaning ctx.old.interner) (I.meaning ctx.new.interner) }
     ensures kept { (k : VarKind) → variables_in ctx.old.inner k ≤ variables_in ctx.new.inner k }
+    ensures universe { ctx.old.inner.universe.0 ≤ ctx.new.inner.universe.0 }
     ensures has { OnOk result (count ≤ variables_in ctx.new.inner (var_kind kind)) }
 {
     for _ in variables_count(ctx, kind)..count {
@@ -119,6 +121,7 @@ fn reach<I: Interner>(
     ensures lawful { IsLawful (I.meaning ctx.new.interner) ctx.new.inner }
     ensures grown { Extends (I.meaning ctx.old.interner) (I.meaning ctx.new.interner) }
     ensures kept { (k : VarKind) → variables_in ctx.old.inner k ≤ variables_in ctx.new.inner k }
+    ensures universe { ctx.old.inner.universe.0 ≤ ctx.new.inner.universe.0 }
     ensures has { OnOk result ((i : ℕ) → Reaches largest i → i < variables_in ctx.new.inner (var_kind kind)) }
 {
     let count = count_to(largest)?;

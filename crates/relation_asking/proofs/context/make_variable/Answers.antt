@@ -50,3 +50,34 @@ pub returns-in_ok-next_region_infer-in-Region-clause-kept : goal.returns-in_ok-n
 returns-in_ok-next_region_infer-in-Region-clause-kept g c =
     none_lost (g.I.Interner.meaning c.args.ctx.now.interner) (g.I.Interner.meaning c.next_region_infer.new.self.interner)
     c.args.ctx.now.inner c.next_region_infer.new.self.inner c.next_region_infer.ensures.later
+
+-- The current universe does not fall.
+pub returns-in_err-next_ty_infer-in-Ty-clause-universe : goal.returns-in_err-next_ty_infer-in-Ty-clause-universe
+returns-in_err-next_ty_infer-in-Ty-clause-universe g c = c.next_ty_infer.ensures.later.universe_stands
+
+pub returns-in_ok-next_ty_infer-in-Ty-clause-universe : goal.returns-in_ok-next_ty_infer-in-Ty-clause-universe
+returns-in_ok-next_ty_infer-in-Ty-clause-universe g c = c.next_ty_infer.ensures.later.universe_stands
+
+pub returns-in_err-next_int_var-in-Int-clause-universe : goal.returns-in_err-next_int_var-in-Int-clause-universe
+returns-in_err-next_int_var-in-Int-clause-universe g c = c.next_int_var.ensures.later.universe_stands
+
+pub returns-in_ok-next_int_var-in-Int-clause-universe : goal.returns-in_ok-next_int_var-in-Int-clause-universe
+returns-in_ok-next_int_var-in-Int-clause-universe g c = c.next_int_var.ensures.later.universe_stands
+
+pub returns-in_err-next_float_var-in-Float-clause-universe : goal.returns-in_err-next_float_var-in-Float-clause-universe
+returns-in_err-next_float_var-in-Float-clause-universe g c = c.next_float_var.ensures.later.universe_stands
+
+pub returns-in_ok-next_float_var-in-Float-clause-universe : goal.returns-in_ok-next_float_var-in-Float-clause-universe
+returns-in_ok-next_float_var-in-Float-clause-universe g c = c.next_float_var.ensures.later.universe_stands
+
+pub returns-in_err-next_const_infer-in-Const-clause-universe : goal.returns-in_err-next_const_infer-in-Const-clause-universe
+returns-in_err-next_const_infer-in-Const-clause-universe g c = c.next_const_infer.ensures.later.universe_stands
+
+pub returns-in_ok-next_const_infer-in-Const-clause-universe : goal.returns-in_ok-next_const_infer-in-Const-clause-universe
+returns-in_ok-next_const_infer-in-Const-clause-universe g c = c.next_const_infer.ensures.later.universe_stands
+
+pub returns-in_err-next_region_infer-in-Region-clause-universe : goal.returns-in_err-next_region_infer-in-Region-clause-universe
+returns-in_err-next_region_infer-in-Region-clause-universe g c = c.next_region_infer.ensures.later.universe_stands
+
+pub returns-in_ok-next_region_infer-in-Region-clause-universe : goal.returns-in_ok-next_region_infer-in-Region-clause-universe
+returns-in_ok-next_region_infer-in-Region-clause-universe g c = c.next_region_infer.ensures.later.universe_stands

@@ -11,5 +11,6 @@ invariant-loop g l = record {
   lawful : IsLawful (g.I.Interner.meaning l.ctx.interner) l.ctx.inner;
   grown : Extends (g.I.Interner.meaning l.fn.ctx.interner) (g.I.Interner.meaning l.ctx.interner);
   kept : (k : VarKind) → variables_in l.fn.ctx.inner k ≤ variables_in l.ctx.inner k;
+  universe : (l.fn.ctx.inner.universe).0 ≤ (l.ctx.inner.universe).0;
   as_many : variables_in l.ctx.inner (var_kind l.fn.kind) ≡ l.counter;
 }

@@ -9,16 +9,17 @@ use Rattle.relation_reference.proofs.Grows.{lawful_grows}
 use Rattle.relation_asking.specs.Needs.{both_needs}
 use Rattle.relation_asking.specs.Asking.{IsReady, Has}
 use Rattle.relation_asking.proofs.AskingLemmas.{one_ready, as_arguments, has_left, has_right, ready_in}
+use Rattle.type_relations.specs.Goals.{KnowsGoal}
 use Rattle.type_relations.proofs.Solving.{all_taken}
 use Rattle.relation_asking.proofs.lists.relate_ready.Goals as goal
 
-pub relate_args-requires-clause-lawful : goal.relate_args-requires-clause-lawful
-relate_args-requires-clause-lawful g c =
+pub relate_args-related-requires-clause-lawful : goal.relate_args-related-requires-clause-lawful
+relate_args-related-requires-clause-lawful g c =
     lawful_grows c.empty_param_env.ensures.grown c.have_variables.new.ctx.inner c.have_variables.ensures.lawful
 
 -- Both lists are as ready as they were.
-pub relate_args-requires-clause-asked : goal.relate_args-requires-clause-asked
-relate_args-requires-clause-asked g c =
+pub relate_args-related-requires-clause-asked : goal.relate_args-related-requires-clause-asked
+relate_args-related-requires-clause-asked g c =
     let m = g.I.Interner.meaning c.args.ctx.now.interner in
     let n = g.I.Interner.meaning c.empty_param_env.new.self in
     let e : Extends m n = extends_on c.have_variables.ensures.grown c.empty_param_env.ensures.grown in
@@ -43,8 +44,8 @@ relate_args-requires-clause-asked g c =
     }
 
 -- Neither list changes while the interner grows.
-pub relate_args-requires-clause-as_many : goal.relate_args-requires-clause-as_many
-relate_args-requires-clause-as_many g c =
+pub relate_args-related-requires-clause-as_many : goal.relate_args-related-requires-clause-as_many
+relate_args-related-requires-clause-as_many g c =
     let m = g.I.Interner.meaning c.args.ctx.now.interner in
     let n = g.I.Interner.meaning c.empty_param_env.new.self in
     let e : Extends m n = extends_on c.have_variables.ensures.grown c.empty_param_env.ensures.grown in
@@ -52,19 +53,34 @@ relate_args-requires-clause-as_many g c =
     ap count (e.args c.args.lhs.0 c.requires.lhs_ready.0) ∙ c.are_as_many.ensures many
     ∙ sym (ap count (e.args c.args.rhs.0 c.requires.rhs_ready.0))
 
-pub returns-in-Ok-relate_args-clause-lawful : goal.returns-in-Ok-relate_args-clause-lawful
-returns-in-Ok-relate_args-clause-lawful g c = (((c.relate_args.ensures).passes).lawful (
-  lawful_grows c.empty_param_env.ensures.grown c.have_variables.new.ctx.inner c.have_variables.ensures.lawful,
-  (c.in-Ok-empty_param_env.ensures.sure, All-nil),
-)).0
+pub returns-in-Ok-related-clause-lawful : goal.returns-in-Ok-related-clause-lawful
+returns-in-Ok-related-clause-lawful g c =
+    let m = g.I.Interner.meaning c.empty_param_env.new.self in (((c.relate_args-related.ensures).passes).lawful (
+      lawful_grows c.empty_param_env.ensures.grown c.have_variables.new.ctx.inner c.have_variables.ensures.lawful,
+      (c.in-Ok-empty_param_env.ensures.sure, All-nil (KnowsGoal m)),
+    )).0
 
 pub returns-in-Err-clause-lawful : goal.returns-in-Err-clause-lawful
-returns-in-Err-clause-lawful g c = (((c.relate_args.ensures).passes).lawful (
-  lawful_grows c.empty_param_env.ensures.grown c.have_variables.new.ctx.inner c.have_variables.ensures.lawful,
-  (c.in-Ok-empty_param_env.ensures.sure, All-nil),
-)).0
+returns-in-Err-clause-lawful g c =
+    let m = g.I.Interner.meaning c.empty_param_env.new.self in (((c.relate_args-related.ensures).passes).lawful (
+      lawful_grows c.empty_param_env.ensures.grown c.have_variables.new.ctx.inner c.have_variables.ensures.lawful,
+      (c.in-Ok-empty_param_env.ensures.sure, All-nil (KnowsGoal m)),
+    )).0
 
-pub returns-in-Ok-relate_args-clause-grown : goal.returns-in-Ok-relate_args-clause-grown
-returns-in-Ok-relate_args-clause-grown g c =
+pub returns-in-Ok-related-clause-grown : goal.returns-in-Ok-related-clause-grown
+returns-in-Ok-related-clause-grown g c =
     extends_on (extends_on c.have_variables.ensures.grown c.empty_param_env.ensures.grown)
-    ((c.relate_args.ensures).passes).extends
+    ((c.relate_args-related.ensures).passes).extends
+
+pub returns-in-Err-clause-grown : goal.returns-in-Err-clause-grown
+returns-in-Err-clause-grown g c =
+    extends_on (extends_on c.have_variables.ensures.grown c.empty_param_env.ensures.grown)
+    ((c.relate_args-related.ensures).passes).extends
+
+-- The goals that were registered are known.
+pub returns-in-Ok-related-clause-known : goal.returns-in-Ok-related-clause-known
+returns-in-Ok-related-clause-known g c =
+    let m = g.I.Interner.meaning c.empty_param_env.new.self in ((((c.relate_args-related.ensures).passes).lawful (
+      lawful_grows c.empty_param_env.ensures.grown c.have_variables.new.ctx.inner c.have_variables.ensures.lawful,
+      (c.in-Ok-empty_param_env.ensures.sure, All-nil (KnowsGoal m)),
+    )).1).1
