@@ -1,4 +1,4 @@
 pub mod PlainLemmas
 pub mod Concrete
 pub mod OverItems
-pub mod TermsOfContexts
+pub mod Atoms

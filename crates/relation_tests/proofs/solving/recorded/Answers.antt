@@ -9,8 +9,8 @@ use Rattle.relation_tests.proofs.solving.recorded.Goals as goal
 -- No goal is registered yet.
 pub relate_tys-requires-clause-goals_known : goal.relate_tys-requires-clause-goals_known
 relate_tys-requires-clause-goals_known g c =
-    subst (All (KnowsGoal (g.I.Interner.meaning c.new-relation.result.infcx.now.interner)))
-    (sym c.new-relation.ensures.goals) All-nil
+    let m = g.I.Interner.meaning c.new-relation.result.infcx.now.interner in
+    subst (All (KnowsGoal m)) (sym c.new-relation.ensures.goals) (All-nil (KnowsGoal m))
 
 -- The relation is over the context that was lent, as it stands.
 pub relate_tys-requires-clause-asked : goal.relate_tys-requires-clause-asked
