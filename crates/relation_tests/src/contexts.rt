@@ -307,6 +307,7 @@ fn a_new_variable_is_its_own_root(rt: HostRuntime) -> Result<(), Fail> {
     assert!(rt; has_new_ty(&mut ctx)?);
     let mut ctx = RefCtxt::new(RefInterner::new(rt.alloc()), true, 0)?;
     assert!(rt; has_new_const(&mut ctx)?);
+    let mut ctx = RefCtxt::new(RefInterner::new(rt.alloc()), true, 0)?;
     assert!(rt; has_new_region(&mut ctx)?);
     Ok(())
 }
