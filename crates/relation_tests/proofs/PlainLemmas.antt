@@ -16,7 +16,7 @@ use Rattle.relation_tools.specs.declared.error.RelateFault.{RelateFault}
 use Rattle.relation_tools.specs.declared.error.RelateFault.TheVariants.{Memory}
 use Rattle.type_relations.specs.Relation.{Interpretation, Rel, RegionRule, regions, sort_of, at}
 use Rattle.type_relations.specs.Stores.{IsTermIn, IsRegionIn, ConstraintIn, ConstraintHolds, Satisfies}
-use Rattle.type_relations.specs.Goals.{GoalInContext, Holds, MakesOneTree}
+use Rattle.type_relations.specs.Goals.{GoalInContext, Registered, Holds, MakesOneTree}
 use Rattle.type_relations.specs.Steps.{AddsConstraint}
 use Rattle.type_relations.specs.Outcomes.{Outcome, Exact}
 use Rattle.type_relations.specs.Measures.{Goes}
@@ -107,7 +107,8 @@ module _ {Key Id Name : Type 0} (m : Meaning Key Id Name) where
       goes = goes n;
       added = [];
       lengthens = refl;
-      goals_in = All-nil (GoalInContext (plain_store m (cs ++ c ∷ [])));
+      goals_in = All-nil (Registered (items_of m) (plain_state m v cs).environment (plain_store m cs)
+          (plain_store m (cs ++ c ∷ [])));
       environment = refl;
       ambient = refl;
       settings = refl;
