@@ -70,7 +70,7 @@ pub trait RelateExt: InferCtxtLike {
         ensures spent { IfSpent result ((Self.state self.new).store.budget ≡ 0) }
         ensures same { AreOneTy (Self.state self.old) lhs rhs →
             DoesNothing (Self.state self.old) (Self.state self.new) result }
-        ensures goals { RegistersGoals (Self.state self.old) (Self.state self.new) param_env result }
+        ensures goals { RegistersGoals (Self.state self.old) (Self.state self.new) param_env variance result }
         ensures exact { AnswersExactly (Self.state self.old) (Self.state self.new) variance lhs rhs result }
         ensures no_unifier { ProvesApart (Self.state self.old) (Self.state self.new) variance lhs rhs result }
         ensures later { IsLater (Self.state self.old).store (Self.state self.new).store }
@@ -108,7 +108,7 @@ impl<Infcx: InferCtxtLike> RelateExt for Infcx {
         ensures spent { IfSpent result ((Infcx.state self.new).store.budget ≡ 0) }
         ensures same { AreOneTy (Infcx.state self.old) lhs rhs →
             DoesNothing (Infcx.state self.old) (Infcx.state self.new) result }
-        ensures goals { RegistersGoals (Infcx.state self.old) (Infcx.state self.new) param_env result }
+        ensures goals { RegistersGoals (Infcx.state self.old) (Infcx.state self.new) param_env variance result }
         ensures exact { AnswersExactly (Infcx.state self.old) (Infcx.state self.new) variance lhs rhs result }
         ensures no_unifier { ProvesApart (Infcx.state self.old) (Infcx.state self.new) variance lhs rhs result }
         ensures later { IsLater (Infcx.state self.old).store (Infcx.state self.new).store }
