@@ -33,9 +33,10 @@ pub trait RelateExt: InferCtxtLike {
     /// that satisfied what was recorded and made them one extends to such a one. Each goal asks, in the environment,
     /// that of two type variables the one is a subtype of the other: such as met at `Covariant` or `Contravariant`,
     /// each unbound before or made on the way; or that a type is well formed, one with a bivariant part: of types over
-    /// one item that met there, where a variable, but of regions, was left in a bivariant argument of either. Equal
-    /// types record nothing, and ask for no goal. Of first-order types in a first-order record at `Invariant` just
-    /// those solutions up to erasure stay that unify them: what is recorded is then a most general unifier.
+    /// one item that met there, where a variable, but of regions, was left in a bivariant argument of either. At
+    /// `Invariant` there is no goal. Equal types record nothing, and ask for no goal. Of first-order types in a
+    /// first-order record at `Invariant` just those solutions up to erasure stay that unify them: what is recorded is
+    /// then a most general unifier.
     ///
     /// Answers `Unrelated` only where no assignment that satisfied what was recorded makes the types one: with the
     /// error of two parts that stand at one place, the left side's first, or of a cycle. Of first-order types in a

@@ -58,7 +58,8 @@ pub trait TypeRelation<I: Interner> {
         ensures { Turned v (state self.old) (state self.new) };
 
     /// The variances at which the arguments of an item's types are related: those that the item declares; or none, for
-    /// all of them invariantly, where the ambient variance is `Invariant`.
+    /// all of them invariantly, where the ambient variance is `Invariant`. There it answers variances only where the
+    /// relation's settings say so.
     fn item_variances(&self, def_id: &ItemOf<I>) -> Option<&[Variance]>
         ensures declared { IfSome result (λ vs. vs.now ≡ variances_in (state self.now) def_id.now) }
         ensures by_declared { IfSome result (λ _. (state self.now).ambient ≢ Bivariant →
