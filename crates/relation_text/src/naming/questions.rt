@@ -14,8 +14,7 @@ impl<'a> Namer<'a> {
             then: false,
             repeat: 1,
             budget: self.budget,
-            type_variables: self.type_variables,
-            region_variables: self.region_variables,
+            variables: self.program.variables.len(),
         })?;
         Ok(())
     }
