@@ -1,6 +1,5 @@
 -- Bivariant arguments that are left open.
-use Rattle.std.proofs.Common.{◌≡◌, ◌⊎◌, ◌↔◌, ℕ, suc, ◌<◌, refl, sym, ap, ap₂, ◌∙◌, arith, inl, inr, subst, subst₂, Bool, false, List, [], ◌∷◌, ◌++◌, IsTrue, Result, Ok, Err}
-use Rattle.std.proofs.Common.{append_assoc}
+use Rattle.std.proofs.Common.{◌≡◌, ◌⊎◌, ◌↔◌, ℕ, suc, ◌<◌, refl, sym, ap, ap₂, ◌∙◌, arith, inl, inr, subst, subst₂, Bool, false, List, IsTrue, Result, Ok, Err}
 use Rattle.std.proofs.lemmas.Bool.{false≢true}
 use Rattle.relation_terms.specs.declared.terms.keys.ArgsKey.{ArgsKey}
 use Rattle.relation_terms.specs.Meaning.{Meaning, Extends}
@@ -12,7 +11,7 @@ use Rattle.type_relations.specs.Relation.{Items}
 use Rattle.type_relations.specs.Arguments.{AreOverItem, adts, functions}
 use Rattle.type_relations.specs.Bivariance.{is_left_open, IsOpenAt, HasOpenArgument, TellsOpen, TellsEitherOpen, RegistersWellFormed}
 use Rattle.type_relations.specs.Lawful.{declared_by, items_of}
-use Rattle.type_relations.specs.Goals.{Goal, goal_of, well_formed_predicate, HasBivariantPart}
+use Rattle.type_relations.specs.Goals.{Goal, HasBivariantPart}
 use Rattle.type_relations.specs.Stores.{Store, entry_term, IsSound, IsTermIn}
 use Rattle.type_relations.proofs.Composing.{below_or}
 use Rattle.type_relations.proofs.Lists.{no_region_head}
@@ -83,17 +82,6 @@ over_in st d a b ts us (functions p q) x y = (
 )
 
 module _ (c : Items) (st : Store) (e : Tree) (d : ℕ) (a b ts us : Tree) (before after : List Goal) where
-  -- That both types are well formed was registered, one after the other.
-  pub registers_both : (middle : List Goal) → HasOpenArgument c st d ts ⊎ HasOpenArgument c st d us →
-      middle ≡ before ++ goal_of e (well_formed_predicate a) ∷ [] →
-      after ≡ middle ++ goal_of e (well_formed_predicate b) ∷ [] →
-      RegistersWellFormed c st e d a b ts us before after
-  registers_both middle h x y = record {
-    both = λ o. y ∙ ap (λ gs. gs ++ goal_of e (well_formed_predicate b) ∷ []) x
-        ∙ append_assoc before (goal_of e (well_formed_predicate a) ∷ []) (goal_of e (well_formed_predicate b) ∷ []);
-    none = λ closed. absurd (closed h);
-  }
-
   -- Nothing was registered.
   pub registers_none : (HasOpenArgument c st d ts ⊎ HasOpenArgument c st d us → ⊥) → after ≡ before →
       RegistersWellFormed c st e d a b ts us before after

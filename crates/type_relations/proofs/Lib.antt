@@ -68,3 +68,5 @@ pub mod SolvingVariables
 pub mod SolvingGoals
 pub mod Bivariance
 pub mod Noting
+pub mod Emitting
+pub mod EmittingBoth

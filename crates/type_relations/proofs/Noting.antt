@@ -1,23 +1,20 @@
--- Notes that a relation takes, one after another, and those that the relation of a context takes.
-use Rattle.std.proofs.Common.{◌≡◌, ℕ, inl, ◌∙◌, refl, sym, subst, arith, true, List, [], ◌∷◌, ◌++◌, IsTrue, Result}
-use Rattle.std.proofs.lemmas.Bool.{and_from}
+-- Notes that a relation takes, one after another, and those that a relation over a context takes.
+use Rattle.std.proofs.Common.{◌≡◌, ◌∙◌, sym, ap, subst, arith, List, [], ◌++◌, All, Result, Ok, Err}
+use Rattle.std.proofs.lemmas.List.{append-nil}
 use Rattle.std.proofs.lemmas.List.Elements.{All-nil, All-append}
-use Rattle.relation_terms.specs.declared.terms.enums.Variance.{Variance}
-use Rattle.relation_terms.specs.declared.terms.goal.Goal.{Goal as KeyedGoal}
-use Rattle.relation_terms.specs.declared.terms.keys.ParamEnvKey.{ParamEnvKey}
-use Rattle.relation_terms.specs.declared.terms.keys.PredicateKey.{PredicateKey}
-use Rattle.relation_terms.specs.Trees.{Tree, known}
-use Rattle.relation_terms.specs.Meaning.{Meaning, Extends}
+use Rattle.relation_terms.specs.Meaning.{Extends}
 use Rattle.relation_tools.specs.declared.error.RelateFault.{RelateFault}
-use Rattle.type_relations.specs.Goals.{IsDirected, IsQuiet, goal_of, goals_of, well_formed_predicate, HasBivariantPart, of_type}
-use Rattle.type_relations.specs.Lawful.{State, Noted, OnlyMemory, items_of}
-use Rattle.type_relations.specs.Solving.{KnowsGoals, solving}
-use Rattle.type_relations.specs.Stores.{Store, IsTermIn}
+use Rattle.relation_terms.proofs.Stays.{stays_same}
+use Rattle.type_relations.specs.Contexts.{Context}
+use Rattle.type_relations.specs.ContextCalls.{Grows}
+use Rattle.type_relations.specs.Emitting.{AddsGoals, IsOver, with_goals}
+use Rattle.type_relations.specs.FirstOrder.{IsFirstOrderStore, IsErasedSolution}
+use Rattle.type_relations.specs.Measures.{Goes}
+use Rattle.type_relations.specs.Goals.{Goal, IsQuiet}
+use Rattle.type_relations.specs.Lawful.{State, Noted, OnlyMemory, WithMeaning, RegisteredIn}
+use Rattle.type_relations.specs.Stores.{Satisfies}
 use Rattle.type_relations.proofs.Going.{goes_nowhere}
-use Rattle.type_relations.proofs.Passing.{passes_then}
-use Rattle.type_relations.proofs.Solving.{solver_passes}
-use Rattle.type_relations.proofs.SolvingGoals.{lengthens, noted_goal}
-use Rattle.type_relations.proofs.Standing.{term_context}
+use Rattle.type_relations.proofs.Passing.{passes_then, passes_nowhere, passes_grown}
 
 module _ {Key Id Name : Type 0} where
   pub noted_then : {X Y : Type 0} {r q p : State Key Id Name} (x : Result X (RelateFault Key Id Name))
@@ -36,50 +33,65 @@ module _ {Key Id Name : Type 0} where
     fault = g.fault;
   }
 
-  -- The same, whatever is answered then.
-  pub noted_as : {X Y : Type 0} {r q : State Key Id Name} (x : Result X (RelateFault Key Id Name))
-      (y : Result Y (RelateFault Key Id Name)) → OnlyMemory y → Noted r q x → Noted r q y
-  noted_as x y fault f = record {
-    passes = f.passes;
-    keeps = f.keeps;
-    keeps_erased = f.keeps_erased;
-    first_order = f.first_order;
-    quiet = f.quiet;
-    same_budget = f.same_budget;
+  -- Only the interner's keys were added to.
+  pub noted_with : {X : Type 0} {r q : State Key Id Name} → Extends r.meaning q.meaning → WithMeaning r q.meaning q →
+      (x : Result X (RelateFault Key Id Name)) → OnlyMemory x → Noted r q x
+  unfolding passes_grown passes_nowhere
+  noted_with {r = r} {q = q} e w x fault = record {
+    passes = passes_grown (passes_nowhere 0 r) e w;
+    keeps = λ j s sat. subst (λ k. Satisfies j k s) (sym w.store) sat;
+    keeps_erased = λ s. (
+      (λ h. subst (λ k. IsErasedSolution k s) (sym w.store) h),
+      (λ h. subst (λ k. IsErasedSolution k s) w.store h),
+    );
+    first_order = λ h. subst IsFirstOrderStore (sym w.store) h;
+    quiet = All-nil IsQuiet;
+    same_budget = ap (λ k. k.budget) w.store;
     fault = fault;
   }
 
-module _ {Key Id Name : Type 0} (j : ℕ) (gs : List (KeyedGoal Key (PredicateKey Key))) (m n : Meaning Key Id Name)
-    (st now : Store) (L K : Type 0) (v : Variance) (e : ParamEnvKey Key) (grown : Extends m n) (env : KnowsGoals m e gs) (l : K)
-    (stays : now ≡ st) where
-  -- Only the interner's keys were added to.
-  pub noted_grown : {X : Type 0} (result : Result X (RelateFault Key Id Name)) → OnlyMemory result →
-      Noted (solving j gs m st L v e) (solving j gs n now K v e) result
-  unfolding solver_passes
-  noted_grown result fault = subst (λ z. Noted (solving j gs m st L v e) (solving j gs n z K v e) result) (sym stays) (record {
-    passes = solver_passes j gs v e grown env (goes_nowhere 0 st) l;
-    keeps = λ w s sat. sat;
-    keeps_erased = λ s. ((λ h. h), (λ h. h));
-    first_order = λ h. h;
-    quiet = All-nil IsQuiet;
-    same_budget = refl;
-    fault = fault;
-  })
+  -- Goals that ask nothing of two terms were added, or were not.
+  pub noted_added : {X A F : Type 0} {r q : State Key Id Name} (goals : List Goal) (result : Result A F) →
+      AddsGoals r q goals result → All (RegisteredIn r r.store) goals →
+      All IsQuiet goals → (x : Result X (RelateFault Key Id Name)) → OnlyMemory x → Noted r q x
+  noted_added {X = X} {r = r} {q = q} goals result h asks quiet x fault = go result h.goals
+    where
+      noted : (added : List Goal) → q.goals ≡ r.goals ++ added →
+          All (RegisteredIn r r.store) added → All IsQuiet added → Noted r q x
+      noted added lengthens registered silent = record {
+        passes = record {
+          extends = subst (λ m. Extends r.meaning m) (sym h.meaning) (stays_same r.meaning);
+          goes = subst (Goes 0 r.store) (sym h.store) (goes_nowhere 0 r.store);
+          added = added;
+          lengthens = lengthens;
+          goals_in = subst (λ k. All (RegisteredIn r k) added) (sym h.store) registered;
+          environment = h.environment;
+          ambient = h.ambient;
+          settings = h.settings;
+          reference = h.reference;
+          lawful = h.lawful;
+        };
+        keeps = λ j s sat. subst (λ k. Satisfies j k s) (sym h.store) sat;
+        keeps_erased = λ s. (
+          (λ y. subst (λ k. IsErasedSolution k s) (sym h.store) y),
+          (λ y. subst (λ k. IsErasedSolution k s) h.store y),
+        );
+        first_order = λ y. subst IsFirstOrderStore (sym h.store) y;
+        quiet = silent;
+        same_budget = ap (λ k. k.budget) h.store;
+        fault = fault;
+      }
 
-  -- That a type is well formed was registered.
-  pub noted_well_formed : {X : Type 0} (hs : List (KeyedGoal Key (PredicateKey Key))) (p : PredicateKey Key) (t : Tree) →
-      hs ≡ gs ++ record { param_env = e; predicate = p } ∷ [] → n.predicate p ≡ well_formed_predicate t →
-      IsTrue (known t) → IsTermIn st t → HasBivariantPart (items_of m) t → IsDirected v →
-      (result : Result X (RelateFault Key Id Name)) → OnlyMemory result → Noted (solving j gs m st L v e) (solving j hs n now K v e) result
-  noted_well_formed hs p t pushed means sure is_in bivariant directed result fault =
-      subst (λ z. Noted (solving j gs m st L v e) (solving j hs n z K v e) result) (sym stays)
-      (noted_goal j gs hs m n st L K v e grown env l p (well_formed_predicate t) pushed means
-      (and_from (known t) true sure refl) (of_type t (inl directed) refl (term_context st t is_in) bivariant) result fault tt)
+      go : {A F : Type 0} (res : Result A F) → q.goals ≡ with_goals r.goals goals res → Noted r q x
+      go (Ok a) e = noted goals e asks quiet
+      go (Err f) e = noted [] (e ∙ sym (append-nil r.goals))
+          (All-nil (RegisteredIn r r.store)) (All-nil IsQuiet)
 
-  pub registered_well_formed : (hs : List (KeyedGoal Key (PredicateKey Key))) (p : PredicateKey Key) (t : Tree) →
-      hs ≡ gs ++ record { param_env = e; predicate = p } ∷ [] → n.predicate p ≡ well_formed_predicate t →
-      IsTrue (known t) → IsTermIn st t → HasBivariantPart (items_of m) t → IsDirected v →
-      goals_of n hs ≡ goals_of m gs ++ goal_of (m.param_env e) (well_formed_predicate t) ∷ []
-  registered_well_formed hs p t pushed means sure is_in bivariant directed =
-      lengthens j gs hs m n st L K v e grown env l p (well_formed_predicate t) pushed means
-      (and_from (known t) true sure refl) (of_type t (inl directed) refl (term_context st t is_in) bivariant)
+-- What a context's interner was added to, a relation over it was.
+module _ {Key Id Name : Type 0} (r q : State Key Id Name) (c d : Context Key Id Name) (o : IsOver r c) (g : Grows c d)
+    (w : WithMeaning r d.meaning q) where
+  pub over_extends : Extends r.meaning q.meaning
+  over_extends = subst (λ m. Extends m q.meaning) (sym o.meaning) (subst (λ m. Extends c.meaning m) (sym w.meaning) g.extends)
+
+  pub over_with : WithMeaning r q.meaning q
+  over_with = subst (λ m. WithMeaning r m q) (sym w.meaning) w

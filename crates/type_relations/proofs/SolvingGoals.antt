@@ -1,6 +1,5 @@
--- Registering goals: that of two type variables the one is a subtype of the other, as a step; what asks nothing of two
--- terms, as a note.
-use Rattle.std.proofs.Common.{◌≡◌, ℕ, refl, sym, ap, ap₂, ◌∙◌, subst, subst₂, Bool, false, List, [], ◌∷◌, ◌++◌, All, IsTrue, Result, Ok}
+-- Registering that of two type variables the one is a subtype of the other, as a step.
+use Rattle.std.proofs.Common.{◌≡◌, ℕ, refl, sym, ap, ap₂, ◌∙◌, subst, subst₂, Bool, false, List, [], ◌∷◌, ◌++◌, All, IsTrue, Ok}
 use Rattle.std.proofs.lemmas.List.Elements.{All-nil, All-cons, All-head, All-append}
 use Rattle.std.proofs.lemmas.List.{map-append}
 use Rattle.relation_terms.specs.declared.terms.enums.Variance.{Variance}
@@ -14,9 +13,8 @@ use Rattle.relation_terms.specs.Meaning.{Meaning, Extends}
 use Rattle.type_relations.specs.declared.relate.Step.TheVariants.{Done}
 use Rattle.type_relations.specs.Relation.{Items, Interpretation, Rel, at}
 use Rattle.type_relations.specs.Stores.{Store}
-use Rattle.relation_tools.specs.declared.error.RelateFault.{RelateFault}
-use Rattle.type_relations.specs.Goals.{Goal, goal_of, goals_of, KnowsGoal, subtype_predicate, IsOpen, IsDirected, IsRegistered, of_variables, Holds, IsQuiet, MakesOneTree}
-use Rattle.type_relations.specs.Lawful.{Stepped, Passes, MayAnswer, Noted, OnlyMemory, RegisteredIn, items_of}
+use Rattle.type_relations.specs.Goals.{Goal, goal_of, goals_of, KnowsGoal, subtype_predicate, IsOpen, IsDirected, IsRegistered, of_variables, Holds, MakesOneTree}
+use Rattle.type_relations.specs.Lawful.{Stepped, Passes, MayAnswer, RegisteredIn, items_of}
 use Rattle.type_relations.specs.Solving.{KnowsGoals, solving, solver_manner}
 use Rattle.type_relations.proofs.Answering.{may_itself}
 use Rattle.type_relations.proofs.Going.{goes_nowhere, later_itself}
@@ -29,7 +27,7 @@ module _ {Key Id Name : Type 0} (j : ℕ) (gs hs : List (KeyedGoal Key (Predicat
     (st : Store) (L K : Type 0) (v : Variance) (e : ParamEnvKey Key) (grown : Extends m n) (env : KnowsGoals m e gs) (l : K)
     (p : PredicateKey Key) (t : Tree) (pushed : hs ≡ gs ++ record { param_env = e; predicate = p } ∷ [])
     (means : n.predicate p ≡ t) (sure : IsTrue (known t)) (asks : IsRegistered (items_of m) false v st st t) where
-  pub lengthens : goals_of n hs ≡ goals_of m gs ++ goal_of (m.param_env e) t ∷ []
+  lengthens : goals_of n hs ≡ goals_of m gs ++ goal_of (m.param_env e) t ∷ []
   lengthens = ap (goals_of n) pushed ∙ map-append (λ g. goal_of (n.param_env g.param_env) (n.predicate g.predicate)) gs
       (record { param_env = e; predicate = p } ∷ [])
       ∙ ap₂ (λ z g. z ++ g ∷ []) (goals_stay grown gs env.1) (ap₂ goal_of (grown.param_env e env.0) means)
@@ -59,20 +57,6 @@ module _ {Key Id Name : Type 0} (j : ℕ) (gs hs : List (KeyedGoal Key (Predicat
     settings = refl;
     reference = refl;
     lawful = λ h. (l, (env_known, all_known));
-  }
-
-  -- A goal that asks nothing of two terms is no more than noted.
-  pub noted_goal : {X : Type 0} (result : Result X (RelateFault Key Id Name)) → OnlyMemory result →
-      IsQuiet (goal_of (m.param_env e) t) → Noted (solving j gs m st L v e) (solving j hs n st K v e) result
-  unfolding passes
-  noted_goal result fault quiet = record {
-    passes = passes 0;
-    keeps = λ w s sat. sat;
-    keeps_erased = λ s. ((λ h. h), (λ h. h));
-    first_order = λ h. h;
-    quiet = All-cons IsQuiet (goal_of (m.param_env e) t) [] quiet (All-nil IsQuiet);
-    same_budget = refl;
-    fault = fault;
   }
 
 -- That of two type variables the one is a subtype of the other was registered.

@@ -32,3 +32,4 @@ pub mod ContextCalls
 pub mod NumberVars
 pub mod Solving
 pub mod Bivariance
+pub mod Emitting

@@ -1,23 +1,85 @@
-//! What is registered of types over one item, whose arguments were related.
-ghost use Rattle.std.specs.Prelude.{◌≡◌, ◌≢◌, ◌<◌, [], ◌∷◌, ◌++◌, All, IsTrue, IfOk};
+//! Relations that register goals, and what they register of types over one item, whose arguments were related.
+ghost use Rattle.std.specs.Prelude.{◌≡◌, ◌<◌, [], ◌∷◌, All, IsTrue, IfOk, map};
+ghost use Rattle.std.specs.Borrow.{sem, Lends};
 ghost use Rattle.relation_terms.specs.Trees.{known, count, nth};
 ghost use Rattle.relation_terms.specs.Meaning.{arg_tree};
 ghost use Rattle.type_relations.specs.Bivariance.{is_left_open, TellsOpen, TellsEitherOpen, RegistersWellFormed};
-ghost use Rattle.type_relations.specs.Contexts.{KnowsEnv, KnowsTy, HasTy};
 ghost use Rattle.type_relations.specs.ContextCalls.{Grows};
-ghost use Rattle.type_relations.specs.Goals.{HasBivariantPart, IsDirected, KnowsGoal, goal_of, goals_of, well_formed_predicate};
-ghost use Rattle.type_relations.specs.Keyed.{AreOver, AskedTys};
-ghost use Rattle.type_relations.specs.Lawful.{Noted, items_of, listed};
-ghost use Rattle.type_relations.specs.Solving.{solving_through, solver_manner};
+ghost use Rattle.type_relations.specs.Emitting.{AddsGoals, IsOver, KnowsPredicate, goals_in};
+ghost use Rattle.type_relations.specs.Contexts.{KnowsTy};
+ghost use Rattle.type_relations.specs.Goals.{KnowsGoal, goals_of, well_formed_predicate};
+ghost use Rattle.type_relations.specs.Keyed.{AreOver};
+ghost use Rattle.type_relations.specs.Lawful.{State, Noted, WithMeaning, RelatesByDeclared};
+ghost use Rattle.type_relations.specs.Lawful.{items_in, items_of, listed};
 ghost use Rattle.type_relations.specs.Stores.{IsTermIn};
 
 use crate::infer_ctxt::InferCtxtLike;
+use crate::relate::StructurallyRelateAliases;
 use crate::relate::args::{arg_at, args_count};
-use crate::relate::solver_relating::{SolverRelating, recording};
+use crate::relate::solver_relating::{GoalOf, recording};
 use relation_terms::terms::{
-    GenericArg, GenericArgKind, GenericArgs, Goal, Interner, ItemOf, OutOfMemory, Ty, Variance,
+    GenericArg, GenericArgKind, GenericArgs, Interner, ItemOf, OutOfMemory, ParamEnv, Predicate,
+    Span, Ty, Variance,
 };
 use relation_tools::error::RelateResult;
+
+/// A relation of the terms of a context, which registers goals.
+///
+/// Upstream each is a `TypeRelation`. Here it is not: else no step of a relation could call what is written over it.
+pub trait PredicateEmittingRelation<Infcx: InferCtxtLike> {
+    // The relation as it stands.
+    ghost state: { Self → State Infcx.Interner.Key Infcx.Interner.Id Infcx.Interner.Name };
+
+    // The context.
+    ghost context: { Self → Infcx };
+
+    // The relation over another context.
+    ghost with_context: { Self → Infcx → Self };
+
+    /// The context.
+    fn infcx(&self) -> &Infcx
+        ensures { result.now ≡ context self.now };
+
+    /// The context, to record in it.
+    fn infcx_mut(&mut self) -> &mut Infcx
+        ensures* writes_back { sem 𝓛 (Lends Self.row Infcx.row self.entry result (with_context self.entry.now)) }
+        ensures value { result.now ≡ context self.old };
+
+    /// Does nothing: it shows that, while nothing is recorded, a context that makes terms changes nothing of the
+    /// relation but what its interner knows.
+    fn context_grows(&self)
+        ensures { (c : Infcx) → Grows (Infcx.state (context self.now)) (Infcx.state c) →
+            (Infcx.state c).store ≡ (Infcx.state (context self.now)).store → (state self.now).lawful →
+            WithMeaning (state self.now) (Infcx.state c).meaning (state (with_context self.now c)) };
+
+    /// The span with which constraints on regions are recorded.
+    fn span(&self) -> Span<Infcx::Interner>;
+
+    /// The environment in which goals are registered.
+    fn param_env(&self) -> ParamEnv<Infcx::Interner>
+        ensures { (state self.now).meaning.param_env result ≡ (state self.now).environment };
+
+    /// Whether aliases are related by their items and arguments, or by a goal.
+    fn structurally_relate_aliases(&self) -> StructurallyRelateAliases
+        ensures { result ≡ ((state self.now).settings).structurally_relate_aliases };
+
+    /// Registers goals, behind those that there were. After `OutOfMemory` none was registered.
+    fn register_goals(&mut self, goals: &[GoalOf<Infcx::Interner>]) -> Result<(), OutOfMemory>
+        requires known { All (KnowsGoal (state self.old).meaning) goals.now }
+        ensures { AddsGoals (state self.old) (state self.new) (goals_of (state self.old).meaning goals.now) result };
+
+    /// The same of predicates, in the relation's environment.
+    fn register_predicates(
+        &mut self,
+        predicates: &[Predicate<Infcx::Interner>],
+    ) -> Result<(), OutOfMemory>
+        requires lawful { (state self.old).lawful }
+        requires known { All (KnowsPredicate (state self.old).meaning) predicates.now }
+        ensures { AddsGoals (state self.old) (state self.new) (goals_in (state self.old) predicates.now) result };
+
+    // What it has recorded is what the context has, over its keys.
+    ghost over: { (r : Self) → IsOver (state r) (Infcx.state (context r)) };
+}
 
 // The variance that an item declares of its parameter at a place.
 fn declared_variance<I: Interner>(cx: &I, def_id: &ItemOf<I>, i: usize) -> Variance
@@ -136,39 +198,25 @@ fn have_open_argument<Infcx: InferCtxtLike>(
     has_open_argument(infcx, def_id, b_args)
 }
 
-// Registers, in the relation's environment, that a type is well formed.
-fn register_well_formed<'a, Infcx: InferCtxtLike>(
-    relation: &mut SolverRelating<'a, Infcx>,
-    ty: &Ty<Infcx::Interner>,
-) -> RelateResult<Infcx::Interner, ()>
-    requires lawful { (Infcx.state relation.old.infcx.now).lawful }
-    requires env_known { KnowsEnv (Infcx.state relation.old.infcx.now) relation.old.param_env }
-    requires goals_known { let m = (Infcx.state relation.old.infcx.now).meaning in
-        All (KnowsGoal m) relation.old.goals.items }
-    requires ty_known { KnowsTy (Infcx.state relation.old.infcx.now) ty.now }
-    requires ty_in { HasTy (Infcx.state relation.old.infcx.now) ty.now }
-    requires bivariant { let m = (Infcx.state relation.old.infcx.now).meaning in
-        HasBivariantPart (items_of m) (m.ty ty.now) }
-    requires directed { IsDirected relation.old.ambient_variance }
-    ensures noted { let r = relation.old in let q = relation.new in
-        let before = solving_through r.infcx.ghost_name r.goals.items (Infcx.state r.infcx.now) r.ambient_variance
-        r.param_env in
-        let after = solving_through q.infcx.ghost_name q.goals.items (Infcx.state q.infcx.now) q.ambient_variance
-        q.param_env in
-        Noted before after result }
-    ensures registers { let r = relation.old in let q = relation.new in let m = (Infcx.state r.infcx.now).meaning in
-        IfOk result (λ _. goals_of (Infcx.state q.infcx.now).meaning q.goals.items ≡ goals_of m r.goals.items ++
-        goal_of (m.param_env r.param_env) (well_formed_predicate (m.ty ty.now)) ∷ []) }
-    ensures same_record { let r = relation.old in let q = relation.new in
-        (Infcx.state q.infcx.now).store ≡ (Infcx.state r.infcx.now).store }
+// The predicates that two types are well formed. Nothing is recorded.
+fn both_well_formed<Infcx: InferCtxtLike>(
+    infcx: &mut Infcx,
+    a: &Ty<Infcx::Interner>,
+    b: &Ty<Infcx::Interner>,
+) -> Result<Vec<Predicate<Infcx::Interner>>, OutOfMemory>
+    requires lawful { (Infcx.state infcx.old).lawful }
+    requires a_known { KnowsTy (Infcx.state infcx.old) a.now }
+    requires b_known { KnowsTy (Infcx.state infcx.old) b.now }
+    ensures grows { Grows (Infcx.state infcx.old) (Infcx.state infcx.new) }
+    ensures same_record { (Infcx.state infcx.new).store ≡ (Infcx.state infcx.old).store }
+    ensures made { let m = (Infcx.state infcx.old).meaning in let n = (Infcx.state infcx.new).meaning in
+        IfOk result (λ ps. map n.predicate ps.items ≡
+        well_formed_predicate (m.ty a.now) ∷ well_formed_predicate (m.ty b.now) ∷ []) }
 {
-    let param_env = relation.param_env;
-    let predicate = recording::well_formed_predicate(&mut *relation.infcx, ty)?;
-    relation.goals.push(Goal {
-        param_env,
-        predicate,
-    })?;
-    Ok(())
+    let mut predicates = Vec::new(infcx.cx().alloc());
+    predicates.push(recording::well_formed_predicate(infcx, a)?)?;
+    predicates.push(recording::well_formed_predicate(infcx, b)?)?;
+    Ok(predicates)
 }
 
 /// Registers, in the relation's environment, that two types over one item are well formed, the first one's first, where
@@ -178,41 +226,32 @@ fn register_well_formed<'a, Infcx: InferCtxtLike>(
 /// Both types are the relation's, and the lists are theirs. It is called where their arguments were related at the
 /// variances that the item declares. Answers `Memory` where a growth was refused, else nothing.
 /// Upstream it relates the arguments too, and looks at each as its place comes.
-pub fn combine_ty_args<'a, Infcx: InferCtxtLike>(
-    relation: &mut SolverRelating<'a, Infcx>,
+pub fn combine_ty_args<Infcx: InferCtxtLike, R: PredicateEmittingRelation<Infcx>>(
+    relation: &mut R,
     a_ty: &Ty<Infcx::Interner>,
     b_ty: &Ty<Infcx::Interner>,
     def_id: &ItemOf<Infcx::Interner>,
     a_args: &GenericArgs<Infcx::Interner>,
     b_args: &GenericArgs<Infcx::Interner>,
 ) -> RelateResult<Infcx::Interner, ()>
-    requires lawful { (Infcx.state relation.old.infcx.now).lawful }
-    requires env_known { KnowsEnv (Infcx.state relation.old.infcx.now) relation.old.param_env }
-    requires goals_known { let m = (Infcx.state relation.old.infcx.now).meaning in
-        All (KnowsGoal m) relation.old.goals.items }
-    requires asked { let r = relation.old in
-        let before = solving_through r.infcx.ghost_name r.goals.items (Infcx.state r.infcx.now) r.ambient_variance
-        r.param_env in
-        AskedTys solver_manner before a_ty.now b_ty.now }
-    requires directed { IsDirected relation.old.ambient_variance }
-    requires over { let r = relation.old in
-        let before = solving_through r.infcx.ghost_name r.goals.items (Infcx.state r.infcx.now) r.ambient_variance
-        r.param_env in
-        AreOver before def_id.now a_ty.now b_ty.now a_args.now b_args.now }
-    ensures noted { let r = relation.old in let q = relation.new in
-        let before = solving_through r.infcx.ghost_name r.goals.items (Infcx.state r.infcx.now) r.ambient_variance
-        r.param_env in
-        let after = solving_through q.infcx.ghost_name q.goals.items (Infcx.state q.infcx.now) q.ambient_variance
-        q.param_env in
-        Noted before after result }
-    ensures registers { let r = relation.old in let q = relation.new in let c = Infcx.state r.infcx.now in
-        let m = c.meaning in IfOk result (λ _. RegistersWellFormed (items_of m) c.store (m.param_env r.param_env)
-        (m.id (def_id.now).0) (m.ty a_ty.now) (m.ty b_ty.now) (m.args a_args.now) (m.args b_args.now)
-        (goals_of m r.goals.items) (goals_of (Infcx.state q.infcx.now).meaning q.goals.items)) }
+    requires lawful { (R.state relation.old).lawful }
+    requires a_known { IsTrue (known ((R.state relation.old).meaning.ty a_ty.now)) }
+    requires b_known { IsTrue (known ((R.state relation.old).meaning.ty b_ty.now)) }
+    requires a_in { let r = R.state relation.old in IsTermIn r.store (r.meaning.ty a_ty.now) }
+    requires b_in { let r = R.state relation.old in IsTermIn r.store (r.meaning.ty b_ty.now) }
+    requires by_declared { RelatesByDeclared (R.state relation.old) }
+    requires over { AreOver (R.state relation.old) def_id.now a_ty.now b_ty.now a_args.now b_args.now }
+    ensures noted { Noted (R.state relation.old) (R.state relation.new) result }
+    ensures registers { let r = R.state relation.old in let m = r.meaning in
+        IfOk result (λ _. RegistersWellFormed (items_in r) r.store r.environment (m.id (def_id.now).0) (m.ty a_ty.now)
+        (m.ty b_ty.now) (m.args a_args.now) (m.args b_args.now) r.goals (R.state relation.new).goals) }
 {
-    if have_open_argument(&mut *relation.infcx, def_id, a_args, b_args)? {
-        register_well_formed(relation, a_ty)?;
-        register_well_formed(relation, b_ty)?;
+    relation.context_grows();
+    if !have_open_argument(relation.infcx_mut(), def_id, a_args, b_args)? {
+        return Ok(());
     }
+    relation.context_grows();
+    let predicates = both_well_formed(relation.infcx_mut(), a_ty, b_ty)?;
+    relation.register_predicates(predicates.as_slice())?;
     Ok(())
 }

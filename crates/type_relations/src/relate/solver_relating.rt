@@ -10,6 +10,7 @@ ghost use Rattle.type_relations.specs.Contexts.{ProvesApart, SpendsByBinding, Re
 ghost use Rattle.type_relations.specs.Keyed.{AskedTys, RelatedTys};
 ghost use Rattle.type_relations.specs.Solving.{solving_in, solver_manner};
 
+mod emitting;
 pub(crate) mod recording;
 mod relation;
 

@@ -483,7 +483,9 @@ impl<'a, Infcx: InferCtxtLike> TypeRelation<Infcx::Interner> for SolverRelating<
         a_args: &GenericArgs<Infcx::Interner>,
         b_args: &GenericArgs<Infcx::Interner>,
     ) -> RelateResult<Infcx::Interner, ()> {
-        combine_ty_args(self, a_ty, b_ty, def_id, a_args, b_args)
+        combine_ty_args::<Infcx, SolverRelating<'a, Infcx>>(
+            self, a_ty, b_ty, def_id, a_args, b_args,
+        )
     }
 
     ghost reads = { λ r. Infcx.reads r.infcx.now };

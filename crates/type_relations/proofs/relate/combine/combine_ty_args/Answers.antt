@@ -1,142 +1,326 @@
-use Rattle.std.proofs.Common.{◌≡◌, ap, ap₂, ◌∙◌, sym, subst, IsTrue, [], ◌∷◌, ◌++◌, Ok, Err}
-use Rattle.relation_terms.specs.Trees.{known}
+use Rattle.std.proofs.Common.{◌≡◌, ◌⊎◌, ◌↔◌, ap, ap₂, ◌∙◌, sym, subst, subst₂, [], ◌∷◌, All, IsTrue, map, Ok}
 use Rattle.std.proofs.lemmas.Bool.{false≢true}
+use Rattle.relation_terms.specs.Trees.{known}
 use Rattle.relation_tools.specs.declared.error.RelateFault.TheVariants.{Memory}
-use Rattle.type_relations.specs.Bivariance.{RegistersWellFormed}
-use Rattle.type_relations.specs.Goals.{goal_of, goals_of, well_formed_predicate}
-use Rattle.type_relations.specs.Lawful.{Noted, OnlyMemory, items_of}
-use Rattle.type_relations.specs.Solving.{solving_through}
-use Rattle.type_relations.proofs.Bivariance.{over_in, registers_both, registers_none}
-use Rattle.type_relations.proofs.Noting.{noted_grown, noted_then}
+use Rattle.type_relations.specs.ContextCalls.{Grows}
+use Rattle.type_relations.specs.Bivariance.{HasOpenArgument}
+use Rattle.type_relations.specs.Goals.{well_formed_predicate}
+use Rattle.type_relations.specs.Lawful.{OnlyMemory, items_of}
+use Rattle.type_relations.specs.Stores.{IsTermIn}
+use Rattle.type_relations.proofs.Bivariance.{over_in, registers_none}
+use Rattle.type_relations.proofs.EmittingBoth.{both_known, both_registered, listed_known, noted_both}
+use Rattle.type_relations.proofs.Noting.{noted_with, noted_then, over_extends, over_with}
 use Rattle.type_relations.proofs.Passing.{as_err}
-use Rattle.type_relations.proofs.Registered.{goals_stay}
 use Rattle.type_relations.proofs.relate.combine.combine_ty_args.Goals as goal
-use Rattle.type_relations.proofs.relate.combine.combine_ty_args.Goals.{then-branch+in_ok-register_well_formed+in_ok-register_well_formed-2, else-branch}
 
 pub have_open_argument-requires-clause-a_in : goal.have_open_argument-requires-clause-a_in
 have_open_argument-requires-clause-a_in g c =
-    let s = g.Infcx.InferCtxtLike.state c.args.relation.now.infcx.now in
-    let m = s.meaning in
-    let k = c.requires.asked in
-    (over_in s.store (m.id c.args.def_id.now.0) (m.ty c.args.a_ty.now) (m.ty c.args.b_ty.now) (m.args c.args.a_args.now)
-    (m.args c.args.b_args.now) c.requires.over k.left_in k.right_in).0
+    let x = c.args.relation.now in
+    let r = g.R.PredicateEmittingRelation.state x in
+    let o = g.met.R.PredicateEmittingRelation.over x in
+    let s = g.Infcx.InferCtxtLike.state (g.R.PredicateEmittingRelation.context x) in
+    let m = r.meaning in
+    let both = over_in r.store (m.id c.args.def_id.now.0) (m.ty c.args.a_ty.now) (m.ty c.args.b_ty.now)
+    (m.args c.args.a_args.now) (m.args c.args.b_args.now) c.requires.over c.requires.a_in c.requires.b_in in
+    subst (λ z. IsTermIn (g.Infcx.InferCtxtLike.state z).store (((g.Infcx.InferCtxtLike.state z).meaning).args
+    c.args.a_args.now)) (sym c.infcx_mut.ensures.value) (subst₂ (λ st n. IsTermIn st (n.args c.args.a_args.now)) o.store
+    o.meaning both.0)
 
 pub have_open_argument-requires-clause-b_in : goal.have_open_argument-requires-clause-b_in
 have_open_argument-requires-clause-b_in g c =
-    let s = g.Infcx.InferCtxtLike.state c.args.relation.now.infcx.now in
-    let m = s.meaning in
-    let k = c.requires.asked in
-    (over_in s.store (m.id c.args.def_id.now.0) (m.ty c.args.a_ty.now) (m.ty c.args.b_ty.now) (m.args c.args.a_args.now)
-    (m.args c.args.b_args.now) c.requires.over k.left_in k.right_in).1
+    let x = c.args.relation.now in
+    let r = g.R.PredicateEmittingRelation.state x in
+    let o = g.met.R.PredicateEmittingRelation.over x in
+    let s = g.Infcx.InferCtxtLike.state (g.R.PredicateEmittingRelation.context x) in
+    let m = r.meaning in
+    let both = over_in r.store (m.id c.args.def_id.now.0) (m.ty c.args.a_ty.now) (m.ty c.args.b_ty.now)
+    (m.args c.args.a_args.now) (m.args c.args.b_args.now) c.requires.over c.requires.a_in c.requires.b_in in
+    subst (λ z. IsTermIn (g.Infcx.InferCtxtLike.state z).store (((g.Infcx.InferCtxtLike.state z).meaning).args
+    c.args.b_args.now)) (sym c.infcx_mut.ensures.value) (subst₂ (λ st n. IsTermIn st (n.args c.args.b_args.now)) o.store
+    o.meaning both.1)
 
 pub returns-in_err-have_open_argument-clause-noted : goal.returns-in_err-have_open_argument-clause-noted
 returns-in_err-have_open_argument-clause-noted g c =
-    let r = c.args.relation.now in
-    let s = g.Infcx.InferCtxtLike.state r.infcx.now in
+    let x = c.args.relation.now in
+    let r = g.R.PredicateEmittingRelation.state x in
+    let o = g.met.R.PredicateEmittingRelation.over x in
+    let s = g.Infcx.InferCtxtLike.state (g.R.PredicateEmittingRelation.context x) in
+    let y = g.R.PredicateEmittingRelation.with_context x c.have_open_argument.new.infcx in
+    let q = g.R.PredicateEmittingRelation.state y in
     let d = g.Infcx.InferCtxtLike.state c.have_open_argument.new.infcx in
     let f = c.in_err-have_open_argument.ensures in
+    let grows = subst (λ z. Grows (g.Infcx.InferCtxtLike.state z) d) c.infcx_mut.ensures.value f.grows in
+    let same = subst (λ z. d.store ≡ (g.Infcx.InferCtxtLike.state z).store) c.infcx_mut.ensures.value f.same_record in
+    let w = c.context_grows.ensures c.have_open_argument.new.infcx grows same c.requires.lawful in
     let res = c.from_residual.result in
-    noted_grown r.infcx.ghost_name r.goals.items s.meaning d.meaning s.store d.store s.lawful d.lawful r.ambient_variance
-    r.param_env f.grows.extends (c.requires.env_known, c.requires.goals_known) f.grows.lawful f.same_record res
+    noted_with (over_extends r q s d o grows w) (over_with r q s d o grows w) res
     (subst OnlyMemory (sym (as_err res Memory c.from_residual.ensures.0 c.from_residual.ensures.1)) tt)
 
-pub returns-in_err-register_well_formed-clause-noted : goal.returns-in_err-register_well_formed-clause-noted
-returns-in_err-register_well_formed-clause-noted g c =
-    let r = c.args.relation.now in
-    let s = g.Infcx.InferCtxtLike.state r.infcx.now in
+pub returns-then-not-branch-clause-noted : goal.returns-then-not-branch-clause-noted
+returns-then-not-branch-clause-noted g c =
+    let x = c.args.relation.now in
+    let r = g.R.PredicateEmittingRelation.state x in
+    let o = g.met.R.PredicateEmittingRelation.over x in
+    let s = g.Infcx.InferCtxtLike.state (g.R.PredicateEmittingRelation.context x) in
+    let y = g.R.PredicateEmittingRelation.with_context x c.have_open_argument.new.infcx in
+    let q = g.R.PredicateEmittingRelation.state y in
     let d = g.Infcx.InferCtxtLike.state c.have_open_argument.new.infcx in
     let f = c.in_ok-have_open_argument.ensures in
-    let q = c.register_well_formed.new.relation in
-    let e = c.in_err-register_well_formed.field-0.0 in
-    let res = c.from_residual-in_err-register_well_formed.result in
-    let failed = as_err res e c.from_residual-in_err-register_well_formed.ensures.0
-    c.from_residual-in_err-register_well_formed.ensures.1 in
-    subst (Noted (solving_through r.infcx.ghost_name r.goals.items s r.ambient_variance r.param_env)
-    (solving_through q.infcx.ghost_name q.goals.items (g.Infcx.InferCtxtLike.state q.infcx.now) q.ambient_variance
-    q.param_env)) (sym failed)
-    (noted_then (Ok (tt {0})) (Err e) (noted_grown r.infcx.ghost_name r.goals.items s.meaning d.meaning s.store d.store s.lawful
-    d.lawful r.ambient_variance r.param_env f.grows.extends (c.requires.env_known, c.requires.goals_known) f.grows.lawful
-    f.same_record (Ok (tt {0})) tt) c.in_err-register_well_formed.ensures.noted)
+    let grows = subst (λ z. Grows (g.Infcx.InferCtxtLike.state z) d) c.infcx_mut.ensures.value f.grows in
+    let same = subst (λ z. d.store ≡ (g.Infcx.InferCtxtLike.state z).store) c.infcx_mut.ensures.value f.same_record in
+    let w = c.context_grows.ensures c.have_open_argument.new.infcx grows same c.requires.lawful in
+    noted_with (over_extends r q s d o grows w) (over_with r q s d o grows w) (Ok (tt {0})) tt
 
-pub returns-in_err-register_well_formed-2-clause-noted : goal.returns-in_err-register_well_formed-2-clause-noted
-returns-in_err-register_well_formed-2-clause-noted g c =
-    let r = c.args.relation.now in
-    let s = g.Infcx.InferCtxtLike.state r.infcx.now in
+pub returns-in_err-predicates-clause-noted : goal.returns-in_err-predicates-clause-noted
+returns-in_err-predicates-clause-noted g c =
+    let x = c.args.relation.now in
+    let r = g.R.PredicateEmittingRelation.state x in
+    let o = g.met.R.PredicateEmittingRelation.over x in
+    let s = g.Infcx.InferCtxtLike.state (g.R.PredicateEmittingRelation.context x) in
+    let y = g.R.PredicateEmittingRelation.with_context x c.have_open_argument.new.infcx in
+    let q = g.R.PredicateEmittingRelation.state y in
     let d = g.Infcx.InferCtxtLike.state c.have_open_argument.new.infcx in
     let f = c.in_ok-have_open_argument.ensures in
-    let q = c.register_well_formed-then-branch.new.relation in
-    let e = c.in_err-register_well_formed-2.field-0.0 in
-    let res = c.from_residual-in_err-register_well_formed-2.result in
-    let failed = as_err res e c.from_residual-in_err-register_well_formed-2.ensures.0
-    c.from_residual-in_err-register_well_formed-2.ensures.1 in
-    subst (Noted (solving_through r.infcx.ghost_name r.goals.items s r.ambient_variance r.param_env)
-    (solving_through q.infcx.ghost_name q.goals.items (g.Infcx.InferCtxtLike.state q.infcx.now) q.ambient_variance
-    q.param_env)) (sym failed)
-    (noted_then (Ok (tt {0})) (Err e) (noted_grown r.infcx.ghost_name r.goals.items s.meaning d.meaning s.store d.store s.lawful
-    d.lawful r.ambient_variance r.param_env f.grows.extends (c.requires.env_known, c.requires.goals_known) f.grows.lawful
-    f.same_record (Ok (tt {0})) tt)
-    (noted_then (Ok (tt {0})) (Err e) c.in_ok-register_well_formed.ensures.noted c.in_err-register_well_formed-2.ensures.noted))
+    let grows = subst (λ z. Grows (g.Infcx.InferCtxtLike.state z) d) c.infcx_mut.ensures.value f.grows in
+    let same = subst (λ z. d.store ≡ (g.Infcx.InferCtxtLike.state z).store) c.infcx_mut.ensures.value f.same_record in
+    let w = c.context_grows.ensures c.have_open_argument.new.infcx grows same c.requires.lawful in
+    let u = g.R.PredicateEmittingRelation.with_context y c.both_well_formed.new.infcx in
+    let p = g.R.PredicateEmittingRelation.state u in
+    let over = g.met.R.PredicateEmittingRelation.over y in
+    let t = g.Infcx.InferCtxtLike.state (g.R.PredicateEmittingRelation.context y) in
+    let e = g.Infcx.InferCtxtLike.state c.both_well_formed.new.infcx in
+    let h = c.in_err-predicates.ensures in
+    let grows' = subst (λ z. Grows (g.Infcx.InferCtxtLike.state z) e) c.infcx_mut-2.ensures.value h.grows in
+    let same' = subst (λ z. e.store ≡ (g.Infcx.InferCtxtLike.state z).store) c.infcx_mut-2.ensures.value h.same_record in
+    let v = c.context_grows-2.ensures c.both_well_formed.new.infcx grows' same' (w.lawful c.requires.lawful) in
+    let res = c.from_residual-in_err-predicates.result in
+    noted_then (Ok (tt {0})) res (noted_with (over_extends r q s d o grows w) (over_with r q s d o grows w) (Ok (tt {0})) tt)
+    (noted_with (over_extends q p t e over grows' v) (over_with q p t e over grows' v) res
+    (subst OnlyMemory (sym (as_err res Memory c.from_residual-in_err-predicates.ensures.0
+    c.from_residual-in_err-predicates.ensures.1)) tt))
+
+pub returns-then-not-branch-clause-registers : goal.returns-then-not-branch-clause-registers
+returns-then-not-branch-clause-registers g c =
+    let x = c.args.relation.now in
+    let r = g.R.PredicateEmittingRelation.state x in
+    let o = g.met.R.PredicateEmittingRelation.over x in
+    let s = g.Infcx.InferCtxtLike.state (g.R.PredicateEmittingRelation.context x) in
+    let m = r.meaning in
+    let y = g.R.PredicateEmittingRelation.with_context x c.have_open_argument.new.infcx in
+    let q = g.R.PredicateEmittingRelation.state y in
+    let d = g.Infcx.InferCtxtLike.state c.have_open_argument.new.infcx in
+    let f = c.in_ok-have_open_argument.ensures in
+    let grows = subst (λ z. Grows (g.Infcx.InferCtxtLike.state z) d) c.infcx_mut.ensures.value f.grows in
+    let same = subst (λ z. d.store ≡ (g.Infcx.InferCtxtLike.state z).store) c.infcx_mut.ensures.value f.same_record in
+    let w = c.context_grows.ensures c.have_open_argument.new.infcx grows same c.requires.lawful in
+    let b = c.in_ok-have_open_argument.field-0 in
+    let i = c.args.def_id.now.0 in
+    let xs = c.args.a_args.now in
+    let ys = c.args.b_args.now in
+    let tells = subst₂ (λ st n. IsTrue b ↔ HasOpenArgument (items_of n) st (n.id i) (n.args xs) ⊎
+    HasOpenArgument (items_of n) st (n.id i) (n.args ys)) (sym o.store) (sym o.meaning)
+    (subst (λ z. IsTrue b ↔ HasOpenArgument (items_of (g.Infcx.InferCtxtLike.state z).meaning)
+    (g.Infcx.InferCtxtLike.state z).store (((g.Infcx.InferCtxtLike.state z).meaning).id i)
+    (((g.Infcx.InferCtxtLike.state z).meaning).args xs) ⊎
+    HasOpenArgument (items_of (g.Infcx.InferCtxtLike.state z).meaning)
+    (g.Infcx.InferCtxtLike.state z).store (((g.Infcx.InferCtxtLike.state z).meaning).id i)
+    (((g.Infcx.InferCtxtLike.state z).meaning).args ys)) c.infcx_mut.ensures.value f.tells) in
+    registers_none (items_of m) r.store r.environment (m.id i) (m.ty c.args.a_ty.now) (m.ty c.args.b_ty.now) (m.args xs)
+    (m.args ys) r.goals q.goals (λ z. false≢true (sym c.if-not-branch.true ∙ tells.1 z)) w.goals
+
+pub register_predicates-requires-clause-known : goal.register_predicates-requires-clause-known
+register_predicates-requires-clause-known g c =
+    let x = c.args.relation.now in
+    let r = g.R.PredicateEmittingRelation.state x in
+    let o = g.met.R.PredicateEmittingRelation.over x in
+    let s = g.Infcx.InferCtxtLike.state (g.R.PredicateEmittingRelation.context x) in
+    let m = r.meaning in
+    let y = g.R.PredicateEmittingRelation.with_context x c.have_open_argument.new.infcx in
+    let q = g.R.PredicateEmittingRelation.state y in
+    let d = g.Infcx.InferCtxtLike.state c.have_open_argument.new.infcx in
+    let f = c.in_ok-have_open_argument.ensures in
+    let grows = subst (λ z. Grows (g.Infcx.InferCtxtLike.state z) d) c.infcx_mut.ensures.value f.grows in
+    let same = subst (λ z. d.store ≡ (g.Infcx.InferCtxtLike.state z).store) c.infcx_mut.ensures.value f.same_record in
+    let w = c.context_grows.ensures c.have_open_argument.new.infcx grows same c.requires.lawful in
+    let b = c.in_ok-have_open_argument.field-0 in
+    let i = c.args.def_id.now.0 in
+    let xs = c.args.a_args.now in
+    let ys = c.args.b_args.now in
+    let tells = subst₂ (λ st n. IsTrue b ↔ HasOpenArgument (items_of n) st (n.id i) (n.args xs) ⊎
+    HasOpenArgument (items_of n) st (n.id i) (n.args ys)) (sym o.store) (sym o.meaning)
+    (subst (λ z. IsTrue b ↔ HasOpenArgument (items_of (g.Infcx.InferCtxtLike.state z).meaning)
+    (g.Infcx.InferCtxtLike.state z).store (((g.Infcx.InferCtxtLike.state z).meaning).id i)
+    (((g.Infcx.InferCtxtLike.state z).meaning).args xs) ⊎
+    HasOpenArgument (items_of (g.Infcx.InferCtxtLike.state z).meaning)
+    (g.Infcx.InferCtxtLike.state z).store (((g.Infcx.InferCtxtLike.state z).meaning).id i)
+    (((g.Infcx.InferCtxtLike.state z).meaning).args ys)) c.infcx_mut.ensures.value f.tells) in
+    let u = g.R.PredicateEmittingRelation.with_context y c.both_well_formed.new.infcx in
+    let p = g.R.PredicateEmittingRelation.state u in
+    let over = g.met.R.PredicateEmittingRelation.over y in
+    let t = g.Infcx.InferCtxtLike.state (g.R.PredicateEmittingRelation.context y) in
+    let e = g.Infcx.InferCtxtLike.state c.both_well_formed.new.infcx in
+    let h = c.in_ok-predicates.ensures in
+    let grows' = subst (λ z. Grows (g.Infcx.InferCtxtLike.state z) e) c.infcx_mut-2.ensures.value h.grows in
+    let same' = subst (λ z. e.store ≡ (g.Infcx.InferCtxtLike.state z).store) c.infcx_mut-2.ensures.value h.same_record in
+    let v = c.context_grows-2.ensures c.both_well_formed.new.infcx grows' same' (w.lawful c.requires.lawful) in
+    let k = c.args.a_ty.now in
+    let l = c.args.b_ty.now in
+    let stay = over_extends r q s d o grows w in
+    let same_a = subst (λ z. ((g.Infcx.InferCtxtLike.state z).meaning).ty k ≡ m.ty k) (sym c.infcx_mut-2.ensures.value)
+    (ap (λ n. n.ty k) (sym over.meaning) ∙ stay.ty k c.requires.a_known) in
+    let same_b = subst (λ z. ((g.Infcx.InferCtxtLike.state z).meaning).ty l ≡ m.ty l) (sym c.infcx_mut-2.ensures.value)
+    (ap (λ n. n.ty l) (sym over.meaning) ∙ stay.ty l c.requires.b_known) in
+    let made = ap₂ (λ n ps. map n.predicate ps) v.meaning c.as_slice.ensures.value ∙ h.made
+    ∙ ap₂ (λ a b. well_formed_predicate a ∷ well_formed_predicate b ∷ []) same_a same_b in
+    listed_known p.meaning c.as_slice.result.now (subst (All (λ z. IsTrue (known z))) (sym made)
+    (both_known (m.ty k) (m.ty l) c.requires.a_known c.requires.b_known))
+
+pub returns-in_err-register_predicates-clause-noted : goal.returns-in_err-register_predicates-clause-noted
+returns-in_err-register_predicates-clause-noted g c =
+    let x = c.args.relation.now in
+    let r = g.R.PredicateEmittingRelation.state x in
+    let o = g.met.R.PredicateEmittingRelation.over x in
+    let s = g.Infcx.InferCtxtLike.state (g.R.PredicateEmittingRelation.context x) in
+    let m = r.meaning in
+    let y = g.R.PredicateEmittingRelation.with_context x c.have_open_argument.new.infcx in
+    let q = g.R.PredicateEmittingRelation.state y in
+    let d = g.Infcx.InferCtxtLike.state c.have_open_argument.new.infcx in
+    let f = c.in_ok-have_open_argument.ensures in
+    let grows = subst (λ z. Grows (g.Infcx.InferCtxtLike.state z) d) c.infcx_mut.ensures.value f.grows in
+    let same = subst (λ z. d.store ≡ (g.Infcx.InferCtxtLike.state z).store) c.infcx_mut.ensures.value f.same_record in
+    let w = c.context_grows.ensures c.have_open_argument.new.infcx grows same c.requires.lawful in
+    let b = c.in_ok-have_open_argument.field-0 in
+    let i = c.args.def_id.now.0 in
+    let xs = c.args.a_args.now in
+    let ys = c.args.b_args.now in
+    let tells = subst₂ (λ st n. IsTrue b ↔ HasOpenArgument (items_of n) st (n.id i) (n.args xs) ⊎
+    HasOpenArgument (items_of n) st (n.id i) (n.args ys)) (sym o.store) (sym o.meaning)
+    (subst (λ z. IsTrue b ↔ HasOpenArgument (items_of (g.Infcx.InferCtxtLike.state z).meaning)
+    (g.Infcx.InferCtxtLike.state z).store (((g.Infcx.InferCtxtLike.state z).meaning).id i)
+    (((g.Infcx.InferCtxtLike.state z).meaning).args xs) ⊎
+    HasOpenArgument (items_of (g.Infcx.InferCtxtLike.state z).meaning)
+    (g.Infcx.InferCtxtLike.state z).store (((g.Infcx.InferCtxtLike.state z).meaning).id i)
+    (((g.Infcx.InferCtxtLike.state z).meaning).args ys)) c.infcx_mut.ensures.value f.tells) in
+    let u = g.R.PredicateEmittingRelation.with_context y c.both_well_formed.new.infcx in
+    let p = g.R.PredicateEmittingRelation.state u in
+    let over = g.met.R.PredicateEmittingRelation.over y in
+    let t = g.Infcx.InferCtxtLike.state (g.R.PredicateEmittingRelation.context y) in
+    let e = g.Infcx.InferCtxtLike.state c.both_well_formed.new.infcx in
+    let h = c.in_ok-predicates.ensures in
+    let grows' = subst (λ z. Grows (g.Infcx.InferCtxtLike.state z) e) c.infcx_mut-2.ensures.value h.grows in
+    let same' = subst (λ z. e.store ≡ (g.Infcx.InferCtxtLike.state z).store) c.infcx_mut-2.ensures.value h.same_record in
+    let v = c.context_grows-2.ensures c.both_well_formed.new.infcx grows' same' (w.lawful c.requires.lawful) in
+    let k = c.args.a_ty.now in
+    let l = c.args.b_ty.now in
+    let stay = over_extends r q s d o grows w in
+    let same_a = subst (λ z. ((g.Infcx.InferCtxtLike.state z).meaning).ty k ≡ m.ty k) (sym c.infcx_mut-2.ensures.value)
+    (ap (λ n. n.ty k) (sym over.meaning) ∙ stay.ty k c.requires.a_known) in
+    let same_b = subst (λ z. ((g.Infcx.InferCtxtLike.state z).meaning).ty l ≡ m.ty l) (sym c.infcx_mut-2.ensures.value)
+    (ap (λ n. n.ty l) (sym over.meaning) ∙ stay.ty l c.requires.b_known) in
+    let made = ap₂ (λ n ps. map n.predicate ps) v.meaning c.as_slice.ensures.value ∙ h.made
+    ∙ ap₂ (λ a b. well_formed_predicate a ∷ well_formed_predicate b ∷ []) same_a same_b in
+    let res = c.from_residual-in_err-register_predicates.result in
+    noted_both r q p (m.id i) (m.ty k) (m.ty l) (m.args xs) (m.args ys) stay (over_with r q s d o grows w)
+    (over_extends q p t e over grows' v) (over_with q p t e over grows' v) c.requires.over c.requires.by_declared (tells.0 c.if-not-branch.false)
+    c.requires.a_in c.requires.b_in c.as_slice.result.now made (g.R.PredicateEmittingRelation.state
+    c.register_predicates.new.self) c.register_predicates.result c.register_predicates.ensures res
+    (subst OnlyMemory (sym (as_err res Memory c.from_residual-in_err-register_predicates.ensures.0
+    c.from_residual-in_err-register_predicates.ensures.1)) tt)
 
 pub returns-clause-noted : goal.returns-clause-noted
 returns-clause-noted g c =
-    let r = c.args.relation.now in
-    let s = g.Infcx.InferCtxtLike.state r.infcx.now in
+    let x = c.args.relation.now in
+    let r = g.R.PredicateEmittingRelation.state x in
+    let o = g.met.R.PredicateEmittingRelation.over x in
+    let s = g.Infcx.InferCtxtLike.state (g.R.PredicateEmittingRelation.context x) in
+    let m = r.meaning in
+    let y = g.R.PredicateEmittingRelation.with_context x c.have_open_argument.new.infcx in
+    let q = g.R.PredicateEmittingRelation.state y in
     let d = g.Infcx.InferCtxtLike.state c.have_open_argument.new.infcx in
     let f = c.in_ok-have_open_argument.ensures in
-    let before = solving_through r.infcx.ghost_name r.goals.items s r.ambient_variance r.param_env in
-    let told = noted_grown r.infcx.ghost_name r.goals.items s.meaning d.meaning s.store d.store s.lawful d.lawful
-    r.ambient_variance r.param_env f.grows.extends (c.requires.env_known, c.requires.goals_known) f.grows.lawful
-    f.same_record (Ok (tt {0})) tt in
-    elim c.if-branch.branch [
-      | then-branch+in_ok-register_well_formed+in_ok-register_well_formed-2 w ↦
-          subst (λ q. Noted before (solving_through q.infcx.ghost_name q.goals.items
-          (g.Infcx.InferCtxtLike.state q.infcx.now) q.ambient_variance q.param_env) (Ok (tt {0}))) (sym w.relation-is)
-          (noted_then (Ok (tt {0})) (Ok (tt {0})) told (noted_then (Ok (tt {0})) (Ok (tt {0})) w.in_ok-register_well_formed.ensures.noted
-          w.in_ok-register_well_formed-2.ensures.noted))
-      | else-branch w ↦
-          subst (λ q. Noted before (solving_through q.infcx.ghost_name q.goals.items
-          (g.Infcx.InferCtxtLike.state q.infcx.now) q.ambient_variance q.param_env) (Ok (tt {0}))) (sym w.relation-is) told
-    ]
+    let grows = subst (λ z. Grows (g.Infcx.InferCtxtLike.state z) d) c.infcx_mut.ensures.value f.grows in
+    let same = subst (λ z. d.store ≡ (g.Infcx.InferCtxtLike.state z).store) c.infcx_mut.ensures.value f.same_record in
+    let w = c.context_grows.ensures c.have_open_argument.new.infcx grows same c.requires.lawful in
+    let b = c.in_ok-have_open_argument.field-0 in
+    let i = c.args.def_id.now.0 in
+    let xs = c.args.a_args.now in
+    let ys = c.args.b_args.now in
+    let tells = subst₂ (λ st n. IsTrue b ↔ HasOpenArgument (items_of n) st (n.id i) (n.args xs) ⊎
+    HasOpenArgument (items_of n) st (n.id i) (n.args ys)) (sym o.store) (sym o.meaning)
+    (subst (λ z. IsTrue b ↔ HasOpenArgument (items_of (g.Infcx.InferCtxtLike.state z).meaning)
+    (g.Infcx.InferCtxtLike.state z).store (((g.Infcx.InferCtxtLike.state z).meaning).id i)
+    (((g.Infcx.InferCtxtLike.state z).meaning).args xs) ⊎
+    HasOpenArgument (items_of (g.Infcx.InferCtxtLike.state z).meaning)
+    (g.Infcx.InferCtxtLike.state z).store (((g.Infcx.InferCtxtLike.state z).meaning).id i)
+    (((g.Infcx.InferCtxtLike.state z).meaning).args ys)) c.infcx_mut.ensures.value f.tells) in
+    let u = g.R.PredicateEmittingRelation.with_context y c.both_well_formed.new.infcx in
+    let p = g.R.PredicateEmittingRelation.state u in
+    let over = g.met.R.PredicateEmittingRelation.over y in
+    let t = g.Infcx.InferCtxtLike.state (g.R.PredicateEmittingRelation.context y) in
+    let e = g.Infcx.InferCtxtLike.state c.both_well_formed.new.infcx in
+    let h = c.in_ok-predicates.ensures in
+    let grows' = subst (λ z. Grows (g.Infcx.InferCtxtLike.state z) e) c.infcx_mut-2.ensures.value h.grows in
+    let same' = subst (λ z. e.store ≡ (g.Infcx.InferCtxtLike.state z).store) c.infcx_mut-2.ensures.value h.same_record in
+    let v = c.context_grows-2.ensures c.both_well_formed.new.infcx grows' same' (w.lawful c.requires.lawful) in
+    let k = c.args.a_ty.now in
+    let l = c.args.b_ty.now in
+    let stay = over_extends r q s d o grows w in
+    let same_a = subst (λ z. ((g.Infcx.InferCtxtLike.state z).meaning).ty k ≡ m.ty k) (sym c.infcx_mut-2.ensures.value)
+    (ap (λ n. n.ty k) (sym over.meaning) ∙ stay.ty k c.requires.a_known) in
+    let same_b = subst (λ z. ((g.Infcx.InferCtxtLike.state z).meaning).ty l ≡ m.ty l) (sym c.infcx_mut-2.ensures.value)
+    (ap (λ n. n.ty l) (sym over.meaning) ∙ stay.ty l c.requires.b_known) in
+    let made = ap₂ (λ n ps. map n.predicate ps) v.meaning c.as_slice.ensures.value ∙ h.made
+    ∙ ap₂ (λ a b. well_formed_predicate a ∷ well_formed_predicate b ∷ []) same_a same_b in
+    noted_both r q p (m.id i) (m.ty k) (m.ty l) (m.args xs) (m.args ys) stay (over_with r q s d o grows w)
+    (over_extends q p t e over grows' v) (over_with q p t e over grows' v) c.requires.over c.requires.by_declared (tells.0 c.if-not-branch.false)
+    c.requires.a_in c.requires.b_in c.as_slice.result.now made (g.R.PredicateEmittingRelation.state
+    c.register_predicates.new.self) c.register_predicates.result c.register_predicates.ensures (Ok (tt {0})) tt
 
 pub returns-clause-registers : goal.returns-clause-registers
 returns-clause-registers g c =
-    let r = c.args.relation.now in
-    let s = g.Infcx.InferCtxtLike.state r.infcx.now in
+    let x = c.args.relation.now in
+    let r = g.R.PredicateEmittingRelation.state x in
+    let o = g.met.R.PredicateEmittingRelation.over x in
+    let s = g.Infcx.InferCtxtLike.state (g.R.PredicateEmittingRelation.context x) in
+    let m = r.meaning in
+    let y = g.R.PredicateEmittingRelation.with_context x c.have_open_argument.new.infcx in
+    let q = g.R.PredicateEmittingRelation.state y in
     let d = g.Infcx.InferCtxtLike.state c.have_open_argument.new.infcx in
-    let m = s.meaning in
     let f = c.in_ok-have_open_argument.ensures in
-    let grown = f.grows.extends in
-    let i = items_of m in
-    let e = m.param_env r.param_env in
-    let t = m.id c.args.def_id.now.0 in
-    let a = m.ty c.args.a_ty.now in
-    let b = m.ty c.args.b_ty.now in
-    let ts = m.args c.args.a_args.now in
-    let us = m.args c.args.b_args.now in
-    let k = c.requires.asked in
-    let before = goals_of m r.goals.items in
-    let stay : goals_of d.meaning r.goals.items ≡ before = goals_stay grown r.goals.items c.requires.goals_known in
-    let env : (d.meaning).param_env r.param_env ≡ e = grown.param_env r.param_env c.requires.env_known in
-    let same_a : (d.meaning).ty c.args.a_ty.now ≡ a = grown.ty c.args.a_ty.now k.left_known in
-    let same_b : (d.meaning).ty c.args.b_ty.now ≡ b = grown.ty c.args.b_ty.now k.right_known in
-    elim c.if-branch.branch [
-      | then-branch+in_ok-register_well_formed+in_ok-register_well_formed-2 w ↦
-          (let q = w.register_well_formed.new.relation in
-          let n = (g.Infcx.InferCtxtLike.state q.infcx.now).meaning in
-          let first = w.in_ok-register_well_formed.ensures in
-          let second = w.in_ok-register_well_formed-2.ensures in
-          let passes = (first.noted).passes in
-          let sure_b = subst (λ z. IsTrue (known z)) (sym same_b) k.right_known in
-          subst (λ z. RegistersWellFormed i s.store e t a b ts us before
-          (goals_of (g.Infcx.InferCtxtLike.state z.infcx.now).meaning z.goals.items)) (sym w.relation-is)
-          (registers_both i s.store e t a b ts us before _ (goals_of n q.goals.items) (f.tells.0 w.if-branch.true)
-          (first.registers ∙ ap₂ (λ z y. z ++ y ∷ []) stay (ap₂ (λ z y. goal_of z (well_formed_predicate y)) env same_a))
-          (second.registers ∙ ap (λ y. goals_of n q.goals.items ++ y ∷ [])
-          (ap₂ (λ z y. goal_of z (well_formed_predicate y)) (passes.environment ∙ env)
-          ((passes.extends).ty c.args.b_ty.now sure_b ∙ same_b)))))
-      | else-branch w ↦
-          subst (λ z. RegistersWellFormed i s.store e t a b ts us before
-          (goals_of (g.Infcx.InferCtxtLike.state z.infcx.now).meaning z.goals.items)) (sym w.relation-is)
-          (registers_none i s.store e t a b ts us before _
-          (λ o. false≢true (sym w.if-branch.false ∙ f.tells.1 o)) stay)
-    ]
+    let grows = subst (λ z. Grows (g.Infcx.InferCtxtLike.state z) d) c.infcx_mut.ensures.value f.grows in
+    let same = subst (λ z. d.store ≡ (g.Infcx.InferCtxtLike.state z).store) c.infcx_mut.ensures.value f.same_record in
+    let w = c.context_grows.ensures c.have_open_argument.new.infcx grows same c.requires.lawful in
+    let b = c.in_ok-have_open_argument.field-0 in
+    let i = c.args.def_id.now.0 in
+    let xs = c.args.a_args.now in
+    let ys = c.args.b_args.now in
+    let tells = subst₂ (λ st n. IsTrue b ↔ HasOpenArgument (items_of n) st (n.id i) (n.args xs) ⊎
+    HasOpenArgument (items_of n) st (n.id i) (n.args ys)) (sym o.store) (sym o.meaning)
+    (subst (λ z. IsTrue b ↔ HasOpenArgument (items_of (g.Infcx.InferCtxtLike.state z).meaning)
+    (g.Infcx.InferCtxtLike.state z).store (((g.Infcx.InferCtxtLike.state z).meaning).id i)
+    (((g.Infcx.InferCtxtLike.state z).meaning).args xs) ⊎
+    HasOpenArgument (items_of (g.Infcx.InferCtxtLike.state z).meaning)
+    (g.Infcx.InferCtxtLike.state z).store (((g.Infcx.InferCtxtLike.state z).meaning).id i)
+    (((g.Infcx.InferCtxtLike.state z).meaning).args ys)) c.infcx_mut.ensures.value f.tells) in
+    let u = g.R.PredicateEmittingRelation.with_context y c.both_well_formed.new.infcx in
+    let p = g.R.PredicateEmittingRelation.state u in
+    let over = g.met.R.PredicateEmittingRelation.over y in
+    let t = g.Infcx.InferCtxtLike.state (g.R.PredicateEmittingRelation.context y) in
+    let e = g.Infcx.InferCtxtLike.state c.both_well_formed.new.infcx in
+    let h = c.in_ok-predicates.ensures in
+    let grows' = subst (λ z. Grows (g.Infcx.InferCtxtLike.state z) e) c.infcx_mut-2.ensures.value h.grows in
+    let same' = subst (λ z. e.store ≡ (g.Infcx.InferCtxtLike.state z).store) c.infcx_mut-2.ensures.value h.same_record in
+    let v = c.context_grows-2.ensures c.both_well_formed.new.infcx grows' same' (w.lawful c.requires.lawful) in
+    let k = c.args.a_ty.now in
+    let l = c.args.b_ty.now in
+    let stay = over_extends r q s d o grows w in
+    let same_a = subst (λ z. ((g.Infcx.InferCtxtLike.state z).meaning).ty k ≡ m.ty k) (sym c.infcx_mut-2.ensures.value)
+    (ap (λ n. n.ty k) (sym over.meaning) ∙ stay.ty k c.requires.a_known) in
+    let same_b = subst (λ z. ((g.Infcx.InferCtxtLike.state z).meaning).ty l ≡ m.ty l) (sym c.infcx_mut-2.ensures.value)
+    (ap (λ n. n.ty l) (sym over.meaning) ∙ stay.ty l c.requires.b_known) in
+    let made = ap₂ (λ n ps. map n.predicate ps) v.meaning c.as_slice.ensures.value ∙ h.made
+    ∙ ap₂ (λ a b. well_formed_predicate a ∷ well_formed_predicate b ∷ []) same_a same_b in
+    both_registered r q p (m.id i) (m.ty k) (m.ty l) (m.args xs) (m.args ys) stay (over_with r q s d o grows w)
+    (over_extends q p t e over grows' v) (over_with q p t e over grows' v) c.requires.over c.requires.by_declared (tells.0 c.if-not-branch.false)
+    c.requires.a_in c.requires.b_in c.as_slice.result.now made (g.R.PredicateEmittingRelation.state
+    c.register_predicates.new.self) c.register_predicates.result c.register_predicates.ensures c.in_ok-register_predicates.field-0 c.in_ok-register_predicates.was

@@ -1,0 +1,45 @@
+-- Goals that the relation of a context registers by the slice.
+use Rattle.std.proofs.Common.{◌≡◌, ℕ, refl, sym, ap, ◌∙◌, subst, List, [], ◌∷◌, ◌++◌, All, IsTrue, map, Ok}
+use Rattle.std.proofs.lemmas.List.Elements.{All-nil, All-cons, All-head, All-tail, All-append}
+use Rattle.std.proofs.lemmas.List.{map-append}
+use Rattle.relation_terms.specs.declared.terms.enums.Variance.{Variance}
+use Rattle.relation_terms.specs.declared.terms.goal.Goal.{Goal as KeyedGoal}
+use Rattle.relation_terms.specs.declared.terms.keys.ParamEnvKey.{ParamEnvKey}
+use Rattle.relation_terms.specs.declared.terms.keys.PredicateKey.{PredicateKey}
+use Rattle.relation_terms.specs.Trees.{known}
+use Rattle.relation_terms.specs.Meaning.{Meaning}
+use Rattle.type_relations.specs.Emitting.{AddsGoals, KnowsPredicate}
+use Rattle.type_relations.specs.Goals.{goal_of, goals_of, KnowsGoal}
+use Rattle.type_relations.specs.Solving.{solving}
+use Rattle.type_relations.specs.Stores.{Store}
+
+module _ {Key Id Name : Type 0} (m : Meaning Key Id Name) where
+  -- Goals were put behind those that there were.
+  pub goals_added : {A F : Type 0} (j : ℕ) (gs hs xs : List (KeyedGoal Key (PredicateKey Key))) (st : Store) (L : Type 0)
+      (v : Variance) (e : ParamEnvKey Key) → hs ≡ gs ++ xs → All (KnowsGoal m) xs → (x : A) →
+      AddsGoals {F = F} (solving j gs m st L v e) (solving j hs m st L v e) (goals_of m xs) (Ok x)
+  goals_added j gs hs xs st L v e pushed sure x = record {
+    meaning = refl;
+    store = refl;
+    goals = ap (goals_of m) pushed
+        ∙ map-append (λ g. goal_of (m.param_env g.param_env) (m.predicate g.predicate)) gs xs;
+    environment = refl;
+    ambient = refl;
+    settings = refl;
+    reference = refl;
+    lawful = λ l. (l.0, (l.1.0, subst (All (KnowsGoal m)) (sym pushed) (All-append (KnowsGoal m) gs xs l.1.1 sure)));
+  }
+
+  -- The goals of known predicates in a known environment.
+  pub known_goals : (e : ParamEnvKey Key) → IsTrue (known (m.param_env e)) → (ps : List (PredicateKey Key)) →
+      All (KnowsPredicate m) ps → All (KnowsGoal m) (map (λ p. record { param_env = e; predicate = p }) ps)
+  known_goals e k [] h = All-nil (KnowsGoal m)
+  known_goals e k (p ∷ ps) h = All-cons (KnowsGoal m) (record { param_env = e; predicate = p })
+      (map (λ p. record { param_env = e; predicate = p }) ps) (k, All-head (KnowsPredicate m) p ps h)
+      (known_goals e k ps (All-tail (KnowsPredicate m) p ps h))
+
+  pub goals_mean : (e : ParamEnvKey Key) (ps : List (PredicateKey Key)) →
+      goals_of m (map (λ p. record { param_env = e; predicate = p }) ps)
+      ≡ map (λ p. goal_of (m.param_env e) (m.predicate p)) ps
+  goals_mean e [] = refl
+  goals_mean e (p ∷ ps) = ap (λ gs. goal_of (m.param_env e) (m.predicate p) ∷ gs) (goals_mean e ps)

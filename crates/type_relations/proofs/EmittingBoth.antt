@@ -1,0 +1,94 @@
+-- That two types are well formed was registered by a relation that registers goals.
+use Rattle.std.proofs.Common.{◌≡◌, ◌⊎◌, ℕ, refl, sym, ap, ◌∙◌, subst, subst₂, true, List, [], ◌∷◌, ◌++◌, All, IsTrue, map, Result, Ok}
+use Rattle.std.proofs.lemmas.Bool.{and_from}
+use Rattle.std.proofs.lemmas.List.Elements.{All-nil, All-cons, All-head, All-tail}
+use Rattle.relation_terms.specs.declared.terms.keys.PredicateKey.{PredicateKey}
+use Rattle.relation_terms.specs.Trees.{Tree, known}
+use Rattle.relation_terms.specs.Meaning.{Meaning, Extends}
+use Rattle.relation_tools.specs.declared.error.RelateFault.{RelateFault}
+use Rattle.type_relations.specs.Arguments.{AreOverItem}
+use Rattle.type_relations.specs.Bivariance.{HasOpenArgument, RegistersWellFormed}
+use Rattle.type_relations.specs.Emitting.{AddsGoals, KnowsPredicate, goals_in, with_goals}
+use Rattle.type_relations.specs.Goals.{Goal, ByDeclared, IsQuiet, goal_of, well_formed_predicate, HasBivariantPart, of_type}
+use Rattle.type_relations.specs.Lawful.{State, Noted, OnlyMemory, WithMeaning, RegisteredIn, RelatesByDeclared, items_in}
+use Rattle.type_relations.specs.Stores.{InContext, IsTermIn}
+use Rattle.type_relations.proofs.Bivariance.{bivariant_parts, items_stay}
+use Rattle.type_relations.proofs.Noting.{noted_with, noted_then, noted_added}
+use Rattle.type_relations.proofs.Standing.{term_context}
+
+-- Predicates of known trees are known.
+pub listed_known : {Key Id Name : Type 0} (m : Meaning Key Id Name) (ps : List (PredicateKey Key)) →
+    All (λ t. IsTrue (known t)) (map m.predicate ps) → All (KnowsPredicate m) ps
+listed_known m [] h = All-nil (KnowsPredicate m)
+listed_known m (p ∷ ps) h = All-cons (KnowsPredicate m) p ps
+    (All-head (λ t. IsTrue (known t)) (m.predicate p) (map m.predicate ps) h)
+    (listed_known m ps (All-tail (λ t. IsTrue (known t)) (m.predicate p) (map m.predicate ps) h))
+
+-- That known types are well formed is known.
+pub both_known : (a b : Tree) → IsTrue (known a) → IsTrue (known b) →
+    All (λ t. IsTrue (known t)) (well_formed_predicate a ∷ well_formed_predicate b ∷ [])
+both_known a b k l = All-cons (λ t. IsTrue (known t)) (well_formed_predicate a) (well_formed_predicate b ∷ [])
+    (and_from (known a) true k refl) (All-cons (λ t. IsTrue (known t)) (well_formed_predicate b) []
+    (and_from (known b) true l refl) (All-nil (λ t. IsTrue (known t))))
+
+-- The goals of predicates, by the trees of these.
+goals_over : {Key : Type 0} (e : Tree) (f : PredicateKey Key → Tree) (ps : List (PredicateKey Key)) →
+    map (λ p. goal_of e (f p)) ps ≡ map (goal_of e) (map f ps)
+goals_over e f [] = refl
+goals_over e f (p ∷ ps) = ap (λ gs. goal_of e (f p) ∷ gs) (goals_over e f ps)
+
+module _ {Key Id Name : Type 0} (r q p : State Key Id Name) (d : ℕ) (a b ts us : Tree) (e : Extends r.meaning q.meaning)
+    (w : WithMeaning r q.meaning q) (f : Extends q.meaning p.meaning) (v : WithMeaning q p.meaning p)
+    (over : AreOverItem d a b ts us) (declared : RelatesByDeclared r)
+    (h : HasOpenArgument (items_in r) r.store d ts ⊎ HasOpenArgument (items_in r) r.store d us) (a_in : IsTermIn r.store a)
+    (b_in : IsTermIn r.store b) (ps : List (PredicateKey Key))
+    (made : map (p.meaning).predicate ps ≡ well_formed_predicate a ∷ well_formed_predicate b ∷ []) where
+  abbrev both : Tree → List Goal
+  both z = goal_of z (well_formed_predicate a) ∷ goal_of z (well_formed_predicate b) ∷ []
+
+  listed : goals_in p ps ≡ both p.environment
+  listed = goals_over p.environment (p.meaning).predicate ps ∙ ap (map (goal_of p.environment)) made
+
+  by_declared : RelatesByDeclared p
+  by_declared = subst₂ (λ k u. ByDeclared k.declared_at_invariance u) (sym (v.settings ∙ w.settings))
+      (sym (v.ambient ∙ w.ambient)) declared
+
+  registered : (t : Tree) → IsTermIn r.store t → HasBivariantPart (items_in r) t →
+      RegisteredIn p p.store (goal_of p.environment (well_formed_predicate t))
+  registered t i bivariant = record {
+    environment = refl;
+    asks = of_type t by_declared refl
+        (subst (λ st. InContext st t) (sym (v.store ∙ w.store)) (term_context r.store t i))
+        (subst (λ c. HasBivariantPart c t) (sym (items_stay f ∙ items_stay e)) bivariant);
+  }
+
+  asks : All (RegisteredIn p p.store) (both p.environment)
+  asks =
+      let P = RegisteredIn p p.store in
+      let parts = bivariant_parts (items_in r) r.store d a b ts us over h in
+      All-cons P (goal_of p.environment (well_formed_predicate a)) (goal_of p.environment (well_formed_predicate b) ∷ [])
+      (registered a a_in parts.0) (All-cons P (goal_of p.environment (well_formed_predicate b)) []
+      (registered b b_in parts.1) (All-nil P))
+
+  quiet : All IsQuiet (both p.environment)
+  quiet = All-cons IsQuiet (goal_of p.environment (well_formed_predicate a))
+      (goal_of p.environment (well_formed_predicate b) ∷ []) tt
+      (All-cons IsQuiet (goal_of p.environment (well_formed_predicate b)) [] tt (All-nil IsQuiet))
+
+  module _ {A F : Type 0} (u : State Key Id Name) (result : Result A F) (adds : AddsGoals p u (goals_in p ps) result) where
+    pub noted_both : (x : Result (Unit {0}) (RelateFault Key Id Name)) → OnlyMemory x → Noted r u x
+    noted_both x fault =
+        noted_then (Ok (tt {0})) x (noted_with e w (Ok (tt {0})) tt)
+        (noted_then (Ok (tt {0})) x (noted_with f v (Ok (tt {0})) tt)
+        (noted_added (goals_in p ps) result adds
+        (subst (All (RegisteredIn p p.store)) (sym listed) asks)
+        (subst (All IsQuiet) (sym listed) quiet) x fault))
+
+    pub both_registered : (y : A) → result ≡ Ok y →
+        RegistersWellFormed (items_in r) r.store r.environment d a b ts us r.goals u.goals
+    both_registered y is = record {
+      both = λ o. adds.goals ∙ ap (with_goals p.goals (goals_in p ps)) is ∙ ap (λ gs. p.goals ++ gs) listed
+          ∙ ap (λ gs. gs ++ both p.environment) (v.goals ∙ w.goals)
+          ∙ ap (λ z. r.goals ++ both z) (v.environment ∙ w.environment);
+      none = λ closed. absurd (closed h);
+    }

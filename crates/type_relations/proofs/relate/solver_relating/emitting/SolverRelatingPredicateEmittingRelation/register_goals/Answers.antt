@@ -1,0 +1,9 @@
+use Rattle.type_relations.proofs.Emitting.{goals_added}
+use Rattle.type_relations.proofs.relate.solver_relating.emitting.SolverRelatingPredicateEmittingRelation.register_goals.Goals as goal
+
+pub returns : goal.returns
+returns g c =
+    let r = c.args.self.now in
+    let s = g.Infcx.InferCtxtLike.state r.infcx.now in
+    goals_added s.meaning r.infcx.ghost_name r.goals.items c.extend_from_slice.new.self.items c.args.goals.now s.store
+    s.lawful r.ambient_variance r.param_env c.in_ok-extend_from_slice.ensures.items c.requires.known (tt {0})

@@ -1,0 +1,39 @@
+-- What contracts see of a relation that registers goals, over a context.
+use Rattle.std.specs.Prelude.{◌≡◌, List, ◌++◌, map, IsTrue, Result, Ok, Err}
+use Rattle.relation_terms.specs.declared.terms.keys.PredicateKey.{PredicateKey}
+use Rattle.relation_terms.specs.Meaning.{Meaning}
+use Rattle.relation_terms.specs.Trees.{known}
+use Rattle.type_relations.specs.Contexts.{Context}
+use Rattle.type_relations.specs.Goals.{Goal, goal_of}
+use Rattle.type_relations.specs.Lawful.{State}
+
+-- The goals that there are after others were put behind them, or were not, where a growth was refused.
+abbrev pub with_goals : {A F : Type 0} → List Goal → List Goal → Result A F → List Goal
+with_goals before goals (Ok x) = before ++ goals
+with_goals before goals (Err f) = before
+
+module _ {Key Id Name : Type 0} where
+  -- An interner knows a predicate.
+  abbrev pub KnowsPredicate : Meaning Key Id Name → PredicateKey Key → Type 0
+  KnowsPredicate m p = IsTrue (known (m.predicate p))
+
+  -- The goals of predicates in a relation's environment.
+  abbrev pub goals_in : State Key Id Name → List (PredicateKey Key) → List Goal
+  goals_in r ps = map (λ p. goal_of r.environment ((r.meaning).predicate p)) ps
+
+  -- A relation has recorded what a context has, over its keys, which is lawful while the relation is.
+  pub record IsOver (r : State Key Id Name) (c : Context Key Id Name) : Type 0 where
+    pub meaning : r.meaning ≡ c.meaning
+    pub store : r.store ≡ c.store
+    pub lawful : r.lawful → c.lawful
+
+  -- Goals were put behind those that there were, or were not, where a growth was refused. Nothing else was done.
+  pub record AddsGoals {A F : Type 0} (r q : State Key Id Name) (added : List Goal) (result : Result A F) : Type 0 where
+    pub meaning : q.meaning ≡ r.meaning
+    pub store : q.store ≡ r.store
+    pub goals : q.goals ≡ with_goals r.goals added result
+    pub environment : q.environment ≡ r.environment
+    pub ambient : q.ambient ≡ r.ambient
+    pub settings : q.settings ≡ r.settings
+    pub reference : q.reference ≡ r.reference
+    pub lawful : r.lawful → q.lawful

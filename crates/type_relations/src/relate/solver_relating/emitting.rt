@@ -1,0 +1,79 @@
+//! The relation of a context registers goals.
+ghost use Rattle.std.specs.Prelude.{◌≡◌, map, IfOk};
+
+use crate::infer_ctxt::InferCtxtLike;
+use crate::relate::StructurallyRelateAliases;
+use crate::relate::combine::PredicateEmittingRelation;
+use crate::relate::solver_relating::{GoalOf, SolverRelating};
+use relation_terms::terms::{
+    Goal, Interner, OutOfMemory, ParamEnv, ParamEnvKey, Predicate, PredicateKey, Span,
+};
+use std::alloc::Global;
+
+// The goals of predicates in an environment.
+fn goals_of<X: Copy>(
+    param_env: ParamEnvKey<X>,
+    predicates: &[PredicateKey<X>],
+    alloc: Global,
+) -> Result<Vec<Goal<X, PredicateKey<X>>>, OutOfMemory>
+    ensures { IfOk result (λ goals.
+        goals.items ≡ map (λ p. record { param_env = param_env; predicate = p }) predicates.now) }
+{
+    let mut goals = Vec::new(alloc);
+    for i in 0..predicates.len() {
+        goals.push(Goal {
+            param_env,
+            predicate: predicates[i],
+        })?;
+    }
+    Ok(goals)
+}
+
+impl<'a, Infcx: InferCtxtLike> PredicateEmittingRelation<Infcx> for SolverRelating<'a, Infcx> {
+    ghost use Rattle.std.specs.Prelude.{refl};
+    ghost use Rattle.type_relations.specs.Solving.{solving_through};
+
+    ghost state = { λ r. solving_through r.infcx.ghost_name r.goals.items (Infcx.state r.infcx.now) r.ambient_variance
+        r.param_env };
+
+    ghost context = { λ r. r.infcx.now };
+
+    ghost with_context = { λ r c. record r { infcx = record r.infcx { now = c } } };
+
+    fn infcx(&self) -> &Infcx {
+        &*self.infcx
+    }
+
+    fn infcx_mut(&mut self) -> &mut Infcx {
+        &mut *self.infcx
+    }
+
+    fn context_grows(&self) {}
+
+    fn span(&self) -> Span<Infcx::Interner> {
+        self.span
+    }
+
+    fn param_env(&self) -> ParamEnv<Infcx::Interner> {
+        self.param_env
+    }
+
+    fn structurally_relate_aliases(&self) -> StructurallyRelateAliases {
+        StructurallyRelateAliases::No
+    }
+
+    fn register_goals(&mut self, goals: &[GoalOf<Infcx::Interner>]) -> Result<(), OutOfMemory> {
+        self.goals.extend_from_slice(goals)?;
+        Ok(())
+    }
+
+    fn register_predicates(
+        &mut self,
+        predicates: &[Predicate<Infcx::Interner>],
+    ) -> Result<(), OutOfMemory> {
+        let goals = goals_of(self.param_env, predicates, self.infcx.cx().alloc())?;
+        self.register_goals(goals.as_slice())
+    }
+
+    ghost over = { λ r. record { meaning = refl; store = refl; lawful = λ l. l.0 } };
+}
