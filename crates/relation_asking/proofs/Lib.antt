@@ -9,3 +9,4 @@ pub mod PutLemmas
 pub mod WalkLemmas
 pub mod OutlivesLemmas
 pub mod AssumeLemmas
+pub mod Universes

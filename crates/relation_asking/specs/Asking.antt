@@ -1,5 +1,6 @@
 -- What is ready to be asked about, and a context in which it may be.
-use Rattle.std.specs.Prelude.{◌≡◌, ◌≢◌, ℕ, ◌<◌, ◌≤◌, List, Option, Some, IsTrue, length, slice_get, Result, Ok, Err}
+use Rattle.std.specs.Prelude.{◌≡◌, ◌≢◌, ℕ, ◌<◌, ◌≤◌, List, ◌++◌, replicate, Option, Some, IsTrue, length, slice_get, Result}
+use Rattle.std.specs.Prelude.{Ok, Err}
 use Rattle.std.specs.Global.{Vec}
 use Rattle.std.specs.List.{All}
 use Rattle.relation_terms.specs.declared.terms.enums.Variance.{Variance}
@@ -13,11 +14,12 @@ use Rattle.relation_terms.specs.Heads.{VarKind, type_var, int_var, float_var, co
 use Rattle.relation_reference.specs.declared.context.inner.InferCtxtInner.{InferCtxtInner}
 use Rattle.relation_reference.specs.declared.context.inner.Variable.{Variable}
 use Rattle.relation_reference.specs.declared.context.inner.VariableValue.TheVariants.{Known}
-use Rattle.relation_reference.specs.Variables.{value_at}
+use Rattle.relation_reference.specs.Variables.{value_at, universes_of}
 use Rattle.relation_tools.specs.declared.error.RelateFault.{RelateFault}
 use Rattle.relation_tools.specs.Faults.{KnowsFault}
 use Rattle.type_relations.specs.Covered.{IsCovered}
 use Rattle.type_relations.specs.Goals.{KnowsGoal}
+use Rattle.relation_text.specs.declared.naming.program.Variables.{Variables}
 use Rattle.relation_asking.specs.declared.context.VariableKind.{VariableKind}
 use Rattle.relation_asking.specs.declared.context.VariableKind.TheVariants.{Ty, Int, Float, Const, Region}
 use Rattle.relation_asking.specs.declared.needs.Needs.{Needs}
@@ -54,6 +56,31 @@ variables_in x int_var = length x.ints.items
 variables_in x float_var = length x.floats.items
 variables_in x const_var = length x.consts.items
 variables_in x region_var = length x.regions.items
+
+-- The universes in which a context's variables of a kind stand, by their numbers.
+abbrev pub universes_in : {Key : Type 0} → InferCtxtInner Key → VarKind → List ℕ
+universes_in x type_var = universes_of x.types.items
+universes_in x int_var = universes_of x.ints.items
+universes_in x float_var = universes_of x.floats.items
+universes_in x const_var = universes_of x.consts.items
+universes_in x region_var = universes_of x.regions.items
+
+-- In which universe a variable of a kind is made where the context is in that one: those of numbers name nothing.
+abbrev pub home : VarKind → ℕ → ℕ
+home int_var u = 0
+home float_var u = 0
+home k u = u
+
+-- Variables were made in a universe, behind those that there were.
+abbrev pub MakesIn : {Key : Type 0} → ℕ → InferCtxtInner Key → InferCtxtInner Key → Type 0
+MakesIn u x y = (k : VarKind) → (n : ℕ) × (universes_in y k ≡ universes_in x k ++ replicate n (home k u))
+
+-- A context has the variables of a statement, and is in their universe or in a later one.
+pub record HasStated {Key : Type 0} (x : InferCtxtInner Key) (v : Variables) : Type 0 where
+  pub types : v.types ≤ variables_in x type_var
+  pub consts : v.consts ≤ variables_in x const_var
+  pub regions : v.regions ≤ variables_in x region_var
+  pub universe : v.universe ≤ (x.universe).0
 
 -- A context has what is needed: the variables, and a universe that names the placeholders.
 pub record Has {Key : Type 0} (x : InferCtxtInner Key) (n : Needs) : Type 0 where

@@ -1,5 +1,5 @@
 //! A question's context, and relating in it.
-ghost use Rattle.std.specs.Prelude.{◌≡◌, ◌≢◌, ℕ, suc, ◌<◌, ◌≤◌, IfNone, IfOk, IfErr, OnOk};
+ghost use Rattle.std.specs.Prelude.{◌≡◌, ◌≢◌, ℕ, suc, ◌<◌, ◌≤◌, max, IfNone, IfOk, IfErr, OnOk};
 ghost use Rattle.relation_terms.specs.Heads.{VarKind};
 ghost use Rattle.relation_terms.specs.Meaning.{Extends};
 ghost use Rattle.relation_tools.specs.Faults.{KnowsFault};
@@ -7,12 +7,13 @@ ghost use Rattle.type_relations.specs.Contexts.{KnowsEnv, KnowsTy, TakesTy, HasT
 ghost use Rattle.type_relations.specs.Contexts.{AnswersTys, KeepsEqualTys, TellsApart, RegistersGoals};
 ghost use Rattle.relation_reference.specs.Tables.{IsLawful};
 ghost use Rattle.relation_asking.specs.Needs.{Reaches};
-ghost use Rattle.relation_asking.specs.Asking.{Has, IsAskable, var_kind, variables_in};
+ghost use Rattle.std.specs.List.{All};
+ghost use Rattle.relation_asking.specs.Asking.{Has, HasStated, IsAskable, MakesIn, var_kind, variables_in};
 
 use crate::needs::Needs;
 use relation_reference::context::RefCtxt;
 use relation_terms::terms::{Interner, OutOfMemory, ParamEnv, Span, Ty, Variance};
-use relation_text::naming::Question;
+use relation_text::naming::Variables;
 use std::fmt::{self, Write};
 use type_relations::infer_ctxt::InferCtxtLike;
 use type_relations::relate::solver_relating::{RelateExt, RelateGoals};
@@ -22,8 +23,8 @@ use type_relations::relate::solver_relating::{RelateExt, RelateGoals};
 pub enum NotAsked {
     /// No rules relate terms of one of the forms.
     Rules,
-    /// The context's universe does not name a placeholder.
-    Universe,
+    /// The context's universe, which is this one, does not name a placeholder.
+    Universe(usize),
     /// Nothing is asked at this variance.
     Variance,
     /// Lists of arguments are related that have as many.
@@ -71,6 +72,8 @@ fn make_variable<I: Interner>(ctx: &mut RefCtxt<I>, kind: VariableKind) -> Resul
     ensures universe { ctx.old.inner.universe.0 ≤ ctx.new.inner.universe.0 }
     ensures one_more { let k = var_kind kind in
         OnOk result (variables_in ctx.new.inner k ≡ suc (variables_in ctx.old.inner k)) }
+    ensures stays { OnOk result (ctx.new.inner.universe ≡ ctx.old.inner.universe) }
+    ensures makes { OnOk result (MakesIn ctx.old.inner.universe.0 ctx.old.inner ctx.new.inner) }
 {
     match kind {
         VariableKind::Ty => {
@@ -104,6 +107,8 @@ fn make_variables<I: Interner>(
     ensures kept { (k : VarKind) → variables_in ctx.old.inner k ≤ variables_in ctx.new.inner k }
     ensures universe { ctx.old.inner.universe.0 ≤ ctx.new.inner.universe.0 }
     ensures has { OnOk result (count ≤ variables_in ctx.new.inner (var_kind kind)) }
+    ensures stays { OnOk result (ctx.new.inner.universe ≡ ctx.old.inner.universe) }
+    ensures makes { OnOk result (MakesIn ctx.old.inner.universe.0 ctx.old.inner ctx.new.inner) }
 {
     for _ in variables_count(ctx, kind)..count {
         make_variable(ctx, kind)?;
@@ -138,11 +143,58 @@ fn count_to(largest: Option<usize>) -> Result<usize, OutOfMemory>
     }
 }
 
-// Makes variables until the context has what is needed, and as many as a question says.
+// Makes universes until the context is in one, or in a later one.
+fn enter_universe<I: Interner>(ctx: &mut RefCtxt<I>, universe: usize) -> Result<(), OutOfMemory>
+    requires { IsLawful (I.meaning ctx.old.interner) ctx.old.inner }
+    ensures interner { ctx.new.interner ≡ ctx.old.interner }
+    ensures lawful { IsLawful (I.meaning ctx.old.interner) ctx.new.inner }
+    ensures rest { ctx.new.inner ≡ record ctx.old.inner { universe = ctx.new.inner.universe } }
+    ensures later { ctx.old.inner.universe.0 ≤ ctx.new.inner.universe.0 }
+    ensures enters { OnOk result (ctx.new.inner.universe.0 ≡ max ctx.old.inner.universe.0 universe) }
+{
+    for _ in ctx.inner.universe.0..universe {
+        let _ = ctx.create_next_universe()?;
+    }
+    Ok(())
+}
+
+// Makes the variables of a statement that are not there yet, in its universe, or the context's if that is later.
+fn have_stated<I: Interner>(ctx: &mut RefCtxt<I>, variables: Variables) -> Result<(), OutOfMemory>
+    requires { IsLawful (I.meaning ctx.old.interner) ctx.old.inner }
+    ensures lawful { IsLawful (I.meaning ctx.new.interner) ctx.new.inner }
+    ensures grown { Extends (I.meaning ctx.old.interner) (I.meaning ctx.new.interner) }
+    ensures kept { (k : VarKind) → variables_in ctx.old.inner k ≤ variables_in ctx.new.inner k }
+    ensures universe { ctx.old.inner.universe.0 ≤ ctx.new.inner.universe.0 }
+    ensures has { OnOk result (HasStated ctx.new.inner variables) }
+    ensures makes { let u = max ctx.old.inner.universe.0 variables.universe in
+        OnOk result (MakesIn u ctx.old.inner ctx.new.inner) }
+{
+    enter_universe(ctx, variables.universe)?;
+    make_variables(ctx, VariableKind::Ty, variables.types)?;
+    make_variables(ctx, VariableKind::Const, variables.consts)?;
+    make_variables(ctx, VariableKind::Region, variables.regions)
+}
+
+// Makes the variables of statements that are not there yet, statement by statement.
+pub(super) fn have_all_stated<I: Interner>(
+    ctx: &mut RefCtxt<I>,
+    stated: &[Variables],
+) -> Result<(), OutOfMemory>
+    requires { IsLawful (I.meaning ctx.old.interner) ctx.old.inner }
+    ensures lawful { IsLawful (I.meaning ctx.new.interner) ctx.new.inner }
+    ensures grown { Extends (I.meaning ctx.old.interner) (I.meaning ctx.new.interner) }
+    ensures has { OnOk result (All (HasStated ctx.new.inner) stated.now) }
+{
+    for variables in stated {
+        have_stated(ctx, *variables)?;
+    }
+    Ok(())
+}
+
+// Makes variables until the context has what is needed.
 pub(super) fn have_variables<I: Interner>(
     ctx: &mut RefCtxt<I>,
     needs: Needs,
-    question: &Question,
 ) -> Result<(), OutOfMemory>
     requires lawful { IsLawful (I.meaning ctx.old.interner) ctx.old.inner }
     requires universe { needs.universe ≤ ctx.old.inner.universe.0 }
@@ -150,8 +202,6 @@ pub(super) fn have_variables<I: Interner>(
     ensures grown { Extends (I.meaning ctx.old.interner) (I.meaning ctx.new.interner) }
     ensures has { OnOk result (Has ctx.new.inner needs) }
 {
-    make_variables(ctx, VariableKind::Ty, question.type_variables)?;
-    make_variables(ctx, VariableKind::Region, question.region_variables)?;
     reach(ctx, VariableKind::Ty, needs.types)?;
     reach(ctx, VariableKind::Int, needs.ints)?;
     reach(ctx, VariableKind::Float, needs.floats)?;
@@ -173,7 +223,7 @@ pub(super) fn refusal<I: Interner>(
     }
     let universe = ctx.inner.universe.0;
     if universe < lhs.universe || universe < rhs.universe {
-        return Some(NotAsked::Universe);
+        return Some(NotAsked::Universe(universe));
     }
     match variance {
         Variance::Covariant | Variance::Contravariant | Variance::Invariant => None,
@@ -217,8 +267,11 @@ pub(super) fn write_not_asked<W: Write>(why: NotAsked, out: &mut W) -> fmt::Resu
     out.write_str("not asked: ")?;
     match why {
         NotAsked::Rules => out.write_str("a form in these types has no rules yet"),
-        NotAsked::Universe => {
-            out.write_str("the context's universe, 0, does not name the placeholder")
+        NotAsked::Universe(universe) => {
+            write!(
+                out,
+                "the context's universe, {universe}, does not name the placeholder"
+            )
         }
         NotAsked::Variance => out.write_str("nothing is related at this variance"),
         NotAsked::Lengths => out.write_str("one list has more arguments than the other"),

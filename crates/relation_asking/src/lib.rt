@@ -107,6 +107,7 @@ pub fn ask_over<I: SizedKeys + Drop, W: Write>(
         parts: &program.parts,
         puts: &program.puts,
         skips: &program.skips,
+        variables: &program.variables,
     };
     ask_ready(interner, texts, program, &terms, between, out)
 }

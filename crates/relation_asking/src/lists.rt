@@ -17,7 +17,7 @@ use relation_reference::context::RefCtxt;
 use relation_terms::terms::parts::member_count;
 use relation_terms::terms::{GenericArgs, Interner, ParamEnv, Parts as PartsOfTerm, Variance};
 use relation_text::building::keys_at;
-use relation_text::naming::{Parts, Question};
+use relation_text::naming::Parts;
 use relation_tools::error::RelateResult;
 use type_relations::relate::solver_relating::{GoalOf, RelateGoals, SolverRelating};
 
@@ -81,7 +81,6 @@ fn relate_args<I: Interner>(
 // Relates two lists of arguments, of which it is said what they need, if they may be asked about.
 fn relate_ready<I: Interner>(
     ctx: &mut RefCtxt<I>,
-    question: &Question,
     lhs: (GenericArgs<I>, Needs),
     rhs: (GenericArgs<I>, Needs),
 ) -> Result<RelateGoals<I>, Unasked>
@@ -100,7 +99,7 @@ fn relate_ready<I: Interner>(
     if !are_as_many(&ctx.interner, &lhs, &rhs) {
         return Err(Unasked::NotAsked(NotAsked::Lengths));
     }
-    let Ok(()) = have_variables(ctx, both(lhs_needs, rhs_needs), question) else {
+    let Ok(()) = have_variables(ctx, both(lhs_needs, rhs_needs)) else {
         return Err(Unasked::Memory);
     };
     let Ok(param_env) = ctx.interner.empty_param_env() else {
@@ -117,7 +116,6 @@ fn relate_ready<I: Interner>(
 pub(super) fn ask_args_related<I: Interner>(
     ctx: &mut RefCtxt<I>,
     terms: &Ready<I>,
-    question: &Question,
     lhs: Parts,
     rhs: Parts,
 ) -> Result<RelateGoals<I>, Unasked>
@@ -129,5 +127,5 @@ pub(super) fn ask_args_related<I: Interner>(
 {
     let lhs = args_of(ctx, terms, lhs)?;
     let rhs = args_of(ctx, terms, rhs)?;
-    relate_ready(ctx, question, lhs, rhs)
+    relate_ready(ctx, lhs, rhs)
 }

@@ -8,7 +8,9 @@ ghost use Rattle.relation_asking.specs.Meets.{AllKnown};
 ghost use Rattle.relation_asking.specs.Asking.{AreReady, IsReady, KnowsAnswer, KnowsRelated};
 
 use crate::BUDGET;
-use crate::context::{NotAsked, have_variables, refusal, relate, renewed, write_not_asked};
+use crate::context::{
+    NotAsked, have_all_stated, have_variables, refusal, relate, renewed, write_not_asked,
+};
 use crate::folding::{fold, puts_at};
 use crate::lists::ask_args_related;
 use crate::needs::{Needs, both, need_at};
@@ -22,7 +24,7 @@ use relation_reference::context::RefCtxt;
 use relation_terms::predicate::OutlivesPredicate;
 use relation_terms::terms::{GenericArg, GenericArgKind, Interner, Keys, Ty, Variance};
 use relation_text::building::{key_at, keys_at, ty_at};
-use relation_text::naming::{Parts, Put, Question, QuestionKind};
+use relation_text::naming::{Parts, Put, Question, QuestionKind, Variables};
 use relation_text::printing::{TextsOf, write_arg};
 use relation_tools::error::RelateFault;
 use relation_tools::outlives::Component;
@@ -41,6 +43,8 @@ pub(super) struct Ready<'a, I: Interner> {
     pub puts: &'a [Put<usize>],
     // After how many pulls walks skip.
     pub skips: &'a [usize],
+    // What is said of variables.
+    pub variables: &'a [Variables],
 }
 
 // Why a question was not put.
@@ -132,7 +136,6 @@ pub(super) fn type_of<I: Interner>(terms: &Ready<I>, number: usize) -> Option<(T
 fn ask_related<I: Interner>(
     ctx: &mut RefCtxt<I>,
     terms: &Ready<I>,
-    question: &Question,
     lhs: usize,
     variance: Variance,
     rhs: usize,
@@ -152,7 +155,7 @@ fn ask_related<I: Interner>(
     if let Some(why) = refusal(ctx, variance, lhs_needs, rhs_needs) {
         return Err(Unasked::NotAsked(why));
     }
-    let Ok(()) = have_variables(ctx, both(lhs_needs, rhs_needs), question) else {
+    let Ok(()) = have_variables(ctx, both(lhs_needs, rhs_needs)) else {
         return Err(Unasked::Memory);
     };
     let Ok(param_env) = ctx.interner.empty_param_env() else {
@@ -300,7 +303,7 @@ fn ask<I: SizedKeys>(ctx: &mut RefCtxt<I>, terms: &Ready<I>, question: &Question
 {
     match question.kind {
         QuestionKind::Relate { lhs, variance, rhs } => {
-            let related = ask_related(ctx, terms, question, lhs, variance, rhs)?;
+            let related = ask_related(ctx, terms, lhs, variance, rhs)?;
             Ok(Answer::Related(related))
         }
         QuestionKind::Visit { term, skip, stop } => {
@@ -352,7 +355,7 @@ fn ask<I: SizedKeys>(ctx: &mut RefCtxt<I>, terms: &Ready<I>, question: &Question
             Ok(Answer::Is(may))
         }
         QuestionKind::RelateArgs { lhs, rhs } => {
-            let related = ask_args_related(ctx, terms, question, lhs, rhs)?;
+            let related = ask_args_related(ctx, terms, lhs, rhs)?;
             Ok(Answer::Related(related))
         }
         QuestionKind::Key { params, ty } => {
@@ -360,6 +363,28 @@ fn ask<I: SizedKeys>(ctx: &mut RefCtxt<I>, terms: &Ready<I>, question: &Question
             Ok(Answer::Key(key))
         }
     }
+}
+
+// The statements that say which variables a question's context has.
+fn stated_for<'a, I: Interner>(terms: &Ready<'a, I>, question: &Question) -> &'a [Variables] {
+    let stated = terms.variables;
+    stated.get(..question.variables).unwrap_or(&[])
+}
+
+// Asks a question of a context, once that has the variables that are said to be there.
+#[tactic(auto, using(crate::proofs::AskingLemmas::ready_stays, relation_terms::proofs::Stays::extends_on))]
+fn ask_in<I: SizedKeys>(ctx: &mut RefCtxt<I>, terms: &Ready<I>, question: &Question) -> Outcome<I>
+    requires lawful { IsLawful (I.meaning ctx.old.interner) ctx.old.inner }
+    requires ready { AreReady (I.meaning ctx.old.interner) terms.now.built.now terms.now.needs.now }
+    ensures lawful { IsLawful (I.meaning ctx.new.interner) ctx.new.inner }
+    ensures grown { Extends (I.meaning ctx.old.interner) (I.meaning ctx.new.interner) }
+    ensures known { let m = I.meaning ctx.new.interner in
+        IfOk result (KnowsAnswer m (KnowsRelated m)) }
+{
+    let Ok(()) = have_all_stated(ctx, stated_for(terms, question)) else {
+        return Err(Unasked::Memory);
+    };
+    ask(ctx, terms, question)
 }
 
 // Asks a question as often as it says, each time but the first in a new context, and answers the last one.
@@ -376,10 +401,10 @@ pub(super) fn ask_often<I: SizedKeys>(
         IfOk result.1 (KnowsAnswer m (KnowsRelated m)) }
 {
     let mut ctx = ctx;
-    let mut outcome = ask(&mut ctx, terms, question);
+    let mut outcome = ask_in(&mut ctx, terms, question);
     for _ in 1..question.repeat {
         ctx = renewed(ctx, budget_of(question));
-        outcome = ask(&mut ctx, terms, question);
+        outcome = ask_in(&mut ctx, terms, question);
     }
     (ctx, outcome)
 }

@@ -32,7 +32,7 @@ pub enum RowFault {
 }
 
 /// The rows, in the order of their numbers.
-pub const ROWS: [Row; 30] = [
+pub const ROWS: [Row; 31] = [
     Row {
         name: "r01",
         questions: "may unify[rigid, rigid] bool, char at 0; may unify[rigid, rigid] bool, char at 1;",
@@ -126,6 +126,11 @@ pub const ROWS: [Row; 30] = [
         questions: "fn f; param T;
             key rigid T; key T; key f; key (); key {error};",
         stored: "Placeholder | none | Closure(f) | Tuple(0) | Error",
+    },
+    Row {
+        name: "r27",
+        questions: "variables ?0; variables ?1 in 1; ?0 == !1.0;",
+        stored: "err Mismatch",
     },
     Row {
         name: "r28",
@@ -313,6 +318,7 @@ fn is_high_row(name: &str) -> bool
         || name == "r23"
         || name == "r24"
         || name == "r26"
+        || name == "r27"
         || name == "r28"
         || name == "r30"
         || name == "r34"

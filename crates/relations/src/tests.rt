@@ -24,6 +24,7 @@ r22: err ArraySize(2, 3)
 r23: ok; regions=['a: 'b] | ok; regions=['b: 'a] | ok; regions=['a == 'b]
 r24: ok; goals=[WellFormed(P<?0>), WellFormed(P<u8>)] | ok; bound=[?0=u8]
 r26: Placeholder | none | Closure(f) | Tuple(0) | Error
+r27: err Mismatch
 r28: true
 r30: ok; bound=[?i0=u16] | err Sorts(?i0, bool)
 r34: ok; regions=['a: 'c, 'b == 'd] | err Mutability

@@ -7,7 +7,7 @@ use Rattle.relation_asking.proofs.question.ask_often.Goals as goal
 
 pub loop-init : goal.loop-init
 loop-init g c =
-    let h = c.ask-outcome.ensures in
+    let h = c.ask_in-outcome.ensures in
     record {
       lawful = h.lawful;
       grown = h.grown;
@@ -15,17 +15,17 @@ loop-init g c =
       known = h.known;
     }
 
-pub ask-outcome-requires-in-loop-clause-ready : goal.ask-outcome-requires-in-loop-clause-ready
-ask-outcome-requires-in-loop-clause-ready g c =
+pub ask_in-outcome-requires-in-loop-clause-ready : goal.ask_in-outcome-requires-in-loop-clause-ready
+ask_in-outcome-requires-in-loop-clause-ready g c =
     subst (λ i. AreReady (g.I.Interner.meaning i) c.args.terms.now.built.now c.args.terms.now.needs.now)
     (sym c.renewed-ctx.ensures.interner) c.loop.invariant.ready
 
 pub loop-preserved : goal.loop-preserved
 loop-preserved g c =
-    let h = c.ask-outcome-in-loop.ensures in
+    let h = c.ask_in-outcome-in-loop.ensures in
     let same = c.renewed-ctx.ensures.interner in
     let m = g.I.Interner.meaning c.loop.ctx.interner in
-    let n = g.I.Interner.meaning c.ask-outcome-in-loop.new.ctx.interner in
+    let n = g.I.Interner.meaning c.ask_in-outcome-in-loop.new.ctx.interner in
     let grown : Extends m n = subst (λ i. Extends (g.I.Interner.meaning i) n) same h.grown in
     record {
       lawful = h.lawful;
