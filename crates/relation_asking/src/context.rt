@@ -72,7 +72,7 @@ fn make_variable<I: Interner>(ctx: &mut RefCtxt<I>, kind: VariableKind) -> Resul
     ensures universe { ctx.old.inner.universe.0 ≤ ctx.new.inner.universe.0 }
     ensures one_more { let k = var_kind kind in
         OnOk result (variables_in ctx.new.inner k ≡ suc (variables_in ctx.old.inner k)) }
-    ensures stays { OnOk result (ctx.new.inner.universe ≡ ctx.old.inner.universe) }
+    ensures stays { OnOk result (ctx.new.inner.universe.0 ≡ ctx.old.inner.universe.0) }
     ensures makes { OnOk result (MakesIn ctx.old.inner.universe.0 ctx.old.inner ctx.new.inner) }
 {
     match kind {
@@ -107,7 +107,7 @@ fn make_variables<I: Interner>(
     ensures kept { (k : VarKind) → variables_in ctx.old.inner k ≤ variables_in ctx.new.inner k }
     ensures universe { ctx.old.inner.universe.0 ≤ ctx.new.inner.universe.0 }
     ensures has { OnOk result (count ≤ variables_in ctx.new.inner (var_kind kind)) }
-    ensures stays { OnOk result (ctx.new.inner.universe ≡ ctx.old.inner.universe) }
+    ensures stays { OnOk result (ctx.new.inner.universe.0 ≡ ctx.old.inner.universe.0) }
     ensures makes { OnOk result (MakesIn ctx.old.inner.universe.0 ctx.old.inner ctx.new.inner) }
 {
     for _ in variables_count(ctx, kind)..count {

@@ -12,7 +12,7 @@ invariant-loop g l = record {
   grown : Extends (g.I.Interner.meaning l.fn.ctx.interner) (g.I.Interner.meaning l.ctx.interner);
   kept : (k : VarKind) → variables_in l.fn.ctx.inner k ≤ variables_in l.ctx.inner k;
   universe : (l.fn.ctx.inner.universe).0 ≤ (l.ctx.inner.universe).0;
-  same : l.ctx.inner.universe ≡ l.fn.ctx.inner.universe;
+  same : (l.ctx.inner.universe).0 ≡ (l.fn.ctx.inner.universe).0;
   made : MakesIn (l.fn.ctx.inner.universe).0 l.fn.ctx.inner l.ctx.inner;
   as_many : variables_in l.ctx.inner (var_kind l.fn.kind) ≡ l.counter;
 }
