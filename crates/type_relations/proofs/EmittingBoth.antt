@@ -1,5 +1,5 @@
 -- That two types are well formed was registered by a relation that registers goals.
-use Rattle.std.proofs.Common.{◌≡◌, ◌⊎◌, ℕ, refl, sym, ap, ◌∙◌, subst, true, List, [], ◌∷◌, ◌++◌, All, IsTrue, map, Result, Ok}
+use Rattle.std.proofs.Common.{◌≡◌, ◌⊎◌, ℕ, refl, sym, ap, ◌∙◌, subst, subst₂, true, List, [], ◌∷◌, ◌++◌, All, IsTrue, map, Result, Ok}
 use Rattle.std.proofs.lemmas.Bool.{and_from}
 use Rattle.std.proofs.lemmas.List.Elements.{All-nil, All-cons, All-head, All-tail}
 use Rattle.relation_terms.specs.declared.terms.keys.PredicateKey.{PredicateKey}
@@ -9,8 +9,8 @@ use Rattle.relation_tools.specs.declared.error.RelateFault.{RelateFault}
 use Rattle.type_relations.specs.Arguments.{AreOverItem}
 use Rattle.type_relations.specs.Bivariance.{HasOpenArgument, RegistersWellFormed}
 use Rattle.type_relations.specs.Emitting.{AddsGoals, KnowsPredicate, goals_in, with_goals}
-use Rattle.type_relations.specs.Goals.{Goal, Registered, IsQuiet, goal_of, well_formed_predicate, HasBivariantPart, of_type}
-use Rattle.type_relations.specs.Lawful.{State, Noted, OnlyMemory, WithMeaning, items_in}
+use Rattle.type_relations.specs.Goals.{Goal, ByDeclared, IsQuiet, goal_of, well_formed_predicate, HasBivariantPart, of_type}
+use Rattle.type_relations.specs.Lawful.{State, Noted, OnlyMemory, WithMeaning, RegisteredIn, RelatesByDeclared, items_in}
 use Rattle.type_relations.specs.Stores.{InContext, IsTermIn}
 use Rattle.type_relations.proofs.Bivariance.{bivariant_parts, items_stay}
 use Rattle.type_relations.proofs.Noting.{noted_with, noted_then, noted_added}
@@ -39,7 +39,7 @@ goals_over e f (p ∷ ps) = ap (λ gs. goal_of e (f p) ∷ gs) (goals_over e f p
 
 module _ {Key Id Name : Type 0} (r q p : State Key Id Name) (d : ℕ) (a b ts us : Tree) (e : Extends r.meaning q.meaning)
     (w : WithMeaning r q.meaning q) (f : Extends q.meaning p.meaning) (v : WithMeaning q p.meaning p)
-    (over : AreOverItem d a b ts us)
+    (over : AreOverItem d a b ts us) (declared : RelatesByDeclared r)
     (h : HasOpenArgument (items_in r) r.store d ts ⊎ HasOpenArgument (items_in r) r.store d us) (a_in : IsTermIn r.store a)
     (b_in : IsTermIn r.store b) (ps : List (PredicateKey Key))
     (made : map (p.meaning).predicate ps ≡ well_formed_predicate a ∷ well_formed_predicate b ∷ []) where
@@ -49,18 +49,22 @@ module _ {Key Id Name : Type 0} (r q p : State Key Id Name) (d : ℕ) (a b ts us
   listed : goals_in p ps ≡ both p.environment
   listed = goals_over p.environment (p.meaning).predicate ps ∙ ap (map (goal_of p.environment)) made
 
+  by_declared : RelatesByDeclared p
+  by_declared = subst₂ (λ k u. ByDeclared k.declared_at_invariance u) (sym (v.settings ∙ w.settings))
+      (sym (v.ambient ∙ w.ambient)) declared
+
   registered : (t : Tree) → IsTermIn r.store t → HasBivariantPart (items_in r) t →
-      Registered (items_in p) p.environment p.store p.store (goal_of p.environment (well_formed_predicate t))
+      RegisteredIn p p.store (goal_of p.environment (well_formed_predicate t))
   registered t i bivariant = record {
     environment = refl;
-    asks = of_type t refl
+    asks = of_type t by_declared refl
         (subst (λ st. InContext st t) (sym (v.store ∙ w.store)) (term_context r.store t i))
         (subst (λ c. HasBivariantPart c t) (sym (items_stay f ∙ items_stay e)) bivariant);
   }
 
-  asks : All (Registered (items_in p) p.environment p.store p.store) (both p.environment)
+  asks : All (RegisteredIn p p.store) (both p.environment)
   asks =
-      let P = Registered (items_in p) p.environment p.store p.store in
+      let P = RegisteredIn p p.store in
       let parts = bivariant_parts (items_in r) r.store d a b ts us over h in
       All-cons P (goal_of p.environment (well_formed_predicate a)) (goal_of p.environment (well_formed_predicate b) ∷ [])
       (registered a a_in parts.0) (All-cons P (goal_of p.environment (well_formed_predicate b)) []
@@ -77,7 +81,7 @@ module _ {Key Id Name : Type 0} (r q p : State Key Id Name) (d : ℕ) (a b ts us
         noted_then (Ok (tt {0})) x (noted_with e w (Ok (tt {0})) tt)
         (noted_then (Ok (tt {0})) x (noted_with f v (Ok (tt {0})) tt)
         (noted_added (goals_in p ps) result adds
-        (subst (All (Registered (items_in p) p.environment p.store p.store)) (sym listed) asks)
+        (subst (All (RegisteredIn p p.store)) (sym listed) asks)
         (subst (All IsQuiet) (sym listed) quiet) x fault))
 
     pub both_registered : (y : A) → result ≡ Ok y →

@@ -10,8 +10,8 @@ use Rattle.type_relations.specs.ContextCalls.{Grows}
 use Rattle.type_relations.specs.Emitting.{AddsGoals, IsOver, WithContext, with_goals}
 use Rattle.type_relations.specs.FirstOrder.{IsFirstOrderStore, IsErasedSolution}
 use Rattle.type_relations.specs.Measures.{Goes}
-use Rattle.type_relations.specs.Goals.{Goal, Registered, IsQuiet}
-use Rattle.type_relations.specs.Lawful.{State, Noted, OnlyMemory, WithMeaning, items_in}
+use Rattle.type_relations.specs.Goals.{Goal, IsQuiet}
+use Rattle.type_relations.specs.Lawful.{State, Noted, OnlyMemory, WithMeaning, RegisteredIn}
 use Rattle.type_relations.specs.Steps.{IsLater}
 use Rattle.type_relations.specs.Stores.{Store, Satisfies}
 use Rattle.type_relations.proofs.Going.{goes_nowhere, later_itself}
@@ -53,19 +53,19 @@ module _ {Key Id Name : Type 0} where
 
   -- Goals that ask nothing of two terms were added, or were not.
   pub noted_added : {X A F : Type 0} {r q : State Key Id Name} (goals : List Goal) (result : Result A F) →
-      AddsGoals r q goals result → All (Registered (items_in r) r.environment r.store r.store) goals →
+      AddsGoals r q goals result → All (RegisteredIn r r.store) goals →
       All IsQuiet goals → (x : Result X (RelateFault Key Id Name)) → OnlyMemory x → Noted r q x
   noted_added {X = X} {r = r} {q = q} goals result h asks quiet x fault = go result h.goals
     where
       noted : (added : List Goal) → q.goals ≡ r.goals ++ added →
-          All (Registered (items_in r) r.environment r.store r.store) added → All IsQuiet added → Noted r q x
+          All (RegisteredIn r r.store) added → All IsQuiet added → Noted r q x
       noted added lengthens registered silent = record {
         passes = record {
           extends = subst (λ m. Extends r.meaning m) (sym h.meaning) (stays_same r.meaning);
           goes = subst (Goes 0 r.store) (sym h.store) (goes_nowhere 0 r.store);
           added = added;
           lengthens = lengthens;
-          goals_in = subst (λ k. All (Registered (items_in r) r.environment r.store k) added) (sym h.store) registered;
+          goals_in = subst (λ k. All (RegisteredIn r k) added) (sym h.store) registered;
           environment = h.environment;
           ambient = h.ambient;
           settings = h.settings;
@@ -86,7 +86,7 @@ module _ {Key Id Name : Type 0} where
       go : {A F : Type 0} (res : Result A F) → q.goals ≡ with_goals r.goals goals res → Noted r q x
       go (Ok a) e = noted goals e asks quiet
       go (Err f) e = noted [] (e ∙ sym (append-nil r.goals))
-          (All-nil (Registered (items_in r) r.environment r.store r.store)) (All-nil IsQuiet)
+          (All-nil (RegisteredIn r r.store)) (All-nil IsQuiet)
 
 -- Where nothing was recorded, what is recorded is later.
 pub later_same : {was now : Store} → now ≡ was → IsLater was now

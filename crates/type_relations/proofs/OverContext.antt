@@ -20,14 +20,14 @@ use Rattle.relation_tools.specs.Faults.{KnowsError}
 use Rattle.type_relations.specs.declared.relate.Step.TheVariants.{Done, Parts}
 use Rattle.type_relations.specs.Relation.{Interpretation, Rel, at, same as same_rel}
 use Rattle.type_relations.specs.Stores.{Store, IsSound, Satisfies, IsMade, InContext, MayStandFor, weight}
-use Rattle.type_relations.specs.Goals.{Goal, Registered, GoalInContext, MakesOneTree}
+use Rattle.type_relations.specs.Goals.{Goal, GoalInContext, MakesOneTree}
 use Rattle.type_relations.specs.Steps.{Equates, InstantiatesNumber}
 use Rattle.type_relations.specs.Outcomes.{Exact, NoEqualTerms, NoUnifier}
 use Rattle.type_relations.specs.Measures.{Goes}
 use Rattle.type_relations.specs.Errors.{ErrorOf, of_entries, IsReadAs, itself, by_class, by_binding}
 use Rattle.type_relations.specs.FirstOrder.{IsFirstOrderStore}
 use Rattle.type_relations.specs.Covered.{IsCovered}
-use Rattle.type_relations.specs.Lawful.{Passes, Asked, Takes, Related, Stepped, items_of, Settings, State}
+use Rattle.type_relations.specs.Lawful.{RegisteredIn, Passes, Asked, Takes, Related, Stepped, items_of, Settings, State}
 use Rattle.type_relations.specs.Emitting.{IsOver, WithContext}
 use Rattle.type_relations.specs.Contexts.{Context}
 use Rattle.type_relations.specs.ContextCalls.{Grows, Stands, HasCoveredBindings}
@@ -68,12 +68,12 @@ module _ {Key Id Name : Type 0} (r : State Key Id Name) where
   -- Work that recorded something, and registered no goal.
   unfoldable pub over_passes : {N : ℕ} {m n : Meaning Key Id Name} {was now : Store} {L K : Type 0} → Extends m n →
       Goes N was now → (L → K) → Passes N (standing r m was L) (standing r n now K)
-  over_passes {m = m} {was = was} {now = now} grown goes l = record {
+  over_passes {m = m} {was = was} {now = now} {L = L} grown goes l = record {
     extends = grown;
     goes = goes;
     added = [];
     lengthens = sym (append-nil r.goals);
-    goals_in = All-nil (Registered (items_of m) r.environment was now);
+    goals_in = All-nil (RegisteredIn (standing r m was L) now);
     environment = refl;
     ambient = refl;
     settings = refl;

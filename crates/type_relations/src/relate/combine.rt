@@ -11,7 +11,7 @@ ghost use Rattle.type_relations.specs.Emitting.{AddsGoals, IsOver, WithContext, 
 ghost use Rattle.type_relations.specs.Contexts.{KnowsTy};
 ghost use Rattle.type_relations.specs.Goals.{KnowsGoal, goals_of, well_formed_predicate};
 ghost use Rattle.type_relations.specs.Keyed.{AreOver, AskedTys, AskedConsts, SteppedTys, SteppedConsts};
-ghost use Rattle.type_relations.specs.Lawful.{State, Noted, items_in, items_of, listed};
+ghost use Rattle.type_relations.specs.Lawful.{State, Noted, RelatesByDeclared, items_in, items_of, listed};
 ghost use Rattle.type_relations.specs.Resolving.{IsShallow};
 ghost use Rattle.type_relations.specs.Solving.{solver_manner};
 ghost use Rattle.type_relations.specs.Steps.{IsLater};
@@ -246,6 +246,7 @@ pub fn combine_ty_args<Infcx: InferCtxtLike, R: PredicateEmittingRelation<Infcx>
     requires b_known { IsTrue (known ((R.state relation.old).meaning.ty b_ty.now)) }
     requires a_in { let r = R.state relation.old in IsTermIn r.store (r.meaning.ty a_ty.now) }
     requires b_in { let r = R.state relation.old in IsTermIn r.store (r.meaning.ty b_ty.now) }
+    requires by_declared { RelatesByDeclared (R.state relation.old) }
     requires over { AreOver (R.state relation.old) def_id.now a_ty.now b_ty.now a_args.now b_args.now }
     ensures noted { Noted (R.state relation.old) (R.state relation.new) result }
     ensures registers { let r = R.state relation.old in let m = r.meaning in

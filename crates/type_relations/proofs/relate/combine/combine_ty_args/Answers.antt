@@ -230,7 +230,7 @@ returns-in_err-register_predicates-clause-noted g c =
     ∙ ap₂ (λ a b. well_formed_predicate a ∷ well_formed_predicate b ∷ []) same_a same_b in
     let res = c.from_residual-in_err-register_predicates.result in
     noted_both r q p (m.id i) (m.ty k) (m.ty l) (m.args xs) (m.args ys) stay (over_with r q s d o grows w)
-    (over_extends q p t e over grows' v) (over_with q p t e over grows' v) c.requires.over (tells.0 c.if-not-branch.false)
+    (over_extends q p t e over grows' v) (over_with q p t e over grows' v) c.requires.over c.requires.by_declared (tells.0 c.if-not-branch.false)
     c.requires.a_in c.requires.b_in c.as_slice.result.now made (g.R.PredicateEmittingRelation.state
     c.register_predicates.new.self) c.register_predicates.result c.register_predicates.ensures res
     (subst OnlyMemory (sym (as_err res Memory c.from_residual-in_err-register_predicates.ensures.0
@@ -283,7 +283,7 @@ returns-clause-noted g c =
     let made = ap₂ (λ n ps. map n.predicate ps) v.meaning c.as_slice.ensures.value ∙ h.made
     ∙ ap₂ (λ a b. well_formed_predicate a ∷ well_formed_predicate b ∷ []) same_a same_b in
     noted_both r q p (m.id i) (m.ty k) (m.ty l) (m.args xs) (m.args ys) stay (over_with r q s d o grows w)
-    (over_extends q p t e over grows' v) (over_with q p t e over grows' v) c.requires.over (tells.0 c.if-not-branch.false)
+    (over_extends q p t e over grows' v) (over_with q p t e over grows' v) c.requires.over c.requires.by_declared (tells.0 c.if-not-branch.false)
     c.requires.a_in c.requires.b_in c.as_slice.result.now made (g.R.PredicateEmittingRelation.state
     c.register_predicates.new.self) c.register_predicates.result c.register_predicates.ensures (Ok (tt {0})) tt
 
@@ -334,6 +334,6 @@ returns-clause-registers g c =
     let made = ap₂ (λ n ps. map n.predicate ps) v.meaning c.as_slice.ensures.value ∙ h.made
     ∙ ap₂ (λ a b. well_formed_predicate a ∷ well_formed_predicate b ∷ []) same_a same_b in
     both_registered r q p (m.id i) (m.ty k) (m.ty l) (m.args xs) (m.args ys) stay (over_with r q s d o grows w)
-    (over_extends q p t e over grows' v) (over_with q p t e over grows' v) c.requires.over (tells.0 c.if-not-branch.false)
+    (over_extends q p t e over grows' v) (over_with q p t e over grows' v) c.requires.over c.requires.by_declared (tells.0 c.if-not-branch.false)
     c.requires.a_in c.requires.b_in c.as_slice.result.now made (g.R.PredicateEmittingRelation.state
     c.register_predicates.new.self) c.register_predicates.result c.register_predicates.ensures c.in_ok-register_predicates.field-0 c.in_ok-register_predicates.was
