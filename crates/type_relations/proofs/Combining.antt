@@ -184,9 +184,9 @@ module _ {Key Id Name : Type 0} where
           n.const_) (sym is) (subst₂ (λ z st. Stepped solver_manner IsFormedConst (standing r m was L) (standing r z st K)
           (m.const_ a) (m.const_ b) z.const_ (Ok (Done a))) (sym same) (sym stays)
           (one_step r IsFormedConst m m was was L K (m.const_ a) (m.const_ b) m.const_ a refl (goes_nowhere _ was) l
-          (λ w s sat. ap (λ k. apply s (m.const_ k)) e) (λ w s sat h. sat)
-          (λ h. (h, exact_itself was (m.const_ a) (m.const_ b) (ap m.const_ e))) (inl refl) asked.left_known))
-      combined_consts result (resolved_first x y f h combines) =
+          (λ w s sat. ap (apply s) e) (λ w s sat h. sat)
+          (λ h. (h, exact_itself was (m.const_ a) (m.const_ b) e)) (inl refl) asked.left_known))
+      combined_consts result (resolved_first x y differ f h combines) =
           let k = read_asked x y f h in
           read_step (standing r m was L) (standing r n now K) sound (m.const_ a) (m.const_ b) (m.const_ x) (m.const_ y)
           (f.reads).reads (h.reads).reads IsFormedConst n.const_ result

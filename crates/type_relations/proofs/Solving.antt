@@ -221,29 +221,26 @@ module _ {Key Id Name : Type 0} (j : ℕ) (gs : List (KeyedGoal Key (PredicateKe
   answered_step F m n was now L K v e a b tree t h =
       record { passes = h.passes; verdict = h.verdict; exact = h.exact }
 
-  -- What was shown of work over the relation's context is shown of the relation after it.
-  module _ {m n : Meaning Key Id Name} {was now : Store} {L K : Type 0} (v : Variance) (e : ParamEnvKey Key)
-      (grown : Extends m n) (env : KnowsGoals m e gs) (l : K) where
-    pub still_lawful : L × KnowsGoals m e gs → K × KnowsGoals n e gs
-    still_lawful k =
-        (l, (subst (λ t. IsTrue (known t)) (sym (grown.param_env e env.0)) env.0, goals_known grown gs env.1))
+  -- The relation is lawful after work over its context.
+  pub still_lawful : {m n : Meaning Key Id Name} {L K : Type 0} (e : ParamEnvKey Key) → Extends m n → KnowsGoals m e gs →
+      K → L × KnowsGoals m e gs → K × KnowsGoals n e gs
+  still_lawful e grown env l k =
+      (l, (subst (λ t. IsTrue (known t)) (sym (grown.param_env e env.0)) env.0, goals_known grown gs env.1))
 
-    abbrev after_it : List Goal → Tree → State Key Id Name
-    after_it goals environment = record {
-      meaning = n;
-      store = now;
-      goals = goals;
-      environment = environment;
-      ambient = v;
-      settings = solver_settings;
-      reference = j;
-      lawful = K × KnowsGoals n e gs;
-    }
-
-    pub as_solving : (P : State Key Id Name → Type 0) →
-        P (standing (solving j gs m was L v e) n now (K × KnowsGoals n e gs)) → P (solving j gs n now K v e)
-    as_solving P h = subst₂ (λ goals environment. P (after_it goals environment)) (sym (goals_stay grown gs env.1))
-        (sym (grown.param_env e env.0)) h
+  -- What was shown of work over its context is shown of the relation after it.
+  pub as_solving : {m n : Meaning Key Id Name} (was now : Store) (L K : Type 0) (v : Variance) (e : ParamEnvKey Key) →
+      Extends m n → KnowsGoals m e gs → (P : State Key Id Name → Type 0) →
+      P (standing (solving j gs m was L v e) n now (K × KnowsGoals n e gs)) → P (solving j gs n now K v e)
+  as_solving {n = n} was now L K v e grown env P h = subst₂ (λ goals environment. P (record {
+    meaning = n;
+    store = now;
+    goals = goals;
+    environment = environment;
+    ambient = v;
+    settings = solver_settings;
+    reference = j;
+    lawful = K × KnowsGoals n e gs;
+  })) (sym (goals_stay grown gs env.1)) (sym (grown.param_env e env.0)) h
 
   -- Two roots of a kind were made one.
   pub roots_step : {X : Type 0} (F : Tree → Type 0) (m n : Meaning Key Id Name) (was now : Store) (L K : Type 0) (v : Variance)
@@ -254,10 +251,10 @@ module _ {Key Id Name : Type 0} (j : ℕ) (gs : List (KeyedGoal Key (PredicateKe
       Stepped solver_manner F (solving j gs m was L v e) (solving j gs n now K v e) a b tree (Ok (Done t))
   roots_step F m n was now L K v e k o i l a b tree t same env sound after still equates p q answer =
       let grown = subst (Extends m) (sym same) (stays_same m) in
-      as_solving {was = was} {L = L} v e grown env after
+      as_solving was now L K v e grown env
       (λ z. Stepped solver_manner F (solving j gs m was L v e) z a b tree (Ok (Done t)))
       (roots_equated (solving j gs m was L v e) F m n was now (L × KnowsGoals m e gs) (K × KnowsGoals n e gs) k o i l a b
-      tree t same sound (still_lawful {was = was} {now = now} {L = L} v e grown env after) still equates p q answer)
+      tree t same sound (still_lawful e grown env after) still equates p q answer)
 
   -- Memory ran out in a step, where the interner may know more.
   pub memory_step : {X : Type 0} (F : Tree → Type 0) (m n : Meaning Key Id Name) (was now : Store) (L K : Type 0)

@@ -102,6 +102,6 @@ module _ {Key Id Name : Type 0} where
     -- What comes of two constants: of one and the same it is the answer; else what comes of both, resolved shallowly.
     pub data CombinesConsts (a b : ConstKey Key) (result : Result (Step (ConstKey Key)) (RelateFault Key Id Name)) :
         Type 0 where
-      one_constant : a ≡ b → n ≡ m → after ≡ before → result ≡ Ok (Done a) → CombinesConsts a b result
-      resolved_first : (x y : ConstKey Key) → ReadsShallow a x → ReadsShallow b y → CombinesShallow x y result →
-          CombinesConsts a b result
+      one_constant : m.const_ a ≡ m.const_ b → n ≡ m → after ≡ before → result ≡ Ok (Done a) → CombinesConsts a b result
+      resolved_first : (x y : ConstKey Key) → m.const_ a ≢ m.const_ b → ReadsShallow a x → ReadsShallow b y →
+          CombinesShallow x y result → CombinesConsts a b result

@@ -1,5 +1,4 @@
-use Rattle.std.proofs.Common.{sym, subst, subst₂, IsTrue}
-use Rattle.relation_terms.specs.Trees.{known}
+use Rattle.std.proofs.Common.{sym, subst, subst₂}
 use Rattle.type_relations.specs.Combining.{CombinesConsts}
 use Rattle.type_relations.specs.ContextCalls.{Grows}
 use Rattle.type_relations.specs.Covered.{IsCovered}
@@ -57,11 +56,10 @@ returns-clause-stepped g c =
     (g.Infcx.InferCtxtLike.state z).store d.store a b res) c.infcx_mut.ensures.value c.meet_consts.ensures.combines in
     let covered = g.met.Infcx.InferCtxtLike.covered y lawful in
     let all = g.met.Infcx.InferCtxtLike.covered z grows.lawful in
-    let sorted = λ k h. const_sorted of k (g.met.Infcx.Interner.Interner.is_const cx k) h in
     let w = c.context_grows.ensures z grows (consts_later r s d o c.requires.decides sound grows.extends numbers covered
-    all a b res c.requires.asked sorted combines) c.requires.lawful in
-    consts_stepped r q s d o w c.requires.decides sound grows.extends numbers covered all a b res c.requires.asked sorted
-    combines
+    all a b res c.requires.asked (λ k h. const_sorted of k (g.met.Infcx.Interner.Interner.is_const cx k) h) combines) c.requires.lawful in
+    consts_stepped r q s d o w c.requires.decides sound grows.extends numbers covered all a b res c.requires.asked
+    (λ k h. const_sorted of k (g.met.Infcx.Interner.Interner.is_const cx k) h) combines
 
 pub returns-clause-combines : goal.returns-clause-combines
 returns-clause-combines g c =
@@ -86,9 +84,8 @@ returns-clause-combines g c =
     (g.Infcx.InferCtxtLike.state z).store d.store a b res) c.infcx_mut.ensures.value c.meet_consts.ensures.combines in
     let covered = g.met.Infcx.InferCtxtLike.covered y lawful in
     let all = g.met.Infcx.InferCtxtLike.covered z grows.lawful in
-    let sorted = λ k h. const_sorted of k (g.met.Infcx.Interner.Interner.is_const cx k) h in
     let w = c.context_grows.ensures z grows (consts_later r s d o c.requires.decides sound grows.extends numbers covered
-    all a b res c.requires.asked sorted combines) c.requires.lawful in
+    all a b res c.requires.asked (λ k h. const_sorted of k (g.met.Infcx.Interner.Interner.is_const cx k) h) combines) c.requires.lawful in
     consts_combined r q s d o w a b res combines
 
 pub returns-clause-registers_nothing : goal.returns-clause-registers_nothing
@@ -114,7 +111,6 @@ returns-clause-registers_nothing g c =
     (g.Infcx.InferCtxtLike.state z).store d.store a b res) c.infcx_mut.ensures.value c.meet_consts.ensures.combines in
     let covered = g.met.Infcx.InferCtxtLike.covered y lawful in
     let all = g.met.Infcx.InferCtxtLike.covered z grows.lawful in
-    let sorted = λ k h. const_sorted of k (g.met.Infcx.Interner.Interner.is_const cx k) h in
     let w = c.context_grows.ensures z grows (consts_later r s d o c.requires.decides sound grows.extends numbers covered
-    all a b res c.requires.asked sorted combines) c.requires.lawful in
+    all a b res c.requires.asked (λ k h. const_sorted of k (g.met.Infcx.Interner.Interner.is_const cx k) h) combines) c.requires.lawful in
     w.goals
