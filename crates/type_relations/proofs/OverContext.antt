@@ -82,7 +82,7 @@ module _ {Key Id Name : Type 0} (r : State Key Id Name) where
   }
 
   -- Two terms were made one, and one of them is the answer.
-  pub one_step : {X : Type 0} (F : Tree → Type 0) (m n : Meaning Key Id Name) (was now : Store) (L K : Type 0) (a b : Tree) (tree : X → Tree) (t : X) → n ≡ m → KnowsGoals m e gs →
+  pub one_step : {X : Type 0} (F : Tree → Type 0) (m n : Meaning Key Id Name) (was now : Store) (L K : Type 0) (a b : Tree) (tree : X → Tree) (t : X) → n ≡ m →
       Goes (weight was a + weight was b) was now → (L → K) →
       ((w : Interpretation) (s : Assign) → Satisfies w now s → apply s a ≡ apply s b) →
       ((w : Interpretation) (s : Assign) → Satisfies w was s → apply s a ≡ apply s b →

@@ -29,7 +29,7 @@ use Rattle.type_relations.specs.declared.relate.Step.TheVariants.{Done}
 use Rattle.type_relations.specs.Relation.{Interpretation, RegionRule, regions, at}
 use Rattle.type_relations.specs.Stores.{Store, Constraint, IsRegionIn, IsSound}
 use Rattle.type_relations.specs.Stores.{ConstraintHolds}
-use Rattle.type_relations.specs.Goals.{Goal, goals_of, KnowsGoal, Registered, GoalInContext, Holds, MakesOneTree}
+use Rattle.type_relations.specs.Goals.{goals_of, KnowsGoal, Registered, GoalInContext, Holds, MakesOneTree}
 use Rattle.type_relations.specs.Headline.{AnswersGoals, KeepsEqualTerms}
 use Rattle.type_relations.specs.Steps.{AddsConstraint, Equates}
 use Rattle.type_relations.specs.Outcomes.{Outcome}

@@ -70,8 +70,8 @@ module _ {Key Id Name : Type 0} where
   module _ (m n : Meaning Key Id Name) (before after : Store) where
     -- What binding a variable of constants to what a constant comes to answers.
     abbrev pub Binds : ℕ → ConstKey Key → Result (ConstKey Key) (RelateFault Key Id Name) → Type 0
-    Binds i a answer =
-        Instantiated (seen m before) (seen n after) Invariant const_var i (m.const_ a) (λ m. m.const_) CyclicConst answer
+    Binds i a answer = Instantiated (seen m before) (seen n after) Invariant const_var i (m.const_ a) (λ m. m.const_)
+        CyclicConst answer
 
     -- What comes of two constants that were resolved shallowly: two variables are made one, and the left one is the
     -- answer; a variable is bound to what the other side comes to, and the bound constant is to be related with that

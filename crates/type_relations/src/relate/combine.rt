@@ -25,8 +25,8 @@ use crate::relate::combine::meeting::{meet_consts, meet_tys};
 use crate::relate::solver_relating::{GoalOf, recording};
 use crate::relate::{Step, StructurallyRelateAliases};
 use relation_terms::terms::{
-    Const, GenericArg, GenericArgKind, GenericArgs, Interner, ItemOf, OutOfMemory, ParamEnv, Predicate,
-    Span, Ty, Variance,
+    Const, GenericArg, GenericArgKind, GenericArgs, Interner, ItemOf, OutOfMemory, ParamEnv,
+    Predicate, Span, Ty, Variance,
 };
 use relation_tools::error::RelateResult;
 
@@ -52,8 +52,8 @@ pub trait PredicateEmittingRelation<Infcx: InferCtxtLike> {
         ensures* writes_back { sem 𝓛 (Lends Self.row Infcx.row self.entry result (with_context self.entry.now)) }
         ensures value { result.now ≡ context self.old };
 
-    /// Does nothing: it shows that a later context in the place of the one that there is changes nothing of the relation
-    /// but what is recorded and what its interner knows.
+    /// Does nothing: it shows that a later context in the place of the one that there is changes nothing of the
+    /// relation but what is recorded and what its interner knows.
     fn context_grows(&self)
         ensures { (c : Infcx) → Grows (Infcx.state (context self.now)) (Infcx.state c) →
             IsLater (Infcx.state (context self.now)).store (Infcx.state c).store → (state self.now).lawful →
@@ -264,10 +264,11 @@ pub fn combine_ty_args<Infcx: InferCtxtLike, R: PredicateEmittingRelation<Infcx>
 }
 
 /// What comes of two types that were resolved shallowly, before their parts are related. Two number variables of one
-/// kind are made one, and the left one is the answer; one is bound to a type of its kind, which is the answer; two types
-/// of which none is a variable are left to be related by their parts.
+/// kind are made one, and the left one is the answer; one is bound to a type of its kind, which is the answer; two
+/// types of which none is a variable are left to be related by their parts.
 ///
-/// Both types are the relation's. Neither is a type variable: a relation has its own say on these, before it calls this.
+/// Both types are the relation's. Neither is a type variable, for `stepped`: a relation has its own say on these,
+/// before it calls this.
 ///
 /// # Errors
 /// `Sorts` of a number variable and a type that it can't be, and of a type variable. Nothing was recorded then.
@@ -292,17 +293,17 @@ pub fn super_combine_tys<Infcx: InferCtxtLike, R: PredicateEmittingRelation<Infc
     meet_tys(relation.infcx_mut(), a, b)
 }
 
-/// What comes of two constants, before their parts are related. One constant is the answer itself. Else both are
-/// resolved shallowly: two variables are made one, and the left one is the answer; a variable is bound to what the other
-/// side comes to, and the bound constant is to be related with that side, which is the answer, at `Invariant`; two
-/// constants of which none is a variable are left to be related by their parts.
+/// What comes of two constants, before their parts are related. Of one and the same it is the answer. Else both are
+/// resolved shallowly: two variables are made one, and the left one is the answer; a variable is bound to what the
+/// other side comes to, and the bound constant is to be related with that side, which is the answer, at `Invariant`;
+/// two constants of which none is a variable are left to be related by their parts.
 ///
 /// Both constants are the relation's.
 ///
 /// # Errors
-/// `CyclicConst` where the variable stands in what the other side comes to, `Mismatch` where a placeholder does that the
-/// variable can't name, `Budget` where no instantiation is left, `Memory` where a growth was refused. Nothing was bound
-/// then.
+/// `CyclicConst` where the variable stands in what the other side comes to, `Mismatch` where a placeholder does that
+/// the variable can't name, `Budget` where no instantiation is left, `Memory` where a growth was refused. Nothing was
+/// bound then.
 pub fn super_combine_consts<Infcx: InferCtxtLike, R: PredicateEmittingRelation<Infcx>>(
     relation: &mut R,
     a: &Const<Infcx::Interner>,

@@ -111,8 +111,7 @@ fn meet_shallow<Infcx: InferCtxtLike>(
                 Ok(Step::Done(*a))
             }
             None => {
-                let value =
-                    infcx.instantiate_const_var_raw(StructurallyRelateAliases::No, x, b)?;
+                let value = infcx.instantiate_const_var_raw(StructurallyRelateAliases::No, x, b)?;
                 Ok(Step::Again {
                     a: *a,
                     b: *b,
@@ -125,8 +124,7 @@ fn meet_shallow<Infcx: InferCtxtLike>(
         },
         None => match const_var(&*infcx, b) {
             Some(y) => {
-                let value =
-                    infcx.instantiate_const_var_raw(StructurallyRelateAliases::No, y, a)?;
+                let value = infcx.instantiate_const_var_raw(StructurallyRelateAliases::No, y, a)?;
                 Ok(Step::Again {
                     a: *a,
                     b: *b,

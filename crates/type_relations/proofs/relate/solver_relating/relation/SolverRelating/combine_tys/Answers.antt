@@ -196,3 +196,7 @@ instantiate_ty_var_raw-requires-in-Some-ty_var-2-clause-source_covered g c = c.r
 pub instantiate_ty_var_raw-requires-in-Some-ty_var-2-clause-decides : goal.instantiate_ty_var_raw-requires-in-Some-ty_var-2-clause-decides
 instantiate_ty_var_raw-requires-in-Some-ty_var-2-clause-decides g c =
     decides_back c.args.self.now.ambient_variance c.xform-variance.result c.requires.decides c.xform-variance.ensures
+
+pub returns-in-None-ty_var-2 : goal.returns-in-None-ty_var-2
+returns-in-None-ty_var-2 g c =
+    c.super_combine_tys.ensures.stepped c.in-None.ensures.is_none c.in-None-ty_var-2.ensures.is_none
