@@ -337,3 +337,89 @@ returns-clause-registers g c =
     (over_extends q p t e over grows' v) (over_with q p t e over grows' v) c.requires.over c.requires.by_declared (tells.0 c.if-not-branch.false)
     c.requires.a_in c.requires.b_in c.as_slice.result.now made (g.R.PredicateEmittingRelation.state
     c.register_predicates.new.self) c.register_predicates.result c.register_predicates.ensures c.in_ok-register_predicates.field-0 c.in_ok-register_predicates.was
+
+pub both_well_formed-requires-clause-lawful : goal.both_well_formed-requires-clause-lawful
+both_well_formed-requires-clause-lawful g c =
+    let x = c.args.relation.now in
+    let r = g.R.PredicateEmittingRelation.state x in
+    let o = g.met.R.PredicateEmittingRelation.over x in
+    let s = g.Infcx.InferCtxtLike.state (g.R.PredicateEmittingRelation.context x) in
+    let y = g.R.PredicateEmittingRelation.with_context x c.have_open_argument.new.infcx in
+    let q = g.R.PredicateEmittingRelation.state y in
+    let d = g.Infcx.InferCtxtLike.state c.have_open_argument.new.infcx in
+    let f = c.in_ok-have_open_argument.ensures in
+    let grows = subst (λ z. Grows (g.Infcx.InferCtxtLike.state z) d) c.infcx_mut.ensures.value f.grows in
+    let same = subst (λ z. d.store ≡ (g.Infcx.InferCtxtLike.state z).store) c.infcx_mut.ensures.value f.same_record in
+    let w = with_meaning o (c.context_grows.ensures c.have_open_argument.new.infcx grows (later_same same)
+    c.requires.lawful) same in
+    let over = g.met.R.PredicateEmittingRelation.over y in
+    subst (λ z. (g.Infcx.InferCtxtLike.state z).lawful) (sym c.infcx_mut-2.ensures.value)
+    (over.lawful (w.lawful c.requires.lawful))
+
+pub both_well_formed-requires-clause-a_known : goal.both_well_formed-requires-clause-a_known
+both_well_formed-requires-clause-a_known g c =
+    let x = c.args.relation.now in
+    let r = g.R.PredicateEmittingRelation.state x in
+    let o = g.met.R.PredicateEmittingRelation.over x in
+    let s = g.Infcx.InferCtxtLike.state (g.R.PredicateEmittingRelation.context x) in
+    let m = r.meaning in
+    let y = g.R.PredicateEmittingRelation.with_context x c.have_open_argument.new.infcx in
+    let q = g.R.PredicateEmittingRelation.state y in
+    let d = g.Infcx.InferCtxtLike.state c.have_open_argument.new.infcx in
+    let f = c.in_ok-have_open_argument.ensures in
+    let grows = subst (λ z. Grows (g.Infcx.InferCtxtLike.state z) d) c.infcx_mut.ensures.value f.grows in
+    let same = subst (λ z. d.store ≡ (g.Infcx.InferCtxtLike.state z).store) c.infcx_mut.ensures.value f.same_record in
+    let w = with_meaning o (c.context_grows.ensures c.have_open_argument.new.infcx grows (later_same same)
+    c.requires.lawful) same in
+    let over = g.met.R.PredicateEmittingRelation.over y in
+    let k = c.args.a_ty.now in
+    let stay = over_extends r q s d o grows w in
+    let same_a = subst (λ z. ((g.Infcx.InferCtxtLike.state z).meaning).ty k ≡ m.ty k) (sym c.infcx_mut-2.ensures.value)
+    (ap (λ n. n.ty k) (sym over.meaning) ∙ stay.ty k c.requires.a_known) in
+    subst (λ z. IsTrue (known z)) (sym same_a) c.requires.a_known
+
+pub both_well_formed-requires-clause-b_known : goal.both_well_formed-requires-clause-b_known
+both_well_formed-requires-clause-b_known g c =
+    let x = c.args.relation.now in
+    let r = g.R.PredicateEmittingRelation.state x in
+    let o = g.met.R.PredicateEmittingRelation.over x in
+    let s = g.Infcx.InferCtxtLike.state (g.R.PredicateEmittingRelation.context x) in
+    let m = r.meaning in
+    let y = g.R.PredicateEmittingRelation.with_context x c.have_open_argument.new.infcx in
+    let q = g.R.PredicateEmittingRelation.state y in
+    let d = g.Infcx.InferCtxtLike.state c.have_open_argument.new.infcx in
+    let f = c.in_ok-have_open_argument.ensures in
+    let grows = subst (λ z. Grows (g.Infcx.InferCtxtLike.state z) d) c.infcx_mut.ensures.value f.grows in
+    let same = subst (λ z. d.store ≡ (g.Infcx.InferCtxtLike.state z).store) c.infcx_mut.ensures.value f.same_record in
+    let w = with_meaning o (c.context_grows.ensures c.have_open_argument.new.infcx grows (later_same same)
+    c.requires.lawful) same in
+    let over = g.met.R.PredicateEmittingRelation.over y in
+    let l = c.args.b_ty.now in
+    let stay = over_extends r q s d o grows w in
+    let same_b = subst (λ z. ((g.Infcx.InferCtxtLike.state z).meaning).ty l ≡ m.ty l) (sym c.infcx_mut-2.ensures.value)
+    (ap (λ n. n.ty l) (sym over.meaning) ∙ stay.ty l c.requires.b_known) in
+    subst (λ z. IsTrue (known z)) (sym same_b) c.requires.b_known
+
+pub register_predicates-requires-clause-lawful : goal.register_predicates-requires-clause-lawful
+register_predicates-requires-clause-lawful g c =
+    let x = c.args.relation.now in
+    let r = g.R.PredicateEmittingRelation.state x in
+    let o = g.met.R.PredicateEmittingRelation.over x in
+    let s = g.Infcx.InferCtxtLike.state (g.R.PredicateEmittingRelation.context x) in
+    let y = g.R.PredicateEmittingRelation.with_context x c.have_open_argument.new.infcx in
+    let q = g.R.PredicateEmittingRelation.state y in
+    let d = g.Infcx.InferCtxtLike.state c.have_open_argument.new.infcx in
+    let f = c.in_ok-have_open_argument.ensures in
+    let grows = subst (λ z. Grows (g.Infcx.InferCtxtLike.state z) d) c.infcx_mut.ensures.value f.grows in
+    let same = subst (λ z. d.store ≡ (g.Infcx.InferCtxtLike.state z).store) c.infcx_mut.ensures.value f.same_record in
+    let w = with_meaning o (c.context_grows.ensures c.have_open_argument.new.infcx grows (later_same same)
+    c.requires.lawful) same in
+    let over = g.met.R.PredicateEmittingRelation.over y in
+    let t = g.Infcx.InferCtxtLike.state (g.R.PredicateEmittingRelation.context y) in
+    let e = g.Infcx.InferCtxtLike.state c.both_well_formed.new.infcx in
+    let h = c.in_ok-predicates.ensures in
+    let grows' = subst (λ z. Grows (g.Infcx.InferCtxtLike.state z) e) c.infcx_mut-2.ensures.value h.grows in
+    let same' = subst (λ z. e.store ≡ (g.Infcx.InferCtxtLike.state z).store) c.infcx_mut-2.ensures.value h.same_record in
+    let v = with_meaning over (c.context_grows-2.ensures c.both_well_formed.new.infcx grows' (later_same same')
+    (w.lawful c.requires.lawful)) same' in
+    v.lawful (w.lawful c.requires.lawful)
