@@ -63,10 +63,12 @@ pub mod ConstErrors
 pub mod Shallowly
 pub mod NumberVars
 pub mod Turning
+pub mod OverContext
 pub mod Solving
 pub mod SolvingVariables
 pub mod SolvingGoals
 pub mod Bivariance
+pub mod Combining
 pub mod Noting
 pub mod Emitting
 pub mod EmittingBoth

@@ -7,13 +7,14 @@ use Rattle.relation_tools.specs.declared.error.RelateFault.{RelateFault}
 use Rattle.relation_terms.proofs.Stays.{stays_same}
 use Rattle.type_relations.specs.Contexts.{Context}
 use Rattle.type_relations.specs.ContextCalls.{Grows}
-use Rattle.type_relations.specs.Emitting.{AddsGoals, IsOver, with_goals}
+use Rattle.type_relations.specs.Emitting.{AddsGoals, IsOver, WithContext, with_goals}
 use Rattle.type_relations.specs.FirstOrder.{IsFirstOrderStore, IsErasedSolution}
 use Rattle.type_relations.specs.Measures.{Goes}
 use Rattle.type_relations.specs.Goals.{Goal, IsQuiet}
 use Rattle.type_relations.specs.Lawful.{State, Noted, OnlyMemory, WithMeaning, RegisteredIn}
-use Rattle.type_relations.specs.Stores.{Satisfies}
-use Rattle.type_relations.proofs.Going.{goes_nowhere}
+use Rattle.type_relations.specs.Steps.{IsLater}
+use Rattle.type_relations.specs.Stores.{Store, Satisfies}
+use Rattle.type_relations.proofs.Going.{goes_nowhere, later_itself}
 use Rattle.type_relations.proofs.Passing.{passes_then, passes_nowhere, passes_grown}
 
 module _ {Key Id Name : Type 0} where
@@ -87,6 +88,10 @@ module _ {Key Id Name : Type 0} where
       go (Err f) e = noted [] (e ∙ sym (append-nil r.goals))
           (All-nil (RegisteredIn r r.store)) (All-nil IsQuiet)
 
+-- Where nothing was recorded, what is recorded is later.
+pub later_same : {was now : Store} → now ≡ was → IsLater was now
+later_same {was = was} e = subst (IsLater was) (sym e) (later_itself was)
+
 -- What a context's interner was added to, a relation over it was.
 module _ {Key Id Name : Type 0} (r q : State Key Id Name) (c d : Context Key Id Name) (o : IsOver r c) (g : Grows c d)
     (w : WithMeaning r d.meaning q) where
@@ -95,3 +100,17 @@ module _ {Key Id Name : Type 0} (r q : State Key Id Name) (c d : Context Key Id 
 
   pub over_with : WithMeaning r q.meaning q
   over_with = subst (λ m. WithMeaning r m q) (sym w.meaning) w
+
+-- A context that took the place of another, and has recorded the same.
+pub with_meaning : {Key Id Name : Type 0} {r q : State Key Id Name} {c d : Context Key Id Name} → IsOver r c →
+    WithContext r d q → d.store ≡ c.store → WithMeaning r d.meaning q
+with_meaning o w same = record {
+  meaning = w.meaning;
+  store = w.store ∙ same ∙ sym o.store;
+  goals = w.goals;
+  environment = w.environment;
+  ambient = w.ambient;
+  settings = w.settings;
+  reference = w.reference;
+  lawful = w.lawful;
+}

@@ -40,7 +40,7 @@ exact_turned before after a b f = record {
   keeps = λ s sol one. f.keeps s sol (sym one);
 }
 
-exact_itself : (st : Store) (a b : Tree) → a ≡ b → Exact st st a b
+pub exact_itself : (st : Store) (a b : Tree) → a ≡ b → Exact st st a b
 exact_itself st a b e = record {
   later = later_itself st;
   shrinks = λ s sol. (sol, ap (λ z. erase (apply s z)) e);

@@ -1,6 +1,6 @@
 -- Relating in a context, step by step.
-use Rattle.std.proofs.Common.{◌≡◌, ◌≢◌, ◌⊎◌, ℕ, ◌+◌, ◌*◌, ◌≤◌, refl, sym, ap, ◌∙◌, arith, inl, inr, subst, subst₂, [], All}
-use Rattle.std.proofs.Common.{IsTrue, Some, IfSome, ◌++◌, ◌<◌, max, min, length}
+use Rattle.std.proofs.Common.{◌≡◌, ◌≢◌, ℕ, ◌+◌, ◌≤◌, refl, sym, ap, ◌∙◌, arith, subst, subst₂, [], All}
+use Rattle.std.proofs.Common.{IsTrue, Some, IfSome, ◌++◌, max, min, length}
 use Rattle.std.proofs.Common.{Result, Ok, Err, List, ◌∷◌, false}
 use Rattle.std.proofs.lemmas.List.Elements.{All-nil}
 use Rattle.std.proofs.lemmas.List.{append-nil}
@@ -17,60 +17,39 @@ use Rattle.relation_terms.specs.declared.terms.keys.ParamEnvKey.{ParamEnvKey}
 use Rattle.relation_terms.specs.declared.terms.keys.PredicateKey.{PredicateKey}
 use Rattle.relation_terms.specs.declared.terms.goal.Goal.{Goal as KeyedGoal}
 use Rattle.relation_terms.specs.Variances.{xform}
-use Rattle.relation_terms.specs.Heads.{type_sort, const_sort, region_sort, VarKind, type_var, region_var, const_var, int_var, float_var, atom, variable}
+use Rattle.relation_terms.specs.Heads.{type_sort, const_sort, region_sort, VarKind, region_var, atom, variable}
 use Rattle.relation_terms.specs.Heads.{bound, placeholder, unknown}
-use Rattle.relation_terms.specs.Trees.{Tree, leaf, node, bind, nil, cons, Assign, apply, Leaves, IsTerm, known, Occurs}
-use Rattle.relation_terms.specs.Erasure.{erase}
+use Rattle.relation_terms.specs.Trees.{Tree, leaf, node, bind, nil, cons, Assign, apply, IsTerm, known}
 use Rattle.relation_terms.specs.Meaning.{Meaning, Extends}
 use Rattle.relation_terms.proofs.Stays.{stays_same}
-use Rattle.relation_tools.specs.declared.error.TypeError.{TypeError}
-use Rattle.relation_tools.specs.declared.error.TypeError.TheVariants.{Sorts, CyclicTy, CyclicConst}
 use Rattle.relation_tools.specs.declared.error.RelateFault.{RelateFault}
 use Rattle.relation_tools.specs.declared.error.RelateFault.TheVariants.{Memory, Budget, Unrelated}
-use Rattle.relation_tools.specs.Faults.{KnowsError, KnowsFault}
 use Rattle.type_relations.specs.declared.relate.Step.{Step}
-use Rattle.type_relations.specs.declared.relate.Step.TheVariants.{Done, Parts, Again}
-use Rattle.type_relations.specs.Relation.{Interpretation, Rel, RegionRule, regions, at, same as same_rel}
-use Rattle.type_relations.specs.Stores.{Store, Constraint, entry_of, entry_term, bound_to, IsTermIn, IsRegionIn, IsSound, Satisfies}
-use Rattle.type_relations.specs.Stores.{IsMade, InContext, MayStandFor, IsIntegerTerm, IsFloatTerm, ConstraintHolds, weight, resolved}
+use Rattle.type_relations.specs.declared.relate.Step.TheVariants.{Done}
+use Rattle.type_relations.specs.Relation.{Interpretation, RegionRule, regions, at}
+use Rattle.type_relations.specs.Stores.{Store, Constraint, IsRegionIn, IsSound}
+use Rattle.type_relations.specs.Stores.{ConstraintHolds}
 use Rattle.type_relations.specs.Goals.{goals_of, KnowsGoal, Registered, GoalInContext, Holds, MakesOneTree}
-use Rattle.type_relations.specs.Headline.{AnswersGoals, KeepsEqualTerms, IsFirstOrderPair}
-use Rattle.type_relations.specs.Steps.{AddsConstraint, Equates, BindsTo, Instantiates, InstantiatesNumber}
-use Rattle.type_relations.specs.Outcomes.{Outcome, StepsTo, CarriesOver, Exact, ExactStep, NoEqualTerms, NoUnifier}
+use Rattle.type_relations.specs.Headline.{AnswersGoals, KeepsEqualTerms}
+use Rattle.type_relations.specs.Steps.{AddsConstraint, Equates}
+use Rattle.type_relations.specs.Outcomes.{Outcome}
 use Rattle.type_relations.specs.Measures.{Goes}
-use Rattle.type_relations.specs.Errors.{ErrorOf, BindingError, StandsOutside, cyclic_ty, cyclic_const, of_binding}
-use Rattle.type_relations.specs.Errors.{of_binding_back, of_entries, IsReadAs, itself, by_class, by_binding}
-use Rattle.type_relations.specs.ErasureLaws.{IsTypeOrConst}
 use Rattle.type_relations.specs.Parts.{IsFormedConst}
-use Rattle.type_relations.specs.FirstOrder.{IsFirstOrder, IsFirstOrderStore}
 use Rattle.type_relations.specs.Constraints.{constraint_at, constraint_of, asked_constraints}
-use Rattle.type_relations.specs.Covered.{IsCovered}
-use Rattle.type_relations.specs.Lawful.{Passes, Asked, Takes, Related, Stepped, Leads, LeadsAgain, items_of, State}
+use Rattle.type_relations.specs.Lawful.{Passes, Related, Stepped, items_of, State}
 use Rattle.type_relations.specs.Lawful.{Verdict, WithMeaning, RegisteredIn}
-use Rattle.type_relations.proofs.Trees.{all_leaves}
-use Rattle.type_relations.proofs.Going.{later_itself, goes_nowhere, goes_within}
-use Rattle.type_relations.proofs.ReadAs.{read_value, read_later, read_weight}
-use Rattle.type_relations.proofs.Resolved.{resolved_weight}
-use Rattle.type_relations.proofs.Standing.{later_term, term_context, term_of_made}
-use Rattle.type_relations.proofs.Opening.{instantiating_steps}
-use Rattle.type_relations.proofs.Exactness.{instantiating_is_exact_step}
+use Rattle.type_relations.proofs.Going.{goes_nowhere, goes_within}
 use Rattle.type_relations.proofs.Growing.{constraint_holds, constraint_keeps}
 use Rattle.type_relations.proofs.Constraints.{asked_relates, asked_met}
-use Rattle.type_relations.proofs.Passing.{passes_nowhere}
+use Rattle.type_relations.proofs.OverContext.{standing, roots_step as roots_equated}
 use Rattle.type_relations.proofs.Answering.{may_itself}
-use Rattle.type_relations.proofs.Roots.{roots_goes, roots_equal, roots_keep, roots_exactly, exact_turned}
-use Rattle.type_relations.proofs.Numbers.{IsNumber, number_goes, number_equal, number_keep, number_exactly, number_apart}
-use Rattle.type_relations.proofs.Numbers.{number_no_unifier, number_error, number_error_back}
 use Rattle.type_relations.specs.Solving.{KnowsGoals, solving, solver_settings, solver_manner}
 use Rattle.type_relations.proofs.Registered.{goals_stay, goals_known, none_at_invariance}
-use Rattle.type_relations.proofs.Exactly.{region_value, regions_exactly, read_pair, reading_exact}
+use Rattle.type_relations.proofs.Exactly.{region_value, regions_exactly}
 use Rattle.type_relations.proofs.Growing.{constraint_is_later, constraint_bound, constraint_weight}
 use Rattle.type_relations.specs.Contexts.{Context}
-use Rattle.type_relations.specs.ContextCalls.{HasCoveredBindings, Knows, Constrains}
-
--- What is covered is taken at each variance.
-pub all_taken : (v : Variance) (t : Tree) → IsCovered t → Takes (solver_manner solver_settings) v t
-all_taken v t c = (all_leaves _ (λ l. tt) t, c)
+use Rattle.type_relations.specs.ContextCalls.{Grows, Knows, Constrains}
+use Rattle.type_relations.specs.Emitting.{WithContext}
 
 -- Seen from the other side too the variance decides something.
 pub decides_back : (v w : Variance) → v ≢ Bivariant → w ≡ xform v Contravariant → w ≢ Bivariant
@@ -78,12 +57,6 @@ decides_back Covariant w d e h = let z : Contravariant ≡ Bivariant = sym e ∙
 decides_back Contravariant w d e h = let z : Covariant ≡ Bivariant = sym e ∙ h in cc
 decides_back Invariant w d e h = let z : Invariant ≡ Bivariant = sym e ∙ h in cc
 decides_back Bivariant w d e h = d refl
-
--- What is read of what is covered is covered, where all that is bound is.
-pub read_covered : (st : Store) → HasCoveredBindings st → (a u : Tree) → IsReadAs st a u → IsCovered a → IsCovered u
-read_covered st all a u (itself e) h = subst IsCovered e h
-read_covered st all a u (by_class k n m e c r) h = read_covered st all (leaf (variable k m)) u r tt
-read_covered st all a u (by_binding {u = x} k n e b r) h = read_covered st all x u r (all k n x b)
 
 -- What an interner says of its keys, of those of a context over it.
 module _ {Key Id Name : Type 0} {m n : Meaning Key Id Name} (e : m ≡ n) where
@@ -248,56 +221,26 @@ module _ {Key Id Name : Type 0} (j : ℕ) (gs : List (KeyedGoal Key (PredicateKe
   answered_step F m n was now L K v e a b tree t h =
       record { passes = h.passes; verdict = h.verdict; exact = h.exact }
 
-  -- Two terms were made one, and one of them is the answer.
-  pub one_step : {X : Type 0} (F : Tree → Type 0) (m n : Meaning Key Id Name) (was now : Store) (L K : Type 0) (v : Variance)
-      (e : ParamEnvKey Key) (a b : Tree) (tree : X → Tree) (t : X) → n ≡ m → KnowsGoals m e gs →
-      Goes (weight was a + weight was b) was now → K →
-      ((w : Interpretation) (s : Assign) → Satisfies w now s → apply s a ≡ apply s b) →
-      ((w : Interpretation) (s : Assign) → Satisfies w was s → apply s a ≡ apply s b →
-      Satisfies w now s) →
-      (IsFirstOrderStore was → IsFirstOrderStore now × Exact was now a b) →
-      (tree t ≡ a) ⊎ (tree t ≡ b) → IsTrue (known (tree t)) →
-      Stepped solver_manner F (solving j gs m was L v e) (solving j gs n now K v e) a b tree (Ok (Done t))
-  unfolding solver_passes
-  one_step {X} F m n was now L K v e a b tree t same env goes l equal keep exactly answer sure =
-      subst (λ n. Stepped solver_manner F (solving j gs m was L v e) (solving j gs n now K v e) a b tree (Ok (Done t))) (sym same)
-      (answered_step F m m was now L K v e a b tree t related)
-    where
-      answers : (tree t ≡ a) ⊎ (tree t ≡ b) → (w : Interpretation) (s : Assign) → Satisfies w now s →
-          apply s a ≡ apply s (tree t)
-      answers (inl p) w s sat = ap (apply s) (sym p)
-      answers (inr p) w s sat = equal w s sat ∙ ap (apply s) (sym p)
+  -- The relation is lawful after work over its context.
+  pub still_lawful : {m n : Meaning Key Id Name} {L K : Type 0} (e : ParamEnvKey Key) → Extends m n → KnowsGoals m e gs →
+      K → L × KnowsGoals m e gs → K × KnowsGoals n e gs
+  still_lawful e grown env l k =
+      (l, (subst (λ t. IsTrue (known t)) (sym (grown.param_env e env.0)) env.0, goals_known grown gs env.1))
 
-      related : Related solver_manner (solving j gs m was L v e) (solving j gs m now K v e) v a b tree (Ok t)
-      related = record {
-        passes = solver_passes v e (stays_same m) env goes l;
-        verdict = record {
-          outcome = record {
-            later = goes.later;
-            goals_in = All-nil (GoalInContext now);
-            relates = λ w s sat all. same_rel (equal w s sat);
-            keeps = λ w s sat h. (s, (λ k n h. refl), (keep w s sat h, All-nil (MakesOneTree s)));
-          };
-          answer = record { related = λ w s sat all. same_rel (answers answer w s sat); left = λ k. absurd k };
-          known = sure;
-        };
-        exact = λ k is pair. exactly pair.bindings;
-      }
-
-  -- Nothing was recorded, and an error tells two terms apart.
-  pub unrelated_step : {X : Type 0} (F : Tree → Type 0) (m n : Meaning Key Id Name) (was now : Store) (L K : Type 0)
-      (v : Variance) (e : ParamEnvKey Key) (a b : Tree) (tree : X → Tree) (f : RelateFault Key Id Name)
-      (g : TypeError Key Id Name) → n ≡ m → now ≡ was → KnowsGoals m e gs → K → f ≡ Unrelated g →
-      NoEqualTerms was a b → NoUnifier was a b → ErrorOf m (items_of m) was v g a b → KnowsError m g →
-      Stepped solver_manner F (solving j gs m was L v e) (solving j gs n now K v e) a b tree (Err f)
-  unrelated_step {X} F m n was now L K v e a b tree f g same stays env l is apart no_unifier error sure =
-      subst₂ (λ n now. Stepped solver_manner F (solving j gs m was L v e) (solving j gs n now K v e) a b tree (Err f)) (sym same)
-      (sym stays) (subst (λ f. Stepped solver_manner F (solving j gs m was L v e) (solving j gs m was K v e) a b tree (Err f))
-      (sym is) (record {
-        passes = solver_passes v e (stays_same m) env (goes_nowhere _ was) l;
-        verdict = (apart, error, sure);
-        exact = λ k is pair. no_unifier;
-      }))
+  -- What was shown of work over its context is shown of the relation after it.
+  pub as_solving : {m n : Meaning Key Id Name} (was now : Store) (L K : Type 0) (v : Variance) (e : ParamEnvKey Key) →
+      Extends m n → KnowsGoals m e gs → (P : State Key Id Name → Type 0) →
+      P (standing (solving j gs m was L v e) n now (K × KnowsGoals n e gs)) → P (solving j gs n now K v e)
+  as_solving {n = n} was now L K v e grown env P h = subst₂ (λ goals environment. P (record {
+    meaning = n;
+    store = now;
+    goals = goals;
+    environment = environment;
+    ambient = v;
+    settings = solver_settings;
+    reference = j;
+    lawful = K × KnowsGoals n e gs;
+  })) (sym (goals_stay grown gs env.1)) (sym (grown.param_env e env.0)) h
 
   -- Two roots of a kind were made one.
   pub roots_step : {X : Type 0} (F : Tree → Type 0) (m n : Meaning Key Id Name) (was now : Store) (L K : Type 0) (v : Variance)
@@ -307,124 +250,11 @@ module _ {Key Id Name : Type 0} (j : ℕ) (gs : List (KeyedGoal Key (PredicateKe
       b ≡ leaf (variable k l) → tree t ≡ a →
       Stepped solver_manner F (solving j gs m was L v e) (solving j gs n now K v e) a b tree (Ok (Done t))
   roots_step F m n was now L K v e k o i l a b tree t same env sound after still equates p q answer =
-      one_step F m n was now L K v e a b tree t same env (roots_goes was now k o i l sound still equates _) after
-      (λ w s sat. ap (apply s) p ∙ roots_equal was now k o i l sound still equates w s sat ∙ sym (ap (apply s) q))
-      (λ w s sat one. roots_keep was now k o i l sound still equates w s sat
-      (sym (ap (apply s) p) ∙ one ∙ ap (apply s) q))
-      (λ h. let z = roots_exactly was now k o i l sound still equates h in
-      (z.0, subst₂ (Exact was now) (sym p) (sym q) z.1))
-      (inl answer) (subst (λ z. IsTrue (known z)) (sym (answer ∙ p)) refl)
-
-  -- A root of a number variable was bound to the other side, a type of its kind.
-  pub number_step : {X : Type 0} (F : Tree → Type 0) (m n : Meaning Key Id Name) (was now : Store) (L K : Type 0) (v : Variance)
-      (e : ParamEnvKey Key) (k : VarKind) (i : ℕ) (a b : Tree) (tree : X → Tree) (t : X) → n ≡ m →
-      KnowsGoals m e gs → IsSound was → K →
-      InstantiatesNumber was now k i b → a ≡ leaf (variable k i) → tree t ≡ b →
-      IsTrue (known b) → Stepped solver_manner F (solving j gs m was L v e) (solving j gs n now K v e) a b tree (Ok (Done t))
-  number_step F m n was now L K v e k i a b tree t same env sound after h p answer sure =
-      one_step F m n was now L K v e a b tree t same env (number_goes was now k i b h sound _) after
-      (λ w s sat. ap (apply s) p ∙ number_equal was now k i b h sound w s sat)
-      (λ w s sat one. number_keep was now k i b h sound w s sat (sym (ap (apply s) p) ∙ one))
-      (λ f. let z = number_exactly was now k i b h sound f in
-      (z.0, subst (λ c. Exact was now c b) (sym p) z.1))
-      (inr answer) (subst (λ z. IsTrue (known z)) (sym answer) sure)
-
-  pub number_step_back : {X : Type 0} (F : Tree → Type 0) (m n : Meaning Key Id Name) (was now : Store) (L K : Type 0)
-      (v : Variance) (e : ParamEnvKey Key) (k : VarKind) (i : ℕ) (a b : Tree) (tree : X → Tree) (t : X) → n ≡ m →
-      KnowsGoals m e gs → IsSound was → K →
-      InstantiatesNumber was now k i a → b ≡ leaf (variable k i) → tree t ≡ a →
-      IsTrue (known a) → Stepped solver_manner F (solving j gs m was L v e) (solving j gs n now K v e) a b tree (Ok (Done t))
-  number_step_back F m n was now L K v e k i a b tree t same env sound after h p answer sure =
-      one_step F m n was now L K v e a b tree t same env (number_goes was now k i a h sound _) after
-      (λ w s sat. sym (ap (apply s) p ∙ number_equal was now k i a h sound w s sat))
-      (λ w s sat one. number_keep was now k i a h sound w s sat
-      (sym (ap (apply s) p) ∙ sym one))
-      (λ f. let z = number_exactly was now k i a h sound f in (
-        z.0,
-        exact_turned was now b a
-            (subst (λ c. Exact was now c a) (sym p) z.1),
-      ))
-      (inl answer) (subst (λ z. IsTrue (known z)) (sym answer) sure)
-
-  -- Or the other side is a type that may not stand for it.
-  module _ {X : Type 0} (F : Tree → Type 0) (m n : Meaning Key Id Name) (was now : Store) (L K : Type 0) (v : Variance)
-      (decides : v ≢ Bivariant) (e : ParamEnvKey Key) (p q : TyKey Key) (tree : X → Tree)
-      (f : RelateFault Key Id Name) (same : n ≡ m) (stays : now ≡ was) (env : KnowsGoals m e gs) (l : K)
-      (is : f ≡ Unrelated (Sorts (record { expected = p; found = q }))) (k : VarKind) (number : IsNumber k) (i : ℕ)
-      (made : IsMade was k i) (p_known : IsTrue (known (m.ty p))) (q_known : IsTrue (known (m.ty q))) where
-    pub left_unlike : m.ty p ≡ leaf (variable k i) → IsTerm type_sort (m.ty q) → IsCovered (m.ty q) →
-        ((l : ℕ) → m.ty q ≢ leaf (variable type_var l)) → InContext was (m.ty q) →
-        (MayStandFor k (m.ty q) → ⊥) →
-        Stepped solver_manner F (solving j gs m was L v e) (solving j gs n now K v e) (m.ty p) (m.ty q) tree (Err f)
-    left_unlike h s c o g d = unrelated_step F m n was now L K v e (m.ty p) (m.ty q) tree f
-        (Sorts (record { expected = p; found = q })) same stays env l is
-        (subst (λ z. NoEqualTerms was z (m.ty q)) (sym h)
-        (number_apart was k number i made (m.ty q) s c o g d))
-        (subst (λ z. NoUnifier was z (m.ty q)) (sym h)
-        (number_no_unifier was k number i made (m.ty q) s c o g d))
-        (number_error was k number i made (m.ty q) s c o g d m (items_of m) p q v decides h refl)
-        (p_known, q_known)
-
-    pub right_unlike : m.ty q ≡ leaf (variable k i) → IsTerm type_sort (m.ty p) → IsCovered (m.ty p) →
-        ((l : ℕ) → m.ty p ≢ leaf (variable type_var l)) → InContext was (m.ty p) →
-        (MayStandFor k (m.ty p) → ⊥) →
-        Stepped solver_manner F (solving j gs m was L v e) (solving j gs n now K v e) (m.ty p) (m.ty q) tree (Err f)
-    right_unlike h s c o g d = unrelated_step F m n was now L K v e (m.ty p) (m.ty q) tree f
-        (Sorts (record { expected = p; found = q })) same stays env l is
-        (λ w s' sat one. number_apart was k number i made (m.ty p) s c o g d w s' sat
-        (sym (ap (apply s') h) ∙ sym one))
-        (λ s' sol one. number_no_unifier was k number i made (m.ty p) s c o g d s' sol
-        (ap (λ z. erase (apply s' z)) (sym h) ∙ sym one))
-        (number_error_back was k number i made (m.ty p) s c o g d m (items_of m) p q v decides refl h)
-        (p_known, q_known)
-
-  -- What is shown of two types as they are read is shown of the types.
-  pub parts_step : (m : Meaning Key Id Name) (was : Store) (L : Type 0) (v : Variance) (e : ParamEnvKey Key)
-      {X : Type 0} (F : Tree → Type 0) (a b : Tree) (tree : X → Tree) (t u : X) → IsSound was →
-      IsReadAs was a (tree t) → IsReadAs was b (tree u) →
-      Asked solver_manner (solving j gs m was L v e) v (tree t) (tree u) → F (tree t) → F (tree u) →
-      Stepped solver_manner F (solving j gs m was L v e) (solving j gs m was L v e) a b tree (Ok (Parts t u))
-  unfolding passes_nowhere
-  parts_step m was L v e F a b tree t u g p q k f h = record {
-    passes = passes_nowhere _ (solving j gs m was L v e);
-    verdict = record {
-      leads = record {
-        steps = record {
-          later = later_itself was;
-          goals_in = All-nil (GoalInContext was);
-          relates = λ w s sat all r.
-              subst₂ (Rel (items_of m) w (m.param_env e) (at v))
-              (sym (read_value was s sat.bindings a (tree t) p))
-              (sym (read_value was s sat.bindings b (tree u) q)) r;
-          keeps = λ w s sat one. (
-            s,
-            (λ j i h. refl),
-            (
-              sat,
-              All-nil (MakesOneTree s),
-              sym (read_value was s sat.bindings a (tree t) p) ∙ one
-                  ∙ read_value was s sat.bindings b (tree u) q,
-            ),
-          );
-        };
-        errors = λ n c st f l g o. of_entries (read_later was st l a (tree t) p)
-            (read_later was st l b (tree u) q) o;
-      };
-      asked = k;
-      left_form = f;
-      right_form = h;
-      answers = λ z w s sat all o. subst (λ i. Rel (items_of m) w (m.param_env e) (at v) i (apply s z))
-          (sym (read_value was s sat.bindings a (tree t) p)) o;
-      left = λ k. absurd k;
-      same_budget = refl;
-      not_larger = let i = read_weight was g a (tree t) p in
-          let j = read_weight was g b (tree u) q in omega (arith, i, j);
-    };
-    exact = λ k is pair. (
-      read_pair was a b (tree t) (tree u) p q pair,
-      reading_exact was g a b (tree t) (tree u) p q,
-    );
-  }
+      let grown = subst (Extends m) (sym same) (stays_same m) in
+      as_solving was now L K v e grown env
+      (λ z. Stepped solver_manner F (solving j gs m was L v e) z a b tree (Ok (Done t)))
+      (roots_equated (solving j gs m was L v e) F m n was now (L × KnowsGoals m e gs) (K × KnowsGoals n e gs) k o i l a b
+      tree t same sound (still_lawful e grown env after) still equates p q answer)
 
   -- Memory ran out in a step, where the interner may know more.
   pub memory_step : {X : Type 0} (F : Tree → Type 0) (m n : Meaning Key Id Name) (was now : Store) (L K : Type 0)
@@ -495,6 +325,24 @@ module _ {Key Id Name : Type 0} (j : ℕ) (gs : List (KeyedGoal Key (PredicateKe
         result) (h.passes).reference (subst₂ (λ u t. Related solver_manner (solving j gs m was L v e)
         (state_at i u t) v a b tree result)
         (h.passes).ambient same_environment h))
+
+  -- Another context in the place of the relation's changes nothing but what is recorded, and what keys mean.
+  pub solver_with : (c d : Context Key Id Name) → Grows c d → (v : Variance) (e : ParamEnvKey Key) →
+      KnowsGoals c.meaning e gs →
+      WithContext (solving j gs c.meaning c.store c.lawful v e) d (solving j gs d.meaning d.store d.lawful v e)
+  solver_with c d h v e env = record {
+    meaning = refl;
+    store = refl;
+    goals = goals_stay h.extends gs env.1;
+    environment = (h.extends).param_env e env.0;
+    ambient = refl;
+    settings = refl;
+    reference = refl;
+    lawful = λ k. (
+      h.lawful,
+      (subst (λ t. IsTrue (known t)) (sym ((h.extends).param_env e env.0)) env.0, goals_known h.extends gs env.1),
+    );
+  }
 
   -- Making terms changes nothing of the relation but what its interner knows.
   pub solver_grows : (c d : Context Key Id Name) (n : Meaning Key Id Name) → Extends c.meaning n → Knows c n d →

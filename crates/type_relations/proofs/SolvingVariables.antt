@@ -1,11 +1,8 @@
--- Binding a variable in a context, as a step, and being refused.
-use Rattle.std.proofs.Common.{◌≡◌, ◌≢◌, ◌⊎◌, ℕ, ◌+◌, ◌*◌, ◌≤◌, refl, sym, ap, ap₂, ◌∙◌, arith, inl, inr, subst, subst₂, List, [], IsTrue}
+-- Binding a variable, as a step of a relation over a context, and being refused.
+use Rattle.std.proofs.Common.{◌≡◌, ◌≢◌, ◌⊎◌, ℕ, ◌+◌, ◌*◌, ◌≤◌, refl, sym, ap, ap₂, ◌∙◌, arith, inl, inr, subst, subst₂, [], IsTrue}
 use Rattle.std.proofs.Common.{Ok, Err}
 use Rattle.relation_terms.specs.declared.terms.enums.Variance.{Variance}
 use Rattle.relation_terms.specs.declared.terms.enums.Variance.TheVariants.{Covariant, Contravariant, Invariant, Bivariant}
-use Rattle.relation_terms.specs.declared.terms.goal.Goal.{Goal}
-use Rattle.relation_terms.specs.declared.terms.keys.ParamEnvKey.{ParamEnvKey}
-use Rattle.relation_terms.specs.declared.terms.keys.PredicateKey.{PredicateKey}
 use Rattle.relation_terms.specs.Variances.{xform}
 use Rattle.relation_terms.specs.Heads.{const_sort, VarKind, type_var, const_var, atom, variable, bound, placeholder, unknown}
 use Rattle.relation_terms.specs.Trees.{Tree, leaf, node, bind, nil, cons, Assign, apply, known, IsTerm}
@@ -31,8 +28,7 @@ use Rattle.type_relations.specs.Resolving.{IsShallow, root as shallow_root, stay
 use Rattle.type_relations.specs.Lawful.{Passes, Asked, Stepped, Leads, LeadsAgain, items_of, State}
 use Rattle.type_relations.specs.Contexts.{Context}
 use Rattle.type_relations.specs.ContextCalls.{Instantiated, ObstacleError, HasCoveredBindings}
-use Rattle.type_relations.specs.Goals.{goals_of}
-use Rattle.type_relations.specs.Solving.{KnowsGoals, solving, solver_manner}
+use Rattle.type_relations.specs.Solving.{solver_manner}
 use Rattle.type_relations.proofs.Answering.{covariantly}
 use Rattle.type_relations.proofs.Constants.{fixed, constants_at_each_variance}
 use Rattle.type_relations.proofs.ConstErrors.{const_error_alike}
@@ -48,7 +44,7 @@ use Rattle.type_relations.proofs.BindingGeneralised.{generalised_instantiates, g
 use Rattle.type_relations.proofs.BindingRefused.{generalising_refuses, refused}
 use Rattle.type_relations.proofs.GeneralisingErrors.{beyond_error}
 use Rattle.type_relations.proofs.NewVariables.{adds, adds_goes, instantiates_one}
-use Rattle.type_relations.proofs.Solving.{solver_passes, all_taken}
+use Rattle.type_relations.proofs.OverContext.{standing, over_passes, all_taken}
 
 -- What a term comes to is a variable only where the term is one.
 variable_alone : (s : Assign) (t : Tree) (k : VarKind) (n : ℕ) → ((j : VarKind) (m : ℕ) → t ≡ leaf (variable j m) → ⊥) →
@@ -119,14 +115,16 @@ const_lifts_back st v d x y k f = record {
   errors = λ m c now f g o. const_error_alike m c now g invariant_decides d k o;
 }
 
-module _ {Key Id Name : Type 0} (j : ℕ) (gs : List (Goal Key (PredicateKey Key))) where
+module _ {Key Id Name : Type 0} (r0 : State Key Id Name) (L K : Type 0) (lawful : L → K) where
   -- A variable was bound to what a term comes to.
   module _ (k : VarKind) (counted : IsTypeOrConst k) (c d : Context Key Id Name) (grown : Extends c.meaning d.meaning)
-      (e : ParamEnvKey Key) (env : KnowsGoals c.meaning e gs) (before : IsSound c.store)
-      (numbers : NumbersNameNothing c.store) (after : d.lawful) (all : HasCoveredBindings d.store) (target : ℕ) (t u : Tree)
+      (before : IsSound c.store) (numbers : NumbersNameNothing c.store) (all : HasCoveredBindings d.store) (target : ℕ) (t u : Tree)
       (covered : IsCovered t) (t_in : IsTermIn c.store t) (t_known : IsTrue (known t)) (stands : MayStandFor k t)
-      (v x : Variance) (u_known : IsTrue (known u))
+      (x : Variance) (u_known : IsTrue (known u))
       (f : InstantiatesBy (items_of c.meaning) c.store d.store x k target t u) where
+    abbrev v : Variance
+    v = r0.ambient
+
     abbrev was : Store
     was = c.store
 
@@ -174,10 +172,10 @@ module _ {Key Id Name : Type 0} (j : ℕ) (gs : List (Goal Key (PredicateKey Key
     root_value w s sat = sat.bindings k target u (ap (entry_term k) steps.now_bound)
 
     abbrev r : State Key Id Name
-    r = solving j gs c.meaning was c.lawful v e
+    r = standing r0 c.meaning was L
 
     abbrev q : State Key Id Name
-    q = solving j gs d.meaning now d.lawful v e
+    q = standing r0 d.meaning now K
 
     asked_now : (w : Variance) (a b : Tree) → IsTrue (known a) → IsTrue (known b) → IsTermIn now a → IsTermIn now b →
         IsCovered a → IsCovered b → Asked solver_manner q w a b
@@ -196,9 +194,9 @@ module _ {Key Id Name : Type 0} (j : ℕ) (gs : List (Goal Key (PredicateKey Key
     right_above : weight was t + 1 ≤ weight was t + weight was root
     right_above = let h = root_weight in omega (arith, h)
 
-    both : StepsTo (items_of c.meaning) ((c.meaning).param_env e) was now (goals_of c.meaning gs) [] (at v) root t (at v) u t ×
-        StepsTo (items_of c.meaning) ((c.meaning).param_env e) was now (goals_of c.meaning gs) [] (at v) t root (at v) t u
-    both = instantiating_steps (items_of c.meaning) ((c.meaning).param_env e) v x was now (goals_of c.meaning gs) k target t u
+    both : StepsTo (items_of c.meaning) r0.environment was now r0.goals [] (at v) root t (at v) u t ×
+        StepsTo (items_of c.meaning) r0.environment was now r0.goals [] (at v) t root (at v) t u
+    both = instantiating_steps (items_of c.meaning) r0.environment v x was now r0.goals k target t u
         (term_context was t t_in) steps
 
     left_leads : (w : Variance) → Lifts Key Id Name now w v u t → Leads r q [] root t w u t
@@ -207,7 +205,7 @@ module _ {Key Id Name : Type 0} (j : ℕ) (gs : List (Goal Key (PredicateKey Key
         later = (both.0).later;
         goals_in = (both.0).goals_in;
         relates = λ i s sat all o. (both.0).relates i s sat all
-            (l.relates (items_of c.meaning) i ((c.meaning).param_env e) s sat o);
+            (l.relates (items_of c.meaning) i r0.environment s sat o);
         keeps = (both.0).keeps;
       };
       errors = λ i c st f h g o. of_entries (read_later now st h root u root_reads) (itself refl) (l.errors i c st f g o);
@@ -219,7 +217,7 @@ module _ {Key Id Name : Type 0} (j : ℕ) (gs : List (Goal Key (PredicateKey Key
         later = (both.1).later;
         goals_in = (both.1).goals_in;
         relates = λ i s sat all o. (both.1).relates i s sat all
-            (l.relates (items_of c.meaning) i ((c.meaning).param_env e) s sat o);
+            (l.relates (items_of c.meaning) i r0.environment s sat o);
         keeps = (both.1).keeps;
       };
       errors = λ i c st f h g o. of_entries (itself refl) (read_later now st h root u root_reads) (l.errors i c st f g o);
@@ -235,7 +233,7 @@ module _ {Key Id Name : Type 0} (j : ℕ) (gs : List (Goal Key (PredicateKey Key
     -- A pair of a variance that relates another.
     abbrev Answers : Variance → Tree → Tree → Tree → Tree → Type 0
     Answers w x y a an =
-        CarriesOver (items_of d.meaning) ((d.meaning).param_env e) now (goals_of d.meaning gs) (at w) x y (at v) a an
+        CarriesOver (items_of d.meaning) r0.environment now r0.goals (at w) x y (at v) a an
 
     left_again : (b w : Variance) (an : Tree) → xform v b ≡ w → Lifts Key Id Name now w v u t → IsTrue (known an) →
         Answers w u t root an → LeadsAgain solver_manner r q [] root t root t b u t an
@@ -273,24 +271,24 @@ module _ {Key Id Name : Type 0} (j : ℕ) (gs : List (Goal Key (PredicateKey Key
       to_root : (w : Variance) → Lifts Key Id Name now w v u t → (tree a ≡ root) ⊎ (tree a ≡ t) →
           Answers w u t root (tree a)
       to_root w o (inl h) i s sat holds f = same_rel (ap (apply s) (sym h))
-      to_root w o (inr h) i s sat holds f = subst₂ (Rel (items_of d.meaning) i ((d.meaning).param_env e) (at v))
+      to_root w o (inr h) i s sat holds f = subst₂ (Rel (items_of d.meaning) i r0.environment (at v))
           (sym (root_value i s sat)) (ap (apply s) (sym h))
-          (o.relates (items_of d.meaning) i ((d.meaning).param_env e) s sat f)
+          (o.relates (items_of d.meaning) i r0.environment s sat f)
 
       to_term : (w : Variance) → Lifts Key Id Name now w v t u → (tree a ≡ root) ⊎ (tree a ≡ t) →
           Answers w t u t (tree a)
-      to_term w o (inl h) i s sat holds f = subst (Rel (items_of d.meaning) i ((d.meaning).param_env e) (at v)
+      to_term w o (inl h) i s sat holds f = subst (Rel (items_of d.meaning) i r0.environment (at v)
           (apply s t)) (sym (root_value i s sat) ∙ ap (apply s) (sym h))
-          (o.relates (items_of d.meaning) i ((d.meaning).param_env e) s sat f)
+          (o.relates (items_of d.meaning) i r0.environment s sat f)
       to_term w o (inr h) i s sat holds f = same_rel (ap (apply s) (sym h))
 
       left_by : (b w : Variance) → xform v b ≡ w → Lifts Key Id Name now w v u t → tree y ≡ root → tree z ≡ t →
           tree i ≡ u → tree l ≡ t → (tree a ≡ root) ⊎ (tree a ≡ t) →
           Stepped solver_manner F r q root t tree (Ok (Again y z i l b a))
-      unfolding solver_passes
+      unfolding over_passes
       left_by b w seen o ey ez ei el ea = record {
-        passes = solver_passes j gs v e grown env
-            (goes (weight was root + weight was t) (let h = left_above in omega (arith, h))) after;
+        passes = over_passes r0 grown
+            (goes (weight was root + weight was t) (let h = left_above in omega (arith, h))) lawful;
         verdict = subst₂ (λ f g. LeadsAgain solver_manner r q [] root t f g b (tree i) (tree l) (tree a)) (sym ey)
             (sym ez) (subst₂ (λ f g. LeadsAgain solver_manner r q [] root t root t b f g (tree a)) (sym ei) (sym el)
             (left_again b w (tree a) seen o (sure ea) (to_root w o ea)));
@@ -301,10 +299,10 @@ module _ {Key Id Name : Type 0} (j : ℕ) (gs : List (Goal Key (PredicateKey Key
       right_by : (b w : Variance) → xform v b ≡ w → Lifts Key Id Name now w v t u → tree y ≡ t → tree z ≡ root →
           tree i ≡ t → tree l ≡ u → (tree a ≡ root) ⊎ (tree a ≡ t) →
           Stepped solver_manner F r q t root tree (Ok (Again y z i l b a))
-      unfolding solver_passes
+      unfolding over_passes
       right_by b w seen o ey ez ei el ea = record {
-        passes = solver_passes j gs v e grown env
-            (goes (weight was t + weight was root) (let h = right_above in omega (arith, h))) after;
+        passes = over_passes r0 grown
+            (goes (weight was t + weight was root) (let h = right_above in omega (arith, h))) lawful;
         verdict = subst₂ (λ f g. LeadsAgain solver_manner r q [] t root f g b (tree i) (tree l) (tree a)) (sym ey)
             (sym ez) (subst₂ (λ f g. LeadsAgain solver_manner r q [] t root t root b f g (tree a)) (sym ei) (sym el)
             (right_again b w (tree a) seen o (sure ea) (to_term w o ea)));
@@ -348,8 +346,7 @@ module _ {Key Id Name : Type 0} (j : ℕ) (gs : List (Goal Key (PredicateKey Key
 
   -- Nothing was bound.
   module _ {X : Type 0} (F : Tree → Type 0) (c d : Context Key Id Name) (grown : Extends c.meaning d.meaning)
-      (v : Variance) (decides : v ≢ Bivariant) (e : ParamEnvKey Key) (env : KnowsGoals c.meaning e gs)
-      (before : IsSound c.store) (after : d.lawful) (k : VarKind) (counted : IsTypeOrConst k) (target : ℕ) (t : Tree)
+      (decides : r0.ambient ≢ Bivariant) (before : IsSound c.store) (k : VarKind) (counted : IsTypeOrConst k) (target : ℕ) (t : Tree)
       (unresolved : IsMade c.store k target × (entry_of c.store k target ≡ unbound))
       (other : apply (resolved c.store) t ≢ leaf (variable k target)) (means : Meaning Key Id Name → X → Tree)
       (cyclic : X → TypeError Key Id Name) (x : Variance) (tree : X → Tree)
@@ -365,8 +362,8 @@ module _ {Key Id Name : Type 0} (j : ℕ) (gs : List (Goal Key (PredicateKey Key
         (adds before (before.below_current k target) h.1))
 
     passes : (N : ℕ) (f : RelateFault Key Id Name) → Instantiated c d x k target t means cyclic (Err f) →
-        Passes N (solving j gs c.meaning c.store c.lawful v e) (solving j gs d.meaning d.store d.lawful v e)
-    passes N f h = solver_passes j gs v e grown env (refusing N f h) after
+        Passes N (standing r0 c.meaning c.store L) (standing r0 d.meaning d.store K)
+    passes N f h = over_passes r0 grown (refusing N f h) lawful
 
     -- The error is that of the obstacle.
     binding_error : (g : TypeError Key Id Name) (o : Obstacle) → RefusesBy c.store d.store k target t o →
@@ -385,7 +382,7 @@ module _ {Key Id Name : Type 0} (j : ℕ) (gs : List (Goal Key (PredicateKey Key
     refuses g h = refused c.store d.store Invariant k target t h.1.0 counted h.1.1 before other
 
     pub left_refused : (f : RelateFault Key Id Name) → Instantiated c d x k target t means cyclic (Err f) →
-        Stepped solver_manner F (solving j gs c.meaning c.store c.lawful v e) (solving j gs d.meaning d.store d.lawful v e)
+        Stepped solver_manner F (standing r0 c.meaning c.store L) (standing r0 d.meaning d.store K)
         (leaf (variable k target)) t tree (Err f)
     left_refused (Unrelated g) h = record {
       passes = passes _ (Unrelated g) h;
@@ -400,7 +397,7 @@ module _ {Key Id Name : Type 0} (j : ℕ) (gs : List (Goal Key (PredicateKey Key
     left_refused Memory h = record { passes = passes _ Memory h; verdict = tt; exact = λ o is pair. tt }
 
     pub right_refused : (f : RelateFault Key Id Name) → Instantiated c d x k target t means cyclic (Err f) →
-        Stepped solver_manner F (solving j gs c.meaning c.store c.lawful v e) (solving j gs d.meaning d.store d.lawful v e)
+        Stepped solver_manner F (standing r0 c.meaning c.store L) (standing r0 d.meaning d.store K)
         t (leaf (variable k target)) tree (Err f)
     right_refused (Unrelated g) h = record {
       passes = passes _ (Unrelated g) h;

@@ -27,6 +27,18 @@ module _ {Key Id Name : Type 0} where
     pub store : r.store ≡ c.store
     pub lawful : r.lawful → c.lawful
 
+  -- A context took the place of a relation's: what keys mean and what is recorded is that context's, all else is as it
+  -- was.
+  pub record WithContext (r : State Key Id Name) (c : Context Key Id Name) (q : State Key Id Name) : Type 0 where
+    pub meaning : q.meaning ≡ c.meaning
+    pub store : q.store ≡ c.store
+    pub goals : q.goals ≡ r.goals
+    pub environment : q.environment ≡ r.environment
+    pub ambient : q.ambient ≡ r.ambient
+    pub settings : q.settings ≡ r.settings
+    pub reference : q.reference ≡ r.reference
+    pub lawful : r.lawful → q.lawful
+
   -- Goals were put behind those that there were, or were not, where a growth was refused. Nothing else was done.
   pub record AddsGoals {A F : Type 0} (r q : State Key Id Name) (added : List Goal) (result : Result A F) : Type 0 where
     pub meaning : q.meaning ≡ r.meaning

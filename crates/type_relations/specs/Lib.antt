@@ -33,3 +33,4 @@ pub mod NumberVars
 pub mod Solving
 pub mod Bivariance
 pub mod Emitting
+pub mod Combining

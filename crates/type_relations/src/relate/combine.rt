@@ -1,25 +1,32 @@
 //! Relations that register goals, and what they register of types over one item, whose arguments were related.
-ghost use Rattle.std.specs.Prelude.{◌≡◌, ◌<◌, [], ◌∷◌, All, IsTrue, IfOk, map};
+ghost use Rattle.std.specs.Prelude.{◌≡◌, ◌≢◌, ◌<◌, [], ◌∷◌, All, IsTrue, IfOk, map};
 ghost use Rattle.std.specs.Borrow.{sem, Lends};
 ghost use Rattle.relation_terms.specs.Trees.{known, count, nth};
 ghost use Rattle.relation_terms.specs.Meaning.{arg_tree};
+ghost use Rattle.relation_terms.specs.declared.terms.enums.Variance.TheVariants.{Bivariant};
 ghost use Rattle.type_relations.specs.Bivariance.{is_left_open, TellsOpen, TellsEitherOpen, RegistersWellFormed};
+ghost use Rattle.type_relations.specs.Combining.{CombinesTys, CombinesConsts, IsNoTyVar};
 ghost use Rattle.type_relations.specs.ContextCalls.{Grows};
-ghost use Rattle.type_relations.specs.Emitting.{AddsGoals, IsOver, KnowsPredicate, goals_in};
+ghost use Rattle.type_relations.specs.Emitting.{AddsGoals, IsOver, WithContext, KnowsPredicate, goals_in};
 ghost use Rattle.type_relations.specs.Contexts.{KnowsTy};
 ghost use Rattle.type_relations.specs.Goals.{KnowsGoal, goals_of, well_formed_predicate};
-ghost use Rattle.type_relations.specs.Keyed.{AreOver};
-ghost use Rattle.type_relations.specs.Lawful.{State, Noted, WithMeaning, RelatesByDeclared};
-ghost use Rattle.type_relations.specs.Lawful.{items_in, items_of, listed};
+ghost use Rattle.type_relations.specs.Keyed.{AreOver, AskedTys, AskedConsts, SteppedTys, SteppedConsts};
+ghost use Rattle.type_relations.specs.Lawful.{State, Noted, RelatesByDeclared, items_in, items_of, listed};
+ghost use Rattle.type_relations.specs.Resolving.{IsShallow};
+ghost use Rattle.type_relations.specs.Solving.{solver_manner};
+ghost use Rattle.type_relations.specs.Steps.{IsLater};
 ghost use Rattle.type_relations.specs.Stores.{IsTermIn};
 
+mod meeting;
+
 use crate::infer_ctxt::InferCtxtLike;
-use crate::relate::StructurallyRelateAliases;
 use crate::relate::args::{arg_at, args_count};
+use crate::relate::combine::meeting::{meet_consts, meet_tys};
 use crate::relate::solver_relating::{GoalOf, recording};
+use crate::relate::{Step, StructurallyRelateAliases};
 use relation_terms::terms::{
-    GenericArg, GenericArgKind, GenericArgs, Interner, ItemOf, OutOfMemory, ParamEnv, Predicate,
-    Span, Ty, Variance,
+    Const, GenericArg, GenericArgKind, GenericArgs, Interner, ItemOf, OutOfMemory, ParamEnv,
+    Predicate, Span, Ty, Variance,
 };
 use relation_tools::error::RelateResult;
 
@@ -45,12 +52,12 @@ pub trait PredicateEmittingRelation<Infcx: InferCtxtLike> {
         ensures* writes_back { sem 𝓛 (Lends Self.row Infcx.row self.entry result (with_context self.entry.now)) }
         ensures value { result.now ≡ context self.old };
 
-    /// Does nothing: it shows that, while nothing is recorded, a context that makes terms changes nothing of the
-    /// relation but what its interner knows.
+    /// Does nothing: it shows that a later context in the place of the one that there is changes nothing of the
+    /// relation but what is recorded and what its interner knows.
     fn context_grows(&self)
         ensures { (c : Infcx) → Grows (Infcx.state (context self.now)) (Infcx.state c) →
-            (Infcx.state c).store ≡ (Infcx.state (context self.now)).store → (state self.now).lawful →
-            WithMeaning (state self.now) (Infcx.state c).meaning (state (with_context self.now c)) };
+            IsLater (Infcx.state (context self.now)).store (Infcx.state c).store → (state self.now).lawful →
+            WithContext (state self.now) (Infcx.state c) (state (with_context self.now c)) };
 
     /// The span with which constraints on regions are recorded.
     fn span(&self) -> Span<Infcx::Interner>;
@@ -254,4 +261,62 @@ pub fn combine_ty_args<Infcx: InferCtxtLike, R: PredicateEmittingRelation<Infcx>
     let predicates = both_well_formed(relation.infcx_mut(), a_ty, b_ty)?;
     relation.register_predicates(predicates.as_slice())?;
     Ok(())
+}
+
+/// What comes of two types that were resolved shallowly, before their parts are related. Two number variables of one
+/// kind are made one, and the left one is the answer; one is bound to a type of its kind, which is the answer; two
+/// types of which none is a variable are left to be related by their parts.
+///
+/// Both types are the relation's. Neither is a type variable, for `stepped`: a relation has its own say on these,
+/// before it calls this.
+///
+/// # Errors
+/// `Sorts` of a number variable and a type that it can't be, and of a type variable. Nothing was recorded then.
+pub fn super_combine_tys<Infcx: InferCtxtLike, R: PredicateEmittingRelation<Infcx>>(
+    relation: &mut R,
+    a: &Ty<Infcx::Interner>,
+    b: &Ty<Infcx::Interner>,
+) -> RelateResult<Infcx::Interner, Step<Ty<Infcx::Interner>>>
+    requires lawful { (R.state relation.old).lawful }
+    requires decides { (R.state relation.old).ambient ≢ Bivariant }
+    requires asked { AskedTys solver_manner (R.state relation.old) a.now b.now }
+    requires a_shallow { let r = R.state relation.old in IsShallow r.store (r.meaning.ty a.now) }
+    requires b_shallow { let r = R.state relation.old in IsShallow r.store (r.meaning.ty b.now) }
+    ensures stepped { let r = R.state relation.old in
+        IsNoTyVar (r.meaning.ty a.now) → IsNoTyVar (r.meaning.ty b.now) →
+        SteppedTys solver_manner r (R.state relation.new) a.now b.now result }
+    ensures combines { let r = R.state relation.old in
+        CombinesTys r.meaning r.store (R.state relation.new).store a.now b.now result }
+    ensures registers_nothing { (R.state relation.new).goals ≡ (R.state relation.old).goals }
+{
+    relation.context_grows();
+    meet_tys(relation.infcx_mut(), a, b)
+}
+
+/// What comes of two constants, before their parts are related. Of one and the same it is the answer. Else both are
+/// resolved shallowly: two variables are made one, and the left one is the answer; a variable is bound to what the
+/// other side comes to, and the bound constant is to be related with that side, which is the answer, at `Invariant`;
+/// two constants of which none is a variable are left to be related by their parts.
+///
+/// Both constants are the relation's.
+///
+/// # Errors
+/// `CyclicConst` where the variable stands in what the other side comes to, `Mismatch` where a placeholder does that
+/// the variable can't name, `Budget` where no instantiation is left, `Memory` where a growth was refused. Nothing was
+/// bound then.
+pub fn super_combine_consts<Infcx: InferCtxtLike, R: PredicateEmittingRelation<Infcx>>(
+    relation: &mut R,
+    a: &Const<Infcx::Interner>,
+    b: &Const<Infcx::Interner>,
+) -> RelateResult<Infcx::Interner, Step<Const<Infcx::Interner>>>
+    requires lawful { (R.state relation.old).lawful }
+    requires decides { (R.state relation.old).ambient ≢ Bivariant }
+    requires asked { AskedConsts solver_manner (R.state relation.old) a.now b.now }
+    ensures stepped { SteppedConsts solver_manner (R.state relation.old) (R.state relation.new) a.now b.now result }
+    ensures combines { let r = R.state relation.old in let q = R.state relation.new in
+        CombinesConsts r.meaning q.meaning r.store q.store a.now b.now result }
+    ensures registers_nothing { (R.state relation.new).goals ≡ (R.state relation.old).goals }
+{
+    relation.context_grows();
+    meet_consts(relation.infcx_mut(), a, b)
 }

@@ -10,7 +10,7 @@ use Rattle.relation_asking.specs.Needs.{both_needs}
 use Rattle.relation_asking.specs.Asking.{IsReady, Has}
 use Rattle.relation_asking.proofs.AskingLemmas.{one_ready, as_arguments, has_left, has_right, ready_in}
 use Rattle.type_relations.specs.Goals.{KnowsGoal}
-use Rattle.type_relations.proofs.Solving.{all_taken}
+use Rattle.type_relations.proofs.OverContext.{all_taken}
 use Rattle.relation_asking.proofs.lists.relate_ready.Goals as goal
 
 pub relate_args-related-requires-clause-lawful : goal.relate_args-related-requires-clause-lawful

@@ -1,22 +1,20 @@
 //! The relation of a context.
-ghost use Rattle.std.specs.Prelude.{◌≡◌, ◌≢◌, ℕ, [], All};
+ghost use Rattle.std.specs.Prelude.{◌≡◌, ◌≢◌, [], All};
 ghost use Rattle.relation_terms.specs.Heads.{arguments, type_var, variable};
 ghost use Rattle.relation_terms.specs.Trees.{leaf};
 ghost use Rattle.relation_terms.specs.declared.terms.enums.Variance.TheVariants.{Bivariant};
 ghost use Rattle.type_relations.specs.Contexts.{KnowsEnv, KnowsTy};
 ghost use Rattle.type_relations.specs.ContextCalls.{IsUnresolved};
 ghost use Rattle.type_relations.specs.Goals.{KnowsGoal};
-ghost use Rattle.type_relations.specs.Keyed.{AreAsMany, AskedLists, RelatedLists, AskedTys, AskedConsts, RelatedTys};
-ghost use Rattle.type_relations.specs.Keyed.{SteppedTys, SteppedConsts};
-ghost use Rattle.type_relations.specs.Resolving.{IsShallow, IsShallowConst};
+ghost use Rattle.type_relations.specs.Keyed.{AreAsMany, AskedLists, RelatedLists, AskedTys, RelatedTys, SteppedTys};
+ghost use Rattle.type_relations.specs.Resolving.{IsShallow};
 ghost use Rattle.type_relations.specs.Solving.{solving_in, solving_through, solver_manner};
 
 use crate::infer_ctxt::InferCtxtLike;
-use crate::relate::combine::combine_ty_args;
-use crate::relate::number_vars::{bind_number, equate_numbers, number_var, unlike};
+use crate::relate::combine::{combine_ty_args, super_combine_consts, super_combine_tys};
 use crate::relate::solver_relating::recording::{relate_regions, subtype_predicate};
 use crate::relate::structural::tys;
-use crate::relate::variables::{const_var, have_no_variable, ty_var};
+use crate::relate::variables::{have_no_variable, ty_var};
 use crate::relate::{Step, StructurallyRelateAliases, TypeRelation, relate_args_invariantly};
 use relation_terms::terms::{
     Const, GenericArgs, Goal, Interner, ItemOf, Keys, ParamEnv, Predicate, Region, Span, Ty, TyVid,
@@ -236,127 +234,7 @@ impl<'a, Infcx: InferCtxtLike> SolverRelating<'a, Infcx> {
                         answer: *a,
                     })
                 }
-                None => self.super_combine_tys(a, b),
-            },
-        }
-    }
-
-    // The same of types of which none is a type variable: number variables are made one, or bound to a type of theirs;
-    // all others are left to be related by their parts.
-    fn super_combine_tys(
-        &mut self,
-        a: &Ty<Infcx::Interner>,
-        b: &Ty<Infcx::Interner>,
-    ) -> RelateResult<Infcx::Interner, Step<Ty<Infcx::Interner>>>
-        requires lawful { (Infcx.state self.old.infcx.now).lawful }
-        requires env_known { KnowsEnv (Infcx.state self.old.infcx.now) self.old.param_env }
-        requires goals_known { All (KnowsGoal (Infcx.state self.old.infcx.now).meaning) self.old.goals.items }
-        requires decides { self.old.ambient_variance ≢ Bivariant }
-        requires asked { let r = self.old in
-            let before = solving_through r.infcx.ghost_name r.goals.items (Infcx.state r.infcx.now) r.ambient_variance
-            r.param_env in
-            AskedTys solver_manner before a.now b.now }
-        requires a_shallow { let r = Infcx.state self.old.infcx.now in IsShallow r.store ((r.meaning).ty a.now) }
-        requires b_shallow { let r = Infcx.state self.old.infcx.now in IsShallow r.store ((r.meaning).ty b.now) }
-        requires a_no_ty_var { let r = Infcx.state self.old.infcx.now in
-            (n : ℕ) → (r.meaning).ty a.now ≢ leaf (variable type_var n) }
-        requires b_no_ty_var { let r = Infcx.state self.old.infcx.now in
-            (n : ℕ) → (r.meaning).ty b.now ≢ leaf (variable type_var n) }
-        ensures { let r = self.old in let q = self.new in
-            let before = solving_through r.infcx.ghost_name r.goals.items (Infcx.state r.infcx.now) r.ambient_variance
-            r.param_env in
-            let after = solving_through q.infcx.ghost_name q.goals.items (Infcx.state q.infcx.now) q.ambient_variance
-            q.param_env in
-            SteppedTys solver_manner before after a.now b.now result }
-    {
-        match number_var(&*self.infcx, a) {
-            Some(x) => match number_var(&*self.infcx, b) {
-                Some(y) => {
-                    if !equate_numbers(&mut *self.infcx, x, y) {
-                        return Err(unlike::<Infcx::Interner>(a, b));
-                    }
-                    Ok(Step::Done(*a))
-                }
-                None => {
-                    if !bind_number(&mut *self.infcx, x, b) {
-                        return Err(unlike::<Infcx::Interner>(a, b));
-                    }
-                    Ok(Step::Done(*b))
-                }
-            },
-            None => match number_var(&*self.infcx, b) {
-                Some(y) => {
-                    if !bind_number(&mut *self.infcx, y, a) {
-                        return Err(unlike::<Infcx::Interner>(a, b));
-                    }
-                    Ok(Step::Done(*a))
-                }
-                None => Ok(Step::Parts { a: *a, b: *b }),
-            },
-        }
-    }
-
-    // What comes of two constants that were resolved shallowly: a variable is made one with another, or bound to a
-    // constant, which is then related with that; all others are left to be related by their parts.
-    fn super_combine_consts(
-        &mut self,
-        a: &Const<Infcx::Interner>,
-        b: &Const<Infcx::Interner>,
-    ) -> RelateResult<Infcx::Interner, Step<Const<Infcx::Interner>>>
-        requires lawful { (Infcx.state self.old.infcx.now).lawful }
-        requires env_known { KnowsEnv (Infcx.state self.old.infcx.now) self.old.param_env }
-        requires goals_known { All (KnowsGoal (Infcx.state self.old.infcx.now).meaning) self.old.goals.items }
-        requires decides { self.old.ambient_variance ≢ Bivariant }
-        requires asked { let r = self.old in
-            let before = solving_through r.infcx.ghost_name r.goals.items (Infcx.state r.infcx.now) r.ambient_variance
-            r.param_env in
-            AskedConsts solver_manner before a.now b.now }
-        requires a_shallow { let r = Infcx.state self.old.infcx.now in
-            IsShallowConst r.store ((r.meaning).const_ a.now) }
-        requires b_shallow { let r = Infcx.state self.old.infcx.now in
-            IsShallowConst r.store ((r.meaning).const_ b.now) }
-        ensures { let r = self.old in let q = self.new in
-            let before = solving_through r.infcx.ghost_name r.goals.items (Infcx.state r.infcx.now) r.ambient_variance
-            r.param_env in
-            let after = solving_through q.infcx.ghost_name q.goals.items (Infcx.state q.infcx.now) q.ambient_variance
-            q.param_env in
-            SteppedConsts solver_manner before after a.now b.now result }
-    {
-        match const_var(&*self.infcx, a) {
-            Some(x) => match const_var(&*self.infcx, b) {
-                Some(y) => {
-                    self.infcx.equate_const_vids_raw(x, y);
-                    Ok(Step::Done(*a))
-                }
-                None => {
-                    let value = self
-                        .infcx
-                        .instantiate_const_var_raw(StructurallyRelateAliases::No, x, b)?;
-                    Ok(Step::Again {
-                        a: *a,
-                        b: *b,
-                        x: value,
-                        y: *b,
-                        variance: Variance::Invariant,
-                        answer: *b,
-                    })
-                }
-            },
-            None => match const_var(&*self.infcx, b) {
-                Some(y) => {
-                    let value = self
-                        .infcx
-                        .instantiate_const_var_raw(StructurallyRelateAliases::No, y, a)?;
-                    Ok(Step::Again {
-                        a: *a,
-                        b: *b,
-                        x: *a,
-                        y: value,
-                        variance: Variance::Invariant,
-                        answer: *a,
-                    })
-                }
-                None => Ok(Step::Parts { a: *a, b: *b }),
+                None => super_combine_tys::<Infcx, SolverRelating<'a, Infcx>>(self, a, b),
             },
         }
     }
@@ -450,12 +328,7 @@ impl<'a, Infcx: InferCtxtLike> TypeRelation<Infcx::Interner> for SolverRelating<
         a: &Const<Infcx::Interner>,
         b: &Const<Infcx::Interner>,
     ) -> RelateResult<Infcx::Interner, Step<Const<Infcx::Interner>>> {
-        if a == b {
-            return Ok(Step::Done(*a));
-        }
-        let left = self.infcx.shallow_resolve_const(a);
-        let right = self.infcx.shallow_resolve_const(b);
-        self.super_combine_consts(&left, &right)
+        super_combine_consts::<Infcx, SolverRelating<'a, Infcx>>(self, a, b)
     }
 
     fn regions(

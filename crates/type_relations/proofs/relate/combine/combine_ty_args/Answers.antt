@@ -9,7 +9,7 @@ use Rattle.type_relations.specs.Lawful.{OnlyMemory, items_of}
 use Rattle.type_relations.specs.Stores.{IsTermIn}
 use Rattle.type_relations.proofs.Bivariance.{over_in, registers_none}
 use Rattle.type_relations.proofs.EmittingBoth.{both_known, both_registered, listed_known, noted_both}
-use Rattle.type_relations.proofs.Noting.{noted_with, noted_then, over_extends, over_with}
+use Rattle.type_relations.proofs.Noting.{noted_with, noted_then, over_extends, over_with, with_meaning, later_same}
 use Rattle.type_relations.proofs.Passing.{as_err}
 use Rattle.type_relations.proofs.relate.combine.combine_ty_args.Goals as goal
 
@@ -51,7 +51,8 @@ returns-in_err-have_open_argument-clause-noted g c =
     let f = c.in_err-have_open_argument.ensures in
     let grows = subst (λ z. Grows (g.Infcx.InferCtxtLike.state z) d) c.infcx_mut.ensures.value f.grows in
     let same = subst (λ z. d.store ≡ (g.Infcx.InferCtxtLike.state z).store) c.infcx_mut.ensures.value f.same_record in
-    let w = c.context_grows.ensures c.have_open_argument.new.infcx grows same c.requires.lawful in
+    let w = with_meaning o (c.context_grows.ensures c.have_open_argument.new.infcx grows (later_same same)
+    c.requires.lawful) same in
     let res = c.from_residual.result in
     noted_with (over_extends r q s d o grows w) (over_with r q s d o grows w) res
     (subst OnlyMemory (sym (as_err res Memory c.from_residual.ensures.0 c.from_residual.ensures.1)) tt)
@@ -68,7 +69,8 @@ returns-then-not-branch-clause-noted g c =
     let f = c.in_ok-have_open_argument.ensures in
     let grows = subst (λ z. Grows (g.Infcx.InferCtxtLike.state z) d) c.infcx_mut.ensures.value f.grows in
     let same = subst (λ z. d.store ≡ (g.Infcx.InferCtxtLike.state z).store) c.infcx_mut.ensures.value f.same_record in
-    let w = c.context_grows.ensures c.have_open_argument.new.infcx grows same c.requires.lawful in
+    let w = with_meaning o (c.context_grows.ensures c.have_open_argument.new.infcx grows (later_same same)
+    c.requires.lawful) same in
     noted_with (over_extends r q s d o grows w) (over_with r q s d o grows w) (Ok (tt {0})) tt
 
 pub returns-in_err-predicates-clause-noted : goal.returns-in_err-predicates-clause-noted
@@ -83,7 +85,8 @@ returns-in_err-predicates-clause-noted g c =
     let f = c.in_ok-have_open_argument.ensures in
     let grows = subst (λ z. Grows (g.Infcx.InferCtxtLike.state z) d) c.infcx_mut.ensures.value f.grows in
     let same = subst (λ z. d.store ≡ (g.Infcx.InferCtxtLike.state z).store) c.infcx_mut.ensures.value f.same_record in
-    let w = c.context_grows.ensures c.have_open_argument.new.infcx grows same c.requires.lawful in
+    let w = with_meaning o (c.context_grows.ensures c.have_open_argument.new.infcx grows (later_same same)
+    c.requires.lawful) same in
     let u = g.R.PredicateEmittingRelation.with_context y c.both_well_formed.new.infcx in
     let p = g.R.PredicateEmittingRelation.state u in
     let over = g.met.R.PredicateEmittingRelation.over y in
@@ -92,7 +95,8 @@ returns-in_err-predicates-clause-noted g c =
     let h = c.in_err-predicates.ensures in
     let grows' = subst (λ z. Grows (g.Infcx.InferCtxtLike.state z) e) c.infcx_mut-2.ensures.value h.grows in
     let same' = subst (λ z. e.store ≡ (g.Infcx.InferCtxtLike.state z).store) c.infcx_mut-2.ensures.value h.same_record in
-    let v = c.context_grows-2.ensures c.both_well_formed.new.infcx grows' same' (w.lawful c.requires.lawful) in
+    let v = with_meaning over (c.context_grows-2.ensures c.both_well_formed.new.infcx grows' (later_same same')
+    (w.lawful c.requires.lawful)) same' in
     let res = c.from_residual-in_err-predicates.result in
     noted_then (Ok (tt {0})) res (noted_with (over_extends r q s d o grows w) (over_with r q s d o grows w) (Ok (tt {0})) tt)
     (noted_with (over_extends q p t e over grows' v) (over_with q p t e over grows' v) res
@@ -112,7 +116,8 @@ returns-then-not-branch-clause-registers g c =
     let f = c.in_ok-have_open_argument.ensures in
     let grows = subst (λ z. Grows (g.Infcx.InferCtxtLike.state z) d) c.infcx_mut.ensures.value f.grows in
     let same = subst (λ z. d.store ≡ (g.Infcx.InferCtxtLike.state z).store) c.infcx_mut.ensures.value f.same_record in
-    let w = c.context_grows.ensures c.have_open_argument.new.infcx grows same c.requires.lawful in
+    let w = with_meaning o (c.context_grows.ensures c.have_open_argument.new.infcx grows (later_same same)
+    c.requires.lawful) same in
     let b = c.in_ok-have_open_argument.field-0 in
     let i = c.args.def_id.now.0 in
     let xs = c.args.a_args.now in
@@ -141,7 +146,8 @@ register_predicates-requires-clause-known g c =
     let f = c.in_ok-have_open_argument.ensures in
     let grows = subst (λ z. Grows (g.Infcx.InferCtxtLike.state z) d) c.infcx_mut.ensures.value f.grows in
     let same = subst (λ z. d.store ≡ (g.Infcx.InferCtxtLike.state z).store) c.infcx_mut.ensures.value f.same_record in
-    let w = c.context_grows.ensures c.have_open_argument.new.infcx grows same c.requires.lawful in
+    let w = with_meaning o (c.context_grows.ensures c.have_open_argument.new.infcx grows (later_same same)
+    c.requires.lawful) same in
     let b = c.in_ok-have_open_argument.field-0 in
     let i = c.args.def_id.now.0 in
     let xs = c.args.a_args.now in
@@ -162,7 +168,8 @@ register_predicates-requires-clause-known g c =
     let h = c.in_ok-predicates.ensures in
     let grows' = subst (λ z. Grows (g.Infcx.InferCtxtLike.state z) e) c.infcx_mut-2.ensures.value h.grows in
     let same' = subst (λ z. e.store ≡ (g.Infcx.InferCtxtLike.state z).store) c.infcx_mut-2.ensures.value h.same_record in
-    let v = c.context_grows-2.ensures c.both_well_formed.new.infcx grows' same' (w.lawful c.requires.lawful) in
+    let v = with_meaning over (c.context_grows-2.ensures c.both_well_formed.new.infcx grows' (later_same same')
+    (w.lawful c.requires.lawful)) same' in
     let k = c.args.a_ty.now in
     let l = c.args.b_ty.now in
     let stay = over_extends r q s d o grows w in
@@ -188,7 +195,8 @@ returns-in_err-register_predicates-clause-noted g c =
     let f = c.in_ok-have_open_argument.ensures in
     let grows = subst (λ z. Grows (g.Infcx.InferCtxtLike.state z) d) c.infcx_mut.ensures.value f.grows in
     let same = subst (λ z. d.store ≡ (g.Infcx.InferCtxtLike.state z).store) c.infcx_mut.ensures.value f.same_record in
-    let w = c.context_grows.ensures c.have_open_argument.new.infcx grows same c.requires.lawful in
+    let w = with_meaning o (c.context_grows.ensures c.have_open_argument.new.infcx grows (later_same same)
+    c.requires.lawful) same in
     let b = c.in_ok-have_open_argument.field-0 in
     let i = c.args.def_id.now.0 in
     let xs = c.args.a_args.now in
@@ -209,7 +217,8 @@ returns-in_err-register_predicates-clause-noted g c =
     let h = c.in_ok-predicates.ensures in
     let grows' = subst (λ z. Grows (g.Infcx.InferCtxtLike.state z) e) c.infcx_mut-2.ensures.value h.grows in
     let same' = subst (λ z. e.store ≡ (g.Infcx.InferCtxtLike.state z).store) c.infcx_mut-2.ensures.value h.same_record in
-    let v = c.context_grows-2.ensures c.both_well_formed.new.infcx grows' same' (w.lawful c.requires.lawful) in
+    let v = with_meaning over (c.context_grows-2.ensures c.both_well_formed.new.infcx grows' (later_same same')
+    (w.lawful c.requires.lawful)) same' in
     let k = c.args.a_ty.now in
     let l = c.args.b_ty.now in
     let stay = over_extends r q s d o grows w in
@@ -240,7 +249,8 @@ returns-clause-noted g c =
     let f = c.in_ok-have_open_argument.ensures in
     let grows = subst (λ z. Grows (g.Infcx.InferCtxtLike.state z) d) c.infcx_mut.ensures.value f.grows in
     let same = subst (λ z. d.store ≡ (g.Infcx.InferCtxtLike.state z).store) c.infcx_mut.ensures.value f.same_record in
-    let w = c.context_grows.ensures c.have_open_argument.new.infcx grows same c.requires.lawful in
+    let w = with_meaning o (c.context_grows.ensures c.have_open_argument.new.infcx grows (later_same same)
+    c.requires.lawful) same in
     let b = c.in_ok-have_open_argument.field-0 in
     let i = c.args.def_id.now.0 in
     let xs = c.args.a_args.now in
@@ -261,7 +271,8 @@ returns-clause-noted g c =
     let h = c.in_ok-predicates.ensures in
     let grows' = subst (λ z. Grows (g.Infcx.InferCtxtLike.state z) e) c.infcx_mut-2.ensures.value h.grows in
     let same' = subst (λ z. e.store ≡ (g.Infcx.InferCtxtLike.state z).store) c.infcx_mut-2.ensures.value h.same_record in
-    let v = c.context_grows-2.ensures c.both_well_formed.new.infcx grows' same' (w.lawful c.requires.lawful) in
+    let v = with_meaning over (c.context_grows-2.ensures c.both_well_formed.new.infcx grows' (later_same same')
+    (w.lawful c.requires.lawful)) same' in
     let k = c.args.a_ty.now in
     let l = c.args.b_ty.now in
     let stay = over_extends r q s d o grows w in
@@ -289,7 +300,8 @@ returns-clause-registers g c =
     let f = c.in_ok-have_open_argument.ensures in
     let grows = subst (λ z. Grows (g.Infcx.InferCtxtLike.state z) d) c.infcx_mut.ensures.value f.grows in
     let same = subst (λ z. d.store ≡ (g.Infcx.InferCtxtLike.state z).store) c.infcx_mut.ensures.value f.same_record in
-    let w = c.context_grows.ensures c.have_open_argument.new.infcx grows same c.requires.lawful in
+    let w = with_meaning o (c.context_grows.ensures c.have_open_argument.new.infcx grows (later_same same)
+    c.requires.lawful) same in
     let b = c.in_ok-have_open_argument.field-0 in
     let i = c.args.def_id.now.0 in
     let xs = c.args.a_args.now in
@@ -310,7 +322,8 @@ returns-clause-registers g c =
     let h = c.in_ok-predicates.ensures in
     let grows' = subst (λ z. Grows (g.Infcx.InferCtxtLike.state z) e) c.infcx_mut-2.ensures.value h.grows in
     let same' = subst (λ z. e.store ≡ (g.Infcx.InferCtxtLike.state z).store) c.infcx_mut-2.ensures.value h.same_record in
-    let v = c.context_grows-2.ensures c.both_well_formed.new.infcx grows' same' (w.lawful c.requires.lawful) in
+    let v = with_meaning over (c.context_grows-2.ensures c.both_well_formed.new.infcx grows' (later_same same')
+    (w.lawful c.requires.lawful)) same' in
     let k = c.args.a_ty.now in
     let l = c.args.b_ty.now in
     let stay = over_extends r q s d o grows w in
@@ -324,3 +337,89 @@ returns-clause-registers g c =
     (over_extends q p t e over grows' v) (over_with q p t e over grows' v) c.requires.over c.requires.by_declared (tells.0 c.if-not-branch.false)
     c.requires.a_in c.requires.b_in c.as_slice.result.now made (g.R.PredicateEmittingRelation.state
     c.register_predicates.new.self) c.register_predicates.result c.register_predicates.ensures c.in_ok-register_predicates.field-0 c.in_ok-register_predicates.was
+
+pub both_well_formed-requires-clause-lawful : goal.both_well_formed-requires-clause-lawful
+both_well_formed-requires-clause-lawful g c =
+    let x = c.args.relation.now in
+    let r = g.R.PredicateEmittingRelation.state x in
+    let o = g.met.R.PredicateEmittingRelation.over x in
+    let s = g.Infcx.InferCtxtLike.state (g.R.PredicateEmittingRelation.context x) in
+    let y = g.R.PredicateEmittingRelation.with_context x c.have_open_argument.new.infcx in
+    let q = g.R.PredicateEmittingRelation.state y in
+    let d = g.Infcx.InferCtxtLike.state c.have_open_argument.new.infcx in
+    let f = c.in_ok-have_open_argument.ensures in
+    let grows = subst (λ z. Grows (g.Infcx.InferCtxtLike.state z) d) c.infcx_mut.ensures.value f.grows in
+    let same = subst (λ z. d.store ≡ (g.Infcx.InferCtxtLike.state z).store) c.infcx_mut.ensures.value f.same_record in
+    let w = with_meaning o (c.context_grows.ensures c.have_open_argument.new.infcx grows (later_same same)
+    c.requires.lawful) same in
+    let over = g.met.R.PredicateEmittingRelation.over y in
+    subst (λ z. (g.Infcx.InferCtxtLike.state z).lawful) (sym c.infcx_mut-2.ensures.value)
+    (over.lawful (w.lawful c.requires.lawful))
+
+pub both_well_formed-requires-clause-a_known : goal.both_well_formed-requires-clause-a_known
+both_well_formed-requires-clause-a_known g c =
+    let x = c.args.relation.now in
+    let r = g.R.PredicateEmittingRelation.state x in
+    let o = g.met.R.PredicateEmittingRelation.over x in
+    let s = g.Infcx.InferCtxtLike.state (g.R.PredicateEmittingRelation.context x) in
+    let m = r.meaning in
+    let y = g.R.PredicateEmittingRelation.with_context x c.have_open_argument.new.infcx in
+    let q = g.R.PredicateEmittingRelation.state y in
+    let d = g.Infcx.InferCtxtLike.state c.have_open_argument.new.infcx in
+    let f = c.in_ok-have_open_argument.ensures in
+    let grows = subst (λ z. Grows (g.Infcx.InferCtxtLike.state z) d) c.infcx_mut.ensures.value f.grows in
+    let same = subst (λ z. d.store ≡ (g.Infcx.InferCtxtLike.state z).store) c.infcx_mut.ensures.value f.same_record in
+    let w = with_meaning o (c.context_grows.ensures c.have_open_argument.new.infcx grows (later_same same)
+    c.requires.lawful) same in
+    let over = g.met.R.PredicateEmittingRelation.over y in
+    let k = c.args.a_ty.now in
+    let stay = over_extends r q s d o grows w in
+    let same_a = subst (λ z. ((g.Infcx.InferCtxtLike.state z).meaning).ty k ≡ m.ty k) (sym c.infcx_mut-2.ensures.value)
+    (ap (λ n. n.ty k) (sym over.meaning) ∙ stay.ty k c.requires.a_known) in
+    subst (λ z. IsTrue (known z)) (sym same_a) c.requires.a_known
+
+pub both_well_formed-requires-clause-b_known : goal.both_well_formed-requires-clause-b_known
+both_well_formed-requires-clause-b_known g c =
+    let x = c.args.relation.now in
+    let r = g.R.PredicateEmittingRelation.state x in
+    let o = g.met.R.PredicateEmittingRelation.over x in
+    let s = g.Infcx.InferCtxtLike.state (g.R.PredicateEmittingRelation.context x) in
+    let m = r.meaning in
+    let y = g.R.PredicateEmittingRelation.with_context x c.have_open_argument.new.infcx in
+    let q = g.R.PredicateEmittingRelation.state y in
+    let d = g.Infcx.InferCtxtLike.state c.have_open_argument.new.infcx in
+    let f = c.in_ok-have_open_argument.ensures in
+    let grows = subst (λ z. Grows (g.Infcx.InferCtxtLike.state z) d) c.infcx_mut.ensures.value f.grows in
+    let same = subst (λ z. d.store ≡ (g.Infcx.InferCtxtLike.state z).store) c.infcx_mut.ensures.value f.same_record in
+    let w = with_meaning o (c.context_grows.ensures c.have_open_argument.new.infcx grows (later_same same)
+    c.requires.lawful) same in
+    let over = g.met.R.PredicateEmittingRelation.over y in
+    let l = c.args.b_ty.now in
+    let stay = over_extends r q s d o grows w in
+    let same_b = subst (λ z. ((g.Infcx.InferCtxtLike.state z).meaning).ty l ≡ m.ty l) (sym c.infcx_mut-2.ensures.value)
+    (ap (λ n. n.ty l) (sym over.meaning) ∙ stay.ty l c.requires.b_known) in
+    subst (λ z. IsTrue (known z)) (sym same_b) c.requires.b_known
+
+pub register_predicates-requires-clause-lawful : goal.register_predicates-requires-clause-lawful
+register_predicates-requires-clause-lawful g c =
+    let x = c.args.relation.now in
+    let r = g.R.PredicateEmittingRelation.state x in
+    let o = g.met.R.PredicateEmittingRelation.over x in
+    let s = g.Infcx.InferCtxtLike.state (g.R.PredicateEmittingRelation.context x) in
+    let y = g.R.PredicateEmittingRelation.with_context x c.have_open_argument.new.infcx in
+    let q = g.R.PredicateEmittingRelation.state y in
+    let d = g.Infcx.InferCtxtLike.state c.have_open_argument.new.infcx in
+    let f = c.in_ok-have_open_argument.ensures in
+    let grows = subst (λ z. Grows (g.Infcx.InferCtxtLike.state z) d) c.infcx_mut.ensures.value f.grows in
+    let same = subst (λ z. d.store ≡ (g.Infcx.InferCtxtLike.state z).store) c.infcx_mut.ensures.value f.same_record in
+    let w = with_meaning o (c.context_grows.ensures c.have_open_argument.new.infcx grows (later_same same)
+    c.requires.lawful) same in
+    let over = g.met.R.PredicateEmittingRelation.over y in
+    let t = g.Infcx.InferCtxtLike.state (g.R.PredicateEmittingRelation.context y) in
+    let e = g.Infcx.InferCtxtLike.state c.both_well_formed.new.infcx in
+    let h = c.in_ok-predicates.ensures in
+    let grows' = subst (λ z. Grows (g.Infcx.InferCtxtLike.state z) e) c.infcx_mut-2.ensures.value h.grows in
+    let same' = subst (λ z. e.store ≡ (g.Infcx.InferCtxtLike.state z).store) c.infcx_mut-2.ensures.value h.same_record in
+    let v = with_meaning over (c.context_grows-2.ensures c.both_well_formed.new.infcx grows' (later_same same')
+    (w.lawful c.requires.lawful)) same' in
+    v.lawful (w.lawful c.requires.lawful)

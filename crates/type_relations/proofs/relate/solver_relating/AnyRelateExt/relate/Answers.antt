@@ -10,7 +10,8 @@ use Rattle.type_relations.proofs.Going.{later_itself, goes_nowhere, binds_its_ow
 use Rattle.type_relations.proofs.Unifying.{exact_itself}
 use Rattle.type_relations.proofs.Passing.{as_err}
 use Rattle.type_relations.proofs.Exactly.{unrelated_apart}
-use Rattle.type_relations.proofs.Solving.{answers_goals, keeps_equal, registers_goals, all_taken, one_ty}
+use Rattle.type_relations.proofs.OverContext.{all_taken}
+use Rattle.type_relations.proofs.Solving.{answers_goals, keeps_equal, registers_goals, one_ty}
 use Rattle.type_relations.proofs.relate.solver_relating.AnyRelateExt.relate.Goals as goal
 
 pub returns-then-eq-clause-answers : goal.returns-then-eq-clause-answers

@@ -7,11 +7,11 @@ use Rattle.type_relations.specs.declared.relate.Step.TheVariants.{Again}
 use Rattle.type_relations.specs.Stores.{unbound, entry_of, IsMade}
 use Rattle.type_relations.specs.Parts.{IsFormed}
 use Rattle.type_relations.specs.Lawful.{Stepped}
-use Rattle.type_relations.specs.Solving.{solving_through, solver_manner}
+use Rattle.type_relations.specs.Solving.{solving_through, solver_manner, KnowsGoals}
 use Rattle.type_relations.proofs.Passing.{as_err}
 use Rattle.type_relations.proofs.Shallowly.{shallow_free, variable_made}
 use Rattle.type_relations.proofs.GeneralisingErrors.{cycle_error}
-use Rattle.type_relations.proofs.Solving.{decides_back, ty_sorted}
+use Rattle.type_relations.proofs.Solving.{decides_back, ty_sorted, as_solving, still_lawful}
 use Rattle.type_relations.proofs.SolvingVariables.{left_step, right_step, left_refused, right_refused, type_comes_to_none}
 use Rattle.type_relations.proofs.relate.solver_relating.relation.SolverRelating.combine_tys.Goals as goal
 
@@ -75,9 +75,14 @@ returns-in_err-bound-in-None-ty_var g c =
     (subst (λ l. Stepped solver_manner IsFormed (solving_through r.infcx.ghost_name r.goals.items s r.ambient_variance r.param_env)
     (solving_through r.infcx.ghost_name r.goals.items d r.ambient_variance r.param_env) l t
     (d.meaning).ty (Err f)) (sym is)
-    (left_refused r.infcx.ghost_name r.goals.items IsFormed s d h.grows.extends r.ambient_variance c.requires.decides r.param_env
-    (c.requires.env_known, c.requires.goals_known) sound h.grows.lawful type_var tt n t unresolved other (λ m. m.ty) CyclicTy r.ambient_variance
-    (d.meaning).ty (λ o z i x. cycle_error d.meaning s.store d.store n t sound o z i other x) f h.instantiates))
+    (as_solving r.infcx.ghost_name r.goals.items s.store d.store s.lawful d.lawful r.ambient_variance r.param_env h.grows.extends
+    (c.requires.env_known, c.requires.goals_known) (λ q. Stepped solver_manner IsFormed
+    (solving_through r.infcx.ghost_name r.goals.items s r.ambient_variance r.param_env) q (leaf (variable type_var n)) t (d.meaning).ty
+    (Err f)) (left_refused (solving_through r.infcx.ghost_name r.goals.items s r.ambient_variance r.param_env)
+    (s.lawful × KnowsGoals s.meaning r.param_env r.goals.items) (d.lawful × KnowsGoals d.meaning r.param_env r.goals.items)
+    (still_lawful r.infcx.ghost_name r.goals.items r.param_env h.grows.extends
+    (c.requires.env_known, c.requires.goals_known) h.grows.lawful) IsFormed s d h.grows.extends c.requires.decides sound type_var tt n t unresolved other (λ m. m.ty) CyclicTy r.ambient_variance
+    (d.meaning).ty (λ o z i x. cycle_error d.meaning s.store d.store n t sound o z i other x) f h.instantiates)))
 
 pub returns-in_err-bound-in-Some-ty_var-2 : goal.returns-in_err-bound-in-Some-ty_var-2
 returns-in_err-bound-in-Some-ty_var-2 g c =
@@ -103,9 +108,14 @@ returns-in_err-bound-in-Some-ty_var-2 g c =
     (subst (λ l. Stepped solver_manner IsFormed (solving_through r.infcx.ghost_name r.goals.items s r.ambient_variance r.param_env)
     (solving_through r.infcx.ghost_name r.goals.items d r.ambient_variance r.param_env) t l
     (d.meaning).ty (Err f)) (sym is)
-    (right_refused r.infcx.ghost_name r.goals.items IsFormed s d h.grows.extends r.ambient_variance c.requires.decides r.param_env
-    (c.requires.env_known, c.requires.goals_known) sound h.grows.lawful type_var tt n t unresolved other (λ m. m.ty) CyclicTy c.xform-variance.result
-    (d.meaning).ty (λ o z i x. cycle_error d.meaning s.store d.store n t sound o z i other x) f h.instantiates))
+    (as_solving r.infcx.ghost_name r.goals.items s.store d.store s.lawful d.lawful r.ambient_variance r.param_env h.grows.extends
+    (c.requires.env_known, c.requires.goals_known) (λ q. Stepped solver_manner IsFormed
+    (solving_through r.infcx.ghost_name r.goals.items s r.ambient_variance r.param_env) q t (leaf (variable type_var n)) (d.meaning).ty
+    (Err f)) (right_refused (solving_through r.infcx.ghost_name r.goals.items s r.ambient_variance r.param_env)
+    (s.lawful × KnowsGoals s.meaning r.param_env r.goals.items) (d.lawful × KnowsGoals d.meaning r.param_env r.goals.items)
+    (still_lawful r.infcx.ghost_name r.goals.items r.param_env h.grows.extends
+    (c.requires.env_known, c.requires.goals_known) h.grows.lawful) IsFormed s d h.grows.extends c.requires.decides sound type_var tt n t unresolved other (λ m. m.ty) CyclicTy c.xform-variance.result
+    (d.meaning).ty (λ o z i x. cycle_error d.meaning s.store d.store n t sound o z i other x) f h.instantiates)))
 
 pub returns-in_ok-bound-in-None-ty_var : goal.returns-in_ok-bound-in-None-ty_var
 returns-in_ok-bound-in-None-ty_var g c =
@@ -128,13 +138,19 @@ returns-in_ok-bound-in-None-ty_var g c =
     subst (λ l. Stepped solver_manner IsFormed (solving_through r.infcx.ghost_name r.goals.items s r.ambient_variance r.param_env)
     (solving_through r.infcx.ghost_name r.goals.items d r.ambient_variance r.param_env) l t
     (d.meaning).ty (Ok (Again c.args.a.now c.args.b.now z c.args.b.now Covariant c.args.a.now))) (sym is)
-    (left_step r.infcx.ghost_name r.goals.items type_var tt s d grown r.param_env (c.requires.env_known, c.requires.goals_known) sound
-    (g.met.Infcx.InferCtxtLike.numbers r.infcx.now c.requires.lawful) h.grows.lawful
+    (as_solving r.infcx.ghost_name r.goals.items s.store d.store s.lawful d.lawful r.ambient_variance r.param_env grown
+    (c.requires.env_known, c.requires.goals_known) (λ q. Stepped solver_manner IsFormed
+    (solving_through r.infcx.ghost_name r.goals.items s r.ambient_variance r.param_env) q (leaf (variable type_var c.in-Some.x.0)) t (d.meaning).ty
+    (Ok (Again c.args.a.now c.args.b.now z c.args.b.now Covariant c.args.a.now))) (left_step (solving_through r.infcx.ghost_name r.goals.items s r.ambient_variance r.param_env)
+    (s.lawful × KnowsGoals s.meaning r.param_env r.goals.items) (d.lawful × KnowsGoals d.meaning r.param_env r.goals.items)
+    (still_lawful r.infcx.ghost_name r.goals.items r.param_env grown
+    (c.requires.env_known, c.requires.goals_known) h.grows.lawful) type_var tt s d grown sound
+    (g.met.Infcx.InferCtxtLike.numbers r.infcx.now c.requires.lawful)
     (g.met.Infcx.InferCtxtLike.covered q h.grows.lawful) c.in-Some.x.0 t ((d.meaning).ty z) k.right_taken.1 k.right_in
     k.right_known (ty_sorted of c.args.b.now (g.met.Infcx.Interner.Interner.is_ty cx c.args.b.now) k.right_known)
-    r.ambient_variance r.ambient_variance h.instantiates.0 h.instantiates.1 IsFormed c.args.a.now c.args.b.now z
+    r.ambient_variance h.instantiates.0 h.instantiates.1 IsFormed c.args.a.now c.args.b.now z
     c.args.b.now c.args.a.now (d.meaning).ty root_stays t_stays refl t_stays
-    (inl root_stays))
+    (inl root_stays)))
 
 pub returns-in_ok-bound-in-Some-ty_var-2 : goal.returns-in_ok-bound-in-Some-ty_var-2
 returns-in_ok-bound-in-Some-ty_var-2 g c =
@@ -157,13 +173,19 @@ returns-in_ok-bound-in-Some-ty_var-2 g c =
     subst (λ l. Stepped solver_manner IsFormed (solving_through r.infcx.ghost_name r.goals.items s r.ambient_variance r.param_env)
     (solving_through r.infcx.ghost_name r.goals.items d r.ambient_variance r.param_env) t l
     (d.meaning).ty (Ok (Again c.args.a.now c.args.b.now c.args.a.now z Covariant c.args.a.now))) (sym is)
-    (right_step r.infcx.ghost_name r.goals.items type_var tt s d grown r.param_env (c.requires.env_known, c.requires.goals_known) sound
-    (g.met.Infcx.InferCtxtLike.numbers r.infcx.now c.requires.lawful) h.grows.lawful
+    (as_solving r.infcx.ghost_name r.goals.items s.store d.store s.lawful d.lawful r.ambient_variance r.param_env grown
+    (c.requires.env_known, c.requires.goals_known) (λ q. Stepped solver_manner IsFormed
+    (solving_through r.infcx.ghost_name r.goals.items s r.ambient_variance r.param_env) q t (leaf (variable type_var c.in-Some-ty_var-2.y.0)) (d.meaning).ty
+    (Ok (Again c.args.a.now c.args.b.now c.args.a.now z Covariant c.args.a.now))) (right_step (solving_through r.infcx.ghost_name r.goals.items s r.ambient_variance r.param_env)
+    (s.lawful × KnowsGoals s.meaning r.param_env r.goals.items) (d.lawful × KnowsGoals d.meaning r.param_env r.goals.items)
+    (still_lawful r.infcx.ghost_name r.goals.items r.param_env grown
+    (c.requires.env_known, c.requires.goals_known) h.grows.lawful) type_var tt s d grown sound
+    (g.met.Infcx.InferCtxtLike.numbers r.infcx.now c.requires.lawful)
     (g.met.Infcx.InferCtxtLike.covered q h.grows.lawful) c.in-Some-ty_var-2.y.0 t ((d.meaning).ty z) k.left_taken.1
     k.left_in k.left_known (ty_sorted of c.args.a.now (g.met.Infcx.Interner.Interner.is_ty cx c.args.a.now) k.left_known)
-    r.ambient_variance c.xform-variance.result h.instantiates.0 h.instantiates.1 IsFormed c.args.a.now c.args.b.now
+    c.xform-variance.result h.instantiates.0 h.instantiates.1 IsFormed c.args.a.now c.args.b.now
     c.args.a.now z c.args.a.now (d.meaning).ty t_stays root_stays t_stays refl
-    (inr t_stays))
+    (inr t_stays)))
 
 pub instantiate_ty_var_raw-requires-clause-source_covered : goal.instantiate_ty_var_raw-requires-clause-source_covered
 instantiate_ty_var_raw-requires-clause-source_covered g c = c.requires.asked.right_taken.1
@@ -174,3 +196,7 @@ instantiate_ty_var_raw-requires-in-Some-ty_var-2-clause-source_covered g c = c.r
 pub instantiate_ty_var_raw-requires-in-Some-ty_var-2-clause-decides : goal.instantiate_ty_var_raw-requires-in-Some-ty_var-2-clause-decides
 instantiate_ty_var_raw-requires-in-Some-ty_var-2-clause-decides g c =
     decides_back c.args.self.now.ambient_variance c.xform-variance.result c.requires.decides c.xform-variance.ensures
+
+pub returns-in-None-ty_var-2 : goal.returns-in-None-ty_var-2
+returns-in-None-ty_var-2 g c =
+    c.super_combine_tys.ensures.stepped c.in-None.ensures.is_none c.in-None-ty_var-2.ensures.is_none

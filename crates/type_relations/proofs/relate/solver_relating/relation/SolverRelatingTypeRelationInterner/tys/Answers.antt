@@ -4,7 +4,8 @@ use Rattle.type_relations.specs.Parts.{IsFormed}
 use Rattle.type_relations.specs.Solving.{solving_through, solver_manner}
 use Rattle.type_relations.proofs.StructuralConsts.{itself_related}
 use Rattle.type_relations.proofs.Shallowly.{read_step}
-use Rattle.type_relations.proofs.Solving.{answered_step, all_taken, read_covered, one_ty, parts_step}
+use Rattle.type_relations.proofs.OverContext.{all_taken, parts_step, read_covered}
+use Rattle.type_relations.proofs.Solving.{answered_step, one_ty}
 use Rattle.type_relations.proofs.relate.solver_relating.relation.SolverRelatingTypeRelationInterner.tys.Goals as goal
 
 pub returns-then-eq : goal.returns-then-eq
@@ -63,7 +64,8 @@ returns-then-have_no_variable g c =
     let s = g.Infcx.InferCtxtLike.state r.infcx.now in
     let k = c.requires.asked in
     let none = c.have_no_variable.ensures in
-    parts_step r.infcx.ghost_name r.goals.items s.meaning s.store s.lawful r.ambient_variance r.param_env IsFormed
+    let z = solving_through r.infcx.ghost_name r.goals.items s r.ambient_variance r.param_env in
+    parts_step z s.meaning s.store z.lawful z.lawful (λ l. l) IsFormed
     ((s.meaning).ty c.args.a.now) ((s.meaning).ty c.args.b.now) (s.meaning).ty c.args.a.now c.args.b.now
     (g.met.Infcx.InferCtxtLike.sound r.infcx.now c.requires.lawful.0) (itself refl) (itself refl) k
     (none.a_formed c.if-have_no_variable.true k.left_taken.1) (none.b_formed c.if-have_no_variable.true k.right_taken.1)

@@ -1,0 +1,250 @@
+-- What comes of two types and two constants before their parts are related, as a step of a relation over a context.
+use Rattle.std.proofs.Common.{◌≡◌, ◌≢◌, ◌∙◌, ℕ, IsTrue, refl, sym, ap, subst, subst₂, inl, inr, Result, Ok}
+use Rattle.relation_terms.specs.declared.terms.enums.Variance.TheVariants.{Invariant, Bivariant}
+use Rattle.relation_terms.specs.declared.terms.keys.TyKey.{TyKey}
+use Rattle.relation_terms.specs.declared.terms.keys.ConstKey.{ConstKey}
+use Rattle.relation_terms.specs.Heads.{type_sort, const_sort, VarKind, int_var, float_var, const_var, variable}
+use Rattle.relation_terms.specs.Trees.{Tree, leaf, IsTerm, apply, known}
+use Rattle.relation_terms.specs.Meaning.{Meaning, Extends}
+use Rattle.relation_tools.specs.declared.error.TypeError.TheVariants.{Sorts, CyclicConst}
+use Rattle.relation_tools.specs.declared.error.RelateFault.{RelateFault}
+use Rattle.relation_tools.specs.declared.error.RelateFault.TheVariants.{Unrelated}
+use Rattle.type_relations.specs.declared.relate.Step.{Step}
+use Rattle.type_relations.specs.declared.relate.Step.TheVariants.{Done, Parts}
+use Rattle.type_relations.specs.Combining.{CombinesTys, equated, left_bound, right_bound, left_unlike, right_unlike, ty_variable, by_parts, IsNoTyVar, seen}
+use Rattle.type_relations.specs.Combining.{CombinesConsts, one_constant, resolved_first, ReadsShallow, CombinesShallow, roots_equated, left_root_bound, left_root_refused, right_root_bound, right_root_refused, formed_by_parts}
+use Rattle.type_relations.specs.Contexts.{Context}
+use Rattle.type_relations.specs.ContextCalls.{HasCoveredBindings}
+use Rattle.type_relations.specs.Emitting.{IsOver, WithContext}
+use Rattle.type_relations.specs.Keyed.{AskedTys, AskedConsts, SteppedTys, SteppedConsts}
+use Rattle.type_relations.specs.NumberVars.{number_kind}
+use Rattle.type_relations.specs.declared.relate.number_vars.NumberVid.{NumberVid}
+use Rattle.type_relations.specs.Errors.{itself}
+use Rattle.type_relations.specs.Generalising.{NumbersNameNothing}
+use Rattle.type_relations.specs.Lawful.{State, Asked, Stepped}
+use Rattle.type_relations.specs.Parts.{IsFormed, IsFormedConst}
+use Rattle.type_relations.specs.Resolving.{IsShallowConst}
+use Rattle.type_relations.specs.Solving.{solver_manner}
+use Rattle.type_relations.specs.Steps.{IsLater, IsNumberKind}
+use Rattle.type_relations.specs.Stores.{Store, IsSound, IsMade, unbound, entry_of, resolved}
+use Rattle.type_relations.proofs.Binding.{no_region}
+use Rattle.type_relations.proofs.Going.{goes_nowhere, later_itself}
+use Rattle.type_relations.proofs.GeneralisingErrors.{const_cycle_error}
+use Rattle.type_relations.proofs.NumberVars.{is_number, type_formed}
+use Rattle.type_relations.proofs.Numbers.{IsNumber, number_no_region, number_goes}
+use Rattle.type_relations.proofs.OverContext.{carried, over_it, standing, all_taken, read_covered, one_step, roots_step, number_step, number_step_back, left_apart, right_apart, parts_step}
+use Rattle.type_relations.proofs.Roots.{roots_goes, exact_itself}
+use Rattle.type_relations.proofs.Shallowly.{read_step, shallow_free_const, variable_made}
+use Rattle.type_relations.proofs.SolvingVariables.{const_left_step, const_right_step, left_refused, right_refused, const_comes_to_none}
+use Rattle.type_relations.proofs.Standing.{term_context}
+
+of_numbers : (k : VarKind) → IsNumberKind k → IsNumber k
+of_numbers int_var h = tt
+of_numbers float_var h = tt
+of_numbers k h = absurd h
+
+module _ {Key Id Name : Type 0} where
+  -- Of two types what is recorded afterwards is later.
+  pub combined_later : (m : Meaning Key Id Name) (was now : Store) (a b : TyKey Key)
+      (result : Result (Step (TyKey Key)) (RelateFault Key Id Name)) → IsSound was → CombinesTys m was now a b result →
+      IsLater was now
+  combined_later m was now a b result sound (equated k i j o p q joins is) =
+      (roots_goes was now k (number_no_region k (of_numbers k o)) i j sound joins.same joins.equates 0).later
+  combined_later m was now a b result sound (left_bound k i p binds is) = (number_goes was now k i (m.ty b) binds sound 0).later
+  combined_later m was now a b result sound (right_bound k i p binds is) = (number_goes was now k i (m.ty a) binds sound 0).later
+  combined_later m was now a b result sound (left_unlike u stays is) = subst (IsLater was) (sym stays) (later_itself was)
+  combined_later m was now a b result sound (right_unlike u stays is) = subst (IsLater was) (sym stays) (later_itself was)
+  combined_later m was now a b result sound (ty_variable u stays is) = subst (IsLater was) (sym stays) (later_itself was)
+  combined_later m was now a b result sound (by_parts o p stays is) = subst (IsLater was) (sym stays) (later_itself was)
+
+  module _ (r : State Key Id Name) (decides : r.ambient ≢ Bivariant) (m n : Meaning Key Id Name) (was now : Store)
+      (L K : Type 0) (l : L → K) (sound : IsSound was) where
+    -- Of two types of which none is a type variable a step was taken.
+    pub combined_tys : n ≡ m → (a b : TyKey Key) (result : Result (Step (TyKey Key)) (RelateFault Key Id Name)) →
+        Asked solver_manner (standing r m was L) r.ambient (m.ty a) (m.ty b) → IsTerm type_sort (m.ty a) →
+        IsTerm type_sort (m.ty b) → IsNoTyVar (m.ty a) → IsNoTyVar (m.ty b) → CombinesTys m was now a b result →
+        Stepped solver_manner IsFormed (standing r m was L) (standing r n now K) (m.ty a) (m.ty b) n.ty result
+    combined_tys same a b result asked s t o p (equated k i j number x y joins is) =
+        subst (Stepped solver_manner IsFormed (standing r m was L) (standing r n now K) (m.ty a) (m.ty b) n.ty) (sym is)
+        (roots_step r IsFormed m n was now L K k (number_no_region k (of_numbers k number)) i j (m.ty a) (m.ty b) n.ty a same
+        sound l joins.same joins.equates x y (ap (λ z. z.ty a) same))
+    combined_tys same a b result asked s t o p (left_bound k i x binds is) =
+        subst (Stepped solver_manner IsFormed (standing r m was L) (standing r n now K) (m.ty a) (m.ty b) n.ty) (sym is)
+        (number_step r IsFormed m n was now L K k i (m.ty a) (m.ty b) n.ty b same sound l binds x (ap (λ z. z.ty b) same)
+        asked.right_known)
+    combined_tys same a b result asked s t o p (right_bound k i x binds is) =
+        subst (Stepped solver_manner IsFormed (standing r m was L) (standing r n now K) (m.ty a) (m.ty b) n.ty) (sym is)
+        (number_step_back r IsFormed m n was now L K k i (m.ty a) (m.ty b) n.ty a same sound l binds x
+        (ap (λ z. z.ty a) same) asked.left_known)
+    combined_tys same a b result asked s t o p (left_unlike u stays is) =
+        subst (Stepped solver_manner IsFormed (standing r m was L) (standing r n now K) (m.ty a) (m.ty b) n.ty) (sym is)
+        (left_apart r IsFormed m n was now L K decides a b n.ty (Unrelated (Sorts (record { expected = a; found = b })))
+        same stays l refl u.kind (of_numbers u.kind u.of_numbers) u.number
+        (variable_made was u.kind u.number (m.ty a) u.is asked.left_in) asked.left_known asked.right_known u.is t
+        asked.right_taken.1 p (term_context was (m.ty b) asked.right_in) u.unlike)
+    combined_tys same a b result asked s t o p (right_unlike u stays is) =
+        subst (Stepped solver_manner IsFormed (standing r m was L) (standing r n now K) (m.ty a) (m.ty b) n.ty) (sym is)
+        (right_apart r IsFormed m n was now L K decides a b n.ty (Unrelated (Sorts (record { expected = a; found = b })))
+        same stays l refl u.kind (of_numbers u.kind u.of_numbers) u.number
+        (variable_made was u.kind u.number (m.ty b) u.is asked.right_in) asked.left_known asked.right_known u.is s
+        asked.left_taken.1 o (term_context was (m.ty a) asked.left_in) u.unlike)
+    combined_tys same a b result asked s t o p (ty_variable (inl u) stays is) = absurd (o u.0 u.1)
+    combined_tys same a b result asked s t o p (ty_variable (inr u) stays is) = absurd (p u.0 u.1)
+    combined_tys same a b result asked s t o p (by_parts x y stays is) =
+        subst (Stepped solver_manner IsFormed (standing r m was L) (standing r n now K) (m.ty a) (m.ty b) n.ty) (sym is)
+        (subst₂ (λ z st. Stepped solver_manner IsFormed (standing r m was L) (standing r z st K) (m.ty a) (m.ty b) z.ty
+        (Ok (Parts a b))) (sym same) (sym stays)
+        (parts_step r m was L K l IsFormed (m.ty a) (m.ty b) m.ty a b sound (itself refl) (itself refl) asked
+        (type_formed (m.ty a) s asked.left_taken.1 x.0 x.1.0 x.1.1)
+        (type_formed (m.ty b) t asked.right_taken.1 y.0 y.1.0 y.1.1)))
+
+    module _ (grown : Extends m n) (numbers : NumbersNameNothing was) (all : HasCoveredBindings now) (a b : ConstKey Key)
+        (asked : Asked solver_manner (standing r m was L) r.ambient (m.const_ a) (m.const_ b))
+        (s : IsTerm const_sort (m.const_ a)) (t : IsTerm const_sort (m.const_ b))
+        (a_shallow : IsShallowConst was (m.const_ a)) (b_shallow : IsShallowConst was (m.const_ b)) where
+      abbrev Steps : Tree → Tree → Result (Step (ConstKey Key)) (RelateFault Key Id Name) → Type 0
+      Steps x y result =
+          Stepped solver_manner IsFormedConst (standing r m was L) (standing r n now K) x y n.const_ result
+
+      a_stays : n.const_ a ≡ m.const_ a
+      a_stays = grown.const_ a asked.left_known
+
+      b_stays : n.const_ b ≡ m.const_ b
+      b_stays = grown.const_ b asked.right_known
+
+      a_free : (i : ℕ) → m.const_ a ≡ leaf (variable const_var i) →
+          IsMade was const_var i × (entry_of was const_var i ≡ unbound)
+      a_free i p = (variable_made was const_var i (m.const_ a) p asked.left_in, shallow_free_const was i (m.const_ a) p a_shallow)
+
+      b_free : (i : ℕ) → m.const_ b ≡ leaf (variable const_var i) →
+          IsMade was const_var i × (entry_of was const_var i ≡ unbound)
+      b_free i p = (variable_made was const_var i (m.const_ b) p asked.right_in, shallow_free_const was i (m.const_ b) p b_shallow)
+
+      a_none : IsFormedConst (m.const_ a) → (i : ℕ) → apply (resolved was) (m.const_ a) ≢ leaf (variable const_var i)
+      a_none f i = const_comes_to_none was (m.const_ a) i a_shallow (λ k e. subst IsFormedConst e f)
+
+      b_none : IsFormedConst (m.const_ b) → (i : ℕ) → apply (resolved was) (m.const_ b) ≢ leaf (variable const_var i)
+      b_none f i = const_comes_to_none was (m.const_ b) i b_shallow (λ k e. subst IsFormedConst e f)
+
+      -- Of two constants a step was taken.
+      pub combined_shallow : (result : Result (Step (ConstKey Key)) (RelateFault Key Id Name)) →
+          CombinesShallow m n was now a b result → Steps (m.const_ a) (m.const_ b) result
+      combined_shallow result (roots_equated i j x y joins same is) = subst (Steps (m.const_ a) (m.const_ b)) (sym is)
+          (roots_step r IsFormedConst m n was now L K const_var (no_region const_var tt) i j (m.const_ a) (m.const_ b)
+          n.const_ a same sound l joins.same joins.equates x y a_stays)
+      combined_shallow result (left_root_bound i x p f binds is) =
+          subst₂ (λ z. Steps z (m.const_ b)) (sym p) (sym is)
+          (const_left_step r L K l const_var tt (seen m was) (seen n now) grown sound numbers all i (m.const_ b) (n.const_ x)
+          asked.right_taken.1 asked.right_in asked.right_known t Invariant binds.0 binds.1 IsFormedConst a b x b b n.const_
+          refl decides (a_stays ∙ p) b_stays refl b_stays (inr b_stays))
+      combined_shallow result (left_root_refused i f p o binds is) =
+          subst₂ (λ z. Steps z (m.const_ b)) (sym p) (sym is)
+          (left_refused r L K l IsFormedConst (seen m was) (seen n now) grown decides sound const_var tt i (m.const_ b)
+          (a_free i p) (b_none o i) (λ m. m.const_) CyclicConst Invariant n.const_
+          (λ k z h x. const_cycle_error n was now i (m.const_ b) sound k z h (b_none o i) x) f binds)
+      combined_shallow result (right_root_bound i x p f binds is) =
+          subst₂ (λ z. Steps (m.const_ a) z) (sym p) (sym is)
+          (const_right_step r L K l const_var tt (seen m was) (seen n now) grown sound numbers all i (m.const_ a) (n.const_ x)
+          asked.left_taken.1 asked.left_in asked.left_known s Invariant binds.0 binds.1 IsFormedConst a b a x a n.const_
+          refl decides a_stays (b_stays ∙ p) a_stays refl (inr a_stays))
+      combined_shallow result (right_root_refused i f p o binds is) =
+          subst₂ (λ z. Steps (m.const_ a) z) (sym p) (sym is)
+          (right_refused r L K l IsFormedConst (seen m was) (seen n now) grown decides sound const_var tt i (m.const_ a)
+          (b_free i p) (a_none o i) (λ m. m.const_) CyclicConst Invariant n.const_
+          (λ k z h x. const_cycle_error n was now i (m.const_ a) sound k z h (a_none o i) x) f binds)
+      combined_shallow result (formed_by_parts f h same stays is) = subst (Steps (m.const_ a) (m.const_ b)) (sym is)
+          (subst₂ (λ z st. Stepped solver_manner IsFormedConst (standing r m was L) (standing r z st K) (m.const_ a)
+          (m.const_ b) z.const_ (Ok (Parts a b))) (sym same) (sym stays)
+          (parts_step r m was L K l IsFormedConst (m.const_ a) (m.const_ b) m.const_ a b sound (itself refl) (itself refl)
+          asked f h))
+
+    module _ (grown : Extends m n) (numbers : NumbersNameNothing was) (covered : HasCoveredBindings was)
+        (all : HasCoveredBindings now) (a b : ConstKey Key)
+        (asked : Asked solver_manner (standing r m was L) r.ambient (m.const_ a) (m.const_ b))
+        (sorted : (k : ConstKey Key) → IsTrue (known (m.const_ k)) → IsTerm const_sort (m.const_ k)) where
+      read_asked : (x y : ConstKey Key) → ReadsShallow m n was now a x → ReadsShallow m n was now b y →
+          Asked solver_manner (standing r m was L) r.ambient (m.const_ x) (m.const_ y)
+      read_asked x y f h = record {
+        left_known = (f.reads).sure;
+        right_known = (h.reads).sure;
+        left_in = ((f.reads).resolves).is_in asked.left_in;
+        right_in = ((h.reads).resolves).is_in asked.right_in;
+        left_taken = all_taken r.ambient (m.const_ x)
+            (read_covered was covered (m.const_ a) (m.const_ x) (f.reads).reads asked.left_taken.1);
+        right_taken = all_taken r.ambient (m.const_ y)
+            (read_covered was covered (m.const_ b) (m.const_ y) (h.reads).reads asked.right_taken.1);
+      }
+
+      -- Of two constants, resolved or not, a step was taken.
+      pub combined_consts : (result : Result (Step (ConstKey Key)) (RelateFault Key Id Name)) →
+          CombinesConsts m n was now a b result → Stepped solver_manner IsFormedConst (standing r m was L)
+          (standing r n now K) (m.const_ a) (m.const_ b) n.const_ result
+      combined_consts result (one_constant e same stays is) =
+          subst (Stepped solver_manner IsFormedConst (standing r m was L) (standing r n now K) (m.const_ a) (m.const_ b)
+          n.const_) (sym is) (subst₂ (λ z st. Stepped solver_manner IsFormedConst (standing r m was L) (standing r z st K)
+          (m.const_ a) (m.const_ b) z.const_ (Ok (Done a))) (sym same) (sym stays)
+          (one_step r IsFormedConst m m was was L K (m.const_ a) (m.const_ b) m.const_ a refl (goes_nowhere _ was) l
+          (λ w s sat. ap (apply s) e) (λ w s sat h. sat)
+          (λ h. (h, exact_itself was (m.const_ a) (m.const_ b) e)) (inl refl) asked.left_known))
+      combined_consts result (resolved_first x y differ f h combines) =
+          let k = read_asked x y f h in
+          read_step (standing r m was L) (standing r n now K) sound (m.const_ a) (m.const_ b) (m.const_ x) (m.const_ y)
+          (f.reads).reads (h.reads).reads IsFormedConst n.const_ result
+          (combined_shallow grown numbers all x y k (sorted x k.left_known) (sorted y k.right_known) f.shallow h.shallow
+          result combines)
+
+is_number_kind_of : (k : VarKind) → IsNumber k → IsNumberKind k
+is_number_kind_of int_var h = tt
+is_number_kind_of float_var h = tt
+is_number_kind_of k h = absurd h
+
+pub is_number_kind : (v : NumberVid) → IsNumberKind (number_kind v)
+is_number_kind v = is_number_kind_of (number_kind v) (is_number v)
+
+-- What is recorded after the step is later.
+pub consts_later : {Key Id Name : Type 0} (r : State Key Id Name) (c d : Context Key Id Name) (o : IsOver r c) →
+    r.ambient ≢ Bivariant → IsSound c.store → Extends c.meaning d.meaning → NumbersNameNothing c.store →
+    HasCoveredBindings c.store → HasCoveredBindings d.store → (a b : ConstKey Key)
+    (result : Result (Step (ConstKey Key)) (RelateFault Key Id Name)) → AskedConsts solver_manner r a b →
+    ((k : ConstKey Key) → IsTrue (known ((c.meaning).const_ k)) → IsTerm const_sort ((c.meaning).const_ k)) →
+    CombinesConsts c.meaning d.meaning c.store d.store a b result → IsLater c.store d.store
+consts_later r c d o decides sound grown numbers covered all a b result asked f combines =
+    (((combined_consts r decides c.meaning d.meaning c.store d.store r.lawful r.lawful (λ l. l) sound grown numbers covered all
+    a b (over_it o (λ z. AskedConsts solver_manner z a b) asked) f result combines).passes).goes).later
+
+-- The same over a relation that has recorded what a context has, where the context after it took its place.
+module _ {Key Id Name : Type 0} (r q : State Key Id Name) (c d : Context Key Id Name) (o : IsOver r c)
+    (w : WithContext r d q) where
+  module _ (decides : r.ambient ≢ Bivariant) (sound : IsSound c.store) where
+    pub types_stepped : d.meaning ≡ c.meaning → (a b : TyKey Key)
+        (result : Result (Step (TyKey Key)) (RelateFault Key Id Name)) → AskedTys solver_manner r a b →
+        (IsTrue (known ((c.meaning).ty a)) → IsTerm type_sort ((c.meaning).ty a)) →
+        (IsTrue (known ((c.meaning).ty b)) → IsTerm type_sort ((c.meaning).ty b)) → IsNoTyVar ((r.meaning).ty a) →
+        IsNoTyVar ((r.meaning).ty b) → CombinesTys c.meaning c.store d.store a b result →
+        SteppedTys solver_manner r q a b result
+    types_stepped same a b result asked f h x y combines =
+        let k = over_it o (λ z. AskedTys solver_manner z a b) asked in
+        carried o w (λ z u. SteppedTys solver_manner z u a b result)
+        (combined_tys r decides c.meaning d.meaning c.store d.store r.lawful q.lawful w.lawful sound same a b result k
+        (f k.left_known) (h k.right_known) (subst (λ m. IsNoTyVar (m.ty a)) o.meaning x)
+        (subst (λ m. IsNoTyVar (m.ty b)) o.meaning y) combines)
+
+    pub consts_stepped : Extends c.meaning d.meaning → NumbersNameNothing c.store → HasCoveredBindings c.store →
+        HasCoveredBindings d.store → (a b : ConstKey Key) (result : Result (Step (ConstKey Key)) (RelateFault Key Id Name)) →
+        AskedConsts solver_manner r a b →
+        ((k : ConstKey Key) → IsTrue (known ((c.meaning).const_ k)) → IsTerm const_sort ((c.meaning).const_ k)) →
+        CombinesConsts c.meaning d.meaning c.store d.store a b result → SteppedConsts solver_manner r q a b result
+    consts_stepped grown numbers was_covered all a b result asked f combines =
+        carried o w (λ z u. SteppedConsts solver_manner z u a b result)
+        (combined_consts r decides c.meaning d.meaning c.store d.store r.lawful q.lawful w.lawful sound grown numbers
+        was_covered all a b (over_it o (λ z. AskedConsts solver_manner z a b) asked) f result combines)
+
+  pub types_combined : (a b : TyKey Key) (result : Result (Step (TyKey Key)) (RelateFault Key Id Name)) →
+      CombinesTys c.meaning c.store d.store a b result → CombinesTys r.meaning r.store q.store a b result
+  types_combined a b result h = carried o w (λ z u. CombinesTys z.meaning z.store u.store a b result) h
+
+  pub consts_combined : (a b : ConstKey Key) (result : Result (Step (ConstKey Key)) (RelateFault Key Id Name)) →
+      CombinesConsts c.meaning d.meaning c.store d.store a b result →
+      CombinesConsts r.meaning q.meaning r.store q.store a b result
+  consts_combined a b result h =
+      carried o w (λ z u. CombinesConsts z.meaning u.meaning z.store u.store a b result) h
