@@ -14,19 +14,12 @@ impl<I: Interner> InferCtxtLike for RefCtxt<I> {
     ghost use Rattle.std.specs.Prelude.{refl};
     ghost use Rattle.relation_reference.specs.Tables.{covered_bindings};
     ghost use Rattle.relation_reference.specs.RefCtxt.{context_in};
-    ghost use Rattle.relation_reference.specs.SubRoots.{root_in};
 
     ghost state = { λ c. context_in I.meaning c };
 
     ghost interner = { λ c. c.interner };
 
     ghost with_interner = { λ c cx. record c { interner = cx } };
-
-    ghost is_next_solver = { λ c. c.inner.next_solver };
-
-    ghost outliving = { λ c. c.inner.ty_outlives.items };
-
-    ghost sub_root = { λ c. root_in c.inner.sub_roots.items };
 
     fn cx(&self) -> &I {
         &self.interner

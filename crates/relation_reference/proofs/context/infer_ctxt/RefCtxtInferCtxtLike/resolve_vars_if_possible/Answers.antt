@@ -1,6 +1,6 @@
 use Rattle.type_relations.proofs.Standing.{term_context}
 use Rattle.relation_reference.specs.Tables.{store_of}
-use Rattle.relation_reference.proofs.Comes.{same_record, grows, comes}
+use Rattle.relation_reference.proofs.Comes.{same_record, grows, comes, rest}
 use Rattle.relation_reference.proofs.context.infer_ctxt.RefCtxtInferCtxtLike.resolve_vars_if_possible.Goals as goal
 
 pub resolve_vars_if_possible-requires-clause-ty_in : goal.resolve_vars_if_possible-requires-clause-ty_in
@@ -17,4 +17,5 @@ returns g c =
       grows = grows g.I.Interner.meaning p q done.grown done.inner c.requires.lawful;
       same_record = same_record g.I.Interner.meaning p q done.grown done.inner c.requires.lawful;
       comes = comes g.I.Interner.meaning p q (λ m. m.ty) c.args.ty.now c.resolve_vars_if_possible.result done.sure done.resolves;
+      rest = rest g.I.Interner.meaning p q done.inner;
     }

@@ -12,6 +12,8 @@ use Rattle.type_relations.proofs.Passing.{as_err}
 use Rattle.type_relations.proofs.Standing.{term_context}
 use Rattle.relation_reference.specs.declared.context.inner.InferCtxtInner.{InferCtxtInner}
 use Rattle.relation_reference.specs.Tables.{store_of}
+use Rattle.relation_reference.proofs.Comes.{same_record}
+use Rattle.relation_reference.proofs.Marking.{marks_none, marks_grow, marks_bound}
 use Rattle.relation_reference.proofs.Beside.{consts_beside}
 use Rattle.relation_reference.proofs.Instantiating.{resolved_lawful, universe_read, out_of_memory, source_context, source_covered, left_still, made_still, stopped, generalised_here, by_rules, bound_lawful, const_may}
 use Rattle.relation_reference.proofs.Writing.{bound_entries, table_made, table_of_entries}
@@ -26,6 +28,14 @@ pub returns-in_err-resolved-clause-grows : goal.returns-in_err-resolved-clause-g
 returns-in_err-resolved-clause-grows g c =
     let r = c.resolve_const_vars_if_possible.ensures in
     record { extends = r.grown; lawful = resolved_lawful r.grown c.args.self.now.inner c.resolve_const_vars_if_possible.new.self.inner r.inner c.requires.lawful }
+
+pub returns-in_err-resolved-clause-rest : goal.returns-in_err-resolved-clause-rest
+returns-in_err-resolved-clause-rest g c =
+    let meaning = g.I.Interner.meaning in
+    let r = c.resolve_const_vars_if_possible.ensures in
+    let p = c.args.self.now in
+    let w = c.resolve_const_vars_if_possible.new.self in
+    marks_grow meaning p p w r.inner (same_record meaning p w r.grown r.inner c.requires.lawful) (marks_none meaning p c.requires.lawful)
 
 pub returns-in_err-resolved-clause-instantiates : goal.returns-in_err-resolved-clause-instantiates
 returns-in_err-resolved-clause-instantiates g c =
@@ -63,6 +73,12 @@ generalise-requires-clause-source_covered g c =
 pub returns-in_err-part-clause-grows : goal.returns-in_err-part-clause-grows
 returns-in_err-part-clause-grows g c =
     record { extends = extends_on c.resolve_const_vars_if_possible.ensures.grown c.in_err-part.ensures.grown; lawful = c.in_err-part.ensures.lawful }
+
+pub returns-in_err-part-clause-rest : goal.returns-in_err-part-clause-rest
+returns-in_err-part-clause-rest g c =
+    let r = c.resolve_const_vars_if_possible.ensures in
+    marks_bound g.I.Interner.meaning c.args.self.now c.resolve_const_vars_if_possible.new.self c.generalise.new.self c.generalise.new.self
+    r.grown r.inner c.requires.lawful refl refl refl (λ n h. h) c.in_err-part.ensures.rest
 
 pub returns-in_err-part-clause-instantiates : goal.returns-in_err-part-clause-instantiates
 returns-in_err-part-clause-instantiates g c =
@@ -156,4 +172,7 @@ returns g c =
     record {
       grows = record { extends = extends_on r.grown e.grown; lawful = bound_lawful o r.grown x w z r.inner l const_var i u universe e.makes y (o.const_ b) full tt Invariant t made c.requires.target_unbound e.lawful beside keys entries c.bind.ensures.universes left comes gen c.requires.source_in sorted may };
       instantiates = (sure, by_rules o r.grown x w z r.inner l const_var i u universe e.makes y (o.const_ b) full tt Invariant t made c.requires.target_unbound e.lawful beside keys entries c.bind.ensures.universes left comes gen c.requires.source_in sorted);
+      rest = marks_bound g.I.Interner.meaning c.args.self.now c.resolve_const_vars_if_possible.new.self c.generalise.new.self
+          (record { interner = c.generalise.new.self.interner; inner = y }) r.grown r.inner l refl refl refl
+          (λ j h. h) e.rest;
     }

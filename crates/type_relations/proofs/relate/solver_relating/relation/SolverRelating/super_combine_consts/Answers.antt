@@ -59,7 +59,7 @@ returns-in-Some-const_var g c =
     let s = g.Infcx.InferCtxtLike.state r.infcx.now in
     let sound = g.met.Infcx.InferCtxtLike.sound r.infcx.now c.requires.lawful in
     let d = g.Infcx.InferCtxtLike.state c.equate_const_vids_raw.new.self in
-    let done = c.equate_const_vids_raw.ensures in
+    let done = c.equate_const_vids_raw.ensures.equates in
     roots_step r.infcx.ghost_name r.goals.items IsFormedConst s.meaning d.meaning s.store d.store s.lawful d.lawful r.ambient_variance r.param_env
     const_var (no_region const_var tt) c.in-Some.x.0 c.in-Some-const_var.y.0 ((s.meaning).const_ c.args.a.now) ((s.meaning).const_ c.args.b.now)
     (d.meaning).const_ c.args.a.now done.stands.meaning (c.requires.env_known, c.requires.goals_known) sound done.stands.lawful done.same done.equates
