@@ -201,7 +201,7 @@ fn resolves_const<C: InferCtxtLike>(ctx: &mut C, name: NameOf<C>) -> Result<bool
 {
     let constant = make_param(ctx, name)?;
     let read = ctx.shallow_resolve_const(&constant);
-    let resolved = ctx.resolve_const_vars_if_possible(&constant)?;
+    let resolved = ctx.resolve_vars_if_possible(&constant)?;
     Ok(read == constant && resolved == constant)
 }
 

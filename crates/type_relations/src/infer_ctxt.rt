@@ -1,14 +1,14 @@
 //! Inference contexts, by what each of their calls does.
-ghost use Rattle.std.specs.Prelude.{◌≡◌, ◌≢◌, ℕ};
+ghost use Rattle.std.specs.Prelude.{◌≡◌, ◌≢◌, ℕ, IsTrue};
 ghost use Rattle.std.specs.Borrow.{sem, Lends};
 ghost use Rattle.relation_terms.specs.declared.terms.enums.Variance.TheVariants.{Invariant, Bivariant};
 ghost use Rattle.relation_terms.specs.declared.terms.ty_kind.IntVarValue.TheVariants.{Unknown};
 ghost use Rattle.relation_terms.specs.declared.terms.ty_kind.FloatVarValue.TheVariants.{Unknown as UnknownFloat};
 ghost use Rattle.relation_terms.specs.Heads.{type_var, int_var, float_var, const_var, region_var, variable};
 ghost use Rattle.relation_terms.specs.Meaning.{Extends};
-ghost use Rattle.relation_terms.specs.Trees.{leaf};
+ghost use Rattle.relation_terms.specs.Trees.{leaf, known};
 ghost use Rattle.relation_tools.specs.declared.error.TypeError.TheVariants.{CyclicTy, CyclicConst};
-ghost use Rattle.type_relations.specs.Stores.{IsSound, IsMade, equal_constraint, outlives_constraint};
+ghost use Rattle.type_relations.specs.Stores.{IsSound, IsMade, IsTermIn, equal_constraint, outlives_constraint};
 ghost use Rattle.type_relations.specs.Contexts.{Context, KnowsTy, KnowsConst, HasTy, HasConst, HasRegion};
 ghost use Rattle.type_relations.specs.Covered.{IsCovered};
 ghost use Rattle.type_relations.specs.Generalising.{NumbersNameNothing};
@@ -25,6 +25,7 @@ use relation_terms::terms::{
     RegionVid, Span, Ty, TyVid, UniverseIndex, Variance,
 };
 use relation_tools::error::RelateResult;
+use relation_tools::fold::TypeFoldable;
 
 /// Whether a constraint on regions is seen where placeholders are checked for leaks. No answer of relating looks at it.
 #[derive(Clone, Copy, PartialEq, Eq)]
@@ -170,31 +171,18 @@ pub trait InferCtxtLike {
         ensures reads { let c = state self.now in Reads c ((c.meaning).const_ ct.now) ((c.meaning).const_ result) }
         ensures shallow { let c = state self.now in IsShallowConst c.store ((c.meaning).const_ result) };
 
-    /// The type with each variable that has a term replaced by it, at every depth, and each other by its root. Nothing
-    /// is recorded.
-    fn resolve_vars_if_possible(
+    /// What is handed in with each variable that has a term replaced by it, at every depth, and each other by its root.
+    /// Nothing is recorded.
+    fn resolve_vars_if_possible<T: TypeFoldable<Self::Interner>>(
         &mut self,
-        ty: &Ty<Self::Interner>,
-    ) -> Result<Ty<Self::Interner>, OutOfMemory>
+        value: &T,
+    ) -> Result<T, OutOfMemory>
         requires lawful { (state self.old).lawful }
-        requires ty_known { KnowsTy (state self.old) ty.now }
-        requires ty_in { HasTy (state self.old) ty.now }
+        requires value_known { IsTrue (known (T.tree (state self.old).meaning value.now)) }
+        requires value_in { IsTermIn (state self.old).store (T.tree (state self.old).meaning value.now) }
         ensures grows { Grows (state self.old) (state self.new) }
         ensures same_record { (state self.new).store ≡ (state self.old).store }
-        ensures comes { ComesTo (state self.old) (state self.new) (λ m. m.ty) ty.now result }
-        ensures rest { KeepsRest (state self.old) (state self.new) };
-
-    /// The same of a constant.
-    fn resolve_const_vars_if_possible(
-        &mut self,
-        ct: &Const<Self::Interner>,
-    ) -> Result<Const<Self::Interner>, OutOfMemory>
-        requires lawful { (state self.old).lawful }
-        requires ct_known { KnowsConst (state self.old) ct.now }
-        requires ct_in { HasConst (state self.old) ct.now }
-        ensures grows { Grows (state self.old) (state self.new) }
-        ensures same_record { (state self.new).store ≡ (state self.old).store }
-        ensures comes { ComesTo (state self.old) (state self.new) (λ m. m.const_) ct.now result }
+        ensures comes { ComesTo (state self.old) (state self.new) T.tree value.now result }
         ensures rest { KeepsRest (state self.old) (state self.new) };
 
     /// A new type variable in the current universe, which is marked as related to no other. After `OutOfMemory` no

@@ -5,6 +5,7 @@ use relation_terms::terms::{
     RegionVid, Span, Ty, TyVid, UniverseIndex, Variance,
 };
 use relation_tools::error::RelateResult;
+use relation_tools::fold::TypeFoldable;
 use type_relations::infer_ctxt::{InferCtxtLike, VisibleForLeakCheck};
 use type_relations::relate::StructurallyRelateAliases;
 
@@ -95,12 +96,11 @@ impl<I: Interner> InferCtxtLike for RefCtxt<I> {
         self.shallow_resolve_const(ct)
     }
 
-    fn resolve_vars_if_possible(&mut self, ty: &Ty<I>) -> Result<Ty<I>, OutOfMemory> {
-        self.resolve_vars_if_possible(ty)
-    }
-
-    fn resolve_const_vars_if_possible(&mut self, ct: &Const<I>) -> Result<Const<I>, OutOfMemory> {
-        self.resolve_const_vars_if_possible(ct)
+    fn resolve_vars_if_possible<T: TypeFoldable<I>>(
+        &mut self,
+        value: &T,
+    ) -> Result<T, OutOfMemory> {
+        self.resolve_vars_if_possible(value)
     }
 
     fn next_ty_infer(&mut self) -> Result<Ty<I>, OutOfMemory> {

@@ -51,7 +51,7 @@ impl<I: Interner> RefCtxt<I> {
         if self.inner.budget == 0 {
             return Err(RelateFault::Budget);
         }
-        let resolved = self.resolve_vars_if_possible(source)?;
+        let resolved = self.resolve_ty(source)?;
         let goal = Target {
             vid: TermVid::Ty(target),
             universe: self.inner.types[target.0].universe,
@@ -87,7 +87,7 @@ impl<I: Interner> RefCtxt<I> {
         if self.inner.budget == 0 {
             return Err(RelateFault::Budget);
         }
-        let resolved = self.resolve_const_vars_if_possible(source)?;
+        let resolved = self.resolve_const(source)?;
         let goal = Target {
             vid: TermVid::Const(target),
             universe: self.inner.consts[target.0].universe,

@@ -1,18 +1,18 @@
 use Rattle.type_relations.proofs.ReadAs.{read_then, read_resolves}
 use Rattle.relation_reference.specs.Tables.{store_of}
 use Rattle.relation_reference.proofs.Reading.{context_read}
-use Rattle.relation_reference.proofs.context.variables.RefCtxt.shallow_resolve.Goals as goal
+use Rattle.relation_reference.proofs.context.shallow.shallow_resolve.Goals as goal
 
 pub shallow_number-requires-clause-ty_in : goal.shallow_number-requires-clause-ty_in
 shallow_number-requires-clause-ty_in g c =
-    let m = g.I.Interner.meaning c.args.self.now.interner in
-    context_read (store_of m c.args.self.now.inner) c.requires.lawful.sound (m.ty c.args.ty.now) (m.ty c.shallow_ty-found.result)
+    let m = g.I.Interner.meaning c.args.cx.now in
+    context_read (store_of m c.args.inner.now) c.requires.lawful.sound (m.ty c.args.ty.now) (m.ty c.shallow_ty-found.result)
     c.shallow_ty-found.ensures.reads c.requires.ty_in
 
 pub returns : goal.returns
 returns g c =
-    let m = g.I.Interner.meaning c.args.self.now.interner in
-    let st = store_of m c.args.self.now.inner in
+    let m = g.I.Interner.meaning c.args.cx.now in
+    let st = store_of m c.args.inner.now in
     let t = m.ty c.args.ty.now in
     let e = c.shallow_ty-found.ensures in
     let f = c.shallow_number.ensures in

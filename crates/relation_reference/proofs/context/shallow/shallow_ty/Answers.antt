@@ -5,33 +5,33 @@ use Rattle.type_relations.specs.Errors.{itself}
 use Rattle.relation_reference.specs.Tables.{store_of}
 use Rattle.relation_reference.proofs.Reading.{made_in_context, read_for, type_shallow}
 use Rattle.relation_reference.proofs.Writing.{table_of_entries}
-use Rattle.relation_reference.proofs.context.variables.RefCtxt.shallow_ty.Goals as goal
+use Rattle.relation_reference.proofs.context.shallow.shallow_ty.Goals as goal
 
-pub opportunistic_resolve_ty_var-requires-clause-made : goal.opportunistic_resolve_ty_var-requires-clause-made
-opportunistic_resolve_ty_var-requires-clause-made g c =
-    let m = g.I.Interner.meaning c.args.self.now.interner in
-    let x = c.args.self.now.inner in
+pub ty_of_var-requires-clause-made : goal.ty_of_var-requires-clause-made
+ty_of_var-requires-clause-made g c =
+    let m = g.I.Interner.meaning c.args.cx.now in
+    let x = c.args.inner.now in
     table_of_entries m.ty x.types.items _ (made_in_context (store_of m x) type_var (m.ty c.args.ty.now) _
     (c.ty_kind.ensures ∙ ap (kind_tree m) c.in-Some.ensures.is) c.requires.ty_in)
 
 pub returns-in_default : goal.returns-in_default
 returns-in_default g c =
-    let m = g.I.Interner.meaning c.args.self.now.interner in
+    let m = g.I.Interner.meaning c.args.cx.now in
     record {
       sure = c.requires.ty_known;
       reads = itself refl;
-      shallow = type_shallow m c.ty_kind.result (m.ty c.args.ty.now) c.ty_kind.ensures (store_of m c.args.self.now.inner)
+      shallow = type_shallow m c.ty_kind.result (m.ty c.args.ty.now) c.ty_kind.ensures (store_of m c.args.inner.now)
           c.in_default.ensures.is_none;
       covered = λ d. d;
     }
 
 pub returns : goal.returns
 returns g c =
-    let m = g.I.Interner.meaning c.args.self.now.interner in
-    let e = c.opportunistic_resolve_ty_var.ensures in
+    let m = g.I.Interner.meaning c.args.cx.now in
+    let e = c.ty_of_var.ensures in
     record {
       sure = e.sure;
-      reads = read_for (store_of m c.args.self.now.inner) (m.ty c.args.ty.now) (m.ty c.opportunistic_resolve_ty_var.result) _
+      reads = read_for (store_of m c.args.inner.now) (m.ty c.args.ty.now) (m.ty c.ty_of_var.result) _
           (c.ty_kind.ensures ∙ ap (kind_tree m) c.in-Some.ensures.is) e.reads;
       shallow = e.shallow;
       covered = λ d. e.covered;

@@ -8,28 +8,27 @@ use Rattle.relation_reference.specs.Tables.{store_of}
 use Rattle.relation_reference.specs.Remembering.{Remembers}
 use Rattle.relation_reference.proofs.Resolving.{Done}
 use Rattle.relation_reference.proofs.Remembering.{key_eq}
-use Rattle.relation_reference.proofs.context.variables.RefCtxt.+resolve.Given as goal
+use Rattle.relation_reference.proofs.context.resolving.+resolve.Given as goal
 
 abbrev pub decreases-resolve_part : goal.decreases-resolve_part
 decreases-resolve_part g l =
-    let m = g.I.Interner.meaning l.self.now.interner in
-    2 * weight (store_of m l.self.now.inner) (part_tree m l.term.now) + 1
+    let m = g.I.Interner.meaning l.cx.now in
+    2 * weight (store_of m l.inner.now) (part_tree m l.term.now) + 1
 
 abbrev pub decreases-resolve_inside : goal.decreases-resolve_inside
 decreases-resolve_inside g l =
-    let m = g.I.Interner.meaning l.self.now.interner in
-    2 * weight (store_of m l.self.now.inner) (part_tree m l.term.now)
+    let m = g.I.Interner.meaning l.cx.now in
+    2 * weight (store_of m l.inner.now) (part_tree m l.term.now)
 
 abbrev pub invariant-resolve_inside-loop-i : goal.invariant-resolve_inside-loop-i
 invariant-resolve_inside-loop-i g l =
-    let m = g.I.Interner.meaning l.fn.self.interner in
-    let n = g.I.Interner.meaning l.self.interner in
+    let m = g.I.Interner.meaning l.fn.cx in
+    let n = g.I.Interner.meaning l.cx in
     record {
-      inner : l.self.inner ≡ l.fn.self.inner;
       grown : Extends m n;
-      remembers : Remembers g.I.Interner.meaning l.self (key_eq g.I.Key.PartialEq.eq) l.memory;
-      done : Done (resolved (store_of m l.fn.self.inner)) (part_tree n) l.i (parts_of (part_tree m l.term))
+      remembers : Remembers n (store_of n l.inner) (key_eq g.I.Key.PartialEq.eq) l.memory;
+      done : Done (resolved (store_of m l.inner)) (part_tree n) l.i (parts_of (part_tree m l.term))
           l.parts.items;
-      unchanged : IsTrue l.same → apply (resolved (store_of m l.fn.self.inner))
+      unchanged : IsTrue l.same → apply (resolved (store_of m l.inner))
           (firsts l.i (parts_of (part_tree m l.term))) ≡ firsts l.i (parts_of (part_tree m l.term));
     }
