@@ -2,7 +2,7 @@
 use Rattle.std.proofs.Common.{◌≡◌, ◌⊎◌, inl, inr, ℕ, suc, ◌<◌, ◌≤◌, refl, sym, ap, ◌∙◌, arith, subst, length, length-append, ◌∷◌, [], min, Option, Some}
 use native.Mathlib.Decide.{ℕ_discrete}
 use Rattle.std.specs.Global.{Vec}
-use Rattle.relation_terms.specs.Heads.{type_var, Leaf, variable, bound, placeholder, atom, unknown, region_kind, type_kind, const_kind, bound_kind, int_var, float_var, const_var, region_var, static_region, early_region}
+use Rattle.relation_terms.specs.Heads.{VarKind, type_var, Leaf, variable, bound, placeholder, atom, unknown, region_kind, type_kind, const_kind, bound_kind, int_var, float_var, const_var, region_var, static_region, early_region}
 use Rattle.relation_terms.specs.Meaning.{Meaning, Extends}
 use Rattle.type_relations.specs.Contexts.{Context}
 use Rattle.type_relations.specs.ContextCalls.{JoinsRoots, KeepsRest, MarksNew}
@@ -57,6 +57,15 @@ module _ (f mid g : ℕ → ℕ) (below : (n : ℕ) → f n ≤ n) (count of : �
           let low = below n in
           omega (arith, s, low, h, o)
 
+-- A variable that was made is made.
+pub made_new : (before after : Store) (k : VarKind) (n u : ℕ) → MakesVariable before after k n u → IsMade after k n
+made_new before after k n u h =
+    let grew = ap length h.entries_grow in
+    let long = length-append (before.entries k) (unbound ∷ []) in
+    let number = h.number in
+    let done : n < length (after.entries k) = omega (arith, grew, long, number) in
+    done
+
 -- A leaf that gives way to a type variable is one.
 pub gives_type : (l : Leaf) → gives_way_to l ≡ Some type_var → (n : ℕ) × (l ≡ variable type_var n)
 gives_type (variable type_var m) e = (m, refl)
@@ -87,7 +96,7 @@ module _ {I Key Id Name Span : Type 0} (meaning : I → Meaning Key Id Name) whe
         let same : root_in q.inner.sub_roots.items n ≡ root_in p.inner.sub_roots.items n = r.marks n in
         let low : root_in p.inner.sub_roots.items n ≤ n = l.sub_rooted.rooted.below n in
         let done : root_in q.inner.sub_roots.items n < length ((store_in meaning p).entries type_var) =
-            omega (arith, within, same, low, long) in
+        omega (arith, within, same, low, long) in
         done;
   }
 

@@ -1,5 +1,5 @@
 -- What walks through terms remember of the parts that they have met.
-use Rattle.std.specs.Prelude.{◌≡◌, ℕ, Bool, true, false, IsTrue, Option, Some, None, option_map}
+use Rattle.std.specs.Prelude.{◌≡◌, ℕ, Bool, IsTrue, IsFalse, Option, Some, None, option_map}
 use Rattle.std.specs.HashMap.{HashMap, get}
 use Rattle.relation_terms.specs.Heads.{VarKind, type_var, const_var, variable}
 use Rattle.relation_terms.specs.Trees.{Tree, leaf, known, Assign, apply}
@@ -10,7 +10,7 @@ use Rattle.relation_tools.specs.Folds.{part_rank}
 use Rattle.relation_reference.specs.declared.context.memory.PartKey.{PartKey}
 use Rattle.relation_reference.specs.declared.context.memory.TermVid.{TermVid}
 use Rattle.relation_reference.specs.declared.context.memory.TermVid.TheVariants.{Ty, Const}
-use Rattle.type_relations.specs.Stores.{Store, IsMade, InContext, resolved}
+use Rattle.type_relations.specs.Stores.{Store, unbound, entry_of, IsMade, resolved}
 
 -- What a term comes to by what is recorded, at every depth.
 abbrev pub resolved_by : Store → Tree → Tree
@@ -21,11 +21,10 @@ abbrev pub variable_value : Assign → Tree → Option Tree
 variable_value s (leaf (variable k n)) = Some (s k n)
 variable_value s t = None
 
--- A term is no variable; or it is one that is recorded; or one that is not.
-abbrev pub IsFound : Store → Tree → Option Bool → Type 0
-IsFound st t None = (k : VarKind) (n : ℕ) → t ≡ leaf (variable k n) → ⊥
-IsFound st t (Some true) = InContext st t × ((k : VarKind) × (n : ℕ) × (t ≡ leaf (variable k n)))
-IsFound st t (Some false) = (k : VarKind) × (n : ℕ) × (t ≡ leaf (variable k n)) × (IsMade st k n → ⊥)
+-- A term is a variable that is made, or one of which nothing is recorded.
+abbrev pub IsVariable : Store → Tree → Bool → Type 0
+IsVariable st t made = (k : VarKind) × (n : ℕ) × (t ≡ leaf (variable k n)) × (IsTrue made → IsMade st k n) ×
+    (IsFalse made → entry_of st k n ≡ unbound)
 
 -- A part that has a key, as it is looked for.
 abbrev pub key_of : {Key Id : Type 0} → Part Key Id → Option (PartKey Key)

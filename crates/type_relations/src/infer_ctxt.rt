@@ -104,7 +104,8 @@ pub trait InferCtxtLike {
         requires made { IsMade (state self.now).store type_var var.0 }
         ensures { IsRootOf (state self.now) type_var var.0 result.0 };
 
-    /// The root of the class of those that are marked as related to a type variable. No other call asks for it.
+    /// The root of the class of those that are marked as related to a type variable. No other call asks for it. Two are
+    /// marked by `sub_unify_ty_vids_raw`, where they are made one, and where the one takes the place of the other.
     fn sub_unification_table_root_var(&self, var: TyVid) -> TyVid
         requires lawful { (state self.now).lawful }
         requires made { IsMade (state self.now).store type_var var.0 }
@@ -284,6 +285,8 @@ pub trait InferCtxtLike {
     /// `Budget` where no instantiation is left; `CyclicTy` where the variable stands in what the type comes to,
     /// `Mismatch` where a placeholder does that the variable can't name; `Memory` where a growth was refused. Then
     /// nothing was bound, though variables may have been made on the way, but for `Budget`.
+    ///
+    /// A type variable that is made on the way is marked as related to the one that it takes the place of.
     fn instantiate_ty_var_raw(
         &mut self,
         structurally_relate_aliases: StructurallyRelateAliases,

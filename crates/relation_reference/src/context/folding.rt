@@ -1,23 +1,22 @@
 //! Resolving whatever has types, regions or constants, by a fold.
-ghost use Rattle.std.specs.Prelude.{◌≡◌, IsTrue, IsFalse, IfOk, Some};
+ghost use Rattle.std.specs.Prelude.{◌≡◌, IsTrue, IfOk};
 ghost use Rattle.relation_terms.specs.Trees.{known};
 ghost use Rattle.relation_terms.specs.Meaning.{Extends};
 ghost use Rattle.relation_terms.specs.Parts.{part_tree, part_sort};
 ghost use Rattle.relation_tools.specs.Folds.{answered, KnownAnswer};
-ghost use Rattle.type_relations.specs.Stores.{InContext};
+ghost use Rattle.type_relations.specs.Stores.{resolved};
 ghost use Rattle.relation_reference.specs.Tables.{store_of, IsLawful};
 ghost use Rattle.relation_reference.specs.RefCtxt.{resolved_in};
-ghost use Rattle.relation_reference.specs.Remembering.{resolved_by};
+ghost use Rattle.relation_reference.specs.Remembering.{IsVariable, resolved_by, variable_value};
 
 use crate::context::resolving::resolve_part;
+use crate::context::table::has;
 use crate::context::{InferCtxtInner, RefCtxt};
 use relation_terms::terms::parts::{the_const, the_ty};
-use relation_terms::terms::{
-    Const, ConstKind, InferConst, InferTy, Interner, OutOfMemory, Part, PartOf, Region, RegionKind,
-    Ty, TyKind,
-};
+use relation_terms::terms::{Const, Interner, OutOfMemory, Part, PartOf, Region, RegionKind, Ty};
 use relation_tools::fold::{Fold, TypeFoldable, TypeFolder};
 use std::collections::HashMap;
+use type_relations::relate::variables::{const_vid, float_vid, int_vid, ty_vid};
 
 // What a variable comes to. One that the tables don't have is itself.
 fn resolve_variable<I: Interner>(
@@ -28,10 +27,8 @@ fn resolve_variable<I: Interner>(
 ) -> Result<PartOf<I>, OutOfMemory>
     requires lawful { IsLawful (I.meaning cx.old) inner.now }
     requires known { IsTrue (known (part_tree (I.meaning cx.old) variable.now)) }
-    requires made { let m = I.meaning cx.old in
-        IsTrue is_made → InContext (store_of m inner.now) (part_tree m variable.now) }
-    requires not_made { let m = I.meaning cx.old in IsFalse is_made →
-        resolved_by (store_of m inner.now) (part_tree m variable.now) ≡ part_tree m variable.now }
+    requires variable { let m = I.meaning cx.old in
+        IsVariable (store_of m inner.now) (part_tree m variable.now) is_made }
     ensures grown { Extends (I.meaning cx.old) (I.meaning cx.new) }
     ensures sure { IfOk result (λ t. IsTrue (known (part_tree (I.meaning cx.new) t))) }
     ensures sort { IfOk result (λ t. part_sort t ≡ part_sort variable.now) }
@@ -54,13 +51,11 @@ fn put_ty<I: Interner>(
 ) -> Result<Fold<Ty<I>>, OutOfMemory>
     requires lawful { IsLawful (I.meaning cx.old) inner.now }
     requires known { IsTrue (known ((I.meaning cx.old).ty ty.now)) }
-    requires made { let m = I.meaning cx.old in IsTrue is_made → InContext (store_of m inner.now) (m.ty ty.now) }
-    requires not_made { let m = I.meaning cx.old in
-        IsFalse is_made → resolved_by (store_of m inner.now) (m.ty ty.now) ≡ m.ty ty.now }
+    requires variable { let m = I.meaning cx.old in IsVariable (store_of m inner.now) (m.ty ty.now) is_made }
     ensures grown { Extends (I.meaning cx.old) (I.meaning cx.new) }
     ensures sure { IfOk result (λ a. KnownAnswer (I.meaning cx.new).ty a) }
     ensures puts { let m = I.meaning cx.old in IfOk result (λ a.
-        answered (I.meaning cx.new).ty a ≡ Some (resolved_by (store_of m inner.now) (m.ty ty.now))) }
+        variable_value (resolved (store_of m inner.now)) (m.ty ty.now) ≡ answered (I.meaning cx.new).ty a) }
 {
     let resolved = resolve_variable(cx, inner, &Part::Ty(*ty), is_made)?;
     Ok(Fold::Replace(the_ty(&resolved)))
@@ -75,14 +70,13 @@ fn put_const<I: Interner>(
 ) -> Result<Fold<Const<I>>, OutOfMemory>
     requires lawful { IsLawful (I.meaning cx.old) inner.now }
     requires known { IsTrue (known ((I.meaning cx.old).const_ constant.now)) }
-    requires made { let m = I.meaning cx.old in
-        IsTrue is_made → InContext (store_of m inner.now) (m.const_ constant.now) }
-    requires not_made { let m = I.meaning cx.old in
-        IsFalse is_made → resolved_by (store_of m inner.now) (m.const_ constant.now) ≡ m.const_ constant.now }
+    requires variable { let m = I.meaning cx.old in
+        IsVariable (store_of m inner.now) (m.const_ constant.now) is_made }
     ensures grown { Extends (I.meaning cx.old) (I.meaning cx.new) }
     ensures sure { IfOk result (λ a. KnownAnswer (I.meaning cx.new).const_ a) }
     ensures puts { let m = I.meaning cx.old in IfOk result (λ a.
-        answered (I.meaning cx.new).const_ a ≡ Some (resolved_by (store_of m inner.now) (m.const_ constant.now))) }
+        variable_value (resolved (store_of m inner.now)) (m.const_ constant.now) ≡
+        answered (I.meaning cx.new).const_ a) }
 {
     let resolved = resolve_variable(cx, inner, &Part::Const(*constant), is_made)?;
     Ok(Fold::Replace(the_const(&resolved)))
@@ -95,9 +89,6 @@ struct Resolver<'a, X> {
 }
 
 impl<'a, I: Interner> TypeFolder<I> for Resolver<'a, I::Key> {
-    ghost use Rattle.type_relations.specs.Stores.{resolved};
-    ghost use Rattle.relation_reference.specs.Tables.{store_of, IsLawful};
-    ghost use Rattle.relation_reference.specs.Remembering.{variable_value};
     ghost use Rattle.relation_reference.proofs.Folding.{lawful_on, values_on};
 
     ghost ready = { λ m f. IsLawful m f.inner.now };
@@ -110,18 +101,20 @@ impl<'a, I: Interner> TypeFolder<I> for Resolver<'a, I::Key> {
         ty: &Ty<I>,
         _depth: u128,
     ) -> Result<Fold<Ty<I>>, OutOfMemory> {
-        match cx.ty_kind(ty) {
-            TyKind::Infer(InferTy::TyVar(vid)) => {
-                put_ty(cx, self.inner, ty, vid.0 < self.inner.types.len())
-            }
-            TyKind::Infer(InferTy::IntVar(vid)) => {
-                put_ty(cx, self.inner, ty, vid.0 < self.inner.ints.len())
-            }
-            TyKind::Infer(InferTy::FloatVar(vid)) => {
-                put_ty(cx, self.inner, ty, vid.0 < self.inner.floats.len())
-            }
-            _ => Ok(Fold::Descend),
+        let kind = cx.ty_kind(ty);
+        if let Some(vid) = ty_vid(&kind) {
+            let is_made = has(&self.inner.types, vid.0);
+            return put_ty(cx, self.inner, ty, is_made);
         }
+        if let Some(vid) = int_vid(&kind) {
+            let is_made = has(&self.inner.ints, vid.0);
+            return put_ty(cx, self.inner, ty, is_made);
+        }
+        if let Some(vid) = float_vid(&kind) {
+            let is_made = has(&self.inner.floats, vid.0);
+            return put_ty(cx, self.inner, ty, is_made);
+        }
+        Ok(Fold::Descend)
     }
 
     fn fold_region(
@@ -142,12 +135,11 @@ impl<'a, I: Interner> TypeFolder<I> for Resolver<'a, I::Key> {
         constant: &Const<I>,
         _depth: u128,
     ) -> Result<Fold<Const<I>>, OutOfMemory> {
-        match cx.const_kind(constant) {
-            ConstKind::Infer(InferConst::Var(vid)) => {
-                put_const(cx, self.inner, constant, vid.0 < self.inner.consts.len())
-            }
-            _ => Ok(Fold::Descend),
+        if let Some(vid) = const_vid(&cx.const_kind(constant)) {
+            let is_made = has(&self.inner.consts, vid.0);
+            return put_const(cx, self.inner, constant, is_made);
         }
+        Ok(Fold::Descend)
     }
 
     ghost ready_on = { λ m n e f h. lawful_on e f.inner.now h };

@@ -50,11 +50,7 @@ pub(crate) fn is_same_vid(a: TermVid, b: TermVid) -> bool
 
 // The term itself, or for a type or a constant what it is resolved to shallowly. What that comes to is the form
 // over what its parts come to.
-fn shallow_part<I: Interner>(
-    cx: &I,
-    inner: &InferCtxtInner<I::Key>,
-    term: &PartOf<I>,
-) -> PartOf<I>
+fn shallow_part<I: Interner>(cx: &I, inner: &InferCtxtInner<I::Key>, term: &PartOf<I>) -> PartOf<I>
     requires lawful { IsLawful (I.meaning cx.now) inner.now }
     requires term_known { IsTrue (known (part_tree (I.meaning cx.now) term.now)) }
     requires term_in { let m = I.meaning cx.now in
@@ -166,10 +162,7 @@ impl<I: Interner> RefCtxt<I> {
     }
 
     // The constant with each variable that has a term replaced by it, at every depth, and each other by its root.
-    pub(crate) fn resolve_const(
-        &mut self,
-        constant: &Const<I>,
-    ) -> Result<Const<I>, OutOfMemory>
+    pub(crate) fn resolve_const(&mut self, constant: &Const<I>) -> Result<Const<I>, OutOfMemory>
         requires lawful { IsLawful (I.meaning self.old.interner) self.old.inner }
         requires const_known { IsTrue (known ((I.meaning self.old.interner).const_ constant.now)) }
         requires const_in { InContext (store_in I.meaning self.old)
@@ -181,7 +174,12 @@ impl<I: Interner> RefCtxt<I> {
             resolved_in I.meaning self.old ((I.meaning self.old.interner).const_ constant.now)) }
     {
         let mut memory = HashMap::new(self.interner.alloc());
-        let resolved = resolve_part(&mut self.interner, &self.inner, &Part::Const(*constant), &mut memory);
+        let resolved = resolve_part(
+            &mut self.interner,
+            &self.inner,
+            &Part::Const(*constant),
+            &mut memory,
+        );
         Ok(the_const(&resolved?))
     }
 }

@@ -29,7 +29,11 @@ pub(crate) fn ty_of_var<I: Interner>(cx: &I, inner: &InferCtxtInner<I::Key>, var
 }
 
 // The type that an integer variable's class is bound to, or else the root of its class.
-pub(crate) fn ty_of_int_var<I: Interner>(cx: &I, inner: &InferCtxtInner<I::Key>, var: IntVid) -> Ty<I>
+pub(crate) fn ty_of_int_var<I: Interner>(
+    cx: &I,
+    inner: &InferCtxtInner<I::Key>,
+    var: IntVid,
+) -> Ty<I>
     requires lawful { IsLawful (I.meaning cx.now) inner.now }
     requires made { var.0 < length inner.now.ints.items }
     ensures sure { IsTrue (known ((I.meaning cx.now).ty result)) }
@@ -43,7 +47,11 @@ pub(crate) fn ty_of_int_var<I: Interner>(cx: &I, inner: &InferCtxtInner<I::Key>,
 }
 
 // The type that a float variable's class is bound to, or else the root of its class.
-pub(crate) fn ty_of_float_var<I: Interner>(cx: &I, inner: &InferCtxtInner<I::Key>, var: FloatVid) -> Ty<I>
+pub(crate) fn ty_of_float_var<I: Interner>(
+    cx: &I,
+    inner: &InferCtxtInner<I::Key>,
+    var: FloatVid,
+) -> Ty<I>
     requires lawful { IsLawful (I.meaning cx.now) inner.now }
     requires made { var.0 < length inner.now.floats.items }
     ensures sure { IsTrue (known ((I.meaning cx.now).ty result)) }
@@ -57,7 +65,11 @@ pub(crate) fn ty_of_float_var<I: Interner>(cx: &I, inner: &InferCtxtInner<I::Key
 }
 
 // The constant that a constant variable's class is bound to, or else the root of its class.
-pub(crate) fn const_of_var<I: Interner>(cx: &I, inner: &InferCtxtInner<I::Key>, var: ConstVid) -> Const<I>
+pub(crate) fn const_of_var<I: Interner>(
+    cx: &I,
+    inner: &InferCtxtInner<I::Key>,
+    var: ConstVid,
+) -> Const<I>
     requires lawful { IsLawful (I.meaning cx.now) inner.now }
     requires made { var.0 < length inner.now.consts.items }
     ensures sure { IsTrue (known ((I.meaning cx.now).const_ result)) }
@@ -88,7 +100,11 @@ pub(crate) fn shallow_ty<I: Interner>(cx: &I, inner: &InferCtxtInner<I::Key>, ty
 }
 
 // The type itself, or for an integer or float variable what its class is bound to, or else the root of its class.
-pub(crate) fn shallow_number<I: Interner>(cx: &I, inner: &InferCtxtInner<I::Key>, ty: &Ty<I>) -> Ty<I>
+pub(crate) fn shallow_number<I: Interner>(
+    cx: &I,
+    inner: &InferCtxtInner<I::Key>,
+    ty: &Ty<I>,
+) -> Ty<I>
     requires lawful { IsLawful (I.meaning cx.now) inner.now }
     requires ty_known { IsTrue (known ((I.meaning cx.now).ty ty.now)) }
     requires ty_in { InContext (store_of (I.meaning cx.now) inner.now) ((I.meaning cx.now).ty ty.now) }
@@ -111,7 +127,11 @@ pub(crate) fn shallow_number<I: Interner>(cx: &I, inner: &InferCtxtInner<I::Key>
 
 // The type itself, or for a variable the type that its class is bound to, or else the root of its class. A type
 // variable that is bound to an integer or float variable is read as that one is.
-pub(crate) fn shallow_resolve<I: Interner>(cx: &I, inner: &InferCtxtInner<I::Key>, ty: &Ty<I>) -> Ty<I>
+pub(crate) fn shallow_resolve<I: Interner>(
+    cx: &I,
+    inner: &InferCtxtInner<I::Key>,
+    ty: &Ty<I>,
+) -> Ty<I>
     requires lawful { IsLawful (I.meaning cx.now) inner.now }
     requires ty_known { IsTrue (known ((I.meaning cx.now).ty ty.now)) }
     requires ty_in { InContext (store_of (I.meaning cx.now) inner.now) ((I.meaning cx.now).ty ty.now) }
@@ -128,7 +148,11 @@ pub(crate) fn shallow_resolve<I: Interner>(cx: &I, inner: &InferCtxtInner<I::Key
 }
 
 // The constant itself, or for a variable the constant that its class is bound to, or else the root of its class.
-pub(crate) fn shallow_resolve_const<I: Interner>(cx: &I, inner: &InferCtxtInner<I::Key>, constant: &Const<I>) -> Const<I>
+pub(crate) fn shallow_resolve_const<I: Interner>(
+    cx: &I,
+    inner: &InferCtxtInner<I::Key>,
+    constant: &Const<I>,
+) -> Const<I>
     requires lawful { IsLawful (I.meaning cx.now) inner.now }
     requires const_known { IsTrue (known ((I.meaning cx.now).const_ constant.now)) }
     requires const_in { InContext (store_of (I.meaning cx.now) inner.now)
