@@ -3,7 +3,7 @@ use Rattle.std.proofs.Common.{◌≡◌, ℕ, suc, Bool, true, false, refl, sym,
 use Rattle.std.proofs.lemmas.List.{get_or_past}
 use Rattle.relation_terms.specs.Heads.{VarKind, type_var, int_var, float_var, const_var, region_var, variable, bound, placeholder, atom, unknown, leaf_sort, head_sort}
 use Rattle.relation_terms.specs.Trees.{Tree, leaf, node, bind, nil, cons, Assign, apply}
-use Rattle.relation_terms.specs.Meaning.{Meaning, Extends, kind_tree, infer_tree, const_tree}
+use Rattle.relation_terms.specs.Meaning.{Meaning, Extends, kind_tree, infer_tree, const_tree, region_tree}
 use Rattle.relation_terms.specs.declared.terms.ty_kind.TyKind.{TyKind}
 use Rattle.relation_terms.specs.declared.terms.ty_kind.TyKind.TheVariants.{Infer}
 use Rattle.relation_terms.specs.declared.terms.ty_kind.InferTy.{InferTy}
@@ -11,6 +11,9 @@ use Rattle.relation_terms.specs.declared.terms.ty_kind.InferTy.TheVariants.{TyVa
 use Rattle.relation_terms.specs.declared.terms.const_kind.ConstKind.{ConstKind}
 use Rattle.relation_terms.specs.declared.terms.const_kind.ConstKind.TheVariants.{Infer as ConstInfer}
 use Rattle.relation_terms.specs.declared.terms.const_kind.InferConst.TheVariants.{Var, Fresh}
+use Rattle.relation_terms.specs.declared.terms.region_kind.RegionKind.{RegionKind}
+use Rattle.relation_terms.specs.declared.terms.region_kind.RegionKind.TheVariants.{ReVar}
+use Rattle.relation_terms.specs.declared.terms.numbers.RegionVid.{RegionVid}
 use Rattle.relation_terms.specs.declared.terms.numbers.TyVid.{TyVid}
 use Rattle.relation_terms.specs.declared.terms.numbers.IntVid.{IntVid}
 use Rattle.relation_terms.specs.declared.terms.numbers.FloatVid.{FloatVid}
@@ -22,7 +25,8 @@ use Rattle.relation_reference.specs.declared.context.inner.InferCtxtInner.{Infer
 use Rattle.relation_reference.specs.declared.context.inner.Variable.{Variable}
 use Rattle.relation_reference.specs.Variables.{entries_of}
 use Rattle.relation_reference.specs.Tables.{store_of, IsLawful}
-use Rattle.relation_reference.specs.Remembering.{variable_value, resolved_by}
+use Rattle.relation_reference.specs.Remembering.{resolved_by}
+use Rattle.relation_reference.specs.Resolvers.{variable_value, StaysLawful}
 use Rattle.relation_reference.proofs.Grows.{store_grows, lawful_grows}
 use Rattle.relation_reference.proofs.Making.{entries_long}
 
@@ -48,14 +52,10 @@ fold_resolves s d (bind ks t) = ap (bind ks) (fold_resolves s (suc d) t)
 fold_resolves s d nil = refl
 fold_resolves s d (cons t ts) = ap₂ cons (fold_resolves s d t) (fold_resolves s d ts)
 
--- The tables record the same while the interner grows.
-module _ {Key Id Name : Type 0} {m n : Meaning Key Id Name} (e : Extends m n) (x : InferCtxtInner Key) (l : IsLawful m x) where
-  pub lawful_on : IsLawful n x
-  lawful_on = lawful_grows e x l
-
-  pub values_on : (t : Tree) →
-      variable_value (resolved (store_of n x)) t ≡ variable_value (resolved (store_of m x)) t
-  values_on t = ap (λ st. variable_value (resolved st) t) (store_grows e x l)
+-- Lawful tables stay so, and record the same, while the interner grows.
+pub stays_lawful : {Key Id Name : Type 0} (m : Meaning Key Id Name) (x : InferCtxtInner Key) → IsLawful m x →
+    StaysLawful m x
+stays_lawful m x l = λ n e. (lawful_grows e x l, store_grows e x l)
 
 -- What a variable comes to; one of which nothing is recorded comes to itself.
 pub value_of : (s : Assign) (k : VarKind) (n : ℕ) (t : Tree) → t ≡ leaf (variable k n) →
@@ -111,3 +111,11 @@ module _ {Key Id Name : Type 0} (m : Meaning Key Id Name) (s : Assign) where
   pub const_value : (k : ConstKind Key Id Name) (t : Tree) → t ≡ const_tree m k →
       ((v : ConstVid) → k ≡ ConstInfer (Var v) → ⊥) → variable_value s t ≡ None
   const_value k t e a = ap (variable_value s) e ∙ const_kind_value k a
+
+  region_kind_value : (k : RegionKind Name) → ((v : RegionVid) → k ≡ ReVar v → ⊥) → variable_value s (region_tree m k) ≡ None
+  region_kind_value (ReVar v) a = absurd (a v refl)
+  region_kind_value k a = refl
+
+  pub region_value : (k : RegionKind Name) (t : Tree) → t ≡ region_tree m k → ((v : RegionVid) → k ≡ ReVar v → ⊥) →
+      variable_value s t ≡ None
+  region_value k t e a = ap (variable_value s) e ∙ region_kind_value k a

@@ -1,18 +1,17 @@
 -- Which type variables are marked as related after new ones were made.
-use Rattle.std.proofs.Common.{◌≡◌, ◌⊎◌, inl, inr, ℕ, suc, ◌<◌, ◌≤◌, refl, sym, ap, ◌∙◌, arith, subst, length, length-append, ◌∷◌, [], min, Option, Some}
+use Rattle.std.proofs.Common.{◌≡◌, ◌⊎◌, inl, inr, ℕ, suc, ◌<◌, ◌≤◌, refl, sym, ap, ◌∙◌, arith, subst, length, length-append, List, ◌∷◌, [], set, le_refl, Some}
+use Rattle.std.proofs.lemmas.List.{length-set}
 use native.Mathlib.Decide.{ℕ_discrete}
 use Rattle.std.specs.Global.{Vec}
 use Rattle.relation_terms.specs.Heads.{VarKind, type_var, Leaf, variable, bound, placeholder, atom, unknown, region_kind, type_kind, const_kind, bound_kind, int_var, float_var, const_var, region_var, static_region, early_region}
 use Rattle.relation_terms.specs.Meaning.{Meaning, Extends}
-use Rattle.type_relations.specs.Contexts.{Context}
 use Rattle.type_relations.specs.ContextCalls.{JoinsRoots, KeepsRest, MarksNew}
-use Rattle.type_relations.specs.Stores.{Store, IsMade, unbound}
+use Rattle.type_relations.specs.Stores.{Store, Entry, IsMade, unbound}
 use Rattle.type_relations.specs.Steps.{MakesVariable}
 use Rattle.type_relations.specs.Generalising.{gives_way_to}
-use Rattle.relation_reference.specs.declared.context.inner.InferCtxtInner.{InferCtxtInner}
 use Rattle.relation_reference.specs.declared.context.variables.RefCtxt.{RefCtxt}
 use Rattle.relation_reference.specs.SubRoots.{root_in}
-use Rattle.relation_reference.specs.Tables.{store_of, context_of, HasSubRoots, IsLawful}
+use Rattle.relation_reference.specs.Tables.{store_of, IsLawful}
 use Rattle.relation_reference.specs.RefCtxt.{store_in, context_in}
 use Rattle.relation_reference.proofs.Grows.{store_grows}
 
@@ -65,6 +64,13 @@ made_new before after k n u h =
     let number = h.number in
     let done : n < length (after.entries k) = omega (arith, grew, long, number) in
     done
+
+-- Where an entry was set there are as many.
+pub set_back : (xs ys : List Entry) (i : ℕ) (e : Entry) → ys ≡ set xs i e → (n : ℕ) → n < length ys → n < length xs
+set_back xs ys i e q n h =
+    let long = ap length q in
+    let held = length-set xs i e in
+    omega (arith, h, long, held)
 
 -- A leaf that gives way to a type variable is one.
 pub gives_type : (l : Leaf) → gives_way_to l ≡ Some type_var → (n : ℕ) × (l ≡ variable type_var n)
@@ -145,7 +151,7 @@ module _ {I Key Id Name Span : Type 0} (meaning : I → Meaning Key Id Name) whe
     joins = subst (λ i. JoinsRoots (root_in q.inner.sub_roots.items) (root_in rs.items) of i) makes.number j
 
     abbrev own : root_in p.inner.sub_roots.items count ≡ count
-    own = l.sub_rooted.fresh count (omega arith)
+    own = l.sub_rooted.fresh count (le_refl count)
 
     pub joined_root : root_in rs.items number ≡ root_in p.inner.sub_roots.items of
     joined_root = ap (root_in rs.items) makes.number ∙ mark_root (root_in p.inner.sub_roots.items)

@@ -1,8 +1,8 @@
 -- What walks through terms remember of the parts that they have met.
-use Rattle.std.specs.Prelude.{◌≡◌, ℕ, Bool, IsTrue, IsFalse, Option, Some, None, option_map}
+use Rattle.std.specs.Prelude.{◌≡◌, ℕ, Bool, IsTrue, Option, Some, option_map}
 use Rattle.std.specs.HashMap.{HashMap, get}
-use Rattle.relation_terms.specs.Heads.{VarKind, type_var, const_var, variable}
-use Rattle.relation_terms.specs.Trees.{Tree, leaf, known, Assign, apply}
+use Rattle.relation_terms.specs.Heads.{VarKind, type_var, const_var}
+use Rattle.relation_terms.specs.Trees.{Tree, known, apply}
 use Rattle.relation_terms.specs.Meaning.{Meaning}
 use Rattle.relation_terms.specs.Parts.{part_sort, part_key, part_tree}
 use Rattle.relation_terms.specs.declared.terms.part_kind.Part.{Part}
@@ -10,21 +10,11 @@ use Rattle.relation_tools.specs.Folds.{part_rank}
 use Rattle.relation_reference.specs.declared.context.memory.PartKey.{PartKey}
 use Rattle.relation_reference.specs.declared.context.memory.TermVid.{TermVid}
 use Rattle.relation_reference.specs.declared.context.memory.TermVid.TheVariants.{Ty, Const}
-use Rattle.type_relations.specs.Stores.{Store, unbound, entry_of, IsMade, resolved}
+use Rattle.type_relations.specs.Stores.{Store, resolved}
 
 -- What a term comes to by what is recorded, at every depth.
 abbrev pub resolved_by : Store → Tree → Tree
 resolved_by st t = apply (resolved st) t
-
--- What a variable comes to; of any other term there is none.
-abbrev pub variable_value : Assign → Tree → Option Tree
-variable_value s (leaf (variable k n)) = Some (s k n)
-variable_value s t = None
-
--- A term is a variable that is made, or one of which nothing is recorded.
-abbrev pub IsVariable : Store → Tree → Bool → Type 0
-IsVariable st t made = (k : VarKind) × (n : ℕ) × (t ≡ leaf (variable k n)) × (IsTrue made → IsMade st k n) ×
-    (IsFalse made → entry_of st k n ≡ unbound)
 
 -- A part that has a key, as it is looked for.
 abbrev pub key_of : {Key Id : Type 0} → Part Key Id → Option (PartKey Key)

@@ -7,7 +7,8 @@ ghost use Rattle.relation_tools.specs.Folds.{answered, KnownAnswer};
 ghost use Rattle.type_relations.specs.Stores.{resolved};
 ghost use Rattle.relation_reference.specs.Tables.{store_of, IsLawful};
 ghost use Rattle.relation_reference.specs.RefCtxt.{resolved_in};
-ghost use Rattle.relation_reference.specs.Remembering.{IsVariable, resolved_by, variable_value};
+ghost use Rattle.relation_reference.specs.Remembering.{resolved_by};
+ghost use Rattle.relation_reference.specs.Resolvers.{IsVariable, variable_value};
 
 use crate::context::resolving::resolve_part;
 use crate::context::table::has;
@@ -35,11 +36,11 @@ fn resolve_variable<I: Interner>(
     ensures resolves { let m = I.meaning cx.old in IfOk result (λ t. part_tree (I.meaning cx.new) t ≡
         resolved_by (store_of m inner.now) (part_tree m variable.now)) }
 {
-    if !is_made {
-        return Ok(*variable);
+    if is_made {
+        let mut memory = HashMap::new(cx.alloc());
+        return resolve_part(cx, inner, variable, &mut memory);
     }
-    let mut memory = HashMap::new(cx.alloc());
-    resolve_part(cx, inner, variable, &mut memory)
+    Ok(*variable)
 }
 
 // The same of a type, as a folder answers it.
@@ -89,9 +90,9 @@ struct Resolver<'a, X> {
 }
 
 impl<'a, I: Interner> TypeFolder<I> for Resolver<'a, I::Key> {
-    ghost use Rattle.relation_reference.proofs.Folding.{lawful_on, values_on};
+    ghost use Rattle.relation_reference.specs.Resolvers.{StaysLawful, lawful_stays, values_stay};
 
-    ghost ready = { λ m f. IsLawful m f.inner.now };
+    ghost ready = { λ m f. StaysLawful m f.inner.now };
 
     ghost replaces = { λ m f d t. variable_value (resolved (store_of m f.inner.now)) t };
 
@@ -142,9 +143,9 @@ impl<'a, I: Interner> TypeFolder<I> for Resolver<'a, I::Key> {
         Ok(Fold::Descend)
     }
 
-    ghost ready_on = { λ m n e f h. lawful_on e f.inner.now h };
+    ghost ready_on = { λ m n e f h. lawful_stays e f.inner.now h };
 
-    ghost replaces_on = { λ m n e f h d t. values_on e f.inner.now h t };
+    ghost replaces_on = { λ m n e f h d t. values_stay e f.inner.now h t };
 }
 
 impl<I: Interner> RefCtxt<I> {

@@ -176,3 +176,6 @@ returns g c =
           (record { interner = c.generalise.new.self.interner; inner = y }) r.grown r.inner l refl refl refl
           (λ j h. h) e.rest;
     }
+
+pub returns-then-self-eq0-clause-rest : goal.returns-then-self-eq0-clause-rest
+returns-then-self-eq0-clause-rest g c = marks_none g.I.Interner.meaning c.args.self.now c.requires.lawful

@@ -1,5 +1,4 @@
 use Rattle.std.proofs.Common.{◌≡◌, [], refl, ap, sym, subst, suc, arith, map, length, ◌<◌, IsTrue, ◌-◌}
-use Rattle.std.proofs.lemmas.List.{length-set}
 use Rattle.relation_terms.specs.declared.terms.part_kind.Part.TheVariants.{Ty}
 use Rattle.relation_terms.specs.Heads.{type_var}
 use Rattle.relation_terms.specs.Trees.{known}
@@ -14,7 +13,7 @@ use Rattle.type_relations.proofs.Standing.{term_context}
 use Rattle.relation_reference.specs.declared.context.inner.InferCtxtInner.{InferCtxtInner}
 use Rattle.relation_reference.specs.Tables.{store_of}
 use Rattle.relation_reference.proofs.Comes.{same_record}
-use Rattle.relation_reference.proofs.Marking.{marks_none, marks_grow, marks_bound}
+use Rattle.relation_reference.proofs.Marking.{set_back, marks_none, marks_grow, marks_bound}
 use Rattle.relation_reference.proofs.Beside.{types_beside}
 use Rattle.relation_reference.proofs.Instantiating.{resolved_lawful, universe_read, out_of_memory, source_context, source_covered, left_still, made_still, stopped, generalised_here, by_rules, bound_lawful, type_may}
 use Rattle.relation_reference.proofs.Writing.{bound_entries, table_made, table_of_entries}
@@ -175,5 +174,8 @@ returns g c =
       instantiates = (sure, by_rules o r.grown x w z r.inner l type_var i u universe e.makes y (o.ty b) full tt c.args.variance t made c.requires.target_unbound e.lawful beside keys entries c.bind.ensures.universes left comes gen c.requires.source_in sorted);
       rest = marks_bound g.I.Interner.meaning c.args.self.now c.resolve_ty.new.self c.generalise.new.self
           (record { interner = c.generalise.new.self.interner; inner = y }) r.grown r.inner l refl refl refl
-          (λ j h. let long = ap length entries in let held = length-set ((store_of o z).entries type_var) i (bound_to (o.ty b)) in omega (arith, h, long, held)) e.rest;
+          (set_back _ _ i (bound_to (o.ty b)) entries) e.rest;
     }
+
+pub returns-then-self-eq0-clause-rest : goal.returns-then-self-eq0-clause-rest
+returns-then-self-eq0-clause-rest g c = marks_none g.I.Interner.meaning c.args.self.now c.requires.lawful
