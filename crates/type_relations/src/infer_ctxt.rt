@@ -1,5 +1,5 @@
 //! Inference contexts, by what each of their calls does.
-ghost use Rattle.std.specs.Prelude.{◌≡◌, ◌≢◌, ℕ, IsTrue};
+ghost use Rattle.std.specs.Prelude.{◌≡◌, ◌≢◌, ◌≤◌, ℕ, IsTrue, length};
 ghost use Rattle.std.specs.Borrow.{sem, Lends};
 ghost use Rattle.relation_terms.specs.declared.terms.enums.Variance.TheVariants.{Invariant, Bivariant};
 ghost use Rattle.relation_terms.specs.declared.terms.ty_kind.IntVarValue.TheVariants.{Unknown};
@@ -387,4 +387,8 @@ pub trait InferCtxtLike {
 
     // What its variables are bound to is of forms that relating has rules for.
     ghost covered: { (c : Self) → (state c).lawful → HasCoveredBindings (state c).store };
+
+    // A type variable that is not made is marked as related to no other, so that neither is one that was just made.
+    ghost unmarked: { (c : Self) → (state c).lawful → (n : ℕ) →
+        length (((state c).store).entries type_var) ≤ n → (state c).sub_root n ≡ n };
 }

@@ -202,4 +202,6 @@ impl<I: Interner> InferCtxtLike for RefCtxt<I> {
     ghost numbers = { λ c l. l.numbers_name_nothing };
 
     ghost covered = { λ c l. covered_bindings (I.meaning c.interner) c.inner l };
+
+    ghost unmarked = { λ c l. l.sub_rooted.fresh };
 }
