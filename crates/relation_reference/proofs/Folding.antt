@@ -66,13 +66,13 @@ pub unbound_itself : (st : Store) (k : VarKind) (n : ℕ) (t : Tree) → t ≡ l
     entry_of st k n ≡ unbound → resolved_by st t ≡ t
 unbound_itself st k n t e o = ap (resolved_by st) e ∙ resolved_free st k n (ap (entry_term k) o) ∙ sym e
 
+context_made : (st : Store) (k : VarKind) (n : ℕ) → IsMade st k n → InContext st (leaf (variable k n))
+unfolding InContext
+context_made st k n h = h
+
 pub variable_context : (st : Store) (k : VarKind) (n : ℕ) (t : Tree) → t ≡ leaf (variable k n) → IsMade st k n →
     InContext st t
-variable_context st k n t e h = subst (InContext st) (sym e) (made h)
-  where
-    made : IsMade st k n → InContext st (leaf (variable k n))
-    unfolding InContext
-    made h = h
+variable_context st k n t e h = subst (InContext st) (sym e) (context_made st k n h)
 
 -- A number past the end of a table has no entry.
 pub past_table : {K : Type 0} (tree : K → Tree) (vs : List (Variable K)) (n : ℕ) → length vs ≤ n →
