@@ -1,6 +1,6 @@
 -- Which type variables are marked as related after new ones were made.
 use Rattle.std.proofs.Common.{◌≡◌, ◌⊎◌, inl, inr, ℕ, suc, ◌<◌, ◌≤◌, refl, sym, ap, ◌∙◌, arith, subst, length, length-append, List, ◌∷◌, [], set, le_refl, Some}
-use Rattle.std.proofs.lemmas.List.{length-set}
+use Rattle.std.proofs.lemmas.List.{length-set, length-map}
 use native.Mathlib.Decide.{ℕ_discrete}
 use Rattle.std.specs.Global.{Vec}
 use Rattle.relation_terms.specs.Heads.{VarKind, type_var, Leaf, variable, bound, placeholder, atom, unknown, region_kind, type_kind, const_kind, bound_kind, int_var, float_var, const_var, region_var, static_region, early_region}
@@ -10,6 +10,8 @@ use Rattle.type_relations.specs.Stores.{Store, Entry, IsMade, unbound}
 use Rattle.type_relations.specs.Steps.{MakesVariable}
 use Rattle.type_relations.specs.Generalising.{gives_way_to}
 use Rattle.relation_reference.specs.declared.context.variables.RefCtxt.{RefCtxt}
+use Rattle.relation_reference.specs.declared.context.inner.Variable.{Variable}
+use Rattle.relation_reference.specs.Variables.{keys_of}
 use Rattle.relation_reference.specs.SubRoots.{root_in}
 use Rattle.relation_reference.specs.Tables.{store_of, IsLawful}
 use Rattle.relation_reference.specs.RefCtxt.{store_in, context_in}
@@ -71,6 +73,14 @@ set_back xs ys i e q n h =
     let long = ap length q in
     let held = length-set xs i e in
     omega (arith, h, long, held)
+
+-- Where the keys stand there are as many.
+pub as_many_keys : {K : Type 0} (xs ys : List (Variable K)) → keys_of ys ≡ keys_of xs → (n : ℕ) → n < length xs → n < length ys
+as_many_keys xs ys e n h =
+    let long = ap length e in
+    let a = length-map xs (λ v. v.key) in
+    let b = length-map ys (λ v. v.key) in
+    omega (arith, h, long, a, b)
 
 -- A leaf that gives way to a type variable is one.
 pub gives_type : (l : Leaf) → gives_way_to l ≡ Some type_var → (n : ℕ) × (l ≡ variable type_var n)

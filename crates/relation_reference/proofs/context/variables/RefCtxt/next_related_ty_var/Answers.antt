@@ -2,6 +2,7 @@ use Rattle.std.proofs.Common.{◌≡◌, ◌<◌, ap, subst, length, arith}
 use Rattle.relation_terms.specs.Heads.{type_var}
 use Rattle.type_relations.specs.ContextCalls.{JoinsRoots}
 use Rattle.relation_reference.specs.SubRoots.{root_in}
+use Rattle.relation_reference.proofs.Making.{on_err}
 use Rattle.relation_reference.proofs.Marking.{marks_kept, made_new, joined_marks, joined_root}
 use Rattle.relation_reference.proofs.SubRoots.{root_there, roots_kept, roots_lawful}
 use Rattle.relation_reference.proofs.Writing.{table_of_entries}
@@ -67,3 +68,6 @@ returns-clause-rest g c =
     joined_marks g.I.Interner.meaning c.args.self.now c.next_ty_var_in.new.self c.requires.lawful (length x.types.items)
     c.args.universe.0 c.args.of.0 done.makes c.requires.of_made done.rest rs
     (subst (λ i. JoinsRoots (root_in q.sub_roots.items) (root_in rs.items) c.args.of.0 i) number c.join_roots.ensures.joins)
+
+pub returns-in_err-made-clause-refused : goal.returns-in_err-made-clause-refused
+returns-in_err-made-clause-refused g c = on_err _ _ c.in_err-made.ensures.refused
