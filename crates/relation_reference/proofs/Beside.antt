@@ -1,5 +1,5 @@
 -- Tables that differ in what is recorded of one kind of variables, and in the budget.
-use Rattle.std.proofs.Common.{◌≡◌, ℕ, ◌<◌, ◌≤◌, refl, sym, ap, ◌∙◌, subst, map, length, get_or}
+use Rattle.std.proofs.Common.{◌≡◌, ℕ, ◌<◌, ◌≤◌, refl, sym, ap, ◌∙◌, arith, subst, map, length, get_or}
 use Rattle.std.specs.Global.{Vec}
 use Rattle.relation_terms.specs.Heads.{VarKind, VarKind_discrete, type_var, int_var, float_var, const_var, region_var, variable}
 use Rattle.relation_terms.specs.Trees.{leaf, nil}
@@ -11,7 +11,7 @@ use Rattle.type_relations.specs.Stores.{IsSound, universe_of}
 use Rattle.relation_reference.specs.declared.context.inner.Variable.{Variable}
 use Rattle.relation_reference.specs.declared.context.inner.InferCtxtInner.{InferCtxtInner}
 use Rattle.type_relations.specs.Steps.{IsNumberKind}
-use Rattle.relation_reference.specs.SubRoots.{IsRootTable}
+use Rattle.relation_reference.specs.SubRoots.{root_in, IsRootTable}
 use Rattle.relation_reference.specs.Tables.{store_of, keys_in, IsRooted, IsFilled, IsLawful}
 
 module _ {Key Id Name : Type 0} (m : Meaning Key Id Name) where
@@ -155,15 +155,20 @@ module _ {Key Id Name : Type 0} (m : Meaning Key Id Name) where
       ((n : ℕ) → n < length (keys_in m y k) → get_or (keys_in m y k) n nil ≡ leaf (variable k n)) →
       IsSound (store_of m y) → IsRooted (store_of m y) → IsFilled (store_of m y) →
       (IsNumberKind k → (n : ℕ) → universe_of (store_of m y) k n ≡ 0) →
-      length ((store_of m y).entries type_var) ≤ length y.sub_roots.items → IsLawful m x → IsLawful m y
-  lawful_beside x y k b keyed sound rooted filled first roots l = record {
+      length ((store_of m y).entries type_var) ≤ length y.sub_roots.items →
+      length ((store_of m x).entries type_var) ≤ length ((store_of m y).entries type_var) → IsLawful m x → IsLawful m y
+  lawful_beside x y k b keyed sound rooted filled first roots grew l = record {
     sound = sound;
     rooted = rooted;
     formed = filled;
     numbers_name_nothing = λ j i f. below j i f (VarKind_discrete j k);
     keyed = λ j. go j (VarKind_discrete j k);
     numbers = b.numbers ∙ l.numbers;
-    sub_rooted = record { count = roots; rooted = subst IsRootTable (sym b.sub_roots) l.sub_rooted.rooted };
+    sub_rooted = record {
+      count = roots;
+      rooted = subst IsRootTable (sym b.sub_roots) l.sub_rooted.rooted;
+      fresh = λ n h. ap (λ rs. root_in rs n) b.sub_roots ∙ l.sub_rooted.fresh n (omega (arith, h, grew));
+    };
   }
     where
       go : (j : VarKind) → Dec (j ≡ k) → (n : ℕ) → n < length (keys_in m y j) → get_or (keys_in m y j) n nil ≡ leaf (variable j n)

@@ -52,5 +52,5 @@ budget_lawful m x b l = record {
   numbers_name_nothing = l.numbers_name_nothing;
   keyed = l.keyed;
   numbers = l.numbers;
-  sub_rooted = record { count = l.sub_rooted.count; rooted = l.sub_rooted.rooted };
+  sub_rooted = record { count = l.sub_rooted.count; rooted = l.sub_rooted.rooted; fresh = l.sub_rooted.fresh };
 }

@@ -169,7 +169,7 @@ module _ {I Key Id Name Span S : Type 0} (meaning : I → Meaning Key Id Name) (
   to_any v o (Err Memory) h = tt
 
   pub generalises_no_type : (v : Variance) → sort_of t ≢ type_sort → (r : Result (Part Key Id) (RelateFault Key Id Name)) → Generalises meaning eq before after k i u cyclic (new_part v) old new p r → Generalises meaning eq before after k i u cyclic (any_part v) old new p r
-  generalises_no_type v o r h = record { lawful = h.lawful; grown = h.grown; universe = h.universe; makes = h.makes; answers = to_any v o r h.answers }
+  generalises_no_type v o r h = record { lawful = h.lawful; grown = h.grown; universe = h.universe; makes = h.makes; rest = h.rest; answers = to_any v o r h.answers }
 
   pub fails_any : (turn other : Turn) → (r s : Result (Part Key Id) (RelateFault Key Id Name)) (e : RelateFault Key Id Name) → r ≡ Err e → s ≡ Err e → GeneralisesTo eq m n was now k i u turn old new t cyclic p r → GeneralisesTo eq m n was now k i u other old new t cyclic p s
   fails_any turn other r s e f g h = subst (GeneralisesTo eq m n was now k i u other old new t cyclic p) (sym g) (go e (subst (GeneralisesTo eq m n was now k i u turn old new t cyclic p) f h))

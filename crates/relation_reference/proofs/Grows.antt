@@ -19,6 +19,7 @@ use Rattle.relation_reference.specs.declared.context.inner.VariableValue.TheVari
 use Rattle.relation_reference.specs.declared.context.inner.InferCtxtInner.{InferCtxtInner}
 use Rattle.relation_reference.specs.Variables.{keys_of, values_of, universes_of, value_at, entry_of_value, entries_of}
 use Rattle.relation_reference.specs.Numbers.{number_trees}
+use Rattle.relation_reference.specs.SubRoots.{root_in}
 use Rattle.relation_reference.specs.Tables.{by_kind, store_of, keys_in, IsRooted, IsFilled, IsLawful}
 
 pub both : (a b : Bool) → IsTrue a → IsTrue b → IsTrue (a && b)
@@ -150,6 +151,8 @@ module _ {Key Id Name : Type 0} {m n : Meaning Key Id Name} (e : Extends m n) (x
     sub_rooted = record {
       count = subst (λ st. length (st.entries type_var) ≤ length x.sub_roots.items) (sym store_grows) l.sub_rooted.count;
       rooted = l.sub_rooted.rooted;
+      fresh = subst (λ st. (i : ℕ) → length (st.entries type_var) ≤ i → root_in x.sub_roots.items i ≡ i) (sym store_grows)
+          l.sub_rooted.fresh;
     };
   }
 

@@ -4,7 +4,7 @@ use Rattle.std.proofs.lemmas.List.{map-append, length-map, get_or_append_left}
 use Rattle.std.proofs.Math.Seq.{get_or-append_seam}
 use native.Mathlib.Decide.{ℕ_discrete}
 use Rattle.std.specs.Global.{Vec}
-use Rattle.relation_terms.specs.Heads.{VarKind, type_var, int_var, float_var, const_var, region_var, variable}
+use Rattle.relation_terms.specs.Heads.{VarKind, VarKind_discrete, type_var, int_var, float_var, const_var, region_var, variable}
 use Rattle.relation_terms.specs.Trees.{Tree, leaf, nil}
 use Rattle.relation_terms.specs.Meaning.{Meaning, Extends}
 use Rattle.relation_terms.specs.declared.predicate.RegionConstraint.{RegionConstraint}
@@ -159,7 +159,15 @@ module _ {Key Id Name : Type 0} {m n : Meaning Key Id Name} (e : Extends m n) (x
       (λ j i r p c d. l.rooted j i r p (sym (entry_still j i) ∙ c) (sym (entry_still j r) ∙ d))
       (λ j i t h. l.formed j i t (sym (entry_still j i) ∙ h))
       (λ f i. ap (λ us. get_or us i 0) universes ∙ zero_more ((store_of n x).universes k) u (first f) (λ j. (lawful_grows e x l).numbers_name_nothing k j f) i)
-      roots (lawful_grows e x l)
+      roots (types_grow (VarKind_discrete type_var k)) (lawful_grows e x l)
+    where
+      types_grow : Dec (type_var ≡ k) →
+          length ((store_of n x).entries type_var) ≤ length ((store_of n y).entries type_var)
+      types_grow (yes c) = subst (λ j. length ((store_of n x).entries j) ≤ length ((store_of n y).entries j)) (sym c)
+          (let long = ap length entries in
+          let more = length-append ((store_of n x).entries k) (unbound ∷ []) in
+          omega (arith, long, more))
+      types_grow (no o) = let long = ap length (b.entries type_var o) in omega (arith, long)
 
   pub keyed_more : keys_in n y k ≡ keys_in n x k ++ leaf (variable k number) ∷ [] → number ≡ length (keys_in n x k) → (i : ℕ) → i < length (keys_in n y k) → get_or (keys_in n y k) i nil ≡ leaf (variable k i)
   keyed_more keys long = subst (λ ts. (i : ℕ) → i < length ts → get_or ts i nil ≡ leaf (variable k i))
@@ -318,7 +326,7 @@ module _ {Key Id Name : Type 0} (m : Meaning Key Id Name) (x : InferCtxtInner Ke
     numbers_name_nothing = l.numbers_name_nothing;
     keyed = l.keyed;
     numbers = l.numbers;
-    sub_rooted = record { count = l.sub_rooted.count; rooted = l.sub_rooted.rooted };
+    sub_rooted = record { count = l.sub_rooted.count; rooted = l.sub_rooted.rooted; fresh = l.sub_rooted.fresh };
   }
 
   pub constraint_goes : Goes 0 (store_of m x) (store_of m y)

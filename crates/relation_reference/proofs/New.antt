@@ -9,7 +9,7 @@ use Rattle.type_relations.proofs.Empty.{empty_sound}
 use Rattle.relation_reference.specs.declared.context.inner.InferCtxtInner.{InferCtxtInner}
 use Rattle.relation_reference.specs.Variables.{entries_of, universes_of, trees_of}
 use Rattle.relation_reference.specs.Numbers.{number_trees}
-use Rattle.relation_reference.specs.SubRoots.{IsRootTable}
+use Rattle.relation_reference.specs.SubRoots.{root_in, IsRootTable}
 use Rattle.relation_reference.specs.Tables.{store_of, keys_in, IsLawful}
 use Rattle.relation_reference.specs.RefCtxt.{IsNew}
 
@@ -46,5 +46,6 @@ module _ {Key Id Name : Type 0} (m : Meaning Key Id Name) (x : InferCtxtInner Ke
     sub_rooted = record {
       count = let e = ap length (entries type_var) in omega (arith, e);
       rooted = subst IsRootTable (sym n.sub_roots) (record { own = λ i. refl; below = λ i. le_refl i });
+      fresh = λ i h. ap (λ rs. root_in rs i) n.sub_roots;
     };
   }

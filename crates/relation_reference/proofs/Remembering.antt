@@ -12,14 +12,10 @@ use Rattle.relation_terms.specs.declared.terms.part_kind.Part.TheVariants.{Regio
 use Rattle.relation_terms.specs.declared.terms.part_kind.Part.TheVariants.{Object}
 use Rattle.relation_terms.proofs.Stays.{knows_as}
 use Rattle.relation_terms.proofs.Parts.{stays_part}
-use Rattle.type_relations.specs.Stores.{resolved}
+use Rattle.type_relations.specs.Stores.{Store, resolved}
 use Rattle.relation_tools.specs.Folds.{part_rank}
 use Rattle.relation_reference.specs.declared.context.memory.PartKey.{PartKey}
-use Rattle.relation_reference.specs.declared.context.variables.RefCtxt.{RefCtxt}
-use Rattle.relation_reference.specs.Tables.{IsLawful}
-use Rattle.relation_reference.specs.RefCtxt.{resolved_in}
 use Rattle.relation_reference.specs.Remembering.{key_of, ComesTo, IsKept, Remembers}
-use Rattle.relation_reference.proofs.Resolving.{store_now}
 
 -- Parts are looked for by their sorts and their keys.
 abbrev pub key_eq : {Key : Type 0} → (Key → Key → Bool) → PartKey Key → PartKey Key → Bool
@@ -72,36 +68,31 @@ module _ {Key Id Name : Type 0} (m : Meaning Key Id Name) (eq : Key → Key → 
       (same p q x.key y.key here.0 there.0 (sym (found_sort p q x y a b h)) k l).0
       (and_parts (eqb x.sort y.sort) (eq x.key y.key) h).1
 
--- What was resolved stays so while the interner grows: `d` is the context after.
-module _ {I Key Id Name Span : Type 0} (meaning : I → Meaning Key Id Name) (c d : RefCtxt I Key Id Name Span)
-    (lawful : IsLawful (meaning c.interner) c.inner) (grown : Extends (meaning c.interner) (meaning d.interner))
-    (same : d.inner ≡ c.inner) where
-  pub came : (p by : Part Key Id) → IsTrue (known (part_tree (meaning c.interner) p)) →
-      IsTrue (known (part_tree (meaning d.interner) by)) →
-      part_tree (meaning d.interner) by ≡ resolved_in meaning c (part_tree (meaning c.interner) p) →
-      part_sort by ≡ part_sort p → ComesTo meaning d p by
+-- What was resolved stays so while the interner grows, and what is recorded stands.
+module _ {Key Id Name : Type 0} {m n : Meaning Key Id Name} (st now : Store) (grown : Extends m n) (same : now ≡ st) where
+  pub came : (p by : Part Key Id) → IsTrue (known (part_tree m p)) → IsTrue (known (part_tree n by)) →
+      part_tree n by ≡ apply (resolved st) (part_tree m p) → part_sort by ≡ part_sort p → ComesTo n now p by
   came p by k l q s =
-      let e : part_tree (meaning d.interner) p ≡ part_tree (meaning c.interner) p = stays_part grown p k in
+      let e : part_tree n p ≡ part_tree m p = stays_part grown p k in
       record {
-        there = knows_as (part_tree (meaning c.interner) p) (part_tree (meaning d.interner) p) e k;
+        there = knows_as (part_tree m p) (part_tree n p) e k;
         sure = l;
-        comes = q ∙ sym (ap₂ (λ st t. apply (resolved st) t) (store_now grown c.inner d.inner lawful same) e);
+        comes = q ∙ sym (ap₂ (λ z t. apply (resolved z) t) same e);
         sort = s;
       }
 
-  comes_on : (p by : Part Key Id) → ComesTo meaning c p by → ComesTo meaning d p by
+  comes_on : (p by : Part Key Id) → ComesTo m st p by → ComesTo n now p by
   comes_on p by i =
-      let b : part_tree (meaning d.interner) by ≡ part_tree (meaning c.interner) by = stays_part grown by i.sure in
-      came p by i.there (knows_as (part_tree (meaning c.interner) by) (part_tree (meaning d.interner) by) b i.sure)
-      (b ∙ i.comes) i.sort
+      let b : part_tree n by ≡ part_tree m by = stays_part grown by i.sure in
+      came p by i.there (knows_as (part_tree m by) (part_tree n by) b i.sure) (b ∙ i.comes) i.sort
 
   pub remembers_on : {S : Type 0} (eq : PartKey Key → PartKey Key → Bool)
-      (memory : HashMap (PartKey Key) (Part Key Id) S) → Remembers meaning c eq memory → Remembers meaning d eq memory
+      (memory : HashMap (PartKey Key) (Part Key Id) S) → Remembers m st eq memory → Remembers n now eq memory
   remembers_on eq memory r = λ q by e.
       let k = r q by e in
       record { part = k.part; key = k.key; stands = k.stands; same = k.same; is = comes_on k.part by k.is }
 
-module _ {I Key Id Name Span : Type 0} (meaning : I → Meaning Key Id Name) (c : RefCtxt I Key Id Name Span) where
+module _ {Key Id Name : Type 0} (m : Meaning Key Id Name) (st : Store) where
   one_more : (b : Bool) (by new : Part Key Id) (o : Option (Part Key Id)) (P : Part Key Id → Type 0) →
       (IsTrue b → P new) → ((x : Part Key Id) → o ≡ Some x → P x) → cond b (Some new) o ≡ Some by → P by
   one_more true by new o P f g e =
@@ -111,15 +102,15 @@ module _ {I Key Id Name Span : Type 0} (meaning : I → Meaning Key Id Name) (c 
 
   pub remembers_more : {S : Type 0} (eq : PartKey Key → PartKey Key → Bool)
       (old new : HashMap (PartKey Key) (Part Key Id) S) (p by : Part Key Id) (key : PartKey Key) →
-      key_of p ≡ Some key → ComesTo meaning c p by →
+      key_of p ≡ Some key → ComesTo m st p by →
       ((q : PartKey Key) → get eq new q ≡ cond (eq key q) (Some by) (get eq old q)) →
-      Remembers meaning c eq old → Remembers meaning c eq new
+      Remembers m st eq old → Remembers m st eq new
   remembers_more eq old new p by key o i u r = λ q x e.
-      one_more (eq key q) x by (get eq old q) (IsKept meaning c eq q)
+      one_more (eq key q) x by (get eq old q) (IsKept m st eq q)
       (λ t. record { part = p; key = key; stands = o; same = t; is = i }) (r q) (sym (u q) ∙ e)
 
   pub remembers_none : {S : Type 0} (eq : PartKey Key → PartKey Key → Bool)
-      (memory : HashMap (PartKey Key) (Part Key Id) S) → IsEmpty memory → Remembers meaning c eq memory
+      (memory : HashMap (PartKey Key) (Part Key Id) S) → IsEmpty memory → Remembers m st eq memory
   remembers_none eq memory u = λ q x e.
       let h : Some x ≡ None = sym e ∙ ap (λ es. lookup (eq q) es) u in
       absurd (cc)
@@ -127,22 +118,22 @@ module _ {I Key Id Name Span : Type 0} (meaning : I → Meaning Key Id Name) (c 
   -- What is found of a known part is what it comes to.
   module _ (eq : Key → Key → Bool)
       (same : (p q : Part Key Id) (x y : Key) → part_key p ≡ Some x → part_key q ≡ Some y → part_sort q ≡ part_sort p →
-      IsTrue (known (part_tree (meaning c.interner) p)) → IsTrue (known (part_tree (meaning c.interner) q)) →
-      (IsTrue (eq x y) ↔ (part_tree (meaning c.interner) p ≡ part_tree (meaning c.interner) q)))
+      IsTrue (known (part_tree m p)) → IsTrue (known (part_tree m q)) →
+      (IsTrue (eq x y) ↔ (part_tree m p ≡ part_tree m q)))
     where
       kept_comes : (p by : Part Key Id) (key : PartKey Key) → key_of p ≡ Some key →
-          IsTrue (known (part_tree (meaning c.interner) p)) → IsKept meaning c (key_eq eq) key by → ComesTo meaning c p by
+          IsTrue (known (part_tree m p)) → IsKept m st (key_eq eq) key by → ComesTo m st p by
       kept_comes p by key s k h = record {
         there = k;
         sure = h.is.sure;
-        comes = h.is.comes ∙ ap (resolved_in meaning c)
-            (found_tree (meaning c.interner) eq same h.part p h.key key h.stands s h.same h.is.there k);
-        sort = h.is.sort ∙ found_sort (meaning c.interner) eq same h.part p h.key key h.stands s h.same;
+        comes = h.is.comes ∙ ap (apply (resolved st))
+            (found_tree m eq same h.part p h.key key h.stands s h.same h.is.there k);
+        sort = h.is.sort ∙ found_sort m eq same h.part p h.key key h.stands s h.same;
       }
 
       pub recalled : {S : Type 0} (memory : HashMap (PartKey Key) (Part Key Id) S) →
-          Remembers meaning c (key_eq eq) memory → (p : Part Key Id) (key : PartKey Key) → key_of p ≡ Some key →
-          IsTrue (known (part_tree (meaning c.interner) p)) →
-          (o : Option (Part Key Id)) → o ≡ get (key_eq eq) memory key → IfSome o (ComesTo meaning c p)
+          Remembers m st (key_eq eq) memory → (p : Part Key Id) (key : PartKey Key) → key_of p ≡ Some key →
+          IsTrue (known (part_tree m p)) →
+          (o : Option (Part Key Id)) → o ≡ get (key_eq eq) memory key → IfSome o (ComesTo m st p)
       recalled memory r p key s k None e = tt
       recalled memory r p key s k (Some by) e = kept_comes p by key s k (r key by (sym e))

@@ -177,6 +177,7 @@ module _ {Key Id Name : Type 0} (m : Meaning Key Id Name) where
         let b = length-append x.sub_roots.items (length x.sub_roots.items ∷ []) in
         omega (arith, a, b, c);
     rooted = subst IsRootTable (sym e) (more_table x.sub_roots.items h.rooted);
+    fresh = λ n o. ap (λ zs. root_in zs n) e ∙ root_more x.sub_roots.items n ∙ h.fresh n o;
   }
 
   -- Then there is room for one more variable.
@@ -190,13 +191,21 @@ module _ {Key Id Name : Type 0} (m : Meaning Key Id Name) where
       let d = length-map (values_of x.types.items) (entry_of_value m.ty) ∙ length-map x.types.items (λ v. v.value) in
       omega (arith, a, b, c, d)
 
-  -- The roots of as many.
+  -- The roots after two classes were joined.
   pub roots_kept : (x : InferCtxtInner Key) (rs : Vec ℕ) → length rs.items ≡ length x.sub_roots.items →
-      IsRootTable rs.items → HasSubRoots m x →
+      IsRootTable rs.items → (a b : ℕ) → a < length x.types.items → b < length x.types.items →
+      JoinsRoots (root_in x.sub_roots.items) (root_in rs.items) a b → HasSubRoots m x →
       HasSubRoots m (record x { sub_roots = rs })
-  roots_kept x rs long t h = record {
+  roots_kept x rs long t a b a_made b_made joins h = record {
     count = subst (λ z. length ((store_of m x).entries type_var) ≤ z) (sym long) h.count;
     rooted = t;
+    fresh = λ n o.
+        let own = h.fresh n o in
+        let a_there = table_made m.ty x.types.items a a_made in
+        let b_there = table_made m.ty x.types.items b b_made in
+        let a_low = h.rooted.below a in
+        let b_low = h.rooted.below b in
+        joins.others n (λ e. omega (arith, own, e, a_there, a_low, o)) (λ e. omega (arith, own, e, b_there, b_low, o)) ∙ own;
   }
 
   -- As many type variables, and the same roots.
@@ -206,6 +215,7 @@ module _ {Key Id Name : Type 0} (m : Meaning Key Id Name) where
   roots_same x y e same h = record {
     count = subst₂ ◌≤◌ (sym e) (sym (ap length same)) h.count;
     rooted = subst IsRootTable (sym same) h.rooted;
+    fresh = λ n o. ap (λ rs. root_in rs n) same ∙ h.fresh n (subst (λ z. z ≤ n) e o);
   }
 
   -- Nothing else that a lawful context says of its tables speaks of these roots.

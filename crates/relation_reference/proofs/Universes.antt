@@ -3,10 +3,11 @@ use Rattle.std.proofs.Common.{◌≡◌, suc, ◌<◌, refl, sym, ap, arith, sub
 use Rattle.relation_terms.specs.Meaning.{Meaning}
 use Rattle.relation_terms.specs.declared.terms.numbers.UniverseIndex.{UniverseIndex}
 use Rattle.type_relations.specs.Steps.{ChangesNothing}
-use Rattle.type_relations.specs.ContextCalls.{Stands, EntersNext}
+use Rattle.type_relations.specs.ContextCalls.{Stands, EntersNext, KeepsRest}
 use Rattle.type_relations.proofs.StoreCalls.{nothing_is_seen}
 use Rattle.relation_reference.specs.declared.context.inner.InferCtxtInner.{InferCtxtInner}
 use Rattle.relation_reference.specs.declared.context.variables.RefCtxt.{RefCtxt}
+use Rattle.relation_reference.specs.SubRoots.{root_in}
 use Rattle.relation_reference.specs.Tables.{store_of, context_of, IsLawful}
 use Rattle.relation_reference.specs.RefCtxt.{context_in}
 
@@ -31,7 +32,7 @@ module _ {Key Id Name : Type 0} (m : Meaning Key Id Name) (x : InferCtxtInner Ke
     numbers_name_nothing = l.numbers_name_nothing;
     keyed = l.keyed;
     numbers = l.numbers;
-    sub_rooted = record { count = l.sub_rooted.count; rooted = l.sub_rooted.rooted };
+    sub_rooted = record { count = l.sub_rooted.count; rooted = l.sub_rooted.rooted; fresh = l.sub_rooted.fresh };
   }
 
 -- As the trait of contexts asks it.
@@ -49,3 +50,17 @@ module _ {I Key Id Name Span : Type 0} (meaning : I → Meaning Key Id Name) (p 
       (universe_alone (meaning p.interner) p.inner u above, refl, above, λ k n. let low = (before.sound).below_current k n in omega (arith, low, above)))
   universe_entered (Err f) is next refused =
       subst (λ i. store_of (meaning i) q.inner ≡ store_of (meaning p.interner) p.inner) (sym same) (ap (store_of (meaning p.interner)) refused)
+
+module _ {I Key Id Name Span : Type 0} (meaning : I → Meaning Key Id Name) (p q : RefCtxt I Key Id Name Span) where
+  pub universe_rest : {F : Type 0} (r : Result UniverseIndex F) → IfOk r (λ u. q.inner ≡ record p.inner { universe = u }) →
+      OnErr r (q.inner ≡ p.inner) → KeepsRest (context_in meaning p) (context_in meaning q)
+  universe_rest (Ok u) is refused = record {
+    solver = ap (λ x. x.next_solver) is;
+    outliving = ap (λ x. x.ty_outlives.items) is;
+    marks = λ n. ap (λ x. root_in x.sub_roots.items n) is;
+  }
+  universe_rest (Err f) is refused = record {
+    solver = ap (λ x. x.next_solver) refused;
+    outliving = ap (λ x. x.ty_outlives.items) refused;
+    marks = λ n. ap (λ x. root_in x.sub_roots.items n) refused;
+  }

@@ -275,7 +275,8 @@ module _ {Key Id Name : Type 0} (m : Meaning Key Id Name) (x y : InferCtxtInner 
   module _ (keys : keys_in m y k ≡ keys_in m x k) (l : IsLawful m x) where
     written_lawful : (n : ℕ) (e : Entry) → WritesEntry (store_of m x) (store_of m y) k n e → ((t : Tree) → e ≡ bound_to t → MayBeBoundTo k t) → IsSound (store_of m y) → IsRooted (store_of m y) → (IsNumberKind k → (i : ℕ) → universe_of (store_of m y) k i ≡ 0) → IsLawful m y
     written_lawful n e w f g r first = lawful_beside m x y k b (keyed_still m x y k keys l) g r (filled_after (store_of m x) (store_of m y) k n e w f l.formed) first
-        (subst₂ ◌≤◌ (sym (w.as_many type_var)) (sym (ap length b.sub_roots)) l.sub_rooted.count) l
+        (subst₂ ◌≤◌ (sym (w.as_many type_var)) (sym (ap length b.sub_roots)) l.sub_rooted.count)
+        (let long = w.as_many type_var in omega (arith, long)) l
 
     -- `entries` and `universes` are what linking writes.
     module _ (child root : ℕ) (entries : (store_of m y).entries k ≡ set (map (led_entry child root) ((store_of m x).entries k)) child (same_as root))

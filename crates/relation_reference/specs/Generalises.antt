@@ -25,6 +25,8 @@ use Rattle.relation_reference.specs.declared.context.generalising.MetKey.{MetKey
 use Rattle.relation_reference.specs.declared.context.generalising.Fate.{Fate}
 use Rattle.relation_reference.specs.declared.context.generalising.Fate.TheVariants.{ByParts, GivesWay, Cycle, Beyond}
 use Rattle.relation_reference.specs.declared.context.variables.RefCtxt.{RefCtxt}
+use Rattle.type_relations.specs.ContextCalls.{MarksNew}
+use Rattle.relation_reference.specs.RefCtxt.{context_in}
 use Rattle.relation_reference.specs.Tables.{store_of, IsLawful}
 
 -- Of which kind the variable is that may take the place of a part.
@@ -121,7 +123,7 @@ module _ {Key Id Name S : Type 0} (eq : MetKey Key → MetKey Key → Bool) (m n
   GeneralisesTo cyclic p (Err Memory) = Unit {0}
 
 -- A part was generalised in a context, for variable `i` of kind `k` in universe `u`; unbound variables may have been
--- made, also where that failed.
+-- made, also where that failed, and those of types were marked as related to ones that there were.
 pub record Generalises {I Key Id Name Span S : Type 0} (meaning : I → Meaning Key Id Name)
     (eq : MetKey Key → MetKey Key → Bool) (before after : RefCtxt I Key Id Name Span) (k : VarKind) (i u : ℕ)
     (cyclic : TypeError Key Id Name) (turn : Turn) (old new : HashMap (MetKey Key) (TyKey Key) S) (p : Part Key Id)
@@ -131,6 +133,7 @@ pub record Generalises {I Key Id Name Span S : Type 0} (meaning : I → Meaning 
   pub universe : (after.inner.universe).0 ≡ (before.inner.universe).0
   pub makes : MakesUnbound u (store_of (meaning before.interner) before.inner)
       (store_of (meaning after.interner) after.inner)
+  pub rest : MarksNew (context_in meaning before) (context_in meaning after)
   pub answers : GeneralisesTo eq (meaning before.interner) (meaning after.interner)
       (store_of (meaning before.interner) before.inner) (store_of (meaning after.interner) after.inner) k i u turn old
       new (part_tree (meaning before.interner) p) cyclic p result

@@ -4,5 +4,6 @@ pub mod SubRoots
 pub mod Tables
 pub mod RefCtxt
 pub mod Remembering
+pub mod Resolvers
 pub mod Generalises
 pub mod Answers

@@ -2,7 +2,7 @@
 use Rattle.std.specs.Prelude.{◌≡◌, ℕ, Bool, IsTrue, Option, Some, option_map}
 use Rattle.std.specs.HashMap.{HashMap, get}
 use Rattle.relation_terms.specs.Heads.{VarKind, type_var, const_var}
-use Rattle.relation_terms.specs.Trees.{known}
+use Rattle.relation_terms.specs.Trees.{Tree, known, apply}
 use Rattle.relation_terms.specs.Meaning.{Meaning}
 use Rattle.relation_terms.specs.Parts.{part_sort, part_key, part_tree}
 use Rattle.relation_terms.specs.declared.terms.part_kind.Part.{Part}
@@ -10,8 +10,11 @@ use Rattle.relation_tools.specs.Folds.{part_rank}
 use Rattle.relation_reference.specs.declared.context.memory.PartKey.{PartKey}
 use Rattle.relation_reference.specs.declared.context.memory.TermVid.{TermVid}
 use Rattle.relation_reference.specs.declared.context.memory.TermVid.TheVariants.{Ty, Const}
-use Rattle.relation_reference.specs.declared.context.variables.RefCtxt.{RefCtxt}
-use Rattle.relation_reference.specs.RefCtxt.{resolved_in}
+use Rattle.type_relations.specs.Stores.{Store, resolved}
+
+-- What a term comes to by what is recorded, at every depth.
+abbrev pub resolved_by : Store → Tree → Tree
+resolved_by st t = apply (resolved st) t
 
 -- A part that has a key, as it is looked for.
 abbrev pub key_of : {Key Id : Type 0} → Part Key Id → Option (PartKey Key)
@@ -26,12 +29,12 @@ abbrev pub vid_number : TermVid → ℕ
 vid_number (Ty v) = v.0
 vid_number (Const v) = v.0
 
-module _ {I Key Id Name Span : Type 0} (meaning : I → Meaning Key Id Name) (c : RefCtxt I Key Id Name Span) where
-  -- What a known part comes to in a context, at every depth.
+module _ {Key Id Name : Type 0} (m : Meaning Key Id Name) (st : Store) where
+  -- What a known part comes to by what is recorded, at every depth.
   pub record ComesTo (p by : Part Key Id) : Type 0 where
-    pub there : IsTrue (known (part_tree (meaning c.interner) p))
-    pub sure : IsTrue (known (part_tree (meaning c.interner) by))
-    pub comes : part_tree (meaning c.interner) by ≡ resolved_in meaning c (part_tree (meaning c.interner) p)
+    pub there : IsTrue (known (part_tree m p))
+    pub sure : IsTrue (known (part_tree m by))
+    pub comes : part_tree m by ≡ apply (resolved st) (part_tree m p)
     pub sort : part_sort by ≡ part_sort p
 
   -- What is kept at a key is what a part of an equal key comes to.

@@ -13,7 +13,7 @@ use Rattle.type_relations.specs.ContextCalls.{HasCoveredBindings}
 use Rattle.relation_reference.specs.declared.context.inner.InferCtxtInner.{InferCtxtInner}
 use Rattle.relation_reference.specs.Variables.{entries_of, universes_of, trees_of}
 use Rattle.relation_reference.specs.Numbers.{number_trees}
-use Rattle.relation_reference.specs.SubRoots.{IsRootTable}
+use Rattle.relation_reference.specs.SubRoots.{root_in, IsRootTable}
 
 -- One thing for each kind of variables: types, integers, floats, constants, regions.
 abbrev pub by_kind : {A : Type 0} → A → A → A → A → A → VarKind → A
@@ -57,10 +57,11 @@ module _ {Key Id Name : Type 0} (m : Meaning Key Id Name) where
   keys_in x = by_kind (trees_of m.ty x.types.items) (trees_of m.ty x.ints.items) (trees_of m.ty x.floats.items)
       (trees_of m.const_ x.consts.items) (trees_of m.region x.regions.items)
 
-  -- Each type variable has a root among those that are marked as related.
+  -- Each type variable has a root among those that are marked as related; one that is not made is its own.
   pub record HasSubRoots (x : InferCtxtInner Key) : Type 0 where
     pub count : length ((store_of x).entries type_var) ≤ length x.sub_roots.items
     pub rooted : IsRootTable x.sub_roots.items
+    pub fresh : (n : ℕ) → length ((store_of x).entries type_var) ≤ n → root_in x.sub_roots.items n ≡ n
 
   -- The invariant of a context: its store is sound; each entry of another variable names a root; what variables are
   -- bound to is no variable, and may be related; variables of numbers stand in the first universe; the key beside each
@@ -84,4 +85,11 @@ module _ {Key Id Name : Type 0} (m : Meaning Key Id Name) where
 
   -- A context of these tables, as contracts see it.
   abbrev pub context_of : InferCtxtInner Key → Context Key Id Name
-  context_of x = record { meaning = m; store = store_of x; lawful = IsLawful x }
+  context_of x = record {
+    meaning = m;
+    store = store_of x;
+    lawful = IsLawful x;
+    is_next_solver = x.next_solver;
+    outliving = x.ty_outlives.items;
+    sub_root = root_in x.sub_roots.items;
+  }

@@ -1,6 +1,7 @@
 //! An inference context over plain tables.
 
 mod equating;
+mod folding;
 mod generalising;
 mod infer_ctxt;
 mod inner;
@@ -11,6 +12,7 @@ mod outliving;
 mod reading;
 mod recording;
 mod resolving;
+mod shallow;
 mod sub_unified;
 mod table;
 mod universes;

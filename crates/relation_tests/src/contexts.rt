@@ -1,9 +1,10 @@
 //! What a context does, call by call, through the trait that it meets.
 ghost use Rattle.std.specs.Prelude.{◌≡◌, [], IfOk};
 ghost use Rattle.relation_terms.specs.Heads.{type_var, int_var, float_var, const_var, region_var};
-ghost use Rattle.relation_terms.specs.Heads.{atom, char_type, const_param};
-ghost use Rattle.relation_terms.specs.Trees.{leaf};
+ghost use Rattle.relation_terms.specs.Heads.{atom, char_type, const_param, slice};
+ghost use Rattle.relation_terms.specs.Trees.{leaf, node, cons, nil};
 ghost use Rattle.relation_terms.specs.Meaning.{region_tree};
+ghost use Rattle.type_relations.specs.Contexts.{KnowsTy};
 ghost use Rattle.type_relations.specs.ContextCalls.{IsUnresolved, Grows};
 
 use crate::relating::{only, outlives};
@@ -201,7 +202,7 @@ fn resolves_const<C: InferCtxtLike>(ctx: &mut C, name: NameOf<C>) -> Result<bool
 {
     let constant = make_param(ctx, name)?;
     let read = ctx.shallow_resolve_const(&constant);
-    let resolved = ctx.resolve_const_vars_if_possible(&constant)?;
+    let resolved = ctx.resolve_vars_if_possible(&constant)?;
     Ok(read == constant && resolved == constant)
 }
 
@@ -227,6 +228,36 @@ fn binds_const<C: InferCtxtLike>(ctx: &mut C, name: NameOf<C>) -> RelateResult<C
     let aliases = StructurallyRelateAliases::No;
     let bound = ctx.instantiate_const_var_raw(aliases, ConstVid(0), &source)?;
     Ok(bound == source)
+}
+
+// The slice of a type.
+fn make_slice<C: InferCtxtLike>(
+    ctx: &mut C,
+    element: &Ty<C::Interner>,
+) -> Result<Ty<C::Interner>, OutOfMemory>
+    requires lawful { (C.state ctx.old).lawful }
+    requires element_known { KnowsTy (C.state ctx.old) element.now }
+    ensures grows { Grows (C.state ctx.old) (C.state ctx.new) }
+    ensures store { (C.state ctx.new).store ≡ (C.state ctx.old).store }
+    ensures sure { IfOk result (λ k. KnowsTy (C.state ctx.new) k) }
+    ensures is { let t = ((C.state ctx.old).meaning).ty element.now in
+        IfOk result (λ k. ((C.state ctx.new).meaning).ty k ≡ node slice (cons t nil)) }
+{
+    ctx.interner_grows();
+    ctx.cx_mut().mk_ty(TyKind::Slice(*element))
+}
+
+// Binds the first of two new type variables to the slice of the other, in which a further one takes its place.
+fn binds_slice<C: InferCtxtLike>(ctx: &mut C) -> RelateResult<C::Interner, ()>
+    requires lawful { (C.state ctx.old).lawful }
+    requires none { ((C.state ctx.old).store).entries type_var ≡ [] }
+{
+    let _ = ctx.next_ty_infer()?;
+    let element = ctx.next_ty_infer()?;
+    let source = make_slice(ctx, &element)?;
+    let aliases = StructurallyRelateAliases::No;
+    let _ = ctx.instantiate_ty_var_raw(aliases, TyVid(0), Variance::Covariant, &source)?;
+    Ok(())
 }
 
 // The region of a form.
@@ -369,6 +400,26 @@ fn a_type_is_taken_for_one_of_the_budget(rt: HostRuntime) -> Result<(), Fail> {
     let mut ctx = RefCtxt::new(RefInterner::new(rt.alloc()), true, 2)?;
     assert!(rt; binds_ty(&mut ctx) == Ok(true));
     assert!(rt; read_whole(&ctx) == (true, UniverseIndex(0), 1));
+    Ok(())
+}
+
+#[test]
+fn a_variable_is_marked_with_the_one_whose_place_it_takes(rt: HostRuntime) -> Result<(), Fail> {
+    let mut ctx = RefCtxt::new(RefInterner::new(rt.alloc()), true, 1)?;
+    assert!(rt; binds_slice(&mut ctx).is_ok());
+    assert!(rt; ctx.inner.types.len() == 3);
+    assert!(rt; ctx.inner.sub_roots.get(0).copied() == Some(0));
+    assert!(rt; ctx.inner.sub_roots.get(2).copied() == Some(1));
+    Ok(())
+}
+
+#[test]
+fn a_variable_is_made_in_an_earlier_universe(rt: HostRuntime) -> Result<(), Fail> {
+    let mut ctx = RefCtxt::new(RefInterner::new(rt.alloc()), true, 0)?;
+    let later = ctx.create_next_universe()?;
+    let _ = ctx.next_ty_var_in(UniverseIndex(0))?;
+    assert!(rt; ctx.universe_of_ty(TyVid(0)) == FIRST);
+    assert!(rt; later == UniverseIndex(1));
     Ok(())
 }
 

@@ -1,5 +1,5 @@
 -- What comes of two types, and of two constants, before their parts are related: case by case.
-use Rattle.std.specs.Prelude.{◌≡◌, ◌≢◌, ◌⊎◌, ℕ, max, min, Result, Ok, Err}
+use Rattle.std.specs.Prelude.{◌≡◌, ◌≢◌, ◌⊎◌, ℕ, true, max, min, [], Result, Ok, Err}
 use Rattle.relation_terms.specs.declared.terms.enums.Variance.TheVariants.{Invariant}
 use Rattle.relation_terms.specs.declared.terms.keys.TyKey.{TyKey}
 use Rattle.relation_terms.specs.declared.terms.keys.ConstKey.{ConstKey}
@@ -43,9 +43,16 @@ pub record IsUnlike (t u : Tree) : Type 0 where
   pub unlike : MayStandFor kind u → ⊥
 
 module _ {Key Id Name : Type 0} where
-  -- What keys mean and what is recorded, as a context.
+  -- What keys mean and what is recorded, as a context of which nothing else is looked at.
   abbrev pub seen : Meaning Key Id Name → Store → Context Key Id Name
-  seen m st = record { meaning = m; store = st; lawful = Unit {0} }
+  seen m st = record {
+    meaning = m;
+    store = st;
+    lawful = Unit {0};
+    is_next_solver = true;
+    outliving = [];
+    sub_root = λ n. n;
+  }
 
   -- What comes of two types: two number variables of one kind are made one, and the left one is the answer; a number
   -- variable is bound to a type of its kind, which is the answer; of a number variable and another type, and of a type

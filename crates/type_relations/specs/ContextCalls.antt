@@ -6,7 +6,7 @@ use Rattle.relation_terms.specs.declared.terms.enums.Variance.{Variance}
 use Rattle.relation_terms.specs.declared.terms.keys.RegionKey.{RegionKey}
 use Rattle.relation_terms.specs.declared.terms.keys.TyKey.{TyKey}
 use Rattle.relation_terms.specs.declared.terms.numbers.UniverseIndex.{UniverseIndex}
-use Rattle.relation_terms.specs.Heads.{VarKind, variable}
+use Rattle.relation_terms.specs.Heads.{VarKind, type_var, variable}
 use Rattle.relation_terms.specs.Trees.{Tree, leaf, known, apply}
 use Rattle.relation_terms.specs.Meaning.{Meaning, Extends}
 use Rattle.relation_tools.specs.declared.error.TypeError.{TypeError}
@@ -68,15 +68,31 @@ module _ {Key Id Name : Type 0} (c : Context Key Id Name) where
     pub reads : IsReadAs c.store t u
     pub resolves : Resolves c.store t u
 
--- Of a context only what its interner knows was added to.
-pub record Knows {Key Id Name : Type 0} (c : Context Key Id Name) (m : Meaning Key Id Name)
-    (d : Context Key Id Name) : Type 0 where
-  pub meaning : d.meaning ≡ m
-  pub store : d.store ≡ c.store
-  pub lawful : d.lawful
-
 -- Between a context before a call and after it.
 module _ {Key Id Name : Type 0} (c d : Context Key Id Name) where
+  -- Whether the next solver is on stands, the types that are to outlive regions do, or what is marked as related does.
+  abbrev pub KeepsSolver : Type 0
+  KeepsSolver = d.is_next_solver ≡ c.is_next_solver
+
+  abbrev pub KeepsOutliving : Type 0
+  KeepsOutliving = d.outliving ≡ c.outliving
+
+  abbrev pub KeepsMarks : Type 0
+  KeepsMarks = (n : ℕ) → d.sub_root n ≡ c.sub_root n
+
+  -- All that there is beside variables and constraints on regions stands.
+  pub record KeepsRest : Type 0 where
+    pub solver : KeepsSolver
+    pub outliving : KeepsOutliving
+    pub marks : KeepsMarks
+
+  -- The same, but that each type variable that was made is marked as related to one that there was.
+  pub record MarksNew : Type 0 where
+    pub solver : KeepsSolver
+    pub outliving : KeepsOutliving
+    pub marks : (n : ℕ) → IsMade c.store type_var n → d.sub_root n ≡ c.sub_root n
+    pub related : (n : ℕ) → IsMade d.store type_var n → IsMade c.store type_var (d.sub_root n)
+
   -- What keys mean stands, and the invariant holds.
   pub record Stands : Type 0 where
     pub meaning : d.meaning ≡ c.meaning
@@ -135,3 +151,11 @@ module _ {Key Id Name : Type 0} (c d : Context Key Id Name) where
   Instantiated v k n source tree cyclic (Err Budget) = ((c.store).budget ≡ 0) × (d.store ≡ c.store)
   Instantiated v k n source tree cyclic (Err Memory) = ((c.store).budget ≢ 0) ×
       MakesUnbound (universe_of c.store k n) c.store d.store
+
+-- Of a context only what its interner knows was added to.
+pub record Knows {Key Id Name : Type 0} (c : Context Key Id Name) (m : Meaning Key Id Name)
+    (d : Context Key Id Name) : Type 0 where
+  pub meaning : d.meaning ≡ m
+  pub store : d.store ≡ c.store
+  pub lawful : d.lawful
+  pub rest : KeepsRest c d

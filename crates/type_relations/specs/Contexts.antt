@@ -1,7 +1,8 @@
 -- What contracts see of a context, and what relating two types in it asks and promises.
-use Rattle.std.specs.Prelude.{◌≡◌, ◌+◌, false, IsTrue, IfOk, Result, [], All}
+use Rattle.std.specs.Prelude.{◌≡◌, ◌+◌, ℕ, Bool, false, List, IsTrue, IfOk, Result, [], All}
 use Rattle.std.specs.Global.{Vec}
 use Rattle.std.specs.Result.{IsOkAnd}
+use Rattle.relation_terms.specs.declared.predicate.OutlivesPredicate.{OutlivesPredicate}
 use Rattle.relation_terms.specs.declared.terms.enums.Variance.{Variance}
 use Rattle.relation_terms.specs.declared.terms.enums.Variance.TheVariants.{Invariant}
 use Rattle.relation_terms.specs.declared.terms.goal.Goal.{Goal}
@@ -23,11 +24,16 @@ use Rattle.type_relations.specs.Errors.{ErrorOf}
 use Rattle.type_relations.specs.Covered.{IsCovered}
 use Rattle.type_relations.specs.Lawful.{items_of}
 
--- A context as it stands: what the keys of its interner mean, what it has recorded, and its own invariant.
+-- A context as it stands: what the keys of its interner mean, what it has recorded of variables and regions, and its
+-- own invariant; whether the next solver is on, the types that are to outlive regions in the order in which that was
+-- registered, and of each type variable the root of those that it is marked as related to.
 pub record Context (Key Id Name : Type 0) : Type 1 where
   pub meaning : Meaning Key Id Name
   pub store : Store
   pub lawful : Type 0
+  pub is_next_solver : Bool
+  pub outliving : List (OutlivesPredicate Key (TyKey Key))
+  pub sub_root : ℕ → ℕ
 
 module _ {Key Id Name : Type 0} where
   -- The interner knows the environment, the type, or the constant.

@@ -1,16 +1,14 @@
 //! Inference contexts, by what each of their calls does.
-ghost use Rattle.std.specs.Prelude.{◌≡◌, ◌≢◌, ℕ, Bool, List};
+ghost use Rattle.std.specs.Prelude.{◌≡◌, ◌≢◌, ◌≤◌, ℕ, IsTrue, length};
 ghost use Rattle.std.specs.Borrow.{sem, Lends};
-ghost use Rattle.relation_terms.specs.declared.predicate.OutlivesPredicate.{OutlivesPredicate};
 ghost use Rattle.relation_terms.specs.declared.terms.enums.Variance.TheVariants.{Invariant, Bivariant};
-ghost use Rattle.relation_terms.specs.declared.terms.keys.TyKey.{TyKey};
 ghost use Rattle.relation_terms.specs.declared.terms.ty_kind.IntVarValue.TheVariants.{Unknown};
 ghost use Rattle.relation_terms.specs.declared.terms.ty_kind.FloatVarValue.TheVariants.{Unknown as UnknownFloat};
 ghost use Rattle.relation_terms.specs.Heads.{type_var, int_var, float_var, const_var, region_var, variable};
 ghost use Rattle.relation_terms.specs.Meaning.{Extends};
-ghost use Rattle.relation_terms.specs.Trees.{leaf};
+ghost use Rattle.relation_terms.specs.Trees.{leaf, known};
 ghost use Rattle.relation_tools.specs.declared.error.TypeError.TheVariants.{CyclicTy, CyclicConst};
-ghost use Rattle.type_relations.specs.Stores.{IsSound, IsMade, equal_constraint, outlives_constraint};
+ghost use Rattle.type_relations.specs.Stores.{IsSound, IsMade, IsTermIn, equal_constraint, outlives_constraint};
 ghost use Rattle.type_relations.specs.Contexts.{Context, KnowsTy, KnowsConst, HasTy, HasConst, HasRegion};
 ghost use Rattle.type_relations.specs.Covered.{IsCovered};
 ghost use Rattle.type_relations.specs.Generalising.{NumbersNameNothing};
@@ -19,6 +17,7 @@ ghost use Rattle.type_relations.specs.NumberValues.{int_value_tree, float_value_
 ghost use Rattle.type_relations.specs.ContextCalls.{IsUnresolved, IsRootOf, Reads, Knows, Stands, Grows, MakesNext};
 ghost use Rattle.type_relations.specs.ContextCalls.{EntersNext, EquatesTwo, BindsNumber, Constrains, Instantiated};
 ghost use Rattle.type_relations.specs.ContextCalls.{HasUniverse, ComesTo, JoinsRoots, Registers, HasCoveredBindings};
+ghost use Rattle.type_relations.specs.ContextCalls.{KeepsRest, KeepsSolver, KeepsOutliving, KeepsMarks, MarksNew};
 
 use crate::relate::StructurallyRelateAliases;
 use relation_terms::terms::{
@@ -26,6 +25,7 @@ use relation_terms::terms::{
     RegionVid, Span, Ty, TyVid, UniverseIndex, Variance,
 };
 use relation_tools::error::RelateResult;
+use relation_tools::fold::TypeFoldable;
 
 /// Whether a constraint on regions is seen where placeholders are checked for leaks. No answer of relating looks at it.
 #[derive(Clone, Copy, PartialEq, Eq)]
@@ -36,7 +36,8 @@ pub enum VisibleForLeakCheck {
 
 /// An inference context: an interner, and what is recorded of variables and regions.
 ///
-/// Each call says what it does to that, and keeps the context's invariant. The variables that are handed in are the
+/// Each call says what it does to that, and to the marks of related variables and the types that are to outlive regions,
+/// and keeps the context's invariant. The variables that are handed in are the
 /// context's, and so are the terms, which its interner knows.
 pub trait InferCtxtLike {
     /// The interner of the context's terms.
@@ -50,15 +51,6 @@ pub trait InferCtxtLike {
 
     // The context with another interner.
     ghost with_interner: { Self → Self.Interner → Self };
-
-    // Whether the next solver is on.
-    ghost is_next_solver: { Self → Bool };
-
-    // The types that are to outlive regions, in the order in which that was recorded.
-    ghost outliving: { Self → List (OutlivesPredicate Self.Interner.Key (TyKey Self.Interner.Key)) };
-
-    // The roots of the classes of type variables that are marked as related.
-    ghost sub_root: { Self → ℕ → ℕ };
 
     /// The interner, to read terms.
     fn cx(&self) -> &Self::Interner
@@ -78,7 +70,7 @@ pub trait InferCtxtLike {
 
     /// Whether the next trait solver is on, as it is everywhere but in parts of the compiler.
     fn next_trait_solver(&self) -> bool
-        ensures { result ≡ is_next_solver self.now };
+        ensures { result ≡ (state self.now).is_next_solver };
 
     /// The current universe.
     fn universe(&self) -> UniverseIndex
@@ -112,13 +104,14 @@ pub trait InferCtxtLike {
         requires made { IsMade (state self.now).store type_var var.0 }
         ensures { IsRootOf (state self.now) type_var var.0 result.0 };
 
-    /// The root of the class of those that are marked as related to a type variable. No other call asks for it.
+    /// The root of the class of those that are marked as related to a type variable. No other call asks for it. Two are
+    /// marked by `sub_unify_ty_vids_raw`, where they are made one, and where the one takes the place of the other.
     fn sub_unification_table_root_var(&self, var: TyVid) -> TyVid
         requires lawful { (state self.now).lawful }
         requires made { IsMade (state self.now).store type_var var.0 }
         ensures made { IsMade (state self.now).store type_var result.0 }
-        ensures root { result.0 ≡ sub_root self.now var.0 }
-        ensures own { sub_root self.now result.0 ≡ result.0 };
+        ensures root { result.0 ≡ (state self.now).sub_root var.0 }
+        ensures own { (state self.now).sub_root result.0 ≡ result.0 };
 
     /// The root of a constant variable's class.
     fn root_const_var(&self, var: ConstVid) -> ConstVid
@@ -179,30 +172,19 @@ pub trait InferCtxtLike {
         ensures reads { let c = state self.now in Reads c ((c.meaning).const_ ct.now) ((c.meaning).const_ result) }
         ensures shallow { let c = state self.now in IsShallowConst c.store ((c.meaning).const_ result) };
 
-    /// The type with each variable that has a term replaced by it, at every depth, and each other by its root. Nothing
-    /// is recorded.
-    fn resolve_vars_if_possible(
+    /// What is handed in with each variable that has a term replaced by it, at every depth, and each other by its root.
+    /// Nothing is recorded.
+    fn resolve_vars_if_possible<T: TypeFoldable<Self::Interner>>(
         &mut self,
-        ty: &Ty<Self::Interner>,
-    ) -> Result<Ty<Self::Interner>, OutOfMemory>
+        value: &T,
+    ) -> Result<T, OutOfMemory>
         requires lawful { (state self.old).lawful }
-        requires ty_known { KnowsTy (state self.old) ty.now }
-        requires ty_in { HasTy (state self.old) ty.now }
+        requires value_known { IsTrue (known (T.tree (state self.old).meaning value.now)) }
+        requires value_in { IsTermIn (state self.old).store (T.tree (state self.old).meaning value.now) }
         ensures grows { Grows (state self.old) (state self.new) }
         ensures same_record { (state self.new).store ≡ (state self.old).store }
-        ensures comes { ComesTo (state self.old) (state self.new) (λ m. m.ty) ty.now result };
-
-    /// The same of a constant.
-    fn resolve_const_vars_if_possible(
-        &mut self,
-        ct: &Const<Self::Interner>,
-    ) -> Result<Const<Self::Interner>, OutOfMemory>
-        requires lawful { (state self.old).lawful }
-        requires ct_known { KnowsConst (state self.old) ct.now }
-        requires ct_in { HasConst (state self.old) ct.now }
-        ensures grows { Grows (state self.old) (state self.new) }
-        ensures same_record { (state self.new).store ≡ (state self.old).store }
-        ensures comes { ComesTo (state self.old) (state self.new) (λ m. m.const_) ct.now result };
+        ensures comes { ComesTo (state self.old) (state self.new) T.tree value.now result }
+        ensures rest { KeepsRest (state self.old) (state self.new) };
 
     /// A new type variable in the current universe, which is marked as related to no other. After `OutOfMemory` no
     /// variable was made.
@@ -210,25 +192,28 @@ pub trait InferCtxtLike {
         requires lawful { (state self.old).lawful }
         ensures grows { Grows (state self.old) (state self.new) }
         ensures makes { MakesNext (state self.old) (state self.new) type_var (λ m. m.ty) result }
-        ensures unmarked { (n : ℕ) → sub_root self.new n ≡ sub_root self.old n };
+        ensures rest { KeepsRest (state self.old) (state self.new) };
 
     /// A new constant variable in the current universe. After `OutOfMemory` no variable was made.
     fn next_const_infer(&mut self) -> Result<Const<Self::Interner>, OutOfMemory>
         requires lawful { (state self.old).lawful }
         ensures grows { Grows (state self.old) (state self.new) }
-        ensures makes { MakesNext (state self.old) (state self.new) const_var (λ m. m.const_) result };
+        ensures makes { MakesNext (state self.old) (state self.new) const_var (λ m. m.const_) result }
+        ensures rest { KeepsRest (state self.old) (state self.new) };
 
     /// A new region variable in the current universe. After `OutOfMemory` no variable was made.
     fn next_region_infer(&mut self) -> Result<Region<Self::Interner>, OutOfMemory>
         requires lawful { (state self.old).lawful }
         ensures grows { Grows (state self.old) (state self.new) }
-        ensures makes { MakesNext (state self.old) (state self.new) region_var (λ m. m.region) result };
+        ensures makes { MakesNext (state self.old) (state self.new) region_var (λ m. m.region) result }
+        ensures rest { KeepsRest (state self.old) (state self.new) };
 
     /// A new universe, above all earlier ones, and the current one from then on. After `OutOfMemory` there is none.
     fn create_next_universe(&mut self) -> Result<UniverseIndex, OutOfMemory>
         requires lawful { (state self.old).lawful }
         ensures stands { Stands (state self.old) (state self.new) }
-        ensures enters { EntersNext (state self.old) (state self.new) result };
+        ensures enters { EntersNext (state self.old) (state self.new) result }
+        ensures rest { KeepsRest (state self.old) (state self.new) };
 
     /// Makes two unresolved type variables one. The smaller number is the root, with the smaller of both universes.
     /// Both are marked as related too.
@@ -237,7 +222,9 @@ pub trait InferCtxtLike {
         requires a_unresolved { IsUnresolved (state self.old) type_var a.0 }
         requires b_unresolved { IsUnresolved (state self.old) type_var b.0 }
         ensures equates { EquatesTwo (state self.old) (state self.new) type_var a.0 b.0 }
-        ensures marks { JoinsRoots (sub_root self.old) (sub_root self.new) a.0 b.0 };
+        ensures solver { KeepsSolver (state self.old) (state self.new) }
+        ensures outliving { KeepsOutliving (state self.old) (state self.new) }
+        ensures marks { JoinsRoots (state self.old).sub_root (state self.new).sub_root a.0 b.0 };
 
     /// Marks two type variables as related, with all that either is related to: the smaller of both roots is that of
     /// all of them. Nothing else is recorded.
@@ -247,42 +234,49 @@ pub trait InferCtxtLike {
         requires b_made { IsMade (state self.old).store type_var b.0 }
         ensures stands { Stands (state self.old) (state self.new) }
         ensures same_record { (state self.new).store ≡ (state self.old).store }
-        ensures marks { JoinsRoots (sub_root self.old) (sub_root self.new) a.0 b.0 };
+        ensures solver { KeepsSolver (state self.old) (state self.new) }
+        ensures outliving { KeepsOutliving (state self.old) (state self.new) }
+        ensures marks { JoinsRoots (state self.old).sub_root (state self.new).sub_root a.0 b.0 };
 
     /// Makes two unresolved integer variables one. The smaller number is the root, with the smaller of both universes.
     fn equate_int_vids_raw(&mut self, a: IntVid, b: IntVid)
         requires lawful { (state self.old).lawful }
         requires a_unresolved { IsUnresolved (state self.old) int_var a.0 }
         requires b_unresolved { IsUnresolved (state self.old) int_var b.0 }
-        ensures { EquatesTwo (state self.old) (state self.new) int_var a.0 b.0 };
+        ensures equates { EquatesTwo (state self.old) (state self.new) int_var a.0 b.0 }
+        ensures rest { KeepsRest (state self.old) (state self.new) };
 
     /// Makes two unresolved float variables one. The smaller number is the root, with the smaller of both universes.
     fn equate_float_vids_raw(&mut self, a: FloatVid, b: FloatVid)
         requires lawful { (state self.old).lawful }
         requires a_unresolved { IsUnresolved (state self.old) float_var a.0 }
         requires b_unresolved { IsUnresolved (state self.old) float_var b.0 }
-        ensures { EquatesTwo (state self.old) (state self.new) float_var a.0 b.0 };
+        ensures equates { EquatesTwo (state self.old) (state self.new) float_var a.0 b.0 }
+        ensures rest { KeepsRest (state self.old) (state self.new) };
 
     /// Makes two unresolved constant variables one. The smaller number is the root, with the smaller of both universes.
     fn equate_const_vids_raw(&mut self, a: ConstVid, b: ConstVid)
         requires lawful { (state self.old).lawful }
         requires a_unresolved { IsUnresolved (state self.old) const_var a.0 }
         requires b_unresolved { IsUnresolved (state self.old) const_var b.0 }
-        ensures { EquatesTwo (state self.old) (state self.new) const_var a.0 b.0 };
+        ensures equates { EquatesTwo (state self.old) (state self.new) const_var a.0 b.0 }
+        ensures rest { KeepsRest (state self.old) (state self.new) };
 
     /// Binds an unresolved integer variable to an integer type, for nothing of the budget.
     fn instantiate_int_var_raw(&mut self, vid: IntVid, value: IntVarValue)
         requires lawful { (state self.old).lawful }
         requires unresolved { IsUnresolved (state self.old) int_var vid.0 }
         requires value_known { value ≢ Unknown }
-        ensures { BindsNumber (state self.old) (state self.new) int_var vid.0 (int_value_tree value) };
+        ensures binds { BindsNumber (state self.old) (state self.new) int_var vid.0 (int_value_tree value) }
+        ensures rest { KeepsRest (state self.old) (state self.new) };
 
     /// Binds an unresolved float variable to a float type, for nothing of the budget.
     fn instantiate_float_var_raw(&mut self, vid: FloatVid, value: FloatVarValue)
         requires lawful { (state self.old).lawful }
         requires unresolved { IsUnresolved (state self.old) float_var vid.0 }
         requires value_known { value ≢ UnknownFloat }
-        ensures { BindsNumber (state self.old) (state self.new) float_var vid.0 (float_value_tree value) };
+        ensures binds { BindsNumber (state self.old) (state self.new) float_var vid.0 (float_value_tree value) }
+        ensures rest { KeepsRest (state self.old) (state self.new) };
 
     /// Binds an unresolved type variable, at a variance, to what a type comes to, generalised for what the variable can
     /// name, for one of the budget, and answers the bound type. The type is no type variable, and has rules.
@@ -291,6 +285,8 @@ pub trait InferCtxtLike {
     /// `Budget` where no instantiation is left; `CyclicTy` where the variable stands in what the type comes to,
     /// `Mismatch` where a placeholder does that the variable can't name; `Memory` where a growth was refused. Then
     /// nothing was bound, though variables may have been made on the way, but for `Budget`.
+    ///
+    /// A type variable that is made on the way is marked as related to the one that it takes the place of.
     fn instantiate_ty_var_raw(
         &mut self,
         structurally_relate_aliases: StructurallyRelateAliases,
@@ -309,7 +305,8 @@ pub trait InferCtxtLike {
         ensures grows { Grows (state self.old) (state self.new) }
         ensures instantiates { let t = ((state self.old).meaning).ty source_ty.now in
             Instantiated (state self.old) (state self.new) instantiation_variance type_var target_vid.0 t (λ m. m.ty)
-            CyclicTy result };
+            CyclicTy result }
+        ensures rest { MarksNew (state self.old) (state self.new) };
 
     /// The same of a constant variable and a constant that is no variable, at `Invariant`, with `CyclicConst`.
     fn instantiate_const_var_raw(
@@ -328,7 +325,8 @@ pub trait InferCtxtLike {
         ensures grows { Grows (state self.old) (state self.new) }
         ensures instantiates { let t = ((state self.old).meaning).const_ source_ct.now in
             Instantiated (state self.old) (state self.new) Invariant const_var target_vid.0 t (λ m. m.const_)
-            CyclicConst result };
+            CyclicConst result }
+        ensures rest { MarksNew (state self.old) (state self.new) };
 
     /// Records that `sup` outlives `sub`. After `OutOfMemory` nothing was recorded.
     fn sub_regions(
@@ -344,7 +342,8 @@ pub trait InferCtxtLike {
         ensures stands { Stands (state self.old) (state self.new) }
         ensures constrains { let m = (state self.old).meaning in
             Constrains (state self.old) (state self.new) (outlives_constraint (m.region sup.now) (m.region sub.now))
-            result };
+            result }
+        ensures rest { KeepsRest (state self.old) (state self.new) };
 
     /// Records that two regions outlive each other, also where both are one. After `OutOfMemory` nothing was recorded.
     fn equate_regions(
@@ -359,7 +358,8 @@ pub trait InferCtxtLike {
         requires b_in { HasRegion (state self.old) b.now }
         ensures stands { Stands (state self.old) (state self.new) }
         ensures constrains { let m = (state self.old).meaning in
-            Constrains (state self.old) (state self.new) (equal_constraint (m.region a.now) (m.region b.now)) result };
+            Constrains (state self.old) (state self.new) (equal_constraint (m.region a.now) (m.region b.now)) result }
+        ensures rest { KeepsRest (state self.old) (state self.new) };
 
     /// Registers that a type is to outlive a region, behind what was registered before. Nothing else is recorded. After
     /// `OutOfMemory` nothing was registered.
@@ -372,7 +372,9 @@ pub trait InferCtxtLike {
         requires { (state self.old).lawful }
         ensures stands { Stands (state self.old) (state self.new) }
         ensures same_record { (state self.new).store ≡ (state self.old).store }
-        ensures registers { Registers (outliving self.old) (outliving self.new) ty.now r.now result };
+        ensures solver { KeepsSolver (state self.old) (state self.new) }
+        ensures marks { KeepsMarks (state self.old) (state self.new) }
+        ensures registers { Registers (state self.old).outliving (state self.new).outliving ty.now r.now result };
 
     // Its keys mean what they mean to the interner.
     ghost reads: { (c : Self) → (state c).meaning ≡ Self.Interner.meaning (interner c) };
@@ -385,4 +387,8 @@ pub trait InferCtxtLike {
 
     // What its variables are bound to is of forms that relating has rules for.
     ghost covered: { (c : Self) → (state c).lawful → HasCoveredBindings (state c).store };
+
+    // A type variable that is not made is marked as related to no other, so that neither is one that was just made.
+    ghost unmarked: { (c : Self) → (state c).lawful → (n : ℕ) →
+        length (((state c).store).entries type_var) ≤ n → (state c).sub_root n ≡ n };
 }

@@ -5,11 +5,11 @@ ghost use Rattle.relation_terms.specs.declared.terms.ty_kind.IntVarValue.TheVari
 ghost use Rattle.relation_terms.specs.declared.terms.ty_kind.FloatVarValue.TheVariants.{Unknown as UnknownFloat};
 ghost use Rattle.type_relations.specs.Stores.{unbound, entry_of};
 ghost use Rattle.type_relations.specs.Steps.{Equates, InstantiatesNumber};
-ghost use Rattle.type_relations.specs.ContextCalls.{JoinsRoots};
+ghost use Rattle.type_relations.specs.ContextCalls.{JoinsRoots, KeepsRest, KeepsSolver, KeepsOutliving};
 ghost use Rattle.type_relations.specs.NumberValues.{int_value_tree, float_value_tree};
 ghost use Rattle.relation_reference.specs.SubRoots.{root_in};
 ghost use Rattle.relation_reference.specs.Tables.{store_of, IsLawful};
-ghost use Rattle.relation_reference.specs.RefCtxt.{store_in};
+ghost use Rattle.relation_reference.specs.RefCtxt.{store_in, context_in};
 
 use crate::context::RefCtxt;
 use crate::context::numbers::{float_value_place, int_value_place};
@@ -35,6 +35,8 @@ impl<I: Interner> RefCtxt<I> {
         ensures equates { let m = I.meaning self.old.interner in
             (a.0 ≡ b.0 → ⊥) →
             Equates (store_of m self.old.inner) (store_of m self.new.inner) type_var (max a.0 b.0) (min a.0 b.0) }
+        ensures solver { KeepsSolver (context_in I.meaning self.old) (context_in I.meaning self.new) }
+        ensures outliving { KeepsOutliving (context_in I.meaning self.old) (context_in I.meaning self.new) }
         ensures marks { JoinsRoots (root_in self.old.inner.sub_roots.items) (root_in self.new.inner.sub_roots.items)
             a.0 b.0 }
     {
@@ -61,6 +63,7 @@ impl<I: Interner> RefCtxt<I> {
         ensures equates { let m = I.meaning self.old.interner in
             (a.0 ≡ b.0 → ⊥) →
             Equates (store_of m self.old.inner) (store_of m self.new.inner) int_var (max a.0 b.0) (min a.0 b.0) }
+        ensures rest { KeepsRest (context_in I.meaning self.old) (context_in I.meaning self.new) }
     {
         if a.0 < b.0 {
             link(&mut self.inner.ints, b.0, a.0);
@@ -83,6 +86,7 @@ impl<I: Interner> RefCtxt<I> {
         ensures equates { let m = I.meaning self.old.interner in
             (a.0 ≡ b.0 → ⊥) →
             Equates (store_of m self.old.inner) (store_of m self.new.inner) float_var (max a.0 b.0) (min a.0 b.0) }
+        ensures rest { KeepsRest (context_in I.meaning self.old) (context_in I.meaning self.new) }
     {
         if a.0 < b.0 {
             link(&mut self.inner.floats, b.0, a.0);
@@ -105,6 +109,7 @@ impl<I: Interner> RefCtxt<I> {
         ensures equates { let m = I.meaning self.old.interner in
             (a.0 ≡ b.0 → ⊥) →
             Equates (store_of m self.old.inner) (store_of m self.new.inner) const_var (max a.0 b.0) (min a.0 b.0) }
+        ensures rest { KeepsRest (context_in I.meaning self.old) (context_in I.meaning self.new) }
     {
         if a.0 < b.0 {
             link(&mut self.inner.consts, b.0, a.0);
@@ -124,6 +129,7 @@ impl<I: Interner> RefCtxt<I> {
         ensures binds { let m = I.meaning self.old.interner in
             InstantiatesNumber (store_of m self.old.inner) (store_of m self.new.inner)
             int_var var.0 (int_value_tree value) }
+        ensures rest { KeepsRest (context_in I.meaning self.old) (context_in I.meaning self.new) }
     {
         let place = int_value_place(value);
         let key = self.inner.numbers[place];
@@ -141,6 +147,7 @@ impl<I: Interner> RefCtxt<I> {
         ensures binds { let m = I.meaning self.old.interner in
             InstantiatesNumber (store_of m self.old.inner) (store_of m self.new.inner)
             float_var var.0 (float_value_tree value) }
+        ensures rest { KeepsRest (context_in I.meaning self.old) (context_in I.meaning self.new) }
     {
         let place = float_value_place(value);
         let key = self.inner.numbers[place];

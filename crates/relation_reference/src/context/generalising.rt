@@ -3,7 +3,7 @@
 ghost use Rattle.std.specs.Prelude.{◌≡◌, ◌≢◌, ◌≤◌, ◌<◌, ℕ, IsTrue, IsFalse, IfOk, IfSome, IfNone, OnOk, OnErr};
 ghost use Rattle.std.specs.Prelude.{List, ◌∷◌, Contains, Some, length};
 ghost use Rattle.relation_terms.specs.Heads.{VarKind, Leaf, variable, placeholder, BoundKind, bound_sort, region_sort};
-ghost use Rattle.relation_terms.specs.Heads.{const_sort, region_var};
+ghost use Rattle.relation_terms.specs.Heads.{const_sort, type_var, region_var};
 ghost use Rattle.relation_terms.specs.Trees.{Tree, leaf, known, count, IsTerm};
 ghost use Rattle.relation_terms.specs.Meaning.{Extends};
 ghost use Rattle.relation_terms.specs.Parts.{part_tree, part_sort, parts_of};
@@ -15,7 +15,8 @@ ghost use Rattle.type_relations.specs.Stores.{InContext, IsMade, universe_of};
 ghost use Rattle.type_relations.specs.Steps.{MakesVariable};
 ghost use Rattle.type_relations.specs.Generalising.{Met, Stays, any_part, new_part, variance_of_part, MakesUnbound};
 ghost use Rattle.relation_reference.specs.Tables.{IsLawful};
-ghost use Rattle.relation_reference.specs.RefCtxt.{store_in};
+ghost use Rattle.type_relations.specs.ContextCalls.{MarksNew};
+ghost use Rattle.relation_reference.specs.RefCtxt.{store_in, context_in};
 ghost use Rattle.relation_reference.specs.Remembering.{vid_kind, vid_number};
 ghost use Rattle.relation_reference.specs.Generalises.{new_kind, met_at, IsFate, IsSure, Keeps, Generalises};
 ghost use Rattle.relation_reference.specs.Generalises.{IsGeneralisedFor};
@@ -28,7 +29,7 @@ use crate::context::resolving::{is_same_vid, variable_of};
 use relation_terms::terms::parts::{is_same, part, parts_count, the_ty, with_parts};
 use relation_terms::terms::{
     Const, ConstKind, DefId, Interner, ItemOf, Keys, Mutability, OutOfMemory, Part, PartOf, Region,
-    RegionKind, RegionVid, Ty, TyKey, TyKind, UniverseIndex, Variance,
+    RegionKind, RegionVid, Ty, TyKey, TyKind, TyVid, UniverseIndex, Variance,
 };
 use relation_tools::error::{RelateFault, RelateFaultOf, TypeError};
 use std::collections::HashMap;
@@ -232,6 +233,19 @@ fn placeholder_universe<I: Interner>(cx: &I, term: &PartOf<I>) -> Option<Univers
     }
 }
 
+// The type variable that a part is.
+fn type_variable<I: Interner>(cx: &I, term: &PartOf<I>) -> TyVid
+    requires known { IsTrue (known (part_tree (I.meaning cx.now) term.now)) }
+    requires varies { (n : ℕ) × (part_tree (I.meaning cx.now) term.now ≡ leaf (variable type_var n)) }
+    ensures { part_tree (I.meaning cx.now) term.now ≡ leaf (variable type_var result.0) }
+{
+    match variable_of(cx, term) {
+        Some(TermVid::Ty(vid)) => vid,
+        Some(TermVid::Const(_)) => unreachable!(),
+        None => unreachable!(),
+    }
+}
+
 impl<I: Interner> RefCtxt<I> {
     // The universe of a region variable.
     fn region_universe(&self, vid: RegionVid) -> usize
@@ -312,7 +326,7 @@ impl<I: Interner> RefCtxt<I> {
         Fate::ByParts
     }
 
-    // A new variable for a part, in a universe.
+    // A new variable for a part, in a universe. One for a type variable is marked as related to it.
     fn next_for(
         &mut self,
         term: &PartOf<I>,
@@ -321,6 +335,11 @@ impl<I: Interner> RefCtxt<I> {
         requires lawful { IsLawful (I.meaning self.old.interner) self.old.inner }
         requires below { universe.0 ≤ self.old.inner.universe.0 }
         requires has { (j : VarKind) × (new_kind term.now ≡ Some j) }
+        requires term_known { IsTrue (known (part_tree (I.meaning self.old.interner) term.now)) }
+        requires term_in { let m = I.meaning self.old.interner in
+            InContext (store_in I.meaning self.old) (part_tree m term.now) }
+        requires varies { new_kind term.now ≡ Some type_var →
+            (n : ℕ) × (part_tree (I.meaning self.old.interner) term.now ≡ leaf (variable type_var n)) }
         ensures lawful { IsLawful (I.meaning self.new.interner) self.new.inner }
         ensures grown { Extends (I.meaning self.old.interner) (I.meaning self.new.interner) }
         ensures sure { IfOk result (λ x. IsTrue (known (part_tree (I.meaning self.new.interner) x))) }
@@ -328,10 +347,14 @@ impl<I: Interner> RefCtxt<I> {
         ensures makes { IfOk result (λ x. (j : VarKind) → new_kind term.now ≡ Some j → (n : ℕ) ×
             MakesVariable (store_in I.meaning self.old) (store_in I.meaning self.new) j n universe.0 ×
             (part_tree (I.meaning self.new.interner) x ≡ leaf (variable j n))) }
+        ensures rest { MarksNew (context_in I.meaning self.old) (context_in I.meaning self.new) }
         ensures refused { OnErr result (store_in I.meaning self.new ≡ store_in I.meaning self.old) }
     {
         match term {
-            Part::Ty(_) => Ok(Part::Ty(self.next_ty_var_in(universe)?)),
+            Part::Ty(_) => {
+                let of = type_variable(&self.interner, term);
+                Ok(Part::Ty(self.next_related_ty_var(of, universe)?))
+            }
             Part::Const(_) => Ok(Part::Const(self.next_const_var_in(universe)?)),
             Part::Region(_) => Ok(Part::Region(self.next_region_var_in(universe)?)),
             _ => unreachable!(),
@@ -452,6 +475,7 @@ impl<I: Interner> RefCtxt<I> {
         ensures lawful { IsLawful (I.meaning self.new.interner) self.new.inner }
         ensures grown { Extends (I.meaning self.old.interner) (I.meaning self.new.interner) }
         ensures makes { MakesUnbound target.now.universe.0 (store_in I.meaning self.old) (store_in I.meaning self.new) }
+        ensures rest { MarksNew (context_in I.meaning self.old) (context_in I.meaning self.new) }
         ensures generalised { IsGeneralisedFor (I.meaning self.old.interner) (I.meaning self.new.interner)
             (store_in I.meaning self.old) (store_in I.meaning self.new) (vid_kind target.now.vid)
             (vid_number target.now.vid) variance target.now.cyclic source.now result }

@@ -5,6 +5,7 @@ use relation_terms::terms::{
     RegionVid, Span, Ty, TyVid, UniverseIndex, Variance,
 };
 use relation_tools::error::RelateResult;
+use relation_tools::fold::TypeFoldable;
 use type_relations::infer_ctxt::{InferCtxtLike, VisibleForLeakCheck};
 use type_relations::relate::StructurallyRelateAliases;
 
@@ -14,19 +15,12 @@ impl<I: Interner> InferCtxtLike for RefCtxt<I> {
     ghost use Rattle.std.specs.Prelude.{refl};
     ghost use Rattle.relation_reference.specs.Tables.{covered_bindings};
     ghost use Rattle.relation_reference.specs.RefCtxt.{context_in};
-    ghost use Rattle.relation_reference.specs.SubRoots.{root_in};
 
     ghost state = { λ c. context_in I.meaning c };
 
     ghost interner = { λ c. c.interner };
 
     ghost with_interner = { λ c cx. record c { interner = cx } };
-
-    ghost is_next_solver = { λ c. c.inner.next_solver };
-
-    ghost outliving = { λ c. c.inner.ty_outlives.items };
-
-    ghost sub_root = { λ c. root_in c.inner.sub_roots.items };
 
     fn cx(&self) -> &I {
         &self.interner
@@ -102,12 +96,11 @@ impl<I: Interner> InferCtxtLike for RefCtxt<I> {
         self.shallow_resolve_const(ct)
     }
 
-    fn resolve_vars_if_possible(&mut self, ty: &Ty<I>) -> Result<Ty<I>, OutOfMemory> {
-        self.resolve_vars_if_possible(ty)
-    }
-
-    fn resolve_const_vars_if_possible(&mut self, ct: &Const<I>) -> Result<Const<I>, OutOfMemory> {
-        self.resolve_const_vars_if_possible(ct)
+    fn resolve_vars_if_possible<T: TypeFoldable<I>>(
+        &mut self,
+        value: &T,
+    ) -> Result<T, OutOfMemory> {
+        self.resolve_vars_if_possible(value)
     }
 
     fn next_ty_infer(&mut self) -> Result<Ty<I>, OutOfMemory> {
@@ -209,4 +202,6 @@ impl<I: Interner> InferCtxtLike for RefCtxt<I> {
     ghost numbers = { λ c l. l.numbers_name_nothing };
 
     ghost covered = { λ c l. covered_bindings (I.meaning c.interner) c.inner l };
+
+    ghost unmarked = { λ c l. l.sub_rooted.fresh };
 }

@@ -6,7 +6,7 @@ ghost use Rattle.relation_terms.specs.Trees.{leaf, known};
 ghost use Rattle.relation_tools.specs.declared.error.TypeError.TheVariants.{CyclicTy, CyclicConst};
 ghost use Rattle.type_relations.specs.Stores.{unbound, entry_of, IsTermIn};
 ghost use Rattle.type_relations.specs.Covered.{IsCovered};
-ghost use Rattle.type_relations.specs.ContextCalls.{Grows, Instantiated};
+ghost use Rattle.type_relations.specs.ContextCalls.{Grows, Instantiated, MarksNew};
 ghost use Rattle.relation_reference.specs.Tables.{IsLawful};
 ghost use Rattle.relation_reference.specs.RefCtxt.{store_in, context_in};
 
@@ -26,6 +26,8 @@ impl<I: Interner> RefCtxt<I> {
     /// `Budget` where no instantiation is left; `CyclicTy` where the root stands in what the type comes to, `Mismatch`
     /// where a placeholder does that the root can't name; `Memory` where a growth was refused. Then nothing is bound,
     /// though variables may have been made on the way, but for `Budget`.
+    ///
+    /// A type variable that is made on the way is marked as related to the one that it takes the place of.
     pub fn instantiate_ty_var_raw(
         &mut self,
         target: TyVid,
@@ -44,11 +46,12 @@ impl<I: Interner> RefCtxt<I> {
         ensures instantiates { let t = (I.meaning self.old.interner).ty source.now in
             Instantiated (context_in I.meaning self.old) (context_in I.meaning self.new) variance type_var target.0 t
             (λ m. m.ty) CyclicTy result }
+        ensures rest { MarksNew (context_in I.meaning self.old) (context_in I.meaning self.new) }
     {
         if self.inner.budget == 0 {
             return Err(RelateFault::Budget);
         }
-        let resolved = self.resolve_vars_if_possible(source)?;
+        let resolved = self.resolve_ty(source)?;
         let goal = Target {
             vid: TermVid::Ty(target),
             universe: self.inner.types[target.0].universe,
@@ -79,11 +82,12 @@ impl<I: Interner> RefCtxt<I> {
         ensures instantiates { let t = (I.meaning self.old.interner).const_ source.now in
             Instantiated (context_in I.meaning self.old) (context_in I.meaning self.new) Invariant const_var target.0 t
             (λ m. m.const_) CyclicConst result }
+        ensures rest { MarksNew (context_in I.meaning self.old) (context_in I.meaning self.new) }
     {
         if self.inner.budget == 0 {
             return Err(RelateFault::Budget);
         }
-        let resolved = self.resolve_const_vars_if_possible(source)?;
+        let resolved = self.resolve_const(source)?;
         let goal = Target {
             vid: TermVid::Const(target),
             universe: self.inner.consts[target.0].universe,

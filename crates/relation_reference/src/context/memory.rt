@@ -2,9 +2,10 @@
 ghost use Rattle.std.specs.Prelude.{◌≡◌, IsTrue, IfSome, OnOk};
 ghost use Rattle.relation_terms.specs.Trees.{known};
 ghost use Rattle.relation_terms.specs.Parts.{part_tree};
+ghost use Rattle.relation_reference.specs.Tables.{store_of};
 ghost use Rattle.relation_reference.specs.Remembering.{ComesTo, Remembers, key_of as the_key};
 
-use crate::context::RefCtxt;
+use crate::context::InferCtxtInner;
 use relation_terms::terms::{ConstVid, Interner, OutOfMemory, Part, PartOf, TyVid};
 use std::collections::HashMap;
 
@@ -44,37 +45,42 @@ fn key_of<X: Copy, D: Copy>(part: &Part<X, D>) -> Option<PartKey<X>>
     Some(PartKey { sort, key })
 }
 
-impl<I: Interner> RefCtxt<I> {
-    // What the part was resolved to, if it was met before.
-    pub(crate) fn recall(
-        &self,
-        part: &PartOf<I>,
-        memory: &Resolutions<I::Key, I::Id>,
-    ) -> Option<PartOf<I>>
-        requires known { IsTrue (known (part_tree (I.meaning self.now.interner) part.now)) }
-        requires remembers { Remembers I.meaning self.now ⟦<PartKey<I::Key> as PartialEq>⟧.eq memory.now }
-        ensures { IfSome result (ComesTo I.meaning self.now part.now) }
-    {
-        let _ = self;
-        let key = key_of(part)?;
-        memory.get(&key).copied()
-    }
+// What the part was resolved to, if it was met before. `inner` is what the parts were resolved by.
+pub(crate) fn recall<I: Interner>(
+    cx: &I,
+    inner: &InferCtxtInner<I::Key>,
+    part: &PartOf<I>,
+    memory: &Resolutions<I::Key, I::Id>,
+) -> Option<PartOf<I>>
+    requires known { IsTrue (known (part_tree (I.meaning cx.now) part.now)) }
+    requires remembers { let m = I.meaning cx.now in
+        Remembers m (store_of m inner.now) ⟦<PartKey<I::Key> as PartialEq>⟧.eq memory.now }
+    ensures { let m = I.meaning cx.now in IfSome result (ComesTo m (store_of m inner.now) part.now) }
+{
+    let _ = cx;
+    let _ = inner;
+    let key = key_of(part)?;
+    memory.get(&key).copied()
+}
 
-    // Keeps what the part was resolved to.
-    pub(crate) fn keep(
-        &self,
-        part: &PartOf<I>,
-        resolved: PartOf<I>,
-        memory: &mut Resolutions<I::Key, I::Id>,
-    ) -> Result<(), OutOfMemory>
-        requires comes { ComesTo I.meaning self.now part.now resolved }
-        requires remembers { Remembers I.meaning self.now ⟦<PartKey<I::Key> as PartialEq>⟧.eq memory.old }
-        ensures { OnOk result (Remembers I.meaning self.now ⟦<PartKey<I::Key> as PartialEq>⟧.eq memory.new) }
-    {
-        let _ = self;
-        if let Some(key) = key_of(part) {
-            memory.insert(key, resolved)?;
-        }
-        Ok(())
+// Keeps what the part was resolved to.
+pub(crate) fn keep<I: Interner>(
+    cx: &I,
+    inner: &InferCtxtInner<I::Key>,
+    part: &PartOf<I>,
+    resolved: PartOf<I>,
+    memory: &mut Resolutions<I::Key, I::Id>,
+) -> Result<(), OutOfMemory>
+    requires comes { let m = I.meaning cx.now in ComesTo m (store_of m inner.now) part.now resolved }
+    requires remembers { let m = I.meaning cx.now in
+        Remembers m (store_of m inner.now) ⟦<PartKey<I::Key> as PartialEq>⟧.eq memory.old }
+    ensures { let m = I.meaning cx.now in
+        OnOk result (Remembers m (store_of m inner.now) ⟦<PartKey<I::Key> as PartialEq>⟧.eq memory.new) }
+{
+    let _ = cx;
+    let _ = inner;
+    if let Some(key) = key_of(part) {
+        memory.insert(key, resolved)?;
     }
+    Ok(())
 }

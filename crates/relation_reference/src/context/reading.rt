@@ -11,10 +11,12 @@ ghost use Rattle.relation_reference.specs.Tables.{IsLawful};
 ghost use Rattle.relation_reference.specs.RefCtxt.{store_in};
 ghost use Rattle.relation_reference.specs.Answers.{HasBinding, HasNoBinding};
 
-use crate::context::table::{probe, root_of, term_of};
+use crate::context::shallow::{
+    const_of_var, shallow_resolve, shallow_resolve_const, ty_of_float_var, ty_of_int_var, ty_of_var,
+};
+use crate::context::table::{probe, root_of};
 use crate::context::{RefCtxt, VariableValue};
 use relation_terms::terms::{Const, ConstVid, FloatVid, IntVid, Interner, Ty, TyVid};
-use type_relations::relate::variables::{const_vid, float_vid, int_vid, ty_vid};
 
 impl<I: Interner> RefCtxt<I> {
     /// The root of a type variable's class.
@@ -87,7 +89,7 @@ impl<I: Interner> RefCtxt<I> {
         ensures shallow { IsShallowTy (store_in I.meaning self.now) ((I.meaning self.now.interner).ty result) }
         ensures covered { IsCovered ((I.meaning self.now.interner).ty result) }
     {
-        term_of(&self.inner.types, var.0)
+        ty_of_var(&self.interner, &self.inner, var)
     }
 
     /// The type that an integer variable's class is bound to, or else the root of its class.
@@ -100,7 +102,7 @@ impl<I: Interner> RefCtxt<I> {
         ensures shallow { IsShallow (store_in I.meaning self.now) ((I.meaning self.now.interner).ty result) }
         ensures covered { IsCovered ((I.meaning self.now.interner).ty result) }
     {
-        term_of(&self.inner.ints, var.0)
+        ty_of_int_var(&self.interner, &self.inner, var)
     }
 
     /// The type that a float variable's class is bound to, or else the root of its class.
@@ -113,7 +115,7 @@ impl<I: Interner> RefCtxt<I> {
         ensures shallow { IsShallow (store_in I.meaning self.now) ((I.meaning self.now.interner).ty result) }
         ensures covered { IsCovered ((I.meaning self.now.interner).ty result) }
     {
-        term_of(&self.inner.floats, var.0)
+        ty_of_float_var(&self.interner, &self.inner, var)
     }
 
     /// The constant that a constant variable's class is bound to, or else the root of its class.
@@ -126,46 +128,7 @@ impl<I: Interner> RefCtxt<I> {
         ensures shallow { IsShallowConst (store_in I.meaning self.now) ((I.meaning self.now.interner).const_ result) }
         ensures covered { IsCovered ((I.meaning self.now.interner).const_ result) }
     {
-        term_of(&self.inner.consts, var.0)
-    }
-
-    // The type itself, or for a type variable what it is found to be.
-    fn shallow_ty(&self, ty: &Ty<I>) -> Ty<I>
-        requires lawful { IsLawful (I.meaning self.now.interner) self.now.inner }
-        requires ty_known { IsTrue (known ((I.meaning self.now.interner).ty ty.now)) }
-        requires ty_in { InContext (store_in I.meaning self.now) ((I.meaning self.now.interner).ty ty.now) }
-        ensures sure { IsTrue (known ((I.meaning self.now.interner).ty result)) }
-        ensures reads { let m = I.meaning self.now.interner in
-            IsReadAs (store_in I.meaning self.now) (m.ty ty.now) (m.ty result) }
-        ensures shallow { IsShallowTy (store_in I.meaning self.now) ((I.meaning self.now.interner).ty result) }
-        ensures covered { let m = I.meaning self.now.interner in IsCovered (m.ty ty.now) → IsCovered (m.ty result) }
-    {
-        let Some(var) = ty_vid(&self.interner.ty_kind(ty)) else {
-            return *ty;
-        };
-        self.opportunistic_resolve_ty_var(var)
-    }
-
-    // The type itself, or for an integer or float variable what its class is bound to, or else the root of its class.
-    fn shallow_number(&self, ty: &Ty<I>) -> Ty<I>
-        requires lawful { IsLawful (I.meaning self.now.interner) self.now.inner }
-        requires ty_known { IsTrue (known ((I.meaning self.now.interner).ty ty.now)) }
-        requires ty_in { InContext (store_in I.meaning self.now) ((I.meaning self.now.interner).ty ty.now) }
-        requires ty_shallow { IsShallowTy (store_in I.meaning self.now) ((I.meaning self.now.interner).ty ty.now) }
-        ensures sure { IsTrue (known ((I.meaning self.now.interner).ty result)) }
-        ensures reads { let m = I.meaning self.now.interner in
-            IsReadAs (store_in I.meaning self.now) (m.ty ty.now) (m.ty result) }
-        ensures shallow { IsShallow (store_in I.meaning self.now) ((I.meaning self.now.interner).ty result) }
-        ensures covered { let m = I.meaning self.now.interner in IsCovered (m.ty ty.now) → IsCovered (m.ty result) }
-    {
-        let kind = self.interner.ty_kind(ty);
-        if let Some(number) = int_vid(&kind) {
-            return self.opportunistic_resolve_int_var(number);
-        }
-        if let Some(float) = float_vid(&kind) {
-            return self.opportunistic_resolve_float_var(float);
-        }
-        *ty
+        const_of_var(&self.interner, &self.inner, var)
     }
 
     /// The type itself, or for a variable the type that its class is bound to, or else the root of its class. A type
@@ -182,8 +145,7 @@ impl<I: Interner> RefCtxt<I> {
         ensures shallow { IsShallow (store_in I.meaning self.now) ((I.meaning self.now.interner).ty result) }
         ensures covered { let m = I.meaning self.now.interner in IsCovered (m.ty ty.now) → IsCovered (m.ty result) }
     {
-        let found = self.shallow_ty(ty);
-        self.shallow_number(&found)
+        shallow_resolve(&self.interner, &self.inner, ty)
     }
 
     /// The constant itself, or for a variable the constant that its class is bound to, or else the root of its class.
@@ -201,9 +163,6 @@ impl<I: Interner> RefCtxt<I> {
         ensures covered { let m = I.meaning self.now.interner in
             IsCovered (m.const_ constant.now) → IsCovered (m.const_ result) }
     {
-        let Some(var) = const_vid(&self.interner.const_kind(constant)) else {
-            return *constant;
-        };
-        self.opportunistic_resolve_ct_var(var)
+        shallow_resolve_const(&self.interner, &self.inner, constant)
     }
 }

@@ -7,9 +7,9 @@ ghost use Rattle.type_relations.specs.Stores.{IsRegionIn, equal_constraint};
 ghost use Rattle.type_relations.specs.Stores.{outlives_constraint};
 ghost use Rattle.type_relations.specs.Steps.{MakesVariable, AddsConstraint, IsLater};
 ghost use Rattle.type_relations.specs.Measures.{Goes};
-ghost use Rattle.relation_reference.specs.SubRoots.{root_in};
+ghost use Rattle.type_relations.specs.ContextCalls.{KeepsRest};
 ghost use Rattle.relation_reference.specs.Tables.{store_of, IsLawful};
-ghost use Rattle.relation_reference.specs.RefCtxt.{store_in};
+ghost use Rattle.relation_reference.specs.RefCtxt.{store_in, context_in};
 
 use crate::context::{RefCtxt, Variable, VariableValue};
 use relation_terms::predicate::{OutlivesPredicate, RegionConstraint, RegionEqPredicate};
@@ -35,9 +35,8 @@ impl<I: Interner> RefCtxt<I> {
         ensures makes { let number = length self.old.inner.types.items in
             OnOk result (MakesVariable (store_in I.meaning self.old) (store_in I.meaning self.new)
             type_var number universe.0) }
-        ensures unmarked { (n : ℕ) →
-            root_in self.new.inner.sub_roots.items n ≡ root_in self.old.inner.sub_roots.items n }
         ensures refused { OnErr result (store_in I.meaning self.new ≡ store_in I.meaning self.old) }
+        ensures rest { KeepsRest (context_in I.meaning self.old) (context_in I.meaning self.new) }
     {
         let number = self.inner.types.len();
         let key = self
@@ -69,9 +68,8 @@ impl<I: Interner> RefCtxt<I> {
         ensures makes { let number = length self.old.inner.types.items in
             OnOk result (MakesVariable (store_in I.meaning self.old) (store_in I.meaning self.new)
             type_var number self.old.inner.universe.0) }
-        ensures unmarked { (n : ℕ) →
-            root_in self.new.inner.sub_roots.items n ≡ root_in self.old.inner.sub_roots.items n }
         ensures refused { OnErr result (store_in I.meaning self.new ≡ store_in I.meaning self.old) }
+        ensures rest { KeepsRest (context_in I.meaning self.old) (context_in I.meaning self.new) }
     {
         self.next_ty_var_in(self.inner.universe)
     }
@@ -92,6 +90,7 @@ impl<I: Interner> RefCtxt<I> {
             OnOk result (MakesVariable (store_in I.meaning self.old) (store_in I.meaning self.new)
             int_var number 0) }
         ensures refused { OnErr result (store_in I.meaning self.new ≡ store_in I.meaning self.old) }
+        ensures rest { KeepsRest (context_in I.meaning self.old) (context_in I.meaning self.new) }
     {
         let number = self.inner.ints.len();
         let key = self
@@ -121,6 +120,7 @@ impl<I: Interner> RefCtxt<I> {
             OnOk result (MakesVariable (store_in I.meaning self.old) (store_in I.meaning self.new)
             float_var number 0) }
         ensures refused { OnErr result (store_in I.meaning self.new ≡ store_in I.meaning self.old) }
+        ensures rest { KeepsRest (context_in I.meaning self.old) (context_in I.meaning self.new) }
     {
         let number = self.inner.floats.len();
         let key = self
@@ -151,6 +151,7 @@ impl<I: Interner> RefCtxt<I> {
             OnOk result (MakesVariable (store_in I.meaning self.old) (store_in I.meaning self.new)
             const_var number universe.0) }
         ensures refused { OnErr result (store_in I.meaning self.new ≡ store_in I.meaning self.old) }
+        ensures rest { KeepsRest (context_in I.meaning self.old) (context_in I.meaning self.new) }
     {
         let number = self.inner.consts.len();
         let key = self
@@ -179,6 +180,7 @@ impl<I: Interner> RefCtxt<I> {
             OnOk result (MakesVariable (store_in I.meaning self.old) (store_in I.meaning self.new)
             const_var number self.old.inner.universe.0) }
         ensures refused { OnErr result (store_in I.meaning self.new ≡ store_in I.meaning self.old) }
+        ensures rest { KeepsRest (context_in I.meaning self.old) (context_in I.meaning self.new) }
     {
         self.next_const_var_in(self.inner.universe)
     }
@@ -200,6 +202,7 @@ impl<I: Interner> RefCtxt<I> {
             OnOk result (MakesVariable (store_in I.meaning self.old) (store_in I.meaning self.new)
             region_var number universe.0) }
         ensures refused { OnErr result (store_in I.meaning self.new ≡ store_in I.meaning self.old) }
+        ensures rest { KeepsRest (context_in I.meaning self.old) (context_in I.meaning self.new) }
     {
         let number = self.inner.regions.len();
         let key = self
@@ -228,6 +231,7 @@ impl<I: Interner> RefCtxt<I> {
             OnOk result (MakesVariable (store_in I.meaning self.old) (store_in I.meaning self.new)
             region_var number self.old.inner.universe.0) }
         ensures refused { OnErr result (store_in I.meaning self.new ≡ store_in I.meaning self.old) }
+        ensures rest { KeepsRest (context_in I.meaning self.old) (context_in I.meaning self.new) }
     {
         self.next_region_var_in(self.inner.universe)
     }
@@ -263,6 +267,7 @@ impl<I: Interner> RefCtxt<I> {
             OnErr result (store_of m self.new.inner ≡ store_of m self.old.inner) }
         ensures goes { let m = I.meaning self.old.interner in
             Goes 0 (store_of m self.old.inner) (store_of m self.new.inner) }
+        ensures rest { KeepsRest (context_in I.meaning self.old) (context_in I.meaning self.new) }
     {
         let equal = RegionEqPredicate(*a, *b);
         self.inner.constraints.push(RegionConstraint::Eq(equal))?;
@@ -287,6 +292,7 @@ impl<I: Interner> RefCtxt<I> {
             OnErr result (store_of m self.new.inner ≡ store_of m self.old.inner) }
         ensures goes { let m = I.meaning self.old.interner in
             Goes 0 (store_of m self.old.inner) (store_of m self.new.inner) }
+        ensures rest { KeepsRest (context_in I.meaning self.old) (context_in I.meaning self.new) }
     {
         let outlives = OutlivesPredicate(GenericArgKind::Lifetime(*sup), *sub);
         self.inner

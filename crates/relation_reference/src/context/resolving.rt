@@ -5,12 +5,13 @@ ghost use Rattle.relation_terms.specs.Trees.{leaf, known};
 ghost use Rattle.relation_terms.specs.Meaning.{Extends};
 ghost use Rattle.relation_terms.specs.Parts.{part_tree, part_sort, parts_of, over};
 ghost use Rattle.type_relations.specs.Stores.{InContext};
-ghost use Rattle.relation_reference.specs.Tables.{IsLawful};
+ghost use Rattle.relation_reference.specs.Tables.{store_of, IsLawful};
 ghost use Rattle.relation_reference.specs.RefCtxt.{store_in, resolved_in};
-ghost use Rattle.relation_reference.specs.Remembering.{Remembers, vid_kind, vid_number};
+ghost use Rattle.relation_reference.specs.Remembering.{Remembers, resolved_by, vid_kind, vid_number};
 
-use crate::context::RefCtxt;
-use crate::context::memory::{PartKey, Resolutions, TermVid};
+use crate::context::memory::{PartKey, Resolutions, TermVid, keep, recall};
+use crate::context::shallow::{shallow_resolve, shallow_resolve_const};
+use crate::context::{InferCtxtInner, RefCtxt};
 use relation_terms::terms::parts::{is_same, part, parts_count, the_const, the_ty, with_parts};
 use relation_terms::terms::{Const, Interner, OutOfMemory, Part, PartOf, Ty};
 use std::collections::HashMap;
@@ -47,101 +48,105 @@ pub(crate) fn is_same_vid(a: TermVid, b: TermVid) -> bool
     }
 }
 
+// The term itself, or for a type or a constant what it is resolved to shallowly. What that comes to is the form
+// over what its parts come to.
+fn shallow_part<I: Interner>(cx: &I, inner: &InferCtxtInner<I::Key>, term: &PartOf<I>) -> PartOf<I>
+    requires lawful { IsLawful (I.meaning cx.now) inner.now }
+    requires term_known { IsTrue (known (part_tree (I.meaning cx.now) term.now)) }
+    requires term_in { let m = I.meaning cx.now in
+        InContext (store_of (I.meaning cx.now) inner.now) (part_tree m term.now) }
+    ensures sure { IsTrue (known (part_tree (I.meaning cx.now) result)) }
+    ensures is_in { InContext (store_of (I.meaning cx.now) inner.now) (part_tree (I.meaning cx.now) result) }
+    ensures sort { part_sort result ≡ part_sort term.now }
+    ensures resolves { let m = I.meaning cx.now in
+        resolved_by (store_of (I.meaning cx.now) inner.now) (part_tree m result) ≡
+        resolved_by (store_of (I.meaning cx.now) inner.now) (part_tree m term.now) }
+    ensures by_parts { let t = part_tree (I.meaning cx.now) result in
+        let st = store_of (I.meaning cx.now) inner.now in resolved_by st t ≡ over t (resolved_by st (parts_of t)) }
+{
+    match term {
+        Part::Ty(ty) => Part::Ty(shallow_resolve(cx, inner, ty)),
+        Part::Const(constant) => Part::Const(shallow_resolve_const(cx, inner, constant)),
+        _ => *term,
+    }
+}
+
+// The term with each variable that has a term replaced by it, at every depth, and each other by its root. What was
+// met before is not resolved again.
+#[cycle(resolve)]
+pub(crate) fn resolve_part<I: Interner>(
+    cx: &mut I,
+    inner: &InferCtxtInner<I::Key>,
+    term: &PartOf<I>,
+    memory: &mut Resolutions<I::Key, I::Id>,
+) -> Result<PartOf<I>, OutOfMemory>
+    requires lawful { IsLawful (I.meaning cx.old) inner.now }
+    requires remembers { Remembers (I.meaning cx.old) (store_of (I.meaning cx.old) inner.now)
+        ⟦<PartKey<I::Key> as PartialEq>⟧.eq memory.old }
+    requires term_known { IsTrue (known (part_tree (I.meaning cx.old) term.now)) }
+    requires term_in { let m = I.meaning cx.old in
+        InContext (store_of (I.meaning cx.old) inner.now) (part_tree m term.now) }
+    ensures grown { Extends (I.meaning cx.old) (I.meaning cx.new) }
+    ensures remembers { OnOk result
+        (Remembers (I.meaning cx.new) (store_of (I.meaning cx.new) inner.now)
+        ⟦<PartKey<I::Key> as PartialEq>⟧.eq memory.new) }
+    ensures sure { IfOk result (λ t. IsTrue (known (part_tree (I.meaning cx.new) t))) }
+    ensures sort { IfOk result (λ t. part_sort t ≡ part_sort term.now) }
+    ensures resolves { IfOk result (λ t. part_tree (I.meaning cx.new) t ≡
+        resolved_by (store_of (I.meaning cx.old) inner.now) (part_tree (I.meaning cx.old) term.now)) }
+{
+    let shallow = shallow_part(&*cx, inner, term);
+    if let Some(resolved) = recall(&*cx, inner, &shallow, memory) {
+        return Ok(resolved);
+    }
+    let resolved = resolve_inside(cx, inner, &shallow, memory)?;
+    keep(&*cx, inner, &shallow, resolved, memory)?;
+    Ok(resolved)
+}
+
+// The same of a term that comes to the form over what its parts come to. Where they come to what they are,
+// nothing is made.
+#[cycle(resolve)]
+fn resolve_inside<I: Interner>(
+    cx: &mut I,
+    inner: &InferCtxtInner<I::Key>,
+    term: &PartOf<I>,
+    memory: &mut Resolutions<I::Key, I::Id>,
+) -> Result<PartOf<I>, OutOfMemory>
+    requires lawful { IsLawful (I.meaning cx.old) inner.now }
+    requires remembers { Remembers (I.meaning cx.old) (store_of (I.meaning cx.old) inner.now)
+        ⟦<PartKey<I::Key> as PartialEq>⟧.eq memory.old }
+    requires term_known { IsTrue (known (part_tree (I.meaning cx.old) term.now)) }
+    requires term_in { let m = I.meaning cx.old in
+        InContext (store_of (I.meaning cx.old) inner.now) (part_tree m term.now) }
+    requires by_parts { let t = part_tree (I.meaning cx.old) term.now in
+        let st = store_of (I.meaning cx.old) inner.now in resolved_by st t ≡ over t (resolved_by st (parts_of t)) }
+    ensures grown { Extends (I.meaning cx.old) (I.meaning cx.new) }
+    ensures remembers { OnOk result
+        (Remembers (I.meaning cx.new) (store_of (I.meaning cx.new) inner.now)
+        ⟦<PartKey<I::Key> as PartialEq>⟧.eq memory.new) }
+    ensures sure { IfOk result (λ t. IsTrue (known (part_tree (I.meaning cx.new) t))) }
+    ensures sort { IfOk result (λ t. part_sort t ≡ part_sort term.now) }
+    ensures resolves { IfOk result (λ t. part_tree (I.meaning cx.new) t ≡
+        resolved_by (store_of (I.meaning cx.old) inner.now) (part_tree (I.meaning cx.old) term.now)) }
+{
+    let mut parts = Vec::new(cx.alloc());
+    let mut same = true;
+    for i in 0..parts_count(&*cx, term) {
+        let next = part(&*cx, term, i);
+        let resolved = resolve_part(cx, inner, &next, memory)?;
+        same &= is_same(&*cx, &resolved, &next);
+        parts.push(resolved)?;
+    }
+    if same {
+        return Ok(*term);
+    }
+    with_parts(cx, term, parts.as_slice())
+}
+
 impl<I: Interner> RefCtxt<I> {
-    // The term itself, or for a type or a constant what it is resolved to shallowly. What that comes to is the form
-    // over what its parts come to.
-    fn shallow_part(&self, term: &PartOf<I>) -> PartOf<I>
-        requires lawful { IsLawful (I.meaning self.now.interner) self.now.inner }
-        requires term_known { IsTrue (known (part_tree (I.meaning self.now.interner) term.now)) }
-        requires term_in { let m = I.meaning self.now.interner in
-            InContext (store_in I.meaning self.now) (part_tree m term.now) }
-        ensures sure { IsTrue (known (part_tree (I.meaning self.now.interner) result)) }
-        ensures is_in { InContext (store_in I.meaning self.now) (part_tree (I.meaning self.now.interner) result) }
-        ensures sort { part_sort result ≡ part_sort term.now }
-        ensures resolves { let m = I.meaning self.now.interner in
-            resolved_in I.meaning self.now (part_tree m result) ≡
-            resolved_in I.meaning self.now (part_tree m term.now) }
-        ensures by_parts { let t = part_tree (I.meaning self.now.interner) result in
-            resolved_in I.meaning self.now t ≡ over t (resolved_in I.meaning self.now (parts_of t)) }
-    {
-        match term {
-            Part::Ty(ty) => Part::Ty(self.shallow_resolve(ty)),
-            Part::Const(constant) => Part::Const(self.shallow_resolve_const(constant)),
-            _ => *term,
-        }
-    }
-
-    // The term with each variable that has a term replaced by it, at every depth, and each other by its root. What was
-    // met before is not resolved again.
-    #[cycle(resolve)]
-    fn resolve_part(
-        &mut self,
-        term: &PartOf<I>,
-        memory: &mut Resolutions<I::Key, I::Id>,
-    ) -> Result<PartOf<I>, OutOfMemory>
-        requires lawful { IsLawful (I.meaning self.old.interner) self.old.inner }
-        requires remembers { Remembers I.meaning self.old ⟦<PartKey<I::Key> as PartialEq>⟧.eq memory.old }
-        requires term_known { IsTrue (known (part_tree (I.meaning self.old.interner) term.now)) }
-        requires term_in { let m = I.meaning self.old.interner in
-            InContext (store_in I.meaning self.old) (part_tree m term.now) }
-        ensures inner { self.new.inner ≡ self.old.inner }
-        ensures grown { Extends (I.meaning self.old.interner) (I.meaning self.new.interner) }
-        ensures remembers { OnOk result
-            (Remembers I.meaning self.new ⟦<PartKey<I::Key> as PartialEq>⟧.eq memory.new) }
-        ensures sure { IfOk result (λ t. IsTrue (known (part_tree (I.meaning self.new.interner) t))) }
-        ensures sort { IfOk result (λ t. part_sort t ≡ part_sort term.now) }
-        ensures resolves { IfOk result (λ t. part_tree (I.meaning self.new.interner) t ≡
-            resolved_in I.meaning self.old (part_tree (I.meaning self.old.interner) term.now)) }
-    {
-        let shallow = self.shallow_part(term);
-        if let Some(resolved) = self.recall(&shallow, memory) {
-            return Ok(resolved);
-        }
-        let resolved = self.resolve_inside(&shallow, memory)?;
-        self.keep(&shallow, resolved, memory)?;
-        Ok(resolved)
-    }
-
-    // The same of a term that comes to the form over what its parts come to. Where they come to what they are,
-    // nothing is made.
-    #[cycle(resolve)]
-    fn resolve_inside(
-        &mut self,
-        term: &PartOf<I>,
-        memory: &mut Resolutions<I::Key, I::Id>,
-    ) -> Result<PartOf<I>, OutOfMemory>
-        requires lawful { IsLawful (I.meaning self.old.interner) self.old.inner }
-        requires remembers { Remembers I.meaning self.old ⟦<PartKey<I::Key> as PartialEq>⟧.eq memory.old }
-        requires term_known { IsTrue (known (part_tree (I.meaning self.old.interner) term.now)) }
-        requires term_in { let m = I.meaning self.old.interner in
-            InContext (store_in I.meaning self.old) (part_tree m term.now) }
-        requires by_parts { let t = part_tree (I.meaning self.old.interner) term.now in
-            resolved_in I.meaning self.old t ≡ over t (resolved_in I.meaning self.old (parts_of t)) }
-        ensures inner { self.new.inner ≡ self.old.inner }
-        ensures grown { Extends (I.meaning self.old.interner) (I.meaning self.new.interner) }
-        ensures remembers { OnOk result
-            (Remembers I.meaning self.new ⟦<PartKey<I::Key> as PartialEq>⟧.eq memory.new) }
-        ensures sure { IfOk result (λ t. IsTrue (known (part_tree (I.meaning self.new.interner) t))) }
-        ensures sort { IfOk result (λ t. part_sort t ≡ part_sort term.now) }
-        ensures resolves { IfOk result (λ t. part_tree (I.meaning self.new.interner) t ≡
-            resolved_in I.meaning self.old (part_tree (I.meaning self.old.interner) term.now)) }
-    {
-        let mut parts = Vec::new(self.interner.alloc());
-        let mut same = true;
-        for i in 0..parts_count(&self.interner, term) {
-            let next = part(&self.interner, term, i);
-            let resolved = self.resolve_part(&next, memory)?;
-            same &= is_same(&self.interner, &resolved, &next);
-            parts.push(resolved)?;
-        }
-        if same {
-            return Ok(*term);
-        }
-        with_parts(&mut self.interner, term, parts.as_slice())
-    }
-
     // The type with each variable that has a term replaced by it, at every depth, and each other by its root.
-    pub(crate) fn resolve_vars_if_possible(&mut self, ty: &Ty<I>) -> Result<Ty<I>, OutOfMemory>
+    pub(crate) fn resolve_ty(&mut self, ty: &Ty<I>) -> Result<Ty<I>, OutOfMemory>
         requires lawful { IsLawful (I.meaning self.old.interner) self.old.inner }
         requires ty_known { IsTrue (known ((I.meaning self.old.interner).ty ty.now)) }
         requires ty_in { InContext (store_in I.meaning self.old) ((I.meaning self.old.interner).ty ty.now) }
@@ -152,15 +157,12 @@ impl<I: Interner> RefCtxt<I> {
             resolved_in I.meaning self.old ((I.meaning self.old.interner).ty ty.now)) }
     {
         let mut memory = HashMap::new(self.interner.alloc());
-        let resolved = self.resolve_part(&Part::Ty(*ty), &mut memory);
+        let resolved = resolve_part(&mut self.interner, &self.inner, &Part::Ty(*ty), &mut memory);
         Ok(the_ty(&resolved?))
     }
 
     // The constant with each variable that has a term replaced by it, at every depth, and each other by its root.
-    pub(crate) fn resolve_const_vars_if_possible(
-        &mut self,
-        constant: &Const<I>,
-    ) -> Result<Const<I>, OutOfMemory>
+    pub(crate) fn resolve_const(&mut self, constant: &Const<I>) -> Result<Const<I>, OutOfMemory>
         requires lawful { IsLawful (I.meaning self.old.interner) self.old.inner }
         requires const_known { IsTrue (known ((I.meaning self.old.interner).const_ constant.now)) }
         requires const_in { InContext (store_in I.meaning self.old)
@@ -172,7 +174,12 @@ impl<I: Interner> RefCtxt<I> {
             resolved_in I.meaning self.old ((I.meaning self.old.interner).const_ constant.now)) }
     {
         let mut memory = HashMap::new(self.interner.alloc());
-        let resolved = self.resolve_part(&Part::Const(*constant), &mut memory);
+        let resolved = resolve_part(
+            &mut self.interner,
+            &self.inner,
+            &Part::Const(*constant),
+            &mut memory,
+        );
         Ok(the_const(&resolved?))
     }
 }

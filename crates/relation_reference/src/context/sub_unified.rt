@@ -1,12 +1,17 @@
 //! Type variables that are marked as related: each names the root of its class, which no other answer looks at.
-ghost use Rattle.std.specs.Prelude.{◌≡◌, ◌<◌, length, map};
-ghost use Rattle.type_relations.specs.ContextCalls.{JoinsRoots};
-ghost use Rattle.relation_reference.specs.RefCtxt.{store_in};
+ghost use Rattle.std.specs.Prelude.{◌≡◌, ◌≤◌, ◌<◌, IsTrue, IfOk, OnErr, OnOk, length, map};
+ghost use Rattle.relation_terms.specs.Heads.{type_var, variable};
+ghost use Rattle.relation_terms.specs.Trees.{leaf, known};
+ghost use Rattle.relation_terms.specs.Meaning.{Extends};
+ghost use Rattle.type_relations.specs.Stores.{IsMade};
+ghost use Rattle.type_relations.specs.Steps.{MakesVariable};
+ghost use Rattle.type_relations.specs.ContextCalls.{JoinsRoots, KeepsSolver, KeepsOutliving, MarksNew};
+ghost use Rattle.relation_reference.specs.RefCtxt.{store_in, context_in};
 ghost use Rattle.relation_reference.specs.SubRoots.{root_in, led_root, IsRootTable};
 ghost use Rattle.relation_reference.specs.Tables.{store_of, IsLawful};
 
 use crate::context::RefCtxt;
-use relation_terms::terms::{Interner, TyVid};
+use relation_terms::terms::{Interner, OutOfMemory, Ty, TyVid, UniverseIndex};
 
 // The number, or where that is the child the root.
 fn led_to(number: usize, child: usize, root: usize) -> usize
@@ -64,9 +69,40 @@ impl<I: Interner> RefCtxt<I> {
         ensures interner { self.new.interner ≡ self.old.interner }
         ensures lawful { IsLawful (I.meaning self.old.interner) self.new.inner }
         ensures same_record { store_of (I.meaning self.old.interner) self.new.inner ≡ store_in I.meaning self.old }
+        ensures solver { KeepsSolver (context_in I.meaning self.old) (context_in I.meaning self.new) }
+        ensures outliving { KeepsOutliving (context_in I.meaning self.old) (context_in I.meaning self.new) }
         ensures marks { JoinsRoots (root_in self.old.inner.sub_roots.items) (root_in self.new.inner.sub_roots.items)
             a.0 b.0 }
     {
         join_roots(&mut self.inner.sub_roots, a.0, b.0);
+    }
+
+    // A new type variable in a universe, the current one or an earlier, which is marked as related to another, and so
+    // to all that that one is related to. After `OutOfMemory` no variable was made.
+    pub(crate) fn next_related_ty_var(
+        &mut self,
+        of: TyVid,
+        universe: UniverseIndex,
+    ) -> Result<Ty<I>, OutOfMemory>
+        requires lawful { IsLawful (I.meaning self.old.interner) self.old.inner }
+        requires below { universe.0 ≤ self.old.inner.universe.0 }
+        requires of_made { IsMade (store_in I.meaning self.old) type_var of.0 }
+        ensures lawful { IsLawful (I.meaning self.new.interner) self.new.inner }
+        ensures grown { Extends (I.meaning self.old.interner) (I.meaning self.new.interner) }
+        ensures sure { IfOk result (λ t. IsTrue (known ((I.meaning self.new.interner).ty t))) }
+        ensures means { let number = length self.old.inner.types.items in
+            IfOk result (λ t. (I.meaning self.new.interner).ty t ≡ leaf (variable type_var number)) }
+        ensures makes { let number = length self.old.inner.types.items in
+            OnOk result (MakesVariable (store_in I.meaning self.old) (store_in I.meaning self.new)
+            type_var number universe.0) }
+        ensures root { let number = length self.old.inner.types.items in OnOk result
+            (root_in self.new.inner.sub_roots.items number ≡ root_in self.old.inner.sub_roots.items of.0) }
+        ensures rest { MarksNew (context_in I.meaning self.old) (context_in I.meaning self.new) }
+        ensures refused { OnErr result (store_in I.meaning self.new ≡ store_in I.meaning self.old) }
+    {
+        let number = self.inner.types.len();
+        let made = self.next_ty_var_in(universe)?;
+        join_roots(&mut self.inner.sub_roots, of.0, number);
+        Ok(made)
     }
 }

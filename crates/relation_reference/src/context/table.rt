@@ -1,11 +1,19 @@
 //! One table of variables: reading and writing what is recorded of them.
-ghost use Rattle.std.specs.Prelude.{◌≡◌, ◌<◌, length, get_or, map, min, slice_set};
+ghost use Rattle.std.specs.Prelude.{◌≡◌, ◌≤◌, ◌<◌, IsTrue, IsFalse, length, get_or, map, min, slice_set};
 ghost use Rattle.relation_reference.specs.declared.context.inner.VariableValue.TheVariants.{SameAs, Known};
 ghost use Rattle.relation_reference.specs.Variables.{keys_of, values_of, universes_of, value_at, root_at};
 ghost use Rattle.relation_reference.specs.Variables.{universe_at, free_universe, term_at, led, led_variable};
 
 use crate::context::{Variable, VariableValue};
 use relation_terms::terms::UniverseIndex;
+
+// Whether a table has a variable of this number.
+pub(crate) fn has<K>(table: &Vec<Variable<K>>, v: usize) -> bool
+    ensures is { IsTrue result → v < length table.now.items }
+    ensures is_not { IsFalse result → length table.now.items ≤ v }
+{
+    v < table.len()
+}
 
 // What is recorded of a variable.
 pub(crate) fn probe<K: Copy>(table: &Vec<Variable<K>>, v: usize) -> VariableValue<K>

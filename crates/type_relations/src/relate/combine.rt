@@ -150,7 +150,7 @@ fn is_left_open<Infcx: InferCtxtLike>(
             Ok(infcx.cx().ty_flags(&resolved).has_non_region_infer)
         }
         GenericArgKind::Const(constant) => {
-            let resolved = infcx.resolve_const_vars_if_possible(constant)?;
+            let resolved = infcx.resolve_vars_if_possible(constant)?;
             Ok(infcx.cx().const_flags(&resolved).has_non_region_infer)
         }
     }

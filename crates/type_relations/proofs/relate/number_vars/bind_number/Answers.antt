@@ -22,7 +22,7 @@ returns-in-Some-clause-binds g c = λ _.
     subst (λ z. BindsNumber s q (number_kind z) (number_of z) ((s.meaning).ty t)) (sym c.in-Int.is)
     (subst (BindsNumber s q int_var c.in-Int.x.0)
     (int_is (g.Infcx.Interner.Interner.meaning c.cx.result.now) c.ty_kind-kind.result _ c.ty_kind-kind.ensures c.in-Some.value c.in-Some.ensures.is
-    ∙ ap (λ m. m.ty t) c.cx.ensures) c.instantiate_int_var_raw.ensures)
+    ∙ ap (λ m. m.ty t) c.cx.ensures) c.instantiate_int_var_raw.ensures.binds)
 
 pub returns-in_default-clause-unlike : goal.returns-in_default-clause-unlike
 returns-in_default-clause-unlike g c = λ _ h.
@@ -45,7 +45,7 @@ returns-in-Some-float_value-clause-binds g c = λ _.
     subst (λ z. BindsNumber s q (number_kind z) (number_of z) ((s.meaning).ty t)) (sym c.in-Float.is)
     (subst (BindsNumber s q float_var c.in-Float.x.0)
     (float_is (g.Infcx.Interner.Interner.meaning c.cx.result.now) c.ty_kind-kind.result _ c.ty_kind-kind.ensures c.in-Some-float_value.value c.in-Some-float_value.ensures.is
-    ∙ ap (λ m. m.ty t) c.cx.ensures) c.instantiate_float_var_raw.ensures)
+    ∙ ap (λ m. m.ty t) c.cx.ensures) c.instantiate_float_var_raw.ensures.binds)
 
 pub returns-in_default-float_value-clause-unlike : goal.returns-in_default-float_value-clause-unlike
 returns-in_default-float_value-clause-unlike g c = λ _ h.

@@ -22,7 +22,7 @@ returns-in-Int-b-clause-equates g c = λ _.
     let s = g.Infcx.InferCtxtLike.state c.args.infcx.now in
     let q = g.Infcx.InferCtxtLike.state c.equate_int_vids_raw.new.self in
     subst₂ (λ z w. EquatesTwo s q (number_kind z) (number_of z) (number_of w)) (sym c.in-Int.is) (sym c.in-Int-b.is)
-    c.equate_int_vids_raw.ensures
+    c.equate_int_vids_raw.ensures.equates
 
 pub returns-in_default-clause-unlike : goal.returns-in_default-clause-unlike
 returns-in_default-clause-unlike g c =
@@ -46,7 +46,7 @@ returns-in-Float-b-clause-equates g c = λ _.
     let s = g.Infcx.InferCtxtLike.state c.args.infcx.now in
     let q = g.Infcx.InferCtxtLike.state c.equate_float_vids_raw.new.self in
     subst₂ (λ z w. EquatesTwo s q (number_kind z) (number_of z) (number_of w)) (sym c.in-Float.is) (sym c.in-Float-b.is)
-    c.equate_float_vids_raw.ensures
+    c.equate_float_vids_raw.ensures.equates
 
 pub returns-in_default-b-clause-unlike : goal.returns-in_default-b-clause-unlike
 returns-in_default-b-clause-unlike g c =

@@ -1,4 +1,4 @@
-use Rattle.relation_reference.proofs.Universes.{universe_entered}
+use Rattle.relation_reference.proofs.Universes.{universe_entered, universe_rest}
 use Rattle.relation_reference.proofs.context.infer_ctxt.RefCtxtInferCtxtLike.create_next_universe.Goals as goal
 
 pub returns-clause-enters : goal.returns-clause-enters
@@ -6,3 +6,8 @@ returns-clause-enters g c =
     let done = c.create_next_universe.ensures in
     universe_entered g.I.Interner.meaning c.args.self.now c.create_next_universe.new.self done.interner c.requires.lawful done.lawful
     c.create_next_universe.result done.enters done.next done.refused
+
+pub returns-clause-rest : goal.returns-clause-rest
+returns-clause-rest g c =
+    let done = c.create_next_universe.ensures in
+    universe_rest g.I.Interner.meaning c.args.self.now c.create_next_universe.new.self c.create_next_universe.result done.enters done.refused

@@ -2,8 +2,8 @@ use Rattle.relation_terms.specs.Heads.{int_var}
 use Rattle.relation_reference.proofs.Calls.{equated}
 use Rattle.relation_reference.proofs.context.infer_ctxt.RefCtxtInferCtxtLike.equate_int_vids_raw.Goals as goal
 
-pub returns : goal.returns
-returns g c =
+pub returns-clause-equates : goal.returns-clause-equates
+returns-clause-equates g c =
     let done = c.equate_int_vids_raw.ensures in
     equated g.I.Interner.meaning c.args.self.now c.equate_int_vids_raw.new.self done.interner done.lawful
     int_var c.args.a.0 c.args.b.0 done.same done.equates

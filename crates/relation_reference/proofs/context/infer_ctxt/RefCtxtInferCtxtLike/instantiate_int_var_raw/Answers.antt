@@ -3,8 +3,8 @@ use Rattle.type_relations.specs.NumberValues.{int_value_tree}
 use Rattle.relation_reference.proofs.Calls.{number_bound}
 use Rattle.relation_reference.proofs.context.infer_ctxt.RefCtxtInferCtxtLike.instantiate_int_var_raw.Goals as goal
 
-pub returns : goal.returns
-returns g c =
+pub returns-clause-binds : goal.returns-clause-binds
+returns-clause-binds g c =
     let done = c.instantiate_int_var_raw.ensures in
     number_bound g.I.Interner.meaning c.args.self.now c.instantiate_int_var_raw.new.self done.interner done.lawful
     int_var c.args.vid.0 (int_value_tree c.args.value) done.binds

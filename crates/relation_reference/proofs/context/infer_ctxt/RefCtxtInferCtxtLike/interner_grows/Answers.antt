@@ -5,4 +5,9 @@ use Rattle.relation_reference.proofs.context.infer_ctxt.RefCtxtInferCtxtLike.int
 pub returns : goal.returns
 returns g c = λ cx e l.
     let x = c.args.self.now.inner in
-    record { meaning = refl; store = store_grows e x l; lawful = lawful_grows e x l }
+    record {
+      meaning = refl;
+      store = store_grows e x l;
+      lawful = lawful_grows e x l;
+      rest = record { solver = refl; outliving = refl; marks = λ n. refl };
+    }

@@ -1,12 +1,5 @@
-use Rattle.type_relations.proofs.Standing.{term_context}
-use Rattle.relation_reference.specs.Tables.{store_of}
-use Rattle.relation_reference.proofs.Comes.{same_record, grows, comes}
+use Rattle.relation_reference.proofs.Comes.{same_record, grows, comes, rest}
 use Rattle.relation_reference.proofs.context.infer_ctxt.RefCtxtInferCtxtLike.resolve_vars_if_possible.Goals as goal
-
-pub resolve_vars_if_possible-requires-clause-ty_in : goal.resolve_vars_if_possible-requires-clause-ty_in
-resolve_vars_if_possible-requires-clause-ty_in g c =
-    let m = g.I.Interner.meaning c.args.self.now.interner in
-    term_context (store_of m c.args.self.now.inner) (m.ty c.args.ty.now) c.requires.ty_in
 
 pub returns : goal.returns
 returns g c =
@@ -16,5 +9,7 @@ returns g c =
     record {
       grows = grows g.I.Interner.meaning p q done.grown done.inner c.requires.lawful;
       same_record = same_record g.I.Interner.meaning p q done.grown done.inner c.requires.lawful;
-      comes = comes g.I.Interner.meaning p q (λ m. m.ty) c.args.ty.now c.resolve_vars_if_possible.result done.sure done.resolves;
+      comes = comes g.I.Interner.meaning p q g.T.HasTree.tree c.args.value.now c.resolve_vars_if_possible.result
+          done.sure done.resolves;
+      rest = rest g.I.Interner.meaning p q done.inner;
     }

@@ -1,6 +1,7 @@
 use Rattle.std.proofs.Common.{rules, arith, refl, sym, ap, ap₂, ◌∙◌, Err, ◌≡◌, ◌<◌, ◌≤◌, ◌+◌, ◌*◌, suc, subst, subst₂, IsTrue}
 use Rattle.std.proofs.lemmas.Bool.{and_parts}
-use Rattle.relation_terms.specs.Trees.{size, known, count, nth, list_tree}
+use Rattle.relation_terms.specs.Heads.{type_var}
+use Rattle.relation_terms.specs.Trees.{leaf, size, known, count, nth, list_tree}
 use Rattle.relation_terms.specs.Parts.{part_tree, part_sort, parts_of, tree_sort, over, Fit}
 use Rattle.relation_terms.proofs.Stays.{knows_as, extends_on, stays_same, stays_list}
 use Rattle.relation_terms.proofs.Sorted.{Sorted}
@@ -12,7 +13,7 @@ use Rattle.type_relations.proofs.Passing.{as_err}
 use Rattle.type_relations.specs.Stores.{InContext}
 use Rattle.type_relations.specs.Generalising.{any_part, new_part, variance_of_part, MakesUnbound, makes_none, makes_one}
 use Rattle.type_relations.proofs.Generalising.{gives_no_number}
-use Rattle.type_relations.proofs.NewVariables.{makes_then}
+use Rattle.type_relations.proofs.NewVariables.{adds, makes_then}
 use Rattle.type_relations.proofs.Lists.{firsts, firsts_more, firsts_all, snoc, list_push, push_known}
 use Rattle.relation_reference.specs.Tables.{store_of}
 use Rattle.relation_reference.specs.Remembering.{vid_kind, vid_number}
@@ -20,6 +21,7 @@ use Rattle.relation_reference.proofs.Recalling.{met_eq, sure_grows}
 use Rattle.relation_reference.proofs.Resolving.{not_type, some_sort, over_itself, context_part}
 use Rattle.relation_reference.proofs.Grows.{store_grows, lawful_grows}
 use Rattle.relation_reference.specs.Generalises.{new_kind, BecomesAlways}
+use Rattle.relation_reference.proofs.Marking.{gives_type, marks_none, marks_then, marks_grow}
 use Rattle.relation_reference.proofs.Outside.{part_smaller}
 use Rattle.relation_reference.proofs.Covering.{part_covered}
 use Rattle.relation_reference.proofs.Generalising.{memory_answers, stops_cycle, stops_beyond, gives_answers, generalises_no_type, not_type_sort, went_none, went_next, went_stops, went_whole, made_context, recalled_answers, met_answers, fails_any, fails_on, fit_push, becomes_grows}
@@ -28,6 +30,20 @@ use Rattle.relation_reference.proofs.context.variables.RefCtxt.+generalise.Goals
 pub generalise_new-next_for-requires-clause-has : goal.generalise_new-next_for-requires-clause-has
 generalise_new-next_for-requires-clause-has g t' c =
     let f = c.in-GivesWay.ensures in (f.1, f.6)
+
+pub generalise_new-next_for-requires-clause-term_known : goal.generalise_new-next_for-requires-clause-term_known
+generalise_new-next_for-requires-clause-term_known g t' c =
+    c.requires.term_known
+
+pub generalise_new-next_for-requires-clause-term_in : goal.generalise_new-next_for-requires-clause-term_in
+generalise_new-next_for-requires-clause-term_in g t' c =
+    c.requires.term_in
+
+pub generalise_new-next_for-requires-clause-varies : goal.generalise_new-next_for-requires-clause-varies
+generalise_new-next_for-requires-clause-varies g t' c = λ e.
+    let f = c.in-GivesWay.ensures in
+    let q = gives_type f.0 (f.5 ∙ sym f.6 ∙ e) in
+    (q.0, f.2 ∙ ap leaf q.1)
 
 pub generalise_new-returns-in_err-next_for-in-GivesWay : goal.generalise_new-returns-in_err-next_for-in-GivesWay
 generalise_new-returns-in_err-next_for-in-GivesWay g t' c =
@@ -47,6 +63,7 @@ generalise_new-returns-in_err-next_for-in-GivesWay g t' c =
       grown = f.grown;
       universe = ap (λ st. st.universe) f.refused;
       makes = subst (MakesUnbound u was) (sym f.refused) makes_none;
+      rest = f.rest;
       answers = memory_answers meaning eq c.args.self.now c.next_for.new.self k i u c.args.target.now.cyclic c.args.met.now c.args.met.now p (new_part v) c.from_residual.result
           c.from_residual.ensures.0 c.from_residual.ensures.1;
     }
@@ -91,6 +108,7 @@ generalise_new-returns-in-Cycle g t' c =
       grown = stays_same m;
       universe = refl;
       makes = makes_none;
+      rest = marks_none meaning c.args.self.now c.requires.lawful;
       answers = stops_cycle meaning eq c.args.self.now c.args.self.now k i u c.args.target.now.cyclic c.args.met.now c.args.met.now p (new_part v) c.in-Cycle.ensures;
     }
 
@@ -112,6 +130,7 @@ generalise_new-returns-in-Beyond g t' c =
       grown = stays_same m;
       universe = refl;
       makes = makes_none;
+      rest = marks_none meaning c.args.self.now c.requires.lawful;
       answers = stops_beyond meaning eq c.args.self.now c.args.self.now k i u c.args.target.now.cyclic c.args.met.now c.args.met.now p (new_part v) f.0 f.1 f.2 f.3 f.4 f.5;
     }
 
@@ -135,6 +154,7 @@ generalise_new-returns-in_ok-next_for-in-GivesWay g t' c =
       grown = r.grown;
       universe = (w.1).same_universe;
       makes = makes_one makes_none (gives_no_number f.0 f.1 f.5) w.1;
+      rest = r.rest;
       answers = gives_answers meaning eq c.args.self.now c.next_for.new.self k i u c.args.target.now.cyclic c.args.met.now c.args.met.now p v f.0 f.1 c.in_ok-next_for-in-GivesWay.field-0 w.0 c.requires.sure
           r.grown f.2 f.3 f.4 f.5 w.1 w.2 r.sure r.sort;
     }
@@ -229,6 +249,7 @@ generalise_parts-loop-i-init g t' c =
       grown = stays_same m;
       universe = refl;
       makes = makes_none;
+      rest = marks_none meaning c.args.self.now c.requires.lawful;
       all = c.requires.sure;
       sure = subst (λ xs. IsTrue (known (list_tree (part_tree m) xs))) (sym empty) refl;
       fit = subst (λ xs. Fit xs (firsts 0 (parts_of t))) (sym empty) tt;
@@ -446,6 +467,7 @@ generalise_part-returns-in-Some g t' c =
       grown = stays_same m;
       universe = refl;
       makes = makes_none;
+      rest = marks_none meaning c.args.self.now c.requires.lawful;
       answers = recalled_answers meaning eq c.args.self.now c.args.self.now k i u c.args.target.now.cyclic c.args.met.now c.args.met.now p v (Ty c.in-Some.became) c.in-Ty.ty c.in-Some.became
           c.in-Ty.is refl sort c.in-Some.ensures.sure c.requires.sure c.in-Some.ensures.met;
     }
@@ -469,6 +491,7 @@ generalise_part-returns-in_err-became g t' c =
       grown = h.grown;
       universe = h.universe;
       makes = h.makes;
+      rest = h.rest;
       answers = fails_any meaning eq c.args.self.now c.generalise_new-2.new.self k i u c.args.target.now.cyclic c.args.met.now c.generalise_new-2.new.met p (new_part v) (any_part v) (Err f)
           c.from_residual.result f refl (as_err c.from_residual.result f c.from_residual.ensures.0 c.from_residual.ensures.1) h.answers;
     }
@@ -548,6 +571,7 @@ generalise_part-returns-in_err-keep g t' c =
       grown = h.grown;
       universe = h.universe;
       makes = h.makes;
+      rest = h.rest;
       answers = memory_answers meaning eq c.args.self.now c.generalise_new-2.new.self k i u c.args.target.now.cyclic c.args.met.now c.keep.new.met p (any_part v) c.from_residual-in_err-keep.result
           c.from_residual-in_err-keep.ensures.0 c.from_residual-in_err-keep.ensures.1;
     }
@@ -585,6 +609,7 @@ generalise_part-returns g t' c =
       grown = h.grown;
       universe = h.universe;
       makes = h.makes;
+      rest = h.rest;
       answers = met_answers meaning eq c.args.self.now c.generalise_new-2.new.self k i u c.args.target.now.cyclic c.args.met.now c.generalise_new-2.new.met p v c.keep.new.met c.in_ok-became.became
           c.in-Ty.ty c.the_ty.result c.in-Ty.is (sym c.the_ty.ensures) sort (h.grown.ty c.in-Ty.ty there) c.in_ok-keep.ensures.sure
           c.in_ok-keep.ensures.keeps c.in_default-recall.ensures.not_met h.answers;
@@ -626,6 +651,8 @@ generalise_parts-returns-in_err-became g t' c =
       grown = extends_on inv.grown h.grown;
       universe = h.universe ∙ inv.universe;
       makes = makes_then inv.makes h.makes;
+      rest = marks_then meaning c.args.self.now c.loop-i.self c.generalise_part.new.self h.lawful
+          ((adds c.requires.lawful.sound c.requires.below inv.makes).later.grows type_var) inv.rest h.rest;
       answers = fails_on eq m n o was now then k i u c.args.target.now.cyclic (any_part c.variance_of-at.result) (new_part v) c.args.met.now c.loop-i.met
           c.generalise_part.new.met (part_tree n z) t p z f h.answers
           (λ e2. went_stops eq m n o was now then k i u v c.args.met.now c.loop-i.met c.generalise_part.new.met t
@@ -673,6 +700,8 @@ generalise_parts-returns-in_err-push g t' c =
       grown = extends_on inv.grown h.grown;
       universe = h.universe ∙ inv.universe;
       makes = makes_then inv.makes h.makes;
+      rest = marks_then meaning c.args.self.now c.loop-i.self c.generalise_part.new.self h.lawful
+          ((adds c.requires.lawful.sound c.requires.below inv.makes).later.grows type_var) inv.rest h.rest;
       answers = memory_answers meaning eq c.args.self.now c.generalise_part.new.self k i u c.args.target.now.cyclic c.args.met.now c.generalise_part.new.met p (new_part v) c.from_residual-in_err-push.result
           c.from_residual-in_err-push.ensures.0 c.from_residual-in_err-push.ensures.1;
     }
@@ -729,6 +758,8 @@ generalise_parts-loop-i-preserved g t' c =
       grown = extends_on inv.grown h.grown;
       universe = h.universe ∙ inv.universe;
       makes = makes_then inv.makes h.makes;
+      rest = marks_then meaning c.args.self.now c.loop-i.self c.generalise_part.new.self h.lawful
+          ((adds c.requires.lawful.sound c.requires.below inv.makes).later.grows type_var) inv.rest h.rest;
       all = a.2;
       sure = subst (λ ys. IsTrue (known (list_tree (part_tree o) ys))) (sym items)
           (push_known (part_tree o) xs w (knows_as us (list_tree (part_tree o) xs) stay inv.sure) a.0);
@@ -785,6 +816,7 @@ generalise_parts-returns-then-same g t' c =
       grown = inv.grown;
       universe = inv.universe;
       makes = inv.makes;
+      rest = inv.rest;
       answers = (
         knows_as t (part_tree n p) e c.requires.term_known,
         refl,
@@ -884,6 +916,8 @@ generalise_parts-returns-in_err-with_parts g t' c =
       grown = extends_on inv.grown h.grown;
       universe = inv.universe;
       makes = subst (MakesUnbound u was) (sym (store_grows h.grown c.loop-i.self.inner inv.lawful)) inv.makes;
+      rest = marks_grow meaning c.args.self.now c.loop-i.self (record { interner = c.with_parts.new.cx; inner = c.loop-i.self.inner }) refl
+          (store_grows h.grown c.loop-i.self.inner inv.lawful) inv.rest;
       answers = memory_answers meaning eq c.args.self.now (record { interner = c.with_parts.new.cx; inner = c.loop-i.self.inner }) k i u c.args.target.now.cyclic c.args.met.now c.loop-i.met p (new_part v) c.from_residual-in_err-with_parts.result
           c.from_residual-in_err-with_parts.ensures.0 c.from_residual-in_err-with_parts.ensures.1;
     }
@@ -934,6 +968,8 @@ generalise_parts-returns g t' c =
       grown = extends_on inv.grown h.grown;
       universe = inv.universe;
       makes = subst (MakesUnbound u was) (sym kept) inv.makes;
+      rest = marks_grow meaning c.args.self.now c.loop-i.self (record { interner = c.with_parts.new.cx; inner = c.loop-i.self.inner }) refl
+          (store_grows h.grown c.loop-i.self.inner inv.lawful) inv.rest;
       answers = (
         h.sure,
         h.sort,

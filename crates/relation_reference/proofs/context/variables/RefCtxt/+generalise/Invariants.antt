@@ -4,6 +4,8 @@ use Rattle.relation_terms.specs.Meaning.{Extends}
 use Rattle.relation_terms.specs.Parts.{part_tree, parts_of, Fit}
 use Rattle.type_relations.specs.Generalising.{MakesUnbound}
 use Rattle.type_relations.proofs.Lists.{firsts}
+use Rattle.type_relations.specs.ContextCalls.{MarksNew}
+use Rattle.relation_reference.specs.RefCtxt.{context_in}
 use Rattle.relation_reference.specs.Tables.{store_of, IsLawful}
 use Rattle.relation_reference.specs.Remembering.{vid_kind, vid_number}
 use Rattle.relation_reference.specs.Generalises.{IsSure}
@@ -33,6 +35,7 @@ invariant-generalise_parts-loop-i g l =
       grown : Extends m n;
       universe : l.self.inner.universe.0 ≡ l.fn.self.inner.universe.0;
       makes : MakesUnbound l.target.universe.0 was now;
+      rest : MarksNew (context_in g.I.Interner.meaning l.fn.self) (context_in g.I.Interner.meaning l.self);
       all : IsSure (met_eq g.I.Key.PartialEq.eq) n l.met;
       sure : IsTrue (known us);
       fit : Fit l.parts.items (firsts l.i ts);

@@ -58,5 +58,6 @@ returns g c =
       lawful = constraint_lawful m x c.requires.lawful r (c.requires.a_in, c.requires.b_in) c.push.new.self more;
       adds = constraint_added m x c.requires.lawful r (c.requires.a_in, c.requires.b_in) c.push.new.self more;
       refused = tt;
+      rest = record { solver = refl; outliving = refl; marks = λ n. refl };
       goes = constraint_goes m x c.requires.lawful r (c.requires.a_in, c.requires.b_in) c.push.new.self more;
     }

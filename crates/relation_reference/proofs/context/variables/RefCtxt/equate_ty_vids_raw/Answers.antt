@@ -4,6 +4,7 @@ use Rattle.type_relations.specs.Steps.{Equates}
 use Rattle.relation_reference.specs.Tables.{store_of}
 use Rattle.relation_reference.proofs.Beside.{types_beside}
 use Rattle.relation_reference.proofs.SubRoots.{root_there, roots_kept, roots_lawful}
+use Rattle.relation_reference.proofs.Marking.{as_many_keys}
 use Rattle.relation_reference.proofs.Writing.{linked_entries, link_equates, link_lawful, table_made}
 use Rattle.relation_reference.proofs.context.variables.RefCtxt.equate_ty_vids_raw.Goals as goal
 
@@ -19,7 +20,10 @@ returns-then-a-b-clause-lawful g c =
     c.requires.lawful c.args.b.0 c.args.a.0 (linked_entries m.ty x.types.items ts.items c.args.b.0 c.args.a.0 e.values)
     e.universes refl (table_made m.ty x.types.items c.args.b.0 c.requires.b_made) c.if-a-b.true c.requires.b_unbound
     c.requires.a_unbound (λ z. cc) in
-    roots_lawful m y c.join_roots.new.roots (roots_kept m y c.join_roots.new.roots joins.as_many joins.rooted linked.sub_rooted) linked
+    roots_lawful m y c.join_roots.new.roots (roots_kept m y c.join_roots.new.roots joins.as_many joins.rooted
+    c.args.a.0 c.args.b.0
+    (as_many_keys x.types.items ts.items e.keys c.args.a.0 c.requires.a_made)
+    (as_many_keys x.types.items ts.items e.keys c.args.b.0 c.requires.b_made) joins.joins linked.sub_rooted) linked
 
 pub returns-then-a-b-clause-equates : goal.returns-then-a-b-clause-equates
 returns-then-a-b-clause-equates g c = λ o.
@@ -48,7 +52,10 @@ returns-then-b-a-clause-lawful g c =
     c.requires.lawful c.args.a.0 c.args.b.0 (linked_entries m.ty x.types.items ts.items c.args.a.0 c.args.b.0 e.values)
     e.universes refl (table_made m.ty x.types.items c.args.a.0 c.requires.a_made) c.if-b-a.true c.requires.a_unbound
     c.requires.b_unbound (λ z. cc) in
-    roots_lawful m y c.join_roots-then-b-a.new.roots (roots_kept m y c.join_roots-then-b-a.new.roots joins.as_many joins.rooted linked.sub_rooted) linked
+    roots_lawful m y c.join_roots-then-b-a.new.roots (roots_kept m y c.join_roots-then-b-a.new.roots joins.as_many joins.rooted
+    c.args.a.0 c.args.b.0
+    (as_many_keys x.types.items ts.items e.keys c.args.a.0 c.requires.a_made)
+    (as_many_keys x.types.items ts.items e.keys c.args.b.0 c.requires.b_made) joins.joins linked.sub_rooted) linked
 
 pub returns-then-b-a-clause-equates : goal.returns-then-b-a-clause-equates
 returns-then-b-a-clause-equates g c = λ o.

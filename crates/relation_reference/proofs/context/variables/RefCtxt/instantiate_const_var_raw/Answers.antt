@@ -12,67 +12,83 @@ use Rattle.type_relations.proofs.Passing.{as_err}
 use Rattle.type_relations.proofs.Standing.{term_context}
 use Rattle.relation_reference.specs.declared.context.inner.InferCtxtInner.{InferCtxtInner}
 use Rattle.relation_reference.specs.Tables.{store_of}
+use Rattle.relation_reference.proofs.Comes.{same_record}
+use Rattle.relation_reference.proofs.Marking.{marks_none, marks_grow, marks_bound}
 use Rattle.relation_reference.proofs.Beside.{consts_beside}
 use Rattle.relation_reference.proofs.Instantiating.{resolved_lawful, universe_read, out_of_memory, source_context, source_covered, left_still, made_still, stopped, generalised_here, by_rules, bound_lawful, const_may}
 use Rattle.relation_reference.proofs.Writing.{bound_entries, table_made, table_of_entries}
 use Rattle.relation_reference.proofs.context.variables.RefCtxt.instantiate_const_var_raw.Goals as goal
 
-pub resolve_const_vars_if_possible-requires-clause-const_in : goal.resolve_const_vars_if_possible-requires-clause-const_in
-resolve_const_vars_if_possible-requires-clause-const_in g c =
+pub resolve_const-requires-clause-const_in : goal.resolve_const-requires-clause-const_in
+resolve_const-requires-clause-const_in g c =
     let m = g.I.Interner.meaning c.args.self.now.interner in
     term_context (store_of m c.args.self.now.inner) (m.const_ c.args.source.now) c.requires.source_in
 
 pub returns-in_err-resolved-clause-grows : goal.returns-in_err-resolved-clause-grows
 returns-in_err-resolved-clause-grows g c =
-    let r = c.resolve_const_vars_if_possible.ensures in
-    record { extends = r.grown; lawful = resolved_lawful r.grown c.args.self.now.inner c.resolve_const_vars_if_possible.new.self.inner r.inner c.requires.lawful }
+    let r = c.resolve_const.ensures in
+    record { extends = r.grown; lawful = resolved_lawful r.grown c.args.self.now.inner c.resolve_const.new.self.inner r.inner c.requires.lawful }
+
+pub returns-in_err-resolved-clause-rest : goal.returns-in_err-resolved-clause-rest
+returns-in_err-resolved-clause-rest g c =
+    let meaning = g.I.Interner.meaning in
+    let r = c.resolve_const.ensures in
+    let p = c.args.self.now in
+    let w = c.resolve_const.new.self in
+    marks_grow meaning p p w r.inner (same_record meaning p w r.grown r.inner c.requires.lawful) (marks_none meaning p c.requires.lawful)
 
 pub returns-in_err-resolved-clause-instantiates : goal.returns-in_err-resolved-clause-instantiates
 returns-in_err-resolved-clause-instantiates g c =
-    let r = c.resolve_const_vars_if_possible.ensures in
-    out_of_memory r.grown c.args.self.now.inner c.resolve_const_vars_if_possible.new.self.inner r.inner c.requires.lawful (λ z. z.const_) CyclicConst const_var c.args.target.0 Invariant
+    let r = c.resolve_const.ensures in
+    out_of_memory r.grown c.args.self.now.inner c.resolve_const.new.self.inner r.inner c.requires.lawful (λ z. z.const_) CyclicConst const_var c.args.target.0 Invariant
     ((g.I.Interner.meaning c.args.self.now.interner).const_ c.args.source.now) (let d = c.if-self-eq0.false in λ e. omega (arith, d, e))
     c.from_residual.result c.from_residual.ensures.0 c.from_residual.ensures.1
 
 pub generalise-requires-clause-lawful : goal.generalise-requires-clause-lawful
 generalise-requires-clause-lawful g c =
-    let r = c.resolve_const_vars_if_possible.ensures in
-    resolved_lawful r.grown c.args.self.now.inner c.resolve_const_vars_if_possible.new.self.inner r.inner c.requires.lawful
+    let r = c.resolve_const.ensures in
+    resolved_lawful r.grown c.args.self.now.inner c.resolve_const.new.self.inner r.inner c.requires.lawful
 
 pub generalise-requires-clause-universe : goal.generalise-requires-clause-universe
 generalise-requires-clause-universe g c =
-    let within = subst (λ a. c.args.target.0 < length a.consts.items) (sym c.resolve_const_vars_if_possible.ensures.inner) c.requires.target_made in
-    universe_read c.resolve_const_vars_if_possible.new.self.inner.consts.items c.args.target.0 c.index.result.now within c.index.ensures
+    let within = subst (λ a. c.args.target.0 < length a.consts.items) (sym c.resolve_const.ensures.inner) c.requires.target_made in
+    universe_read c.resolve_const.new.self.inner.consts.items c.args.target.0 c.index.result.now within c.index.ensures
 
 pub generalise-requires-clause-source_in : goal.generalise-requires-clause-source_in
 generalise-requires-clause-source_in g c =
-    let r = c.resolve_const_vars_if_possible.ensures in
+    let r = c.resolve_const.ensures in
     let m = g.I.Interner.meaning c.args.self.now.interner in
-    let n = g.I.Interner.meaning c.resolve_const_vars_if_possible.new.self.interner in
-    source_context r.grown c.args.self.now.inner c.resolve_const_vars_if_possible.new.self.inner r.inner c.requires.lawful (m.const_ c.args.source.now) (n.const_ c.in_ok-resolved.resolved)
+    let n = g.I.Interner.meaning c.resolve_const.new.self.interner in
+    source_context r.grown c.args.self.now.inner c.resolve_const.new.self.inner r.inner c.requires.lawful (m.const_ c.args.source.now) (n.const_ c.in_ok-resolved.resolved)
     c.in_ok-resolved.ensures.resolves c.requires.source_in
 
 pub generalise-requires-clause-source_covered : goal.generalise-requires-clause-source_covered
 generalise-requires-clause-source_covered g c =
-    let r = c.resolve_const_vars_if_possible.ensures in
+    let r = c.resolve_const.ensures in
     let m = g.I.Interner.meaning c.args.self.now.interner in
-    let n = g.I.Interner.meaning c.resolve_const_vars_if_possible.new.self.interner in
-    source_covered r.grown c.args.self.now.inner c.resolve_const_vars_if_possible.new.self.inner r.inner c.requires.lawful (m.const_ c.args.source.now) (n.const_ c.in_ok-resolved.resolved)
+    let n = g.I.Interner.meaning c.resolve_const.new.self.interner in
+    source_covered r.grown c.args.self.now.inner c.resolve_const.new.self.inner r.inner c.requires.lawful (m.const_ c.args.source.now) (n.const_ c.in_ok-resolved.resolved)
     c.in_ok-resolved.ensures.resolves c.requires.source_covered
 
 pub returns-in_err-part-clause-grows : goal.returns-in_err-part-clause-grows
 returns-in_err-part-clause-grows g c =
-    record { extends = extends_on c.resolve_const_vars_if_possible.ensures.grown c.in_err-part.ensures.grown; lawful = c.in_err-part.ensures.lawful }
+    record { extends = extends_on c.resolve_const.ensures.grown c.in_err-part.ensures.grown; lawful = c.in_err-part.ensures.lawful }
+
+pub returns-in_err-part-clause-rest : goal.returns-in_err-part-clause-rest
+returns-in_err-part-clause-rest g c =
+    let r = c.resolve_const.ensures in
+    marks_bound g.I.Interner.meaning c.args.self.now c.resolve_const.new.self c.generalise.new.self c.generalise.new.self
+    r.grown r.inner c.requires.lawful refl refl refl (λ n h. h) c.in_err-part.ensures.rest
 
 pub returns-in_err-part-clause-instantiates : goal.returns-in_err-part-clause-instantiates
 returns-in_err-part-clause-instantiates g c =
     let m = g.I.Interner.meaning c.args.self.now.interner in
-    let n = g.I.Interner.meaning c.resolve_const_vars_if_possible.new.self.interner in
+    let n = g.I.Interner.meaning c.resolve_const.new.self.interner in
     let o = g.I.Interner.meaning c.generalise.new.self.interner in
     let x = c.args.self.now.inner in
-    let w = c.resolve_const_vars_if_possible.new.self.inner in
+    let w = c.resolve_const.new.self.inner in
     let z = c.generalise.new.self.inner in
-    let r = c.resolve_const_vars_if_possible.ensures in
+    let r = c.resolve_const.ensures in
     let i = c.args.target.0 in
     let l = c.requires.lawful in
     let within = subst (λ a. i < length a.consts.items) (sym r.inner) c.requires.target_made in
@@ -90,12 +106,12 @@ returns-in_err-part-clause-instantiates g c =
 pub bind-requires : goal.bind-requires
 bind-requires g c =
     let m = g.I.Interner.meaning c.args.self.now.interner in
-    let n = g.I.Interner.meaning c.resolve_const_vars_if_possible.new.self.interner in
+    let n = g.I.Interner.meaning c.resolve_const.new.self.interner in
     let o = g.I.Interner.meaning c.generalise.new.self.interner in
     let x = c.args.self.now.inner in
-    let w = c.resolve_const_vars_if_possible.new.self.inner in
+    let w = c.resolve_const.new.self.inner in
     let z = c.generalise.new.self.inner in
-    let r = c.resolve_const_vars_if_possible.ensures in
+    let r = c.resolve_const.ensures in
     let i = c.args.target.0 in
     let l = c.requires.lawful in
     let within = subst (λ a. i < length a.consts.items) (sym r.inner) c.requires.target_made in
@@ -105,12 +121,12 @@ bind-requires g c =
 pub overflow_sub-self : goal.overflow_sub-self
 overflow_sub-self g c =
     let m = g.I.Interner.meaning c.args.self.now.interner in
-    let n = g.I.Interner.meaning c.resolve_const_vars_if_possible.new.self.interner in
+    let n = g.I.Interner.meaning c.resolve_const.new.self.interner in
     let o = g.I.Interner.meaning c.generalise.new.self.interner in
     let x = c.args.self.now.inner in
-    let w = c.resolve_const_vars_if_possible.new.self.inner in
+    let w = c.resolve_const.new.self.inner in
     let z = c.generalise.new.self.inner in
-    let r = c.resolve_const_vars_if_possible.ensures in
+    let r = c.resolve_const.ensures in
     let i = c.args.target.0 in
     let l = c.requires.lawful in
     let within = subst (λ a. i < length a.consts.items) (sym r.inner) c.requires.target_made in
@@ -122,12 +138,12 @@ overflow_sub-self g c =
 pub returns : goal.returns
 returns g c =
     let m = g.I.Interner.meaning c.args.self.now.interner in
-    let n = g.I.Interner.meaning c.resolve_const_vars_if_possible.new.self.interner in
+    let n = g.I.Interner.meaning c.resolve_const.new.self.interner in
     let o = g.I.Interner.meaning c.generalise.new.self.interner in
     let x = c.args.self.now.inner in
-    let w = c.resolve_const_vars_if_possible.new.self.inner in
+    let w = c.resolve_const.new.self.inner in
     let z = c.generalise.new.self.inner in
-    let r = c.resolve_const_vars_if_possible.ensures in
+    let r = c.resolve_const.ensures in
     let i = c.args.target.0 in
     let l = c.requires.lawful in
     let within = subst (λ a. i < length a.consts.items) (sym r.inner) c.requires.target_made in
@@ -156,4 +172,10 @@ returns g c =
     record {
       grows = record { extends = extends_on r.grown e.grown; lawful = bound_lawful o r.grown x w z r.inner l const_var i u universe e.makes y (o.const_ b) full tt Invariant t made c.requires.target_unbound e.lawful beside keys entries c.bind.ensures.universes left comes gen c.requires.source_in sorted may };
       instantiates = (sure, by_rules o r.grown x w z r.inner l const_var i u universe e.makes y (o.const_ b) full tt Invariant t made c.requires.target_unbound e.lawful beside keys entries c.bind.ensures.universes left comes gen c.requires.source_in sorted);
+      rest = marks_bound g.I.Interner.meaning c.args.self.now c.resolve_const.new.self c.generalise.new.self
+          (record { interner = c.generalise.new.self.interner; inner = y }) r.grown r.inner l refl refl refl
+          (λ j h. h) e.rest;
     }
+
+pub returns-then-self-eq0-clause-rest : goal.returns-then-self-eq0-clause-rest
+returns-then-self-eq0-clause-rest g c = marks_none g.I.Interner.meaning c.args.self.now c.requires.lawful

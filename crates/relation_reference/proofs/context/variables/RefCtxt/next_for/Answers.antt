@@ -1,15 +1,19 @@
-use Rattle.std.proofs.Common.{ap}
+use Rattle.std.proofs.Common.{ap, length}
 use Rattle.relation_terms.specs.Heads.{type_var, const_var, region_var}
 use Rattle.relation_reference.specs.Generalises.{new_kind}
 use Rattle.relation_reference.proofs.Making.{on_err}
+use Rattle.relation_terms.specs.Parts.{part_tree}
+use Rattle.relation_reference.specs.Tables.{store_of}
+use Rattle.relation_reference.proofs.Reading.{made_in_context}
+use Rattle.relation_reference.proofs.Marking.{marks_kept}
 use Rattle.relation_reference.proofs.Fates.{made_as}
 use Rattle.relation_reference.proofs.context.variables.RefCtxt.next_for.Goals as goal
 
-pub returns-in_err-next_ty_var_in-in-Ty-clause-refused : goal.returns-in_err-next_ty_var_in-in-Ty-clause-refused
-returns-in_err-next_ty_var_in-in-Ty-clause-refused g c = on_err _ _ c.in_err-next_ty_var_in-in-Ty.ensures.refused
+pub returns-in_err-next_related_ty_var-in-Ty-clause-refused : goal.returns-in_err-next_related_ty_var-in-Ty-clause-refused
+returns-in_err-next_related_ty_var-in-Ty-clause-refused g c = on_err _ _ c.in_err-next_related_ty_var-in-Ty.ensures.refused
 
-pub returns-in_ok-next_ty_var_in-in-Ty-clause-makes : goal.returns-in_ok-next_ty_var_in-in-Ty-clause-makes
-returns-in_ok-next_ty_var_in-in-Ty-clause-makes g c = made_as _ _ _ _ _ type_var _ (ap new_kind c.in-Ty.is) c.in_ok-next_ty_var_in-in-Ty.ensures.makes c.in_ok-next_ty_var_in-in-Ty.ensures.means
+pub returns-in_ok-next_related_ty_var-in-Ty-clause-makes : goal.returns-in_ok-next_related_ty_var-in-Ty-clause-makes
+returns-in_ok-next_related_ty_var-in-Ty-clause-makes g c = made_as _ _ _ _ _ type_var _ (ap new_kind c.in-Ty.is) c.in_ok-next_related_ty_var-in-Ty.ensures.makes c.in_ok-next_related_ty_var-in-Ty.ensures.means
 
 pub returns-in_err-next_const_var_in-in-Const-clause-refused : goal.returns-in_err-next_const_var_in-in-Const-clause-refused
 returns-in_err-next_const_var_in-in-Const-clause-refused g c = on_err _ _ c.in_err-next_const_var_in-in-Const.ensures.refused
@@ -22,3 +26,36 @@ returns-in_err-next_region_var_in-in-Region-clause-refused g c = on_err _ _ c.in
 
 pub returns-in_ok-next_region_var_in-in-Region-clause-makes : goal.returns-in_ok-next_region_var_in-in-Region-clause-makes
 returns-in_ok-next_region_var_in-in-Region-clause-makes g c = made_as _ _ _ _ _ region_var _ (ap new_kind c.in-Region.is) c.in_ok-next_region_var_in-in-Region.ensures.makes c.in_ok-next_region_var_in-in-Region.ensures.means
+
+pub returns-in_err-next_const_var_in-in-Const-clause-rest : goal.returns-in_err-next_const_var_in-in-Const-clause-rest
+returns-in_err-next_const_var_in-in-Const-clause-rest g c =
+    let done = c.in_err-next_const_var_in-in-Const.ensures in
+    marks_kept g.I.Interner.meaning c.args.self.now c.next_const_var_in.new.self c.requires.lawful
+    (ap (λ st. length (st.entries type_var)) done.refused) done.rest
+
+pub returns-in_ok-next_const_var_in-in-Const-clause-rest : goal.returns-in_ok-next_const_var_in-in-Const-clause-rest
+returns-in_ok-next_const_var_in-in-Const-clause-rest g c =
+    let done = c.in_ok-next_const_var_in-in-Const.ensures in
+    marks_kept g.I.Interner.meaning c.args.self.now c.next_const_var_in.new.self c.requires.lawful
+    (ap length (done.makes.other_entries type_var (λ e. cc))) done.rest
+
+pub returns-in_err-next_region_var_in-in-Region-clause-rest : goal.returns-in_err-next_region_var_in-in-Region-clause-rest
+returns-in_err-next_region_var_in-in-Region-clause-rest g c =
+    let done = c.in_err-next_region_var_in-in-Region.ensures in
+    marks_kept g.I.Interner.meaning c.args.self.now c.next_region_var_in.new.self c.requires.lawful
+    (ap (λ st. length (st.entries type_var)) done.refused) done.rest
+
+pub returns-in_ok-next_region_var_in-in-Region-clause-rest : goal.returns-in_ok-next_region_var_in-in-Region-clause-rest
+returns-in_ok-next_region_var_in-in-Region-clause-rest g c =
+    let done = c.in_ok-next_region_var_in-in-Region.ensures in
+    marks_kept g.I.Interner.meaning c.args.self.now c.next_region_var_in.new.self c.requires.lawful
+    (ap length (done.makes.other_entries type_var (λ e. cc))) done.rest
+
+pub type_variable-of-requires-clause-varies : goal.type_variable-of-requires-clause-varies
+type_variable-of-requires-clause-varies g c = c.requires.varies (ap new_kind c.in-Ty.is)
+
+pub next_related_ty_var-requires-clause-of_made : goal.next_related_ty_var-requires-clause-of_made
+next_related_ty_var-requires-clause-of_made g c =
+    let m = g.I.Interner.meaning c.args.self.now.interner in
+    made_in_context (store_of m c.args.self.now.inner) type_var (part_tree m c.args.term.now) _
+    c.type_variable-of.ensures c.requires.term_in

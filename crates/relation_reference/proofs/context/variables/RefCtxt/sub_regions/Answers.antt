@@ -59,5 +59,6 @@ returns g c =
       lawful = constraint_lawful m x c.requires.lawful r (c.requires.sup_in, c.requires.sub_in) c.push.new.self more;
       adds = constraint_added m x c.requires.lawful r (c.requires.sup_in, c.requires.sub_in) c.push.new.self more;
       refused = tt;
+      rest = record { solver = refl; outliving = refl; marks = λ n. refl };
       goes = constraint_goes m x c.requires.lawful r (c.requires.sup_in, c.requires.sub_in) c.push.new.self more;
     }

@@ -17,4 +17,5 @@ returns-clause-lawful g c =
     let x = c.args.self.now.inner in
     let l = c.requires.lawful in
     let done = c.join_roots.ensures in
-    roots_lawful m x c.join_roots.new.roots (roots_kept m x c.join_roots.new.roots done.as_many done.rooted l.sub_rooted) l
+    roots_lawful m x c.join_roots.new.roots (roots_kept m x c.join_roots.new.roots done.as_many done.rooted c.args.a.0 c.args.b.0
+    c.requires.a_made c.requires.b_made done.joins l.sub_rooted) l

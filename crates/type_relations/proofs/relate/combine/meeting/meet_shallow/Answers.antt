@@ -54,11 +54,11 @@ instantiate_const_var_raw-requires-in-Some-const_var-2-clause-source_no_variable
 pub returns-in-Some-const_var-clause-grows : goal.returns-in-Some-const_var-clause-grows
 returns-in-Some-const_var-clause-grows g c =
     stands_grows (g.Infcx.InferCtxtLike.state c.args.infcx.now)
-    (g.Infcx.InferCtxtLike.state c.equate_const_vids_raw.new.self) c.equate_const_vids_raw.ensures.stands
+    (g.Infcx.InferCtxtLike.state c.equate_const_vids_raw.new.self) c.equate_const_vids_raw.ensures.equates.stands
 
 pub returns-in-Some-const_var-clause-combines : goal.returns-in-Some-const_var-clause-combines
 returns-in-Some-const_var-clause-combines g c =
-    let done = c.equate_const_vids_raw.ensures in
+    let done = c.equate_const_vids_raw.ensures.equates in
     roots_equated c.in-Some.x.0 c.in-Some-const_var.y.0 c.in-Some.ensures.is c.in-Some-const_var.ensures.is
     (record { same = done.same; equates = done.equates }) done.stands.meaning refl
 

@@ -1,0 +1,10 @@
+use Rattle.std.proofs.Common.{◌∙◌, sym}
+use Rattle.relation_reference.specs.Tables.{store_of}
+use Rattle.relation_reference.proofs.Remembering.{key_eq, remembers_more}
+use Rattle.relation_reference.proofs.context.memory.keep.Goals as goal
+
+pub returns-in_ok-insert : goal.returns-in_ok-insert
+returns-in_ok-insert g c =
+    remembers_more (g.I.Interner.meaning c.args.cx.now) (store_of (g.I.Interner.meaning c.args.cx.now) c.args.inner.now) (key_eq g.I.Key.PartialEq.eq) c.args.memory.now
+    c.insert.new.self c.args.part.now c.args.resolved c.in-Some.key (sym c.key_of.ensures ∙ c.in-Some.is)
+    c.requires.comes c.in_ok-insert.ensures.updates.0 c.requires.remembers

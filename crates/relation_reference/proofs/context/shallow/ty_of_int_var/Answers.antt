@@ -1,0 +1,31 @@
+use Rattle.std.proofs.Common.{refl}
+use Rattle.relation_terms.specs.Heads.{int_var}
+use Rattle.relation_reference.specs.Tables.{store_of}
+use Rattle.relation_reference.proofs.Reading.{root_made, found, found_known, found_read, found_covered, found_shallow}
+use Rattle.relation_reference.proofs.Writing.{table_made, table_of_entries}
+use Rattle.relation_reference.proofs.context.shallow.ty_of_int_var.Goals as goal
+
+pub term_of-requires-clause-root_made : goal.term_of-requires-clause-root_made
+term_of-requires-clause-root_made g c =
+    let m = g.I.Interner.meaning c.args.cx.now in
+    let x = c.args.inner.now in
+    let l = c.requires.lawful in
+    let v = c.args.var.0 in
+    table_of_entries m.ty x.ints.items _ (root_made m.ty x.ints.items (store_of m x) int_var refl l.sound v (table_made m.ty x.ints.items v c.requires.made))
+
+pub returns : goal.returns
+returns g c =
+    let m = g.I.Interner.meaning c.args.cx.now in
+    let x = c.args.inner.now in
+    let st = store_of m x in
+    let l = c.requires.lawful in
+    let v = c.args.var.0 in
+    let there = table_of_entries m.ty x.ints.items _ (root_made m.ty x.ints.items st int_var refl l.sound v (table_made m.ty x.ints.items v c.requires.made)) in
+    let u = m.ty c.term_of.result in
+    let f = found m.ty x.ints.items st int_var refl l.rooted (l.keyed int_var) v there c.term_of.result c.term_of.ensures in
+    record {
+      sure = found_known m x l int_var v u f;
+      reads = found_read m x l int_var v u f;
+      shallow = found_shallow m x l int_var v u (λ h. h.0) f;
+      covered = found_covered m x l int_var v u f;
+    }

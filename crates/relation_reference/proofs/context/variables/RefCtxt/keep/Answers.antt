@@ -1,9 +1,0 @@
-use Rattle.std.proofs.Common.{◌∙◌, sym}
-use Rattle.relation_reference.proofs.Remembering.{key_eq, remembers_more}
-use Rattle.relation_reference.proofs.context.variables.RefCtxt.keep.Goals as goal
-
-pub returns-in_ok-insert : goal.returns-in_ok-insert
-returns-in_ok-insert g c =
-    remembers_more g.I.Interner.meaning c.args.self.now (key_eq g.I.Key.PartialEq.eq) c.args.memory.now
-    c.insert.new.self c.args.part.now c.args.resolved c.in-Some.key (sym c.key_of.ensures ∙ c.in-Some.is)
-    c.requires.comes c.in_ok-insert.ensures.updates.0 c.requires.remembers

@@ -1,0 +1,173 @@
+//! Reading what variables have come to, by a context's tables.
+ghost use Rattle.std.specs.Prelude.{◌<◌, IsTrue, length};
+ghost use Rattle.relation_terms.specs.Heads.{type_var, int_var, float_var, const_var, variable};
+ghost use Rattle.relation_terms.specs.Trees.{leaf, known};
+ghost use Rattle.type_relations.specs.Covered.{IsCovered};
+ghost use Rattle.type_relations.specs.Stores.{InContext};
+ghost use Rattle.type_relations.specs.Steps.{Resolves};
+ghost use Rattle.type_relations.specs.Errors.{IsReadAs};
+ghost use Rattle.type_relations.specs.Resolving.{IsShallow, IsShallowTy, IsShallowConst};
+ghost use Rattle.relation_reference.specs.Tables.{store_of, IsLawful};
+
+use crate::context::InferCtxtInner;
+use crate::context::table::term_of;
+use relation_terms::terms::{Const, ConstVid, FloatVid, IntVid, Interner, Ty, TyVid};
+use type_relations::relate::variables::{const_vid, float_vid, int_vid, ty_vid};
+
+// The type that a type variable's class is bound to, or else the root of its class.
+pub(crate) fn ty_of_var<I: Interner>(cx: &I, inner: &InferCtxtInner<I::Key>, var: TyVid) -> Ty<I>
+    requires lawful { IsLawful (I.meaning cx.now) inner.now }
+    requires made { var.0 < length inner.now.types.items }
+    ensures sure { IsTrue (known ((I.meaning cx.now).ty result)) }
+    ensures reads { let t = (I.meaning cx.now).ty result in
+        IsReadAs (store_of (I.meaning cx.now) inner.now) (leaf (variable type_var var.0)) t }
+    ensures shallow { IsShallowTy (store_of (I.meaning cx.now) inner.now) ((I.meaning cx.now).ty result) }
+    ensures covered { IsCovered ((I.meaning cx.now).ty result) }
+{
+    let _ = cx;
+    term_of(&inner.types, var.0)
+}
+
+// The type that an integer variable's class is bound to, or else the root of its class.
+pub(crate) fn ty_of_int_var<I: Interner>(
+    cx: &I,
+    inner: &InferCtxtInner<I::Key>,
+    var: IntVid,
+) -> Ty<I>
+    requires lawful { IsLawful (I.meaning cx.now) inner.now }
+    requires made { var.0 < length inner.now.ints.items }
+    ensures sure { IsTrue (known ((I.meaning cx.now).ty result)) }
+    ensures reads { let t = (I.meaning cx.now).ty result in
+        IsReadAs (store_of (I.meaning cx.now) inner.now) (leaf (variable int_var var.0)) t }
+    ensures shallow { IsShallow (store_of (I.meaning cx.now) inner.now) ((I.meaning cx.now).ty result) }
+    ensures covered { IsCovered ((I.meaning cx.now).ty result) }
+{
+    let _ = cx;
+    term_of(&inner.ints, var.0)
+}
+
+// The type that a float variable's class is bound to, or else the root of its class.
+pub(crate) fn ty_of_float_var<I: Interner>(
+    cx: &I,
+    inner: &InferCtxtInner<I::Key>,
+    var: FloatVid,
+) -> Ty<I>
+    requires lawful { IsLawful (I.meaning cx.now) inner.now }
+    requires made { var.0 < length inner.now.floats.items }
+    ensures sure { IsTrue (known ((I.meaning cx.now).ty result)) }
+    ensures reads { let t = (I.meaning cx.now).ty result in
+        IsReadAs (store_of (I.meaning cx.now) inner.now) (leaf (variable float_var var.0)) t }
+    ensures shallow { IsShallow (store_of (I.meaning cx.now) inner.now) ((I.meaning cx.now).ty result) }
+    ensures covered { IsCovered ((I.meaning cx.now).ty result) }
+{
+    let _ = cx;
+    term_of(&inner.floats, var.0)
+}
+
+// The constant that a constant variable's class is bound to, or else the root of its class.
+pub(crate) fn const_of_var<I: Interner>(
+    cx: &I,
+    inner: &InferCtxtInner<I::Key>,
+    var: ConstVid,
+) -> Const<I>
+    requires lawful { IsLawful (I.meaning cx.now) inner.now }
+    requires made { var.0 < length inner.now.consts.items }
+    ensures sure { IsTrue (known ((I.meaning cx.now).const_ result)) }
+    ensures reads { let t = (I.meaning cx.now).const_ result in
+        IsReadAs (store_of (I.meaning cx.now) inner.now) (leaf (variable const_var var.0)) t }
+    ensures shallow { IsShallowConst (store_of (I.meaning cx.now) inner.now) ((I.meaning cx.now).const_ result) }
+    ensures covered { IsCovered ((I.meaning cx.now).const_ result) }
+{
+    let _ = cx;
+    term_of(&inner.consts, var.0)
+}
+
+// The type itself, or for a type variable what it is found to be.
+pub(crate) fn shallow_ty<I: Interner>(cx: &I, inner: &InferCtxtInner<I::Key>, ty: &Ty<I>) -> Ty<I>
+    requires lawful { IsLawful (I.meaning cx.now) inner.now }
+    requires ty_known { IsTrue (known ((I.meaning cx.now).ty ty.now)) }
+    requires ty_in { InContext (store_of (I.meaning cx.now) inner.now) ((I.meaning cx.now).ty ty.now) }
+    ensures sure { IsTrue (known ((I.meaning cx.now).ty result)) }
+    ensures reads { let m = I.meaning cx.now in
+        IsReadAs (store_of (I.meaning cx.now) inner.now) (m.ty ty.now) (m.ty result) }
+    ensures shallow { IsShallowTy (store_of (I.meaning cx.now) inner.now) ((I.meaning cx.now).ty result) }
+    ensures covered { let m = I.meaning cx.now in IsCovered (m.ty ty.now) → IsCovered (m.ty result) }
+{
+    let Some(var) = ty_vid(&cx.ty_kind(ty)) else {
+        return *ty;
+    };
+    ty_of_var(cx, inner, var)
+}
+
+// The type itself, or for an integer or float variable what its class is bound to, or else the root of its class.
+pub(crate) fn shallow_number<I: Interner>(
+    cx: &I,
+    inner: &InferCtxtInner<I::Key>,
+    ty: &Ty<I>,
+) -> Ty<I>
+    requires lawful { IsLawful (I.meaning cx.now) inner.now }
+    requires ty_known { IsTrue (known ((I.meaning cx.now).ty ty.now)) }
+    requires ty_in { InContext (store_of (I.meaning cx.now) inner.now) ((I.meaning cx.now).ty ty.now) }
+    requires ty_shallow { IsShallowTy (store_of (I.meaning cx.now) inner.now) ((I.meaning cx.now).ty ty.now) }
+    ensures sure { IsTrue (known ((I.meaning cx.now).ty result)) }
+    ensures reads { let m = I.meaning cx.now in
+        IsReadAs (store_of (I.meaning cx.now) inner.now) (m.ty ty.now) (m.ty result) }
+    ensures shallow { IsShallow (store_of (I.meaning cx.now) inner.now) ((I.meaning cx.now).ty result) }
+    ensures covered { let m = I.meaning cx.now in IsCovered (m.ty ty.now) → IsCovered (m.ty result) }
+{
+    let kind = cx.ty_kind(ty);
+    if let Some(number) = int_vid(&kind) {
+        return ty_of_int_var(cx, inner, number);
+    }
+    if let Some(float) = float_vid(&kind) {
+        return ty_of_float_var(cx, inner, float);
+    }
+    *ty
+}
+
+// The type itself, or for a variable the type that its class is bound to, or else the root of its class. A type
+// variable that is bound to an integer or float variable is read as that one is.
+pub(crate) fn shallow_resolve<I: Interner>(
+    cx: &I,
+    inner: &InferCtxtInner<I::Key>,
+    ty: &Ty<I>,
+) -> Ty<I>
+    requires lawful { IsLawful (I.meaning cx.now) inner.now }
+    requires ty_known { IsTrue (known ((I.meaning cx.now).ty ty.now)) }
+    requires ty_in { InContext (store_of (I.meaning cx.now) inner.now) ((I.meaning cx.now).ty ty.now) }
+    ensures sure { IsTrue (known ((I.meaning cx.now).ty result)) }
+    ensures reads { let m = I.meaning cx.now in
+        IsReadAs (store_of (I.meaning cx.now) inner.now) (m.ty ty.now) (m.ty result) }
+    ensures resolves { let m = I.meaning cx.now in
+        Resolves (store_of (I.meaning cx.now) inner.now) (m.ty ty.now) (m.ty result) }
+    ensures shallow { IsShallow (store_of (I.meaning cx.now) inner.now) ((I.meaning cx.now).ty result) }
+    ensures covered { let m = I.meaning cx.now in IsCovered (m.ty ty.now) → IsCovered (m.ty result) }
+{
+    let found = shallow_ty(cx, inner, ty);
+    shallow_number(cx, inner, &found)
+}
+
+// The constant itself, or for a variable the constant that its class is bound to, or else the root of its class.
+pub(crate) fn shallow_resolve_const<I: Interner>(
+    cx: &I,
+    inner: &InferCtxtInner<I::Key>,
+    constant: &Const<I>,
+) -> Const<I>
+    requires lawful { IsLawful (I.meaning cx.now) inner.now }
+    requires const_known { IsTrue (known ((I.meaning cx.now).const_ constant.now)) }
+    requires const_in { InContext (store_of (I.meaning cx.now) inner.now)
+        ((I.meaning cx.now).const_ constant.now) }
+    ensures sure { IsTrue (known ((I.meaning cx.now).const_ result)) }
+    ensures reads { let m = I.meaning cx.now in
+        IsReadAs (store_of (I.meaning cx.now) inner.now) (m.const_ constant.now) (m.const_ result) }
+    ensures resolves { let m = I.meaning cx.now in
+        Resolves (store_of (I.meaning cx.now) inner.now) (m.const_ constant.now) (m.const_ result) }
+    ensures shallow { IsShallowConst (store_of (I.meaning cx.now) inner.now) ((I.meaning cx.now).const_ result) }
+    ensures covered { let m = I.meaning cx.now in
+        IsCovered (m.const_ constant.now) → IsCovered (m.const_ result) }
+{
+    let Some(var) = const_vid(&cx.const_kind(constant)) else {
+        return *constant;
+    };
+    const_of_var(cx, inner, var)
+}
