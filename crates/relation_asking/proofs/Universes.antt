@@ -52,13 +52,6 @@ module _ {Key Id Name : Type 0} (m n : Meaning Key Id Name) (x y : InferCtxtInne
   pub one_made : MakesIn u x y
   one_made j = one_at j (VarKind_discrete j k)
 
--- The context's universe was changed, and then again: that is all.
-pub entered_again : {Key : Type 0} (x y z : InferCtxtInner Key) (u v : UniverseIndex) → y ≡ record x { universe = u } →
-    z ≡ record y { universe = v } → z ≡ record x { universe = z.universe }
-entered_again x y z u v e f =
-    let g : z ≡ record x { universe = v } = f ∙ ap (λ (w : InferCtxtInner Key). record w { universe = v }) e in
-    g ∙ ap (λ (w : UniverseIndex). record x { universe = w }) (sym (ap (λ (w : InferCtxtInner Key). w.universe) g))
-
 -- Where only the context's universe changed, variables are as many, and stand where they stood.
 module _ {Key : Type 0} (x : InferCtxtInner Key) (v : UniverseIndex) where
   as_many : (k : VarKind) → variables_in (record x { universe = v }) k ≡ variables_in x k

@@ -14,7 +14,7 @@ loop-init g c =
       universe = omega arith;
       same = refl;
       made = none_made (x.universe).0 x;
-      as_many = sym c.variables_count.ensures;
+      as_many = sym c.variables_count-counter.ensures;
     }
 
 pub loop-preserved : goal.loop-preserved
