@@ -1,6 +1,6 @@
 use Rattle.std.proofs.Common.{sym, subst, max, arith}
 use Rattle.std.proofs.lemmas.Result.{on_ok_weaker}
-use Rattle.relation_terms.specs.Heads.{type_var, const_var, region_var}
+use Rattle.relation_terms.specs.Heads.{type_var, const_var}
 use Rattle.relation_terms.specs.Meaning.{Extends}
 use Rattle.relation_terms.proofs.Stays.{stays_same, extends_on}
 use Rattle.relation_asking.proofs.Universes.{entered_variables, stated_made}
