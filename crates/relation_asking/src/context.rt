@@ -147,7 +147,7 @@ fn count_to(largest: Option<usize>) -> Result<usize, OutOfMemory>
 fn enter_universe<I: Interner>(ctx: &mut RefCtxt<I>, universe: usize) -> Result<(), OutOfMemory>
     requires { IsLawful (I.meaning ctx.old.interner) ctx.old.inner }
     ensures interner { ctx.new.interner ≡ ctx.old.interner }
-    ensures lawful { IsLawful (I.meaning ctx.old.interner) ctx.new.inner }
+    ensures lawful { IsLawful (I.meaning ctx.new.interner) ctx.new.inner }
     ensures rest { ctx.new.inner ≡ record ctx.old.inner { universe = ctx.new.inner.universe } }
     ensures later { ctx.old.inner.universe.0 ≤ ctx.new.inner.universe.0 }
     ensures enters { OnOk result (ctx.new.inner.universe.0 ≡ max ctx.old.inner.universe.0 universe) }

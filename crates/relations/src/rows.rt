@@ -1,6 +1,6 @@
 //! The rows, their stored answers, and the program's runs.
 ghost use Rattle.std.specs.Prelude.{◌≡◌, ◌<◌, ◌≤◌, ◌↔◌, IsTrue, IfSome, length, slice_get, string_bytes};
-ghost use Rattle.relations.specs.Named.{IsHighRow, IsLowRow, IsRow};
+ghost use Rattle.relations.specs.Named.{IsHighRow, IsLowRow, IsMiddleRow, IsRow};
 
 use crate::doubling::count_terms_and_nodes;
 use relation_asking::ask_all;
@@ -309,9 +309,9 @@ fn is_low_row(name: &str) -> bool
         || name == "r19"
 }
 
-// Whether a row from r20 on has that name.
-fn is_high_row(name: &str) -> bool
-    ensures { IsTrue result ↔ IsHighRow name.now }
+// Whether a row from r20 on, but below r50, has that name.
+fn is_middle_row(name: &str) -> bool
+    ensures { IsTrue result ↔ IsMiddleRow name.now }
 {
     name == "r20"
         || name == "r22"
@@ -325,7 +325,13 @@ fn is_high_row(name: &str) -> bool
         || name == "r35"
         || name == "r36"
         || name == "r37"
-        || name == "r53"
+}
+
+// Whether a row from r50 on has that name.
+fn is_high_row(name: &str) -> bool
+    ensures { IsTrue result ↔ IsHighRow name.now }
+{
+    name == "r53"
         || name == "r54"
         || name == "r55"
         || name == "r59"
@@ -338,7 +344,7 @@ fn is_high_row(name: &str) -> bool
 fn is_row(name: &str) -> bool
     ensures { IsTrue result ↔ IsRow name.now }
 {
-    is_low_row(name) || is_high_row(name)
+    is_low_row(name) || is_middle_row(name) || is_high_row(name)
 }
 
 // Prints the row of a name, or all. The status is 1 if an answer is not the stored one, a row's text is wrong, or a

@@ -1,4 +1,4 @@
-use Rattle.std.proofs.Common.{◌≤◌}
+use Rattle.std.proofs.Common.{take}
 use Rattle.std.specs.List.{All}
 use Rattle.relation_terms.specs.Meaning.{Extends}
 use Rattle.relation_reference.specs.Tables.{IsLawful}
@@ -6,9 +6,9 @@ use Rattle.relation_asking.specs.Asking.{HasStated}
 use Rattle.relation_asking.proofs.context.have_all_stated.Given as goal
 
 -- what was stated so far is there
-abbrev pub invariant-loop : goal.invariant-loop
-invariant-loop g l = record {
+abbrev pub invariant-loop-variables : goal.invariant-loop-variables
+invariant-loop-variables g l = record {
   lawful : IsLawful (g.I.Interner.meaning l.ctx.interner) l.ctx.inner;
   grown : Extends (g.I.Interner.meaning l.fn.ctx.interner) (g.I.Interner.meaning l.ctx.interner);
-  so_far : All (HasStated l.ctx.inner) l.seen;
+  so_far : All (HasStated l.ctx.inner) (take l.variables-index l.stated);
 }

@@ -88,24 +88,24 @@ returns-in_ok-next_region_infer-in-Region-clause-universe g c = c.next_region_in
 pub returns-in_ok-next_ty_infer-in-Ty-clause-makes : goal.returns-in_ok-next_ty_infer-in-Ty-clause-makes
 returns-in_ok-next_ty_infer-in-Ty-clause-makes g c =
     one_made (g.I.Interner.meaning c.args.ctx.now.interner) (g.I.Interner.meaning c.next_ty_infer.new.self.interner)
-    c.args.ctx.now.inner c.next_ty_infer.new.self.inner type_var _ (c.args.ctx.now.inner.universe).0 c.in_ok-next_ty_infer.ensures.makes
+    c.args.ctx.now.inner c.next_ty_infer.new.self.inner type_var _ (c.args.ctx.now.inner.universe).0 c.in_ok-next_ty_infer-in-Ty.ensures.makes
 
 pub returns-in_ok-next_int_var-in-Int-clause-makes : goal.returns-in_ok-next_int_var-in-Int-clause-makes
 returns-in_ok-next_int_var-in-Int-clause-makes g c =
     one_made (g.I.Interner.meaning c.args.ctx.now.interner) (g.I.Interner.meaning c.next_int_var.new.self.interner)
-    c.args.ctx.now.inner c.next_int_var.new.self.inner int_var _ (c.args.ctx.now.inner.universe).0 c.in_ok-next_int_var.ensures.makes
+    c.args.ctx.now.inner c.next_int_var.new.self.inner int_var _ (c.args.ctx.now.inner.universe).0 c.in_ok-next_int_var-in-Int.ensures.makes
 
 pub returns-in_ok-next_float_var-in-Float-clause-makes : goal.returns-in_ok-next_float_var-in-Float-clause-makes
 returns-in_ok-next_float_var-in-Float-clause-makes g c =
     one_made (g.I.Interner.meaning c.args.ctx.now.interner) (g.I.Interner.meaning c.next_float_var.new.self.interner)
-    c.args.ctx.now.inner c.next_float_var.new.self.inner float_var _ (c.args.ctx.now.inner.universe).0 c.in_ok-next_float_var.ensures.makes
+    c.args.ctx.now.inner c.next_float_var.new.self.inner float_var _ (c.args.ctx.now.inner.universe).0 c.in_ok-next_float_var-in-Float.ensures.makes
 
 pub returns-in_ok-next_const_infer-in-Const-clause-makes : goal.returns-in_ok-next_const_infer-in-Const-clause-makes
 returns-in_ok-next_const_infer-in-Const-clause-makes g c =
     one_made (g.I.Interner.meaning c.args.ctx.now.interner) (g.I.Interner.meaning c.next_const_infer.new.self.interner)
-    c.args.ctx.now.inner c.next_const_infer.new.self.inner const_var _ (c.args.ctx.now.inner.universe).0 c.in_ok-next_const_infer.ensures.makes
+    c.args.ctx.now.inner c.next_const_infer.new.self.inner const_var _ (c.args.ctx.now.inner.universe).0 c.in_ok-next_const_infer-in-Const.ensures.makes
 
 pub returns-in_ok-next_region_infer-in-Region-clause-makes : goal.returns-in_ok-next_region_infer-in-Region-clause-makes
 returns-in_ok-next_region_infer-in-Region-clause-makes g c =
     one_made (g.I.Interner.meaning c.args.ctx.now.interner) (g.I.Interner.meaning c.next_region_infer.new.self.interner)
-    c.args.ctx.now.inner c.next_region_infer.new.self.inner region_var _ (c.args.ctx.now.inner.universe).0 c.in_ok-next_region_infer.ensures.makes
+    c.args.ctx.now.inner c.next_region_infer.new.self.inner region_var _ (c.args.ctx.now.inner.universe).0 c.in_ok-next_region_infer-in-Region.ensures.makes
