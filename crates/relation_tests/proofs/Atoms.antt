@@ -1,9 +1,11 @@
 -- Terms without parts stand in each context, and so do slices of its variables.
-use Rattle.std.proofs.Common.{◌≡◌, ℕ, sym, subst}
+use Rattle.std.proofs.Common.{◌≡◌, ℕ, ap, ◌∙◌, sym, subst}
 use Rattle.relation_terms.specs.Heads.{region_sort, type_var, slice, Atom, atom, variable}
 use Rattle.relation_terms.specs.Trees.{Tree, leaf, node, cons, nil, IsTerm}
 use Rattle.type_relations.specs.Relation.{IsValueAtom}
 use Rattle.type_relations.specs.Stores.{Store, IsMade, IsTermIn, InContext, IsRegionIn}
+use Rattle.type_relations.specs.Steps.{MakesVariable}
+use Rattle.relation_reference.proofs.Marking.{made_new}
 
 pub atom_in : (st : Store) (t : Tree) (x : Atom) → IsValueAtom x → t ≡ leaf (atom x) → IsTermIn st t
 unfolding IsTermIn InContext
@@ -17,3 +19,9 @@ pub slice_in : (st : Store) (t : Tree) (n : ℕ) → IsMade st type_var n → t 
     IsTermIn st t
 unfolding IsTermIn InContext
 slice_in st t n made e = subst (IsTermIn st) (sym e) ((made, tt), (tt, tt), (tt, tt))
+
+-- The slice of a variable that was just made is the context's.
+pub slice_made : (st before after : Store) (t u : Tree) (n w : ℕ) → MakesVariable before after type_var n w → st ≡ after →
+    u ≡ leaf (variable type_var n) → t ≡ node slice (cons u nil) → IsTermIn st t
+slice_made st before after t u n w h e p q = slice_in st t n
+    (subst (λ s. IsMade s type_var n) (sym e) (made_new before after type_var n w h)) (q ∙ ap (λ z. node slice (cons z nil)) p)

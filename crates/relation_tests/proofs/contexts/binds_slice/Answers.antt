@@ -1,17 +1,14 @@
 use Rattle.std.proofs.Common.{◌≡◌, sym, ap, ◌∙◌, subst}
-use Rattle.relation_terms.specs.Heads.{type_var, slice}
+use Rattle.relation_terms.specs.Heads.{slice}
 use Rattle.relation_terms.specs.Trees.{node, cons, nil}
 use Rattle.type_relations.specs.Covered.{IsCovered}
-use Rattle.type_relations.specs.Stores.{IsMade}
-use Rattle.relation_reference.proofs.Marking.{made_new}
-use Rattle.relation_tests.proofs.Atoms.{slice_in}
+use Rattle.relation_tests.proofs.Atoms.{slice_made}
 use Rattle.relation_tests.proofs.contexts.binds_slice.Goals as goal
 
 pub instantiate_ty_var_raw-requires-clause-source_in : goal.instantiate_ty_var_raw-requires-clause-source_in
 instantiate_ty_var_raw-requires-clause-source_in g c =
     let makes = c.in_ok-element.ensures.makes in
-    slice_in _ _ _ (subst (λ st. IsMade st type_var _) (sym c.in_ok-source.ensures.store) (made_new _ _ type_var _ _ makes.2))
-    (c.in_ok-source.ensures.is ∙ ap (λ t. node slice (cons t nil)) makes.1)
+    slice_made _ _ _ _ _ _ _ makes.2 c.in_ok-source.ensures.store makes.1 c.in_ok-source.ensures.is
 
 pub instantiate_ty_var_raw-requires-clause-source_covered : goal.instantiate_ty_var_raw-requires-clause-source_covered
 instantiate_ty_var_raw-requires-clause-source_covered g c =
