@@ -1,6 +1,6 @@
 -- The roots of variables that are marked as related.
 use Rattle.std.proofs.Common.{◌≡◌, ◌≢◌, ◌⊎◌, inl, inr, ℕ, suc, ◌+◌, ◌<◌, ◌≤◌, refl, sym, ap, ◌∙◌, subst, subst₂, arith}
-use Rattle.std.proofs.Common.{List, [], ◌∷◌, ◌++◌, length, length-append, map, get_or, min, eqb, cond, true, false}
+use Rattle.std.proofs.Common.{List, [], ◌∷◌, ◌++◌, length, length-append, map, take, drop, get_or, min, eqb, cond, true, false, ap₂, zero}
 use Rattle.std.proofs.Common.{le_refl}
 use Rattle.std.proofs.lemmas.List.{get_or-map, get_or_default, get_or_past, get_or_append_left, length-map}
 use Rattle.std.proofs.Math.Seq.{get_or-append_seam}
@@ -25,6 +25,23 @@ led_other child root r o = go (eqb r child) refl
     go : (b : _) → eqb r child ≡ b → led_root child root r ≡ r
     go true e = absurd (o (eqb-true r child e))
     go false e = ap (λ b. cond b root r) e
+
+-- In a table from a number on, no entry before the child's place is the child.
+none_led : (child root k : ℕ) (rs : List ℕ) (n : ℕ) → k + n ≡ child →
+    ((i : ℕ) → i < length rs → get_or rs i 0 ≤ k + i) →
+    map (led_root child root) (take n rs) ++ drop n rs ≡ rs
+none_led child root k [] zero e h = refl
+none_led child root k [] (suc n) e h = refl
+none_led child root k (r ∷ rs) zero e h = refl
+none_led child root k (r ∷ rs) (suc n) e h =
+    let low : r ≤ k = (let q = h 0 (omega arith) in omega (arith, q)) in
+    ap₂ ◌∷◌ (led_other child root r (λ q. omega (arith, e, low, q)))
+    (none_led child root (suc k) rs n (omega (arith, e)) (λ i l. let q = h (suc i) (omega (arith, l)) in omega (arith, q)))
+
+pub none_before : (rs : List ℕ) → IsRootTable rs → (child root : ℕ) →
+    map (led_root child root) (take child rs) ++ drop child rs ≡ rs
+none_before rs t child root = none_led child root 0 rs child (omega arith)
+    (λ i l. let q = subst (λ x. x ≤ i) (get_or_default rs i i 0 l) (t.below i) in omega (arith, q))
 
 -- The root is led, wherever the child has an entry.
 module _ (rs : List ℕ) (child root : ℕ) (there : child < length rs) where

@@ -20,11 +20,12 @@ fn led_to(number: usize, child: usize, root: usize) -> usize
     if number == child { root } else { number }
 }
 
-// Leads each variable whose root is the child to the other root.
+// Leads each variable whose root is the child to the other root. None of a smaller number has that root.
 fn lead_all(roots: &mut Vec<usize>, child: usize, root: usize)
+    requires { IsRootTable roots.old.items }
     ensures { roots.new.items ≡ map (led_root child root) roots.old.items }
 {
-    for i in 0..roots.len() {
+    for i in child..roots.len() {
         let led = led_to(roots[i], child, root);
         roots[i] = led;
     }

@@ -1,7 +1,11 @@
-use Rattle.std.proofs.Common.{◌<◌, ap, ◌∙◌, arith, length, slice_set}
+use Rattle.std.proofs.Common.{◌<◌, sym, ap, ◌∙◌, arith, length, slice_set}
 use Rattle.std.proofs.lemmas.List.Edits.{map_over_more}
 use Rattle.relation_reference.specs.SubRoots.{led_root}
+use Rattle.relation_reference.proofs.SubRoots.{none_before}
 use Rattle.relation_reference.proofs.context.sub_unified.lead_all.Goals as goal
+
+pub loop-i-init : goal.loop-i-init
+loop-i-init c = sym (none_before c.args.roots.now.items c.requires c.args.child c.args.root)
 
 pub loop-i-preserved : goal.loop-i-preserved
 loop-i-preserved c =
