@@ -66,5 +66,6 @@ pub mod Turning
 pub mod Solving
 pub mod SolvingVariables
 pub mod SolvingGoals
+pub mod Subtyping
 pub mod Bivariance
 pub mod Noting

@@ -21,6 +21,7 @@ pub mod DiagInfo
 pub mod Parts
 pub mod Handing
 pub mod Lawful
+pub mod Subtyping
 pub mod Constraints
 pub mod Arguments
 pub mod Making

@@ -7,6 +7,7 @@ ghost use Rattle.relation_terms.specs.Trees.{known, count};
 ghost use Rattle.relation_terms.specs.Heads.{Head, arguments};
 ghost use Rattle.type_relations.specs.Arguments.{related_tree};
 ghost use Rattle.type_relations.specs.Lawful.{Asked, Related};
+ghost use Rattle.type_relations.specs.Subtyping.{RegistersSubtype};
 
 use crate::relate::TypeRelation;
 use crate::relate::args::relate_args_invariantly;
@@ -43,10 +44,13 @@ pub trait Relate<I: Interner>: TypeFoldable<I> + PartialEq + Copy {
         requires asked { Asked R.manner (R.state r.old) (R.state r.old).ambient
             (related_tree over (Self.tree (R.state r.old).meaning a.now))
             (related_tree over (Self.tree (R.state r.old).meaning b.now)) }
-        ensures { Related R.manner (R.state r.old) (R.state r.new) (R.state r.old).ambient
+        ensures related { Related R.manner (R.state r.old) (R.state r.new) (R.state r.old).ambient
             (related_tree over (Self.tree (R.state r.old).meaning a.now))
             (related_tree over (Self.tree (R.state r.old).meaning b.now))
-            (λ x. related_tree over (Self.tree (R.state r.new).meaning x)) result };
+            (λ x. related_tree over (Self.tree (R.state r.new).meaning x)) result }
+        ensures registers { RegistersSubtype R.manner (R.state r.old) (R.state r.new) (R.state r.old).ambient
+            (related_tree over (Self.tree (R.state r.old).meaning a.now))
+            (related_tree over (Self.tree (R.state r.old).meaning b.now)) result };
 
     // What is asked of two that are known holds on while the interner grows.
     ghost fits_on: { (m n : Meaning I.Key I.Id I.Name) → Extends m n → (x y : Self) →

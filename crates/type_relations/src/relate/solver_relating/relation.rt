@@ -1,5 +1,5 @@
 //! The relation of a context.
-ghost use Rattle.std.specs.Prelude.{◌≡◌, ◌≢◌, ℕ, [], All};
+ghost use Rattle.std.specs.Prelude.{◌≡◌, ◌≢◌, ℕ, [], All, IfSome};
 ghost use Rattle.relation_terms.specs.Heads.{arguments, type_var, variable};
 ghost use Rattle.relation_terms.specs.Trees.{leaf};
 ghost use Rattle.relation_terms.specs.declared.terms.enums.Variance.TheVariants.{Bivariant};
@@ -9,6 +9,7 @@ ghost use Rattle.type_relations.specs.Goals.{KnowsGoal};
 ghost use Rattle.type_relations.specs.Keyed.{AreAsMany, AskedLists, RelatedLists, AskedTys, AskedConsts, RelatedTys};
 ghost use Rattle.type_relations.specs.Keyed.{SteppedTys, SteppedConsts};
 ghost use Rattle.type_relations.specs.Resolving.{IsShallow, IsShallowConst};
+ghost use Rattle.type_relations.specs.Subtyping.{IsTyVar, StepRegistersAlone, subtype_at};
 ghost use Rattle.type_relations.specs.Solving.{solving_in, solving_through, solver_manner};
 
 use crate::infer_ctxt::InferCtxtLike;
@@ -146,12 +147,19 @@ impl<'a, Infcx: InferCtxtLike> SolverRelating<'a, Infcx> {
         requires b_is { ((Infcx.state self.old.infcx.now).meaning).ty b.now ≡ leaf (variable type_var y.0) }
         requires a_unresolved { IsUnresolved (Infcx.state self.old.infcx.now) type_var x.0 }
         requires b_unresolved { IsUnresolved (Infcx.state self.old.infcx.now) type_var y.0 }
-        ensures { let r = self.old in let q = self.new in
+        ensures stepped { let r = self.old in let q = self.new in
             let before = solving_through r.infcx.ghost_name r.goals.items (Infcx.state r.infcx.now) r.ambient_variance
             r.param_env in
             let after = solving_through q.infcx.ghost_name q.goals.items (Infcx.state q.infcx.now) q.ambient_variance
             q.param_env in
             SteppedTys solver_manner before after a.now b.now result }
+        ensures registers { let r = self.old in let q = self.new in let d = (Infcx.state q.infcx.now).meaning in
+            let before = solving_through r.infcx.ghost_name r.goals.items (Infcx.state r.infcx.now) r.ambient_variance
+            r.param_env in
+            let after = solving_through q.infcx.ghost_name q.goals.items (Infcx.state q.infcx.now) q.ambient_variance
+            q.param_env in
+            let x = (Infcx.state r.infcx.now).meaning.ty a.now in let y = (Infcx.state r.infcx.now).meaning.ty b.now in
+            IfSome (subtype_at r.ambient_variance x y) (λ p. StepRegistersAlone before after d.ty x p result) }
     {
         let param_env = self.param_env;
         match self.ambient_variance {
@@ -196,12 +204,20 @@ impl<'a, Infcx: InferCtxtLike> SolverRelating<'a, Infcx> {
             AskedTys solver_manner before a.now b.now }
         requires a_shallow { let r = Infcx.state self.old.infcx.now in IsShallow r.store ((r.meaning).ty a.now) }
         requires b_shallow { let r = Infcx.state self.old.infcx.now in IsShallow r.store ((r.meaning).ty b.now) }
-        ensures { let r = self.old in let q = self.new in
+        ensures stepped { let r = self.old in let q = self.new in
             let before = solving_through r.infcx.ghost_name r.goals.items (Infcx.state r.infcx.now) r.ambient_variance
             r.param_env in
             let after = solving_through q.infcx.ghost_name q.goals.items (Infcx.state q.infcx.now) q.ambient_variance
             q.param_env in
             SteppedTys solver_manner before after a.now b.now result }
+        ensures registers { let r = self.old in let q = self.new in let d = (Infcx.state q.infcx.now).meaning in
+            let before = solving_through r.infcx.ghost_name r.goals.items (Infcx.state r.infcx.now) r.ambient_variance
+            r.param_env in
+            let after = solving_through q.infcx.ghost_name q.goals.items (Infcx.state q.infcx.now) q.ambient_variance
+            q.param_env in
+            let x = (Infcx.state r.infcx.now).meaning.ty a.now in let y = (Infcx.state r.infcx.now).meaning.ty b.now in
+            IsTyVar x → IsTyVar y →
+            IfSome (subtype_at r.ambient_variance x y) (λ p. StepRegistersAlone before after d.ty x p result) }
     {
         match ty_var(&*self.infcx, a) {
             Some(x) => match ty_var(&*self.infcx, b) {
