@@ -3,12 +3,18 @@ use Rattle.std.proofs.Common.{◌≡◌, ◌⊎◌, inl, inr, ℕ, refl, sym, ap
 use Rattle.std.proofs.Common.{Result, Ok, Err, IsTrue}
 use Rattle.std.proofs.lemmas.List.{map-append}
 use Rattle.relation_terms.specs.declared.terms.enums.Variance.{Variance}
+use Rattle.relation_terms.specs.declared.terms.generic_arg.GenericArgKind.{GenericArgKind}
+use Rattle.relation_terms.specs.declared.terms.generic_arg.GenericArgKind.TheVariants.{Lifetime, Ty, Const}
 use Rattle.relation_terms.specs.declared.terms.goal.Goal.{Goal as KeyedGoal}
 use Rattle.relation_terms.specs.declared.terms.keys.ParamEnvKey.{ParamEnvKey}
+use Rattle.relation_terms.specs.declared.terms.keys.TyKey.{TyKey}
+use Rattle.relation_terms.specs.declared.terms.keys.ConstKey.{ConstKey}
+use Rattle.relation_terms.specs.declared.terms.keys.RegionKey.{RegionKey}
 use Rattle.relation_terms.specs.declared.terms.keys.PredicateKey.{PredicateKey}
-use Rattle.relation_terms.specs.Heads.{VarKind, type_var, variable, Sort, type_sort, region_sort, const_sort}
-use Rattle.relation_terms.specs.Trees.{Tree, leaf, node, IsTerm}
-use Rattle.relation_terms.specs.Meaning.{Meaning, Extends}
+use Rattle.relation_terms.specs.Heads.{VarKind, type_var, variable, region_sort, const_sort}
+use Rattle.relation_terms.specs.Trees.{Tree, leaf, IsTerm, known}
+use Rattle.relation_terms.specs.Meaning.{Meaning, Extends, arg_tree}
+use Rattle.relation_terms.proofs.Sorted.{Sorted}
 use Rattle.relation_tools.specs.declared.error.RelateFault.{RelateFault}
 use Rattle.relation_tools.specs.declared.error.RelateFault.TheVariants.{Memory, Budget, Unrelated}
 use Rattle.type_relations.specs.declared.relate.Step.{Step}
@@ -132,7 +138,7 @@ module _ {Key Id Name : Type 0} (M : Manners) (r q : State Key Id Name) (a b : T
   step_of_one tree res e = λ promised differ x y f g. absurd (differ e)
 
   -- What a step registers at once is what relating registers.
-  refused : (K X : Type 0) (p : Tree) (f : RelateFault Key Id Name) → RegistersAlone {X = K} r q p (Err f) →
+  pub refused : (K X : Type 0) (p : Tree) (f : RelateFault Key Id Name) → RegistersAlone {X = K} r q p (Err f) →
       RegistersAlone {X = X} r q p (Err f)
   refused K X p Memory h = h
   refused K X p Budget h = h
@@ -167,15 +173,28 @@ module _ {Key Id Name : Type 0} (M : Manners) (r q : State Key Id Name) (a b : T
       some_map (subtype_at r.ambient (leaf (variable type_var i)) (leaf (variable type_var j))) (λ p z. absurd z)
       (h promised differ i j f g)
 
--- What registering alone says of what the terms and the answer are told as.
-pub registers_told : {Key Id Name X Y : Type 0} (M : Manners) (r q : State Key Id Name) (v : Variance) (a b c d : Tree) (x : X)
-    (y : Y) → a ≡ c → b ≡ d → RegistersSubtype M r q v a b (Ok x) → RegistersSubtype M r q v c d (Ok y)
-registers_told {Y = Y} M r q v a b c d x y e f h =
-    subst₂ (λ z w. RegistersSubtype {X = Y} M r q v z w (Ok y)) e f h
+-- A fault says the same of whatever else might have been answered.
+pub refused_told : {Key Id Name : Type 0} (X Y : Type 0) (M : Manners) (r q : State Key Id Name) (v : Variance)
+    (a b : Tree) (e : RelateFault Key Id Name) (res : Result Y (RelateFault Key Id Name)) → res ≡ Err e →
+    RegistersSubtype {X = X} M r q v a b (Err e) → RegistersSubtype M r q v a b res
+refused_told X Y M r q v a b e res is h = subst (RegistersSubtype {X = Y} M r q v a b) (sym is)
+    (λ promised differ i j f g.
+    some_map (subtype_at v (leaf (variable type_var i)) (leaf (variable type_var j)))
+    (λ p z. refused r q a b X Y p e z) (h promised differ i j f g))
 
--- Regions and constants, and forms over parts, are no type variables.
-pub region_none : (t : Tree) → IsTerm region_sort t → IsTyVar t → ⊥
-region_none t h v = subst (IsTerm region_sort) v.1 h
+-- Arguments that are no types are no type variables.
+module _ {Key Id Name : Type 0} {m : Meaning Key Id Name} (sorted : Sorted m) (a : GenericArgKind Key)
+    (h : IsTrue (known (arg_tree m a))) where
+  pub lifetime_none : (k : RegionKey Key) → a ≡ Lifetime k → IsTyVar (arg_tree m a) → ⊥
+  lifetime_none k e v = let z = subst (λ x. IsTyVar (arg_tree m x)) e v in
+      subst (IsTerm region_sort) z.1 (sorted.region k (subst (λ x. IsTrue (known (arg_tree m x))) e h))
 
-pub const_none : (t : Tree) → IsTerm const_sort t → IsTyVar t → ⊥
-const_none t h v = subst (IsTerm const_sort) v.1 h
+  pub const_none : (k : ConstKey Key) → a ≡ Const k → IsTyVar (arg_tree m a) → ⊥
+  const_none k e v = let z = subst (λ x. IsTyVar (arg_tree m x)) e v in
+      subst (IsTerm const_sort) z.1 (sorted.const_ k (subst (λ x. IsTrue (known (arg_tree m x))) e h))
+
+pub no_ty_none : {Key Id Name : Type 0} {m : Meaning Key Id Name} (sorted : Sorted m) (a : GenericArgKind Key) →
+    ((k : TyKey Key) → a ≡ Ty k → ⊥) → IsTrue (known (arg_tree m a)) → IsTyVar (arg_tree m a) → ⊥
+no_ty_none sorted (Lifetime k) o h v = lifetime_none sorted (Lifetime k) h k refl v
+no_ty_none sorted (Ty k) o h v = o k refl
+no_ty_none sorted (Const k) o h v = const_none sorted (Const k) h k refl v
