@@ -204,7 +204,7 @@ pub(super) fn relate<C: InferCtxtLike>(
     ensures answers { AnswersTys (C.state ctx.old) (C.state ctx.new) param_env variance lhs rhs result }
     ensures keeps { KeepsEqualTys (C.state ctx.old) (C.state ctx.new) lhs rhs result }
     ensures apart { TellsApart (C.state ctx.old) (C.state ctx.new) lhs rhs result }
-    ensures goals { RegistersGoals (C.state ctx.old) (C.state ctx.new) param_env result }
+    ensures goals { RegistersGoals (C.state ctx.old) (C.state ctx.new) param_env variance result }
     ensures lawful { (C.state ctx.new).lawful }
     ensures grown { Extends (C.state ctx.old).meaning (C.state ctx.new).meaning }
     ensures why_known { IfErr result (λ e. KnowsFault (C.state ctx.new).meaning e) }

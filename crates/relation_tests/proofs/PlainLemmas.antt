@@ -16,7 +16,7 @@ use Rattle.relation_tools.specs.declared.error.RelateFault.{RelateFault}
 use Rattle.relation_tools.specs.declared.error.RelateFault.TheVariants.{Memory}
 use Rattle.type_relations.specs.Relation.{Interpretation, Rel, RegionRule, regions, sort_of, at}
 use Rattle.type_relations.specs.Stores.{IsTermIn, IsRegionIn, ConstraintIn, ConstraintHolds, Satisfies}
-use Rattle.type_relations.specs.Goals.{GoalInContext, Registered, Holds, MakesOneTree}
+use Rattle.type_relations.specs.Goals.{GoalInContext, Holds, MakesOneTree}
 use Rattle.type_relations.specs.Steps.{AddsConstraint}
 use Rattle.type_relations.specs.Outcomes.{Outcome, Exact}
 use Rattle.type_relations.specs.Measures.{Goes}
@@ -35,7 +35,7 @@ use Rattle.type_relations.proofs.Erased.{erase_region}
 use Rattle.relation_reference.proofs.Grows.{known_of_term}
 use Rattle.relation_terms.proofs.Stays.{stays_arg}
 use Rattle.relation_terms.specs.Meaning.{Extends}
-use Rattle.type_relations.specs.Lawful.{WithMeaning}
+use Rattle.type_relations.specs.Lawful.{WithMeaning, RegisteredIn}
 use Rattle.type_relations.specs.Stores.{Store, IsSound, ConstraintIn, outlives_constraint, equal_constraint}
 use Rattle.relation_terms.specs.declared.predicate.RegionConstraint.TheVariants.{Outlives, Eq}
 use Rattle.std.proofs.Common.{ap, ap₂, ◌∷◌}
@@ -107,8 +107,7 @@ module _ {Key Id Name : Type 0} (m : Meaning Key Id Name) where
       goes = goes n;
       added = [];
       lengthens = refl;
-      goals_in = All-nil (Registered (items_of m) (plain_state m v cs).environment (plain_store m cs)
-          (plain_store m (cs ++ c ∷ [])));
+      goals_in = All-nil (RegisteredIn (plain_state m v cs) (plain_store m (cs ++ c ∷ [])));
       environment = refl;
       ambient = refl;
       settings = refl;

@@ -10,9 +10,10 @@ use Rattle.type_relations.specs.Constraints.{constraint_of}
 use Rattle.type_relations.specs.declared.relate.StructurallyRelateAliases.TheVariants.{Yes}
 use Rattle.type_relations.specs.Lawful.{State, Settings, Manners}
 
--- Aliases are related by their items and arguments, and no goal is left to a solver.
+-- Aliases are related by their items and arguments, arguments of items at declared variances at invariance too, and no
+-- goal is left to a solver.
 abbrev pub plain_settings : Settings
-plain_settings = record { structurally_relate_aliases = Yes; next_solver = true }
+plain_settings = record { structurally_relate_aliases = Yes; next_solver = true; declared_at_invariance = true }
 
 module _ {Key Id Name : Type 0} (m : Meaning Key Id Name) where
   -- The store without variables that has recorded these.

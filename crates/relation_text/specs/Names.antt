@@ -54,6 +54,9 @@ wrong_text found wrong.NumberType = expected_found (codes "a number of a type of
 wrong_text found wrong.TooLarge = codes "the number is too large"
 wrong_text found wrong.TooManyVariables =
     codes "expected a variable below " ++ (decimal 10000 ++ (codes ", found `" ++ (found ++ codes "`")))
+wrong_text found (wrong.Universe least) =
+    codes "expected a universe from " ++ (decimal least ++ (codes " to "
+    ++ (decimal 9999 ++ (codes ", found `" ++ (found ++ codes "`")))))
 wrong_text found wrong.Assigned = expected_found (codes "an argument") found
 wrong_text found wrong.Counted = expected_found (codes "a number alone") found
 wrong_text found wrong.Place = expected_found (codes "a place by its number") found

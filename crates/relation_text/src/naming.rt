@@ -16,6 +16,6 @@ mod walks;
 
 pub use error::{NameError, Wrong, write_name_error};
 pub use program::{
-    Declared, Item, ParamSort, Parts, Program, Put, Question, QuestionKind, Sort, Term,
+    Declared, Item, ParamSort, Parts, Program, Put, Question, QuestionKind, Sort, Term, Variables,
 };
-pub use statements::{MOST_VARIABLES, look_up};
+pub use statements::{LAST_UNIVERSE, MOST_VARIABLES, look_up};

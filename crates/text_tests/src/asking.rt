@@ -68,3 +68,22 @@ fn questions_follow_one_another(rt: HostRuntime) -> Result<(), Fail> {
     );
     Ok(())
 }
+
+#[test]
+fn variables_stand_in_universes(rt: HostRuntime) -> Result<(), Fail> {
+    let text =
+        "struct Vec<+T>; ?0 == !1X; variables ?0; variables ?1, ?c0, '?0 in 1; ?0 == !1.0; ?1 == !1.0;
+        ?2 == !1X; ?0 == !2X; ?0 == [?1]; then ?3 == !1X; then ?1 == u8; [u8; ?c0] == [?1; !1L];
+        ?1 == &'!1a u8; args [?0] == [!1X]; variables ?3 in 3; then ?3 == !3X; ?0 == !4X; visit ?0;";
+    let all = answers(rt.alloc(), text)?;
+    assert_eq!(rt;
+        all.as_str(),
+        "not asked: the context's universe, 0, does not name the placeholder\n\
+         err Mismatch\nok; bound=[?1=!1.0]\nok; bound=[?2=!1X]\n\
+         not asked: the context's universe, 1, does not name the placeholder\n\
+         ok; bound=[?0=[?2]]\nok; bound=[?0=[?2], ?3=!1X]\nok; bound=[?0=[?2], ?1=u8, ?3=!1X]\n\
+         ok; bound=[?1=u8, ?c0=!1L]\nok; bound=[?1=&'!1a u8]\nerr Mismatch\nok; bound=[?3=!3X]\n\
+         not asked: the context's universe, 3, does not name the placeholder\nmet=[?0]"
+    );
+    Ok(())
+}

@@ -52,6 +52,42 @@ fn names_are_looked_up(rt: HostRuntime) -> Result<(), Fail> {
     Ok(())
 }
 
+// How many variables of each kind a text's contexts have in each universe, and how many of the statements hold for each
+// question.
+fn variables_shown(alloc: Global, text: &str) -> Result<String, fmt::Error> {
+    let mut out = String::new(alloc);
+    let Ok(tree) = read(alloc, text.as_bytes()) else {
+        return Err(fmt::Error);
+    };
+    let Ok(program) = look_up(alloc, text, &tree) else {
+        return Err(fmt::Error);
+    };
+    for variables in &program.variables {
+        write!(
+            out,
+            "{} {} {} in {}; ",
+            variables.types, variables.consts, variables.regions, variables.universe
+        )?;
+    }
+    for question in &program.questions {
+        write!(out, "{} ", question.variables)?;
+    }
+    Ok(out)
+}
+
+#[test]
+fn variables_are_counted(rt: HostRuntime) -> Result<(), Fail> {
+    let text =
+        "rigid u8; variables ?4, '?2, ?c1, ?0; rigid u8; variables ?3 in 2; variables '?0, ?5;
+        rigid u8; variables ?c9999 in 2; variables ?0 in 9999; rigid u8;";
+    let all = variables_shown(rt.alloc(), text)?;
+    assert_eq!(rt;
+        all.as_str(),
+        "5 2 3 in 0; 4 0 0 in 2; 6 0 1 in 2; 0 10000 0 in 2; 1 0 0 in 9999; 0 1 3 5 "
+    );
+    Ok(())
+}
+
 #[test]
 fn wrong_names_are_told(rt: HostRuntime) -> Result<(), Fail> {
     for (text, why) in [
@@ -94,6 +130,22 @@ fn wrong_names_are_told(rt: HostRuntime) -> Result<(), Fail> {
         (
             "variables '?10000;",
             "1:11: expected a variable below 10000, found `'?10000`",
+        ),
+        (
+            "variables ?0, ?c10000;",
+            "1:15: expected a variable below 10000, found `?c10000`",
+        ),
+        (
+            "variables ?0 in 10000;",
+            "1:17: expected a universe from 0 to 9999, found `10000`",
+        ),
+        (
+            "variables ?0 in 2;\nvariables ?1 in 1;",
+            "2:17: expected a universe from 2 to 9999, found `1`",
+        ),
+        (
+            "variables ?0 in 1u8;",
+            "1:17: expected a number alone, found `1u8`",
         ),
         (
             "repeat 0 u8 == u8;",

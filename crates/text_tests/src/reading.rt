@@ -121,11 +121,12 @@ fn statements_are_read(rt: HostRuntime) -> Result<(), Fail> {
     );
     let all = shown(
         rt.alloc(),
-        "param T, 'a, const N = 2; let t = (u8, (T)); variables ?0, '?1;",
+        "param T, 'a, const N = 2; let t = (u8, (T)); variables ?0, '?1; variables ?c2, ?3 in 4;",
     )?;
     assert_eq!(rt;
         all.as_str(),
-        "file(parameters(parameter(T) parameter('a) const-parameter(N 2)) let(t tuple(u8 T)) variables(?0 '?1))"
+        "file(parameters(parameter(T) parameter('a) const-parameter(N 2)) let(t tuple(u8 T)) variables(?0 '?1) \
+         variables(?c2 ?3 4))"
     );
     Ok(())
 }
@@ -273,6 +274,10 @@ fn wrong_texts_are_refused(rt: HostRuntime) -> Result<(), Fail> {
         ("&T == u8;", "1:2: expected a region, found `T`"),
         ("*T == T", "1:2: expected `const` or `mut`, found `T`"),
         ("budget x;", "1:8: expected a number, found `x`"),
+        ("variables ?i0;", "1:11: expected a variable, found `?i0`"),
+        ("variables in 1;", "1:11: expected a variable, found `in`"),
+        ("variables ?0 in;", "1:16: expected a number, found `;`"),
+        ("variables ?0 in 1, ?1;", "1:18: expected `;`, found `,`"),
         ("fold T;", "1:7: expected `with`, found `;`"),
         ("visit T stop A skip B;", "1:16: expected `;`, found `skip`"),
         ("walk T skip 2;", "1:13: expected `after`, found `2`"),

@@ -1,5 +1,5 @@
 -- Notes that a relation takes, one after another, and those that the relation of a context takes.
-use Rattle.std.proofs.Common.{◌≡◌, ℕ, ◌∙◌, refl, sym, subst, arith, true, List, [], ◌∷◌, ◌++◌, IsTrue, Result}
+use Rattle.std.proofs.Common.{◌≡◌, ℕ, inl, ◌∙◌, refl, sym, subst, arith, true, List, [], ◌∷◌, ◌++◌, IsTrue, Result}
 use Rattle.std.proofs.lemmas.Bool.{and_from}
 use Rattle.std.proofs.lemmas.List.Elements.{All-nil, All-append}
 use Rattle.relation_terms.specs.declared.terms.enums.Variance.{Variance}
@@ -9,7 +9,7 @@ use Rattle.relation_terms.specs.declared.terms.keys.PredicateKey.{PredicateKey}
 use Rattle.relation_terms.specs.Trees.{Tree, known}
 use Rattle.relation_terms.specs.Meaning.{Meaning, Extends}
 use Rattle.relation_tools.specs.declared.error.RelateFault.{RelateFault}
-use Rattle.type_relations.specs.Goals.{IsQuiet, goal_of, goals_of, well_formed_predicate, HasBivariantPart, of_type}
+use Rattle.type_relations.specs.Goals.{IsDirected, IsQuiet, goal_of, goals_of, well_formed_predicate, HasBivariantPart, of_type}
 use Rattle.type_relations.specs.Lawful.{State, Noted, OnlyMemory, items_of}
 use Rattle.type_relations.specs.Solving.{KnowsGoals, solving}
 use Rattle.type_relations.specs.Stores.{Store, IsTermIn}
@@ -69,17 +69,17 @@ module _ {Key Id Name : Type 0} (j : ℕ) (gs : List (KeyedGoal Key (PredicateKe
   -- That a type is well formed was registered.
   pub noted_well_formed : {X : Type 0} (hs : List (KeyedGoal Key (PredicateKey Key))) (p : PredicateKey Key) (t : Tree) →
       hs ≡ gs ++ record { param_env = e; predicate = p } ∷ [] → n.predicate p ≡ well_formed_predicate t →
-      IsTrue (known t) → IsTermIn st t → HasBivariantPart (items_of m) t → (result : Result X (RelateFault Key Id Name)) →
-      OnlyMemory result → Noted (solving j gs m st L v e) (solving j hs n now K v e) result
-  noted_well_formed hs p t pushed means sure is_in bivariant result fault =
+      IsTrue (known t) → IsTermIn st t → HasBivariantPart (items_of m) t → IsDirected v →
+      (result : Result X (RelateFault Key Id Name)) → OnlyMemory result → Noted (solving j gs m st L v e) (solving j hs n now K v e) result
+  noted_well_formed hs p t pushed means sure is_in bivariant directed result fault =
       subst (λ z. Noted (solving j gs m st L v e) (solving j hs n z K v e) result) (sym stays)
       (noted_goal j gs hs m n st L K v e grown env l p (well_formed_predicate t) pushed means
-      (and_from (known t) true sure refl) (of_type t refl (term_context st t is_in) bivariant) result fault tt)
+      (and_from (known t) true sure refl) (of_type t (inl directed) refl (term_context st t is_in) bivariant) result fault tt)
 
   pub registered_well_formed : (hs : List (KeyedGoal Key (PredicateKey Key))) (p : PredicateKey Key) (t : Tree) →
       hs ≡ gs ++ record { param_env = e; predicate = p } ∷ [] → n.predicate p ≡ well_formed_predicate t →
-      IsTrue (known t) → IsTermIn st t → HasBivariantPart (items_of m) t →
+      IsTrue (known t) → IsTermIn st t → HasBivariantPart (items_of m) t → IsDirected v →
       goals_of n hs ≡ goals_of m gs ++ goal_of (m.param_env e) (well_formed_predicate t) ∷ []
-  registered_well_formed hs p t pushed means sure is_in bivariant =
+  registered_well_formed hs p t pushed means sure is_in bivariant directed =
       lengthens j gs hs m n st L K v e grown env l p (well_formed_predicate t) pushed means
-      (and_from (known t) true sure refl) (of_type t refl (term_context st t is_in) bivariant)
+      (and_from (known t) true sure refl) (of_type t (inl directed) refl (term_context st t is_in) bivariant)

@@ -18,14 +18,14 @@ use Rattle.type_relations.specs.declared.relate.Step.TheVariants.{Done, Parts}
 use Rattle.relation_tools.specs.Faults.{KnowsError}
 use Rattle.type_relations.specs.Errors.{ErrorOf}
 use Rattle.type_relations.specs.Stores.{Store, IsSound, Satisfies, weight}
-use Rattle.type_relations.specs.Goals.{Goal, GoalInContext, Registered, Holds, Relates, Asked as Asks, asked, asks_too_much, asks_nothing, IsQuiet, AsksNoPair, HasOneTree, MakesOneTree}
+use Rattle.type_relations.specs.Goals.{Goal, GoalInContext, IsDirected, Holds, Relates, Asked as Asks, asked, asks_too_much, asks_nothing, IsQuiet, AsksNoPair, HasOneTree, MakesOneTree}
 use Rattle.type_relations.specs.Outcomes.{Outcome, CarriesOver, NeverOne, Exact, ExactStep}
 use Rattle.type_relations.specs.Headline.{IsFirstOrderPair}
 use Rattle.type_relations.specs.FirstOrder.{IsFirstOrderStore, IsErasedSolution}
 use Rattle.type_relations.specs.Steps.{IsLater}
 use Rattle.type_relations.specs.Measures.{grown, Goes}
 use Rattle.type_relations.specs.Lawful.{State, Manner, Manners, Takes, MayAnswer, Passes, Asked, Refuses, Answers, Verdict, Related, Leads}
-use Rattle.type_relations.specs.Lawful.{ExactResult, ExactlyRelated}
+use Rattle.type_relations.specs.Lawful.{ExactResult, ExactlyRelated, RegisteredIn}
 use Rattle.type_relations.proofs.Exactness.{exact_steps_compose}
 use Rattle.type_relations.specs.Lawful.{LeadsToParts, LeadsAgain, Noted, Turned, Stepped, OnlyMemory, WithMeaning, declared_by, items_of, items_in}
 use Rattle.type_relations.proofs.Registered.{registered_in, registered_both, registered_as}
@@ -71,7 +71,7 @@ module _ {Key Id Name : Type 0} where
     goes = goes_nowhere n r.store;
     added = [];
     lengthens = sym (append-nil r.goals);
-    goals_in = All-nil (Registered (items_in r) r.environment r.store r.store);
+    goals_in = All-nil (RegisteredIn r r.store);
     environment = refl;
     ambient = refl;
     settings = refl;
@@ -100,8 +100,8 @@ module _ {Key Id Name : Type 0} where
     goes = goes_then g.goes f.goes h;
     added = g.added ++ f.added;
     lengthens = f.lengthens ∙ ap (λ gs. gs ++ f.added) g.lengthens ∙ append_assoc r.goals g.added f.added;
-    goals_in = registered_both g.added f.added (same_items g) g.environment (g.goes).later (f.goes).later g.goals_in
-        f.goals_in;
+    goals_in = registered_both r q p.store g.added f.added (same_items g) g.environment g.settings
+        g.ambient (g.goes).later (f.goes).later g.goals_in f.goals_in;
     environment = f.environment ∙ g.environment;
     ambient = f.ambient ∙ g.ambient;
     settings = f.settings ∙ g.settings;
@@ -301,9 +301,9 @@ module _ {Key Id Name : Type 0} where
     outcome : Outcome (items_in r) r.environment (at v) r.store p.store r.goals ((f.passes).added ++ (h.passes).added) a b
     outcome = record {
       later = later_through ((f.passes).goes).later ((h.passes).goes).later;
-      goals_in = registered_in ((f.passes).added ++ (h.passes).added) (registered_both (f.passes).added (h.passes).added
-          (same_items f.passes) (f.passes).environment ((f.passes).goes).later ((h.passes).goes).later (f.passes).goals_in
-          (h.passes).goals_in);
+      goals_in = registered_in ((f.passes).added ++ (h.passes).added) (registered_both r q p.store
+          (f.passes).added (h.passes).added (same_items f.passes) (f.passes).environment (f.passes).settings
+          (f.passes).ambient ((f.passes).goes).later ((h.passes).goes).later (f.passes).goals_in (h.passes).goals_in);
       relates = λ w s sat all. ((f.verdict).outcome).relates w s (((h.passes).goes).later.shrinks w s sat)
           (first_goals (Holds (items_in r) w s) r.goals (f.passes).added (h.passes).added all);
       keeps = λ w s sat one. let z = ((f.verdict).outcome).keeps w s sat one in (
@@ -345,15 +345,15 @@ module _ {Key Id Name : Type 0} where
 
   -- Another ambient variance, and the old one again.
   module _ {X : Type 0} {r t q u : State Key Id Name} (M : Manners) (v : Variance) (a b : Tree) (tree : X → Tree)
-      (there : Turned v r t) (back : Turned r.ambient q u) where
+      (there : Turned v r t) (back : Turned r.ambient q u) (seen : IsDirected v → IsDirected r.ambient) where
     turned_passes : Passes (weight t.store a + weight t.store b) t q → Passes (weight r.store a + weight r.store b) r u
     turned_passes f = record {
       extends = subst₂ (λ m n. ExtendsMeaning m n) there.meaning (sym back.meaning) f.extends;
       goes = subst₂ (λ s z. Goes (weight s a + weight s b) s z) there.store (sym back.store) f.goes;
       added = f.added;
       lengthens = back.goals ∙ f.lengthens ∙ ap (λ gs. gs ++ f.added) there.goals;
-      goals_in = registered_as f.added (ap items_of there.meaning) there.environment there.store (sym back.store)
-          f.goals_in;
+      goals_in = registered_as t r q.store u.store f.added (ap items_of there.meaning) there.environment there.settings
+          (λ o. seen (subst IsDirected there.ambient o)) there.store (sym back.store) f.goals_in;
       environment = back.environment ∙ f.environment ∙ there.environment;
       ambient = back.ambient;
       settings = back.settings ∙ f.settings ∙ there.settings;
@@ -440,7 +440,7 @@ module _ {Key Id Name : Type 0} where
     goes = subst (Goes n r.store) (sym w.store) g.goes;
     added = g.added;
     lengthens = w.goals ∙ g.lengthens;
-    goals_in = registered_as g.added refl refl refl (sym w.store) g.goals_in;
+    goals_in = subst (λ s. All (RegisteredIn r s) g.added) (sym w.store) g.goals_in;
     environment = w.environment ∙ g.environment;
     ambient = w.ambient ∙ g.ambient;
     settings = w.settings ∙ g.settings;

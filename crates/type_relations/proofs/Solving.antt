@@ -1,7 +1,7 @@
 -- Relating in a context, step by step.
 use Rattle.std.proofs.Common.{◌≡◌, ◌≢◌, ◌⊎◌, ℕ, ◌+◌, ◌*◌, ◌≤◌, refl, sym, ap, ◌∙◌, arith, inl, inr, subst, subst₂, [], All}
 use Rattle.std.proofs.Common.{IsTrue, Some, IfSome, ◌++◌, ◌<◌, max, min, length}
-use Rattle.std.proofs.Common.{Result, Ok, Err, List}
+use Rattle.std.proofs.Common.{Result, Ok, Err, List, ◌∷◌, false}
 use Rattle.std.proofs.lemmas.List.Elements.{All-nil}
 use Rattle.std.proofs.lemmas.List.{append-nil}
 use Rattle.relation_terms.specs.declared.terms.enums.Variance.{Variance}
@@ -46,7 +46,7 @@ use Rattle.type_relations.specs.FirstOrder.{IsFirstOrder, IsFirstOrderStore}
 use Rattle.type_relations.specs.Constraints.{constraint_at, constraint_of, asked_constraints}
 use Rattle.type_relations.specs.Covered.{IsCovered}
 use Rattle.type_relations.specs.Lawful.{Passes, Asked, Takes, Related, Stepped, Leads, LeadsAgain, items_of, State}
-use Rattle.type_relations.specs.Lawful.{Verdict, WithMeaning}
+use Rattle.type_relations.specs.Lawful.{Verdict, WithMeaning, RegisteredIn}
 use Rattle.type_relations.proofs.Trees.{all_leaves}
 use Rattle.type_relations.proofs.Going.{later_itself, goes_nowhere, goes_within}
 use Rattle.type_relations.proofs.ReadAs.{read_value, read_later, read_weight}
@@ -62,7 +62,7 @@ use Rattle.type_relations.proofs.Roots.{roots_goes, roots_equal, roots_keep, roo
 use Rattle.type_relations.proofs.Numbers.{IsNumber, number_goes, number_equal, number_keep, number_exactly, number_apart}
 use Rattle.type_relations.proofs.Numbers.{number_no_unifier, number_error, number_error_back}
 use Rattle.type_relations.specs.Solving.{KnowsGoals, solving, solver_settings, solver_manner}
-use Rattle.type_relations.proofs.Registered.{goals_stay, goals_known}
+use Rattle.type_relations.proofs.Registered.{goals_stay, goals_known, none_at_invariance}
 use Rattle.type_relations.proofs.Exactly.{region_value, regions_exactly, read_pair, reading_exact}
 use Rattle.type_relations.proofs.Growing.{constraint_is_later, constraint_bound, constraint_weight}
 use Rattle.type_relations.specs.Contexts.{Context}
@@ -144,12 +144,12 @@ module _ {Key Id Name : Type 0} (j : ℕ) (gs : List (KeyedGoal Key (PredicateKe
   unfoldable pub solver_passes : {N : ℕ} {m n : Meaning Key Id Name} {was now : Store} {L K : Type 0} (v : Variance)
       (e : ParamEnvKey Key) → Extends m n → KnowsGoals m e gs → Goes N was now →
       K → Passes N (solving j gs m was L v e) (solving j gs n now K v e)
-  solver_passes {m = m} {n = n} {was = was} {now = now} v e grown env goes l = record {
+  solver_passes {m = m} {n = n} {was = was} {now = now} {L = L} v e grown env goes l = record {
     extends = grown;
     goes = goes;
     added = [];
     lengthens = goals_stay grown gs env.1 ∙ sym (append-nil (goals_of m gs));
-    goals_in = All-nil (Registered (items_of m) (m.param_env e) was now);
+    goals_in = All-nil (RegisteredIn (solving j gs m was L v e) now);
     environment = grown.param_env e env.0;
     ambient = refl;
     settings = refl;
@@ -537,11 +537,21 @@ module _ {Key Id Name X : Type 0} (m n : Meaning Key Id Name) (was now : Store) 
 
   pub registers_goals : (result : Result X (RelateFault Key Id Name)) → L → KnowsGoals m e [] →
       Related solver_manner (solving 0 [] m was L v e) (solving 0 hs n now K v e) v a b tree result →
-      All (KnowsGoal n) hs × All (Registered (items_of m) (m.param_env e) was now) (goals_of n hs)
+      All (KnowsGoal n) hs × All (Registered (items_of m) false v (m.param_env e) was now) (goals_of n hs) ×
+      (v ≡ Invariant → hs ≡ [])
   registers_goals result l env h = (
     ((h.passes).lawful (l, env)).1.1,
-    subst (All (Registered (items_of m) (m.param_env e) was now)) (sym (h.passes).lengthens) (h.passes).goals_in,
+    registered,
+    λ is. no_goals hs (none_at_invariance (goals_of n hs) v is registered),
   )
+    where
+      registered : All (Registered (items_of m) false v (m.param_env e) was now) (goals_of n hs)
+      registered = subst (All (Registered (items_of m) false v (m.param_env e) was now)) (sym (h.passes).lengthens)
+          (h.passes).goals_in
+
+      no_goals : (gs : List (KeyedGoal Key (PredicateKey Key))) → goals_of n gs ≡ [] → gs ≡ []
+      no_goals [] q = refl
+      no_goals (g ∷ gs) q = absurd cc
 
 -- What was recorded of two regions is what their variance asks for, behind all that was.
 pub asked_recorded : {Key Id Name : Type 0} (m : Meaning Key Id Name) (was now : Store) (v : Variance)

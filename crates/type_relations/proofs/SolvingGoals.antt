@@ -1,10 +1,10 @@
 -- Registering goals: that of two type variables the one is a subtype of the other, as a step; what asks nothing of two
 -- terms, as a note.
-use Rattle.std.proofs.Common.{◌≡◌, ◌≢◌, ℕ, refl, sym, ap, ap₂, ◌∙◌, subst, subst₂, Bool, List, [], ◌∷◌, ◌++◌, All, IsTrue, Result, Ok}
+use Rattle.std.proofs.Common.{◌≡◌, ℕ, refl, sym, ap, ap₂, ◌∙◌, subst, subst₂, Bool, false, List, [], ◌∷◌, ◌++◌, All, IsTrue, Result, Ok}
 use Rattle.std.proofs.lemmas.List.Elements.{All-nil, All-cons, All-head, All-append}
 use Rattle.std.proofs.lemmas.List.{map-append}
 use Rattle.relation_terms.specs.declared.terms.enums.Variance.{Variance}
-use Rattle.relation_terms.specs.declared.terms.enums.Variance.TheVariants.{Covariant, Contravariant, Invariant}
+use Rattle.relation_terms.specs.declared.terms.enums.Variance.TheVariants.{Covariant, Contravariant}
 use Rattle.relation_terms.specs.declared.terms.goal.Goal.{Goal as KeyedGoal}
 use Rattle.relation_terms.specs.declared.terms.keys.ParamEnvKey.{ParamEnvKey}
 use Rattle.relation_terms.specs.declared.terms.keys.PredicateKey.{PredicateKey}
@@ -15,8 +15,8 @@ use Rattle.type_relations.specs.declared.relate.Step.TheVariants.{Done}
 use Rattle.type_relations.specs.Relation.{Items, Interpretation, Rel, at}
 use Rattle.type_relations.specs.Stores.{Store}
 use Rattle.relation_tools.specs.declared.error.RelateFault.{RelateFault}
-use Rattle.type_relations.specs.Goals.{Goal, goal_of, goals_of, KnowsGoal, subtype_predicate, IsOpen, IsRegistered, of_variables, Registered, Holds, IsQuiet, MakesOneTree}
-use Rattle.type_relations.specs.Lawful.{Stepped, Passes, MayAnswer, Noted, OnlyMemory, items_of}
+use Rattle.type_relations.specs.Goals.{Goal, goal_of, goals_of, KnowsGoal, subtype_predicate, IsOpen, IsDirected, IsRegistered, of_variables, Holds, IsQuiet, MakesOneTree}
+use Rattle.type_relations.specs.Lawful.{Stepped, Passes, MayAnswer, Noted, OnlyMemory, RegisteredIn, items_of}
 use Rattle.type_relations.specs.Solving.{KnowsGoals, solving, solver_manner}
 use Rattle.type_relations.proofs.Answering.{may_itself}
 use Rattle.type_relations.proofs.Going.{goes_nowhere, later_itself}
@@ -28,16 +28,16 @@ use Rattle.type_relations.proofs.Registered.{registered_in, goals_stay, goals_kn
 module _ {Key Id Name : Type 0} (j : ℕ) (gs hs : List (KeyedGoal Key (PredicateKey Key))) (m n : Meaning Key Id Name)
     (st : Store) (L K : Type 0) (v : Variance) (e : ParamEnvKey Key) (grown : Extends m n) (env : KnowsGoals m e gs) (l : K)
     (p : PredicateKey Key) (t : Tree) (pushed : hs ≡ gs ++ record { param_env = e; predicate = p } ∷ [])
-    (means : n.predicate p ≡ t) (sure : IsTrue (known t)) (asks : IsRegistered (items_of m) st st t) where
+    (means : n.predicate p ≡ t) (sure : IsTrue (known t)) (asks : IsRegistered (items_of m) false v st st t) where
   pub lengthens : goals_of n hs ≡ goals_of m gs ++ goal_of (m.param_env e) t ∷ []
   lengthens = ap (goals_of n) pushed ∙ map-append (λ g. goal_of (n.param_env g.param_env) (n.predicate g.predicate)) gs
       (record { param_env = e; predicate = p } ∷ [])
       ∙ ap₂ (λ z g. z ++ g ∷ []) (goals_stay grown gs env.1) (ap₂ goal_of (grown.param_env e env.0) means)
 
-  is_registered : All (Registered (items_of m) (m.param_env e) st st) (goal_of (m.param_env e) t ∷ [])
-  is_registered = All-cons (Registered (items_of m) (m.param_env e) st st) (goal_of (m.param_env e) t) []
+  is_registered : All (RegisteredIn (solving j gs m st L v e) st) (goal_of (m.param_env e) t ∷ [])
+  is_registered = All-cons (RegisteredIn (solving j gs m st L v e) st) (goal_of (m.param_env e) t) []
       (record { environment = refl; asks = asks })
-      (All-nil (Registered (items_of m) (m.param_env e) st st))
+      (All-nil (RegisteredIn (solving j gs m st L v e) st))
 
   env_known : IsTrue (known (n.param_env e))
   env_known = subst (λ z. IsTrue (known z)) (sym (grown.param_env e env.0)) env.0
@@ -81,15 +81,16 @@ module _ {Key Id Name : Type 0} (j : ℕ) (gs hs : List (KeyedGoal Key (Predicat
     (p : PredicateKey Key) (x : Bool) (i k : ℕ)
     (pushed : hs ≡ gs ++ record { param_env = e; predicate = p } ∷ [])
     (means : n.predicate p ≡ subtype_predicate x (leaf (variable type_var i)) (leaf (variable type_var k)))
-    (i_open : IsOpen st st i) (k_open : IsOpen st st k) where
+    (i_open : IsOpen st st i) (k_open : IsOpen st st k) (directed : IsDirected v) where
   abbrev asked : Goal
   asked = goal_of (m.param_env e) (subtype_predicate x (leaf (variable type_var i)) (leaf (variable type_var k)))
 
-  in_order : IsRegistered (items_of m) st st (subtype_predicate x (leaf (variable type_var i)) (leaf (variable type_var k)))
-  in_order = of_variables x i k refl i_open k_open
+  in_order : IsRegistered (items_of m) false v st st
+      (subtype_predicate x (leaf (variable type_var i)) (leaf (variable type_var k)))
+  in_order = of_variables x i k directed refl i_open k_open
 
   -- The goal relates two terms at the variance, and where they are one, its sides are.
-  pub registered_step : {X : Type 0} (F : Tree → Type 0) (a b : Tree) (tree : X → Tree) (t : X) → v ≢ Invariant → tree t ≡ a →
+  pub registered_step : {X : Type 0} (F : Tree → Type 0) (a b : Tree) (tree : X → Tree) (t : X) → tree t ≡ a →
       IsTrue (known a) →
       ((c : Items) (w : Interpretation) (d : Tree) (s : Assign) →
       Rel c w d (at Covariant) (apply s (leaf (variable type_var i))) (apply s (leaf (variable type_var k))) →
@@ -98,7 +99,7 @@ module _ {Key Id Name : Type 0} (j : ℕ) (gs hs : List (KeyedGoal Key (Predicat
       apply s (leaf (variable type_var i)) ≡ apply s (leaf (variable type_var k))) →
       Stepped solver_manner F (solving j gs m st L v e) (solving j hs n st K v e) a b tree (Ok (Done t))
   unfolding passes
-  registered_step F a b tree t o answer sure relates equal = record {
+  registered_step F a b tree t answer sure relates equal = record {
     passes = passes j gs hs m n st L K v e grown env l p asked.predicate pushed means refl in_order _;
     verdict = record {
       outcome = record {
@@ -117,7 +118,7 @@ module _ {Key Id Name : Type 0} (j : ℕ) (gs hs : List (KeyedGoal Key (Predicat
           (may_itself solver_manner (solving j hs n st K v e) v a);
       known = subst (λ z. IsTrue (known z)) (sym answer) sure;
     };
-    exact = λ z is pair. absurd (o is);
+    exact = λ z is pair. absurd (subst IsDirected is directed);
   }
 
 module _ {Key Id Name : Type 0} (j : ℕ) (gs hs : List (KeyedGoal Key (PredicateKey Key))) (m n : Meaning Key Id Name)
@@ -133,8 +134,7 @@ module _ {Key Id Name : Type 0} (j : ℕ) (gs hs : List (KeyedGoal Key (Predicat
   covariant_step F tree t is means answer sure =
       subst (λ z. Stepped solver_manner F (solving j gs m st L v e) (solving j hs n z K v e) a b tree (Ok (Done t)))
       (sym stays) (registered_step j gs hs m n st L K v e grown env l p x i k pushed
-      (means ∙ ap₂ (subtype_predicate x) a_is b_is) i_open k_open F a b tree t
-      (λ z. (let q : Covariant ≡ Invariant = sym is ∙ z in cc)) answer sure
+      (means ∙ ap₂ (subtype_predicate x) a_is b_is) i_open k_open (subst IsDirected (sym is) tt) F a b tree t answer sure
       (λ c w d s r. subst (λ z. Rel c w d (at z) (apply s a) (apply s b)) (sym is)
       (subst₂ (λ f g. Rel c w d (at Covariant) (apply s f) (apply s g)) (sym a_is) (sym b_is) r))
       (λ s q. sym (ap (apply s) a_is) ∙ q ∙ ap (apply s) b_is))
@@ -146,8 +146,7 @@ module _ {Key Id Name : Type 0} (j : ℕ) (gs hs : List (KeyedGoal Key (Predicat
   contravariant_step F tree t is means answer sure =
       subst (λ z. Stepped solver_manner F (solving j gs m st L v e) (solving j hs n z K v e) a b tree (Ok (Done t)))
       (sym stays) (registered_step j gs hs m n st L K v e grown env l p x k i pushed
-      (means ∙ ap₂ (subtype_predicate x) b_is a_is) k_open i_open F a b tree t
-      (λ z. (let q : Contravariant ≡ Invariant = sym is ∙ z in cc)) answer sure
+      (means ∙ ap₂ (subtype_predicate x) b_is a_is) k_open i_open (subst IsDirected (sym is) tt) F a b tree t answer sure
       (λ c w d s r. subst (λ z. Rel c w d (at z) (apply s a) (apply s b)) (sym is)
       (subst₂ (λ f g. Rel c w d (at Contravariant) (apply s f) (apply s g)) (sym a_is) (sym b_is) (turned r)))
       (λ s q. sym (ap (apply s) b_is) ∙ sym q ∙ ap (apply s) a_is))

@@ -1,5 +1,5 @@
 -- What contracts see of a context, and what relating two types in it asks and promises.
-use Rattle.std.specs.Prelude.{◌≡◌, ◌+◌, IsTrue, IfOk, Result, [], All}
+use Rattle.std.specs.Prelude.{◌≡◌, ◌+◌, false, IsTrue, IfOk, Result, [], All}
 use Rattle.std.specs.Global.{Vec}
 use Rattle.std.specs.Result.{IsOkAnd}
 use Rattle.relation_terms.specs.declared.terms.enums.Variance.{Variance}
@@ -87,11 +87,13 @@ module _ {Key Id Name : Type 0} (c d : Context Key Id Name) where
       ((c.meaning).ty a) ((c.meaning).ty b))
 
   -- Each goal is known, and registered in the environment: that of two type variables, each unbound before or made on
-  -- the way, the one is a subtype of the other; or that a type with a bivariant part is well formed.
-  abbrev pub RegistersGoals : ParamEnvKey Key → Result (Vec (Goal Key (PredicateKey Key))) (RelateFault Key Id Name) →
-      Type 0
-  RegistersGoals e result = IfOk result (λ goals. All (KnowsGoal d.meaning) goals.items ×
-      All (Registered (items_of c.meaning) ((c.meaning).param_env e) c.store d.store) (goals_of d.meaning goals.items))
+  -- the way, the one is a subtype of the other; or that a type with a bivariant part is well formed. At invariance there
+  -- is none.
+  abbrev pub RegistersGoals : ParamEnvKey Key → Variance →
+      Result (Vec (Goal Key (PredicateKey Key))) (RelateFault Key Id Name) → Type 0
+  RegistersGoals e v result = IfOk result (λ goals. All (KnowsGoal d.meaning) goals.items × All (Registered
+      (items_of c.meaning) false v ((c.meaning).param_env e) c.store d.store) (goals_of d.meaning goals.items) ×
+      (v ≡ Invariant → goals.items ≡ []))
 
   -- No goal is answered, and nothing is recorded.
   abbrev pub DoesNothing : Result (Vec (Goal Key (PredicateKey Key))) (RelateFault Key Id Name) → Type 0

@@ -1,12 +1,12 @@
 -- Registered goals, what they ask of an assignment, and when they hold.
-use Rattle.std.specs.Prelude.{◌≡◌, ℕ, true, Bool, List, [], All, IsTrue, map}
+use Rattle.std.specs.Prelude.{◌≡◌, ◌⊎◌, ℕ, true, Bool, List, [], All, IsTrue, map}
 use Rattle.relation_terms.specs.Meaning.{Meaning}
 use Rattle.relation_terms.specs.declared.terms.goal.Goal.{Goal as KeyedGoal}
 use Rattle.relation_terms.specs.declared.terms.keys.PredicateKey.{PredicateKey}
 use Rattle.relation_terms.specs.declared.terms.enums.AliasRelationDirection.{AliasRelationDirection}
 use Rattle.relation_terms.specs.declared.terms.enums.AliasRelationDirection.TheVariants.{Equate, Subtype}
 use Rattle.relation_terms.specs.declared.terms.enums.Variance.{Variance}
-use Rattle.relation_terms.specs.declared.terms.enums.Variance.TheVariants.{Covariant, Bivariant}
+use Rattle.relation_terms.specs.declared.terms.enums.Variance.TheVariants.{Covariant, Contravariant, Bivariant}
 use Rattle.relation_terms.specs.Heads.{type_var, ambiguous, subtype, well_formed, alias_relate, variable, atom}
 use Rattle.relation_terms.specs.Trees.{Tree, leaf, node, bind, nil, cons, Assign, apply, known}
 use Rattle.type_relations.specs.Relation.{Items, Interpretation, IsEqualPair, IsOrderedPair, Rel, at, mode}
@@ -85,19 +85,32 @@ abbrev pub HasBivariantPart : Items → Tree → Type 0
 HasBivariantPart c (node h ts) = (i : ℕ) × (mode c h i ≡ Bivariant)
 HasBivariantPart c t = ⊥
 
--- What relating registers between two stores: that of two such variables the one is a subtype of the other; that a type
--- of the context with a bivariant part is well formed.
-pub data IsRegistered (c : Items) (before after : Store) (p : Tree) : Type 0 where
-  of_variables : (x : Bool) (n m : ℕ) →
-      p ≡ subtype_predicate x (leaf (variable type_var n)) (leaf (variable type_var m)) → IsOpen before after n →
-      IsOpen before after m → IsRegistered c before after p
-  of_type : (t : Tree) → p ≡ well_formed_predicate t → InContext after t → HasBivariantPart c t →
-      IsRegistered c before after p
+-- Covariance and contravariance.
+abbrev pub IsDirected : Variance → Type 0
+IsDirected Covariant = Unit {0}
+IsDirected Contravariant = Unit {0}
+IsDirected v = ⊥
 
--- A goal that relating registers between two stores, in an environment.
-pub record Registered (c : Items) (e : Tree) (before after : Store) (g : Goal) : Type 0 where
+-- Items' arguments are related at the variances that the items declare: at covariance and contravariance they are; else
+-- where that is said.
+abbrev pub ByDeclared : Bool → Variance → Type 0
+ByDeclared always v = IsDirected v ⊎ IsTrue always
+
+-- What relating at a variance registers between two stores: at covariance and contravariance, that of two such variables
+-- the one is a subtype of the other; where items' arguments are related at declared variances, that a type of the
+-- context with a bivariant part is well formed.
+pub data IsRegistered (c : Items) (always : Bool) (v : Variance) (before after : Store) (p : Tree) : Type 0 where
+  of_variables : (x : Bool) (n m : ℕ) → IsDirected v →
+      p ≡ subtype_predicate x (leaf (variable type_var n)) (leaf (variable type_var m)) → IsOpen before after n →
+      IsOpen before after m → IsRegistered c always v before after p
+  of_type : (t : Tree) → ByDeclared always v → p ≡ well_formed_predicate t → InContext after t →
+      HasBivariantPart c t → IsRegistered c always v before after p
+
+-- A goal that relating at a variance registers between two stores, in an environment.
+pub record Registered (c : Items) (always : Bool) (v : Variance) (e : Tree) (before after : Store) (g : Goal)
+    : Type 0 where
   pub environment : g.environment ≡ e
-  pub asks : IsRegistered c before after g.predicate
+  pub asks : IsRegistered c always v before after g.predicate
 
 -- Both sides of a subtype or alias goal are one tree.
 abbrev pub HasOneTree : Assign → Asked → Type 0

@@ -17,7 +17,7 @@ use Rattle.type_relations.specs.declared.relate.Step.TheVariants.{Done, Parts, A
 use Rattle.type_relations.specs.Relation.{Items, Interpretation, part_at, Way, at, parts, second_opened}
 use Rattle.type_relations.specs.Relation.{first_opened}
 use Rattle.type_relations.specs.Stores.{Store, IsSound, Satisfies, IsTermIn, weight}
-use Rattle.type_relations.specs.Goals.{Goal, Registered, IsQuiet, Relates}
+use Rattle.type_relations.specs.Goals.{Goal, Registered, ByDeclared, IsQuiet, Relates}
 use Rattle.type_relations.specs.Steps.{IsLater}
 use Rattle.type_relations.specs.Outcomes.{Outcome, StepsTo, CarriesOver, NeverOne, Exact, ExactStep, NoUnifier}
 use Rattle.type_relations.specs.Headline.{IsFirstOrderPair}
@@ -43,11 +43,12 @@ declared_by table aliases = record { declared = λ d. listed (table d); of_alias
 abbrev pub items_of : {Key Id Name : Type 0} → Meaning Key Id Name → Items
 items_of m = declared_by m.variances m.alias_variances
 
--- How a relation was set up: whether it relates aliases by their items and arguments, or by goals; and which solver is
--- to answer its goals.
+-- How a relation was set up: whether it relates aliases by their items and arguments, or by goals; which solver is to
+-- answer its goals; and whether it relates items' arguments at declared variances at invariance too.
 pub record Settings : Type 0 where
   pub structurally_relate_aliases : StructurallyRelateAliases
   pub next_solver : Bool
+  pub declared_at_invariance : Bool
 
 -- A relation as it stands: what the keys of its interner mean; what it has recorded; the goals that it has registered,
 -- and the environment in which they are to hold; the variance at which it relates; how it was set up; the reference
@@ -120,6 +121,14 @@ module _ {Key Id Name : Type 0} where
     pub reference : q.reference ≡ r.reference
     pub lawful : r.lawful → q.lawful
 
+  -- A goal that a relation registers, between where it stands and a later store.
+  abbrev pub RegisteredIn : State Key Id Name → Store → Goal → Type 0
+  RegisteredIn r now = Registered (items_in r) (r.settings).declared_at_invariance r.ambient r.environment r.store now
+
+  -- Where it stands, a relation relates items' arguments at the variances that the items declare.
+  abbrev pub RelatesByDeclared : State Key Id Name → Type 0
+  RelatesByDeclared r = ByDeclared (r.settings).declared_at_invariance r.ambient
+
   -- From one state to another with a pair of size `n` related, or a part of the work for it done: keys mean what they
   -- meant, all that was recorded and registered stands, goals are registered in the relation's environment, and the
   -- variance, the settings and the reference are as they were.
@@ -128,7 +137,7 @@ module _ {Key Id Name : Type 0} where
     pub goes : Goes n r.store q.store
     pub added : List Goal
     pub lengthens : q.goals ≡ r.goals ++ added
-    pub goals_in : All (Registered (items_in r) r.environment r.store q.store) added
+    pub goals_in : All (RegisteredIn r q.store) added
     pub environment : q.environment ≡ r.environment
     pub ambient : q.ambient ≡ r.ambient
     pub settings : q.settings ≡ r.settings

@@ -1,5 +1,5 @@
 -- The relation of a context: how it stands, and which terms it takes.
-use Rattle.std.specs.Prelude.{ℕ, true, List, All, IsTrue}
+use Rattle.std.specs.Prelude.{ℕ, true, false, List, All, IsTrue}
 use Rattle.relation_terms.specs.declared.terms.enums.Variance.{Variance}
 use Rattle.relation_terms.specs.declared.terms.goal.Goal.{Goal}
 use Rattle.relation_terms.specs.declared.terms.keys.ParamEnvKey.{ParamEnvKey}
@@ -12,9 +12,9 @@ use Rattle.type_relations.specs.Lawful.{State, Settings, Manners, TakesParts}
 use Rattle.type_relations.specs.Contexts.{Context}
 use Rattle.type_relations.specs.Stores.{Store}
 
--- Aliases are left to goals, which the next solver answers.
+-- Aliases are left to goals, which the next solver answers; at invariance all arguments are related invariantly.
 abbrev pub solver_settings : Settings
-solver_settings = record { structurally_relate_aliases = No; next_solver = true }
+solver_settings = record { structurally_relate_aliases = No; next_solver = true; declared_at_invariance = false }
 
 -- An interner knows the environment in which terms are related, and the goals that were registered.
 abbrev pub KnowsGoals : {Key Id Name : Type 0} → Meaning Key Id Name → ParamEnvKey Key →

@@ -6,7 +6,7 @@ ghost use Rattle.relation_text.specs.Names.{WritesNameError};
 ghost use Rattle.relation_text.specs.declared.naming.error.NameError.TheVariants.{Memory};
 
 use crate::naming::program::Sort;
-use crate::naming::statements::MOST_VARIABLES;
+use crate::naming::statements::{LAST_UNIVERSE, MOST_VARIABLES};
 use crate::reading::{Node, found_at};
 use std::alloc::{AllocError, AllocFailed};
 use std::fmt::{self, Write};
@@ -37,6 +37,8 @@ pub enum Wrong {
     TooLarge,
     /// The number of a variable is too large.
     TooManyVariables,
+    /// The universe is above the last one, or below one in which variables stand already.
+    Universe { least: usize },
     /// A type stands behind a number that only counts.
     Counted,
     /// What stands behind the universe of a placeholder is no place of a binder's list.
@@ -159,6 +161,12 @@ fn write_wrong<W: Write>(found: &str, why: Wrong, out: &mut W) -> fmt::Result
             write!(
                 out,
                 "expected a variable below {MOST_VARIABLES}, found `{found}`"
+            )
+        }
+        Wrong::Universe { least } => {
+            write!(
+                out,
+                "expected a universe from {least} to {LAST_UNIVERSE}, found `{found}`"
             )
         }
         Wrong::NothingBefore => out.write_str("expected a question before this, found none"),

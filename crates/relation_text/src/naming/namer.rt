@@ -46,8 +46,6 @@ pub(super) struct Namer<'a> {
     // The index of the next parameter, while there is one.
     pub next_index: Option<u32>,
     pub budget: Option<usize>,
-    pub type_variables: usize,
-    pub region_variables: usize,
     pub program: Program<'a>,
 }
 
@@ -66,8 +64,6 @@ impl<'a> Namer<'a> {
             bound: HashMap::new(alloc),
             next_index: Some(0),
             budget: None,
-            type_variables: 0,
-            region_variables: 0,
             program: Program {
                 items: Vec::new(alloc),
                 names: Vec::new(alloc),
@@ -75,6 +71,7 @@ impl<'a> Namer<'a> {
                 parts: Vec::new(alloc),
                 puts: Vec::new(alloc),
                 skips: Vec::new(alloc),
+                variables: Vec::new(alloc),
                 questions: Vec::new(alloc),
             },
         };

@@ -221,9 +221,17 @@ pub struct Question {
     pub repeat: usize,
     /// How many instantiations its context may make, if that was said.
     pub budget: Option<usize>,
-    /// How many variables are in its context, beside those that it names.
-    pub type_variables: usize,
-    pub region_variables: usize,
+    /// How many statements of the program say which variables its context has, beside those that it names.
+    pub variables: usize,
+}
+
+/// Variables that contexts have: up to so many of each kind, those in its universe that stand in none before.
+#[derive(Clone, Copy, PartialEq, Eq)]
+pub struct Variables {
+    pub universe: usize,
+    pub types: usize,
+    pub consts: usize,
+    pub regions: usize,
 }
 
 /// What a text says.
@@ -239,5 +247,7 @@ pub struct Program<'a> {
     pub puts: Vec<Put<usize>>,
     /// After how many pulls walks skip.
     pub skips: Vec<usize>,
+    /// The variables that contexts have, in the order of their universes.
+    pub variables: Vec<Variables>,
     pub questions: Vec<Question>,
 }

@@ -9,13 +9,13 @@ use relation_terms::terms::Variance;
 impl<'a> Namer<'a> {
     // Adds a question.
     pub(super) fn ask(&mut self, kind: QuestionKind) -> Result<(), NameError> {
+        let variables = self.program.variables.len();
         self.program.questions.push(Question {
             kind,
             then: false,
             repeat: 1,
             budget: self.budget,
-            type_variables: self.type_variables,
-            region_variables: self.region_variables,
+            variables,
         })?;
         Ok(())
     }

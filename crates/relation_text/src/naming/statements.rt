@@ -2,13 +2,16 @@
 
 use crate::naming::error::{NameError, Wrong, error_at};
 use crate::naming::namer::{Meaning, Namer};
-use crate::naming::program::{Declared, Item, ParamSort, Program, Sort, Term};
+use crate::naming::program::{Declared, Item, ParamSort, Program, Sort, Term, Variables};
 use crate::reading::{Form, ItemSort, Leaf, Node, NodeKind, Tree};
 use std::alloc::Global;
 use std::collections::HashSet;
 
-/// How many type variables, and how many region variables, a context may have.
+/// How many variables of each kind a context may have.
 pub const MOST_VARIABLES: usize = 10_000;
+
+/// The last universe that variables of a context may stand in.
+pub const LAST_UNIVERSE: usize = 9_999;
 
 impl<'a> Namer<'a> {
     // The number of a leaf, which is no larger than what is counted by it may be.
@@ -166,19 +169,53 @@ impl<'a> Namer<'a> {
         self.declare(&leaf, Meaning::Term(made))
     }
 
+    // The universe in which variables stand, the one that is given or else that of those before, and what names them.
+    fn universe<'b>(
+        &self,
+        node: &Node,
+        parts: &'b [usize],
+    ) -> Result<(usize, &'b [usize]), NameError> {
+        let before = self.program.variables.last();
+        let least = before.map_or(0, |variables| variables.universe);
+        let Some((last, rest)) = parts.split_last() else {
+            return Ok((least, parts));
+        };
+        let leaf = self.node(node, *last)?;
+        let NodeKind::Leaf(Leaf::Number { .. }) = leaf.kind else {
+            return Ok((least, parts));
+        };
+        let universe = self.count(node, *last)?;
+        if universe < least || universe > LAST_UNIVERSE {
+            return Err(error_at(&leaf, Wrong::Universe { least }));
+        }
+        Ok((universe, rest))
+    }
+
     // Variables that are in the contexts from here on.
     fn declare_variables(&mut self, node: &Node, parts: &[usize]) -> Result<(), NameError> {
-        for number in parts {
+        let (universe, numbers) = self.universe(node, parts)?;
+        let mut variables = Variables {
+            universe,
+            types: 0,
+            consts: 0,
+            regions: 0,
+        };
+        for number in numbers {
             let leaf = self.node(node, *number)?;
-            let (types, regions) = match leaf.kind {
-                NodeKind::Leaf(Leaf::TyVar(number)) => (Some(number), None),
-                NodeKind::Leaf(Leaf::RegionVar(number)) => (None, Some(number)),
+            match leaf.kind {
+                NodeKind::Leaf(Leaf::TyVar(number)) => {
+                    variables.types = variables.types.max(count_to(&leaf, number)?);
+                }
+                NodeKind::Leaf(Leaf::ConstVar(number)) => {
+                    variables.consts = variables.consts.max(count_to(&leaf, number)?);
+                }
+                NodeKind::Leaf(Leaf::RegionVar(number)) => {
+                    variables.regions = variables.regions.max(count_to(&leaf, number)?);
+                }
                 _ => return Err(error_at(&leaf, Wrong::NotRead)),
-            };
-            let (types, regions) = (count_to(&leaf, types)?, count_to(&leaf, regions)?);
-            self.type_variables = self.type_variables.max(types);
-            self.region_variables = self.region_variables.max(regions);
+            }
         }
+        self.program.variables.push(variables)?;
         Ok(())
     }
 
@@ -226,12 +263,11 @@ impl<'a> Namer<'a> {
 }
 
 // How many variables there are, where one has that number.
-fn count_to(node: &Node, number: Option<usize>) -> Result<usize, NameError> {
-    match number {
-        None => Ok(0),
-        Some(number) if number < MOST_VARIABLES => Ok(number + 1),
-        Some(_) => Err(error_at(node, Wrong::TooManyVariables)),
+fn count_to(node: &Node, number: usize) -> Result<usize, NameError> {
+    if number < MOST_VARIABLES {
+        return Ok(number + 1);
     }
+    Err(error_at(node, Wrong::TooManyVariables))
 }
 
 /// What a text says of which this is the tree. Its names are looked up whole, before anything is asked.

@@ -33,6 +33,7 @@ fn admits(expected: Expected, leaf: Leaf) -> bool {
         (Expected::Region, Leaf::RegionPlaceholder { .. }) => true,
         (Expected::Region, Leaf::OuterRegion { .. }) => true,
         (Expected::Variable, Leaf::TyVar(_)) => true,
+        (Expected::Variable, Leaf::ConstVar(_)) => true,
         (Expected::Variable, Leaf::RegionVar(_)) => true,
         (Expected::Parameter, Leaf::Name) => true,
         (Expected::Parameter, Leaf::Lifetime) => true,

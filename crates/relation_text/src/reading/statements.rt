@@ -256,7 +256,7 @@ fn read_parameters(reader: &mut Reader, start: usize) -> Result<usize, ReadError
     reader.make(Form::Parameters, start, &parts)
 }
 
-// Reads variables, behind `variables`.
+// Reads variables, behind `variables`, and their universe if that is given.
 fn read_variables(reader: &mut Reader, start: usize) -> Result<usize, ReadError>
     requires { start ≤ reader.old.tree.text_len }
     ensures goes { GoesOn reader.old reader.new }
@@ -269,6 +269,10 @@ fn read_variables(reader: &mut Reader, start: usize) -> Result<usize, ReadError>
     'list: while reader.accept(Sign::Comma) {
         let variable = reader.take(Expected::Variable)?;
         parts.push(variable)?;
+    }
+    if reader.accept(Sign::In) {
+        let universe = reader.take(Expected::Number)?;
+        parts.push(universe)?;
     }
     reader.make(Form::Variables, start, &parts)
 }

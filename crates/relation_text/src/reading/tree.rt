@@ -68,7 +68,7 @@ pub enum Form {
     ConstParameter,
     /// How many instantiations a context may make: a number.
     Budget,
-    /// Variables that are made.
+    /// Variables that are made, and their universe if that is given: a number.
     Variables,
     /// A name for a term: the name and the term.
     Let,

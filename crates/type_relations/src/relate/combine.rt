@@ -5,7 +5,7 @@ ghost use Rattle.relation_terms.specs.Meaning.{arg_tree};
 ghost use Rattle.type_relations.specs.Bivariance.{is_left_open, TellsOpen, TellsEitherOpen, RegistersWellFormed};
 ghost use Rattle.type_relations.specs.Contexts.{KnowsEnv, KnowsTy, HasTy};
 ghost use Rattle.type_relations.specs.ContextCalls.{Grows};
-ghost use Rattle.type_relations.specs.Goals.{HasBivariantPart, KnowsGoal, goal_of, goals_of, well_formed_predicate};
+ghost use Rattle.type_relations.specs.Goals.{HasBivariantPart, IsDirected, KnowsGoal, goal_of, goals_of, well_formed_predicate};
 ghost use Rattle.type_relations.specs.Keyed.{AreOver, AskedTys};
 ghost use Rattle.type_relations.specs.Lawful.{Noted, items_of, listed};
 ghost use Rattle.type_relations.specs.Solving.{solving_through, solver_manner};
@@ -149,6 +149,7 @@ fn register_well_formed<'a, Infcx: InferCtxtLike>(
     requires ty_in { HasTy (Infcx.state relation.old.infcx.now) ty.now }
     requires bivariant { let m = (Infcx.state relation.old.infcx.now).meaning in
         HasBivariantPart (items_of m) (m.ty ty.now) }
+    requires directed { IsDirected relation.old.ambient_variance }
     ensures noted { let r = relation.old in let q = relation.new in
         let before = solving_through r.infcx.ghost_name r.goals.items (Infcx.state r.infcx.now) r.ambient_variance
         r.param_env in
@@ -193,6 +194,7 @@ pub fn combine_ty_args<'a, Infcx: InferCtxtLike>(
         let before = solving_through r.infcx.ghost_name r.goals.items (Infcx.state r.infcx.now) r.ambient_variance
         r.param_env in
         AskedTys solver_manner before a_ty.now b_ty.now }
+    requires directed { IsDirected relation.old.ambient_variance }
     requires over { let r = relation.old in
         let before = solving_through r.infcx.ghost_name r.goals.items (Infcx.state r.infcx.now) r.ambient_variance
         r.param_env in

@@ -33,9 +33,10 @@ pub trait RelateExt: InferCtxtLike {
     /// that satisfied what was recorded and made them one extends to such a one. Each goal asks, in the environment,
     /// that of two type variables the one is a subtype of the other: such as met at `Covariant` or `Contravariant`,
     /// each unbound before or made on the way; or that a type is well formed, one with a bivariant part: of types over
-    /// one item that met there, where a variable, but of regions, was left in a bivariant argument of either. Equal
-    /// types record nothing, and ask for no goal. Of first-order types in a first-order record at `Invariant` just
-    /// those solutions up to erasure stay that unify them: what is recorded is then a most general unifier.
+    /// one item that met there, where a variable, but of regions, was left in a bivariant argument of either. At
+    /// `Invariant` there is no goal. Equal types record nothing, and ask for no goal. Of first-order types in a
+    /// first-order record at `Invariant` just those solutions up to erasure stay that unify them: what is recorded is
+    /// then a most general unifier.
     ///
     /// Answers `Unrelated` only where no assignment that satisfied what was recorded makes the types one: with the
     /// error of two parts that stand at one place, the left side's first, or of a cycle. Of first-order types in a
@@ -70,7 +71,7 @@ pub trait RelateExt: InferCtxtLike {
         ensures spent { IfSpent result ((Self.state self.new).store.budget ≡ 0) }
         ensures same { AreOneTy (Self.state self.old) lhs rhs →
             DoesNothing (Self.state self.old) (Self.state self.new) result }
-        ensures goals { RegistersGoals (Self.state self.old) (Self.state self.new) param_env result }
+        ensures goals { RegistersGoals (Self.state self.old) (Self.state self.new) param_env variance result }
         ensures exact { AnswersExactly (Self.state self.old) (Self.state self.new) variance lhs rhs result }
         ensures no_unifier { ProvesApart (Self.state self.old) (Self.state self.new) variance lhs rhs result }
         ensures later { IsLater (Self.state self.old).store (Self.state self.new).store }
@@ -108,7 +109,7 @@ impl<Infcx: InferCtxtLike> RelateExt for Infcx {
         ensures spent { IfSpent result ((Infcx.state self.new).store.budget ≡ 0) }
         ensures same { AreOneTy (Infcx.state self.old) lhs rhs →
             DoesNothing (Infcx.state self.old) (Infcx.state self.new) result }
-        ensures goals { RegistersGoals (Infcx.state self.old) (Infcx.state self.new) param_env result }
+        ensures goals { RegistersGoals (Infcx.state self.old) (Infcx.state self.new) param_env variance result }
         ensures exact { AnswersExactly (Infcx.state self.old) (Infcx.state self.new) variance lhs rhs result }
         ensures no_unifier { ProvesApart (Infcx.state self.old) (Infcx.state self.new) variance lhs rhs result }
         ensures later { IsLater (Infcx.state self.old).store (Infcx.state self.new).store }

@@ -6,6 +6,7 @@ ghost use Rattle.relation_terms.specs.declared.terms.enums.Variance.TheVariants.
 ghost use Rattle.relation_terms.specs.Meaning.{Extends};
 ghost use Rattle.type_relations.specs.Stores.{IsSound};
 ghost use Rattle.type_relations.specs.Lawful.{State, Manners, TakesParts, Turned, Noted, WithMeaning};
+ghost use Rattle.type_relations.specs.Lawful.{RelatesByDeclared};
 ghost use Rattle.type_relations.specs.Keyed.{AskedConsts, AskedRegions, AskedTys, RelatedRegions, RelatesTys};
 ghost use Rattle.type_relations.specs.Keyed.{SteppedConsts, SteppedTys, TysStepToSubtype, AreOver, RecordsAsked};
 ghost use Rattle.type_relations.specs.Keyed.{variances_in};
@@ -58,9 +59,12 @@ pub trait TypeRelation<I: Interner> {
         ensures { Turned v (state self.old) (state self.new) };
 
     /// The variances at which the arguments of an item's types are related: those that the item declares; or none, for
-    /// all of them invariantly, where the ambient variance is `Invariant`.
+    /// all of them invariantly, where the ambient variance is `Invariant`. There it answers variances only where the
+    /// relation's settings say so.
     fn item_variances(&self, def_id: &ItemOf<I>) -> Option<&[Variance]>
         ensures declared { IfSome result (λ vs. vs.now ≡ variances_in (state self.now) def_id.now) }
+        ensures by_declared { IfSome result (λ _. (state self.now).ambient ≢ Bivariant →
+            RelatesByDeclared (state self.now)) }
         ensures none { IfNone result ((state self.now).ambient ≡ Invariant) };
 
     /// What comes of two types.
@@ -107,6 +111,7 @@ pub trait TypeRelation<I: Interner> {
         requires lawful { (state self.old).lawful }
         requires decides { (state self.old).ambient ≢ Bivariant }
         requires asked { AskedTys manner (state self.old) a_ty.now b_ty.now }
+        requires by_declared { RelatesByDeclared (state self.old) }
         requires over { AreOver (state self.old) def_id.now a_ty.now b_ty.now a_args.now b_args.now }
         requires related { RelatesTys (state self.old) a_ty.now b_ty.now }
         ensures { Noted (state self.old) (state self.new) result };

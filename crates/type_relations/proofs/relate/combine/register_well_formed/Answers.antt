@@ -40,7 +40,7 @@ returns-clause-noted g c =
     noted_well_formed r.infcx.ghost_name r.goals.items s.meaning d.meaning s.store d.store s.lawful d.lawful
     r.ambient_variance r.param_env h.grown (c.requires.env_known, c.requires.goals_known) h.lawful h.same_store
     c.push.new.self.items c.in_ok-predicate.predicate ((s.meaning).ty c.args.ty.now) c.in_ok-push.ensures.items h.made
-    c.requires.ty_known c.requires.ty_in c.requires.bivariant (Ok tt) tt
+    c.requires.ty_known c.requires.ty_in c.requires.bivariant c.requires.directed (Ok tt) tt
 
 pub returns-clause-registers : goal.returns-clause-registers
 returns-clause-registers g c =
@@ -51,4 +51,4 @@ returns-clause-registers g c =
     registered_well_formed r.infcx.ghost_name r.goals.items s.meaning d.meaning s.store d.store s.lawful d.lawful
     r.ambient_variance r.param_env h.grown (c.requires.env_known, c.requires.goals_known) h.lawful h.same_store
     c.push.new.self.items c.in_ok-predicate.predicate ((s.meaning).ty c.args.ty.now) c.in_ok-push.ensures.items h.made
-    c.requires.ty_known c.requires.ty_in c.requires.bivariant
+    c.requires.ty_known c.requires.ty_in c.requires.bivariant c.requires.directed

@@ -30,6 +30,8 @@ use Rattle.type_relations.proofs.Comparing.{parts_of_list, const_parts_list}
 use Rattle.type_relations.proofs.Handing.{AreOfTwoKinds, no_lifetime, no_ty, no_const_arg}
 use Rattle.type_relations.proofs.Passing.{asked_later, parts_related, again_related, again_refused, again_relates, noted_related, noted_refused}
 use Rattle.type_relations.proofs.Passing.{turned, unlooked, step_done, retold, relates_now, as_err}
+use Rattle.type_relations.proofs.Registered.{directed_from}
+use Rattle.type_relations.specs.Goals.{IsDirected}
 use Rattle.type_relations.proofs.Passing.{form_made, stopped, passes_within}
 use Rattle.type_relations.proofs.Fronts.{Fronted, fronted_none, fronted_next}
 use Rattle.type_relations.proofs.Structural.{types_related, ty_refused}
@@ -802,9 +804,11 @@ relate_with_variance-returns g t c =
     there.meaning (c.relate-answer.ensures).related in
     let h = subst (λ m. Related M s q s.ambient a b (arg_tree m) res) (sym back.meaning) f in
     let k = subst (λ z. Related M s q z a b (arg_tree u.meaning) res) there.ambient h in
+    let seen : IsDirected c.xform-new.result → IsDirected r.ambient =
+    λ o. directed_from r.ambient c.args.variance (subst IsDirected e o) in
     record {
       related = subst (λ z. Related M r u z a b (arg_tree u.meaning) res) e
-          (turned M c.xform-new.result a b (arg_tree u.meaning) there back res k);
+          (turned M c.xform-new.result a b (arg_tree u.meaning) there back seen res k);
       skipped = λ z. absurd (c.in_default.not-Bivariant (e ∙ z));
       kind = (c.relate-answer.ensures).kind;
     }
