@@ -34,7 +34,7 @@ fn recorded<I: Interner>(
 {
     let span = ctx.interner.dummy_span();
     let mut relation = SolverRelating::new(ctx, variance, param_env, span);
-    let answer = relation.relate_tys(a, b)?;
+    let answer = relation.relate(a, b)?;
     let infcx = relation.into_infcx();
     Ok((answer, infcx.region_constraints() == asks))
 }

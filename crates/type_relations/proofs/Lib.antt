@@ -67,5 +67,6 @@ pub mod Solving
 pub mod SolvingVariables
 pub mod SolvingGoals
 pub mod Subtyping
+pub mod Relating
 pub mod Bivariance
 pub mod Noting

@@ -27,6 +27,7 @@ pub mod Arguments
 pub mod Making
 pub mod Keyed
 pub mod Contexts
+pub mod Relating
 pub mod Resolving
 pub mod NumberValues
 pub mod ContextCalls

@@ -1,24 +1,24 @@
 //! The relation of a context.
 ghost use Rattle.std.specs.Prelude.{◌≡◌, ◌≢◌, ℕ, [], All, IfSome};
-ghost use Rattle.relation_terms.specs.Heads.{arguments, type_var, variable};
+ghost use Rattle.relation_terms.specs.Heads.{type_var, variable};
 ghost use Rattle.relation_terms.specs.Trees.{leaf};
 ghost use Rattle.relation_terms.specs.declared.terms.enums.Variance.TheVariants.{Bivariant};
 ghost use Rattle.type_relations.specs.Contexts.{KnowsEnv, KnowsTy};
 ghost use Rattle.type_relations.specs.ContextCalls.{IsUnresolved};
 ghost use Rattle.type_relations.specs.Goals.{KnowsGoal};
-ghost use Rattle.type_relations.specs.Keyed.{AreAsMany, AskedLists, RelatedLists, AskedTys, AskedConsts, RelatedTys};
-ghost use Rattle.type_relations.specs.Keyed.{SteppedTys, SteppedConsts};
+ghost use Rattle.type_relations.specs.Keyed.{AskedTys, AskedConsts, SteppedTys, SteppedConsts};
+ghost use Rattle.type_relations.specs.Lawful.{Asked, Related};
+ghost use Rattle.type_relations.specs.Relating.{term_in};
 ghost use Rattle.type_relations.specs.Resolving.{IsShallow, IsShallowConst};
-ghost use Rattle.type_relations.specs.Subtyping.{IsTyVar, StepRegistersAlone, subtype_at};
+ghost use Rattle.type_relations.specs.Subtyping.{IsTyVar, RegistersSubtype, StepRegistersAlone, subtype_at};
 ghost use Rattle.type_relations.specs.Solving.{solving_in, solving_through, solver_manner};
 
 use crate::infer_ctxt::InferCtxtLike;
 use crate::relate::combine::combine_ty_args;
 use crate::relate::number_vars::{bind_number, equate_numbers, number_var, unlike};
 use crate::relate::solver_relating::recording::{relate_regions, subtype_predicate};
-use crate::relate::structural::tys;
 use crate::relate::variables::{const_var, have_no_variable, ty_var};
-use crate::relate::{Step, StructurallyRelateAliases, TypeRelation, relate_args_invariantly};
+use crate::relate::{Relate, Step, StructurallyRelateAliases, TypeRelation};
 use relation_terms::terms::{
     Const, GenericArgs, Goal, Interner, ItemOf, Keys, ParamEnv, Predicate, Region, Span, Ty, TyVid,
     Variance,
@@ -70,62 +70,39 @@ impl<'a, Infcx: InferCtxtLike> SolverRelating<'a, Infcx> {
         }
     }
 
-    /// Relates two types at the ambient variance, and answers what they are related as. The interner knows both, and
-    /// they are types of the context. What was recorded is in the context, also after an error.
+    /// Relates two types, or two others that can be related, at the ambient variance, and answers what they are related
+    /// as. The interner knows both, they are of the context, and two lists have as many arguments. What was recorded is
+    /// in the context, also after an error. Upstream this is a call of every relation.
     ///
     /// # Errors
-    /// `Unrelated` where the types do not become one, `Budget` where no instantiation is left, `Memory` where a growth
+    /// `Unrelated` where the two do not become one, `Budget` where no instantiation is left, `Memory` where a growth
     /// was refused.
-    pub fn relate_tys(
+    pub fn relate<T: Relate<Infcx::Interner>>(
         &mut self,
-        a: &Ty<Infcx::Interner>,
-        b: &Ty<Infcx::Interner>,
-    ) -> RelateResult<Infcx::Interner, Ty<Infcx::Interner>>
+        a: &T,
+        b: &T,
+    ) -> RelateResult<Infcx::Interner, T>
         requires lawful { (Infcx.state self.old.infcx.now).lawful }
         requires env_known { KnowsEnv (Infcx.state self.old.infcx.now) self.old.param_env }
         requires goals_known { All (KnowsGoal (Infcx.state self.old.infcx.now).meaning) self.old.goals.items }
         requires decides { self.old.ambient_variance ≢ Bivariant }
-        requires asked { let before = Infcx.state self.old.infcx.now in
-            AskedTys solver_manner (solving_in self.old.goals.items before self.old.ambient_variance self.old.param_env)
-            a.now b.now }
+        requires fits { T.fits (Infcx.state self.old.infcx.now).meaning a.now b.now }
+        requires asked { let c = Infcx.state self.old.infcx.now in let v = self.old.ambient_variance in
+            Asked solver_manner (solving_in self.old.goals.items c v self.old.param_env) v
+            (term_in c T.over T.tree a.now) (term_in c T.over T.tree b.now) }
         ensures same_reference { self.new.infcx.ghost_name ≡ self.old.infcx.ghost_name }
-        ensures related { let v = self.old.ambient_variance in
-            let before = solving_in self.old.goals.items (Infcx.state self.old.infcx.now) v self.old.param_env in
-            let after = solving_in self.new.goals.items (Infcx.state self.new.infcx.now) v self.old.param_env in
-            RelatedTys solver_manner before after a.now b.now result }
+        ensures related { let c = Infcx.state self.old.infcx.now in let d = Infcx.state self.new.infcx.now in
+            let v = self.old.ambient_variance in let before = solving_in self.old.goals.items c v self.old.param_env in
+            let after = solving_in self.new.goals.items d v self.old.param_env in
+            Related solver_manner before after v (term_in c T.over T.tree a.now) (term_in c T.over T.tree b.now)
+            (term_in d T.over T.tree) result }
+        ensures registers { let c = Infcx.state self.old.infcx.now in let d = Infcx.state self.new.infcx.now in
+            let v = self.old.ambient_variance in let before = solving_in self.old.goals.items c v self.old.param_env in
+            let after = solving_in self.new.goals.items d v self.old.param_env in
+            RegistersSubtype solver_manner before after v (term_in c T.over T.tree a.now)
+            (term_in c T.over T.tree b.now) result }
     {
-        tys(self, a, b)
-    }
-
-    /// Relates two lists of as many arguments, each pair at `Invariant` seen from the ambient variance, and answers the
-    /// list of what they are related as. The interner knows both, and they are arguments of the context. What was
-    /// recorded is in the context, also after an error.
-    ///
-    /// # Errors
-    /// `Unrelated` where the arguments of a pair do not become one, `Budget` where no instantiation is left, `Memory`
-    /// where a growth was refused.
-    pub fn relate_args(
-        &mut self,
-        a: &GenericArgs<Infcx::Interner>,
-        b: &GenericArgs<Infcx::Interner>,
-    ) -> RelateResult<Infcx::Interner, GenericArgs<Infcx::Interner>>
-        requires lawful { (Infcx.state self.old.infcx.now).lawful }
-        requires env_known { KnowsEnv (Infcx.state self.old.infcx.now) self.old.param_env }
-        requires goals_known { All (KnowsGoal (Infcx.state self.old.infcx.now).meaning) self.old.goals.items }
-        requires decides { self.old.ambient_variance ≢ Bivariant }
-        requires asked { let v = self.old.ambient_variance in
-            let before = solving_in self.old.goals.items (Infcx.state self.old.infcx.now) v self.old.param_env in
-            AskedLists solver_manner before (λ m. arguments) a.now b.now }
-        requires as_many { let v = self.old.ambient_variance in
-            let before = solving_in self.old.goals.items (Infcx.state self.old.infcx.now) v self.old.param_env in
-            AreAsMany before a.now b.now }
-        ensures same_reference { self.new.infcx.ghost_name ≡ self.old.infcx.ghost_name }
-        ensures related { let v = self.old.ambient_variance in
-            let before = solving_in self.old.goals.items (Infcx.state self.old.infcx.now) v self.old.param_env in
-            let after = solving_in self.new.goals.items (Infcx.state self.new.infcx.now) v self.old.param_env in
-            RelatedLists solver_manner before after (λ m. arguments) a.now b.now result }
-    {
-        relate_args_invariantly(self, a, b)
+        T::relate(self, a, b)
     }
 
     // What comes of two type variables, of which nothing is recorded: at invariance they are made one, else it is
