@@ -57,7 +57,8 @@ relate-requires-clause-lhs_in g c =
     let ready = as_arguments a (n.args t) (one_ready (m.args t) (n.args t) a (e.args t h.0) h) in
     let x = c.have_variables.new.ctx.inner in
     let has : Has x (both_needs c.args.lhs.1 c.args.rhs.1) = subst (Has x) c.both.ensures c.in-Ok.ensures.has in
-    ready_in n x a (has_left x c.args.lhs.1 c.args.rhs.1 has) (node arguments (n.args t)) (c.in_default.ensures).left_rules ready
+    ready_in n x a (has_left x c.args.lhs.1 c.args.rhs.1 has)
+    (node arguments (n.args t)) (c.in_default.ensures).left_rules ready
 
 pub relate-requires-clause-rhs_known : goal.relate-requires-clause-rhs_known
 relate-requires-clause-rhs_known g c =
@@ -92,4 +93,5 @@ relate-requires-clause-rhs_in g c =
     let ready = as_arguments a (n.args t) (one_ready (m.args t) (n.args t) a (e.args t h.0) h) in
     let x = c.have_variables.new.ctx.inner in
     let has : Has x (both_needs c.args.lhs.1 c.args.rhs.1) = subst (Has x) c.both.ensures c.in-Ok.ensures.has in
-    ready_in n x a (has_right x c.args.lhs.1 c.args.rhs.1 has) (node arguments (n.args t)) (c.in_default.ensures).right_rules ready
+    ready_in n x a (has_right x c.args.lhs.1 c.args.rhs.1 has)
+    (node arguments (n.args t)) (c.in_default.ensures).right_rules ready
