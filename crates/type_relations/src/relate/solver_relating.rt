@@ -43,9 +43,9 @@ pub trait RelateExt: InferCtxtLike {
     /// first-order record at `Invariant` just those solutions up to erasure stay that unify them: what is recorded is
     /// then a most general unifier.
     ///
-    /// Two different types that are unresolved type variables answer one goal at `Covariant`, that the first is a
-    /// subtype of the second and the expected one, and one at `Contravariant`, that the second is a subtype of the
-    /// first and the expected one; both are named by their roots there. Nothing is recorded of them.
+    /// Two different types that are unresolved type variables answer just one goal, and nothing is recorded: at
+    /// `Covariant` that the first is a subtype of the second, at `Contravariant` that the second is one of the first.
+    /// Both stand there by their roots, and the first is the expected one.
     ///
     /// Answers `Unrelated` only where no assignment that satisfied what was recorded makes the two one: with the error
     /// of two parts that stand at one place, the left side's first, or of a cycle. Of first-order terms in a
