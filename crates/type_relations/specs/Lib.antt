@@ -28,6 +28,7 @@ pub mod Making
 pub mod Keyed
 pub mod Contexts
 pub mod Relating
+pub mod EqualTerms
 pub mod Resolving
 pub mod NumberValues
 pub mod ContextCalls

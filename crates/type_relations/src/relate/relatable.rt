@@ -8,9 +8,9 @@ ghost use Rattle.relation_terms.specs.Heads.{Head, arguments};
 ghost use Rattle.relation_terms.specs.Interning.{AreEqualAsTrees};
 ghost use Rattle.relation_tools.proofs.Arguments.{arg_same};
 ghost use Rattle.type_relations.specs.Arguments.{related_tree};
+ghost use Rattle.type_relations.specs.EqualTerms.{sorted_by, term_same};
 ghost use Rattle.type_relations.specs.Lawful.{Asked, Related};
 ghost use Rattle.type_relations.specs.Subtyping.{RegistersSubtype};
-ghost use Rattle.type_relations.proofs.Relatable.{sorted_by, term_same};
 
 use crate::relate::TypeRelation;
 use crate::relate::args::relate_args_invariantly;

@@ -103,7 +103,37 @@ impl<Infcx: InferCtxtLike> RelateExt for Infcx {
         variance: Variance,
         rhs: T,
         span: Span<Infcx::Interner>,
-    ) -> RelateGoals<Infcx::Interner> {
+    ) -> RelateGoals<Infcx::Interner>
+        requires lawful { (Infcx.state self.old).lawful }
+        requires decides { variance ≢ Variance.Bivariant }
+        requires env_known { KnowsEnv (Infcx.state self.old) param_env }
+        requires fits { T.fits (Infcx.state self.old).meaning lhs rhs }
+        requires lhs_known { KnowsTerm (Infcx.state self.old) T.over T.tree lhs }
+        requires rhs_known { KnowsTerm (Infcx.state self.old) T.over T.tree rhs }
+        requires lhs_taken { TakesTerm (Infcx.state self.old) T.over T.tree lhs }
+        requires rhs_taken { TakesTerm (Infcx.state self.old) T.over T.tree rhs }
+        requires lhs_in { HasTerm (Infcx.state self.old) T.over T.tree lhs }
+        requires rhs_in { HasTerm (Infcx.state self.old) T.over T.tree rhs }
+        ensures answers { AnswersTerms Infcx.state self.old self.new T.over T.tree param_env variance lhs rhs result }
+        ensures keeps { KeepsEqual Infcx.state self.old self.new T.over T.tree lhs rhs result }
+        ensures apart { TellsApart Infcx.state self.old self.new T.over T.tree lhs rhs result }
+        ensures errors { AnswersError Infcx.state self.old self.new T.over T.tree variance lhs rhs result }
+        ensures spent { IfSpent result ((Infcx.state self.new).store.budget ≡ 0) }
+        ensures same { AreOne (Infcx.state self.old) T.over T.tree lhs rhs →
+            DoesNothing (Infcx.state self.old) (Infcx.state self.new) result }
+        ensures subtype { AnswersSubtype Infcx.state self.old self.new T.over T.tree param_env variance lhs rhs result }
+        ensures goals { RegistersGoals (Infcx.state self.old) (Infcx.state self.new) param_env variance result }
+        ensures exact { AnswersExactly Infcx.state self.old self.new T.over T.tree variance lhs rhs result }
+        ensures no_unifier { ProvesApart Infcx.state self.old self.new T.over T.tree variance lhs rhs result }
+        ensures later { IsLater (Infcx.state self.old).store (Infcx.state self.new).store }
+        ensures made { MakesToInstantiate (Infcx.state self.old).store (Infcx.state self.new).store }
+        ensures bound { BindsItsOwn (Infcx.state self.old).store (Infcx.state self.new).store }
+        ensures sound { IsSound (Infcx.state self.new).store }
+        ensures budget { SpendsByBinding (Infcx.state self.old) (Infcx.state self.new) }
+        ensures lawful { (Infcx.state self.new).lawful }
+        ensures grown { Extends (Infcx.state self.old).meaning (Infcx.state self.new).meaning }
+        ensures why_known { IfErr result (λ e. KnowsFault (Infcx.state self.new).meaning e) }
+    {
         if lhs == rhs {
             return Ok(Vec::new(self.cx().alloc()));
         }
