@@ -43,7 +43,7 @@ module _ {Key Id Name : Type 0} (m : Meaning Key Id Name) (eq : Key → Key → 
     (const_ty : (a : ConstKey Key) (b : TyKey Key) → terms (Const a) (Ty b) ≡ false)
     (same_region : AreEqualAsTrees m.region (λ k l. eq k.0 l.0)) (same_ty : AreEqualAsTrees m.ty (λ k l. eq k.0 l.0))
     (same_const : AreEqualAsTrees m.const_ (λ k l. eq k.0 l.0)) (s : Sorted m) where
-  args : GenericArgKind Key → GenericArgKind Key → Bool
+  abbrev args : GenericArgKind Key → GenericArgKind Key → Bool
   args (Lifetime a) (Lifetime b) = eq a.0 b.0
   args (TyArg a) (TyArg b) = eq a.0 b.0
   args (ConstArg a) (ConstArg b) = eq a.0 b.0
