@@ -77,14 +77,7 @@ fn relate_ready<I: Interner>(
         return Err(Unasked::Memory);
     };
     let span = ctx.interner.dummy_span();
-    Ok(relate(
-        ctx,
-        param_env,
-        lhs,
-        Variance::Invariant,
-        rhs,
-        span,
-    ))
+    Ok(relate(ctx, param_env, lhs, Variance::Invariant, rhs, span))
 }
 
 // Relates two lists of arguments in a context.

@@ -84,7 +84,7 @@ read_root st k n r t l e h u (by_class j i m d c rd) s =
     let both = sym d ∙ e in
     let one : OneClass st k n m = subst₂ (λ q z. OneClass st q z m) (same_kind both) (same_number both) c in
     read_root st k m r (leaf (variable j m)) l (ap (λ q. leaf (variable q m)) (same_kind both))
-        (class_root st k n m r one h u) u rd s
+    (class_root st k n m r one h u) u rd s
 read_root st k n r t l e h u (by_binding {u = w} j i d b rd) s = absurd (bound h)
   where
     both : leaf (variable j i) ≡ leaf (variable k n)

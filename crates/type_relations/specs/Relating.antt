@@ -32,22 +32,22 @@ term_in c over tree x = related_tree over (tree c.meaning x)
 
 -- In a context.
 module _ {Key Id Name A : Type 0} (c : Context Key Id Name) (over : Option Head) (tree : Meaning Key Id Name → A → Tree)
-    where
-  -- The interner knows the value.
-  abbrev pub KnowsTerm : A → Type 0
-  KnowsTerm x = IsTrue (known (term_in c over tree x))
+  where
+    -- The interner knows the value.
+    abbrev pub KnowsTerm : A → Type 0
+    KnowsTerm x = IsTrue (known (term_in c over tree x))
 
-  -- It may be related: it is of forms that have rules.
-  abbrev pub TakesTerm : A → Type 0
-  TakesTerm x = IsCovered (term_in c over tree x)
+    -- It may be related: it is of forms that have rules.
+    abbrev pub TakesTerm : A → Type 0
+    TakesTerm x = IsCovered (term_in c over tree x)
 
-  -- The variables in it are the context's, and nothing in it is of a later universe or escapes a binder.
-  abbrev pub HasTerm : A → Type 0
-  HasTerm x = IsTermIn c.store (term_in c over tree x)
+    -- The variables in it are the context's, and nothing in it is of a later universe or escapes a binder.
+    abbrev pub HasTerm : A → Type 0
+    HasTerm x = IsTermIn c.store (term_in c over tree x)
 
-  -- Two are one.
-  abbrev pub AreOne : A → A → Type 0
-  AreOne a b = term_in c over tree a ≡ term_in c over tree b
+    -- Two are one.
+    abbrev pub AreOne : A → A → Type 0
+    AreOne a b = term_in c over tree a ≡ term_in c over tree b
 
 -- Between what a context is before the call and after it, which `state` shows.
 module _ {S Key Id Name A : Type 0} (state : S → Context Key Id Name) (old new : S) (over : Option Head)

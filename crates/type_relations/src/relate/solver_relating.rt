@@ -152,7 +152,10 @@ fn relate_in<Infcx: InferCtxtLike, T: Relate<Infcx::Interner>>(
     variance: Variance,
     b: &T,
     span: Span<Infcx::Interner>,
-) -> (RelateResult<Infcx::Interner, T>, Vec<GoalOf<Infcx::Interner>>)
+) -> (
+    RelateResult<Infcx::Interner, T>,
+    Vec<GoalOf<Infcx::Interner>>,
+)
     requires lawful { (Infcx.state infcx.old).lawful }
     requires env_known { KnowsEnv (Infcx.state infcx.old) param_env }
     requires decides { variance ≢ Variance.Bivariant }
