@@ -180,7 +180,7 @@ pub refused_told : {Key Id Name : Type 0} (X Y : Type 0) (M : Manners) (r q : St
 refused_told X Y M r q v a b e res is h = subst (RegistersSubtype {X = Y} M r q v a b) (sym is)
     (λ promised differ i j f g.
     some_map (subtype_at v (leaf (variable type_var i)) (leaf (variable type_var j)))
-    (λ p z. refused r q a b X Y p e z) (h promised differ i j f g))
+    (λ p z. refused M r q a b X Y p e z) (h promised differ i j f g))
 
 -- Arguments that are no types are no type variables.
 module _ {Key Id Name : Type 0} {m : Meaning Key Id Name} (sorted : Sorted m) (a : GenericArgKind Key)

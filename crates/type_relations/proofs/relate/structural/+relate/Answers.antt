@@ -576,7 +576,7 @@ relate-returns-in_default g t c =
       related = kinds_differ r.meaning sorted M r r.ambient (arg_tree r.meaning) c.requires.decides refl c.args.a.now c.args.b.now
           (subst (λ z. AreOfTwoKinds z c.args.b.now) (sym c.in-Lifetime.is) (no_lifetime c.in-Lifetime.a c.args.b.now c.in_default.not-Lifetime))
           k.left_known k.right_known k.left_in k.right_in;
-      registers = left_none M r r (arg_tree r.meaning c.args.a.now) (arg_tree r.meaning c.args.b.now) r.ambient
+      registers = left_none M r r (arg_tree r.meaning c.args.a.now) (arg_tree r.meaning c.args.b.now) {X = ⊥} r.ambient
           (Err (Unrelated Mismatch)) (lifetime_none sorted c.args.a.now k.left_known c.in-Lifetime.a c.in-Lifetime.is);
       kind = tt;
     }
@@ -604,7 +604,7 @@ relate-returns-in_default-b g t c =
       related = kinds_differ r.meaning sorted M r r.ambient (arg_tree r.meaning) c.requires.decides refl c.args.a.now c.args.b.now
           (subst (λ z. AreOfTwoKinds z c.args.b.now) (sym c.in-Ty.is) (no_ty c.in-Ty.a c.args.b.now c.in_default-b.not-Ty))
           k.left_known k.right_known k.left_in k.right_in;
-      registers = right_none M r r (arg_tree r.meaning c.args.a.now) (arg_tree r.meaning c.args.b.now) r.ambient
+      registers = right_none M r r (arg_tree r.meaning c.args.a.now) (arg_tree r.meaning c.args.b.now) {X = ⊥} r.ambient
           (Err (Unrelated Mismatch)) (no_ty_none sorted c.args.b.now c.in_default-b.not-Ty k.right_known);
       kind = tt;
     }
@@ -632,7 +632,7 @@ relate-returns-in_default-b-2 g t c =
       related = kinds_differ r.meaning sorted M r r.ambient (arg_tree r.meaning) c.requires.decides refl c.args.a.now c.args.b.now
           (subst (λ z. AreOfTwoKinds z c.args.b.now) (sym c.in-Const.is) (no_const_arg c.in-Const.a c.args.b.now c.in_default-b-2.not-Const))
           k.left_known k.right_known k.left_in k.right_in;
-      registers = left_none M r r (arg_tree r.meaning c.args.a.now) (arg_tree r.meaning c.args.b.now) r.ambient
+      registers = left_none M r r (arg_tree r.meaning c.args.a.now) (arg_tree r.meaning c.args.b.now) {X = ⊥} r.ambient
           (Err (Unrelated Mismatch)) (const_none sorted c.args.a.now k.left_known c.in-Const.a c.in-Const.is);
       kind = tt;
     }
@@ -715,7 +715,7 @@ relate-returns-in_err-tys-in-Ty-clause-registers g t c =
     let res = c.from_residual-in_err-tys-in-Ty.result in
     subst₂ (λ t u. RegistersSubtype M r q r.ambient (arg_tree r.meaning t) (arg_tree r.meaning u) res)
     (sym c.in-Ty.is) (sym c.in-Ty-b.is)
-    (refused_told _ _ M r q r.ambient ((r.meaning).ty c.in-Ty.a) ((r.meaning).ty c.in-Ty-b.b) n.field-0.0 res
+    (refused_told ⊥ _ M r q r.ambient ((r.meaning).ty c.in-Ty.a) ((r.meaning).ty c.in-Ty-b.b) n.field-0.0 res
     (as_err res n.field-0.0 c.from_residual-in_err-tys-in-Ty.ensures.0 c.from_residual-in_err-tys-in-Ty.ensures.1)
     n.ensures.registers)
 

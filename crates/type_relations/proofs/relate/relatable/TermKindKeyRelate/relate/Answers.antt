@@ -107,7 +107,7 @@ returns-in_default-clause-registers g c =
       existential_predicates = g.met.I.Interner.are_existential_predicates cx;
     }) in
     let z = else_const c.args.b.now c.in_default.not-Ty in
-    right_none M r r (term_tree r.meaning c.args.a.now) (term_tree r.meaning c.args.b.now) r.ambient
+    right_none M r r (term_tree r.meaning c.args.a.now) (term_tree r.meaning c.args.b.now) {X = ⊥} r.ambient
     (Err (Unrelated Mismatch)) (subst (λ x. IsTyVar (term_tree r.meaning x) → ⊥) (sym z.1)
     (const_none sorted (ConstArg z.0) (subst (λ x. IsTrue (known (term_tree r.meaning x))) z.1
     (c.requires.asked).right_known) z.0 refl))
@@ -130,7 +130,7 @@ returns-in_default-b-clause-registers g c =
       alternatives = g.met.I.Interner.are_alternatives cx;
       existential_predicates = g.met.I.Interner.are_existential_predicates cx;
     }) in
-    left_none M r r (term_tree r.meaning c.args.a.now) (term_tree r.meaning c.args.b.now) r.ambient
+    left_none M r r (term_tree r.meaning c.args.a.now) (term_tree r.meaning c.args.b.now) {X = ⊥} r.ambient
     (Err (Unrelated Mismatch)) (subst (λ x. IsTyVar (term_tree r.meaning x) → ⊥) (sym c.in-Const.is)
     (const_none sorted (ConstArg c.in-Const.a) (subst (λ x. IsTrue (known (term_tree r.meaning x))) c.in-Const.is
     (c.requires.asked).left_known) c.in-Const.a refl))
@@ -201,5 +201,5 @@ returns-in_err-tys-in-Ty-clause-registers g c =
     let res = c.from_residual.result in
     subst₂ (λ t u. RegistersSubtype M r q r.ambient (term_tree r.meaning t) (term_tree r.meaning u) res)
     (sym c.in-Ty.is) (sym c.in-Ty-b.is)
-    (refused_told _ _ M r q r.ambient ((r.meaning).ty c.in-Ty.a) ((r.meaning).ty c.in-Ty-b.b) n.field-0.0 res
+    (refused_told ⊥ _ M r q r.ambient ((r.meaning).ty c.in-Ty.a) ((r.meaning).ty c.in-Ty-b.b) n.field-0.0 res
     (as_err res n.field-0.0 c.from_residual.ensures.0 c.from_residual.ensures.1) n.ensures.registers)
