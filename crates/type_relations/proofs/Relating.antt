@@ -16,7 +16,8 @@ use Rattle.type_relations.specs.Relating.{term_in, AnswersAlone, AnswersSubtype}
 use Rattle.type_relations.specs.Subtyping.{subtype_at, RegistersAlone, RegistersSubtype}
 use Rattle.type_relations.specs.Solving.{solving_in, solver_manner}
 
-module _ {S Key Id Name A X : Type 0} (state : S → Context Key Id Name) (old new : S) (over : Option Head)
+-- What else might have been answered is of no matter.
+module _ {S Key Id Name A : Type 0} (X : Type 0) (state : S → Context Key Id Name) (old new : S) (over : Option Head)
     (tree : Meaning Key Id Name → A → Tree) (e : ParamEnvKey Key) (v : Variance) (a b : A)
     (hs : List (Goal Key (PredicateKey Key))) where
   refused : (p : Tree) (f : RelateFault Key Id Name) →

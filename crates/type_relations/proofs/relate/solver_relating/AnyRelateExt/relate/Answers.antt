@@ -175,7 +175,7 @@ pub returns-in_err-related-clause-subtype : goal.returns-in_err-related-clause-s
 returns-in_err-related-clause-subtype g c =
     let s = g.Infcx.InferCtxtLike.state c.args.self.now in
     let f = c.in_err-related.field-0.0 in
-    refused_alone_in g.Infcx.InferCtxtLike.state c.args.self.now c.relate_in-related.new.infcx g.T.Relate.over
+    refused_alone_in ⊥ g.Infcx.InferCtxtLike.state c.args.self.now c.relate_in-related.new.infcx g.T.Relate.over
     g.T.HasTree.tree c.args.param_env c.args.variance c.args.lhs c.args.rhs c.relate_in-related.result.1.items
     f c.from_residual.result (as_err c.from_residual.result f c.from_residual.ensures.0 c.from_residual.ensures.1)
     (subst (RegistersSubtype solver_manner (solving_in [] s c.args.variance c.args.param_env)
