@@ -1,5 +1,5 @@
 -- Relating two type variables in a context: the one goal, or a refused growth.
-use Rattle.std.proofs.Common.{◌≡◌, sym, subst, List, [], Option, Result, Ok, Err}
+use Rattle.std.proofs.Common.{◌≡◌, sym, subst, List, [], Option, Result, Err}
 use Rattle.std.proofs.lemmas.Option.{IfSome_then}
 use Rattle.std.specs.Global.{Vec}
 use Rattle.relation_terms.specs.declared.terms.enums.Variance.{Variance}

@@ -25,7 +25,7 @@ use Rattle.type_relations.specs.Goals.{goal_of, goals_of}
 use Rattle.type_relations.specs.Errors.{IsReadAs, itself, by_class, by_binding}
 use Rattle.type_relations.specs.Resolving.{IsShallow}
 use Rattle.type_relations.specs.Lawful.{State, Manners}
-use Rattle.type_relations.specs.Subtyping.{IsTyVar, IsTyVarOf, subtype_at, OfSubtype, RegistersAlone, StepRegistersAlone}
+use Rattle.type_relations.specs.Subtyping.{IsTyVar, IsTyVarOf, subtype_at, RegistersAlone, StepRegistersAlone}
 use Rattle.type_relations.specs.Subtyping.{RegistersSubtype, StepRegistersSubtype}
 use Rattle.type_relations.specs.Solving.{KnowsGoals, solving}
 use Rattle.type_relations.proofs.Classes.{one_leads, leads_through}

@@ -1,6 +1,6 @@
 -- What relating two values in a context asks and promises, by what is related of them: of a value that is `over` no form
 -- its tree, of another that form over its tree.
-use Rattle.std.specs.Prelude.{◌≡◌, List, [], ◌∷◌, Option, IsTrue, IfOk, Result, Ok, Err}
+use Rattle.std.specs.Prelude.{◌≡◌, [], ◌∷◌, Option, IsTrue, IfOk, Result, Ok, Err}
 use Rattle.std.specs.Global.{Vec}
 use Rattle.relation_terms.specs.declared.terms.enums.Variance.{Variance}
 use Rattle.relation_terms.specs.declared.terms.enums.Variance.TheVariants.{Invariant}

@@ -1,7 +1,7 @@
-use Rattle.std.proofs.Common.{◌≡◌, refl, sym, ap, ◌∙◌, subst, [], All, IsTrue}
+use Rattle.std.proofs.Common.{refl, sym, ap, ◌∙◌, subst, [], All}
 use Rattle.std.proofs.lemmas.Bool.{false≢true}
 use Rattle.std.proofs.lemmas.List.Elements.{All-nil}
-use Rattle.relation_terms.specs.Trees.{apply, known}
+use Rattle.relation_terms.specs.Trees.{apply}
 use Rattle.type_relations.specs.Relation.{same}
 use Rattle.type_relations.specs.Goals.{goals_of, KnowsGoal, MakesOneTree}
 use Rattle.type_relations.specs.Lawful.{Related, ExactResult}

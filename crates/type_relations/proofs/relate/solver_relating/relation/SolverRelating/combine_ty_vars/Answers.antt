@@ -1,4 +1,4 @@
-use Rattle.std.proofs.Common.{refl, sym, ap, ◌∙◌, subst, IfSome, true, false, Ok}
+use Rattle.std.proofs.Common.{refl, sym, ap, subst, IfSome, true, false, Ok}
 use Rattle.relation_terms.specs.Heads.{type_var}
 use Rattle.relation_tools.specs.declared.error.RelateFault.TheVariants.{Memory}
 use Rattle.type_relations.specs.declared.relate.Step.TheVariants.{Done}
