@@ -23,7 +23,7 @@ abbrev pub IsLookedAt : Head → Type 0
 IsLookedAt value_type = ⊥
 IsLookedAt h = Unit {0}
 
-part_invariant : (c : Items) (h : Head) (i : ℕ) (v : Variance) → IsLookedAt h → v ≡ Invariant →
+pub part_invariant : (c : Items) (h : Head) (i : ℕ) (v : Variance) → IsLookedAt h → v ≡ Invariant →
     part_at c h i v ≡ Invariant
 part_invariant c value_type i v l e = absurd l
 part_invariant c h i v l e = ap (λ z. xform z (mode c h i)) e

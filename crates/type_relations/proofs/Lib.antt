@@ -51,6 +51,7 @@ pub mod Deciding
 pub mod Constraints
 pub mod DiagInfo
 pub mod Making
+pub mod OneUniverse
 pub mod Answering
 pub mod Unifying
 pub mod Rejected
@@ -64,6 +65,7 @@ pub mod Shallowly
 pub mod NumberVars
 pub mod Turning
 pub mod Solving
+pub mod GeneralisingInOne
 pub mod SolvingVariables
 pub mod SolvingGoals
 pub mod Bivariance
