@@ -66,6 +66,7 @@ pub mod NumberVars
 pub mod Turning
 pub mod Solving
 pub mod GeneralisingInOne
+pub mod Spending
 pub mod SolvingVariables
 pub mod SolvingGoals
 pub mod Bivariance

@@ -109,7 +109,10 @@ module _ (before middle after : Store) (a b x y : Tree) (l : LeadsInUniverse bef
   pub led_fewer : BindsFewer middle after x y → BindsFewer before after a b
   led_fewer f u p = let z = l u p in let w : all_bound after < all_roots middle = f u z.0 in let v = z.1 in omega (arith, w, v)
 
--- Two lists one after another, and other terms of the same leaves.
+pub led_then : (before middle after : Store) (a b x y t w : Tree) → LeadsInUniverse before middle a b x y → LeadsInUniverse middle after x y t w → LeadsInUniverse before after a b t w
+led_then before middle after a b x y t w l f u p = let z = l u p in let k = f u z.0 in (k.0, le_trans k.1 z.1)
+
+-- Other terms of leaves that stand in the universe too.
 module _ (before after : Store) (a b x y : Tree) (left : (u : ℕ) → Leaves (NamesTypesTo u) a → Leaves (NamesTypesTo u) x)
     (right : (u : ℕ) → Leaves (NamesTypesTo u) b → Leaves (NamesTypesTo u) y) where
   pub pair_as : (u : ℕ) → IsPairOf u before a b → IsPairOf u before x y

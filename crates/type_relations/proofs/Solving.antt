@@ -32,7 +32,7 @@ use Rattle.type_relations.specs.declared.relate.Step.{Step}
 use Rattle.type_relations.specs.declared.relate.Step.TheVariants.{Done, Parts, Again}
 use Rattle.type_relations.specs.Relation.{Interpretation, Rel, RegionRule, regions, at, same as same_rel}
 use Rattle.type_relations.specs.Stores.{Store, Constraint, entry_of, entry_term, bound_to, IsTermIn, IsRegionIn, IsSound, Satisfies}
-use Rattle.type_relations.specs.Stores.{IsMade, InContext, MayStandFor, IsIntegerTerm, IsFloatTerm, ConstraintHolds, weight, resolved}
+use Rattle.type_relations.specs.Stores.{IsMade, InContext, MayStandFor, IsIntegerTerm, IsFloatTerm, ConstraintHolds, all_bound, weight, resolved}
 use Rattle.type_relations.specs.Goals.{goals_of, KnowsGoal, Registered, GoalInContext, Holds, MakesOneTree}
 use Rattle.type_relations.specs.Headline.{AnswersGoals, KeepsEqualTerms, IsFirstOrderPair}
 use Rattle.type_relations.specs.Steps.{AddsConstraint, Equates, BindsTo, Instantiates, InstantiatesNumber}
@@ -58,8 +58,11 @@ use Rattle.type_relations.proofs.Growing.{constraint_holds, constraint_keeps}
 use Rattle.type_relations.proofs.Constraints.{asked_relates, asked_met}
 use Rattle.type_relations.proofs.Passing.{passes_nowhere}
 use Rattle.type_relations.proofs.Answering.{may_itself}
-use Rattle.type_relations.proofs.Roots.{roots_goes, roots_equal, roots_keep, roots_exactly, exact_turned}
+use Rattle.type_relations.specs.OneUniverse.{KeepsUniverse}
+use Rattle.type_relations.proofs.OneUniverse.{keeps_pair, binds_itself, binds_none, standing_keeps, reading_leads}
+use Rattle.type_relations.proofs.Roots.{roots_goes, roots_equal, roots_keep, roots_exactly, roots_universe, exact_turned}
 use Rattle.type_relations.proofs.Numbers.{IsNumber, number_goes, number_equal, number_keep, number_exactly, number_apart}
+use Rattle.type_relations.proofs.Numbers.{number_universe}
 use Rattle.type_relations.proofs.Numbers.{number_no_unifier, number_error, number_error_back}
 use Rattle.type_relations.specs.Solving.{KnowsGoals, solving, solver_settings, solver_manner}
 use Rattle.type_relations.proofs.Registered.{goals_stay, goals_known, none_at_invariance}
@@ -139,6 +142,11 @@ pub constrained_goes : {Key Id Name A F : Type 0} (c d : Context Key Id Name) (q
 constrained_goes c d q (Ok x) h = constraint_goes c.store d.store q h
 constrained_goes c d q (Err f) h = subst (Goes 0 c.store) (sym h) (goes_nowhere 0 c.store)
 
+pub constrained_bound : {Key Id Name A F : Type 0} (c d : Context Key Id Name) (q : Constraint) (r : Result A F) →
+    Constrains c d q r → all_bound d.store ≡ all_bound c.store
+constrained_bound c d q (Ok x) h = constraint_bound c.store d.store q h
+constrained_bound c d q (Err f) h = ap all_bound h
+
 module _ {Key Id Name : Type 0} (j : ℕ) (gs : List (KeyedGoal Key (PredicateKey Key))) where
   -- Work that recorded something, and registered no goal.
   unfoldable pub solver_passes : {N : ℕ} {m n : Meaning Key Id Name} {was now : Store} {L K : Type 0} (v : Variance)
@@ -162,15 +170,15 @@ module _ {Key Id Name : Type 0} (j : ℕ) (gs : List (KeyedGoal Key (PredicateKe
       (env : KnowsGoals m e gs) (same : n ≡ m) (l : K) (a b : Tree) where
     -- Memory ran out.
     pub memory_refused : (tree : X → Tree) (r : Result X (RelateFault Key Id Name)) → r ≡ Err Memory →
-        Goes 0 was now → Related solver_manner (solving j gs m was L v e)
+        Goes 0 was now → all_bound now ≡ all_bound was → Related solver_manner (solving j gs m was L v e)
         (solving j gs n now K v e) v a b tree r
-    memory_refused tree r is goes = subst₂ (λ n r. Related solver_manner (solving j gs m was L v e)
+    memory_refused tree r is goes bound = subst₂ (λ n r. Related solver_manner (solving j gs m was L v e)
         (solving j gs n now K v e) v a b tree r)
         (sym same) (sym is)
         (record {
           passes = solver_passes v e (stays_same m) env (goes_within (omega arith) goes) l;
           verdict = tt;
-          exact = λ k is pair. tt;
+          exact = λ k is pair. binds_none was now a b bound;
         })
 
   -- Two regions were related by what was recorded.
@@ -220,8 +228,11 @@ module _ {Key Id Name : Type 0} (j : ℕ) (gs : List (KeyedGoal Key (PredicateKe
         answer = record {
           passes = solver_passes v e (stays_same m) env (goes_within (omega arith) goes) l;
           verdict = record { outcome = outcome; answer = may_itself solver_manner (solving j gs m now K v e) v (m.region a); known = sure };
-          exact = λ k is pair. regions_exactly was now (m.region a) (m.region b) left right goes.later
-              added.same_entries added.same_universes pair.bindings;
+          exact = λ k is pair.
+              let z = regions_exactly was now (m.region a) (m.region b) left right goes.later added.same_entries
+              added.same_universes pair.bindings in
+              (z.0, z.1, keeps_pair was now (m.region a) (m.region b)
+              (standing_keeps was now added.same_entries added.same_universes));
         }
 
   -- The same by what the variance asks for.
@@ -255,11 +266,11 @@ module _ {Key Id Name : Type 0} (j : ℕ) (gs : List (KeyedGoal Key (PredicateKe
       ((w : Interpretation) (s : Assign) → Satisfies w now s → apply s a ≡ apply s b) →
       ((w : Interpretation) (s : Assign) → Satisfies w was s → apply s a ≡ apply s b →
       Satisfies w now s) →
-      (IsFirstOrderStore was → IsFirstOrderStore now × Exact was now a b) →
+      (IsFirstOrderStore was → IsFirstOrderStore now × Exact was now a b) → KeepsUniverse was now →
       (tree t ≡ a) ⊎ (tree t ≡ b) → IsTrue (known (tree t)) →
       Stepped solver_manner F (solving j gs m was L v e) (solving j gs n now K v e) a b tree (Ok (Done t))
   unfolding solver_passes
-  one_step {X} F m n was now L K v e a b tree t same env goes l equal keep exactly answer sure =
+  one_step {X} F m n was now L K v e a b tree t same env goes l equal keep exactly universe answer sure =
       subst (λ n. Stepped solver_manner F (solving j gs m was L v e) (solving j gs n now K v e) a b tree (Ok (Done t))) (sym same)
       (answered_step F m m was now L K v e a b tree t related)
     where
@@ -281,7 +292,7 @@ module _ {Key Id Name : Type 0} (j : ℕ) (gs : List (KeyedGoal Key (PredicateKe
           answer = record { related = λ w s sat all. same_rel (answers answer w s sat); left = λ k. absurd k };
           known = sure;
         };
-        exact = λ k is pair. exactly pair.bindings;
+        exact = λ k is pair. let z = exactly pair.bindings in (z.0, z.1, keeps_pair was now a b universe);
       }
 
   -- Nothing was recorded, and an error tells two terms apart.
@@ -296,7 +307,7 @@ module _ {Key Id Name : Type 0} (j : ℕ) (gs : List (KeyedGoal Key (PredicateKe
       (sym is) (record {
         passes = solver_passes v e (stays_same m) env (goes_nowhere _ was) l;
         verdict = (apart, error, sure);
-        exact = λ k is pair. no_unifier;
+        exact = λ k is pair. (no_unifier, binds_itself was a b);
       }))
 
   -- Two roots of a kind were made one.
@@ -313,6 +324,7 @@ module _ {Key Id Name : Type 0} (j : ℕ) (gs : List (KeyedGoal Key (PredicateKe
       (sym (ap (apply s) p) ∙ one ∙ ap (apply s) q))
       (λ h. let z = roots_exactly was now k o i l sound still equates h in
       (z.0, subst₂ (Exact was now) (sym p) (sym q) z.1))
+      (roots_universe was now k o i l sound still equates)
       (inl answer) (subst (λ z. IsTrue (known z)) (sym (answer ∙ p)) refl)
 
   -- A root of a number variable was bound to the other side, a type of its kind.
@@ -327,6 +339,7 @@ module _ {Key Id Name : Type 0} (j : ℕ) (gs : List (KeyedGoal Key (PredicateKe
       (λ w s sat one. number_keep was now k i b h sound w s sat (sym (ap (apply s) p) ∙ one))
       (λ f. let z = number_exactly was now k i b h sound f in
       (z.0, subst (λ c. Exact was now c b) (sym p) z.1))
+      (number_universe was now k i b h sound)
       (inr answer) (subst (λ z. IsTrue (known z)) (sym answer) sure)
 
   pub number_step_back : {X : Type 0} (F : Tree → Type 0) (m n : Meaning Key Id Name) (was now : Store) (L K : Type 0)
@@ -344,6 +357,7 @@ module _ {Key Id Name : Type 0} (j : ℕ) (gs : List (KeyedGoal Key (PredicateKe
         exact_turned was now b a
             (subst (λ c. Exact was now c a) (sym p) z.1),
       ))
+      (number_universe was now k i a h sound)
       (inl answer) (subst (λ z. IsTrue (known z)) (sym answer) sure)
 
   -- Or the other side is a type that may not stand for it.
@@ -423,6 +437,7 @@ module _ {Key Id Name : Type 0} (j : ℕ) (gs : List (KeyedGoal Key (PredicateKe
     exact = λ k is pair. (
       read_pair was a b (tree t) (tree u) p q pair,
       reading_exact was g a b (tree t) (tree u) p q,
+      reading_leads was g a b (tree t) (tree u) p q,
     );
   }
 
@@ -437,7 +452,7 @@ module _ {Key Id Name : Type 0} (j : ℕ) (gs : List (KeyedGoal Key (PredicateKe
       (sym is) (record {
         passes = solver_passes v e grown env (goes_nowhere _ was) l;
         verdict = tt;
-        exact = λ k is pair. tt;
+        exact = λ k is pair. binds_itself was a b;
       })
 
   -- What a relation leaves as it was need not be named, nor the reference that it held.

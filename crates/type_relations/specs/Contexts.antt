@@ -1,5 +1,5 @@
 -- What contracts see of a context, and what relating two types in it asks and promises.
-use Rattle.std.specs.Prelude.{◌≡◌, ◌+◌, false, IsTrue, IfOk, Result, [], All}
+use Rattle.std.specs.Prelude.{◌≡◌, ◌+◌, ◌<◌, ◌≤◌, ℕ, false, IsTrue, IfOk, Result, [], All}
 use Rattle.std.specs.Global.{Vec}
 use Rattle.std.specs.Result.{IsOkAnd}
 use Rattle.relation_terms.specs.declared.terms.enums.Variance.{Variance}
@@ -13,12 +13,13 @@ use Rattle.relation_terms.specs.declared.terms.keys.ParamEnvKey.{ParamEnvKey}
 use Rattle.relation_terms.specs.Trees.{known}
 use Rattle.relation_terms.specs.Meaning.{Meaning}
 use Rattle.relation_tools.specs.declared.error.RelateFault.{RelateFault}
-use Rattle.relation_tools.specs.Faults.{IfUnrelated}
+use Rattle.relation_tools.specs.Faults.{IfUnrelated, IfSpent}
 use Rattle.type_relations.specs.Stores.{Store, IsTermIn, IsRegionIn, all_bound}
 use Rattle.type_relations.specs.Goals.{goals_of, KnowsGoal, Registered}
 use Rattle.type_relations.specs.FirstOrder.{IsFirstOrderStore}
 use Rattle.type_relations.specs.Outcomes.{NoEqualTerms, Exact, NoUnifier}
 use Rattle.type_relations.specs.Headline.{AnswersGoals, KeepsEqualTerms, IsFirstOrderPair}
+use Rattle.type_relations.specs.OneUniverse.{IsPairOf, all_unbound}
 use Rattle.type_relations.specs.Errors.{ErrorOf}
 use Rattle.type_relations.specs.Covered.{IsCovered}
 use Rattle.type_relations.specs.Lawful.{items_of}
@@ -112,6 +113,14 @@ module _ {Key Id Name : Type 0} (c d : Context Key Id Name) where
   ProvesApart v a b result = IfUnrelated result (λ e. v ≡ Invariant →
       IsFirstOrderPair c.store ((c.meaning).ty a) ((c.meaning).ty b) →
       NoUnifier c.store ((c.meaning).ty a) ((c.meaning).ty b))
+
+  -- Of first-order types in a first-order record, in one universe, at invariance: at most as many instantiations are made
+  -- as there were unresolved type and constant variables, and only where fewer could be made nothing is left of them.
+  abbrev pub SpendsNoMore : {A : Type 0} → Variance → TyKey Key → TyKey Key → Result A (RelateFault Key Id Name) → Type 0
+  SpendsNoMore v a b result = v ≡ Invariant → IsFirstOrderPair c.store ((c.meaning).ty a) ((c.meaning).ty b) →
+      (u : ℕ) → IsPairOf u c.store ((c.meaning).ty a) ((c.meaning).ty b) →
+      ((c.store).budget ≤ (d.store).budget + all_unbound c.store) ×
+      IfSpent result ((c.store).budget < all_unbound c.store)
 
   -- Each variable of a type or a constant that was newly bound has taken one instantiation, and nothing else has.
   abbrev pub SpendsByBinding : Type 0

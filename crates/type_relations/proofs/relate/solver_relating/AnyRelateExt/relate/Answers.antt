@@ -1,15 +1,18 @@
-use Rattle.std.proofs.Common.{◌≡◌, refl, sym, ap, ◌∙◌, subst, [], All, IsTrue}
+use Rattle.std.proofs.Common.{◌≡◌, ◌<◌, refl, sym, ap, ◌∙◌, arith, subst, [], All, IsTrue}
 use Rattle.std.proofs.lemmas.Bool.{false≢true}
 use Rattle.std.proofs.lemmas.List.Elements.{All-nil}
 use Rattle.relation_terms.specs.Trees.{apply, known}
 use Rattle.type_relations.specs.Relation.{same}
 use Rattle.type_relations.specs.Goals.{goals_of, KnowsGoal, MakesOneTree}
+use Rattle.relation_tools.specs.Faults.{IfSpent}
+use Rattle.type_relations.specs.OneUniverse.{all_unbound}
 use Rattle.type_relations.specs.Lawful.{Related, ExactResult}
 use Rattle.type_relations.specs.Solving.{solving_in, solver_manner}
 use Rattle.type_relations.proofs.Going.{later_itself, goes_nowhere, binds_its_own}
 use Rattle.type_relations.proofs.Unifying.{exact_itself}
 use Rattle.type_relations.proofs.Passing.{as_err}
 use Rattle.type_relations.proofs.Exactly.{unrelated_apart}
+use Rattle.type_relations.proofs.Spending.{spends_no_more, spent_as}
 use Rattle.type_relations.proofs.Solving.{answers_goals, keeps_equal, registers_goals, all_taken, one_ty}
 use Rattle.type_relations.proofs.relate.solver_relating.AnyRelateExt.relate.Goals as goal
 
@@ -162,3 +165,26 @@ returns-in_err-related-clause-sound g c =
     g.met.Infcx.InferCtxtLike.sound c.relate_in-related.new.infcx
     (((c.relate_in-related.ensures).passes).lawful
     (c.requires.lawful, (c.requires.env_known, All-nil (KnowsGoal s.meaning)))).0
+
+pub returns-then-eq-clause-enough : goal.returns-then-eq-clause-enough
+returns-then-eq-clause-enough g c = λ is pair u one. (omega arith, tt)
+
+pub returns-clause-enough : goal.returns-clause-enough
+returns-clause-enough g c = λ is pair u one.
+    let s = g.Infcx.InferCtxtLike.state c.args.self.now in
+    let d = g.Infcx.InferCtxtLike.state c.relate_in-related.new.infcx in
+    ((spends_no_more solver_manner c.args.variance ((s.meaning).ty c.args.lhs) ((s.meaning).ty c.args.rhs) (d.meaning).ty
+    tt is pair u one c.relate_in-related.result.0 c.relate_in-related.ensures).0, tt)
+
+pub returns-in_err-related-clause-enough : goal.returns-in_err-related-clause-enough
+returns-in_err-related-clause-enough g c = λ is pair u one.
+    let s = g.Infcx.InferCtxtLike.state c.args.self.now in
+    let d = g.Infcx.InferCtxtLike.state c.relate_in-related.new.infcx in
+    let f = c.in_err-related.field-0.0 in
+    let z = spends_no_more solver_manner c.args.variance ((s.meaning).ty c.args.lhs) ((s.meaning).ty c.args.rhs)
+    (d.meaning).ty tt is pair u one c.relate_in-related.result.0 c.relate_in-related.ensures in (
+      z.0,
+      subst (λ r. IfSpent r ((s.store).budget < all_unbound s.store))
+          (sym (as_err c.from_residual.result f c.from_residual.ensures.0 c.from_residual.ensures.1))
+          (spent_as f (subst (λ r. IfSpent r ((s.store).budget < all_unbound s.store)) c.in_err-related.was z.1)),
+    )

@@ -149,7 +149,7 @@ returns-in_ok-value-in-None-const_var g c =
     (g.met.Infcx.InferCtxtLike.covered q h.grows.lawful) c.in-Some.x.0 t ((d.meaning).const_ z) k.right_taken.1
     k.right_in k.right_known
     (const_sorted of c.args.b.now (g.met.Infcx.Interner.Interner.is_const cx c.args.b.now) k.right_known)
-    r.ambient_variance Invariant h.instantiates.0 h.instantiates.1 IsFormedConst c.args.a.now c.args.b.now z
+    r.ambient_variance Invariant (λ e. refl) h.instantiates.0 h.instantiates.1 IsFormedConst c.args.a.now c.args.b.now z
     c.args.b.now c.args.b.now (d.meaning).const_ refl c.requires.decides root_stays t_stays refl
     t_stays (inr t_stays))
 
@@ -179,7 +179,7 @@ returns-in_ok-value-in-Some-const_var-2 g c =
     (g.met.Infcx.InferCtxtLike.covered q h.grows.lawful) c.in-Some-const_var-2.y.0 t ((d.meaning).const_ z)
     k.left_taken.1 k.left_in k.left_known
     (const_sorted of c.args.a.now (g.met.Infcx.Interner.Interner.is_const cx c.args.a.now) k.left_known)
-    r.ambient_variance Invariant h.instantiates.0 h.instantiates.1 IsFormedConst c.args.a.now c.args.b.now
+    r.ambient_variance Invariant (λ e. refl) h.instantiates.0 h.instantiates.1 IsFormedConst c.args.a.now c.args.b.now
     c.args.a.now z c.args.a.now (d.meaning).const_ refl c.requires.decides t_stays root_stays t_stays
     refl (inr t_stays))
 
