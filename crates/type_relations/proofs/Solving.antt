@@ -172,13 +172,13 @@ module _ {Key Id Name : Type 0} (j : ℕ) (gs : List (KeyedGoal Key (PredicateKe
     pub memory_refused : (tree : X → Tree) (r : Result X (RelateFault Key Id Name)) → r ≡ Err Memory →
         Goes 0 was now → all_bound now ≡ all_bound was → Related solver_manner (solving j gs m was L v e)
         (solving j gs n now K v e) v a b tree r
-    memory_refused tree r is goes bound = subst₂ (λ n r. Related solver_manner (solving j gs m was L v e)
+    memory_refused tree r is goes as_many = subst₂ (λ n r. Related solver_manner (solving j gs m was L v e)
         (solving j gs n now K v e) v a b tree r)
         (sym same) (sym is)
         (record {
           passes = solver_passes v e (stays_same m) env (goes_within (omega arith) goes) l;
           verdict = tt;
-          exact = λ k is pair. binds_none was now a b bound;
+          exact = λ k is pair. binds_none was now a b as_many;
         })
 
   -- Two regions were related by what was recorded.

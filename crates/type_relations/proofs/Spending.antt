@@ -39,8 +39,13 @@ module _ {Key Id Name X : Type 0} {r q : State Key Id Name} (M : Manners) (v : V
   spends_no_more (Err Memory) h = (within (h.passes).goes (h.exact exact is pair u one), tt)
 
 -- The same fault, of whatever was to be answered.
-pub spent_as : {X Y Key Id Name P : Type 0} (f : RelateFault Key Id Name) → IfSpent {A = X} (Err f) P →
-    IfSpent {A = Y} (Err f) P
-spent_as (Unrelated e) h = tt
-spent_as Budget h = h
-spent_as Memory h = tt
+pub spent_as : {X Y Key Id Name : Type 0} (P : Type 0) (res : Result X (RelateFault Key Id Name))
+    (other : Result Y (RelateFault Key Id Name)) (f : RelateFault Key Id Name) → res ≡ Err f → other ≡ Err f →
+    IfSpent res P → IfSpent other P
+spent_as {X} {Y} {Key} {Id} {Name} P res other f e d h =
+    subst (λ z. IfSpent z P) (sym d) (go f (subst (λ z. IfSpent z P) e h))
+  where
+    go : (f : RelateFault Key Id Name) → IfSpent {A = X} (Err f) P → IfSpent {A = Y} (Err f) P
+    go (Unrelated g) h = tt
+    go Budget h = h
+    go Memory h = tt

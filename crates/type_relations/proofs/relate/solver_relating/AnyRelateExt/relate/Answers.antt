@@ -4,7 +4,6 @@ use Rattle.std.proofs.lemmas.List.Elements.{All-nil}
 use Rattle.relation_terms.specs.Trees.{apply, known}
 use Rattle.type_relations.specs.Relation.{same}
 use Rattle.type_relations.specs.Goals.{goals_of, KnowsGoal, MakesOneTree}
-use Rattle.relation_tools.specs.Faults.{IfSpent}
 use Rattle.type_relations.specs.OneUniverse.{all_unbound}
 use Rattle.type_relations.specs.Lawful.{Related, ExactResult}
 use Rattle.type_relations.specs.Solving.{solving_in, solver_manner}
@@ -184,7 +183,6 @@ returns-in_err-related-clause-enough g c = λ is pair u one.
     let z = spends_no_more solver_manner c.args.variance ((s.meaning).ty c.args.lhs) ((s.meaning).ty c.args.rhs)
     (d.meaning).ty tt is pair u one c.relate_in-related.result.0 c.relate_in-related.ensures in (
       z.0,
-      subst (λ r. IfSpent r ((s.store).budget < all_unbound s.store))
-          (sym (as_err c.from_residual.result f c.from_residual.ensures.0 c.from_residual.ensures.1))
-          (spent_as f (subst (λ r. IfSpent r ((s.store).budget < all_unbound s.store)) c.in_err-related.was z.1)),
+      spent_as ((s.store).budget < all_unbound s.store) c.relate_in-related.result.0 c.from_residual.result f
+          c.in_err-related.was (as_err c.from_residual.result f c.from_residual.ensures.0 c.from_residual.ensures.1) z.1,
     )
