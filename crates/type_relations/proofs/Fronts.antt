@@ -105,11 +105,14 @@ module _ {Key Id Name : Type 0} where
 
     -- They stand in the universe of the lists.
     leads_at : KeepsUniverseOf r.store q.store xs ys → LeadsInUniverse r.store q.store xs ys x y
-    leads_at f u p = let z = f u p in (record {
-      variables = z.0;
-      left = subst (Leaves (NamesTypesTo u)) (sym ex) (leaves_nth (NamesTypesTo u) xs i lx p.left);
-      right = subst (Leaves (NamesTypesTo u)) (sym ey) (leaves_nth (NamesTypesTo u) ys i ly p.right);
-    }, z.1)
+    leads_at f u p = let z = f u p in (
+      record {
+        variables = z.0;
+        left = subst (Leaves (NamesTypesTo u)) (sym ex) (leaves_nth (NamesTypesTo u) xs i lx p.left);
+        right = subst (Leaves (NamesTypesTo u)) (sym ey) (leaves_nth (NamesTypesTo u) ys i ly p.right);
+      },
+      z.1,
+    )
 
     pub fronted_next : {X : Type 0} {p : State Key Id Name} (tree : X → Tree) (t : X) →
         AreParts r.store xs ys → Related M q p (part_at (items_in r) h i v) x y tree (Ok t) →

@@ -268,8 +268,11 @@ module _ (st : Store) (g : IsSound st) (u : ℕ) (h : HasOneUniverse u st) where
 -- Two terms and what they are read as.
 module _ (st : Store) (g : IsSound st) (a b x y : Tree) (p : IsReadAs st a x) (q : IsReadAs st b y) where
   pub reading_leads : LeadsInUniverse st st a b x y
-  reading_leads u k = (record {
-    variables = k.variables;
-    left = read_names st g u k.variables a x p k.left;
-    right = read_names st g u k.variables b y q k.right;
-  }, omega arith)
+  reading_leads u k = (
+    record {
+      variables = k.variables;
+      left = read_names st g u k.variables a x p k.left;
+      right = read_names st g u k.variables b y q k.right;
+    },
+    omega arith,
+  )

@@ -230,9 +230,12 @@ module _ {Key Id Name : Type 0} (j : ℕ) (gs : List (KeyedGoal Key (PredicateKe
           verdict = record { outcome = outcome; answer = may_itself solver_manner (solving j gs m now K v e) v (m.region a); known = sure };
           exact = λ k is pair.
               let z = regions_exactly was now (m.region a) (m.region b) left right goes.later added.same_entries
-              added.same_universes pair.bindings in
-              (z.0, z.1, keeps_pair was now (m.region a) (m.region b)
-              (standing_keeps was now added.same_entries added.same_universes));
+              added.same_universes pair.bindings in (
+                z.0,
+                z.1,
+                keeps_pair was now (m.region a) (m.region b)
+                    (standing_keeps was now added.same_entries added.same_universes),
+              );
         }
 
   -- The same by what the variance asks for.

@@ -314,10 +314,10 @@ module _ {Key Id Name : Type 0} (j : ℕ) (gs : List (Goal Key (PredicateKey Key
             (left_again b w (tree a) seen o (sure ea) (to_root w o ea)));
         exact = λ o same pair. subst₂ (λ f g. IsFirstOrderPair now f g × ExactStep was now root t f g ×
             LeadsInUniverse was now root t f g) (sym ei) (sym el) (
-          pair_left pair.bindings pair.right,
-          exactly.0,
-          left_universe same pair.right pair.bindings,
-        );
+              pair_left pair.bindings pair.right,
+              exactly.0,
+              left_universe same pair.right pair.bindings,
+            );
       }
 
       right_by : (b w : Variance) → xform v b ≡ w → Lifts Key Id Name now w v t u → tree y ≡ t → tree z ≡ root →
@@ -332,10 +332,10 @@ module _ {Key Id Name : Type 0} (j : ℕ) (gs : List (Goal Key (PredicateKey Key
             (right_again b w (tree a) seen o (sure ea) (to_term w o ea)));
         exact = λ o same pair. subst₂ (λ f g. IsFirstOrderPair now f g × ExactStep was now t root f g ×
             LeadsInUniverse was now t root f g) (sym ei) (sym el) (
-          back (pair_left pair.bindings pair.left),
-          exactly.1,
-          right_universe same pair.left pair.bindings,
-        );
+              back (pair_left pair.bindings pair.left),
+              exactly.1,
+              right_universe same pair.left pair.bindings,
+            );
       }
         where
           back : IsFirstOrderPair now u t → IsFirstOrderPair now t u

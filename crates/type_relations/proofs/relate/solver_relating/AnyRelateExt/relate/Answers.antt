@@ -171,9 +171,11 @@ returns-then-eq-clause-enough g c = λ is pair u one. (omega arith, tt)
 pub returns-clause-enough : goal.returns-clause-enough
 returns-clause-enough g c = λ is pair u one.
     let s = g.Infcx.InferCtxtLike.state c.args.self.now in
-    let d = g.Infcx.InferCtxtLike.state c.relate_in-related.new.infcx in
-    ((spends_no_more solver_manner c.args.variance ((s.meaning).ty c.args.lhs) ((s.meaning).ty c.args.rhs) (d.meaning).ty
-    tt is pair u one c.relate_in-related.result.0 c.relate_in-related.ensures).0, tt)
+    let d = g.Infcx.InferCtxtLike.state c.relate_in-related.new.infcx in (
+      (spends_no_more solver_manner c.args.variance ((s.meaning).ty c.args.lhs) ((s.meaning).ty c.args.rhs) (d.meaning).ty
+          tt is pair u one c.relate_in-related.result.0 c.relate_in-related.ensures).0,
+      tt,
+    )
 
 pub returns-in_err-related-clause-enough : goal.returns-in_err-related-clause-enough
 returns-in_err-related-clause-enough g c = λ is pair u one.
