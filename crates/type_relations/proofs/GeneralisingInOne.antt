@@ -1,5 +1,5 @@
 -- At invariance, where all stands in one universe, generalising makes variables of regions alone.
-use Rattle.std.proofs.Common.{◌≡◌, ◌⊎◌, ℕ, suc, ◌<◌, refl, sym, ap, ◌∙◌, inl, inr, subst, Some, [], length}
+use Rattle.std.proofs.Common.{◌≡◌, ◌⊎◌, ℕ, ◌<◌, refl, sym, ap, ◌∙◌, inl, inr, subst, Some, length}
 use Rattle.relation_terms.specs.declared.terms.enums.Variance.{Variance}
 use Rattle.relation_terms.specs.declared.terms.enums.Variance.TheVariants.{Invariant}
 use Rattle.relation_terms.specs.Heads.{VarKind, type_var, const_var, region_var, region_kind, bound_kind, static_region, early_region, value_type, Head, Leaf, variable, placeholder, atom}

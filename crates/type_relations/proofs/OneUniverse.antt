@@ -1,14 +1,14 @@
 -- Types and constants in one universe, and the classes of their variables.
-use Rattle.std.proofs.Common.{◌≡◌, ◌≢◌, ◌⊎◌, ℕ, zero, suc, ◌+◌, ◌<◌, ◌≤◌, min, refl, sym, ap, ap₂, ◌∙◌, arith, inl, inr, subst, le_trans, List, [], ◌∷◌, length, get_or}
+use Rattle.std.proofs.Common.{◌≡◌, ◌⊎◌, ℕ, zero, suc, ◌+◌, ◌<◌, ◌≤◌, min, refl, sym, ap, ap₂, ◌∙◌, arith, inl, inr, subst, le_trans, List, [], ◌∷◌, length, get_or}
 use Rattle.relation_terms.specs.Heads.{VarKind, type_var, int_var, float_var, const_var, region_var, Leaf, variable, bound, placeholder, atom, unknown}
 use Rattle.relation_terms.specs.Trees.{Tree, leaf, node, bind, nil, cons, Assign, assigned, apply, Leaves, nth, count}
-use Rattle.type_relations.specs.Stores.{Store, Entry, unbound, same_as, bound_to, entry_of, entry_term, universe_of, IsMade, IsMadeLeaf, InContext, IsInScope, IsIntegerTerm, IsFloatTerm, MayStandFor, IsTermIn, IsSound, tally, counts_bound, all_bound, resolved}
+use Rattle.type_relations.specs.Stores.{Store, Entry, unbound, same_as, bound_to, entry_of, entry_term, universe_of, IsMade, IsMadeLeaf, IsInScope, IsIntegerTerm, IsFloatTerm, IsSound, tally, counts_bound, all_bound, resolved}
 use Rattle.type_relations.specs.ErasureLaws.{IsTypeOrConst}
 use Rattle.type_relations.specs.Errors.{IsReadAs, itself, by_class, by_binding}
 use Rattle.type_relations.specs.Generalising.{NumbersNameNothing}
-use Rattle.type_relations.specs.OneUniverse.{NamesTypesTo, HasOneUniverse, IsPairOf, counts_unbound, all_unbound, counts_root, all_roots, StaysOf, KeepsUniverse, KeepsUniverseOf, LeadsInUniverse, BindsNoMore, BindsFewer}
+use Rattle.type_relations.specs.OneUniverse.{NamesTypesTo, HasOneUniverse, IsPairOf, counts_unbound, all_unbound, counts_root, all_roots, KeepsUniverse, KeepsUniverseOf, LeadsInUniverse, BindsNoMore, BindsFewer}
 use Rattle.type_relations.specs.Parts.{parts_of, branches_of, const_parts_of}
-use Rattle.type_relations.specs.Steps.{IsLater, IsNamedBy, WritesEntry, Equates}
+use Rattle.type_relations.specs.Steps.{IsLater, IsNamedBy, Equates}
 use Rattle.relation_terms.specs.Heads.{unevaluated, expression, value, value_branch}
 use Rattle.type_relations.proofs.Classes.{stands_from}
 use Rattle.type_relations.proofs.Only.{which}

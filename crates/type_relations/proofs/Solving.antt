@@ -1,6 +1,6 @@
 -- Relating in a context, step by step.
-use Rattle.std.proofs.Common.{◌≡◌, ◌≢◌, ◌⊎◌, ℕ, ◌+◌, ◌*◌, ◌≤◌, refl, sym, ap, ◌∙◌, arith, inl, inr, subst, subst₂, [], All}
-use Rattle.std.proofs.Common.{IsTrue, Some, IfSome, ◌++◌, ◌<◌, max, min, length}
+use Rattle.std.proofs.Common.{◌≡◌, ◌≢◌, ◌⊎◌, ℕ, ◌+◌, ◌≤◌, refl, sym, ap, ◌∙◌, arith, inl, inr, subst, subst₂, [], All}
+use Rattle.std.proofs.Common.{IsTrue, Some, IfSome, ◌++◌, max, min, length}
 use Rattle.std.proofs.Common.{Result, Ok, Err, List, ◌∷◌, false}
 use Rattle.std.proofs.lemmas.List.Elements.{All-nil}
 use Rattle.std.proofs.lemmas.List.{append-nil}
@@ -17,43 +17,38 @@ use Rattle.relation_terms.specs.declared.terms.keys.ParamEnvKey.{ParamEnvKey}
 use Rattle.relation_terms.specs.declared.terms.keys.PredicateKey.{PredicateKey}
 use Rattle.relation_terms.specs.declared.terms.goal.Goal.{Goal as KeyedGoal}
 use Rattle.relation_terms.specs.Variances.{xform}
-use Rattle.relation_terms.specs.Heads.{type_sort, const_sort, region_sort, VarKind, type_var, region_var, const_var, int_var, float_var, atom, variable}
+use Rattle.relation_terms.specs.Heads.{type_sort, const_sort, region_sort, VarKind, type_var, region_var, atom, variable}
 use Rattle.relation_terms.specs.Heads.{bound, placeholder, unknown}
-use Rattle.relation_terms.specs.Trees.{Tree, leaf, node, bind, nil, cons, Assign, apply, Leaves, IsTerm, known, Occurs}
+use Rattle.relation_terms.specs.Trees.{Tree, leaf, node, bind, nil, cons, Assign, apply, IsTerm, known}
 use Rattle.relation_terms.specs.Erasure.{erase}
 use Rattle.relation_terms.specs.Meaning.{Meaning, Extends}
 use Rattle.relation_terms.proofs.Stays.{stays_same}
 use Rattle.relation_tools.specs.declared.error.TypeError.{TypeError}
-use Rattle.relation_tools.specs.declared.error.TypeError.TheVariants.{Sorts, CyclicTy, CyclicConst}
+use Rattle.relation_tools.specs.declared.error.TypeError.TheVariants.{Sorts}
 use Rattle.relation_tools.specs.declared.error.RelateFault.{RelateFault}
 use Rattle.relation_tools.specs.declared.error.RelateFault.TheVariants.{Memory, Budget, Unrelated}
-use Rattle.relation_tools.specs.Faults.{KnowsError, KnowsFault}
+use Rattle.relation_tools.specs.Faults.{KnowsError}
 use Rattle.type_relations.specs.declared.relate.Step.{Step}
-use Rattle.type_relations.specs.declared.relate.Step.TheVariants.{Done, Parts, Again}
+use Rattle.type_relations.specs.declared.relate.Step.TheVariants.{Done, Parts}
 use Rattle.type_relations.specs.Relation.{Interpretation, Rel, RegionRule, regions, at, same as same_rel}
-use Rattle.type_relations.specs.Stores.{Store, Constraint, entry_of, entry_term, bound_to, IsTermIn, IsRegionIn, IsSound, Satisfies}
-use Rattle.type_relations.specs.Stores.{IsMade, InContext, MayStandFor, IsIntegerTerm, IsFloatTerm, ConstraintHolds, all_bound, weight, resolved}
+use Rattle.type_relations.specs.Stores.{Store, Constraint, IsRegionIn, IsSound, Satisfies}
+use Rattle.type_relations.specs.Stores.{IsMade, InContext, MayStandFor, ConstraintHolds, all_bound, weight}
 use Rattle.type_relations.specs.Goals.{goals_of, KnowsGoal, Registered, GoalInContext, Holds, MakesOneTree}
-use Rattle.type_relations.specs.Headline.{AnswersGoals, KeepsEqualTerms, IsFirstOrderPair}
-use Rattle.type_relations.specs.Steps.{AddsConstraint, Equates, BindsTo, Instantiates, InstantiatesNumber}
-use Rattle.type_relations.specs.Outcomes.{Outcome, StepsTo, CarriesOver, Exact, ExactStep, NoEqualTerms, NoUnifier}
+use Rattle.type_relations.specs.Headline.{AnswersGoals, KeepsEqualTerms}
+use Rattle.type_relations.specs.Steps.{AddsConstraint, Equates, InstantiatesNumber}
+use Rattle.type_relations.specs.Outcomes.{Outcome, Exact, NoEqualTerms, NoUnifier}
 use Rattle.type_relations.specs.Measures.{Goes}
-use Rattle.type_relations.specs.Errors.{ErrorOf, BindingError, StandsOutside, cyclic_ty, cyclic_const, of_binding}
-use Rattle.type_relations.specs.Errors.{of_binding_back, of_entries, IsReadAs, itself, by_class, by_binding}
-use Rattle.type_relations.specs.ErasureLaws.{IsTypeOrConst}
+use Rattle.type_relations.specs.Errors.{ErrorOf}
+use Rattle.type_relations.specs.Errors.{of_entries, IsReadAs, itself, by_class, by_binding}
 use Rattle.type_relations.specs.Parts.{IsFormedConst}
-use Rattle.type_relations.specs.FirstOrder.{IsFirstOrder, IsFirstOrderStore}
+use Rattle.type_relations.specs.FirstOrder.{IsFirstOrderStore}
 use Rattle.type_relations.specs.Constraints.{constraint_at, constraint_of, asked_constraints}
 use Rattle.type_relations.specs.Covered.{IsCovered}
-use Rattle.type_relations.specs.Lawful.{Passes, Asked, Takes, Related, Stepped, Leads, LeadsAgain, items_of, State}
+use Rattle.type_relations.specs.Lawful.{Passes, Asked, Takes, Related, Stepped, items_of, State}
 use Rattle.type_relations.specs.Lawful.{Verdict, WithMeaning, RegisteredIn}
 use Rattle.type_relations.proofs.Trees.{all_leaves}
 use Rattle.type_relations.proofs.Going.{later_itself, goes_nowhere, goes_within}
 use Rattle.type_relations.proofs.ReadAs.{read_value, read_later, read_weight}
-use Rattle.type_relations.proofs.Resolved.{resolved_weight}
-use Rattle.type_relations.proofs.Standing.{later_term, term_context, term_of_made}
-use Rattle.type_relations.proofs.Opening.{instantiating_steps}
-use Rattle.type_relations.proofs.Exactness.{instantiating_is_exact_step}
 use Rattle.type_relations.proofs.Growing.{constraint_holds, constraint_keeps}
 use Rattle.type_relations.proofs.Constraints.{asked_relates, asked_met}
 use Rattle.type_relations.proofs.Passing.{passes_nowhere}
