@@ -1,4 +1,4 @@
-use Rattle.std.proofs.Common.{sym, ap, subst}
+use Rattle.std.proofs.Common.{sym, ap, ◌∙◌, subst}
 use Rattle.relation_terms.specs.Heads.{type_var}
 use Rattle.relation_tools.specs.declared.error.RelateFault.TheVariants.{Memory}
 use Rattle.type_relations.specs.Parts.{IsFormed}
