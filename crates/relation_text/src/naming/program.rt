@@ -3,7 +3,7 @@ ghost use Rattle.std.specs.Prelude.{◌≡◌};
 
 use crate::reading::{ItemSort, KeyParams, SideParams};
 use relation_terms::terms::{FloatTy, FnHeader, IntTy, Mutability, UintTy, Variance};
-use std::alloc::AllocError;
+use std::alloc::{AllocError, Global};
 
 /// What a term stands for.
 #[derive(Clone, Copy, PartialEq, Eq, Debug)]
@@ -148,7 +148,7 @@ pub struct Put<T> {
 }
 
 /// What is asked about terms, by their numbers.
-#[derive(Clone, Copy, PartialEq, Eq)]
+#[derive(Clone, Copy)]
 pub enum QuestionKind {
     /// Whether a type is related with another at a variance.
     Relate {
@@ -212,7 +212,7 @@ pub enum QuestionKind {
 }
 
 /// A question, and how it is asked.
-#[derive(Clone, Copy, PartialEq, Eq)]
+#[derive(Clone, Copy)]
 pub struct Question {
     pub kind: QuestionKind,
     /// Whether it is asked in the context that the question before left.
@@ -250,4 +250,20 @@ pub struct Program<'a> {
     /// The variables that contexts have, in the order of their universes.
     pub variables: Vec<Variables>,
     pub questions: Vec<Question>,
+}
+
+impl Program<'_> {
+    // The program of an empty text.
+    pub(super) fn new(alloc: Global) -> Self {
+        Program {
+            items: Vec::new(alloc),
+            names: Vec::new(alloc),
+            terms: Vec::new(alloc),
+            parts: Vec::new(alloc),
+            puts: Vec::new(alloc),
+            skips: Vec::new(alloc),
+            variables: Vec::new(alloc),
+            questions: Vec::new(alloc),
+        }
+    }
 }
