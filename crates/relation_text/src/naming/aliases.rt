@@ -163,12 +163,7 @@ impl<'a> Namer<'a> {
     }
 
     // What a trait declares, over the type that implements it and the arguments behind.
-    fn implemented(
-        &mut self,
-        node: &Node,
-        item: usize,
-        args: &[usize],
-    ) -> Result<Made, NameError> {
+    fn implemented(&mut self, node: &Node, item: usize, args: &[usize]) -> Result<Made, NameError> {
         let sort = match self.program.items.get(item) {
             Some(item) => item.sort,
             None => return Err(error_at(node, Wrong::NotRead)),

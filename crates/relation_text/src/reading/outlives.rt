@@ -31,11 +31,11 @@ pub(super) fn read_assumptions(reader: &mut Reader, start: usize) -> Result<usiz
 {
     let mut parts = Vec::new(reader.alloc);
     let first = read_outlives(reader)?;
-    parts.push(first)?;
+    reader.gather(&mut parts, first)?;
     let mut more = reader.accept(Sign::Comma);
     'list: while more {
         let next = read_outlives(reader)?;
-        parts.push(next)?;
+        reader.gather(&mut parts, next)?;
         more = reader.accept(Sign::Comma);
     }
     reader.make(Form::Assumptions, start, &parts)

@@ -184,7 +184,7 @@ fn read_own(
         return Ok(sort);
     }
     let own = reader.take(Expected::Name)?;
-    parts.push(own)?;
+    reader.gather(parts, own)?;
     Ok(declared)
 }
 
@@ -197,17 +197,14 @@ fn read_item(reader: &mut Reader, start: usize, sort: ItemSort) -> Result<usize,
 {
     let mut parts = Vec::new(reader.alloc);
     let name = reader.take(Expected::Name)?;
-    parts.push(name)?;
+    reader.gather(&mut parts, name)?;
     let sort = read_own(reader, &mut parts, sort)?;
     if reader.accept(Sign::Less) {
         'list: while !reader.accept(Sign::Greater) {
             let declared = read_declared(reader)?;
-            parts.push(declared)?;
-            if reader.accept(Sign::Greater) {
+            reader.gather(&mut parts, declared)?;
+            if reader.ends(Sign::Greater)? {
                 break;
-            }
-            if !reader.accept(Sign::Comma) {
-                return Err(reader.unexpected(Expected::CommaOr(Sign::Greater)));
             }
         }
     }
@@ -248,10 +245,10 @@ fn read_parameters(reader: &mut Reader, start: usize) -> Result<usize, ReadError
 {
     let mut parts = Vec::new(reader.alloc);
     let first = read_parameter(reader)?;
-    parts.push(first)?;
+    reader.gather(&mut parts, first)?;
     'list: while reader.accept(Sign::Comma) {
         let parameter = read_parameter(reader)?;
-        parts.push(parameter)?;
+        reader.gather(&mut parts, parameter)?;
     }
     reader.make(Form::Parameters, start, &parts)
 }
@@ -265,14 +262,14 @@ fn read_variables(reader: &mut Reader, start: usize) -> Result<usize, ReadError>
 {
     let mut parts = Vec::new(reader.alloc);
     let first = reader.take(Expected::Variable)?;
-    parts.push(first)?;
+    reader.gather(&mut parts, first)?;
     'list: while reader.accept(Sign::Comma) {
         let variable = reader.take(Expected::Variable)?;
-        parts.push(variable)?;
+        reader.gather(&mut parts, variable)?;
     }
     if reader.accept(Sign::In) {
         let universe = reader.take(Expected::Number)?;
-        parts.push(universe)?;
+        reader.gather(&mut parts, universe)?;
     }
     reader.make(Form::Variables, start, &parts)
 }
@@ -329,7 +326,7 @@ fn read_statements(reader: &mut Reader) -> Result<usize, ReadError>
     let mut parts = Vec::new(reader.alloc);
     'statements: while reader.next().is_some() {
         let statement = read_statement(reader)?;
-        parts.push(statement)?;
+        reader.gather(&mut parts, statement)?;
         reader.expect(Sign::Semicolon)?;
     }
     reader.make(Form::File, 0, &parts)

@@ -31,12 +31,9 @@ pub(super) fn read_list(
 {
     'list: while !reader.accept(close) {
         let term = read_term(reader, levels)?;
-        parts.push(term)?;
-        if reader.accept(close) {
+        reader.gather(parts, term)?;
+        if reader.ends(close)? {
             return Ok(false);
-        }
-        if !reader.accept(Sign::Comma) {
-            return Err(reader.unexpected(Expected::CommaOr(close)));
         }
     }
     Ok(true)
@@ -55,7 +52,7 @@ fn read_applied(reader: &mut Reader, leaf: Leaf, levels: usize) -> Result<usize,
         return Ok(number);
     }
     let mut parts = Vec::new(reader.alloc);
-    parts.push(number)?;
+    reader.gather(&mut parts, number)?;
     let _ = read_list(reader, &mut parts, Sign::Greater, levels)?;
     reader.make(Form::Applied, start, &parts)
 }
@@ -78,12 +75,9 @@ fn read_inputs(
             return Ok(true);
         }
         let input = read_term(reader, levels)?;
-        parts.push(input)?;
-        if reader.accept(Sign::RightParen) {
+        reader.gather(parts, input)?;
+        if reader.ends(Sign::RightParen)? {
             return Ok(false);
-        }
-        if !reader.accept(Sign::Comma) {
-            return Err(reader.unexpected(Expected::CommaOr(Sign::RightParen)));
         }
     }
     Ok(false)
@@ -110,7 +104,7 @@ fn read_signature(
         let start = reader.place();
         reader.make(Form::Tuple, start, &[])?
     };
-    parts.push(output)?;
+    reader.gather(parts, output)?;
     Ok(Form::FnPtr(FnHeader {
         c_variadic,
         safety,
@@ -131,13 +125,13 @@ fn read_brackets(
     ensures wrong { IfErr result (LiesIn reader.old.tree.text_len) }
 {
     let element = read_term(reader, levels)?;
-    parts.push(element)?;
+    reader.gather(parts, element)?;
     if !reader.accept(Sign::Semicolon) {
         reader.expect(Sign::RightBracket)?;
         return Ok(Form::Slice);
     }
     let count = read_term(reader, levels)?;
-    parts.push(count)?;
+    reader.gather(parts, count)?;
     reader.expect(Sign::RightBracket)?;
     Ok(Form::Array)
 }
@@ -169,16 +163,13 @@ fn read_named(reader: &mut Reader, levels: usize) -> Result<usize, ReadError>
     let mut parts = Vec::new(reader.alloc);
     let start = reader.place();
     let name = reader.take(Expected::Name)?;
-    parts.push(name)?;
+    reader.gather(&mut parts, name)?;
     if reader.accept(Sign::Less) {
         'list: while !reader.accept(Sign::Greater) {
             let argument = read_argument(reader, levels)?;
-            parts.push(argument)?;
-            if reader.accept(Sign::Greater) {
+            reader.gather(&mut parts, argument)?;
+            if reader.ends(Sign::Greater)? {
                 break;
-            }
-            if !reader.accept(Sign::Comma) {
-                return Err(reader.unexpected(Expected::CommaOr(Sign::Greater)));
             }
         }
     }
@@ -218,11 +209,11 @@ fn read_bounds(
 {
     'list: while !is_region_next(reader) {
         let bound = read_bound(reader, levels)?;
-        parts.push(bound)?;
+        reader.gather(parts, bound)?;
         reader.expect(Sign::Plus)?;
     }
     let region = reader.take(Expected::Region)?;
-    parts.push(region)?;
+    reader.gather(parts, region)?;
     Ok(Form::Object)
 }
 
@@ -239,14 +230,14 @@ fn read_associated(
     ensures wrong { IfErr result (LiesIn reader.old.tree.text_len) }
 {
     let ty = read_term(reader, levels)?;
-    parts.push(ty)?;
+    reader.gather(parts, ty)?;
     reader.expect(Sign::As)?;
     let of = read_named(reader, levels)?;
-    parts.push(of)?;
+    reader.gather(parts, of)?;
     reader.expect(Sign::Greater)?;
     reader.expect(Sign::PathSep)?;
     let own = read_named(reader, levels)?;
-    parts.push(own)?;
+    reader.gather(parts, own)?;
     Ok(Form::Associated)
 }
 
@@ -267,7 +258,7 @@ fn read_rest(
         Rest::Nothing(form) => Ok(Some(form)),
         Rest::Pointee(form) => {
             let pointee = read_term(reader, levels)?;
-            parts.push(pointee)?;
+            reader.gather(parts, pointee)?;
             Ok(Some(form))
         }
         Rest::List(form, close) => {
@@ -333,10 +324,10 @@ fn read_pattern(reader: &mut Reader, levels: usize) -> Result<usize, ReadError>
     let start = reader.place();
     let listed = reader.accept(Sign::Bar);
     let first = read_alternative(reader, levels)?;
-    parts.push(first)?;
+    reader.gather(&mut parts, first)?;
     'list: while reader.accept(Sign::Bar) {
         let next = read_alternative(reader, levels)?;
-        parts.push(next)?;
+        reader.gather(&mut parts, next)?;
     }
     if !listed && parts.len() == 1 {
         return Ok(parts[0]);

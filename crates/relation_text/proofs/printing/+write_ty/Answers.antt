@@ -2,10 +2,10 @@ use Rattle.std.proofs.Common.{rules, refl}
 use Rattle.relation_terms.specs.Trees.{list_tree}
 use Rattle.relation_terms.specs.Meaning.{arg_tree, object_predicate_tree}
 use Rattle.relation_text.proofs.Parts.{part_of, range_of}
-use Rattle.relation_text.proofs.printing.terms.+write_ty.Goals as goal
+use Rattle.relation_text.proofs.printing.+write_ty.Goals as goal
 
-pub write_args-write_arg-requires : goal.write_args-write_arg-requires
-write_args-write_arg-requires g t c κs within =
+pub items::write_args-write_arg-requires : goal.items::write_args-write_arg-requires
+items::write_args-write_arg-requires g t c κs within =
     let m = g.I.Interner.meaning c.args.cx.now in
     let d = c.decreases in
     let part =
@@ -15,8 +15,8 @@ write_args-write_arg-requires g t c κs within =
     let small = part.1 in
     search rules
 
-pub write_trait-write_assigned-requires : goal.write_trait-write_assigned-requires
-write_trait-write_assigned-requires g t c κs within =
+pub objects::write_trait-write_assigned-requires : goal.objects::write_trait-write_assigned-requires
+objects::write_trait-write_assigned-requires g t c κs within =
     let m = g.I.Interner.meaning c.args.cx.now in
     let d = c.decreases in
     let part =
@@ -27,8 +27,8 @@ write_trait-write_assigned-requires g t c κs within =
     let small = part.1 in
     search rules
 
-pub write_object_predicates-write_object_bound-requires : goal.write_object_predicates-write_object_bound-requires
-write_object_predicates-write_object_bound-requires g t c κs within =
+pub objects::write_object_predicates-write_object_bound-requires : goal.objects::write_object_predicates-write_object_bound-requires
+objects::write_object_predicates-write_object_bound-requires g t c κs within =
     let m = g.I.Interner.meaning c.args.cx.now in
     let d = c.decreases in
     let part =
