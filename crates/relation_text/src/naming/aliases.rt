@@ -5,7 +5,6 @@ use crate::naming::namer::{Made, Meaning, Namer};
 use crate::naming::program::{Parts, Sort, Term};
 use crate::naming::terms::Wanted;
 use crate::reading::{Form, ItemSort, Node, NodeKind};
-use std::alloc::{AllocError, Global};
 
 // Whether an item is a trait.
 pub(super) fn is_trait(sort: ItemSort) -> bool {
@@ -34,14 +33,6 @@ pub(super) struct Given {
 pub(super) struct Own {
     pub item: usize,
     pub args: Vec<usize>,
-}
-
-// Numbers, and further ones behind them.
-fn joined(alloc: Global, numbers: &[usize], further: &[usize]) -> Result<Vec<usize>, AllocError> {
-    let mut all = Vec::new(alloc);
-    all.extend_from_slice(numbers)?;
-    all.extend_from_slice(further)?;
-    Ok(all)
 }
 
 impl<'a> Namer<'a> {
@@ -85,39 +76,35 @@ impl<'a> Namer<'a> {
         }
     }
 
-    // One more argument, or what is assigned.
-    fn give(&self, given: &mut Given, number: usize) -> Result<(), NameError> {
-        let part = self.node(&given.node, number)?;
-        if matches!(part.kind, NodeKind::Form(Form::Assigned)) {
-            given.assigned.push(number)?;
-        } else {
-            given.args.push(number)?;
-        }
-        Ok(())
-    }
-
     // The name and the arguments that a node gives, and what it assigns.
     pub fn given(&self, whole: &Node, number: usize) -> Result<Given, NameError> {
         let node = self.node(whole, number)?;
         let Some((name, rest)) = self.parts(&node)?.split_first() else {
             return Err(error_at(&node, Wrong::NotRead));
         };
-        let mut given = Given {
+        let mut args = Vec::new(self.alloc);
+        let mut assigned = Vec::new(self.alloc);
+        for number in rest {
+            let part = self.node(&node, *number)?;
+            if matches!(part.kind, NodeKind::Form(Form::Assigned)) {
+                assigned.push(*number)?;
+            } else {
+                args.push(*number)?;
+            }
+        }
+        Ok(Given {
             node,
             name: *name,
-            args: Vec::new(self.alloc),
-            assigned: Vec::new(self.alloc),
-        };
-        for number in rest {
-            self.give(&mut given, *number)?;
-        }
-        Ok(given)
+            args,
+            assigned,
+        })
     }
 
-    // Refuses what is assigned where nothing is.
-    fn assigns_nothing(&self, whole: &Node, given: &Given) -> Result<(), NameError> {
+    // The same of a node that assigns nothing.
+    fn given_alone(&self, whole: &Node, number: usize) -> Result<Given, NameError> {
+        let given = self.given(whole, number)?;
         match given.assigned.first() {
-            None => Ok(()),
+            None => Ok(given),
             Some(assigned) => {
                 let node = self.node(whole, *assigned)?;
                 Err(error_at(&node, Wrong::Assigned))
@@ -125,27 +112,15 @@ impl<'a> Namer<'a> {
         }
     }
 
-    // The same of a node that assigns nothing.
-    fn given_alone(&self, whole: &Node, number: usize) -> Result<Given, NameError> {
-        let given = self.given(whole, number)?;
-        self.assigns_nothing(whole, &given)?;
-        Ok(given)
-    }
-
-    // The trait that is named, which has as many parameters as it is given arguments.
-    fn trait_given(&self, given: &Given) -> Result<usize, NameError> {
-        let item = self.trait_of(&given.node, given.name)?;
-        let _ = self.item_sort(&given.node, &given.node, item, given.args.len())?;
-        Ok(item)
-    }
-
     // What the trait of one node declares that another names, over the arguments of both.
     pub fn own_of(&self, whole: &Node, of: usize, own: usize) -> Result<Own, NameError> {
-        let of = self.given_alone(whole, of)?;
-        let item = self.trait_given(&of)?;
-        let own = self.given_alone(whole, own)?;
-        let item = self.associated_of(&own.node, item, own.name, own.args.len())?;
-        let args = joined(self.alloc, &of.args, &own.args)?;
+        let given = self.given_alone(whole, of)?;
+        let item = self.trait_of(&given.node, given.name)?;
+        let _ = self.item_sort(&given.node, &given.node, item, given.args.len())?;
+        let last = self.given_alone(whole, own)?;
+        let item = self.associated_of(&last.node, item, last.name, last.args.len())?;
+        let mut args = given.args;
+        args.extend_from_slice(&last.args)?;
         Ok(Own { item, args })
     }
 
@@ -162,16 +137,6 @@ impl<'a> Namer<'a> {
         self.add(node, term, sort_of(sort), below)
     }
 
-    // What a trait declares, over the type that implements it and the arguments behind.
-    fn implemented(&mut self, node: &Node, item: usize, args: &[usize]) -> Result<Made, NameError> {
-        let sort = match self.program.items.get(item) {
-            Some(item) => item.sort,
-            None => return Err(error_at(node, Wrong::NotRead)),
-        };
-        let args = self.list(node, args, Wanted::Implemented(item))?;
-        self.item_term(node, sort, item, args.parts, args.levels)
-    }
-
     // What a trait declares, of a type that implements it.
     pub fn associated(
         &mut self,
@@ -181,7 +146,14 @@ impl<'a> Namer<'a> {
         own: usize,
     ) -> Result<Made, NameError> {
         let own = self.own_of(node, of, own)?;
-        let args = joined(self.alloc, &[ty], &own.args)?;
-        self.implemented(node, own.item, &args)
+        let mut args = Vec::new(self.alloc);
+        args.push(ty)?;
+        args.extend_from_slice(&own.args)?;
+        let sort = match self.program.items.get(own.item) {
+            Some(item) => item.sort,
+            None => return Err(error_at(node, Wrong::NotRead)),
+        };
+        let args = self.list(node, &args, Wanted::Implemented(own.item))?;
+        self.item_term(node, sort, own.item, args.parts, args.levels)
     }
 }

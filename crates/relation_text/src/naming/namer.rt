@@ -50,10 +50,9 @@ pub(super) struct Namer<'a> {
 }
 
 impl<'a> Namer<'a> {
-    // Nothing is made, and no name means anything.
-    fn empty(alloc: Global, text: &'a str, tree: &'a Tree) -> Result<Namer<'a>, AllocError> {
-        let scopes = scopes_of(alloc, tree)?;
-        Ok(Namer {
+    // Nothing is made, and only the names of plain types and the longest region mean something.
+    pub fn new(alloc: Global, text: &'a str, tree: &'a Tree) -> Result<Namer<'a>, NameError> {
+        let mut namer = Namer {
             alloc,
             text,
             tree,
@@ -61,27 +60,25 @@ impl<'a> Namer<'a> {
             associated: HashMap::new(alloc),
             names: HashMap::new(alloc),
             made: Vec::new(alloc),
-            scopes,
+            scopes: scopes_of(alloc, tree)?,
             bound: HashMap::new(alloc),
             next_index: Some(0),
             budget: None,
-            program: Program::new(alloc),
-        })
-    }
-
-    // From here on the names of plain types and of the longest region mean these.
-    fn declare_plain(&mut self) -> Result<(), NameError> {
+            program: Program {
+                items: Vec::new(alloc),
+                names: Vec::new(alloc),
+                terms: Vec::new(alloc),
+                parts: Vec::new(alloc),
+                puts: Vec::new(alloc),
+                skips: Vec::new(alloc),
+                variables: Vec::new(alloc),
+                questions: Vec::new(alloc),
+            },
+        };
         for (name, sort, term) in &PLAIN {
-            let made = self.push(*term, *sort, 1)?;
-            let _ = self.meanings.insert(*name, Meaning::Term(made))?;
+            let made = namer.push(*term, *sort, 1)?;
+            let _ = namer.meanings.insert(*name, Meaning::Term(made))?;
         }
-        Ok(())
-    }
-
-    // Nothing is made, and only the names of plain types and the longest region mean something.
-    pub fn new(alloc: Global, text: &'a str, tree: &'a Tree) -> Result<Namer<'a>, NameError> {
-        let mut namer = Namer::empty(alloc, text, tree)?;
-        namer.declare_plain()?;
         Ok(namer)
     }
 

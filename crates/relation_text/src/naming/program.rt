@@ -3,7 +3,7 @@ ghost use Rattle.std.specs.Prelude.{◌≡◌};
 
 use crate::reading::{ItemSort, KeyParams, SideParams};
 use relation_terms::terms::{FloatTy, FnHeader, IntTy, Mutability, UintTy, Variance};
-use std::alloc::{AllocError, Global};
+use std::alloc::AllocError;
 
 /// What a term stands for.
 #[derive(Clone, Copy, PartialEq, Eq, Debug)]
@@ -250,20 +250,4 @@ pub struct Program<'a> {
     /// The variables that contexts have, in the order of their universes.
     pub variables: Vec<Variables>,
     pub questions: Vec<Question>,
-}
-
-impl Program<'_> {
-    // The program of an empty text.
-    pub(super) fn new(alloc: Global) -> Self {
-        Program {
-            items: Vec::new(alloc),
-            names: Vec::new(alloc),
-            terms: Vec::new(alloc),
-            parts: Vec::new(alloc),
-            puts: Vec::new(alloc),
-            skips: Vec::new(alloc),
-            variables: Vec::new(alloc),
-            questions: Vec::new(alloc),
-        }
-    }
 }

@@ -54,45 +54,26 @@ impl<'a> Namer<'a> {
         ))
     }
 
-    // One more parameter that an item declares itself, beside those of these texts.
-    fn declare_own(
-        &self,
-        whole: &Node,
-        sort: ItemSort,
-        number: usize,
-        texts: &mut HashSet<&'a str>,
-        declared: &mut Vec<Declared<'a>>,
-    ) -> Result<(), NameError> {
-        let (leaf, parameter) = self.declared(whole, number)?;
-        if sort == ItemSort::Foreign || sort == ItemSort::AutoTrait {
-            return Err(error_at(&leaf, Wrong::Parameter));
-        }
-        if !texts.insert(parameter.text)? {
-            return Err(error_at(&leaf, Wrong::Again));
-        }
-        Ok(declared.push(parameter)?)
-    }
-
-    // Adds the parameters that an item declares itself.
-    fn declare_all(
+    // The parameters that an item declares itself.
+    fn declared_all(
         &self,
         whole: &Node,
         sort: ItemSort,
         nodes: &[usize],
-        declared: &mut Vec<Declared<'a>>,
-    ) -> Result<(), NameError> {
+    ) -> Result<Vec<Declared<'a>>, NameError> {
+        let mut declared = Vec::new(self.alloc);
         let mut texts = HashSet::new(self.alloc);
         for number in nodes {
-            self.declare_own(whole, sort, *number, &mut texts, declared)?;
+            let (leaf, parameter) = self.declared(whole, *number)?;
+            if sort == ItemSort::Foreign || sort == ItemSort::AutoTrait {
+                return Err(error_at(&leaf, Wrong::Parameter));
+            }
+            if !texts.insert(parameter.text)? {
+                return Err(error_at(&leaf, Wrong::Again));
+            }
+            declared.push(parameter)?;
         }
-        Ok(())
-    }
-
-    // From here on a name means the next item. Answers its text.
-    fn declare_item_as(&mut self, name: &Node) -> Result<&'a str, NameError> {
-        let number = self.program.items.len();
-        self.declare(name, Meaning::Item(number))?;
-        self.text_of(name)
+        Ok(declared)
     }
 
     // An item that no trait declares.
@@ -106,42 +87,16 @@ impl<'a> Namer<'a> {
             return Err(error_at(node, Wrong::NotRead));
         };
         let name = self.node(node, *first)?;
-        let mut declared = Vec::new(self.alloc);
-        self.declare_all(node, sort, rest, &mut declared)?;
-        let text = self.declare_item_as(&name)?;
+        let declared = self.declared_all(node, sort, rest)?;
+        let number = self.program.items.len();
+        self.declare(&name, Meaning::Item(number))?;
+        let text = self.text_of(&name)?;
         self.program.items.push(Item {
             sort,
             text,
             of: None,
             declared,
         })?;
-        Ok(())
-    }
-
-    // Adds the parameters of a trait.
-    fn declare_inherited(
-        &self,
-        of: usize,
-        declared: &mut Vec<Declared<'a>>,
-    ) -> Result<(), NameError> {
-        if let Some(item) = self.program.items.get(of) {
-            declared.extend_from_slice(&item.declared)?;
-        }
-        Ok(())
-    }
-
-    // From here on a name means the next item where the trait's items are named.
-    fn declare_associated_as(
-        &mut self,
-        name: &Node,
-        of: usize,
-        text: &'a str,
-    ) -> Result<(), NameError> {
-        let number = self.program.items.len();
-        if self.associated.contains_key(&(of, text)) {
-            return Err(error_at(name, Wrong::Again));
-        }
-        let _ = self.associated.insert((of, text), number)?;
         Ok(())
     }
 
@@ -159,9 +114,16 @@ impl<'a> Namer<'a> {
         let name = self.node(node, *own)?;
         let text = self.text_of(&name)?;
         let mut declared = Vec::new(self.alloc);
-        self.declare_inherited(of, &mut declared)?;
-        self.declare_all(node, sort, rest, &mut declared)?;
-        self.declare_associated_as(&name, of, text)?;
+        if let Some(item) = self.program.items.get(of) {
+            declared.extend_from_slice(&item.declared)?;
+        }
+        let own = self.declared_all(node, sort, rest)?;
+        declared.extend_from_slice(&own)?;
+        let number = self.program.items.len();
+        if self.associated.contains_key(&(of, text)) {
+            return Err(error_at(&name, Wrong::Again));
+        }
+        let _ = self.associated.insert((of, text), number)?;
         self.program.items.push(Item {
             sort,
             text,
@@ -298,15 +260,6 @@ impl<'a> Namer<'a> {
         self.made.push(made)?;
         Ok(())
     }
-
-    // What all nodes are made to.
-    fn go_over(&mut self) -> Result<(), NameError> {
-        let tree = self.tree;
-        for node in &tree.nodes {
-            self.go_on(node)?;
-        }
-        Ok(())
-    }
 }
 
 // How many variables there are, where one has that number.
@@ -323,6 +276,8 @@ fn count_to(node: &Node, number: usize) -> Result<usize, NameError> {
 /// `Memory` where a growth was refused, and else what is wrong with the text, and where.
 pub fn look_up<'a>(alloc: Global, text: &'a str, tree: &'a Tree) -> Result<Program<'a>, NameError> {
     let mut namer = Namer::new(alloc, text, tree)?;
-    namer.go_over()?;
+    for node in &tree.nodes {
+        namer.go_on(node)?;
+    }
     Ok(namer.program)
 }

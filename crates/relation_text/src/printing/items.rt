@@ -1,12 +1,13 @@
 //! How items print over their arguments.
-ghost use Rattle.std.specs.Prelude.{◌≡◌, IsTrue};
+ghost use Rattle.std.specs.Prelude.{◌≡◌, IfSome, IsTrue};
 ghost use Rattle.relation_terms.specs.Trees.{known};
 ghost use Rattle.relation_terms.specs.Meaning.{alias_id};
+ghost use Rattle.relation_text.specs.Printed.{IsOver};
 
 use crate::printing::binders::Entered;
 use crate::printing::names::{TextsOf, TraitText, item_text, trait_text};
 use crate::printing::terms::write_arg;
-use relation_terms::terms::{AliasTyKind, GenericArgs, Interner};
+use relation_terms::terms::{AliasTyKind, ArgsKey, GenericArgs, Interner, TyKind};
 use std::fmt::{self, Write};
 
 // The id of an alias.
@@ -18,6 +19,22 @@ pub(super) fn alias_id<D: Copy>(kind: &AliasTyKind<D>) -> D
         AliasTyKind::Inherent { def_id } => def_id.0,
         AliasTyKind::Opaque { def_id } => def_id.0,
         AliasTyKind::Free { def_id } => def_id.0,
+    }
+}
+
+// The item that a type is, and its arguments, if it is one over arguments.
+pub(super) fn over_args<X: Copy, D: Copy, N>(kind: &TyKind<X, D, N>) -> Option<(D, ArgsKey<X>)>
+    ensures { IfSome result (λ p. IsOver kind.now p.1) }
+{
+    match kind {
+        TyKind::Adt(def, args) => Some((def.0, *args)),
+        TyKind::FnDef(def, args) => Some((def.0, *args)),
+        TyKind::Closure(def, args) => Some((def.0, *args)),
+        TyKind::CoroutineClosure(def, args) => Some((def.0, *args)),
+        TyKind::Coroutine(def, args) => Some((def.0, *args)),
+        TyKind::CoroutineWitness(def, args) => Some((def.0, *args)),
+        TyKind::Alias(alias) => Some((alias_id(&alias.kind), alias.args)),
+        _ => None,
     }
 }
 

@@ -2,9 +2,13 @@
 ghost use Rattle.std.specs.Prelude.{IsTrue};
 ghost use Rattle.relation_terms.specs.Trees.{known};
 
-use crate::printing::binders::{Entered, write_bound_region};
-use crate::printing::names::{Parameter, TextsOf, name_text};
-use relation_terms::terms::{InferConst, InferTy, Interner, Region, RegionKind, UniverseIndex};
+use crate::printing::binders::{Entered, write_bound, write_bound_region};
+use crate::printing::names::{
+    Parameter, Texts, TextsOf, float_name, int_name, item_text, name_text, uint_name,
+};
+use relation_terms::terms::{
+    InferConst, InferTy, Interner, Region, RegionKind, TyKind, UniverseIndex,
+};
 use std::fmt::{self, Write};
 
 // Writes a region.
@@ -67,5 +71,31 @@ pub(super) fn write_const_variable<W: Write>(variable: InferConst, out: &mut W) 
             write!(out, "?c{number}")
         }
         InferConst::Fresh(number) => write!(out, "fresh c{number}"),
+    }
+}
+
+// Writes a type that has no parts.
+pub(super) fn write_leaf<X, D: PartialEq, N: PartialEq, W: Write>(
+    texts: &Texts<D, N>,
+    around: &[Entered],
+    kind: &TyKind<X, D, N>,
+    out: &mut W,
+) -> fmt::Result {
+    match kind {
+        TyKind::Bool => out.write_str("bool"),
+        TyKind::Char => out.write_str("char"),
+        TyKind::Str => out.write_str("str"),
+        TyKind::Never => out.write_str("!"),
+        TyKind::Int(width) => out.write_str(int_name(*width)),
+        TyKind::Uint(width) => out.write_str(uint_name(*width)),
+        TyKind::Float(width) => out.write_str(float_name(*width)),
+        TyKind::Foreign(def) => out.write_str(item_text(texts.items, &def.0)),
+        TyKind::Param(named) => out.write_str(name_text(texts.names, &named.name, "_")),
+        TyKind::Placeholder(of) => write_placeholder(texts.names, of.universe, &of.bound.name, out),
+        TyKind::Bound(depth, of) => write_bound("^", around, *depth, of.var, out),
+        TyKind::Infer(variable) => write_variable(*variable, out),
+        TyKind::Error(_) => out.write_str("{error}"),
+        // Whoever takes such a type apart writes it.
+        _ => Ok(()),
     }
 }

@@ -3,13 +3,11 @@ ghost use Rattle.std.specs.Prelude.{IsTrue};
 ghost use Rattle.relation_terms.specs.Trees.{known};
 ghost use Rattle.relation_terms.specs.Meaning.{arg_tree, term_tree};
 
-use crate::printing::binders::{Entered, write_bound};
+use crate::printing::binders::Entered;
 use crate::printing::constants::write_const;
-use crate::printing::items::{alias_id, write_item};
-use crate::printing::leaves::{write_placeholder, write_region, write_variable};
-use crate::printing::names::{
-    TextsOf, float_name, int_name, item_text, mutability_text, name_text, pointer_name, uint_name,
-};
+use crate::printing::items::{over_args, write_item};
+use crate::printing::leaves::{write_leaf, write_region};
+use crate::printing::names::{TextsOf, mutability_text, pointer_name};
 use crate::printing::objects::write_object;
 use crate::printing::patterns::write_pattern_type;
 use crate::printing::signatures::{write_fn_ptr, write_unsafe_binder};
@@ -31,20 +29,11 @@ pub(super) fn write_ty<I: Interner, W: Write>(
 ) -> fmt::Result
     requires { IsTrue (known ((I.meaning cx.now).ty ty.now)) }
 {
-    match cx.ty_kind(ty) {
-        TyKind::Bool => out.write_str("bool"),
-        TyKind::Char => out.write_str("char"),
-        TyKind::Str => out.write_str("str"),
-        TyKind::Never => out.write_str("!"),
-        TyKind::Int(width) => out.write_str(int_name(width)),
-        TyKind::Uint(width) => out.write_str(uint_name(width)),
-        TyKind::Float(width) => out.write_str(float_name(width)),
-        TyKind::Foreign(def) => out.write_str(item_text(texts.items, &def.0)),
-        TyKind::Param(named) => out.write_str(name_text(texts.names, &named.name, "_")),
-        TyKind::Placeholder(of) => write_placeholder(texts.names, of.universe, &of.bound.name, out),
-        TyKind::Bound(depth, of) => write_bound("^", around, depth, of.var, out),
-        TyKind::Infer(variable) => write_variable(variable, out),
-        TyKind::Error(_) => out.write_str("{error}"),
+    let kind = cx.ty_kind(ty);
+    if let Some(over) = over_args(&kind) {
+        return write_item(cx, texts, around, &over.0, &over.1, out);
+    }
+    match kind {
         TyKind::Array(element, length) => write_array(cx, texts, around, &element, &length, out),
         TyKind::Slice(element) => {
             out.write_str("[")?;
@@ -65,21 +54,8 @@ pub(super) fn write_ty<I: Interner, W: Write>(
             write_object(cx, texts, around, &predicates, &region, out)
         }
         TyKind::Tuple(members) => write_tuple(cx, texts, around, &members, out),
-        TyKind::Adt(def, args) => write_item(cx, texts, around, &def.0, &args, out),
-        TyKind::FnDef(def, args) => write_item(cx, texts, around, &def.0, &args, out),
-        TyKind::Closure(def, args) => write_item(cx, texts, around, &def.0, &args, out),
-        TyKind::CoroutineClosure(def, args) => write_item(cx, texts, around, &def.0, &args, out),
-        TyKind::Coroutine(def, args) => write_item(cx, texts, around, &def.0, &args, out),
-        TyKind::CoroutineWitness(def, args) => write_item(cx, texts, around, &def.0, &args, out),
-        TyKind::Alias(alias) => write_item(
-            cx,
-            texts,
-            around,
-            &alias_id(&alias.kind),
-            &alias.args,
-            out,
-        ),
         TyKind::Pat(base, pat) => write_pattern_type(cx, texts, around, &base, &pat, out),
+        _ => write_leaf(texts, around, &kind, out),
     }
 }
 

@@ -36,9 +36,12 @@ pub(super) fn read_variables(reader: &mut Reader) -> Result<usize, ReadError>
     reader.expect(Sign::Less)?;
     'list: while !reader.accept(Sign::Greater) {
         let variable = read_variable(reader)?;
-        reader.gather(&mut parts, variable)?;
-        if reader.ends(Sign::Greater)? {
+        parts.push(variable)?;
+        if reader.accept(Sign::Greater) {
             break;
+        }
+        if !reader.accept(Sign::Comma) {
+            return Err(reader.unexpected(Expected::CommaOr(Sign::Greater)));
         }
     }
     reader.make(Form::Bound, start, &parts)

@@ -75,7 +75,7 @@ fn open_reference(reader: &mut Reader, parts: &mut Vec<usize>) -> Result<Rest, R
     ensures wrong { IfErr result (LiesIn reader.old.tree.text_len) }
 {
     let region = reader.take(Expected::Region)?;
-    reader.gather(parts, region)?;
+    parts.push(region)?;
     let mutability = read_mutability(reader);
     Ok(Rest::Pointee(Form::Ref(mutability)))
 }
@@ -89,7 +89,7 @@ fn open_expression(reader: &mut Reader, parts: &mut Vec<usize>) -> Result<Rest, 
     ensures wrong { IfErr result (LiesIn reader.old.tree.text_len) }
 {
     let number = reader.take(Expected::Number)?;
-    reader.gather(parts, number)?;
+    parts.push(number)?;
     reader.expect(Sign::LeftParen)?;
     Ok(Rest::List(Form::Expr, Sign::RightParen))
 }
@@ -119,12 +119,12 @@ fn open_unsafe(reader: &mut Reader, parts: &mut Vec<usize>) -> Result<Rest, Read
 {
     if matches!(reader.peek(), Some(WordKind::Sign(Sign::Less))) {
         let variables = read_variables(reader)?;
-        reader.gather(parts, variables)?;
+        parts.push(variables)?;
         return Ok(Rest::Pointee(Form::UnsafeBinder));
     }
     let start = reader.place();
     let none = reader.make(Form::Bound, start, &[])?;
-    reader.gather(parts, none)?;
+    parts.push(none)?;
     let abi = read_abi(reader)?;
     Ok(Rest::Inputs(Safety::Unsafe, abi))
 }
@@ -139,7 +139,7 @@ fn open_binder(reader: &mut Reader, parts: &mut Vec<usize>) -> Result<Rest, Read
 {
     if reader.accept(Sign::For) {
         let variables = read_variables(reader)?;
-        reader.gather(parts, variables)?;
+        parts.push(variables)?;
         let safety = read_safety(reader);
         let abi = read_abi(reader)?;
         return Ok(Rest::Inputs(safety, abi));
@@ -152,7 +152,7 @@ fn open_binder(reader: &mut Reader, parts: &mut Vec<usize>) -> Result<Rest, Read
     }
     let start = reader.place();
     let none = reader.make(Form::Bound, start, &[])?;
-    reader.gather(parts, none)?;
+    parts.push(none)?;
     let abi = read_abi(reader)?;
     Ok(Rest::Inputs(Safety::Safe, abi))
 }

@@ -31,11 +31,11 @@ pub(super) fn read_assumptions(reader: &mut Reader, start: usize) -> Result<usiz
 {
     let mut parts = Vec::new(reader.alloc);
     let first = read_outlives(reader)?;
-    reader.gather(&mut parts, first)?;
+    parts.push(first)?;
     let mut more = reader.accept(Sign::Comma);
     'list: while more {
         let next = read_outlives(reader)?;
-        reader.gather(&mut parts, next)?;
+        parts.push(next)?;
         more = reader.accept(Sign::Comma);
     }
     reader.make(Form::Assumptions, start, &parts)

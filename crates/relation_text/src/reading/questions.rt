@@ -60,7 +60,7 @@ fn read_terms(reader: &mut Reader, sign: Sign) -> Result<usize, ReadError>
     let mut more = reader.accept(sign);
     'list: while more {
         let term = read_term(reader, LEVELS)?;
-        reader.gather(&mut parts, term)?;
+        parts.push(term)?;
         more = reader.accept(Sign::Comma);
     }
     reader.make(Form::Terms, start, &parts)
@@ -101,12 +101,12 @@ fn read_fold(reader: &mut Reader, start: usize) -> Result<usize, ReadError>
 {
     let mut parts = Vec::new(reader.alloc);
     let term = read_term(reader, LEVELS)?;
-    reader.gather(&mut parts, term)?;
+    parts.push(term)?;
     reader.expect(Sign::With)?;
     let mut more = true;
     'list: while more {
         let put = read_put(reader)?;
-        reader.gather(&mut parts, put)?;
+        parts.push(put)?;
         more = reader.accept(Sign::Comma);
     }
     reader.make(Form::Fold, start, &parts)

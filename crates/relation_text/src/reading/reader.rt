@@ -159,35 +159,6 @@ impl Reader {
         }
     }
 
-    // Goes over what stands behind a member of a list, and answers whether the list ends there.
-    pub fn ends(&mut self, close: Sign) -> Result<bool, ReadError>
-        ensures words { self.new.words ≡ self.old.words }
-        ensures tree { self.new.tree ≡ self.old.tree }
-        ensures over { OnOk result (self.new.at ≡ suc self.old.at) }
-        ensures stays { OnErr result (self.new.at ≡ self.old.at) }
-        ensures wrong { IfErr result (LiesIn self.old.tree.text_len) }
-    {
-        if self.accept(close) {
-            return Ok(true);
-        }
-        if self.accept(Sign::Comma) {
-            return Ok(false);
-        }
-        Err(self.unexpected(Expected::CommaOr(close)))
-    }
-
-    // Adds a node to the parts of one that is to be made.
-    #[tactic(auto, using(crate::proofs::TreeLemmas::below_one_more))]
-    pub fn gather(&self, parts: &mut Vec<usize>, number: usize) -> Result<(), ReadError>
-        requires there { number < length self.now.tree.nodes.items }
-        requires below { EachBelow parts.old.items (length self.now.tree.nodes.items) }
-        ensures below { OnOk result (EachBelow parts.new.items (length self.now.tree.nodes.items)) }
-        ensures count { OnOk result (length parts.new.items ≡ suc (length parts.old.items)) }
-        ensures wrong { IfErr result (LiesIn self.now.tree.text_len) }
-    {
-        Ok(parts.push(number)?)
-    }
-
     // Makes a leaf of the next word, and goes over it.
     pub fn take(&mut self, expected: Expected) -> Result<usize, ReadError>
         ensures goes { GoesOn self.old self.new }

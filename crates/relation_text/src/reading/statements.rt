@@ -184,7 +184,7 @@ fn read_own(
         return Ok(sort);
     }
     let own = reader.take(Expected::Name)?;
-    reader.gather(parts, own)?;
+    parts.push(own)?;
     Ok(declared)
 }
 
@@ -197,14 +197,17 @@ fn read_item(reader: &mut Reader, start: usize, sort: ItemSort) -> Result<usize,
 {
     let mut parts = Vec::new(reader.alloc);
     let name = reader.take(Expected::Name)?;
-    reader.gather(&mut parts, name)?;
+    parts.push(name)?;
     let sort = read_own(reader, &mut parts, sort)?;
     if reader.accept(Sign::Less) {
         'list: while !reader.accept(Sign::Greater) {
             let declared = read_declared(reader)?;
-            reader.gather(&mut parts, declared)?;
-            if reader.ends(Sign::Greater)? {
+            parts.push(declared)?;
+            if reader.accept(Sign::Greater) {
                 break;
+            }
+            if !reader.accept(Sign::Comma) {
+                return Err(reader.unexpected(Expected::CommaOr(Sign::Greater)));
             }
         }
     }
@@ -245,10 +248,10 @@ fn read_parameters(reader: &mut Reader, start: usize) -> Result<usize, ReadError
 {
     let mut parts = Vec::new(reader.alloc);
     let first = read_parameter(reader)?;
-    reader.gather(&mut parts, first)?;
+    parts.push(first)?;
     'list: while reader.accept(Sign::Comma) {
         let parameter = read_parameter(reader)?;
-        reader.gather(&mut parts, parameter)?;
+        parts.push(parameter)?;
     }
     reader.make(Form::Parameters, start, &parts)
 }
@@ -262,14 +265,14 @@ fn read_variables(reader: &mut Reader, start: usize) -> Result<usize, ReadError>
 {
     let mut parts = Vec::new(reader.alloc);
     let first = reader.take(Expected::Variable)?;
-    reader.gather(&mut parts, first)?;
+    parts.push(first)?;
     'list: while reader.accept(Sign::Comma) {
         let variable = reader.take(Expected::Variable)?;
-        reader.gather(&mut parts, variable)?;
+        parts.push(variable)?;
     }
     if reader.accept(Sign::In) {
         let universe = reader.take(Expected::Number)?;
-        reader.gather(&mut parts, universe)?;
+        parts.push(universe)?;
     }
     reader.make(Form::Variables, start, &parts)
 }
@@ -326,7 +329,7 @@ fn read_statements(reader: &mut Reader) -> Result<usize, ReadError>
     let mut parts = Vec::new(reader.alloc);
     'statements: while reader.next().is_some() {
         let statement = read_statement(reader)?;
-        reader.gather(&mut parts, statement)?;
+        parts.push(statement)?;
         reader.expect(Sign::Semicolon)?;
     }
     reader.make(Form::File, 0, &parts)

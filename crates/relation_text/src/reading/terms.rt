@@ -31,9 +31,12 @@ pub(super) fn read_list(
 {
     'list: while !reader.accept(close) {
         let term = read_term(reader, levels)?;
-        reader.gather(parts, term)?;
-        if reader.ends(close)? {
+        parts.push(term)?;
+        if reader.accept(close) {
             return Ok(false);
+        }
+        if !reader.accept(Sign::Comma) {
+            return Err(reader.unexpected(Expected::CommaOr(close)));
         }
     }
     Ok(true)
@@ -52,7 +55,7 @@ fn read_applied(reader: &mut Reader, leaf: Leaf, levels: usize) -> Result<usize,
         return Ok(number);
     }
     let mut parts = Vec::new(reader.alloc);
-    reader.gather(&mut parts, number)?;
+    parts.push(number)?;
     let _ = read_list(reader, &mut parts, Sign::Greater, levels)?;
     reader.make(Form::Applied, start, &parts)
 }
@@ -75,9 +78,12 @@ fn read_inputs(
             return Ok(true);
         }
         let input = read_term(reader, levels)?;
-        reader.gather(parts, input)?;
-        if reader.ends(Sign::RightParen)? {
+        parts.push(input)?;
+        if reader.accept(Sign::RightParen) {
             return Ok(false);
+        }
+        if !reader.accept(Sign::Comma) {
+            return Err(reader.unexpected(Expected::CommaOr(Sign::RightParen)));
         }
     }
     Ok(false)
@@ -104,7 +110,7 @@ fn read_signature(
         let start = reader.place();
         reader.make(Form::Tuple, start, &[])?
     };
-    reader.gather(parts, output)?;
+    parts.push(output)?;
     Ok(Form::FnPtr(FnHeader {
         c_variadic,
         safety,
@@ -125,13 +131,13 @@ fn read_brackets(
     ensures wrong { IfErr result (LiesIn reader.old.tree.text_len) }
 {
     let element = read_term(reader, levels)?;
-    reader.gather(parts, element)?;
+    parts.push(element)?;
     if !reader.accept(Sign::Semicolon) {
         reader.expect(Sign::RightBracket)?;
         return Ok(Form::Slice);
     }
     let count = read_term(reader, levels)?;
-    reader.gather(parts, count)?;
+    parts.push(count)?;
     reader.expect(Sign::RightBracket)?;
     Ok(Form::Array)
 }
@@ -163,13 +169,16 @@ fn read_named(reader: &mut Reader, levels: usize) -> Result<usize, ReadError>
     let mut parts = Vec::new(reader.alloc);
     let start = reader.place();
     let name = reader.take(Expected::Name)?;
-    reader.gather(&mut parts, name)?;
+    parts.push(name)?;
     if reader.accept(Sign::Less) {
         'list: while !reader.accept(Sign::Greater) {
             let argument = read_argument(reader, levels)?;
-            reader.gather(&mut parts, argument)?;
-            if reader.ends(Sign::Greater)? {
+            parts.push(argument)?;
+            if reader.accept(Sign::Greater) {
                 break;
+            }
+            if !reader.accept(Sign::Comma) {
+                return Err(reader.unexpected(Expected::CommaOr(Sign::Greater)));
             }
         }
     }
@@ -209,11 +218,11 @@ fn read_bounds(
 {
     'list: while !is_region_next(reader) {
         let bound = read_bound(reader, levels)?;
-        reader.gather(parts, bound)?;
+        parts.push(bound)?;
         reader.expect(Sign::Plus)?;
     }
     let region = reader.take(Expected::Region)?;
-    reader.gather(parts, region)?;
+    parts.push(region)?;
     Ok(Form::Object)
 }
 
@@ -230,14 +239,14 @@ fn read_associated(
     ensures wrong { IfErr result (LiesIn reader.old.tree.text_len) }
 {
     let ty = read_term(reader, levels)?;
-    reader.gather(parts, ty)?;
+    parts.push(ty)?;
     reader.expect(Sign::As)?;
     let of = read_named(reader, levels)?;
-    reader.gather(parts, of)?;
+    parts.push(of)?;
     reader.expect(Sign::Greater)?;
     reader.expect(Sign::PathSep)?;
     let own = read_named(reader, levels)?;
-    reader.gather(parts, own)?;
+    parts.push(own)?;
     Ok(Form::Associated)
 }
 
@@ -258,7 +267,7 @@ fn read_rest(
         Rest::Nothing(form) => Ok(Some(form)),
         Rest::Pointee(form) => {
             let pointee = read_term(reader, levels)?;
-            reader.gather(parts, pointee)?;
+            parts.push(pointee)?;
             Ok(Some(form))
         }
         Rest::List(form, close) => {
@@ -324,10 +333,10 @@ fn read_pattern(reader: &mut Reader, levels: usize) -> Result<usize, ReadError>
     let start = reader.place();
     let listed = reader.accept(Sign::Bar);
     let first = read_alternative(reader, levels)?;
-    reader.gather(&mut parts, first)?;
+    parts.push(first)?;
     'list: while reader.accept(Sign::Bar) {
         let next = read_alternative(reader, levels)?;
-        reader.gather(&mut parts, next)?;
+        parts.push(next)?;
     }
     if !listed && parts.len() == 1 {
         return Ok(parts[0]);

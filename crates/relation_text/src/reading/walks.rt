@@ -18,14 +18,14 @@ pub(super) fn read_walk(reader: &mut Reader, start: usize) -> Result<usize, Read
 {
     let mut parts = Vec::new(reader.alloc);
     let term = read_term(reader, LEVELS)?;
-    reader.gather(&mut parts, term)?;
+    parts.push(term)?;
     let mut more = reader.accept(Sign::Skip);
     if more {
         reader.expect(Sign::After)?;
     }
     'list: while more {
         let number = reader.take(Expected::Number)?;
-        reader.gather(&mut parts, number)?;
+        parts.push(number)?;
         more = reader.accept(Sign::Comma);
     }
     reader.make(Form::Walk, start, &parts)
