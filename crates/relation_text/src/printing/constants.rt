@@ -4,7 +4,7 @@ ghost use Rattle.relation_terms.specs.Trees.{known};
 
 use crate::printing::binders::{Entered, write_bound};
 use crate::printing::items::{write_args, write_item};
-use crate::printing::leaves::{write_const_variable, write_placeholder};
+use crate::printing::leaves::{write_between, write_const_variable, write_placeholder};
 use crate::printing::names::{TextsOf, name_text};
 use relation_terms::terms::{
     Const, ConstKind, ExprKind, GenericArgs, Interner, ValTree, ValTreeKind,
@@ -77,9 +77,7 @@ fn write_valtree<I: Interner, W: Write>(
         ValTreeKind::Branch(branches) => {
             out.write_str("{")?;
             for (place, constant) in cx.branches(&branches).iter().enumerate() {
-                if place > 0 {
-                    out.write_str(", ")?;
-                }
+                write_between(place, ", ", out)?;
                 write_const(cx, texts, around, constant, out)?;
             }
             out.write_str("}")

@@ -5,6 +5,7 @@ ghost use Rattle.relation_terms.specs.Meaning.{alias_id};
 ghost use Rattle.relation_text.specs.Printed.{IsOver};
 
 use crate::printing::binders::Entered;
+use crate::printing::leaves::write_between;
 use crate::printing::names::{TextsOf, TraitText, item_text, trait_text};
 use crate::printing::terms::write_arg;
 use relation_terms::terms::{AliasTyKind, ArgsKey, GenericArgs, Interner, TyKind};
@@ -122,9 +123,7 @@ pub(super) fn write_args<I: Interner, W: Write>(
 {
     for (place, arg) in cx.args(args).iter().enumerate() {
         if first <= place && place < behind {
-            if place > first {
-                out.write_str(", ")?;
-            }
+            write_between(place - first, ", ", out)?;
             write_arg(cx, texts, around, arg, out)?;
         }
     }

@@ -74,6 +74,34 @@ pub(super) fn write_const_variable<W: Write>(variable: InferConst, out: &mut W) 
     }
 }
 
+// Writes what stands between the members of a list, before the one at that place.
+pub(super) fn write_between<W: Write>(place: usize, between: &str, out: &mut W) -> fmt::Result {
+    if place == 0 {
+        return Ok(());
+    }
+    out.write_str(between)
+}
+
+// The text of a type that has no parts and no number.
+fn leaf_text<'a, X, D: PartialEq, N: PartialEq>(
+    texts: &Texts<'a, D, N>,
+    kind: &TyKind<X, D, N>,
+) -> &'a str {
+    match kind {
+        TyKind::Bool => "bool",
+        TyKind::Char => "char",
+        TyKind::Str => "str",
+        TyKind::Never => "!",
+        TyKind::Int(width) => int_name(*width),
+        TyKind::Uint(width) => uint_name(*width),
+        TyKind::Float(width) => float_name(*width),
+        TyKind::Foreign(def) => item_text(texts.items, &def.0),
+        TyKind::Param(named) => name_text(texts.names, &named.name, "_"),
+        TyKind::Error(_) => "{error}",
+        _ => "",
+    }
+}
+
 // Writes a type that has no parts.
 pub(super) fn write_leaf<X, D: PartialEq, N: PartialEq, W: Write>(
     texts: &Texts<D, N>,
@@ -82,20 +110,9 @@ pub(super) fn write_leaf<X, D: PartialEq, N: PartialEq, W: Write>(
     out: &mut W,
 ) -> fmt::Result {
     match kind {
-        TyKind::Bool => out.write_str("bool"),
-        TyKind::Char => out.write_str("char"),
-        TyKind::Str => out.write_str("str"),
-        TyKind::Never => out.write_str("!"),
-        TyKind::Int(width) => out.write_str(int_name(*width)),
-        TyKind::Uint(width) => out.write_str(uint_name(*width)),
-        TyKind::Float(width) => out.write_str(float_name(*width)),
-        TyKind::Foreign(def) => out.write_str(item_text(texts.items, &def.0)),
-        TyKind::Param(named) => out.write_str(name_text(texts.names, &named.name, "_")),
         TyKind::Placeholder(of) => write_placeholder(texts.names, of.universe, &of.bound.name, out),
         TyKind::Bound(depth, of) => write_bound("^", around, *depth, of.var, out),
         TyKind::Infer(variable) => write_variable(*variable, out),
-        TyKind::Error(_) => out.write_str("{error}"),
-        // Whoever takes such a type apart writes it.
-        _ => Ok(()),
+        _ => out.write_str(leaf_text(texts, kind)),
     }
 }

@@ -6,7 +6,7 @@ ghost use Rattle.relation_terms.specs.Meaning.{term_tree, object_predicate_tree}
 use crate::printing::binders::{Entered, enter, write_for};
 use crate::printing::constants::write_const;
 use crate::printing::items::{write_args, write_named};
-use crate::printing::leaves::write_region;
+use crate::printing::leaves::{write_between, write_region};
 use crate::printing::names::{TextsOf, item_text, trait_text};
 use crate::printing::terms::{write_term, write_ty};
 use relation_terms::predicate::{
@@ -54,9 +54,7 @@ fn write_object_predicates<I: Interner, W: Write>(
     let mut written = 0;
     for (place, predicate) in list.iter().enumerate() {
         if place >= written {
-            if place > 0 {
-                out.write_str(" + ")?;
-            }
+            write_between(place, " + ", out)?;
             let behind = list.get(place.saturating_add(1)..).unwrap_or(&[]);
             let assigned = assigned_count(&*cx, predicate, behind);
             written = place.saturating_add(1).saturating_add(assigned);

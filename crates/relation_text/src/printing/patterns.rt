@@ -4,6 +4,7 @@ ghost use Rattle.relation_terms.specs.Trees.{known};
 
 use crate::printing::binders::Entered;
 use crate::printing::constants::write_const;
+use crate::printing::leaves::write_between;
 use crate::printing::names::TextsOf;
 use crate::printing::terms::write_ty;
 use relation_terms::terms::{Alternatives, Interner, Pat, PatternKind, Ty, TyKind};
@@ -80,9 +81,7 @@ fn write_alternatives<I: Interner, W: Write>(
         out.write_str("| ")?;
     }
     for (place, pat) in pats.iter().enumerate() {
-        if place > 0 {
-            out.write_str(" | ")?;
-        }
+        write_between(place, " | ", out)?;
         write_alternative(cx, texts, around, pat, out)?;
     }
     Ok(())

@@ -4,6 +4,7 @@ ghost use Rattle.relation_terms.specs.Trees.{known};
 ghost use Rattle.relation_terms.specs.Meaning.{under, sig_of, signature_tree};
 
 use crate::printing::binders::{Entered, enter, write_for, write_variables};
+use crate::printing::leaves::write_between;
 use crate::printing::names::{TextsOf, abi_text, safety_text};
 use crate::printing::terms::{write_operand, write_ty};
 use relation_terms::terms::{Binder, FnHeader, FnSigTys, Interner, Ty, TyKey, TyKind, Tys};
@@ -56,9 +57,7 @@ fn write_signature<I: Interner, W: Write>(
     let inputs = types.len().saturating_sub(1);
     for (place, ty) in types.iter().enumerate() {
         if place < inputs {
-            if place > 0 {
-                out.write_str(", ")?;
-            }
+            write_between(place, ", ", out)?;
             write_ty(cx, texts, around, ty, out)?;
         } else {
             out.write_str(inputs_end(inputs, c_variadic))?;

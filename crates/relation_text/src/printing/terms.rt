@@ -6,7 +6,7 @@ ghost use Rattle.relation_terms.specs.Meaning.{arg_tree, term_tree};
 use crate::printing::binders::Entered;
 use crate::printing::constants::write_const;
 use crate::printing::items::{over_args, write_item};
-use crate::printing::leaves::{write_leaf, write_region};
+use crate::printing::leaves::{write_between, write_leaf, write_region};
 use crate::printing::names::{TextsOf, mutability_text, pointer_name};
 use crate::printing::objects::write_object;
 use crate::printing::patterns::write_pattern_type;
@@ -111,9 +111,7 @@ fn write_tuple<I: Interner, W: Write>(
     let types = cx.tys(members);
     out.write_str("(")?;
     for (place, ty) in types.iter().enumerate() {
-        if place > 0 {
-            out.write_str(", ")?;
-        }
+        write_between(place, ", ", out)?;
         write_ty(cx, texts, around, ty, out)?;
     }
     if types.len() == 1 {
