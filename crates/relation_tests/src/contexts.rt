@@ -268,12 +268,15 @@ fn has_equal_floats<I: Interner + Drop>(cx: I) -> Result<bool, OutOfMemory> {
     Ok(equates_floats(&mut ctx))
 }
 
-// Whether the variable that takes the place of the second type variable is marked as related to it, and to no other.
+// Whether the variable that takes the place of the second type variable is marked as related to it, and to no other, for
+// one of the budget.
 fn marks_the_new_one<I: Interner + Drop>(cx: I) -> RelateResult<I, bool> {
-    let mut ctx = RefCtxt::new(cx, true, 1)?;
+    let mut ctx = RefCtxt::new(cx, true, 0)?;
+    ctx.set_budget(2);
     binds_slice(&mut ctx)?;
     Ok(
-        ctx.inner.types.len() == 3
+        ctx.budget_left() == 1
+            && ctx.inner.types.len() == 3
             && ctx.inner.sub_roots.get(0).copied() == Some(0)
             && ctx.inner.sub_roots.get(2).copied() == Some(1),
     )
