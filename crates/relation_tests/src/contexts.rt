@@ -1,6 +1,6 @@
 //! What a context does, call by call, through the trait that it meets.
 ghost use Rattle.std.specs.Prelude.{◌≡◌, [], IfOk};
-ghost use Rattle.relation_terms.specs.Heads.{VarKind, type_var, int_var, float_var, const_var, region_var};
+ghost use Rattle.relation_terms.specs.Heads.{type_var, int_var, float_var, const_var, region_var};
 ghost use Rattle.relation_terms.specs.Heads.{atom, char_type, const_param, slice};
 ghost use Rattle.relation_terms.specs.Trees.{leaf, node, cons, nil};
 ghost use Rattle.relation_terms.specs.Meaning.{region_tree};
@@ -16,7 +16,7 @@ use relation_terms::terms::{
     UniverseIndex, Variance,
 };
 use relation_tools::error::RelateResult;
-use std::alloc::Global;
+use std::slice;
 use std::test::Fail;
 use type_relations::infer_ctxt::InferCtxtLike;
 use type_relations::relate::StructurallyRelateAliases;
@@ -27,27 +27,25 @@ const FIRST: Option<UniverseIndex> = Some(UniverseIndex(0));
 // A name of a context's interner.
 type NameOf<C> = <<C as InferCtxtLike>::Interner as Keys>::Name;
 
-/// A context that can be made. What is tested of one is written for each of these, and so is proved from the trait's
-/// bounds alone.
-trait NewContext: InferCtxtLike + Drop {
-    /// A context for the next solver without variables, over an interner of its own.
-    fn new_context(alloc: Global) -> Result<Self, OutOfMemory>
-        ensures lawful { IfOk result (λ c. (Self.state c).lawful) }
-        ensures none { IfOk result (λ c. (k : VarKind) → ((Self.state c).store).entries k ≡ []) };
+// Whether the next solver is on in a context, and three instantiations may be made.
+fn reads_settings<C: InferCtxtLike>(ctx: &C) -> bool {
+    ctx.next_trait_solver() && ctx.budget_left() == 3
 }
 
-impl NewContext for RefCtxt<RefInterner> {
-    fn new_context(alloc: Global) -> Result<Self, OutOfMemory> {
-        RefCtxt::new(RefInterner::new(alloc), true, 0)
-    }
-}
-
-// Whether a new context is in the first universe, and in a new one once that was made.
-fn enters_next<C: NewContext>(alloc: Global) -> Result<bool, OutOfMemory> {
-    let mut ctx = C::new_context(alloc)?;
-    let first = ctx.universe() == UniverseIndex(0) && ctx.next_trait_solver();
+// Whether a context is in the first universe, and in the next one once that was made.
+fn enters_next<C: InferCtxtLike>(ctx: &mut C) -> Result<bool, OutOfMemory>
+    requires { (C.state ctx.old).lawful }
+{
+    let first = ctx.universe() == UniverseIndex(0);
     let next = ctx.create_next_universe()?;
-    Ok(first && next == UniverseIndex(1) && ctx.universe() == next && ctx.budget_left() == 0)
+    Ok(first && next == UniverseIndex(1) && ctx.universe() == next)
+}
+
+// Whether a new context is what it was made as, and stays that where it enters a universe.
+fn is_new<I: Interner + Drop>(cx: I) -> Result<bool, OutOfMemory> {
+    let mut ctx = RefCtxt::new(cx, true, 3)?;
+    let entered = enters_next(&mut ctx)?;
+    Ok(entered && reads_settings(&ctx))
 }
 
 // The type `char`.
@@ -115,12 +113,12 @@ fn has_new_region<C: InferCtxtLike>(ctx: &mut C) -> Result<bool, OutOfMemory>
 }
 
 // Whether new variables of each kind are like that.
-fn has_new_variables<C: NewContext>(alloc: Global) -> Result<bool, OutOfMemory> {
-    let mut ctx = C::new_context(alloc)?;
+fn has_new_variables<I: Interner + Drop>(cx: I) -> Result<bool, OutOfMemory> {
+    let mut ctx = RefCtxt::new(cx, true, 0)?;
     let ty = has_new_ty(&mut ctx)?;
-    let mut ctx = C::new_context(alloc)?;
+    let mut ctx = RefCtxt::new(ctx.interner, true, 0)?;
     let constant = has_new_const(&mut ctx)?;
-    let mut ctx = C::new_context(alloc)?;
+    let mut ctx = RefCtxt::new(ctx.interner, true, 0)?;
     Ok(has_new_region(&mut ctx)? && ty && constant)
 }
 
@@ -161,12 +159,12 @@ fn equates_consts<C: InferCtxtLike>(ctx: &mut C) -> Result<bool, OutOfMemory>
 }
 
 // Whether all of that holds in new contexts.
-fn equates<C: NewContext>(alloc: Global) -> Result<bool, OutOfMemory> {
-    let mut ctx = C::new_context(alloc)?;
+fn equates<I: Interner + Drop>(cx: I) -> Result<bool, OutOfMemory> {
+    let mut ctx = RefCtxt::new(cx, true, 0)?;
     let tys = equates_tys(&mut ctx)?;
-    let mut ctx = C::new_context(alloc)?;
+    let mut ctx = RefCtxt::new(ctx.interner, true, 0)?;
     let marks = marks_tys(&mut ctx)?;
-    let mut ctx = C::new_context(alloc)?;
+    let mut ctx = RefCtxt::new(ctx.interner, true, 0)?;
     Ok(equates_consts(&mut ctx)? && tys && marks)
 }
 
@@ -215,10 +213,10 @@ fn resolves_const<C: InferCtxtLike>(ctx: &mut C, name: NameOf<C>) -> Result<bool
 }
 
 // Whether both are, in new contexts.
-fn resolves<C: NewContext>(alloc: Global, name: NameOf<C>) -> Result<bool, OutOfMemory> {
-    let mut ctx = C::new_context(alloc)?;
+fn resolves<I: Interner + Drop>(cx: I, name: I::Name) -> Result<bool, OutOfMemory> {
+    let mut ctx = RefCtxt::new(cx, true, 0)?;
     let ty = resolves_ty(&mut ctx)?;
-    let mut ctx = C::new_context(alloc)?;
+    let mut ctx = RefCtxt::new(ctx.interner, true, 0)?;
     Ok(resolves_const(&mut ctx, name)? && ty)
 }
 
@@ -314,24 +312,24 @@ fn registers_outlives<C: InferCtxtLike>(
 fn has_registered<I: Interner + Drop>(cx: I) -> Result<bool, OutOfMemory> {
     let mut ctx = RefCtxt::new(cx, true, 0)?;
     let (ty, region) = registers_outlives(&mut ctx)?;
-    Ok(ctx.ty_outlives() == [OutlivesPredicate(ty, region)].as_slice())
+    Ok(ctx.ty_outlives() == slice::from_ref(&OutlivesPredicate(ty, region)))
 }
 
 #[test]
 fn a_new_context_is_in_the_first_universe(rt: HostRuntime) -> Result<(), Fail> {
-    assert!(rt; enters_next::<RefCtxt<RefInterner>>(rt.alloc())?);
+    assert!(rt; is_new(RefInterner::new(rt.alloc()))?);
     Ok(())
 }
 
 #[test]
 fn a_new_variable_is_its_own_root(rt: HostRuntime) -> Result<(), Fail> {
-    assert!(rt; has_new_variables::<RefCtxt<RefInterner>>(rt.alloc())?);
+    assert!(rt; has_new_variables(RefInterner::new(rt.alloc()))?);
     Ok(())
 }
 
 #[test]
 fn variables_are_made_one(rt: HostRuntime) -> Result<(), Fail> {
-    assert!(rt; equates::<RefCtxt<RefInterner>>(rt.alloc())?);
+    assert!(rt; equates(RefInterner::new(rt.alloc()))?);
     assert!(rt; has_equal_ints(RefInterner::new(rt.alloc()))?);
     assert!(rt; has_equal_floats(RefInterner::new(rt.alloc()))?);
     Ok(())
@@ -339,7 +337,7 @@ fn variables_are_made_one(rt: HostRuntime) -> Result<(), Fail> {
 
 #[test]
 fn what_has_no_variable_is_read_as_itself(rt: HostRuntime) -> Result<(), Fail> {
-    assert!(rt; resolves::<RefCtxt<RefInterner>>(rt.alloc(), SymbolId(0))?);
+    assert!(rt; resolves(RefInterner::new(rt.alloc()), SymbolId(0))?);
     Ok(())
 }
 

@@ -17,6 +17,7 @@ use relation_terms::terms::{
     AdtId, ArgsKey, DefId, GenericArgs, Interner, OutOfMemory, Ty, TyKey, TyKind, Variance,
 };
 use relation_tools::error::RelateResult;
+use std::slice;
 use std::test::Fail;
 use type_relations::relate::relate_ty_args;
 
@@ -105,7 +106,7 @@ fn asks_over(
         node (adt ((meaning_in cx).id item)) ((meaning_in cx).args (over.now).args) }
 {
     let (answer, relation) = related_over(cx, variance, item, over)?;
-    Ok(answer == over.ty && relation.constraints.as_slice() == [what].as_slice())
+    Ok(answer == over.ty && relation.constraints.as_slice() == slice::from_ref(&what))
 }
 
 #[test]
