@@ -3,8 +3,8 @@ ghost use Rattle.std.specs.Prelude.{◌≡◌, ◌≢◌, ℕ, suc, ◌<◌, ◌
 ghost use Rattle.relation_terms.specs.Heads.{VarKind};
 ghost use Rattle.relation_terms.specs.Meaning.{Extends};
 ghost use Rattle.relation_tools.specs.Faults.{KnowsFault};
-ghost use Rattle.type_relations.specs.Contexts.{KnowsEnv, KnowsTy, TakesTy, HasTy};
-ghost use Rattle.type_relations.specs.Contexts.{AnswersTys, KeepsEqualTys, TellsApart, RegistersGoals};
+ghost use Rattle.type_relations.specs.Contexts.{KnowsEnv, RegistersGoals};
+ghost use Rattle.type_relations.specs.Relating.{KnowsTerm, TakesTerm, HasTerm, AnswersTerms, KeepsEqual, TellsApart};
 ghost use Rattle.relation_reference.specs.Tables.{IsLawful};
 ghost use Rattle.relation_asking.specs.Needs.{Reaches};
 ghost use Rattle.std.specs.List.{All};
@@ -12,10 +12,11 @@ ghost use Rattle.relation_asking.specs.Asking.{Has, HasStated, IsAskable, MakesI
 
 use crate::needs::Needs;
 use relation_reference::context::RefCtxt;
-use relation_terms::terms::{Interner, OutOfMemory, ParamEnv, Span, Ty, Variance};
+use relation_terms::terms::{Interner, OutOfMemory, ParamEnv, Span, Variance};
 use relation_text::naming::Variables;
 use std::fmt::{self, Write};
 use type_relations::infer_ctxt::InferCtxtLike;
+use type_relations::relate::Relate;
 use type_relations::relate::solver_relating::{RelateExt, RelateGoals};
 
 /// Why a question is not asked.
@@ -231,29 +232,30 @@ pub(super) fn refusal<I: Interner>(
     }
 }
 
-/// Relates two types at a variance in any context that can. What is answered is what the context promises: after `Ok`
-/// what is recorded and the goals relate the types, and no equal pair is lost; `Unrelated` says that nothing made them
-/// one.
-pub(super) fn relate<C: InferCtxtLike>(
+/// Relates two types, or two lists of arguments, at a variance in any context that can. What is answered is what the
+/// context promises: after `Ok` what is recorded and the goals relate the two, and no equal pair is lost; `Unrelated`
+/// says that nothing made them one.
+pub(super) fn relate<C: InferCtxtLike, T: Relate<C::Interner>>(
     ctx: &mut C,
     param_env: ParamEnv<C::Interner>,
-    lhs: Ty<C::Interner>,
+    lhs: T,
     variance: Variance,
-    rhs: Ty<C::Interner>,
+    rhs: T,
     span: Span<C::Interner>,
 ) -> RelateGoals<C::Interner>
     requires lawful { (C.state ctx.old).lawful }
     requires decides { variance ≢ Variance.Bivariant }
     requires env_known { KnowsEnv (C.state ctx.old) param_env }
-    requires lhs_known { KnowsTy (C.state ctx.old) lhs }
-    requires rhs_known { KnowsTy (C.state ctx.old) rhs }
-    requires lhs_taken { TakesTy (C.state ctx.old) lhs }
-    requires rhs_taken { TakesTy (C.state ctx.old) rhs }
-    requires lhs_in { HasTy (C.state ctx.old) lhs }
-    requires rhs_in { HasTy (C.state ctx.old) rhs }
-    ensures answers { AnswersTys (C.state ctx.old) (C.state ctx.new) param_env variance lhs rhs result }
-    ensures keeps { KeepsEqualTys (C.state ctx.old) (C.state ctx.new) lhs rhs result }
-    ensures apart { TellsApart (C.state ctx.old) (C.state ctx.new) lhs rhs result }
+    requires fits { T.fits (C.state ctx.old).meaning lhs rhs }
+    requires lhs_known { KnowsTerm (C.state ctx.old) T.over T.tree lhs }
+    requires rhs_known { KnowsTerm (C.state ctx.old) T.over T.tree rhs }
+    requires lhs_taken { TakesTerm (C.state ctx.old) T.over T.tree lhs }
+    requires rhs_taken { TakesTerm (C.state ctx.old) T.over T.tree rhs }
+    requires lhs_in { HasTerm (C.state ctx.old) T.over T.tree lhs }
+    requires rhs_in { HasTerm (C.state ctx.old) T.over T.tree rhs }
+    ensures answers { AnswersTerms C.state ctx.old ctx.new T.over T.tree param_env variance lhs rhs result }
+    ensures keeps { KeepsEqual C.state ctx.old ctx.new T.over T.tree lhs rhs result }
+    ensures apart { TellsApart C.state ctx.old ctx.new T.over T.tree lhs rhs result }
     ensures goals { RegistersGoals (C.state ctx.old) (C.state ctx.new) param_env variance result }
     ensures lawful { (C.state ctx.new).lawful }
     ensures grown { Extends (C.state ctx.old).meaning (C.state ctx.new).meaning }

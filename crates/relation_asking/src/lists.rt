@@ -1,25 +1,19 @@
 //! Lists of arguments, and relating two of them.
-ghost use Rattle.std.specs.Prelude.{◌≡◌, [], IsTrue, IfOk};
-ghost use Rattle.relation_terms.specs.declared.terms.enums.Variance.TheVariants.{Invariant};
-ghost use Rattle.relation_terms.specs.Heads.{arguments};
+ghost use Rattle.std.specs.Prelude.{◌≡◌, IsTrue, IfOk};
 ghost use Rattle.relation_terms.specs.Trees.{known, count};
 ghost use Rattle.relation_terms.specs.Meaning.{Extends};
-ghost use Rattle.type_relations.specs.Keyed.{AreAsMany, AskedLists, RelatedLists};
-ghost use Rattle.type_relations.specs.Solving.{solving_in, solver_manner};
 ghost use Rattle.relation_reference.specs.Tables.{IsLawful};
-ghost use Rattle.relation_reference.specs.RefCtxt.{context_in};
 ghost use Rattle.relation_asking.specs.Asking.{AreReady, IsReady, KnowsRelated};
 
-use crate::context::{NotAsked, have_variables, refusal};
+use crate::context::{NotAsked, have_variables, refusal, relate};
 use crate::needs::{Needs, both, parts_need};
 use crate::question::{Ready, Unasked};
 use relation_reference::context::RefCtxt;
 use relation_terms::terms::parts::member_count;
-use relation_terms::terms::{GenericArgs, Interner, ParamEnv, Parts as PartsOfTerm, Variance};
+use relation_terms::terms::{GenericArgs, Interner, Parts as PartsOfTerm, Variance};
 use relation_text::building::keys_at;
 use relation_text::naming::Parts;
-use relation_tools::error::RelateResult;
-use type_relations::relate::solver_relating::{GoalOf, RelateGoals, SolverRelating};
+use type_relations::relate::solver_relating::RelateGoals;
 
 // The arguments of a list of terms, and what they need.
 pub(super) fn args_of<I: Interner>(
@@ -54,30 +48,6 @@ fn are_as_many<I: Interner>(cx: &I, lhs: &GenericArgs<I>, rhs: &GenericArgs<I>) 
     left == right
 }
 
-// Relates two lists of arguments of a context invariantly, and answers the goals that this registers, too.
-fn relate_args<I: Interner>(
-    ctx: &mut RefCtxt<I>,
-    param_env: ParamEnv<I>,
-    lhs: &GenericArgs<I>,
-    rhs: &GenericArgs<I>,
-) -> (RelateResult<I, GenericArgs<I>>, Vec<GoalOf<I>>)
-    requires lawful { IsLawful (I.meaning ctx.old.interner) ctx.old.inner }
-    requires env_known { IsTrue (known ((I.meaning ctx.old.interner).param_env param_env)) }
-    requires asked { let before = solving_in [] (context_in I.meaning ctx.old) Invariant param_env in
-        AskedLists solver_manner before (λ m. arguments) lhs.now rhs.now }
-    requires as_many { AreAsMany (solving_in [] (context_in I.meaning ctx.old) Invariant param_env) lhs.now rhs.now }
-    ensures { let before = solving_in [] (context_in I.meaning ctx.old) Invariant param_env in
-        let after = solving_in result.1.items (context_in I.meaning ctx.new) Invariant param_env in
-        RelatedLists solver_manner before after (λ m. arguments) lhs.now rhs.now result.0 }
-{
-    let span = ctx.interner.dummy_span();
-    let mut relation = SolverRelating::new(ctx, Variance::Invariant, param_env, span);
-    let related = relation.relate_args(lhs, rhs);
-    let goals = relation.take_goals();
-    let _ctx = relation.into_infcx();
-    (related, goals)
-}
-
 // Relates two lists of arguments, of which it is said what they need, if they may be asked about.
 fn relate_ready<I: Interner>(
     ctx: &mut RefCtxt<I>,
@@ -105,11 +75,8 @@ fn relate_ready<I: Interner>(
     let Ok(param_env) = ctx.interner.empty_param_env() else {
         return Err(Unasked::Memory);
     };
-    let (related, goals) = relate_args(ctx, param_env, &lhs, &rhs);
-    match related {
-        Ok(_) => Ok(Ok(goals)),
-        Err(fault) => Ok(Err(fault)),
-    }
+    let span = ctx.interner.dummy_span();
+    Ok(relate(ctx, param_env, lhs, Variance::Invariant, rhs, span))
 }
 
 // Relates two lists of arguments in a context.

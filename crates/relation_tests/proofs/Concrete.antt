@@ -1,18 +1,21 @@
 -- Terms that stand in each context.
-use Rattle.std.proofs.Common.{◌≡◌, IsTrue, false, [], sym, ap, subst}
+use Rattle.std.proofs.Common.{◌≡◌, IsTrue, false, [], Option, sym, ap, subst}
 use Rattle.relation_terms.specs.declared.terms.enums.Variance.{Variance}
 use Rattle.relation_terms.specs.declared.terms.keys.TyKey.{TyKey}
 use Rattle.relation_terms.specs.declared.terms.keys.RegionKey.{RegionKey}
 use Rattle.relation_terms.specs.declared.terms.keys.ArgsKey.{ArgsKey}
+use Rattle.relation_terms.specs.declared.terms.keys.ConstKey.{ConstKey}
 use Rattle.relation_terms.specs.declared.terms.keys.ParamEnvKey.{ParamEnvKey}
-use Rattle.relation_terms.specs.Heads.{Leaf, Atom, variable, bound, placeholder, atom, unknown}
+use Rattle.relation_terms.specs.Heads.{Head, Leaf, Atom, variable, bound, placeholder, atom, unknown}
 use Rattle.relation_terms.specs.Trees.{Tree, leaf, node, bind, nil, cons, known, Leaves}
 use Rattle.relation_terms.specs.Meaning.{Meaning, Extends}
 use Rattle.type_relations.specs.Relation.{IsValueAtom, StaysWithin}
 use Rattle.type_relations.specs.Stores.{Store, IsTermIn, InContext, IsMadeLeaf, IsNamable}
 use Rattle.type_relations.specs.Covered.{IsCovered, IsCoveredAtom}
 use Rattle.relation_terms.specs.Heads.{fresh_type, fresh_int, fresh_float, fresh_const}
+use Rattle.type_relations.specs.Arguments.{related_tree}
 use Rattle.type_relations.specs.Lawful.{Asked}
+use Rattle.type_relations.proofs.Relatable.{tree_known}
 use Rattle.relation_tests.specs.Plain.{plain_store, plain_state, plain_manner}
 use Rattle.relation_tests.specs.Concrete.{IsConcrete}
 use Rattle.type_relations.specs.Contexts.{Context}
@@ -27,7 +30,7 @@ value_atom (fresh_float n) h = absurd h
 value_atom (fresh_const n) h = absurd h
 value_atom x h = tt
 
-concrete_covered : (t : Tree) → IsConcrete t → IsCovered t
+pub concrete_covered : (t : Tree) → IsConcrete t → IsCovered t
 concrete_covered (leaf (variable k n)) h = absurd h
 concrete_covered (leaf (bound k d i)) h = absurd h
 concrete_covered (leaf (placeholder k u n)) h = absurd h
@@ -117,3 +120,13 @@ module _ {Key Id Name : Type 0} {m n : Meaning Key Id Name} (e : Extends m n) wh
 
   pub args_concrete : (k : ArgsKey Key) → IsConcrete (m.args k) → IsConcrete (n.args k)
   args_concrete k h = concrete_as (m.args k) (n.args k) (e.args k (concrete_known (m.args k) h)) h
+
+  pub const_concrete : (k : ConstKey Key) → IsConcrete (m.const_ k) → IsConcrete (n.const_ k)
+  const_concrete k h = concrete_as (m.const_ k) (n.const_ k) (e.const_ k (concrete_known (m.const_ k) h)) h
+
+-- Of whatever keeps its tree while it is known.
+pub related_concrete : {Key Id Name A : Type 0} (m n : Meaning Key Id Name) (over : Option Head)
+    (tree : Meaning Key Id Name → A → Tree) (x : A) → (IsTrue (known (tree m x)) → tree n x ≡ tree m x) →
+    IsConcrete (related_tree over (tree m x)) → IsConcrete (related_tree over (tree n x))
+related_concrete m n over tree x stays h = concrete_as (related_tree over (tree m x)) (related_tree over (tree n x))
+    (ap (related_tree over) (stays (tree_known over (tree m x) (concrete_known (related_tree over (tree m x)) h)))) h

@@ -41,13 +41,14 @@ module _ {Key Id Name : Type 0} (m : Meaning Key Id Name) where
     lawful = IsSound (plain_store cs);
   }
 
--- It takes all terms, answers the left one, is exact, and records just what is asked of regions.
+-- It takes all terms, answers the left one, is exact, and records just what is asked of regions. It registers nothing.
 abbrev pub plain_manner : Manners
 plain_manner k = record {
   takes = λ v l. Unit {0};
   keeps_left = Unit {0};
   is_exact = Unit {0};
   records_asked = Unit {0};
+  registers_subtype = ⊥;
 }
 
 -- Each variable stands for itself.

@@ -263,14 +263,17 @@ pub(super) fn make_args<I: Interner>(
 
 /// Two lists of one argument each, and the regions in them.
 #[derive(Clone, Copy)]
-struct Lists<X> {
-    a: RegionKey<X>,
-    b: RegionKey<X>,
-    left: ArgsKey<X>,
-    right: ArgsKey<X>,
+pub(super) struct Lists<X> {
+    pub(super) a: RegionKey<X>,
+    pub(super) b: RegionKey<X>,
+    pub(super) left: ArgsKey<X>,
+    pub(super) right: ArgsKey<X>,
 }
 
-fn make_lists<I: Interner>(cx: &mut I, name: &I::Name) -> Result<Lists<I::Key>, OutOfMemory>
+pub(super) fn make_lists<I: Interner>(
+    cx: &mut I,
+    name: &I::Name,
+) -> Result<Lists<I::Key>, OutOfMemory>
     ensures left { IfOk result (λ t. IsConcrete ((I.meaning cx.new).args t.left)) }
     ensures right { IfOk result (λ t. IsConcrete ((I.meaning cx.new).args t.right)) }
     ensures as_many { IfOk result (λ t. count ((I.meaning cx.new).args t.left) ≡

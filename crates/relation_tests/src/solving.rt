@@ -1,21 +1,27 @@
 //! Relating through a relation that borrows a context, and gives it back.
-ghost use Rattle.std.specs.Prelude.{◌≢◌, [], IsTrue};
+ghost use Rattle.std.specs.Prelude.{◌≢◌, [], IsTrue, IfOk};
 ghost use Rattle.relation_terms.specs.Trees.{known};
+ghost use Rattle.relation_terms.specs.Meaning.{Extends};
 ghost use Rattle.relation_terms.specs.declared.terms.enums.Variance.TheVariants.{Bivariant};
+ghost use Rattle.type_relations.specs.Arguments.{related_tree};
 ghost use Rattle.type_relations.specs.Lawful.{Asked};
 ghost use Rattle.relation_tests.specs.Concrete.{IsConcrete};
 ghost use Rattle.type_relations.specs.Solving.{solving_in, solver_manner};
 ghost use Rattle.relation_reference.specs.RefCtxt.{context_in};
 ghost use Rattle.relation_reference.specs.Tables.{IsLawful};
 
-use crate::relating::{make_two, only, outlives};
+use crate::relating::{make_lists, make_two, only, outlives};
 use reference_interner::{RefInterner, SymbolId};
 use relation_reference::context::RefCtxt;
-use relation_terms::predicate::RegionConstraint;
-use relation_terms::terms::{Interner, ParamEnv, Ty, Variance};
-use relation_tools::error::RelateResult;
+use relation_terms::predicate::{RegionConstraint, RegionEqPredicate};
+use relation_terms::terms::{
+    Const, ConstKind, GenericArgKind, Interner, OutOfMemory, ParamConst, ParamEnv, Ty, Variance,
+};
+use relation_tools::error::{ExpectedFound, RelateFault, RelateResult, TypeError};
 use std::test::Fail;
-use type_relations::relate::solver_relating::SolverRelating;
+use type_relations::infer_ctxt::InferCtxtLike;
+use type_relations::relate::Relate;
+use type_relations::relate::solver_relating::{RelateExt, SolverRelating};
 
 // What relating two types answers, and whether the context that is given back has just these constraints.
 fn recorded<I: Interner>(
@@ -34,7 +40,7 @@ fn recorded<I: Interner>(
 {
     let span = ctx.interner.dummy_span();
     let mut relation = SolverRelating::new(ctx, variance, param_env, span);
-    let answer = relation.relate_tys(a, b)?;
+    let answer = relation.relate(a, b)?;
     let infcx = relation.into_infcx();
     Ok((answer, infcx.region_constraints() == asks))
 }
@@ -63,6 +69,125 @@ fn the_context_has_what_was_recorded(rt: HostRuntime) -> Result<(), Fail> {
     let asks = only(rt.alloc(), outlives(two.a, two.b))?;
     let answer = recorded_in(cx, Variance::Covariant, &two.left, &two.right, &asks);
     assert!(rt; answer == Ok((two.left, true)));
+    Ok(())
+}
+
+// How many goals relating two in a context answers, and whether just these constraints are recorded then.
+fn answered_in<I: Interner, T: Relate<I>>(
+    ctx: &mut RefCtxt<I>,
+    param_env: ParamEnv<I>,
+    variance: Variance,
+    two: (T, T),
+    asks: &[RegionConstraint<I::Key>],
+) -> RelateResult<I, (usize, bool)>
+    requires lawful { IsLawful (I.meaning ctx.old.interner) ctx.old.inner }
+    requires env_known { IsTrue (known ((I.meaning ctx.old.interner).param_env param_env)) }
+    requires decides { variance ≢ Bivariant }
+    requires fits { T.fits (I.meaning ctx.old.interner) two.0 two.1 }
+    requires lhs { IsConcrete (related_tree T.over (T.tree (I.meaning ctx.old.interner) two.0)) }
+    requires rhs { IsConcrete (related_tree T.over (T.tree (I.meaning ctx.old.interner) two.1)) }
+{
+    let span = ctx.interner.dummy_span();
+    let goals = ctx.relate(param_env, two.0, variance, two.1, span)?;
+    Ok((goals.len(), ctx.region_constraints() == asks))
+}
+
+// The same in a new context.
+fn answered<I: Interner + Drop, T: Relate<I>>(
+    mut cx: I,
+    variance: Variance,
+    a: T,
+    b: T,
+    asks: &[RegionConstraint<I::Key>],
+) -> RelateResult<I, (usize, bool)>
+    requires decides { variance ≢ Bivariant }
+    requires fits { T.fits (I.meaning cx) a b }
+    requires lhs { IsConcrete (related_tree T.over (T.tree (I.meaning cx) a)) }
+    requires rhs { IsConcrete (related_tree T.over (T.tree (I.meaning cx) b)) }
+{
+    let param_env = cx.empty_param_env()?;
+    let mut ctx = RefCtxt::new(cx, true, 0)?;
+    answered_in(&mut ctx, param_env, variance, (a, b), asks)
+}
+
+#[test]
+fn lists_are_related_in_a_context(rt: HostRuntime) -> Result<(), Fail> {
+    let mut cx = RefInterner::new(rt.alloc());
+    let lists = make_lists(&mut cx, &SymbolId(0))?;
+    let equal = RegionConstraint::Eq(RegionEqPredicate(lists.a, lists.b));
+    let asks = only(rt.alloc(), equal)?;
+    let answer = answered(cx, Variance::Covariant, lists.left, lists.right, &asks);
+    assert!(rt; answer == Ok((0, true)));
+    Ok(())
+}
+
+#[test]
+fn a_list_is_related_with_itself(rt: HostRuntime) -> Result<(), Fail> {
+    let mut cx = RefInterner::new(rt.alloc());
+    let lists = make_lists(&mut cx, &SymbolId(0))?;
+    let answer = answered(cx, Variance::Covariant, lists.left, lists.left, &[]);
+    assert!(rt; answer == Ok((0, true)));
+    Ok(())
+}
+
+#[test]
+fn arguments_are_related_in_a_context(rt: HostRuntime) -> Result<(), Fail> {
+    let mut cx = RefInterner::new(rt.alloc());
+    let two = make_two(&mut cx, &SymbolId(0))?;
+    let asks = only(rt.alloc(), outlives(two.b, two.a))?;
+    let left = GenericArgKind::Lifetime(two.a);
+    let right = GenericArgKind::Lifetime(two.b);
+    let answer = answered(cx, Variance::Contravariant, left, right, &asks);
+    assert!(rt; answer == Ok((0, true)));
+    Ok(())
+}
+
+// The constant parameter of an index.
+fn make_parameter<I: Interner>(
+    cx: &mut I,
+    index: u32,
+    name: &I::Name,
+) -> Result<Const<I>, OutOfMemory>
+    ensures grown { Extends (I.meaning cx.old) (I.meaning cx.new) }
+    ensures concrete { IfOk result (λ k. IsConcrete ((I.meaning cx.new).const_ k)) }
+{
+    let name = *name;
+    cx.mk_const(ConstKind::Param(ParamConst { index, name }))
+}
+
+// Two of them.
+#[tactic(auto, using(crate::proofs::Concrete::const_concrete))]
+fn make_parameters<I: Interner>(
+    cx: &mut I,
+    name: &I::Name,
+) -> Result<(Const<I>, Const<I>), OutOfMemory>
+    ensures left { IfOk result (λ two. IsConcrete ((I.meaning cx.new).const_ two.0)) }
+    ensures right { IfOk result (λ two. IsConcrete ((I.meaning cx.new).const_ two.1)) }
+{
+    let left = make_parameter(cx, 0, name)?;
+    let right = make_parameter(cx, 1, name)?;
+    Ok((left, right))
+}
+
+#[test]
+fn a_constant_is_related_with_itself(rt: HostRuntime) -> Result<(), Fail> {
+    let mut cx = RefInterner::new(rt.alloc());
+    let n = make_parameter(&mut cx, 0, &SymbolId(0))?;
+    let answer = answered(cx, Variance::Covariant, n, n, &[]);
+    assert!(rt; answer == Ok((0, true)));
+    Ok(())
+}
+
+#[test]
+fn constants_of_two_parameters_are_told_apart(rt: HostRuntime) -> Result<(), Fail> {
+    let mut cx = RefInterner::new(rt.alloc());
+    let two = make_parameters(&mut cx, &SymbolId(0))?;
+    let answer = answered(cx, Variance::Covariant, two.0, two.1, &[]);
+    let expected = ExpectedFound {
+        expected: two.0,
+        found: two.1,
+    };
+    assert!(rt; answer == Err(RelateFault::Unrelated(TypeError::ConstMismatch(expected))));
     Ok(())
 }
 

@@ -6,12 +6,12 @@ use Rattle.type_relations.specs.Stores.{Store, Entry, unbound, same_as, bound_to
 use Rattle.type_relations.specs.Steps.{IsLater, LeadsTo, here, next, OneClass, EntryStands}
 use Rattle.type_relations.proofs.Standing.{made_of_term}
 
-leads_through : (st : Store) (k : VarKind) (n m p : ℕ) → LeadsTo st k n m → LeadsTo st k m p → LeadsTo st k n p
+pub leads_through : (st : Store) (k : VarKind) (n m p : ℕ) → LeadsTo st k n m → LeadsTo st k m p → LeadsTo st k n p
 leads_through st k n m p (here e) h = subst (λ z. LeadsTo st k z p) (sym e) h
 leads_through st k n m p (next {p = q} e l) h = next e (leads_through st k q m p l h)
 
 -- Leading is a function: of two variables that one leads to, one leads to the other.
-one_leads : (st : Store) (k : VarKind) (n m p : ℕ) → LeadsTo st k n m → LeadsTo st k n p → LeadsTo st k m p ⊎ LeadsTo st k p m
+pub one_leads : (st : Store) (k : VarKind) (n m p : ℕ) → LeadsTo st k n m → LeadsTo st k n p → LeadsTo st k m p ⊎ LeadsTo st k p m
 one_leads st k n m p (here e) h = inl (subst (λ z. LeadsTo st k z p) e h)
 one_leads st k n m p (next e l) (here d) = inr (subst (λ z. LeadsTo st k z m) d (next e l))
 one_leads st k n m p (next {p = q} e l) (next {p = r} d h) =

@@ -2,7 +2,7 @@
 use Rattle.std.proofs.Common.{◌≡◌, ◌≢◌, ℕ, zero, suc, ◌<◌, refl, sym, ap, ◌∙◌, subst, arith}
 use Rattle.relation_terms.specs.declared.terms.enums.Variance.{Variance}
 use Rattle.relation_terms.specs.declared.terms.enums.Variance.TheVariants.{Bivariant}
-use Rattle.relation_terms.specs.Heads.{Sort, const_sort, Admits, head_sort, VarKind, const_var, Head, unevaluated, expression, value, value_branch, variable}
+use Rattle.relation_terms.specs.Heads.{Sort, const_sort, Admits, head_sort, VarKind, const_var, Head, unevaluated, expression, value, variable}
 use Rattle.relation_terms.specs.Trees.{Tree, leaf, node, bind, nil, cons, IsTerm, AreTerms, count, nth}
 use Rattle.relation_terms.specs.Meaning.{Meaning}
 use Rattle.relation_tools.specs.declared.error.TypeError.{TypeError}

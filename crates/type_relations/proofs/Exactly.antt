@@ -1,5 +1,5 @@
 -- What a context's steps keep up to erasure.
-use Rattle.std.proofs.Common.{◌≡◌, ◌↔◌, ℕ, ◌<◌, refl, sym, ap, ◌∙◌, subst, length, get_or, Some}
+use Rattle.std.proofs.Common.{◌≡◌, ◌↔◌, ℕ, ◌<◌, refl, sym, ap, ◌∙◌, subst, length, get_or}
 use Rattle.std.proofs.Common.{Result, Err}
 use Rattle.relation_terms.specs.declared.terms.enums.Variance.{Variance}
 use Rattle.relation_terms.specs.declared.terms.enums.Variance.TheVariants.{Invariant}

@@ -1,13 +1,13 @@
 -- Generalising has one outcome.
-use Rattle.std.proofs.Common.{◌≡◌, ◌≢◌, ◌⊎◌, ℕ, zero, suc, ◌+◌, ◌<◌, ◌≤◌, refl, sym, ap, ap₂, ◌∙◌, arith, inl, inr, subst, List, [], ◌∷◌, ◌++◌, length, length-append, Some, Contains}
+use Rattle.std.proofs.Common.{◌≡◌, ◌⊎◌, ℕ, zero, suc, ◌+◌, ◌<◌, ◌≤◌, refl, sym, ap, ap₂, ◌∙◌, arith, inl, inr, subst, List, [], ◌∷◌, length, length-append, Contains}
 use Rattle.relation_terms.specs.declared.terms.enums.Variance.{Variance}
 use Rattle.relation_terms.specs.Heads.{VarKind, VarKind_discrete, variable}
-use Rattle.relation_terms.specs.Trees.{Tree, leaf, node, bind, nil, cons, size}
+use Rattle.relation_terms.specs.Trees.{Tree, leaf, node, bind, cons, size}
 use Rattle.type_relations.specs.Relation.{Items}
-use Rattle.type_relations.specs.Stores.{Store, Entry, unbound}
+use Rattle.type_relations.specs.Stores.{Store, unbound}
 use Rattle.type_relations.specs.Steps.{MakesVariable}
 use Rattle.type_relations.specs.StoreLaws.{GeneralisingIsOne}
-use Rattle.type_relations.specs.Generalising.{gives_way_to, Met, Stage, Turn, any_part, new_part, parts_from, Generalised, met_before, met_first, no_type, stays, gives_way, by_parts, in_binder, no_parts, next_part}
+use Rattle.type_relations.specs.Generalising.{Met, Stage, Turn, any_part, new_part, parts_from, Generalised, met_before, met_first, no_type, stays, gives_way, by_parts, in_binder, no_parts, next_part}
 
 abbrev met_as : Variance → Tree → Tree → Met
 met_as v t x = record { variance = v; type = t; term = x }

@@ -67,6 +67,8 @@ pub mod OverContext
 pub mod Solving
 pub mod SolvingVariables
 pub mod SolvingGoals
+pub mod Subtyping
+pub mod Relating
 pub mod Bivariance
 pub mod Combining
 pub mod Noting

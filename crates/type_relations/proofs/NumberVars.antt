@@ -26,7 +26,7 @@ use Rattle.type_relations.proofs.Numbers.{IsNumber, covered_formed}
 use Rattle.type_relations.specs.NumberValues.{int_value_tree, float_value_tree}
 use Rattle.type_relations.specs.declared.relate.number_vars.NumberVid.{NumberVid}
 use Rattle.type_relations.specs.declared.relate.number_vars.NumberVid.TheVariants as vid
-use Rattle.type_relations.specs.NumberVars.{number_kind, number_of, infer_of, number_tree, IsNoNumberVar}
+use Rattle.type_relations.specs.NumberVars.{number_kind, infer_of, number_tree, IsNoNumberVar}
 use Rattle.type_relations.specs.NumberVars.{IsIntValue, IsFloatValue}
 
 -- A covered type that is no type, integer or float variable is of a form.

@@ -4,7 +4,7 @@ use Rattle.relation_terms.specs.declared.terms.enums.Variance.{Variance}
 use Rattle.relation_terms.specs.declared.terms.enums.Variance.TheVariants.{Bivariant}
 use Rattle.relation_terms.specs.declared.terms.keys.TyKey.{TyKey}
 use Rattle.relation_terms.specs.Heads.{BoundKind, bound_kind, region_kind, type_kind, const_kind, Sort, type_sort, atom_sort, bound_sort, head_sort, Admits}
-use Rattle.relation_terms.specs.Heads.{VarKind, type_var, int_var, float_var, const_var, region_var, Leaf, variable, bound}
+use Rattle.relation_terms.specs.Heads.{VarKind, type_var, int_var, float_var, const_var, region_var, variable, bound}
 use Rattle.relation_terms.specs.Heads.{placeholder, atom, unknown, Atom, early_region, type_param, const_param, int_type}
 use Rattle.relation_terms.specs.Heads.{uint_type, float_type}
 use Rattle.relation_terms.specs.Trees.{Tree, leaf, node, bind, nil, cons, Assign, apply, IsTerm, Leaves, Occurs}
@@ -19,7 +19,7 @@ use Rattle.type_relations.specs.FirstOrder.{IsFirstOrder, IsFirstOrderStore}
 use Rattle.type_relations.specs.Steps.{InstantiatesNumber, IsNumberFor}
 use Rattle.type_relations.specs.Measures.{Goes}
 use Rattle.type_relations.specs.Outcomes.{Exact, NoEqualTerms, NoUnifier}
-use Rattle.type_relations.specs.Errors.{ErrorOf, FormError, HaveNoError, AreAlike, AreBindable, IsVariableFor, of_forms, sorts}
+use Rattle.type_relations.specs.Errors.{ErrorOf, HaveNoError, AreAlike, AreBindable, IsVariableFor, of_forms, sorts}
 use Rattle.type_relations.specs.Parts.{IsFormed}
 use Rattle.type_relations.specs.Covered.{IsCovered}
 use Rattle.type_relations.proofs.Covered.{covered_no_error}

@@ -3,7 +3,7 @@ use Rattle.std.proofs.Common.{◌≡◌, ℕ, zero, suc, ◌<◌, refl, sym, ap,
 use Rattle.std.proofs.Common.{IsTrue, List, length, get_or}
 use Rattle.relation_terms.specs.Heads.{VarKind, Head, Leaf}
 use Rattle.relation_terms.specs.Heads.{unevaluated, expression}
-use Rattle.relation_terms.specs.Heads.{value, value_branch, variable}
+use Rattle.relation_terms.specs.Heads.{value, value_branch}
 use Rattle.relation_terms.specs.Trees.{Tree, leaf, node, bind, nil, cons, Assign, apply, Leaves, Occurs, size, count}
 use Rattle.relation_terms.specs.Trees.{nth}
 use Rattle.relation_terms.specs.Trees.{known, list_tree, IsList}

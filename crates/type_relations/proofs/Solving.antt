@@ -1,5 +1,5 @@
 -- Relating in a context, step by step.
-use Rattle.std.proofs.Common.{◌≡◌, ◌≢◌, ℕ, ◌+◌, ◌≤◌, refl, sym, ap, ◌∙◌, arith, subst, subst₂, [], All}
+use Rattle.std.proofs.Common.{◌≡◌, ◌≢◌, ℕ, ◌≤◌, refl, sym, ap, ◌∙◌, arith, subst, subst₂, [], All}
 use Rattle.std.proofs.Common.{IsTrue, Some, IfSome, ◌++◌, max, min, length}
 use Rattle.std.proofs.Common.{Result, Ok, Err, List, ◌∷◌, false}
 use Rattle.std.proofs.lemmas.List.Elements.{All-nil}

@@ -1,4 +1,4 @@
--- What contracts see of a context, and what relating two types in it asks and promises.
+-- What contracts see of a context, which terms are its own, and what relating in it registers and spends.
 use Rattle.std.specs.Prelude.{◌≡◌, ◌+◌, ℕ, Bool, false, List, IsTrue, IfOk, Result, [], All}
 use Rattle.std.specs.Global.{Vec}
 use Rattle.std.specs.Result.{IsOkAnd}
@@ -14,13 +14,8 @@ use Rattle.relation_terms.specs.declared.terms.keys.ParamEnvKey.{ParamEnvKey}
 use Rattle.relation_terms.specs.Trees.{known}
 use Rattle.relation_terms.specs.Meaning.{Meaning}
 use Rattle.relation_tools.specs.declared.error.RelateFault.{RelateFault}
-use Rattle.relation_tools.specs.Faults.{IfUnrelated}
 use Rattle.type_relations.specs.Stores.{Store, IsTermIn, IsRegionIn, all_bound}
 use Rattle.type_relations.specs.Goals.{goals_of, KnowsGoal, Registered}
-use Rattle.type_relations.specs.FirstOrder.{IsFirstOrderStore}
-use Rattle.type_relations.specs.Outcomes.{NoEqualTerms, Exact, NoUnifier}
-use Rattle.type_relations.specs.Headline.{AnswersGoals, KeepsEqualTerms, IsFirstOrderPair}
-use Rattle.type_relations.specs.Errors.{ErrorOf}
 use Rattle.type_relations.specs.Covered.{IsCovered}
 use Rattle.type_relations.specs.Lawful.{items_of}
 
@@ -65,33 +60,8 @@ module _ {Key Id Name : Type 0} where
   abbrev pub HasRegion : Context Key Id Name → RegionKey Key → Type 0
   HasRegion c r = IsRegionIn c.store ((c.meaning).region r)
 
-  -- Two types are one.
-  abbrev pub AreOneTy : Context Key Id Name → TyKey Key → TyKey Key → Type 0
-  AreOneTy c a b = (c.meaning).ty a ≡ (c.meaning).ty b
-
 -- Between a context before the call and after it.
 module _ {Key Id Name : Type 0} (c d : Context Key Id Name) where
-  -- Sound: what satisfies the record after and makes the goals true relates the types, and satisfied the record before.
-  abbrev pub AnswersTys : ParamEnvKey Key → Variance → TyKey Key → TyKey Key →
-      Result (Vec (Goal Key (PredicateKey Key))) (RelateFault Key Id Name) → Type 0
-  AnswersTys e v a b result = IfOk result (λ goals. AnswersGoals (items_of c.meaning) c.store d.store
-      (goals_of d.meaning goals.items) ((c.meaning).param_env e) v ((c.meaning).ty a) ((c.meaning).ty b))
-
-  -- No equal pair is lost, where the types are related.
-  abbrev pub KeepsEqualTys : TyKey Key → TyKey Key →
-      Result (Vec (Goal Key (PredicateKey Key))) (RelateFault Key Id Name) → Type 0
-  KeepsEqualTys a b result = IfOk result (λ goals. KeepsEqualTerms c.store d.store (goals_of d.meaning goals.items)
-      ((c.meaning).ty a) ((c.meaning).ty b))
-
-  -- No assignment made the types one, where they are not related.
-  abbrev pub TellsApart : {A : Type 0} → TyKey Key → TyKey Key → Result A (RelateFault Key Id Name) → Type 0
-  TellsApart a b result = IfUnrelated result (λ e. NoEqualTerms c.store ((c.meaning).ty a) ((c.meaning).ty b))
-
-  -- Which error comes, where they are not related.
-  abbrev pub AnswersError : {A : Type 0} → Variance → TyKey Key → TyKey Key → Result A (RelateFault Key Id Name) → Type 0
-  AnswersError v a b result = IfUnrelated result (λ e. ErrorOf d.meaning (items_of d.meaning) d.store v e
-      ((c.meaning).ty a) ((c.meaning).ty b))
-
   -- Each goal is known, and registered in the environment: that of two type variables, each unbound before or made on
   -- the way, the one is a subtype of the other; or that a type with a bivariant part is well formed. At invariance there
   -- is none.
@@ -104,20 +74,6 @@ module _ {Key Id Name : Type 0} (c d : Context Key Id Name) where
   -- No goal is answered, and nothing is recorded.
   abbrev pub DoesNothing : Result (Vec (Goal Key (PredicateKey Key))) (RelateFault Key Id Name) → Type 0
   DoesNothing result = IsOkAnd result (λ goals. goals.items ≡ []) × (d.store ≡ c.store)
-
-  -- Exact, of first-order types in a first-order record at invariance: just the solutions that unify them stay, up to
-  -- erasure, and the record stays first-order.
-  abbrev pub AnswersExactly : {A : Type 0} → Variance → TyKey Key → TyKey Key → Result A (RelateFault Key Id Name) →
-      Type 0
-  AnswersExactly v a b result = IfOk result (λ goals. v ≡ Invariant →
-      IsFirstOrderPair c.store ((c.meaning).ty a) ((c.meaning).ty b) →
-      Exact c.store d.store ((c.meaning).ty a) ((c.meaning).ty b) × IsFirstOrderStore d.store)
-
-  -- A type error of such types says that nothing unified them, up to erasure.
-  abbrev pub ProvesApart : {A : Type 0} → Variance → TyKey Key → TyKey Key → Result A (RelateFault Key Id Name) → Type 0
-  ProvesApart v a b result = IfUnrelated result (λ e. v ≡ Invariant →
-      IsFirstOrderPair c.store ((c.meaning).ty a) ((c.meaning).ty b) →
-      NoUnifier c.store ((c.meaning).ty a) ((c.meaning).ty b))
 
   -- Each variable of a type or a constant that was newly bound has taken one instantiation, and nothing else has.
   abbrev pub SpendsByBinding : Type 0

@@ -19,6 +19,7 @@ use Rattle.type_relations.specs.Goals.{Relates}
 use Rattle.type_relations.specs.Lawful.{State, Manners, Asked, Related, Stepped, items_in}
 use Rattle.type_relations.specs.Parts.{IsFormed, IsFormedConst, head_of}
 use Rattle.type_relations.specs.Relation.{part_at}
+use Rattle.type_relations.specs.Subtyping.{RegistersSubtype, StepRegistersSubtype}
 
 module _ {Key Id Name : Type 0} where
   -- The variances that an item declares of its parameters.
@@ -103,6 +104,23 @@ module _ {Key Id Name : Type 0} where
       Result (Step (ConstKey Key)) (RelateFault Key Id Name) → Type 0
   SteppedConsts M r q a b result =
       Stepped M IsFormedConst r q ((r.meaning).const_ a) ((r.meaning).const_ b) (q.meaning).const_ result
+
+  -- Two types that are unresolved type variables were related, or a step of them taken, by registering one goal alone,
+  -- where the relation promises it. The same of two arguments.
+  abbrev pub TysRegisterSubtype : Manners → State Key Id Name → State Key Id Name → TyKey Key → TyKey Key →
+      Result (TyKey Key) (RelateFault Key Id Name) → Type 0
+  TysRegisterSubtype M r q a b result =
+      RegistersSubtype M r q r.ambient ((r.meaning).ty a) ((r.meaning).ty b) result
+
+  abbrev pub ArgsRegisterSubtype : Manners → State Key Id Name → State Key Id Name → GenericArgKind Key →
+      GenericArgKind Key → Result (GenericArgKind Key) (RelateFault Key Id Name) → Type 0
+  ArgsRegisterSubtype M r q a b result =
+      RegistersSubtype M r q r.ambient (arg_tree r.meaning a) (arg_tree r.meaning b) result
+
+  abbrev pub TysStepToSubtype : Manners → State Key Id Name → State Key Id Name → TyKey Key → TyKey Key →
+      Result (Step (TyKey Key)) (RelateFault Key Id Name) → Type 0
+  TysStepToSubtype M r q a b result =
+      StepRegistersSubtype M r q (q.meaning).ty ((r.meaning).ty a) ((r.meaning).ty b) result
 
   -- What is recorded and registered relates two types.
   abbrev pub RelatesTys : State Key Id Name → TyKey Key → TyKey Key → Type 0

@@ -68,13 +68,15 @@ abbrev pub items_in : {Key Id Name : Type 0} → State Key Id Name → Items
 items_in r = items_of r.meaning
 
 -- What a relation takes and gives, set up as it is: which leaves may stand in terms at a variance; whether it promises
--- to answer the left side of a pair; whether it promises to be exact; and whether it promises to record of two regions
--- just what their variance asks for.
+-- to answer the left side of a pair; whether it promises to be exact; whether it promises to record of two regions just
+-- what their variance asks for; and whether it promises to register of two unresolved type variables, at covariance and
+-- contravariance, just that the one is a subtype of the other.
 pub record Manner : Type 1 where
   pub takes : Variance → Leaf → Type 0
   pub keeps_left : Type 0
   pub is_exact : Type 0
   pub records_asked : Type 0
+  pub registers_subtype : Type 0
 
 -- The same by how a relation is set up.
 abbrev pub Manners : Type 1

@@ -21,11 +21,14 @@ pub mod DiagInfo
 pub mod Parts
 pub mod Handing
 pub mod Lawful
+pub mod Subtyping
 pub mod Constraints
 pub mod Arguments
 pub mod Making
 pub mod Keyed
 pub mod Contexts
+pub mod Relating
+pub mod EqualTerms
 pub mod Resolving
 pub mod NumberValues
 pub mod ContextCalls

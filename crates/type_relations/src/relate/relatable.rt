@@ -1,12 +1,16 @@
 //! What can be related.
 ghost use Rattle.std.specs.Prelude.{◌≡◌, ◌≢◌, IsTrue, Option, Some, None};
-ghost use Rattle.std.proofs.Common.{ap, sym, ◌∙◌};
+ghost use Rattle.std.proofs.Common.{ap, refl, sym, ◌∙◌};
 ghost use Rattle.relation_terms.specs.declared.terms.enums.Variance.TheVariants.{Bivariant};
 ghost use Rattle.relation_terms.specs.Meaning.{Meaning, Extends};
 ghost use Rattle.relation_terms.specs.Trees.{known, count};
 ghost use Rattle.relation_terms.specs.Heads.{Head, arguments};
+ghost use Rattle.relation_terms.specs.Interning.{AreEqualAsTrees};
+ghost use Rattle.relation_tools.proofs.Arguments.{arg_same};
 ghost use Rattle.type_relations.specs.Arguments.{related_tree};
+ghost use Rattle.type_relations.specs.EqualTerms.{sorted_by, term_same};
 ghost use Rattle.type_relations.specs.Lawful.{Asked, Related};
+ghost use Rattle.type_relations.specs.Subtyping.{RegistersSubtype};
 
 use crate::relate::TypeRelation;
 use crate::relate::args::relate_args_invariantly;
@@ -43,14 +47,20 @@ pub trait Relate<I: Interner>: TypeFoldable<I> + PartialEq + Copy {
         requires asked { Asked R.manner (R.state r.old) (R.state r.old).ambient
             (related_tree over (Self.tree (R.state r.old).meaning a.now))
             (related_tree over (Self.tree (R.state r.old).meaning b.now)) }
-        ensures { Related R.manner (R.state r.old) (R.state r.new) (R.state r.old).ambient
+        ensures related { Related R.manner (R.state r.old) (R.state r.new) (R.state r.old).ambient
             (related_tree over (Self.tree (R.state r.old).meaning a.now))
             (related_tree over (Self.tree (R.state r.old).meaning b.now))
-            (λ x. related_tree over (Self.tree (R.state r.new).meaning x)) result };
+            (λ x. related_tree over (Self.tree (R.state r.new).meaning x)) result }
+        ensures registers { RegistersSubtype R.manner (R.state r.old) (R.state r.new) (R.state r.old).ambient
+            (related_tree over (Self.tree (R.state r.old).meaning a.now))
+            (related_tree over (Self.tree (R.state r.old).meaning b.now)) result };
 
     // What is asked of two that are known holds on while the interner grows.
     ghost fits_on: { (m n : Meaning I.Key I.Id I.Name) → Extends m n → (x y : Self) →
         IsTrue (known (Self.tree m x)) → IsTrue (known (Self.tree m y)) → fits m x y → fits n x y };
+
+    // Two that an interner knows are equal exactly where their trees are.
+    ghost same: { (cx : I) → AreEqualAsTrees (Self.tree (I.meaning cx)) (λ x y. Self.eq x y) };
 }
 
 impl<I: Interner> Relate<I> for TyKey<I::Key> {
@@ -63,6 +73,8 @@ impl<I: Interner> Relate<I> for TyKey<I::Key> {
     }
 
     ghost fits_on = { λ m n e x y h k f. tt };
+
+    ghost same = { I.same_ty };
 }
 
 impl<I: Interner> Relate<I> for RegionKey<I::Key> {
@@ -75,6 +87,8 @@ impl<I: Interner> Relate<I> for RegionKey<I::Key> {
     }
 
     ghost fits_on = { λ m n e x y h k f. tt };
+
+    ghost same = { I.same_region };
 }
 
 impl<I: Interner> Relate<I> for ConstKey<I::Key> {
@@ -87,6 +101,8 @@ impl<I: Interner> Relate<I> for ConstKey<I::Key> {
     }
 
     ghost fits_on = { λ m n e x y h k f. tt };
+
+    ghost same = { I.same_const };
 }
 
 impl<I: Interner> Relate<I> for GenericArgKind<I::Key> {
@@ -99,6 +115,12 @@ impl<I: Interner> Relate<I> for GenericArgKind<I::Key> {
     }
 
     ghost fits_on = { λ m n e x y h k f. tt };
+
+    ghost same = { λ cx. arg_same (I.meaning cx) I.Key.eq _ (λ x y. refl) (λ x y. refl) (λ x y. refl)
+        (λ x y. refl) (λ x y. refl) (λ x y. refl) (λ x y. refl) (λ x y. refl) (λ x y. refl) (I.same_region cx)
+        (I.same_ty cx) (I.same_const cx) (sorted_by (I.meaning cx) (I.is_ty cx) (I.is_region cx) (I.are_tys cx)
+        (I.is_const cx) (I.is_valtree cx) (I.are_args cx) (I.are_branches cx) (I.is_pat cx) (I.are_alternatives cx)
+        (I.are_existential_predicates cx)) };
 }
 
 impl<I: Interner> Relate<I> for ArgsKey<I::Key> {
@@ -112,6 +134,8 @@ impl<I: Interner> Relate<I> for ArgsKey<I::Key> {
     }
 
     ghost fits_on = { λ m n e x y h k f. ap count (e.args x h) ∙ (f ∙ sym (ap count (e.args y k))) };
+
+    ghost same = { I.same_args };
 }
 
 impl<I: Interner> Relate<I> for TermKind<I::Key> {
@@ -138,4 +162,9 @@ impl<I: Interner> Relate<I> for TermKind<I::Key> {
     }
 
     ghost fits_on = { λ m n e x y h k f. tt };
+
+    ghost same = { λ cx. term_same (I.meaning cx) I.Key.eq _ (λ x y. refl) (λ x y. refl) (λ x y. refl) (λ x y. refl)
+        (I.same_region cx) (I.same_ty cx) (I.same_const cx) (sorted_by (I.meaning cx) (I.is_ty cx) (I.is_region cx)
+        (I.are_tys cx) (I.is_const cx) (I.is_valtree cx) (I.are_args cx) (I.are_branches cx) (I.is_pat cx)
+        (I.are_alternatives cx) (I.are_existential_predicates cx)) };
 }

@@ -4,10 +4,12 @@ ghost use Rattle.relation_terms.specs.Meaning.{Extends};
 ghost use Rattle.relation_tools.specs.Faults.{KnowsFault, IfSpent};
 ghost use Rattle.type_relations.specs.Stores.{IsSound};
 ghost use Rattle.type_relations.specs.Steps.{IsLater, MakesToInstantiate, BindsItsOwn};
-ghost use Rattle.type_relations.specs.Contexts.{KnowsEnv, KnowsTy, TakesTy, HasTy, AreOneTy, AnswersTys};
-ghost use Rattle.type_relations.specs.Contexts.{KeepsEqualTys, TellsApart, AnswersError, DoesNothing, AnswersExactly};
-ghost use Rattle.type_relations.specs.Contexts.{ProvesApart, SpendsByBinding, RegistersGoals};
-ghost use Rattle.type_relations.specs.Keyed.{AskedTys, RelatedTys};
+ghost use Rattle.type_relations.specs.Contexts.{KnowsEnv, DoesNothing, SpendsByBinding, RegistersGoals};
+ghost use Rattle.type_relations.specs.Lawful.{Asked, Related};
+ghost use Rattle.type_relations.specs.Relating.{term_in, KnowsTerm, TakesTerm, HasTerm, AreOne, AnswersTerms};
+ghost use Rattle.type_relations.specs.Relating.{KeepsEqual, TellsApart, AnswersError, AnswersExactly, ProvesApart};
+ghost use Rattle.type_relations.specs.Relating.{AnswersSubtype};
+ghost use Rattle.type_relations.specs.Subtyping.{RegistersSubtype};
 ghost use Rattle.type_relations.specs.Solving.{solving_in, solver_manner};
 
 mod emitting;
@@ -15,8 +17,9 @@ pub(crate) mod recording;
 mod relation;
 
 use crate::infer_ctxt::InferCtxtLike;
+use crate::relate::Relate;
 pub use relation::{GoalOf, SolverRelating};
-use relation_terms::terms::{Interner, ParamEnv, Span, Ty, Variance};
+use relation_terms::terms::{Interner, ParamEnv, Span, Variance};
 use relation_tools::error::RelateResult;
 
 /// The goals that relating answers, or why it stopped.
@@ -24,23 +27,29 @@ pub type RelateGoals<I> = RelateResult<I, Vec<GoalOf<I>>>;
 
 /// An inference context that relates terms.
 pub trait RelateExt: InferCtxtLike {
-    /// Relates two types at a variance, and answers the goals under which they are related.
+    /// Relates two types, or two others that can be related, at a variance, and answers the goals under which they are
+    /// related: regions, constants, generic arguments, terms of projections, or lists of arguments, pair by pair and
+    /// each invariantly.
     ///
-    /// Both types and the environment are the interner's, and the variables in them are the context's. They are related
-    /// at each variance but `Bivariant`. Not related yet are types in which an alias stands, an unevaluated constant, a
-    /// pattern type, an error, a binder or what it binds, or a stand-in.
+    /// Both and the environment are the interner's, and the variables in them are the context's. They are related at
+    /// each variance but `Bivariant`; two lists have as many arguments. Not related yet are terms in which an alias
+    /// stands, an unevaluated constant, a pattern type, an error, a binder or what it binds, or a stand-in.
     ///
-    /// After `Ok`, each assignment that satisfies what is recorded and makes the goals true relates the types; and each
+    /// After `Ok`, each assignment that satisfies what is recorded and makes the goals true relates the two; and each
     /// that satisfied what was recorded and made them one extends to such a one. Each goal asks, in the environment,
     /// that of two type variables the one is a subtype of the other: such as met at `Covariant` or `Contravariant`,
     /// each unbound before or made on the way; or that a type is well formed, one with a bivariant part: of types over
     /// one item that met there, where a variable, but of regions, was left in a bivariant argument of either. At
-    /// `Invariant` there is no goal. Equal types record nothing, and ask for no goal. Of first-order types in a
+    /// `Invariant` there is no goal. Equal ones record nothing, and ask for no goal. Of first-order terms in a
     /// first-order record at `Invariant` just those solutions up to erasure stay that unify them: what is recorded is
     /// then a most general unifier.
     ///
-    /// Answers `Unrelated` only where no assignment that satisfied what was recorded makes the types one: with the
-    /// error of two parts that stand at one place, the left side's first, or of a cycle. Of first-order types in a
+    /// Two different types that are unresolved type variables answer just one goal, and nothing is recorded: at
+    /// `Covariant` that the first is a subtype of the second, at `Contravariant` that the second is one of the first.
+    /// Both stand there by their roots, and the first is the expected one.
+    ///
+    /// Answers `Unrelated` only where no assignment that satisfied what was recorded makes the two one: with the error
+    /// of two parts that stand at one place, the left side's first, or of a cycle. Of first-order terms in a
     /// first-order record at `Invariant` no solution up to erasure unifies them then. Answers `Budget` only where no
     /// instantiation is left, and `Memory` where a growth was refused.
     ///
@@ -48,33 +57,35 @@ pub trait RelateExt: InferCtxtLike {
     /// one: none where nothing was left of the budget, or no variable of a type or a constant was unbound. It binds
     /// only what was the context's and unbound, or was made on the way: variables of types and constants each for one
     /// instantiation, those of numbers for none. After an error more may have been recorded and made on the way.
-    fn relate(
+    fn relate<T: Relate<Self::Interner>>(
         &mut self,
         param_env: ParamEnv<Self::Interner>,
-        lhs: Ty<Self::Interner>,
+        lhs: T,
         variance: Variance,
-        rhs: Ty<Self::Interner>,
+        rhs: T,
         span: Span<Self::Interner>,
     ) -> RelateGoals<Self::Interner>
         requires lawful { (Self.state self.old).lawful }
         requires decides { variance ≢ Variance.Bivariant }
         requires env_known { KnowsEnv (Self.state self.old) param_env }
-        requires lhs_known { KnowsTy (Self.state self.old) lhs }
-        requires rhs_known { KnowsTy (Self.state self.old) rhs }
-        requires lhs_taken { TakesTy (Self.state self.old) lhs }
-        requires rhs_taken { TakesTy (Self.state self.old) rhs }
-        requires lhs_in { HasTy (Self.state self.old) lhs }
-        requires rhs_in { HasTy (Self.state self.old) rhs }
-        ensures answers { AnswersTys (Self.state self.old) (Self.state self.new) param_env variance lhs rhs result }
-        ensures keeps { KeepsEqualTys (Self.state self.old) (Self.state self.new) lhs rhs result }
-        ensures apart { TellsApart (Self.state self.old) (Self.state self.new) lhs rhs result }
-        ensures errors { AnswersError (Self.state self.old) (Self.state self.new) variance lhs rhs result }
+        requires fits { T.fits (Self.state self.old).meaning lhs rhs }
+        requires lhs_known { KnowsTerm (Self.state self.old) T.over T.tree lhs }
+        requires rhs_known { KnowsTerm (Self.state self.old) T.over T.tree rhs }
+        requires lhs_taken { TakesTerm (Self.state self.old) T.over T.tree lhs }
+        requires rhs_taken { TakesTerm (Self.state self.old) T.over T.tree rhs }
+        requires lhs_in { HasTerm (Self.state self.old) T.over T.tree lhs }
+        requires rhs_in { HasTerm (Self.state self.old) T.over T.tree rhs }
+        ensures answers { AnswersTerms Self.state self.old self.new T.over T.tree param_env variance lhs rhs result }
+        ensures keeps { KeepsEqual Self.state self.old self.new T.over T.tree lhs rhs result }
+        ensures apart { TellsApart Self.state self.old self.new T.over T.tree lhs rhs result }
+        ensures errors { AnswersError Self.state self.old self.new T.over T.tree variance lhs rhs result }
         ensures spent { IfSpent result ((Self.state self.new).store.budget ≡ 0) }
-        ensures same { AreOneTy (Self.state self.old) lhs rhs →
+        ensures same { AreOne (Self.state self.old) T.over T.tree lhs rhs →
             DoesNothing (Self.state self.old) (Self.state self.new) result }
+        ensures subtype { AnswersSubtype Self.state self.old self.new T.over T.tree param_env variance lhs rhs result }
         ensures goals { RegistersGoals (Self.state self.old) (Self.state self.new) param_env variance result }
-        ensures exact { AnswersExactly (Self.state self.old) (Self.state self.new) variance lhs rhs result }
-        ensures no_unifier { ProvesApart (Self.state self.old) (Self.state self.new) variance lhs rhs result }
+        ensures exact { AnswersExactly Self.state self.old self.new T.over T.tree variance lhs rhs result }
+        ensures no_unifier { ProvesApart Self.state self.old self.new T.over T.tree variance lhs rhs result }
         ensures later { IsLater (Self.state self.old).store (Self.state self.new).store }
         ensures made { MakesToInstantiate (Self.state self.old).store (Self.state self.new).store }
         ensures bound { BindsItsOwn (Self.state self.old).store (Self.state self.new).store }
@@ -86,33 +97,35 @@ pub trait RelateExt: InferCtxtLike {
 }
 
 impl<Infcx: InferCtxtLike> RelateExt for Infcx {
-    fn relate(
+    fn relate<T: Relate<Infcx::Interner>>(
         &mut self,
         param_env: ParamEnv<Infcx::Interner>,
-        lhs: Ty<Infcx::Interner>,
+        lhs: T,
         variance: Variance,
-        rhs: Ty<Infcx::Interner>,
+        rhs: T,
         span: Span<Infcx::Interner>,
     ) -> RelateGoals<Infcx::Interner>
         requires lawful { (Infcx.state self.old).lawful }
         requires decides { variance ≢ Variance.Bivariant }
         requires env_known { KnowsEnv (Infcx.state self.old) param_env }
-        requires lhs_known { KnowsTy (Infcx.state self.old) lhs }
-        requires rhs_known { KnowsTy (Infcx.state self.old) rhs }
-        requires lhs_taken { TakesTy (Infcx.state self.old) lhs }
-        requires rhs_taken { TakesTy (Infcx.state self.old) rhs }
-        requires lhs_in { HasTy (Infcx.state self.old) lhs }
-        requires rhs_in { HasTy (Infcx.state self.old) rhs }
-        ensures answers { AnswersTys (Infcx.state self.old) (Infcx.state self.new) param_env variance lhs rhs result }
-        ensures keeps { KeepsEqualTys (Infcx.state self.old) (Infcx.state self.new) lhs rhs result }
-        ensures apart { TellsApart (Infcx.state self.old) (Infcx.state self.new) lhs rhs result }
-        ensures errors { AnswersError (Infcx.state self.old) (Infcx.state self.new) variance lhs rhs result }
+        requires fits { T.fits (Infcx.state self.old).meaning lhs rhs }
+        requires lhs_known { KnowsTerm (Infcx.state self.old) T.over T.tree lhs }
+        requires rhs_known { KnowsTerm (Infcx.state self.old) T.over T.tree rhs }
+        requires lhs_taken { TakesTerm (Infcx.state self.old) T.over T.tree lhs }
+        requires rhs_taken { TakesTerm (Infcx.state self.old) T.over T.tree rhs }
+        requires lhs_in { HasTerm (Infcx.state self.old) T.over T.tree lhs }
+        requires rhs_in { HasTerm (Infcx.state self.old) T.over T.tree rhs }
+        ensures answers { AnswersTerms Infcx.state self.old self.new T.over T.tree param_env variance lhs rhs result }
+        ensures keeps { KeepsEqual Infcx.state self.old self.new T.over T.tree lhs rhs result }
+        ensures apart { TellsApart Infcx.state self.old self.new T.over T.tree lhs rhs result }
+        ensures errors { AnswersError Infcx.state self.old self.new T.over T.tree variance lhs rhs result }
         ensures spent { IfSpent result ((Infcx.state self.new).store.budget ≡ 0) }
-        ensures same { AreOneTy (Infcx.state self.old) lhs rhs →
+        ensures same { AreOne (Infcx.state self.old) T.over T.tree lhs rhs →
             DoesNothing (Infcx.state self.old) (Infcx.state self.new) result }
+        ensures subtype { AnswersSubtype Infcx.state self.old self.new T.over T.tree param_env variance lhs rhs result }
         ensures goals { RegistersGoals (Infcx.state self.old) (Infcx.state self.new) param_env variance result }
-        ensures exact { AnswersExactly (Infcx.state self.old) (Infcx.state self.new) variance lhs rhs result }
-        ensures no_unifier { ProvesApart (Infcx.state self.old) (Infcx.state self.new) variance lhs rhs result }
+        ensures exact { AnswersExactly Infcx.state self.old self.new T.over T.tree variance lhs rhs result }
+        ensures no_unifier { ProvesApart Infcx.state self.old self.new T.over T.tree variance lhs rhs result }
         ensures later { IsLater (Infcx.state self.old).store (Infcx.state self.new).store }
         ensures made { MakesToInstantiate (Infcx.state self.old).store (Infcx.state self.new).store }
         ensures bound { BindsItsOwn (Infcx.state self.old).store (Infcx.state self.new).store }
@@ -131,26 +144,33 @@ impl<Infcx: InferCtxtLike> RelateExt for Infcx {
     }
 }
 
-// Relates two types of a context at a variance, in an environment, and answers what comes of it and the goals that were
+// Relates two in a context at a variance, in an environment, and answers what comes of it and the goals that were
 // registered.
-fn relate_in<Infcx: InferCtxtLike>(
+fn relate_in<Infcx: InferCtxtLike, T: Relate<Infcx::Interner>>(
     infcx: &mut Infcx,
     param_env: ParamEnv<Infcx::Interner>,
-    a: &Ty<Infcx::Interner>,
+    a: &T,
     variance: Variance,
-    b: &Ty<Infcx::Interner>,
+    b: &T,
     span: Span<Infcx::Interner>,
 ) -> (
-    RelateResult<Infcx::Interner, Ty<Infcx::Interner>>,
+    RelateResult<Infcx::Interner, T>,
     Vec<GoalOf<Infcx::Interner>>,
 )
     requires lawful { (Infcx.state infcx.old).lawful }
     requires env_known { KnowsEnv (Infcx.state infcx.old) param_env }
     requires decides { variance ≢ Variance.Bivariant }
-    requires asked { AskedTys solver_manner (solving_in [] (Infcx.state infcx.old) variance param_env) a.now b.now }
-    ensures { let before = solving_in [] (Infcx.state infcx.old) variance param_env in
-        let after = solving_in result.1.items (Infcx.state infcx.new) variance param_env in
-        RelatedTys solver_manner before after a.now b.now result.0 }
+    requires fits { T.fits (Infcx.state infcx.old).meaning a.now b.now }
+    requires asked { let c = Infcx.state infcx.old in Asked solver_manner (solving_in [] c variance param_env) variance
+        (term_in c T.over T.tree a.now) (term_in c T.over T.tree b.now) }
+    ensures related { let c = Infcx.state infcx.old in let d = Infcx.state infcx.new in
+        let before = solving_in [] c variance param_env in let after = solving_in result.1.items d variance param_env in
+        Related solver_manner before after variance (term_in c T.over T.tree a.now) (term_in c T.over T.tree b.now)
+        (term_in d T.over T.tree) result.0 }
+    ensures registers { let c = Infcx.state infcx.old in let d = Infcx.state infcx.new in
+        let before = solving_in [] c variance param_env in let after = solving_in result.1.items d variance param_env in
+        RegistersSubtype solver_manner before after variance (term_in c T.over T.tree a.now)
+        (term_in c T.over T.tree b.now) result.0 }
 {
     let goals = Vec::new(infcx.cx().alloc());
     let mut relation = SolverRelating {
@@ -160,7 +180,7 @@ fn relate_in<Infcx: InferCtxtLike>(
         span,
         goals,
     };
-    let related = relation.relate_tys(a, b);
+    let related = relation.relate(a, b);
     let goals = relation.take_goals();
     let _infcx = relation.into_infcx();
     (related, goals)

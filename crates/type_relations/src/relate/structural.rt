@@ -7,6 +7,7 @@ ghost use Rattle.relation_terms.specs.Variances.{xform};
 ghost use Rattle.relation_terms.specs.Meaning.{arg_tree};
 ghost use Rattle.type_relations.specs.Parts.{IsFormed, IsFormedConst};
 ghost use Rattle.type_relations.specs.Keyed.{AskedArgs, AskedArgsAt, AskedConsts, AskedTys, RelatedArgs, RelatedArgsAt, RelatedConsts, RelatedTys};
+ghost use Rattle.type_relations.specs.Keyed.{ArgsRegisterSubtype, TysRegisterSubtype};
 ghost use Rattle.type_relations.specs.Making.{arg_sort};
 ghost use Rattle.type_relations.specs.Arguments.{IsSkipped};
 
@@ -37,7 +38,8 @@ pub fn tys<I: Interner, R: TypeRelation<I>>(
     requires lawful { (R.state r.old).lawful }
     requires decides { (R.state r.old).ambient ≢ Bivariant }
     requires asked { AskedTys R.manner (R.state r.old) a.now b.now }
-    ensures { RelatedTys R.manner (R.state r.old) (R.state r.new) a.now b.now result }
+    ensures related { RelatedTys R.manner (R.state r.old) (R.state r.new) a.now b.now result }
+    ensures registers { TysRegisterSubtype R.manner (R.state r.old) (R.state r.new) a.now b.now result }
 {
     match r.tys(a, b)? {
         Step::Done(answer) => Ok(answer),
@@ -106,6 +108,7 @@ pub fn relate<I: Interner, R: TypeRelation<I>>(
     requires decides { (R.state r.old).ambient ≢ Bivariant }
     requires asked { AskedArgs R.manner (R.state r.old) a.now b.now }
     ensures related { RelatedArgs R.manner (R.state r.old) (R.state r.new) a.now b.now result }
+    ensures registers { ArgsRegisterSubtype R.manner (R.state r.old) (R.state r.new) a.now b.now result }
     ensures kind { IfOk result (λ k. arg_sort k ≡ arg_sort a.now) }
 {
     match a {

@@ -8,7 +8,8 @@ ghost use Rattle.type_relations.specs.Stores.{IsSound};
 ghost use Rattle.type_relations.specs.Lawful.{State, Manners, TakesParts, Turned, Noted, WithMeaning};
 ghost use Rattle.type_relations.specs.Lawful.{RelatesByDeclared};
 ghost use Rattle.type_relations.specs.Keyed.{AskedConsts, AskedRegions, AskedTys, RelatedRegions, RelatesTys};
-ghost use Rattle.type_relations.specs.Keyed.{SteppedConsts, SteppedTys, AreOver, RecordsAsked, variances_in};
+ghost use Rattle.type_relations.specs.Keyed.{SteppedConsts, SteppedTys, TysStepToSubtype, AreOver, RecordsAsked};
+ghost use Rattle.type_relations.specs.Keyed.{variances_in};
 
 use crate::relate::Step;
 use relation_terms::terms::{Const, GenericArgs, Interner, ItemOf, Region, Ty, Variance};
@@ -71,7 +72,8 @@ pub trait TypeRelation<I: Interner> {
         requires lawful { (state self.old).lawful }
         requires decides { (state self.old).ambient ≢ Bivariant }
         requires asked { AskedTys manner (state self.old) a.now b.now }
-        ensures { SteppedTys manner (state self.old) (state self.new) a.now b.now result };
+        ensures stepped { SteppedTys manner (state self.old) (state self.new) a.now b.now result }
+        ensures registers { TysStepToSubtype manner (state self.old) (state self.new) a.now b.now result };
 
     /// What comes of two constants.
     fn consts(&mut self, a: &Const<I>, b: &Const<I>) -> RelateResult<I, Step<Const<I>>>

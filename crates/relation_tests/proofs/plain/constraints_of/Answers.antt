@@ -12,4 +12,4 @@ returns g c = λ w all.
     (m.ty c.args.b.now))
     (ap g.I.Interner.meaning c.new-r.ensures.interner) c.new-r.ensures.ambient
     (related_under _ _ c.new-r.result.ambient c.tys.new.r.ambient c.new-r.result.constraints.items
-    c.tys.new.r.constraints.items _ _ _ _ c.in_ok-tys.ensures w all)
+    c.tys.new.r.constraints.items _ _ _ _ c.in_ok-tys.ensures.related w all)

@@ -7,14 +7,14 @@ use Rattle.relation_reference.specs.RefCtxt.{context_in}
 use Rattle.relation_tests.proofs.solving.recorded.Goals as goal
 
 -- No goal is registered yet.
-pub relate_tys-requires-clause-goals_known : goal.relate_tys-requires-clause-goals_known
-relate_tys-requires-clause-goals_known g c =
+pub relate-requires-clause-goals_known : goal.relate-requires-clause-goals_known
+relate-requires-clause-goals_known g c =
     let m = g.I.Interner.meaning c.new-relation.result.infcx.now.interner in
     subst (All (KnowsGoal m)) (sym c.new-relation.ensures.goals) (All-nil (KnowsGoal m))
 
 -- The relation is over the context that was lent, as it stands.
-pub relate_tys-requires-clause-asked : goal.relate_tys-requires-clause-asked
-relate_tys-requires-clause-asked g c =
+pub relate-requires-clause-asked : goal.relate-requires-clause-asked
+relate-requires-clause-asked g c =
     let r = c.new-relation.ensures in
     let gs = c.new-relation.result.goals.items in
     subst (λ x. Asked solver_manner

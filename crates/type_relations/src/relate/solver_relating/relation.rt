@@ -1,21 +1,23 @@
 //! The relation of a context.
-ghost use Rattle.std.specs.Prelude.{◌≡◌, ◌≢◌, [], All};
-ghost use Rattle.relation_terms.specs.Heads.{arguments, type_var, variable};
+ghost use Rattle.std.specs.Prelude.{◌≡◌, ◌≢◌, [], All, IfSome};
+ghost use Rattle.relation_terms.specs.Heads.{type_var, variable};
 ghost use Rattle.relation_terms.specs.Trees.{leaf};
 ghost use Rattle.relation_terms.specs.declared.terms.enums.Variance.TheVariants.{Bivariant};
 ghost use Rattle.type_relations.specs.Contexts.{KnowsEnv, KnowsTy};
 ghost use Rattle.type_relations.specs.ContextCalls.{IsUnresolved};
 ghost use Rattle.type_relations.specs.Goals.{KnowsGoal};
-ghost use Rattle.type_relations.specs.Keyed.{AreAsMany, AskedLists, RelatedLists, AskedTys, RelatedTys, SteppedTys};
+ghost use Rattle.type_relations.specs.Keyed.{AskedTys, SteppedTys};
+ghost use Rattle.type_relations.specs.Lawful.{Asked, Related};
+ghost use Rattle.type_relations.specs.Relating.{term_in};
 ghost use Rattle.type_relations.specs.Resolving.{IsShallow};
+ghost use Rattle.type_relations.specs.Subtyping.{IsTyVar, RegistersSubtype, StepRegistersAlone, subtype_at};
 ghost use Rattle.type_relations.specs.Solving.{solving_in, solving_through, solver_manner};
 
 use crate::infer_ctxt::InferCtxtLike;
 use crate::relate::combine::{combine_ty_args, super_combine_consts, super_combine_tys};
 use crate::relate::solver_relating::recording::{relate_regions, subtype_predicate};
-use crate::relate::structural::tys;
 use crate::relate::variables::{have_no_variable, ty_var};
-use crate::relate::{Step, StructurallyRelateAliases, TypeRelation, relate_args_invariantly};
+use crate::relate::{Relate, Step, StructurallyRelateAliases, TypeRelation};
 use relation_terms::terms::{
     Const, GenericArgs, Goal, Interner, ItemOf, Keys, ParamEnv, Predicate, Region, Span, Ty, TyVid,
     Variance,
@@ -67,62 +69,39 @@ impl<'a, Infcx: InferCtxtLike> SolverRelating<'a, Infcx> {
         }
     }
 
-    /// Relates two types at the ambient variance, and answers what they are related as. The interner knows both, and
-    /// they are types of the context. What was recorded is in the context, also after an error.
+    /// Relates two types, or two others that can be related, at the ambient variance, and answers what they are related
+    /// as. The interner knows both, they are of the context, and two lists have as many arguments. What was recorded is
+    /// in the context, also after an error. Upstream this is a call of every relation.
     ///
     /// # Errors
-    /// `Unrelated` where the types do not become one, `Budget` where no instantiation is left, `Memory` where a growth
+    /// `Unrelated` where the two do not become one, `Budget` where no instantiation is left, `Memory` where a growth
     /// was refused.
-    pub fn relate_tys(
+    pub fn relate<T: Relate<Infcx::Interner>>(
         &mut self,
-        a: &Ty<Infcx::Interner>,
-        b: &Ty<Infcx::Interner>,
-    ) -> RelateResult<Infcx::Interner, Ty<Infcx::Interner>>
+        a: &T,
+        b: &T,
+    ) -> RelateResult<Infcx::Interner, T>
         requires lawful { (Infcx.state self.old.infcx.now).lawful }
         requires env_known { KnowsEnv (Infcx.state self.old.infcx.now) self.old.param_env }
         requires goals_known { All (KnowsGoal (Infcx.state self.old.infcx.now).meaning) self.old.goals.items }
         requires decides { self.old.ambient_variance ≢ Bivariant }
-        requires asked { let before = Infcx.state self.old.infcx.now in
-            AskedTys solver_manner (solving_in self.old.goals.items before self.old.ambient_variance self.old.param_env)
-            a.now b.now }
+        requires fits { T.fits (Infcx.state self.old.infcx.now).meaning a.now b.now }
+        requires asked { let c = Infcx.state self.old.infcx.now in let v = self.old.ambient_variance in
+            Asked solver_manner (solving_in self.old.goals.items c v self.old.param_env) v
+            (term_in c T.over T.tree a.now) (term_in c T.over T.tree b.now) }
         ensures same_reference { self.new.infcx.ghost_name ≡ self.old.infcx.ghost_name }
-        ensures related { let v = self.old.ambient_variance in
-            let before = solving_in self.old.goals.items (Infcx.state self.old.infcx.now) v self.old.param_env in
-            let after = solving_in self.new.goals.items (Infcx.state self.new.infcx.now) v self.old.param_env in
-            RelatedTys solver_manner before after a.now b.now result }
+        ensures related { let c = Infcx.state self.old.infcx.now in let d = Infcx.state self.new.infcx.now in
+            let v = self.old.ambient_variance in let before = solving_in self.old.goals.items c v self.old.param_env in
+            let after = solving_in self.new.goals.items d v self.old.param_env in
+            Related solver_manner before after v (term_in c T.over T.tree a.now) (term_in c T.over T.tree b.now)
+            (term_in d T.over T.tree) result }
+        ensures registers { let c = Infcx.state self.old.infcx.now in let d = Infcx.state self.new.infcx.now in
+            let v = self.old.ambient_variance in let before = solving_in self.old.goals.items c v self.old.param_env in
+            let after = solving_in self.new.goals.items d v self.old.param_env in
+            RegistersSubtype solver_manner before after v (term_in c T.over T.tree a.now)
+            (term_in c T.over T.tree b.now) result }
     {
-        tys(self, a, b)
-    }
-
-    /// Relates two lists of as many arguments, each pair at `Invariant` seen from the ambient variance, and answers the
-    /// list of what they are related as. The interner knows both, and they are arguments of the context. What was
-    /// recorded is in the context, also after an error.
-    ///
-    /// # Errors
-    /// `Unrelated` where the arguments of a pair do not become one, `Budget` where no instantiation is left, `Memory`
-    /// where a growth was refused.
-    pub fn relate_args(
-        &mut self,
-        a: &GenericArgs<Infcx::Interner>,
-        b: &GenericArgs<Infcx::Interner>,
-    ) -> RelateResult<Infcx::Interner, GenericArgs<Infcx::Interner>>
-        requires lawful { (Infcx.state self.old.infcx.now).lawful }
-        requires env_known { KnowsEnv (Infcx.state self.old.infcx.now) self.old.param_env }
-        requires goals_known { All (KnowsGoal (Infcx.state self.old.infcx.now).meaning) self.old.goals.items }
-        requires decides { self.old.ambient_variance ≢ Bivariant }
-        requires asked { let v = self.old.ambient_variance in
-            let before = solving_in self.old.goals.items (Infcx.state self.old.infcx.now) v self.old.param_env in
-            AskedLists solver_manner before (λ m. arguments) a.now b.now }
-        requires as_many { let v = self.old.ambient_variance in
-            let before = solving_in self.old.goals.items (Infcx.state self.old.infcx.now) v self.old.param_env in
-            AreAsMany before a.now b.now }
-        ensures same_reference { self.new.infcx.ghost_name ≡ self.old.infcx.ghost_name }
-        ensures related { let v = self.old.ambient_variance in
-            let before = solving_in self.old.goals.items (Infcx.state self.old.infcx.now) v self.old.param_env in
-            let after = solving_in self.new.goals.items (Infcx.state self.new.infcx.now) v self.old.param_env in
-            RelatedLists solver_manner before after (λ m. arguments) a.now b.now result }
-    {
-        relate_args_invariantly(self, a, b)
+        T::relate(self, a, b)
     }
 
     // What comes of two type variables, of which nothing is recorded: at invariance they are made one, else it is
@@ -144,12 +123,19 @@ impl<'a, Infcx: InferCtxtLike> SolverRelating<'a, Infcx> {
         requires b_is { ((Infcx.state self.old.infcx.now).meaning).ty b.now ≡ leaf (variable type_var y.0) }
         requires a_unresolved { IsUnresolved (Infcx.state self.old.infcx.now) type_var x.0 }
         requires b_unresolved { IsUnresolved (Infcx.state self.old.infcx.now) type_var y.0 }
-        ensures { let r = self.old in let q = self.new in
+        ensures stepped { let r = self.old in let q = self.new in
             let before = solving_through r.infcx.ghost_name r.goals.items (Infcx.state r.infcx.now) r.ambient_variance
             r.param_env in
             let after = solving_through q.infcx.ghost_name q.goals.items (Infcx.state q.infcx.now) q.ambient_variance
             q.param_env in
             SteppedTys solver_manner before after a.now b.now result }
+        ensures registers { let r = self.old in let q = self.new in let d = (Infcx.state q.infcx.now).meaning in
+            let before = solving_through r.infcx.ghost_name r.goals.items (Infcx.state r.infcx.now) r.ambient_variance
+            r.param_env in
+            let after = solving_through q.infcx.ghost_name q.goals.items (Infcx.state q.infcx.now) q.ambient_variance
+            q.param_env in
+            let x = (Infcx.state r.infcx.now).meaning.ty a.now in let y = (Infcx.state r.infcx.now).meaning.ty b.now in
+            IfSome (subtype_at r.ambient_variance x y) (λ p. StepRegistersAlone before after d.ty x p result) }
     {
         let param_env = self.param_env;
         match self.ambient_variance {
@@ -194,12 +180,20 @@ impl<'a, Infcx: InferCtxtLike> SolverRelating<'a, Infcx> {
             AskedTys solver_manner before a.now b.now }
         requires a_shallow { let r = Infcx.state self.old.infcx.now in IsShallow r.store ((r.meaning).ty a.now) }
         requires b_shallow { let r = Infcx.state self.old.infcx.now in IsShallow r.store ((r.meaning).ty b.now) }
-        ensures { let r = self.old in let q = self.new in
+        ensures stepped { let r = self.old in let q = self.new in
             let before = solving_through r.infcx.ghost_name r.goals.items (Infcx.state r.infcx.now) r.ambient_variance
             r.param_env in
             let after = solving_through q.infcx.ghost_name q.goals.items (Infcx.state q.infcx.now) q.ambient_variance
             q.param_env in
             SteppedTys solver_manner before after a.now b.now result }
+        ensures registers { let r = self.old in let q = self.new in let d = (Infcx.state q.infcx.now).meaning in
+            let before = solving_through r.infcx.ghost_name r.goals.items (Infcx.state r.infcx.now) r.ambient_variance
+            r.param_env in
+            let after = solving_through q.infcx.ghost_name q.goals.items (Infcx.state q.infcx.now) q.ambient_variance
+            q.param_env in
+            let x = (Infcx.state r.infcx.now).meaning.ty a.now in let y = (Infcx.state r.infcx.now).meaning.ty b.now in
+            IsTyVar x → IsTyVar y →
+            IfSome (subtype_at r.ambient_variance x y) (λ p. StepRegistersAlone before after d.ty x p result) }
     {
         match ty_var(&*self.infcx, a) {
             Some(x) => match ty_var(&*self.infcx, b) {

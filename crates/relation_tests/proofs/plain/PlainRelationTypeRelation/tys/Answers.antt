@@ -5,8 +5,8 @@ use Rattle.type_relations.proofs.Passing.{parts_left}
 use Rattle.relation_tests.proofs.PlainLemmas.{formed}
 use Rattle.relation_tests.proofs.plain.PlainRelationTypeRelation.tys.Goals as goal
 
-pub returns : goal.returns
-returns g c =
+pub returns-clause-stepped : goal.returns-clause-stepped
+returns-clause-stepped g c =
     let m = g.I.Interner.meaning c.args.self.now.interner in
     let cs = c.args.self.now.constraints.items in
     let is = g.met.I.Interner.is_ty c.args.self.now.interner in
@@ -15,3 +15,7 @@ returns g c =
     c.args.a.now c.args.b.now refl refl k
     (formed m cs (m.ty c.args.a.now) (is c.args.a.now k.left_known) k.left_in)
     (formed m cs (m.ty c.args.b.now) (is c.args.b.now k.right_known) k.right_in)
+
+-- It promises nothing of variables.
+pub returns-clause-registers : goal.returns-clause-registers
+returns-clause-registers g c = λ h. absurd h

@@ -1,4 +1,4 @@
-use Rattle.std.proofs.Common.{◌≡◌, sym, ap, ◌∙◌, subst, subst₂}
+use Rattle.std.proofs.Common.{sym, ap, ◌∙◌, subst, subst₂}
 use Rattle.relation_terms.specs.Heads.{int_var, float_var}
 use Rattle.type_relations.specs.Steps.{IsNumberFor}
 use Rattle.type_relations.specs.ContextCalls.{IsUnresolved, BindsNumber}

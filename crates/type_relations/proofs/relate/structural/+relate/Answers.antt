@@ -8,6 +8,7 @@ use Rattle.relation_terms.specs.Variances.{xform}
 use Rattle.relation_terms.specs.Meaning.{arg_tree}
 use Rattle.relation_terms.proofs.Sorted.{Sorted}
 use Rattle.relation_terms.proofs.Stays.{knows_arg}
+use Rattle.relation_tools.specs.declared.error.TypeError.TheVariants.{Mismatch}
 use Rattle.relation_tools.specs.declared.error.RelateFault.TheVariants.{Unrelated, Memory}
 use Rattle.type_relations.specs.Relation.{part_at}
 use Rattle.type_relations.specs.Goals.{Relates}
@@ -37,6 +38,9 @@ use Rattle.type_relations.proofs.Structural.{types_related, ty_refused}
 use Rattle.type_relations.proofs.StructuralConsts.{consts_related, const_refused, itself_related, types_differ, consts_differ, kinds_differ}
 use Rattle.type_relations.proofs.Looping.{next_asked, next_under, next_const_asked, next_const_under, parts_under, again_under}
 use Rattle.type_relations.proofs.Looping.{failed_ty, failed_const, kept_ty, kept_const, heads_alike, const_heads_alike}
+use Rattle.type_relations.specs.Subtyping.{RegistersSubtype, StepRegistersSubtype}
+use Rattle.type_relations.proofs.Subtyping.{left_none, right_none, lifetime_none, const_none, no_ty_none, refused_told}
+use Rattle.type_relations.proofs.Subtyping.{done_registers, refused_registers, parts_register, again_registers}
 use Rattle.type_relations.proofs.relate.structural.+relate.Goals as goal
 
 pub consts-returns-in-Done : goal.consts-returns-in-Done
@@ -153,14 +157,14 @@ consts-returns-in-Parts g t c =
     parts_related M IsFormedConst (g.met.R.TypeRelation.sound c.structurally_relate_consts.new.r ((inner.passes).lawful ((step.passes).lawful c.requires.lawful)))
     a b x y (p.meaning).const_ c.structurally_relate_consts.result step.passes step.verdict step.exact inner
 
-pub tys-returns-in-Done : goal.tys-returns-in-Done
-tys-returns-in-Done g t c =
+pub tys-returns-in-Done-clause-related : goal.tys-returns-in-Done-clause-related
+tys-returns-in-Done-clause-related g t c =
     let r = g.R.TypeRelation.state c.args.r.now in
     let M = g.R.TypeRelation.manner in
     let a = (r.meaning).ty c.args.a.now in
     let b = (r.meaning).ty c.args.b.now in
     let q = g.R.TypeRelation.state c.tys.new.self in
-    let step = subst (λ z. Stepped M IsFormed r q a b (q.meaning).ty (Ok z)) c.in-Done.is c.in_ok-answer.ensures in
+    let step = subst (λ z. Stepped M IsFormed r q a b (q.meaning).ty (Ok z)) c.in-Done.is c.in_ok-answer.ensures.stepped in
     step_done M IsFormed a b (q.meaning).ty c.in-Done.answer step
 
 pub tys-structurally_relate_tys-requires : goal.tys-structurally_relate_tys-requires
@@ -170,7 +174,7 @@ tys-structurally_relate_tys-requires g t c κs within =
     let a = (r.meaning).ty c.args.a.now in
     let b = (r.meaning).ty c.args.b.now in
     let q = g.R.TypeRelation.state c.tys.new.self in
-    let step = subst (λ z. Stepped M IsFormed r q a b (q.meaning).ty (Ok z)) c.in-Parts.is c.in_ok-answer.ensures in
+    let step = subst (λ z. Stepped M IsFormed r q a b (q.meaning).ty (Ok z)) c.in-Parts.is c.in_ok-answer.ensures.stepped in
     let x = (q.meaning).ty c.in-Parts.a in
     let y = (q.meaning).ty c.in-Parts.b in
     let lawful = (step.passes).lawful c.requires.lawful in
@@ -189,7 +193,7 @@ tys-relate_with_variance-requires g t c κs within =
     let a = (r.meaning).ty c.args.a.now in
     let b = (r.meaning).ty c.args.b.now in
     let q = g.R.TypeRelation.state c.tys.new.self in
-    let step = subst (λ z. Stepped M IsFormed r q a b (q.meaning).ty (Ok z)) c.in-Again.is c.in_ok-answer.ensures in
+    let step = subst (λ z. Stepped M IsFormed r q a b (q.meaning).ty (Ok z)) c.in-Again.is c.in_ok-answer.ensures.stepped in
     let x = (q.meaning).ty c.in-Again.x in
     let y = (q.meaning).ty c.in-Again.y in
     let k = (q.meaning).ty c.in-Again.a in
@@ -203,14 +207,14 @@ tys-relate_with_variance-requires g t c κs within =
     let d = c.decreases in
     search rules
 
-pub tys-returns-in_err-relate_with_variance-in-Again : goal.tys-returns-in_err-relate_with_variance-in-Again
-tys-returns-in_err-relate_with_variance-in-Again g t c =
+pub tys-returns-in_err-relate_with_variance-in-Again-clause-related : goal.tys-returns-in_err-relate_with_variance-in-Again-clause-related
+tys-returns-in_err-relate_with_variance-in-Again-clause-related g t c =
     let r = g.R.TypeRelation.state c.args.r.now in
     let M = g.R.TypeRelation.manner in
     let a = (r.meaning).ty c.args.a.now in
     let b = (r.meaning).ty c.args.b.now in
     let q = g.R.TypeRelation.state c.tys.new.self in
-    let step = subst (λ z. Stepped M IsFormed r q a b (q.meaning).ty (Ok z)) c.in-Again.is c.in_ok-answer.ensures in
+    let step = subst (λ z. Stepped M IsFormed r q a b (q.meaning).ty (Ok z)) c.in-Again.is c.in_ok-answer.ensures.stepped in
     let x = (q.meaning).ty c.in-Again.x in
     let y = (q.meaning).ty c.in-Again.y in
     let k = (q.meaning).ty c.in-Again.a in
@@ -227,14 +231,14 @@ tys-returns-in_err-relate_with_variance-in-Again g t c =
     (again_refused M a b k l x y o v step.passes step.verdict step.exact
     (g.met.R.TypeRelation.sound c.relate_with_variance.new.r ((inner.passes).lawful ((step.passes).lawful c.requires.lawful))) (arg_tree p.meaning) (p.meaning).ty c.in_err-relate_with_variance-in-Again.field-0.0 inner)
 
-pub tys-returns-in_err-answer-in-Parts : goal.tys-returns-in_err-answer-in-Parts
-tys-returns-in_err-answer-in-Parts g t c =
+pub tys-returns-in_err-answer-in-Parts-clause-related : goal.tys-returns-in_err-answer-in-Parts-clause-related
+tys-returns-in_err-answer-in-Parts-clause-related g t c =
     let r = g.R.TypeRelation.state c.args.r.now in
     let M = g.R.TypeRelation.manner in
     let a = (r.meaning).ty c.args.a.now in
     let b = (r.meaning).ty c.args.b.now in
     let q = g.R.TypeRelation.state c.tys.new.self in
-    let step = subst (λ z. Stepped M IsFormed r q a b (q.meaning).ty (Ok z)) c.in-Parts.is c.in_ok-answer.ensures in
+    let step = subst (λ z. Stepped M IsFormed r q a b (q.meaning).ty (Ok z)) c.in-Parts.is c.in_ok-answer.ensures.stepped in
     let x = (q.meaning).ty c.in-Parts.a in
     let y = (q.meaning).ty c.in-Parts.b in
     let p = g.R.TypeRelation.state c.structurally_relate_tys.new.r in
@@ -253,7 +257,7 @@ tys-tys_done-requires-clause-asked g t c =
     let a = (r.meaning).ty c.args.a.now in
     let b = (r.meaning).ty c.args.b.now in
     let q = g.R.TypeRelation.state c.tys.new.self in
-    let step = subst (λ z. Stepped M IsFormed r q a b (q.meaning).ty (Ok z)) c.in-Parts.is c.in_ok-answer.ensures in
+    let step = subst (λ z. Stepped M IsFormed r q a b (q.meaning).ty (Ok z)) c.in-Parts.is c.in_ok-answer.ensures.stepped in
     let x = (q.meaning).ty c.in-Parts.a in
     let y = (q.meaning).ty c.in-Parts.b in
     let p = g.R.TypeRelation.state c.structurally_relate_tys.new.r in
@@ -277,7 +281,7 @@ tys-tys_done-requires-clause-related g t c =
     let a = (r.meaning).ty c.args.a.now in
     let b = (r.meaning).ty c.args.b.now in
     let q = g.R.TypeRelation.state c.tys.new.self in
-    let step = subst (λ z. Stepped M IsFormed r q a b (q.meaning).ty (Ok z)) c.in-Parts.is c.in_ok-answer.ensures in
+    let step = subst (λ z. Stepped M IsFormed r q a b (q.meaning).ty (Ok z)) c.in-Parts.is c.in_ok-answer.ensures.stepped in
     let x = (q.meaning).ty c.in-Parts.a in
     let y = (q.meaning).ty c.in-Parts.b in
     let p = g.R.TypeRelation.state c.structurally_relate_tys.new.r in
@@ -294,14 +298,14 @@ tys-tys_done-requires-clause-related g t c =
     (subst (λ v. Relates (items_in p) p.store p.goals p.environment v x y)
     (sym ((inner.passes).ambient ∙ (step.passes).ambient)) (relates_now M r.ambient x y (p.meaning).ty z.answer inner))
 
-pub tys-returns-in_err-tys_done-in-Parts : goal.tys-returns-in_err-tys_done-in-Parts
-tys-returns-in_err-tys_done-in-Parts g t c =
+pub tys-returns-in_err-tys_done-in-Parts-clause-related : goal.tys-returns-in_err-tys_done-in-Parts-clause-related
+tys-returns-in_err-tys_done-in-Parts-clause-related g t c =
     let r = g.R.TypeRelation.state c.args.r.now in
     let M = g.R.TypeRelation.manner in
     let a = (r.meaning).ty c.args.a.now in
     let b = (r.meaning).ty c.args.b.now in
     let q = g.R.TypeRelation.state c.tys.new.self in
-    let step = subst (λ z. Stepped M IsFormed r q a b (q.meaning).ty (Ok z)) c.in-Parts.is c.in_ok-answer.ensures in
+    let step = subst (λ z. Stepped M IsFormed r q a b (q.meaning).ty (Ok z)) c.in-Parts.is c.in_ok-answer.ensures.stepped in
     let x = (q.meaning).ty c.in-Parts.a in
     let y = (q.meaning).ty c.in-Parts.b in
     let p = g.R.TypeRelation.state c.structurally_relate_tys.new.r in
@@ -317,14 +321,14 @@ tys-returns-in_err-tys_done-in-Parts g t c =
     subst (λ z. Related M r u r.ambient a b (u.meaning).ty z) (sym failed)
     (noted_refused M r.ambient a b (p.meaning).ty z.answer done (Err e.field-0.0) e.ensures (u.meaning).ty e.field-0.0 refl)
 
-pub tys-returns-in_ok-tys_done-in-Parts : goal.tys-returns-in_ok-tys_done-in-Parts
-tys-returns-in_ok-tys_done-in-Parts g t c =
+pub tys-returns-in_ok-tys_done-in-Parts-clause-related : goal.tys-returns-in_ok-tys_done-in-Parts-clause-related
+tys-returns-in_ok-tys_done-in-Parts-clause-related g t c =
     let r = g.R.TypeRelation.state c.args.r.now in
     let M = g.R.TypeRelation.manner in
     let a = (r.meaning).ty c.args.a.now in
     let b = (r.meaning).ty c.args.b.now in
     let q = g.R.TypeRelation.state c.tys.new.self in
-    let step = subst (λ z. Stepped M IsFormed r q a b (q.meaning).ty (Ok z)) c.in-Parts.is c.in_ok-answer.ensures in
+    let step = subst (λ z. Stepped M IsFormed r q a b (q.meaning).ty (Ok z)) c.in-Parts.is c.in_ok-answer.ensures.stepped in
     let x = (q.meaning).ty c.in-Parts.a in
     let y = (q.meaning).ty c.in-Parts.b in
     let p = g.R.TypeRelation.state c.structurally_relate_tys.new.r in
@@ -345,7 +349,7 @@ tys-tys_done-requires-in-Again-clause-asked g t c =
     let a = (r.meaning).ty c.args.a.now in
     let b = (r.meaning).ty c.args.b.now in
     let q = g.R.TypeRelation.state c.tys.new.self in
-    let step = subst (λ z. Stepped M IsFormed r q a b (q.meaning).ty (Ok z)) c.in-Again.is c.in_ok-answer.ensures in
+    let step = subst (λ z. Stepped M IsFormed r q a b (q.meaning).ty (Ok z)) c.in-Again.is c.in_ok-answer.ensures.stepped in
     let x = (q.meaning).ty c.in-Again.x in
     let y = (q.meaning).ty c.in-Again.y in
     let k = (q.meaning).ty c.in-Again.a in
@@ -375,7 +379,7 @@ tys-tys_done-requires-in-Again-clause-related g t c =
     let a = (r.meaning).ty c.args.a.now in
     let b = (r.meaning).ty c.args.b.now in
     let q = g.R.TypeRelation.state c.tys.new.self in
-    let step = subst (λ z. Stepped M IsFormed r q a b (q.meaning).ty (Ok z)) c.in-Again.is c.in_ok-answer.ensures in
+    let step = subst (λ z. Stepped M IsFormed r q a b (q.meaning).ty (Ok z)) c.in-Again.is c.in_ok-answer.ensures.stepped in
     let x = (q.meaning).ty c.in-Again.x in
     let y = (q.meaning).ty c.in-Again.y in
     let k = (q.meaning).ty c.in-Again.a in
@@ -398,14 +402,14 @@ tys-tys_done-requires-in-Again-clause-related g t c =
     (subst (λ v. Relates (items_in p) p.store p.goals p.environment v k l)
     (sym ((inner.passes).ambient ∙ (step.passes).ambient)) (again_relates M a b k l x y o v step.passes step.verdict step.exact (arg_tree p.meaning) c.in_ok-relate_with_variance-in-Again.field-0 inner))
 
-pub tys-returns-in_err-tys_done-in-Again : goal.tys-returns-in_err-tys_done-in-Again
-tys-returns-in_err-tys_done-in-Again g t c =
+pub tys-returns-in_err-tys_done-in-Again-clause-related : goal.tys-returns-in_err-tys_done-in-Again-clause-related
+tys-returns-in_err-tys_done-in-Again-clause-related g t c =
     let r = g.R.TypeRelation.state c.args.r.now in
     let M = g.R.TypeRelation.manner in
     let a = (r.meaning).ty c.args.a.now in
     let b = (r.meaning).ty c.args.b.now in
     let q = g.R.TypeRelation.state c.tys.new.self in
-    let step = subst (λ z. Stepped M IsFormed r q a b (q.meaning).ty (Ok z)) c.in-Again.is c.in_ok-answer.ensures in
+    let step = subst (λ z. Stepped M IsFormed r q a b (q.meaning).ty (Ok z)) c.in-Again.is c.in_ok-answer.ensures.stepped in
     let x = (q.meaning).ty c.in-Again.x in
     let y = (q.meaning).ty c.in-Again.y in
     let k = (q.meaning).ty c.in-Again.a in
@@ -427,14 +431,14 @@ tys-returns-in_err-tys_done-in-Again g t c =
     subst (λ z. Related M r u r.ambient a b (u.meaning).ty z) (sym failed)
     (noted_refused M r.ambient a b (p.meaning).ty c.in-Again.answer done (Err e.field-0.0) e.ensures (u.meaning).ty e.field-0.0 refl)
 
-pub tys-returns-in_ok-tys_done-in-Again : goal.tys-returns-in_ok-tys_done-in-Again
-tys-returns-in_ok-tys_done-in-Again g t c =
+pub tys-returns-in_ok-tys_done-in-Again-clause-related : goal.tys-returns-in_ok-tys_done-in-Again-clause-related
+tys-returns-in_ok-tys_done-in-Again-clause-related g t c =
     let r = g.R.TypeRelation.state c.args.r.now in
     let M = g.R.TypeRelation.manner in
     let a = (r.meaning).ty c.args.a.now in
     let b = (r.meaning).ty c.args.b.now in
     let q = g.R.TypeRelation.state c.tys.new.self in
-    let step = subst (λ z. Stepped M IsFormed r q a b (q.meaning).ty (Ok z)) c.in-Again.is c.in_ok-answer.ensures in
+    let step = subst (λ z. Stepped M IsFormed r q a b (q.meaning).ty (Ok z)) c.in-Again.is c.in_ok-answer.ensures.stepped in
     let x = (q.meaning).ty c.in-Again.x in
     let y = (q.meaning).ty c.in-Again.y in
     let k = (q.meaning).ty c.in-Again.a in
@@ -453,6 +457,101 @@ tys-returns-in_ok-tys_done-in-Again g t c =
     let n = c.in_ok-tys_done-in-Again in
     noted_related M r.ambient a b (p.meaning).ty c.in-Again.answer done (Ok n.field-0) n.ensures (u.meaning).ty
     ((((n.ensures).passes).extends).ty c.in-Again.answer (done.verdict).known)
+
+pub tys-returns-in-Done-clause-registers : goal.tys-returns-in-Done-clause-registers
+tys-returns-in-Done-clause-registers g t c =
+    let r = g.R.TypeRelation.state c.args.r.now in
+    let M = g.R.TypeRelation.manner in
+    let a = (r.meaning).ty c.args.a.now in
+    let b = (r.meaning).ty c.args.b.now in
+    let q = g.R.TypeRelation.state c.tys.new.self in
+    done_registers M r q a b (q.meaning).ty c.in-Done.answer
+    (subst (λ z. StepRegistersSubtype M r q (q.meaning).ty a b (Ok z)) c.in-Done.is c.in_ok-answer.ensures.registers)
+
+pub tys-returns-in_err-answer-clause-registers : goal.tys-returns-in_err-answer-clause-registers
+tys-returns-in_err-answer-clause-registers g t c =
+    let r = g.R.TypeRelation.state c.args.r.now in
+    let M = g.R.TypeRelation.manner in
+    let q = g.R.TypeRelation.state c.tys.new.self in
+    let e = c.in_err-answer in
+    refused_registers M r q ((r.meaning).ty c.args.a.now) ((r.meaning).ty c.args.b.now) (q.meaning).ty e.field-0.0
+    c.from_residual.result
+    (as_err c.from_residual.result e.field-0.0 c.from_residual.ensures.0 c.from_residual.ensures.1) e.ensures.registers
+
+pub tys-returns-in_err-answer-in-Parts-clause-registers : goal.tys-returns-in_err-answer-in-Parts-clause-registers
+tys-returns-in_err-answer-in-Parts-clause-registers g t c =
+    let r = g.R.TypeRelation.state c.args.r.now in
+    let M = g.R.TypeRelation.manner in
+    let a = (r.meaning).ty c.args.a.now in
+    let b = (r.meaning).ty c.args.b.now in
+    let q = g.R.TypeRelation.state c.tys.new.self in
+    let s = g.R.TypeRelation.state c.structurally_relate_tys.new.r in
+    parts_register M r q a b s (q.meaning).ty c.in-Parts.a c.in-Parts.b
+    c.from_residual-in_err-answer-in-Parts.result
+    (subst (λ z. StepRegistersSubtype M r q (q.meaning).ty a b (Ok z)) c.in-Parts.is c.in_ok-answer.ensures.registers)
+
+pub tys-returns-in_err-tys_done-in-Parts-clause-registers : goal.tys-returns-in_err-tys_done-in-Parts-clause-registers
+tys-returns-in_err-tys_done-in-Parts-clause-registers g t c =
+    let r = g.R.TypeRelation.state c.args.r.now in
+    let M = g.R.TypeRelation.manner in
+    let a = (r.meaning).ty c.args.a.now in
+    let b = (r.meaning).ty c.args.b.now in
+    let q = g.R.TypeRelation.state c.tys.new.self in
+    let s = g.R.TypeRelation.state c.tys_done.new.self in
+    parts_register M r q a b s (q.meaning).ty c.in-Parts.a c.in-Parts.b
+    c.from_residual-in_err-tys_done-in-Parts.result
+    (subst (λ z. StepRegistersSubtype M r q (q.meaning).ty a b (Ok z)) c.in-Parts.is c.in_ok-answer.ensures.registers)
+
+pub tys-returns-in_ok-tys_done-in-Parts-clause-registers : goal.tys-returns-in_ok-tys_done-in-Parts-clause-registers
+tys-returns-in_ok-tys_done-in-Parts-clause-registers g t c =
+    let r = g.R.TypeRelation.state c.args.r.now in
+    let M = g.R.TypeRelation.manner in
+    let a = (r.meaning).ty c.args.a.now in
+    let b = (r.meaning).ty c.args.b.now in
+    let q = g.R.TypeRelation.state c.tys.new.self in
+    let s = g.R.TypeRelation.state c.tys_done.new.self in
+    parts_register M r q a b s (q.meaning).ty c.in-Parts.a c.in-Parts.b
+    (Ok c.in_ok-answer-in-Parts.answer)
+    (subst (λ z. StepRegistersSubtype M r q (q.meaning).ty a b (Ok z)) c.in-Parts.is c.in_ok-answer.ensures.registers)
+
+pub tys-returns-in_err-relate_with_variance-in-Again-clause-registers : goal.tys-returns-in_err-relate_with_variance-in-Again-clause-registers
+tys-returns-in_err-relate_with_variance-in-Again-clause-registers g t c =
+    let r = g.R.TypeRelation.state c.args.r.now in
+    let M = g.R.TypeRelation.manner in
+    let a = (r.meaning).ty c.args.a.now in
+    let b = (r.meaning).ty c.args.b.now in
+    let q = g.R.TypeRelation.state c.tys.new.self in
+    let s = g.R.TypeRelation.state c.relate_with_variance.new.r in
+    again_registers M r q a b s (q.meaning).ty c.in-Again.a c.in-Again.b c.in-Again.x c.in-Again.y
+    c.in-Again.answer c.in-Again.variance
+    c.from_residual-in_err-relate_with_variance-in-Again.result
+    (subst (λ z. StepRegistersSubtype M r q (q.meaning).ty a b (Ok z)) c.in-Again.is c.in_ok-answer.ensures.registers)
+
+pub tys-returns-in_err-tys_done-in-Again-clause-registers : goal.tys-returns-in_err-tys_done-in-Again-clause-registers
+tys-returns-in_err-tys_done-in-Again-clause-registers g t c =
+    let r = g.R.TypeRelation.state c.args.r.now in
+    let M = g.R.TypeRelation.manner in
+    let a = (r.meaning).ty c.args.a.now in
+    let b = (r.meaning).ty c.args.b.now in
+    let q = g.R.TypeRelation.state c.tys.new.self in
+    let s = g.R.TypeRelation.state c.tys_done-in-Again.new.self in
+    again_registers M r q a b s (q.meaning).ty c.in-Again.a c.in-Again.b c.in-Again.x c.in-Again.y
+    c.in-Again.answer c.in-Again.variance
+    c.from_residual-in_err-tys_done-in-Again.result
+    (subst (λ z. StepRegistersSubtype M r q (q.meaning).ty a b (Ok z)) c.in-Again.is c.in_ok-answer.ensures.registers)
+
+pub tys-returns-in_ok-tys_done-in-Again-clause-registers : goal.tys-returns-in_ok-tys_done-in-Again-clause-registers
+tys-returns-in_ok-tys_done-in-Again-clause-registers g t c =
+    let r = g.R.TypeRelation.state c.args.r.now in
+    let M = g.R.TypeRelation.manner in
+    let a = (r.meaning).ty c.args.a.now in
+    let b = (r.meaning).ty c.args.b.now in
+    let q = g.R.TypeRelation.state c.tys.new.self in
+    let s = g.R.TypeRelation.state c.tys_done-in-Again.new.self in
+    again_registers M r q a b s (q.meaning).ty c.in-Again.a c.in-Again.b c.in-Again.x c.in-Again.y
+    c.in-Again.answer c.in-Again.variance
+    (Ok c.in-Again.answer)
+    (subst (λ z. StepRegistersSubtype M r q (q.meaning).ty a b (Ok z)) c.in-Again.is c.in_ok-answer.ensures.registers)
 
 pub relate-returns-in_default : goal.relate-returns-in_default
 relate-returns-in_default g t c =
@@ -477,6 +576,8 @@ relate-returns-in_default g t c =
       related = kinds_differ r.meaning sorted M r r.ambient (arg_tree r.meaning) c.requires.decides refl c.args.a.now c.args.b.now
           (subst (λ z. AreOfTwoKinds z c.args.b.now) (sym c.in-Lifetime.is) (no_lifetime c.in-Lifetime.a c.args.b.now c.in_default.not-Lifetime))
           k.left_known k.right_known k.left_in k.right_in;
+      registers = left_none M r r (arg_tree r.meaning c.args.a.now) (arg_tree r.meaning c.args.b.now) {X = ⊥} r.ambient
+          (Err (Unrelated Mismatch)) (lifetime_none sorted c.args.a.now k.left_known c.in-Lifetime.a c.in-Lifetime.is);
       kind = tt;
     }
 
@@ -503,6 +604,8 @@ relate-returns-in_default-b g t c =
       related = kinds_differ r.meaning sorted M r r.ambient (arg_tree r.meaning) c.requires.decides refl c.args.a.now c.args.b.now
           (subst (λ z. AreOfTwoKinds z c.args.b.now) (sym c.in-Ty.is) (no_ty c.in-Ty.a c.args.b.now c.in_default-b.not-Ty))
           k.left_known k.right_known k.left_in k.right_in;
+      registers = right_none M r r (arg_tree r.meaning c.args.a.now) (arg_tree r.meaning c.args.b.now) {X = ⊥} r.ambient
+          (Err (Unrelated Mismatch)) (no_ty_none sorted c.args.b.now c.in_default-b.not-Ty k.right_known);
       kind = tt;
     }
 
@@ -529,6 +632,8 @@ relate-returns-in_default-b-2 g t c =
       related = kinds_differ r.meaning sorted M r r.ambient (arg_tree r.meaning) c.requires.decides refl c.args.a.now c.args.b.now
           (subst (λ z. AreOfTwoKinds z c.args.b.now) (sym c.in-Const.is) (no_const_arg c.in-Const.a c.args.b.now c.in_default-b-2.not-Const))
           k.left_known k.right_known k.left_in k.right_in;
+      registers = left_none M r r (arg_tree r.meaning c.args.a.now) (arg_tree r.meaning c.args.b.now) {X = ⊥} r.ambient
+          (Err (Unrelated Mismatch)) (const_none sorted c.args.a.now k.left_known c.in-Const.a c.in-Const.is);
       kind = tt;
     }
 
@@ -537,14 +642,53 @@ relate-returns-in_ok-regions-in-Lifetime g t c =
     let r = g.R.TypeRelation.state c.args.r.now in
     let M = g.R.TypeRelation.manner in
     let q = g.R.TypeRelation.state c.regions.new.self in
+    let e = g.met.R.TypeRelation.reads c.args.r.now in
+    let cx = g.R.TypeRelation.interner c.args.r.now in
+    let sorted : Sorted r.meaning = subst (λ m. Sorted m) (sym e) (record {
+      ty = g.met.I.Interner.is_ty cx;
+      region = g.met.I.Interner.is_region cx;
+      tys = g.met.I.Interner.are_tys cx;
+      const_ = g.met.I.Interner.is_const cx;
+      valtree = g.met.I.Interner.is_valtree cx;
+      args = g.met.I.Interner.are_args cx;
+      branches = g.met.I.Interner.are_branches cx;
+      pat = g.met.I.Interner.is_pat cx;
+      alternatives = g.met.I.Interner.are_alternatives cx;
+      existential_predicates = g.met.I.Interner.are_existential_predicates cx;
+    }) in
     let n = c.in_ok-regions-in-Lifetime in
     record {
       related = subst₂ (λ t u. Related M r q r.ambient (arg_tree r.meaning t) (arg_tree r.meaning u) (arg_tree q.meaning) (Ok (Lifetime n.field-0)))
           (sym c.in-Lifetime.is) (sym c.in-Lifetime-b.is)
           (retold M r.ambient ((r.meaning).region c.in-Lifetime.a) ((r.meaning).region c.in-Lifetime-b.b) (q.meaning).region n.field-0
           (arg_tree q.meaning) (Lifetime n.field-0) refl n.ensures.related);
+      registers = left_none M r q (arg_tree r.meaning c.args.a.now) (arg_tree r.meaning c.args.b.now) r.ambient
+          (Ok (Lifetime n.field-0)) (lifetime_none sorted c.args.a.now (c.requires.asked).left_known c.in-Lifetime.a c.in-Lifetime.is);
       kind = ap arg_sort (sym c.in-Lifetime.is);
     }
+
+pub relate-returns-in_err-regions-in-Lifetime-clause-registers : goal.relate-returns-in_err-regions-in-Lifetime-clause-registers
+relate-returns-in_err-regions-in-Lifetime-clause-registers g t c =
+    let r = g.R.TypeRelation.state c.args.r.now in
+    let M = g.R.TypeRelation.manner in
+    let q = g.R.TypeRelation.state c.regions.new.self in
+    let e = g.met.R.TypeRelation.reads c.args.r.now in
+    let cx = g.R.TypeRelation.interner c.args.r.now in
+    let sorted : Sorted r.meaning = subst (λ m. Sorted m) (sym e) (record {
+      ty = g.met.I.Interner.is_ty cx;
+      region = g.met.I.Interner.is_region cx;
+      tys = g.met.I.Interner.are_tys cx;
+      const_ = g.met.I.Interner.is_const cx;
+      valtree = g.met.I.Interner.is_valtree cx;
+      args = g.met.I.Interner.are_args cx;
+      branches = g.met.I.Interner.are_branches cx;
+      pat = g.met.I.Interner.is_pat cx;
+      alternatives = g.met.I.Interner.are_alternatives cx;
+      existential_predicates = g.met.I.Interner.are_existential_predicates cx;
+    }) in
+    left_none M r q (arg_tree r.meaning c.args.a.now) (arg_tree r.meaning c.args.b.now) r.ambient
+    c.from_residual.result
+    (lifetime_none sorted c.args.a.now (c.requires.asked).left_known c.in-Lifetime.a c.in-Lifetime.is)
 
 pub relate-returns-in_ok-tys-in-Ty : goal.relate-returns-in_ok-tys-in-Ty
 relate-returns-in_ok-tys-in-Ty g t c =
@@ -556,23 +700,77 @@ relate-returns-in_ok-tys-in-Ty g t c =
       related = subst₂ (λ t u. Related M r q r.ambient (arg_tree r.meaning t) (arg_tree r.meaning u) (arg_tree q.meaning) (Ok (Ty n.field-0)))
           (sym c.in-Ty.is) (sym c.in-Ty-b.is)
           (retold M r.ambient ((r.meaning).ty c.in-Ty.a) ((r.meaning).ty c.in-Ty-b.b) (q.meaning).ty n.field-0
-          (arg_tree q.meaning) (Ty n.field-0) refl n.ensures);
+          (arg_tree q.meaning) (Ty n.field-0) refl n.ensures.related);
+      registers = subst₂ (λ t u. RegistersSubtype M r q r.ambient (arg_tree r.meaning t) (arg_tree r.meaning u)
+          (Ok (Ty n.field-0))) (sym c.in-Ty.is) (sym c.in-Ty-b.is) n.ensures.registers;
       kind = ap arg_sort (sym c.in-Ty.is);
     }
+
+pub relate-returns-in_err-tys-in-Ty-clause-registers : goal.relate-returns-in_err-tys-in-Ty-clause-registers
+relate-returns-in_err-tys-in-Ty-clause-registers g t c =
+    let r = g.R.TypeRelation.state c.args.r.now in
+    let M = g.R.TypeRelation.manner in
+    let q = g.R.TypeRelation.state c.tys.new.r in
+    let n = c.in_err-tys-in-Ty in
+    let res = c.from_residual-in_err-tys-in-Ty.result in
+    subst₂ (λ t u. RegistersSubtype M r q r.ambient (arg_tree r.meaning t) (arg_tree r.meaning u) res)
+    (sym c.in-Ty.is) (sym c.in-Ty-b.is)
+    (refused_told ⊥ _ M r q r.ambient ((r.meaning).ty c.in-Ty.a) ((r.meaning).ty c.in-Ty-b.b) n.field-0.0 res
+    (as_err res n.field-0.0 c.from_residual-in_err-tys-in-Ty.ensures.0 c.from_residual-in_err-tys-in-Ty.ensures.1)
+    n.ensures.registers)
 
 pub relate-returns-in_ok-consts-in-Const : goal.relate-returns-in_ok-consts-in-Const
 relate-returns-in_ok-consts-in-Const g t c =
     let r = g.R.TypeRelation.state c.args.r.now in
     let M = g.R.TypeRelation.manner in
     let q = g.R.TypeRelation.state c.consts.new.r in
+    let e = g.met.R.TypeRelation.reads c.args.r.now in
+    let cx = g.R.TypeRelation.interner c.args.r.now in
+    let sorted : Sorted r.meaning = subst (λ m. Sorted m) (sym e) (record {
+      ty = g.met.I.Interner.is_ty cx;
+      region = g.met.I.Interner.is_region cx;
+      tys = g.met.I.Interner.are_tys cx;
+      const_ = g.met.I.Interner.is_const cx;
+      valtree = g.met.I.Interner.is_valtree cx;
+      args = g.met.I.Interner.are_args cx;
+      branches = g.met.I.Interner.are_branches cx;
+      pat = g.met.I.Interner.is_pat cx;
+      alternatives = g.met.I.Interner.are_alternatives cx;
+      existential_predicates = g.met.I.Interner.are_existential_predicates cx;
+    }) in
     let n = c.in_ok-consts-in-Const in
     record {
       related = subst₂ (λ t u. Related M r q r.ambient (arg_tree r.meaning t) (arg_tree r.meaning u) (arg_tree q.meaning) (Ok (Const n.field-0)))
           (sym c.in-Const.is) (sym c.in-Const-b.is)
           (retold M r.ambient ((r.meaning).const_ c.in-Const.a) ((r.meaning).const_ c.in-Const-b.b) (q.meaning).const_ n.field-0
           (arg_tree q.meaning) (Const n.field-0) refl n.ensures);
+      registers = left_none M r q (arg_tree r.meaning c.args.a.now) (arg_tree r.meaning c.args.b.now) r.ambient
+          (Ok (Const n.field-0)) (const_none sorted c.args.a.now (c.requires.asked).left_known c.in-Const.a c.in-Const.is);
       kind = ap arg_sort (sym c.in-Const.is);
     }
+
+pub relate-returns-in_err-consts-in-Const-clause-registers : goal.relate-returns-in_err-consts-in-Const-clause-registers
+relate-returns-in_err-consts-in-Const-clause-registers g t c =
+    let r = g.R.TypeRelation.state c.args.r.now in
+    let M = g.R.TypeRelation.manner in
+    let q = g.R.TypeRelation.state c.consts.new.r in
+    let e = g.met.R.TypeRelation.reads c.args.r.now in
+    let cx = g.R.TypeRelation.interner c.args.r.now in
+    let sorted : Sorted r.meaning = subst (λ m. Sorted m) (sym e) (record {
+      ty = g.met.I.Interner.is_ty cx;
+      region = g.met.I.Interner.is_region cx;
+      tys = g.met.I.Interner.are_tys cx;
+      const_ = g.met.I.Interner.is_const cx;
+      valtree = g.met.I.Interner.is_valtree cx;
+      args = g.met.I.Interner.are_args cx;
+      branches = g.met.I.Interner.are_branches cx;
+      pat = g.met.I.Interner.is_pat cx;
+      alternatives = g.met.I.Interner.are_alternatives cx;
+      existential_predicates = g.met.I.Interner.are_existential_predicates cx;
+    }) in
+    left_none M r q (arg_tree r.meaning c.args.a.now) (arg_tree r.meaning c.args.b.now) r.ambient
+    c.from_residual-in_err-consts-in-Const.result
+    (const_none sorted c.args.a.now (c.requires.asked).left_known c.in-Const.a c.in-Const.is)
 
 pub relate_with_variance-returns-in-Bivariant : goal.relate_with_variance-returns-in-Bivariant
 relate_with_variance-returns-in-Bivariant g t c =

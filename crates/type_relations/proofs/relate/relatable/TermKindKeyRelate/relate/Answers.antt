@@ -1,18 +1,21 @@
-use Rattle.std.proofs.Common.{refl, sym, subst, subst₂, Ok, Err}
+use Rattle.std.proofs.Common.{IsTrue, refl, sym, subst, subst₂, Ok, Err}
 use Rattle.relation_terms.specs.Meaning.{term_tree}
+use Rattle.relation_terms.specs.Trees.{known}
 use Rattle.relation_terms.specs.declared.terms.generic_arg.GenericArgKind.TheVariants.{Ty as TyArg, Const as ConstArg}
 use Rattle.relation_terms.specs.declared.terms.generic_arg.TermKind.TheVariants.{Ty, Const}
 use Rattle.relation_terms.proofs.Sorted.{Sorted}
 use Rattle.relation_tools.specs.declared.error.TypeError.TheVariants.{Mismatch}
 use Rattle.relation_tools.specs.declared.error.RelateFault.TheVariants.{Unrelated}
 use Rattle.type_relations.specs.Lawful.{Asked, Related}
-use Rattle.type_relations.proofs.Passing.{retold}
+use Rattle.type_relations.specs.Subtyping.{IsTyVar, RegistersSubtype}
+use Rattle.type_relations.proofs.Passing.{retold, as_err}
+use Rattle.type_relations.proofs.Subtyping.{left_none, right_none, const_none, refused_told}
 use Rattle.type_relations.proofs.StructuralConsts.{kinds_differ}
 use Rattle.type_relations.proofs.Relatable.{else_const, else_ty}
 use Rattle.type_relations.proofs.relate.relatable.TermKindKeyRelate.relate.Goals as goal
 
-pub returns-in_default : goal.returns-in_default
-returns-in_default g c =
+pub returns-in_default-clause-related : goal.returns-in_default-clause-related
+returns-in_default-clause-related g c =
     let r = g.R.TypeRelation.state c.args.r.now in
     let M = g.R.TypeRelation.manner in
     let e = g.met.R.TypeRelation.reads c.args.r.now in
@@ -37,8 +40,8 @@ returns-in_default g c =
     (kinds_differ r.meaning sorted M r r.ambient (term_tree r.meaning) c.requires.decides refl (TyArg c.in-Ty.a) (ConstArg z.0) tt
     k.left_known k.right_known k.left_in k.right_in)
 
-pub returns-in_default-b : goal.returns-in_default-b
-returns-in_default-b g c =
+pub returns-in_default-b-clause-related : goal.returns-in_default-b-clause-related
+returns-in_default-b-clause-related g c =
     let r = g.R.TypeRelation.state c.args.r.now in
     let M = g.R.TypeRelation.manner in
     let e = g.met.R.TypeRelation.reads c.args.r.now in
@@ -63,8 +66,8 @@ returns-in_default-b g c =
     (kinds_differ r.meaning sorted M r r.ambient (term_tree r.meaning) c.requires.decides refl (ConstArg c.in-Const.a) (TyArg z.0) tt
     k.left_known k.right_known k.left_in k.right_in)
 
-pub returns-in_ok-tys-in-Ty : goal.returns-in_ok-tys-in-Ty
-returns-in_ok-tys-in-Ty g c =
+pub returns-in_ok-tys-in-Ty-clause-related : goal.returns-in_ok-tys-in-Ty-clause-related
+returns-in_ok-tys-in-Ty-clause-related g c =
     let r = g.R.TypeRelation.state c.args.r.now in
     let M = g.R.TypeRelation.manner in
     let q = g.R.TypeRelation.state c.tys.new.r in
@@ -72,10 +75,10 @@ returns-in_ok-tys-in-Ty g c =
     subst₂ (λ t u. Related M r q r.ambient (term_tree r.meaning t) (term_tree r.meaning u) (term_tree q.meaning)
     (Ok (Ty n.field-0))) (sym c.in-Ty.is) (sym c.in-Ty-b.is)
     (retold M r.ambient ((r.meaning).ty c.in-Ty.a) ((r.meaning).ty c.in-Ty-b.b) (q.meaning).ty n.field-0
-    (term_tree q.meaning) (Ty n.field-0) refl n.ensures)
+    (term_tree q.meaning) (Ty n.field-0) refl n.ensures.related)
 
-pub returns-in_ok-consts-in-Const : goal.returns-in_ok-consts-in-Const
-returns-in_ok-consts-in-Const g c =
+pub returns-in_ok-consts-in-Const-clause-related : goal.returns-in_ok-consts-in-Const-clause-related
+returns-in_ok-consts-in-Const-clause-related g c =
     let r = g.R.TypeRelation.state c.args.r.now in
     let M = g.R.TypeRelation.manner in
     let q = g.R.TypeRelation.state c.consts.new.r in
@@ -84,3 +87,119 @@ returns-in_ok-consts-in-Const g c =
     (Ok (Const n.field-0))) (sym c.in-Const.is) (sym c.in-Const-b.is)
     (retold M r.ambient ((r.meaning).const_ c.in-Const.a) ((r.meaning).const_ c.in-Const-b.b) (q.meaning).const_ n.field-0
     (term_tree q.meaning) (Const n.field-0) refl n.ensures)
+
+pub returns-in_default-clause-registers : goal.returns-in_default-clause-registers
+returns-in_default-clause-registers g c =
+    let r = g.R.TypeRelation.state c.args.r.now in
+    let M = g.R.TypeRelation.manner in
+    let e = g.met.R.TypeRelation.reads c.args.r.now in
+    let cx = g.R.TypeRelation.interner c.args.r.now in
+    let sorted : Sorted r.meaning = subst (λ m. Sorted m) (sym e) (record {
+      ty = g.met.I.Interner.is_ty cx;
+      region = g.met.I.Interner.is_region cx;
+      tys = g.met.I.Interner.are_tys cx;
+      const_ = g.met.I.Interner.is_const cx;
+      valtree = g.met.I.Interner.is_valtree cx;
+      args = g.met.I.Interner.are_args cx;
+      branches = g.met.I.Interner.are_branches cx;
+      pat = g.met.I.Interner.is_pat cx;
+      alternatives = g.met.I.Interner.are_alternatives cx;
+      existential_predicates = g.met.I.Interner.are_existential_predicates cx;
+    }) in
+    let z = else_const c.args.b.now c.in_default.not-Ty in
+    right_none M r r (term_tree r.meaning c.args.a.now) (term_tree r.meaning c.args.b.now) {X = ⊥} r.ambient
+    (Err (Unrelated Mismatch)) (subst (λ x. IsTyVar (term_tree r.meaning x) → ⊥) (sym z.1)
+    (const_none sorted (ConstArg z.0) (subst (λ x. IsTrue (known (term_tree r.meaning x))) z.1
+    (c.requires.asked).right_known) z.0 refl))
+
+pub returns-in_default-b-clause-registers : goal.returns-in_default-b-clause-registers
+returns-in_default-b-clause-registers g c =
+    let r = g.R.TypeRelation.state c.args.r.now in
+    let M = g.R.TypeRelation.manner in
+    let e = g.met.R.TypeRelation.reads c.args.r.now in
+    let cx = g.R.TypeRelation.interner c.args.r.now in
+    let sorted : Sorted r.meaning = subst (λ m. Sorted m) (sym e) (record {
+      ty = g.met.I.Interner.is_ty cx;
+      region = g.met.I.Interner.is_region cx;
+      tys = g.met.I.Interner.are_tys cx;
+      const_ = g.met.I.Interner.is_const cx;
+      valtree = g.met.I.Interner.is_valtree cx;
+      args = g.met.I.Interner.are_args cx;
+      branches = g.met.I.Interner.are_branches cx;
+      pat = g.met.I.Interner.is_pat cx;
+      alternatives = g.met.I.Interner.are_alternatives cx;
+      existential_predicates = g.met.I.Interner.are_existential_predicates cx;
+    }) in
+    left_none M r r (term_tree r.meaning c.args.a.now) (term_tree r.meaning c.args.b.now) {X = ⊥} r.ambient
+    (Err (Unrelated Mismatch)) (subst (λ x. IsTyVar (term_tree r.meaning x) → ⊥) (sym c.in-Const.is)
+    (const_none sorted (ConstArg c.in-Const.a) (subst (λ x. IsTrue (known (term_tree r.meaning x))) c.in-Const.is
+    (c.requires.asked).left_known) c.in-Const.a refl))
+
+pub returns-in_ok-consts-in-Const-clause-registers : goal.returns-in_ok-consts-in-Const-clause-registers
+returns-in_ok-consts-in-Const-clause-registers g c =
+    let r = g.R.TypeRelation.state c.args.r.now in
+    let M = g.R.TypeRelation.manner in
+    let q = g.R.TypeRelation.state c.consts.new.r in
+    let e = g.met.R.TypeRelation.reads c.args.r.now in
+    let cx = g.R.TypeRelation.interner c.args.r.now in
+    let sorted : Sorted r.meaning = subst (λ m. Sorted m) (sym e) (record {
+      ty = g.met.I.Interner.is_ty cx;
+      region = g.met.I.Interner.is_region cx;
+      tys = g.met.I.Interner.are_tys cx;
+      const_ = g.met.I.Interner.is_const cx;
+      valtree = g.met.I.Interner.is_valtree cx;
+      args = g.met.I.Interner.are_args cx;
+      branches = g.met.I.Interner.are_branches cx;
+      pat = g.met.I.Interner.is_pat cx;
+      alternatives = g.met.I.Interner.are_alternatives cx;
+      existential_predicates = g.met.I.Interner.are_existential_predicates cx;
+    }) in
+    left_none M r q (term_tree r.meaning c.args.a.now) (term_tree r.meaning c.args.b.now) r.ambient
+    (Ok (Const c.in_ok-consts-in-Const.field-0)) (subst (λ x. IsTyVar (term_tree r.meaning x) → ⊥) (sym c.in-Const.is)
+    (const_none sorted (ConstArg c.in-Const.a) (subst (λ x. IsTrue (known (term_tree r.meaning x))) c.in-Const.is
+    (c.requires.asked).left_known) c.in-Const.a refl))
+
+pub returns-in_err-consts-in-Const-clause-registers : goal.returns-in_err-consts-in-Const-clause-registers
+returns-in_err-consts-in-Const-clause-registers g c =
+    let r = g.R.TypeRelation.state c.args.r.now in
+    let M = g.R.TypeRelation.manner in
+    let q = g.R.TypeRelation.state c.consts.new.r in
+    let e = g.met.R.TypeRelation.reads c.args.r.now in
+    let cx = g.R.TypeRelation.interner c.args.r.now in
+    let sorted : Sorted r.meaning = subst (λ m. Sorted m) (sym e) (record {
+      ty = g.met.I.Interner.is_ty cx;
+      region = g.met.I.Interner.is_region cx;
+      tys = g.met.I.Interner.are_tys cx;
+      const_ = g.met.I.Interner.is_const cx;
+      valtree = g.met.I.Interner.is_valtree cx;
+      args = g.met.I.Interner.are_args cx;
+      branches = g.met.I.Interner.are_branches cx;
+      pat = g.met.I.Interner.is_pat cx;
+      alternatives = g.met.I.Interner.are_alternatives cx;
+      existential_predicates = g.met.I.Interner.are_existential_predicates cx;
+    }) in
+    left_none M r q (term_tree r.meaning c.args.a.now) (term_tree r.meaning c.args.b.now) r.ambient
+    c.from_residual-in_err-consts-in-Const.result (subst (λ x. IsTyVar (term_tree r.meaning x) → ⊥) (sym c.in-Const.is)
+    (const_none sorted (ConstArg c.in-Const.a) (subst (λ x. IsTrue (known (term_tree r.meaning x))) c.in-Const.is
+    (c.requires.asked).left_known) c.in-Const.a refl))
+
+pub returns-in_ok-tys-in-Ty-clause-registers : goal.returns-in_ok-tys-in-Ty-clause-registers
+returns-in_ok-tys-in-Ty-clause-registers g c =
+    let r = g.R.TypeRelation.state c.args.r.now in
+    let M = g.R.TypeRelation.manner in
+    let q = g.R.TypeRelation.state c.tys.new.r in
+    let n = c.in_ok-tys-in-Ty in
+    subst₂ (λ t u. RegistersSubtype M r q r.ambient (term_tree r.meaning t) (term_tree r.meaning u)
+    (Ok (Ty n.field-0))) (sym c.in-Ty.is) (sym c.in-Ty-b.is) n.ensures.registers
+
+pub returns-in_err-tys-in-Ty-clause-registers : goal.returns-in_err-tys-in-Ty-clause-registers
+returns-in_err-tys-in-Ty-clause-registers g c =
+    let r = g.R.TypeRelation.state c.args.r.now in
+    let M = g.R.TypeRelation.manner in
+    let q = g.R.TypeRelation.state c.tys.new.r in
+    let n = c.in_err-tys-in-Ty in
+    let res = c.from_residual.result in
+    subst₂ (λ t u. RegistersSubtype M r q r.ambient (term_tree r.meaning t) (term_tree r.meaning u) res)
+    (sym c.in-Ty.is) (sym c.in-Ty-b.is)
+    (refused_told ⊥ _ M r q r.ambient ((r.meaning).ty c.in-Ty.a) ((r.meaning).ty c.in-Ty-b.b) n.field-0.0 res
+    (as_err res n.field-0.0 c.from_residual.ensures.0 c.from_residual.ensures.1) n.ensures.registers)

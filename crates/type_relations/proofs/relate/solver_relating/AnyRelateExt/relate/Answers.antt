@@ -1,7 +1,7 @@
-use Rattle.std.proofs.Common.{◌≡◌, refl, sym, ap, ◌∙◌, subst, [], All, IsTrue}
+use Rattle.std.proofs.Common.{refl, sym, ap, ◌∙◌, subst, [], All}
 use Rattle.std.proofs.lemmas.Bool.{false≢true}
 use Rattle.std.proofs.lemmas.List.Elements.{All-nil}
-use Rattle.relation_terms.specs.Trees.{apply, known}
+use Rattle.relation_terms.specs.Trees.{apply}
 use Rattle.type_relations.specs.Relation.{same}
 use Rattle.type_relations.specs.Goals.{goals_of, KnowsGoal, MakesOneTree}
 use Rattle.type_relations.specs.Lawful.{Related, ExactResult}
@@ -10,24 +10,28 @@ use Rattle.type_relations.proofs.Going.{later_itself, goes_nowhere, binds_its_ow
 use Rattle.type_relations.proofs.Unifying.{exact_itself}
 use Rattle.type_relations.proofs.Passing.{as_err}
 use Rattle.type_relations.proofs.Exactly.{unrelated_apart}
+use Rattle.type_relations.specs.Relating.{term_in}
+use Rattle.type_relations.specs.Subtyping.{RegistersSubtype}
+use Rattle.type_relations.proofs.Relatable.{equal_one, one_equal}
+use Rattle.type_relations.proofs.Relating.{refused_alone_in}
 use Rattle.type_relations.proofs.OverContext.{all_taken}
-use Rattle.type_relations.proofs.Solving.{answers_goals, keeps_equal, registers_goals, one_ty}
+use Rattle.type_relations.proofs.Solving.{answers_goals, keeps_equal, registers_goals}
 use Rattle.type_relations.proofs.relate.solver_relating.AnyRelateExt.relate.Goals as goal
 
 pub returns-then-eq-clause-answers : goal.returns-then-eq-clause-answers
 returns-then-eq-clause-answers g c =
-    let one = one_ty (g.met.Infcx.InferCtxtLike.reads c.args.self.now) c.args.lhs c.args.rhs (λ h i.
-    (g.met.Infcx.Interner.Interner.same_ty (g.Infcx.InferCtxtLike.interner c.args.self.now) c.args.lhs c.args.rhs h i).0
-    (sym c.if-eq.ensures)) c.requires.lhs_known c.requires.rhs_known in
+    let one = equal_one (g.met.Infcx.InferCtxtLike.reads c.args.self.now) g.T.Relate.over g.T.HasTree.tree
+    g.T.PartialEq.eq (g.met.T.Relate.same (g.Infcx.InferCtxtLike.interner c.args.self.now)) c.args.lhs c.args.rhs
+    c.requires.lhs_known c.requires.rhs_known (sym c.if-eq.ensures) in
     (λ w s sat all. same (ap (apply s) one), λ w s sat. sat)
 
 pub returns-then-eq-clause-exact : goal.returns-then-eq-clause-exact
 returns-then-eq-clause-exact g c = λ is pair.
     let s = g.Infcx.InferCtxtLike.state c.args.self.now in
-    let one = one_ty (g.met.Infcx.InferCtxtLike.reads c.args.self.now) c.args.lhs c.args.rhs (λ h i.
-    (g.met.Infcx.Interner.Interner.same_ty (g.Infcx.InferCtxtLike.interner c.args.self.now) c.args.lhs c.args.rhs h i).0
-    (sym c.if-eq.ensures)) c.requires.lhs_known c.requires.rhs_known in
-    (exact_itself s.store ((s.meaning).ty c.args.lhs) ((s.meaning).ty c.args.rhs) one, pair.bindings)
+    let one = equal_one (g.met.Infcx.InferCtxtLike.reads c.args.self.now) g.T.Relate.over g.T.HasTree.tree
+    g.T.PartialEq.eq (g.met.T.Relate.same (g.Infcx.InferCtxtLike.interner c.args.self.now)) c.args.lhs c.args.rhs
+    c.requires.lhs_known c.requires.rhs_known (sym c.if-eq.ensures) in
+    (exact_itself s.store (term_in s g.T.Relate.over g.T.HasTree.tree c.args.lhs) (term_in s g.T.Relate.over g.T.HasTree.tree c.args.rhs) one, pair.bindings)
 
 pub returns-then-eq-clause-keeps : goal.returns-then-eq-clause-keeps
 returns-then-eq-clause-keeps g c = λ w s sat one. (
@@ -60,14 +64,14 @@ relate_in-related-requires-clause-asked g c =
       right_known = k.rhs_known;
       left_in = k.lhs_in;
       right_in = k.rhs_in;
-      left_taken = all_taken c.args.variance ((s.meaning).ty c.args.lhs) k.lhs_taken;
-      right_taken = all_taken c.args.variance ((s.meaning).ty c.args.rhs) k.rhs_taken;
+      left_taken = all_taken c.args.variance (term_in s g.T.Relate.over g.T.HasTree.tree c.args.lhs) k.lhs_taken;
+      right_taken = all_taken c.args.variance (term_in s g.T.Relate.over g.T.HasTree.tree c.args.rhs) k.rhs_taken;
     }
 
 pub returns-in_err-related-clause-bound : goal.returns-in_err-related-clause-bound
 returns-in_err-related-clause-bound g c =
     let s = g.Infcx.InferCtxtLike.state c.args.self.now in
-    let passes = (c.relate_in-related.ensures).passes in
+    let passes = (c.relate_in-related.ensures.related).passes in
     let lawful = (passes.lawful (c.requires.lawful, (c.requires.env_known, All-nil (KnowsGoal s.meaning)))).0 in
     binds_its_own passes.goes
     (λ m. (g.met.Infcx.InferCtxtLike.sound c.relate_in-related.new.infcx lawful).regions_unbound m)
@@ -75,91 +79,114 @@ returns-in_err-related-clause-bound g c =
 pub returns-clause-bound : goal.returns-clause-bound
 returns-clause-bound g c =
     let s = g.Infcx.InferCtxtLike.state c.args.self.now in
-    let passes = (c.relate_in-related.ensures).passes in
+    let passes = (c.relate_in-related.ensures.related).passes in
     let lawful = (passes.lawful (c.requires.lawful, (c.requires.env_known, All-nil (KnowsGoal s.meaning)))).0 in
     binds_its_own passes.goes
     (λ m. (g.met.Infcx.InferCtxtLike.sound c.relate_in-related.new.infcx lawful).regions_unbound m)
 
 pub returns-in_err-related-clause-same : goal.returns-in_err-related-clause-same
 returns-in_err-related-clause-same g c =
-    let of = g.met.Infcx.InferCtxtLike.reads c.args.self.now in
-    λ e. absurd (false≢true (c.if-eq.ensures
-    ∙ (g.met.Infcx.Interner.Interner.same_ty (g.Infcx.InferCtxtLike.interner c.args.self.now) c.args.lhs c.args.rhs
-    (subst (λ m. IsTrue (known (m.ty c.args.lhs))) of c.requires.lhs_known)
-    (subst (λ m. IsTrue (known (m.ty c.args.rhs))) of c.requires.rhs_known)).1
-    (subst (λ m. m.ty c.args.lhs ≡ m.ty c.args.rhs) of e)))
+    λ e. absurd (false≢true (c.if-eq.ensures ∙ one_equal (g.met.Infcx.InferCtxtLike.reads c.args.self.now)
+    g.T.Relate.over g.T.HasTree.tree g.T.PartialEq.eq
+    (g.met.T.Relate.same (g.Infcx.InferCtxtLike.interner c.args.self.now)) c.args.lhs c.args.rhs c.requires.lhs_known
+    c.requires.rhs_known e))
 
 pub returns-clause-same : goal.returns-clause-same
 returns-clause-same g c =
-    let of = g.met.Infcx.InferCtxtLike.reads c.args.self.now in
-    λ e. absurd (false≢true (c.if-eq.ensures
-    ∙ (g.met.Infcx.Interner.Interner.same_ty (g.Infcx.InferCtxtLike.interner c.args.self.now) c.args.lhs c.args.rhs
-    (subst (λ m. IsTrue (known (m.ty c.args.lhs))) of c.requires.lhs_known)
-    (subst (λ m. IsTrue (known (m.ty c.args.rhs))) of c.requires.rhs_known)).1
-    (subst (λ m. m.ty c.args.lhs ≡ m.ty c.args.rhs) of e)))
+    λ e. absurd (false≢true (c.if-eq.ensures ∙ one_equal (g.met.Infcx.InferCtxtLike.reads c.args.self.now)
+    g.T.Relate.over g.T.HasTree.tree g.T.PartialEq.eq
+    (g.met.T.Relate.same (g.Infcx.InferCtxtLike.interner c.args.self.now)) c.args.lhs c.args.rhs c.requires.lhs_known
+    c.requires.rhs_known e))
 
 pub returns-clause-answers : goal.returns-clause-answers
 returns-clause-answers g c =
     let s = g.Infcx.InferCtxtLike.state c.args.self.now in
     let d = g.Infcx.InferCtxtLike.state c.relate_in-related.new.infcx in
-    let a = (s.meaning).ty c.args.lhs in
-    let b = (s.meaning).ty c.args.rhs in
+    let a = term_in s g.T.Relate.over g.T.HasTree.tree c.args.lhs in
+    let b = term_in s g.T.Relate.over g.T.HasTree.tree c.args.rhs in
     let hs = c.relate_in-related.result.1.items in
     answers_goals s.meaning d.meaning s.store d.store s.lawful d.lawful c.args.variance c.args.param_env a b
-    (d.meaning).ty hs c.in_ok-related.field-0 (subst (λ z. Related solver_manner
+    (term_in d g.T.Relate.over g.T.HasTree.tree) hs c.in_ok-related.field-0 (subst (λ z. Related solver_manner
     (solving_in [] s c.args.variance c.args.param_env) (solving_in hs d c.args.variance c.args.param_env)
-    c.args.variance a b (d.meaning).ty z) c.in_ok-related.was c.relate_in-related.ensures)
+    c.args.variance a b (term_in d g.T.Relate.over g.T.HasTree.tree) z) c.in_ok-related.was c.relate_in-related.ensures.related)
 
 pub returns-clause-keeps : goal.returns-clause-keeps
 returns-clause-keeps g c =
     let s = g.Infcx.InferCtxtLike.state c.args.self.now in
     let d = g.Infcx.InferCtxtLike.state c.relate_in-related.new.infcx in
-    let a = (s.meaning).ty c.args.lhs in
-    let b = (s.meaning).ty c.args.rhs in
+    let a = term_in s g.T.Relate.over g.T.HasTree.tree c.args.lhs in
+    let b = term_in s g.T.Relate.over g.T.HasTree.tree c.args.rhs in
     let hs = c.relate_in-related.result.1.items in
     keeps_equal s.meaning d.meaning s.store d.store s.lawful d.lawful c.args.variance c.args.param_env a b
-    (d.meaning).ty hs c.in_ok-related.field-0 (subst (λ z. Related solver_manner
+    (term_in d g.T.Relate.over g.T.HasTree.tree) hs c.in_ok-related.field-0 (subst (λ z. Related solver_manner
     (solving_in [] s c.args.variance c.args.param_env) (solving_in hs d c.args.variance c.args.param_env)
-    c.args.variance a b (d.meaning).ty z) c.in_ok-related.was c.relate_in-related.ensures)
+    c.args.variance a b (term_in d g.T.Relate.over g.T.HasTree.tree) z) c.in_ok-related.was c.relate_in-related.ensures.related)
 
 pub returns-clause-goals : goal.returns-clause-goals
 returns-clause-goals g c =
     let s = g.Infcx.InferCtxtLike.state c.args.self.now in
     let d = g.Infcx.InferCtxtLike.state c.relate_in-related.new.infcx in
     registers_goals s.meaning d.meaning s.store d.store s.lawful d.lawful c.args.variance c.args.param_env
-    ((s.meaning).ty c.args.lhs) ((s.meaning).ty c.args.rhs) (d.meaning).ty c.relate_in-related.result.1.items
+    (term_in s g.T.Relate.over g.T.HasTree.tree c.args.lhs) (term_in s g.T.Relate.over g.T.HasTree.tree c.args.rhs) (term_in d g.T.Relate.over g.T.HasTree.tree) c.relate_in-related.result.1.items
     c.relate_in-related.result.0 c.requires.lawful (c.requires.env_known, All-nil (KnowsGoal s.meaning))
-    c.relate_in-related.ensures
+    c.relate_in-related.ensures.related
 
 pub returns-clause-exact : goal.returns-clause-exact
 returns-clause-exact g c = λ is pair.
     let s = g.Infcx.InferCtxtLike.state c.args.self.now in
     let d = g.Infcx.InferCtxtLike.state c.relate_in-related.new.infcx in
-    let o = subst (ExactResult s.store d.store ((s.meaning).ty c.args.lhs) ((s.meaning).ty c.args.rhs))
-    c.in_ok-related.was ((c.relate_in-related.ensures).exact tt is pair) in (o.1, o.0)
+    let o = subst (ExactResult s.store d.store (term_in s g.T.Relate.over g.T.HasTree.tree c.args.lhs) (term_in s g.T.Relate.over g.T.HasTree.tree c.args.rhs))
+    c.in_ok-related.was ((c.relate_in-related.ensures.related).exact tt is pair) in (o.1, o.0)
 
 pub returns-in_err-related-clause-no_unifier : goal.returns-in_err-related-clause-no_unifier
 returns-in_err-related-clause-no_unifier g c =
     let s = g.Infcx.InferCtxtLike.state c.args.self.now in
     let d = g.Infcx.InferCtxtLike.state c.relate_in-related.new.infcx in
-    let a = (s.meaning).ty c.args.lhs in
-    let b = (s.meaning).ty c.args.rhs in
+    let a = term_in s g.T.Relate.over g.T.HasTree.tree c.args.lhs in
+    let b = term_in s g.T.Relate.over g.T.HasTree.tree c.args.rhs in
     let f = c.in_err-related.field-0.0 in
-    unrelated_apart c.args.variance s.store d.store a b (d.meaning).ty c.from_residual.result f
+    unrelated_apart c.args.variance s.store d.store a b (term_in d g.T.Relate.over g.T.HasTree.tree) c.from_residual.result f
     (as_err c.from_residual.result f c.from_residual.ensures.0 c.from_residual.ensures.1)
     (λ is pair. subst (ExactResult s.store d.store a b) c.in_err-related.was
-    ((c.relate_in-related.ensures).exact tt is pair))
+    ((c.relate_in-related.ensures.related).exact tt is pair))
 
 pub returns-clause-sound : goal.returns-clause-sound
 returns-clause-sound g c =
     let s = g.Infcx.InferCtxtLike.state c.args.self.now in
     g.met.Infcx.InferCtxtLike.sound c.relate_in-related.new.infcx
-    (((c.relate_in-related.ensures).passes).lawful
+    (((c.relate_in-related.ensures.related).passes).lawful
     (c.requires.lawful, (c.requires.env_known, All-nil (KnowsGoal s.meaning)))).0
 
 pub returns-in_err-related-clause-sound : goal.returns-in_err-related-clause-sound
 returns-in_err-related-clause-sound g c =
     let s = g.Infcx.InferCtxtLike.state c.args.self.now in
     g.met.Infcx.InferCtxtLike.sound c.relate_in-related.new.infcx
-    (((c.relate_in-related.ensures).passes).lawful
+    (((c.relate_in-related.ensures.related).passes).lawful
     (c.requires.lawful, (c.requires.env_known, All-nil (KnowsGoal s.meaning)))).0
+
+pub returns-then-eq-clause-subtype : goal.returns-then-eq-clause-subtype
+returns-then-eq-clause-subtype g c =
+    let one = equal_one (g.met.Infcx.InferCtxtLike.reads c.args.self.now) g.T.Relate.over g.T.HasTree.tree
+    g.T.PartialEq.eq (g.met.T.Relate.same (g.Infcx.InferCtxtLike.interner c.args.self.now)) c.args.lhs c.args.rhs
+    c.requires.lhs_known c.requires.rhs_known (sym c.if-eq.ensures) in
+    λ differ x y f h. absurd (differ one)
+
+pub returns-in_err-related-clause-subtype : goal.returns-in_err-related-clause-subtype
+returns-in_err-related-clause-subtype g c =
+    let s = g.Infcx.InferCtxtLike.state c.args.self.now in
+    let f = c.in_err-related.field-0.0 in
+    refused_alone_in ⊥ g.Infcx.InferCtxtLike.state c.args.self.now c.relate_in-related.new.infcx g.T.Relate.over
+    g.T.HasTree.tree c.args.param_env c.args.variance c.args.lhs c.args.rhs c.relate_in-related.result.1.items
+    f c.from_residual.result (as_err c.from_residual.result f c.from_residual.ensures.0 c.from_residual.ensures.1)
+    (subst (RegistersSubtype solver_manner (solving_in [] s c.args.variance c.args.param_env)
+    (solving_in c.relate_in-related.result.1.items (g.Infcx.InferCtxtLike.state c.relate_in-related.new.infcx)
+    c.args.variance c.args.param_env) c.args.variance (term_in s g.T.Relate.over g.T.HasTree.tree c.args.lhs)
+    (term_in s g.T.Relate.over g.T.HasTree.tree c.args.rhs)) c.in_err-related.was c.relate_in-related.ensures.registers)
+
+pub returns-clause-subtype : goal.returns-clause-subtype
+returns-clause-subtype g c =
+    let s = g.Infcx.InferCtxtLike.state c.args.self.now in
+    subst (RegistersSubtype solver_manner (solving_in [] s c.args.variance c.args.param_env)
+    (solving_in c.relate_in-related.result.1.items (g.Infcx.InferCtxtLike.state c.relate_in-related.new.infcx)
+    c.args.variance c.args.param_env) c.args.variance (term_in s g.T.Relate.over g.T.HasTree.tree c.args.lhs)
+    (term_in s g.T.Relate.over g.T.HasTree.tree c.args.rhs)) c.in_ok-related.was c.relate_in-related.ensures.registers tt

@@ -51,8 +51,8 @@ combine_ty_vars-requires-clause-b_unresolved g c =
       shallow_free s.store type_var c.in-Some-ty_var.y.0 ((s.meaning).ty c.args.b.now) c.in-Some-ty_var.ensures.is c.requires.b_shallow,
     )
 
-pub returns-in_err-bound-in-None-ty_var : goal.returns-in_err-bound-in-None-ty_var
-returns-in_err-bound-in-None-ty_var g c =
+pub returns-in_err-bound-in-None-ty_var-clause-stepped : goal.returns-in_err-bound-in-None-ty_var-clause-stepped
+returns-in_err-bound-in-None-ty_var-clause-stepped g c =
     let r = c.args.self.now in
     let s = g.Infcx.InferCtxtLike.state r.infcx.now in
     let sound = g.met.Infcx.InferCtxtLike.sound r.infcx.now c.requires.lawful in
@@ -84,8 +84,8 @@ returns-in_err-bound-in-None-ty_var g c =
     (c.requires.env_known, c.requires.goals_known) h.grows.lawful) IsFormed s d h.grows.extends c.requires.decides sound type_var tt n t unresolved other (λ m. m.ty) CyclicTy r.ambient_variance
     (d.meaning).ty (λ o z i x. cycle_error d.meaning s.store d.store n t sound o z i other x) f h.instantiates)))
 
-pub returns-in_err-bound-in-Some-ty_var-2 : goal.returns-in_err-bound-in-Some-ty_var-2
-returns-in_err-bound-in-Some-ty_var-2 g c =
+pub returns-in_err-bound-in-Some-ty_var-2-clause-stepped : goal.returns-in_err-bound-in-Some-ty_var-2-clause-stepped
+returns-in_err-bound-in-Some-ty_var-2-clause-stepped g c =
     let r = c.args.self.now in
     let s = g.Infcx.InferCtxtLike.state r.infcx.now in
     let sound = g.met.Infcx.InferCtxtLike.sound r.infcx.now c.requires.lawful in
@@ -117,8 +117,8 @@ returns-in_err-bound-in-Some-ty_var-2 g c =
     (c.requires.env_known, c.requires.goals_known) h.grows.lawful) IsFormed s d h.grows.extends c.requires.decides sound type_var tt n t unresolved other (λ m. m.ty) CyclicTy c.xform-variance.result
     (d.meaning).ty (λ o z i x. cycle_error d.meaning s.store d.store n t sound o z i other x) f h.instantiates)))
 
-pub returns-in_ok-bound-in-None-ty_var : goal.returns-in_ok-bound-in-None-ty_var
-returns-in_ok-bound-in-None-ty_var g c =
+pub returns-in_ok-bound-in-None-ty_var-clause-stepped : goal.returns-in_ok-bound-in-None-ty_var-clause-stepped
+returns-in_ok-bound-in-None-ty_var-clause-stepped g c =
     let r = c.args.self.now in
     let s = g.Infcx.InferCtxtLike.state r.infcx.now in
     let cx = g.Infcx.InferCtxtLike.interner r.infcx.now in
@@ -152,8 +152,8 @@ returns-in_ok-bound-in-None-ty_var g c =
     c.args.b.now c.args.a.now (d.meaning).ty root_stays t_stays refl t_stays
     (inl root_stays)))
 
-pub returns-in_ok-bound-in-Some-ty_var-2 : goal.returns-in_ok-bound-in-Some-ty_var-2
-returns-in_ok-bound-in-Some-ty_var-2 g c =
+pub returns-in_ok-bound-in-Some-ty_var-2-clause-stepped : goal.returns-in_ok-bound-in-Some-ty_var-2-clause-stepped
+returns-in_ok-bound-in-Some-ty_var-2-clause-stepped g c =
     let r = c.args.self.now in
     let s = g.Infcx.InferCtxtLike.state r.infcx.now in
     let cx = g.Infcx.InferCtxtLike.interner r.infcx.now in
@@ -197,6 +197,21 @@ pub instantiate_ty_var_raw-requires-in-Some-ty_var-2-clause-decides : goal.insta
 instantiate_ty_var_raw-requires-in-Some-ty_var-2-clause-decides g c =
     decides_back c.args.self.now.ambient_variance c.xform-variance.result c.requires.decides c.xform-variance.ensures
 
-pub returns-in-None-ty_var-2 : goal.returns-in-None-ty_var-2
-returns-in-None-ty_var-2 g c =
+pub returns-in-None-ty_var-2-clause-stepped : goal.returns-in-None-ty_var-2-clause-stepped
+returns-in-None-ty_var-2-clause-stepped g c =
     c.super_combine_tys.ensures.stepped c.in-None.ensures.is_none c.in-None-ty_var-2.ensures.is_none
+
+pub returns-in-None-ty_var-2-clause-registers : goal.returns-in-None-ty_var-2-clause-registers
+returns-in-None-ty_var-2-clause-registers g c = λ f h. absurd (c.in-None.ensures.is_none f.0 f.1)
+
+pub returns-in_err-bound-in-None-ty_var-clause-registers : goal.returns-in_err-bound-in-None-ty_var-clause-registers
+returns-in_err-bound-in-None-ty_var-clause-registers g c = λ f h. absurd (c.in-None-ty_var.ensures.is_none h.0 h.1)
+
+pub returns-in_ok-bound-in-None-ty_var-clause-registers : goal.returns-in_ok-bound-in-None-ty_var-clause-registers
+returns-in_ok-bound-in-None-ty_var-clause-registers g c = λ f h. absurd (c.in-None-ty_var.ensures.is_none h.0 h.1)
+
+pub returns-in_err-bound-in-Some-ty_var-2-clause-registers : goal.returns-in_err-bound-in-Some-ty_var-2-clause-registers
+returns-in_err-bound-in-Some-ty_var-2-clause-registers g c = λ f h. absurd (c.in-None.ensures.is_none f.0 f.1)
+
+pub returns-in_ok-bound-in-Some-ty_var-2-clause-registers : goal.returns-in_ok-bound-in-Some-ty_var-2-clause-registers
+returns-in_ok-bound-in-Some-ty_var-2-clause-registers g c = λ f h. absurd (c.in-None.ensures.is_none f.0 f.1)

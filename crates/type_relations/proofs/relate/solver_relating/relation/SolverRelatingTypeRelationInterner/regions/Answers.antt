@@ -1,4 +1,4 @@
-use Rattle.std.proofs.Common.{◌∙◌, refl, ap}
+use Rattle.std.proofs.Common.{refl}
 use Rattle.relation_tools.specs.declared.error.RelateFault.TheVariants.{Memory}
 use Rattle.type_relations.proofs.Passing.{as_err}
 use Rattle.type_relations.proofs.Solving.{regions_recorded, memory_refused, asked_recorded, region_sorted}

@@ -1,4 +1,4 @@
-use Rattle.std.proofs.Common.{refl, sym}
+use Rattle.std.proofs.Common.{refl, sym, subst, Ok}
 use Rattle.type_relations.specs.Errors.{itself}
 use Rattle.type_relations.specs.Parts.{IsFormed}
 use Rattle.type_relations.specs.Solving.{solving_through, solver_manner}
@@ -6,10 +6,12 @@ use Rattle.type_relations.proofs.StructuralConsts.{itself_related}
 use Rattle.type_relations.proofs.Shallowly.{read_step}
 use Rattle.type_relations.proofs.OverContext.{all_taken, parts_step, read_covered}
 use Rattle.type_relations.proofs.Solving.{answered_step, one_ty}
+use Rattle.type_relations.specs.declared.relate.Step.TheVariants.{Done, Parts}
+use Rattle.type_relations.proofs.Subtyping.{step_of_one, step_left_none, read_registers}
 use Rattle.type_relations.proofs.relate.solver_relating.relation.SolverRelatingTypeRelationInterner.tys.Goals as goal
 
-pub returns-then-eq : goal.returns-then-eq
-returns-then-eq g c =
+pub returns-then-eq-clause-stepped : goal.returns-then-eq-clause-stepped
+returns-then-eq-clause-stepped g c =
     let r = c.args.self.now in
     let s = g.Infcx.InferCtxtLike.state r.infcx.now in
     let cx = g.Infcx.InferCtxtLike.interner r.infcx.now in
@@ -45,8 +47,8 @@ combine_tys-requires-clause-asked g c =
       right_taken = all_taken r.ambient_variance t (read_covered s.store all b t q.reads k.right_taken.1);
     }
 
-pub returns : goal.returns
-returns g c =
+pub returns-clause-stepped : goal.returns-clause-stepped
+returns-clause-stepped g c =
     let r = c.args.self.now in
     let s = g.Infcx.InferCtxtLike.state r.infcx.now in
     let q = c.combine_tys.new.self in
@@ -56,10 +58,10 @@ returns g c =
     (g.met.Infcx.InferCtxtLike.sound r.infcx.now c.requires.lawful.0) ((s.meaning).ty c.args.a.now)
     ((s.meaning).ty c.args.b.now) ((s.meaning).ty c.shallow_resolve-left.result)
     ((s.meaning).ty c.shallow_resolve-right.result) c.shallow_resolve-left.ensures.reads.reads
-    c.shallow_resolve-right.ensures.reads.reads IsFormed (d.meaning).ty c.combine_tys.result c.combine_tys.ensures
+    c.shallow_resolve-right.ensures.reads.reads IsFormed (d.meaning).ty c.combine_tys.result c.combine_tys.ensures.stepped
 
-pub returns-then-have_no_variable : goal.returns-then-have_no_variable
-returns-then-have_no_variable g c =
+pub returns-then-have_no_variable-clause-stepped : goal.returns-then-have_no_variable-clause-stepped
+returns-then-have_no_variable-clause-stepped g c =
     let r = c.args.self.now in
     let s = g.Infcx.InferCtxtLike.state r.infcx.now in
     let k = c.requires.asked in
@@ -69,3 +71,40 @@ returns-then-have_no_variable g c =
     ((s.meaning).ty c.args.a.now) ((s.meaning).ty c.args.b.now) (s.meaning).ty c.args.a.now c.args.b.now
     (g.met.Infcx.InferCtxtLike.sound r.infcx.now c.requires.lawful.0) (itself refl) (itself refl) k
     (none.a_formed c.if-have_no_variable.true k.left_taken.1) (none.b_formed c.if-have_no_variable.true k.right_taken.1)
+
+pub returns-then-eq-clause-registers : goal.returns-then-eq-clause-registers
+returns-then-eq-clause-registers g c =
+    let r = c.args.self.now in
+    let s = g.Infcx.InferCtxtLike.state r.infcx.now in
+    let cx = g.Infcx.InferCtxtLike.interner r.infcx.now in
+    let of = g.met.Infcx.InferCtxtLike.reads r.infcx.now in
+    let k = c.requires.asked in
+    let same = one_ty of c.args.a.now c.args.b.now (λ h i.
+    (g.met.Infcx.Interner.Interner.same_ty cx c.args.a.now c.args.b.now h i).0 (sym c.if-eq.ensures)) k.left_known
+    k.right_known in
+    step_of_one solver_manner (solving_through r.infcx.ghost_name r.goals.items s r.ambient_variance r.param_env)
+    (solving_through r.infcx.ghost_name r.goals.items s r.ambient_variance r.param_env) ((s.meaning).ty c.args.a.now)
+    ((s.meaning).ty c.args.b.now) (s.meaning).ty (Ok (Done c.args.a.now)) same
+
+pub returns-then-have_no_variable-clause-registers : goal.returns-then-have_no_variable-clause-registers
+returns-then-have_no_variable-clause-registers g c =
+    let r = c.args.self.now in
+    let s = g.Infcx.InferCtxtLike.state r.infcx.now in
+    let none = c.have_no_variable.ensures in
+    step_left_none solver_manner (solving_through r.infcx.ghost_name r.goals.items s r.ambient_variance r.param_env)
+    (solving_through r.infcx.ghost_name r.goals.items s r.ambient_variance r.param_env) ((s.meaning).ty c.args.a.now)
+    ((s.meaning).ty c.args.b.now) (s.meaning).ty (Ok (Parts c.args.a.now c.args.b.now)) (λ h. subst IsFormed h.1
+    (none.a_formed c.if-have_no_variable.true c.requires.asked.left_taken.1))
+
+pub returns-clause-registers : goal.returns-clause-registers
+returns-clause-registers g c =
+    let r = c.args.self.now in
+    let s = g.Infcx.InferCtxtLike.state r.infcx.now in
+    let q = c.combine_tys.new.self in
+    let d = g.Infcx.InferCtxtLike.state q.infcx.now in
+    read_registers solver_manner (solving_through r.infcx.ghost_name r.goals.items s r.ambient_variance r.param_env)
+    (solving_through q.infcx.ghost_name q.goals.items d q.ambient_variance q.param_env) ((s.meaning).ty c.args.a.now)
+    ((s.meaning).ty c.args.b.now) (d.meaning).ty c.combine_tys.result ((s.meaning).ty c.shallow_resolve-left.result)
+    ((s.meaning).ty c.shallow_resolve-right.result) c.shallow_resolve-left.ensures.reads.reads
+    c.shallow_resolve-right.ensures.reads.reads c.shallow_resolve-left.ensures.shallow
+    c.shallow_resolve-right.ensures.shallow c.combine_tys.ensures.registers

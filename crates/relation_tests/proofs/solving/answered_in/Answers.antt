@@ -1,0 +1,34 @@
+use Rattle.relation_reference.specs.RefCtxt.{context_in}
+use Rattle.type_relations.specs.Relating.{term_in}
+use Rattle.relation_tests.proofs.Concrete.{concrete_in, concrete_known, concrete_covered}
+use Rattle.relation_tests.proofs.solving.answered_in.Goals as goal
+
+pub relate-requires-clause-lhs_known : goal.relate-requires-clause-lhs_known
+relate-requires-clause-lhs_known g c =
+    let s = context_in g.I.Interner.meaning c.args.ctx.now in
+    concrete_known (term_in s g.T.Relate.over g.T.HasTree.tree c.args.two.0) c.requires.lhs
+
+pub relate-requires-clause-lhs_taken : goal.relate-requires-clause-lhs_taken
+relate-requires-clause-lhs_taken g c =
+    let s = context_in g.I.Interner.meaning c.args.ctx.now in
+    concrete_covered (term_in s g.T.Relate.over g.T.HasTree.tree c.args.two.0) c.requires.lhs
+
+pub relate-requires-clause-lhs_in : goal.relate-requires-clause-lhs_in
+relate-requires-clause-lhs_in g c =
+    let s = context_in g.I.Interner.meaning c.args.ctx.now in
+    concrete_in s.store (term_in s g.T.Relate.over g.T.HasTree.tree c.args.two.0) c.requires.lhs
+
+pub relate-requires-clause-rhs_known : goal.relate-requires-clause-rhs_known
+relate-requires-clause-rhs_known g c =
+    let s = context_in g.I.Interner.meaning c.args.ctx.now in
+    concrete_known (term_in s g.T.Relate.over g.T.HasTree.tree c.args.two.1) c.requires.rhs
+
+pub relate-requires-clause-rhs_taken : goal.relate-requires-clause-rhs_taken
+relate-requires-clause-rhs_taken g c =
+    let s = context_in g.I.Interner.meaning c.args.ctx.now in
+    concrete_covered (term_in s g.T.Relate.over g.T.HasTree.tree c.args.two.1) c.requires.rhs
+
+pub relate-requires-clause-rhs_in : goal.relate-requires-clause-rhs_in
+relate-requires-clause-rhs_in g c =
+    let s = context_in g.I.Interner.meaning c.args.ctx.now in
+    concrete_in s.store (term_in s g.T.Relate.over g.T.HasTree.tree c.args.two.1) c.requires.rhs

@@ -1,0 +1,104 @@
+-- What relating two values in a context asks and promises, by what is related of them: of a value that is `over` no form
+-- its tree, of another that form over its tree.
+use Rattle.std.specs.Prelude.{◌≡◌, [], ◌∷◌, Option, IsTrue, IfOk, Result, Ok, Err}
+use Rattle.std.specs.Global.{Vec}
+use Rattle.relation_terms.specs.declared.terms.enums.Variance.{Variance}
+use Rattle.relation_terms.specs.declared.terms.enums.Variance.TheVariants.{Invariant}
+use Rattle.relation_terms.specs.declared.terms.goal.Goal.{Goal}
+use Rattle.relation_terms.specs.declared.terms.keys.PredicateKey.{PredicateKey}
+use Rattle.relation_terms.specs.declared.terms.keys.ParamEnvKey.{ParamEnvKey}
+use Rattle.relation_terms.specs.Heads.{Head}
+use Rattle.relation_terms.specs.Trees.{Tree, known}
+use Rattle.relation_terms.specs.Meaning.{Meaning}
+use Rattle.relation_tools.specs.declared.error.RelateFault.{RelateFault}
+use Rattle.relation_tools.specs.declared.error.RelateFault.TheVariants.{Memory}
+use Rattle.relation_tools.specs.Faults.{IfUnrelated}
+use Rattle.type_relations.specs.Stores.{IsTermIn}
+use Rattle.type_relations.specs.Goals.{goals_of, goal_of}
+use Rattle.type_relations.specs.FirstOrder.{IsFirstOrderStore}
+use Rattle.type_relations.specs.Outcomes.{NoEqualTerms, Exact, NoUnifier}
+use Rattle.type_relations.specs.Headline.{AnswersGoals, KeepsEqualTerms, IsFirstOrderPair}
+use Rattle.type_relations.specs.Errors.{ErrorOf}
+use Rattle.type_relations.specs.Covered.{IsCovered}
+use Rattle.type_relations.specs.Lawful.{items_of}
+use Rattle.type_relations.specs.Arguments.{related_tree}
+use Rattle.type_relations.specs.Contexts.{Context}
+use Rattle.type_relations.specs.Subtyping.{OfSubtype}
+
+-- What is related of a value in a context.
+abbrev pub term_in : {Key Id Name A : Type 0} → Context Key Id Name → Option Head → (Meaning Key Id Name → A → Tree) →
+    A → Tree
+term_in c over tree x = related_tree over (tree c.meaning x)
+
+-- In a context.
+module _ {Key Id Name A : Type 0} (c : Context Key Id Name) (over : Option Head) (tree : Meaning Key Id Name → A → Tree)
+  where
+    -- The interner knows the value.
+    abbrev pub KnowsTerm : A → Type 0
+    KnowsTerm x = IsTrue (known (term_in c over tree x))
+
+    -- It may be related: it is of forms that have rules.
+    abbrev pub TakesTerm : A → Type 0
+    TakesTerm x = IsCovered (term_in c over tree x)
+
+    -- The variables in it are the context's, and nothing in it is of a later universe or escapes a binder.
+    abbrev pub HasTerm : A → Type 0
+    HasTerm x = IsTermIn c.store (term_in c over tree x)
+
+    -- Two are one.
+    abbrev pub AreOne : A → A → Type 0
+    AreOne a b = term_in c over tree a ≡ term_in c over tree b
+
+-- Between what a context is before the call and after it, which `state` shows.
+module _ {S Key Id Name A : Type 0} (state : S → Context Key Id Name) (old new : S) (over : Option Head)
+    (tree : Meaning Key Id Name → A → Tree) where
+  -- What is related of a value, as the context stood before.
+  abbrev term : A → Tree
+  term x = term_in (state old) over tree x
+
+  -- Sound: what satisfies the record after and makes the goals true relates the two, and satisfied the record before.
+  abbrev pub AnswersTerms : ParamEnvKey Key → Variance → A → A →
+      Result (Vec (Goal Key (PredicateKey Key))) (RelateFault Key Id Name) → Type 0
+  AnswersTerms e v a b result = IfOk result (λ goals. AnswersGoals (items_of (state old).meaning) (state old).store
+      (state new).store (goals_of (state new).meaning goals.items) (((state old).meaning).param_env e) v (term a) (term b))
+
+  -- No equal pair is lost, where the two are related.
+  abbrev pub KeepsEqual : A → A → Result (Vec (Goal Key (PredicateKey Key))) (RelateFault Key Id Name) → Type 0
+  KeepsEqual a b result = IfOk result (λ goals. KeepsEqualTerms (state old).store (state new).store
+      (goals_of (state new).meaning goals.items) (term a) (term b))
+
+  -- No assignment made the two one, where they are not related.
+  abbrev pub TellsApart : {X : Type 0} → A → A → Result X (RelateFault Key Id Name) → Type 0
+  TellsApart a b result = IfUnrelated result (λ e. NoEqualTerms (state old).store (term a) (term b))
+
+  -- Which error comes, where they are not related.
+  abbrev pub AnswersError : {X : Type 0} → Variance → A → A → Result X (RelateFault Key Id Name) → Type 0
+  AnswersError v a b result = IfUnrelated result (λ e. ErrorOf (state new).meaning (items_of (state new).meaning)
+      (state new).store v e (term a) (term b))
+
+  -- Exact, of first-order terms in a first-order record at invariance: just the solutions that unify them stay, up to
+  -- erasure, and the record stays first-order.
+  abbrev pub AnswersExactly : {X : Type 0} → Variance → A → A → Result X (RelateFault Key Id Name) → Type 0
+  AnswersExactly v a b result = IfOk result (λ goals. v ≡ Invariant →
+      IsFirstOrderPair (state old).store (term a) (term b) →
+      Exact (state old).store (state new).store (term a) (term b) × IsFirstOrderStore (state new).store)
+
+  -- A type error of such terms says that nothing unified them, up to erasure.
+  abbrev pub ProvesApart : {X : Type 0} → Variance → A → A → Result X (RelateFault Key Id Name) → Type 0
+  ProvesApart v a b result = IfUnrelated result (λ e. v ≡ Invariant →
+      IsFirstOrderPair (state old).store (term a) (term b) → NoUnifier (state old).store (term a) (term b))
+
+  -- One goal is answered, of this predicate in the environment, and nothing is recorded; or a growth was refused, and
+  -- nothing is recorded either.
+  abbrev pub AnswersAlone : ParamEnvKey Key → Tree →
+      Result (Vec (Goal Key (PredicateKey Key))) (RelateFault Key Id Name) → Type 0
+  AnswersAlone e p (Ok goals) = ((state new).store ≡ (state old).store) ×
+      (goals_of (state new).meaning goals.items ≡ goal_of (((state old).meaning).param_env e) p ∷ [])
+  AnswersAlone e p (Err Memory) = (state new).store ≡ (state old).store
+  AnswersAlone e p (Err f) = ⊥
+
+  -- Two different types that are unresolved type variables are related by just the goal that is asked of them at
+  -- covariance or contravariance.
+  abbrev pub AnswersSubtype : ParamEnvKey Key → Variance → A → A →
+      Result (Vec (Goal Key (PredicateKey Key))) (RelateFault Key Id Name) → Type 0
+  AnswersSubtype e v a b result = OfSubtype (state old).store v (term a) (term b) (λ t p. AnswersAlone e p result)
