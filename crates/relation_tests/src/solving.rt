@@ -26,7 +26,7 @@ use type_relations::infer_ctxt::InferCtxtLike;
 use type_relations::relate::Relate;
 use type_relations::relate::solver_relating::{RelateExt, SolverRelating};
 
-// What relating two types answers, and whether the context that is given back has just this constraint.
+// Whether relating two types answers the first, and the context that is given back has just this constraint.
 fn recorded<I: Interner>(
     ctx: &mut RefCtxt<I>,
     variance: Variance,
