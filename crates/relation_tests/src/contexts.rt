@@ -16,7 +16,6 @@ use relation_terms::terms::{
     UniverseIndex, Variance,
 };
 use relation_tools::error::RelateResult;
-use std::slice;
 use std::test::Fail;
 use type_relations::infer_ctxt::InferCtxtLike;
 use type_relations::relate::StructurallyRelateAliases;
@@ -312,7 +311,7 @@ fn registers_outlives<C: InferCtxtLike>(
 fn has_registered<I: Interner + Drop>(cx: I) -> Result<bool, OutOfMemory> {
     let mut ctx = RefCtxt::new(cx, true, 0)?;
     let (ty, region) = registers_outlives(&mut ctx)?;
-    Ok(ctx.ty_outlives() == slice::from_ref(&OutlivesPredicate(ty, region)))
+    Ok(ctx.ty_outlives().len() == 1 && ctx.ty_outlives().contains(&OutlivesPredicate(ty, region)))
 }
 
 #[test]

@@ -17,7 +17,6 @@ use relation_terms::terms::{
     AdtId, ArgsKey, DefId, GenericArgs, Interner, OutOfMemory, Ty, TyKey, TyKind, Variance,
 };
 use relation_tools::error::RelateResult;
-use std::slice;
 use std::test::Fail;
 use type_relations::relate::relate_ty_args;
 
@@ -106,7 +105,7 @@ fn asks_over(
         node (adt ((meaning_in cx).id item)) ((meaning_in cx).args (over.now).args) }
 {
     let (answer, relation) = related_over(cx, variance, item, over)?;
-    Ok(answer == over.ty && relation.constraints.as_slice() == slice::from_ref(&what))
+    Ok(answer == over.ty && relation.constraints.len() == 1 && relation.constraints.contains(&what))
 }
 
 #[test]

@@ -21,7 +21,6 @@ use relation_terms::terms::{
 };
 use relation_tools::error::RelateResult;
 use std::alloc::Global;
-use std::slice;
 use std::test::Fail;
 use type_relations::relate::{Relate, relate_args_with_variances};
 
@@ -135,7 +134,7 @@ fn asks<I: Interner + Drop, T: Relate<I> + Drop>(
     requires fits { T.fits (I.meaning cx) a.now b.now }
 {
     let relation = related(cx, variance, a, b)?;
-    Ok(relation.constraints.as_slice() == slice::from_ref(&what))
+    Ok(relation.constraints.len() == 1 && relation.constraints.contains(&what))
 }
 
 // Whether relating two types does.
@@ -151,7 +150,7 @@ fn asks_of_types<I: Interner + Drop>(
     requires rhs { IsConcrete ((I.meaning cx).ty b.now) }
 {
     let relation = constraints_of(cx, variance, a, b)?;
-    Ok(relation.constraints.as_slice() == slice::from_ref(&what))
+    Ok(relation.constraints.len() == 1 && relation.constraints.contains(&what))
 }
 
 // The relation after it has related the arguments of an item.
@@ -188,7 +187,7 @@ fn asks_of_args<I: Interner + Drop>(
     requires as_many { count ((I.meaning cx).args a.now) ≡ count ((I.meaning cx).args b.now) }
 {
     let relation = related_args(cx, variance, def_id, a, b)?;
-    Ok(relation.constraints.as_slice() == slice::from_ref(&what))
+    Ok(relation.constraints.len() == 1 && relation.constraints.contains(&what))
 }
 
 // The list of the one argument.

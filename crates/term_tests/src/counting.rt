@@ -37,6 +37,7 @@ fn adds_each_once(cx: &mut RefInterner) -> Result<bool, OutOfMemory> {
     let bottom = cx.mk_ty(TyKind::Bool)?;
     let first = tower(cx, bottom, 60)?;
     let made = cx.nodes();
+    let bottom = cx.mk_ty(TyKind::Bool)?;
     let again = tower(cx, bottom, 60)?;
     let same = first == again && cx.nodes() == made;
     let _ = cx.mk_region(RegionKind::ReStatic)?;

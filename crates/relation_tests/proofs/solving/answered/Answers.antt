@@ -21,7 +21,7 @@ goals_of-requires-clause-lhs g c =
     let m = g.I.Interner.meaning c.args.cx in
     let n = g.I.Interner.meaning c.in_ok-ctx.ctx.interner in
     let e = extends_on c.in_ok-param_env.ensures.grown c.in_ok-ctx.ensures.grown in
-    related_concrete m n g.T.Relate.over g.T.HasTree.tree c.args.a (g.met.T.HasTree.stays m n e c.args.a)
+    related_concrete m n g.T.Relate.over g.T.HasTree.tree c.args.a (g.T.HasTree.stays m n e c.args.a)
     c.requires.lhs
 
 pub goals_of-requires-clause-rhs : goal.goals_of-requires-clause-rhs
@@ -29,5 +29,5 @@ goals_of-requires-clause-rhs g c =
     let m = g.I.Interner.meaning c.args.cx in
     let n = g.I.Interner.meaning c.in_ok-ctx.ctx.interner in
     let e = extends_on c.in_ok-param_env.ensures.grown c.in_ok-ctx.ensures.grown in
-    related_concrete m n g.T.Relate.over g.T.HasTree.tree c.args.b (g.met.T.HasTree.stays m n e c.args.b)
+    related_concrete m n g.T.Relate.over g.T.HasTree.tree c.args.b (g.T.HasTree.stays m n e c.args.b)
     c.requires.rhs
