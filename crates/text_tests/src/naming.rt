@@ -88,252 +88,97 @@ fn variables_are_counted(rt: HostRuntime) -> Result<(), Fail> {
     Ok(())
 }
 
+// Texts with wrong names, and what is told of each.
+const WRONG_NAMES: &str = "\
+    X == u8; => 1:1: expected a name that is known, found `X`\n\
+    struct u8; => 1:8: expected a new name, found `u8`\n\
+    struct K<T, T>; => 1:13: expected a new name, found `T`\n\
+    struct K<'a>; K<u8> == u8; => 1:17: expected a region, found a type\n\
+    [u8; u8] == u8; => 1:6: expected a constant, found a type\n\
+    param 'a; 'a == 'a; => 1:11: expected a type, found a region\n\
+    2 == 2; => 1:1: expected a type, found a constant\n\
+    struct K<T>; K == u8; => 1:14: expected 1 argument, found 0\n\
+    fn f; f<u8> == u8; => 1:7: expected 0 arguments, found 1\n\
+    param T; T<u8> == u8; => 1:10: expected an item, found `T`\n\
+    extern type F<T>; => 1:15: expected no parameter, found `T`\n\
+    [u8; 256u8] == u8; => 1:6: the number is too large\n\
+    [u8; 2x] == u8; => 1:6: expected a number of a type of numbers, found `2x`\n\
+    ?10000 == u8; => 1:1: expected a variable below 10000, found `?10000`\n\
+    variables '?10000; => 1:11: expected a variable below 10000, found `'?10000`\n\
+    variables ?0, ?c10000; => 1:15: expected a variable below 10000, found `?c10000`\n\
+    variables ?0 in 10000; => 1:17: expected a universe from 0 to 9999, found `10000`\n\
+    variables ?0 in 1u8; => 1:17: expected a number alone, found `1u8`\n\
+    repeat 0 u8 == u8; => 1:8: expected a number above 0, found `0`\n\
+    then u8 == u8; => 1:1: expected a question before this, found none\n\
+    budget 1u8; => 1:8: expected a number alone, found `1u8`\n\
+    !1.x == u8; => 1:1: expected a place by its number, found `!1.x`\n\
+    let t = t; => 1:9: expected a name that is known, found `t`\n\
+    param T = 4294967295, U; => 1:23: the number is too large\n\
+    param 'a; fold u8 with u8 = 'a; => 1:29: expected a type, found a region\n\
+    param 'a; rigid 'a; => 1:17: expected a type, found a region\n\
+    visit ?0 is 1..=u8; => 1:17: expected a constant, found a type\n\
+    visit 2 is 1..=2; => 1:7: expected a type, found a constant\n\
+    struct K<T>; visit K<?c0>; => 1:22: expected a type, found a constant\n\
+    visit [u8; ?i0]; => 1:12: expected a constant, found a type\n\
+    visit ?f10000; => 1:7: expected a variable below 10000, found `?f10000`\n\
+    visit '!1.x; => 1:7: expected a place by its number, found `'!1.x`\n\
+    then visit u8; => 1:1: expected a question before this, found none\n\
+    visit fn(^0); => 1:10: expected a name that is known, found `^0`\n\
+    visit fn(^18446744073709551615.0); => 1:10: the number is too large\n\
+    visit [u8; ^1.0]; => 1:12: expected a constant, found a type\n\
+    rigid '^0; => 1:7: expected a type, found a region\n\
+    components 'static; => 1:12: expected a type, found a region\n\
+    visit for<'a, 'a> fn(); => 1:15: expected a new name, found `'a`\n\
+    visit for<'static> fn(); => 1:11: expected a new name, found `'static`\n\
+    visit for<'a> fn('a); => 1:18: expected a type, found a region\n\
+    visit for<^0> fn([u8; ^0]); => 1:23: expected a constant, found a type\n\
+    visit (for<'a> fn(&'a u8), &'a u8); => 1:29: expected a name that is known, found `'a`\n\
+    trait A; visit A; => 1:16: expected no trait, found `A`\n\
+    struct A; param 'a; visit dyn A + 'a; => 1:31: expected a trait, found `A`\n\
+    type u8::A; => 1:6: expected a trait, found `u8`\n\
+    auto trait A<T>; => 1:14: expected no parameter, found `T`\n\
+    trait A; type A::B; const A::B; => 1:30: expected a new name, found `B`\n\
+    trait A<T>; visit dyn A + 'static; => 1:23: expected 1 argument, found 0\n\
+    trait A; visit dyn A<B = u8> + 'static; => 1:22: expected a name that is known, found `B`\n\
+    trait A; const A::L; visit dyn A<L = u8> + 'static; => 1:38: expected a constant, found a type\n\
+    trait A; type A::B; visit dyn A<B = u8>::B == u8 + 'static; => 1:33: expected an argument, found `B = u8`\n\
+    trait A; type A::B; visit dyn A::B<B = u8> == u8 + 'static; => 1:36: expected an argument, found `B = u8`\n\
+    trait A<T>; type A::B<T>; visit dyn A<u8, B = u8> + 'static; => 1:43: expected 1 argument, found 0\n\
+    trait A<T>; type A::B; visit dyn A<u8>::B<u8> == u8 + 'static; => 1:41: expected 0 arguments, found 1\n\
+    struct A; visit <u8 as A>::B; => 1:24: expected a trait, found `A`\n\
+    trait A; visit <u8 as A>::B; => 1:27: expected a name that is known, found `B`\n\
+    trait A<T>; type A::B; visit <u8 as A>::B; => 1:37: expected 1 argument, found 0\n\
+    trait A; type A::B; visit <2 as A>::B; => 1:28: expected a type, found a constant\n\
+    trait A; const A::B; visit [<u8 as A>::B]; => 1:29: expected a type, found a constant\n\
+    trait A; type A::B; visit <u8 as A<B = u8>>::B; => 1:36: expected an argument, found `B = u8`\n\
+    opaque A<T>; visit A; => 1:20: expected 1 argument, found 0\n\
+    const A; visit &'static A; => 1:25: expected a type, found a constant\n\
+    trait A; type A::B; visit B; => 1:27: expected a name that is known, found `B`\n\
+    trait A; type A::B<T>; visit dyn A::B<u8> == 2 + 'static; => 1:46: expected a type, found a constant\n\
+    may unify[rigid, rigid] u8, u8 at 1u8; => 1:35: expected a number alone, found `1u8`\n\
+    args may unify[rigid, rigid] [u8], [2]; => 1:37: expected a type, found a constant\n\
+    param 'a; key 'a; => 1:15: expected a type, found a region\n\
+    visit unsafe<'a> 2; => 1:18: expected a type, found a constant";
+
 #[test]
 fn wrong_names_are_told(rt: HostRuntime) -> Result<(), Fail> {
-    for (text, why) in [
-        ("X == u8;", "1:1: expected a name that is known, found `X`"),
-        (
-            "param T;\n  param T;",
-            "2:9: expected a new name, found `T`",
-        ),
-        ("struct u8;", "1:8: expected a new name, found `u8`"),
-        ("struct K<T, T>;", "1:13: expected a new name, found `T`"),
-        (
-            "struct K<'a>; K<u8> == u8;",
-            "1:17: expected a region, found a type",
-        ),
-        ("[u8; u8] == u8;", "1:6: expected a constant, found a type"),
-        (
-            "param 'a; 'a == 'a;",
-            "1:11: expected a type, found a region",
-        ),
-        ("2 == 2;", "1:1: expected a type, found a constant"),
-        (
-            "struct K<T>; K == u8;",
-            "1:14: expected 1 argument, found 0",
-        ),
-        ("fn f; f<u8> == u8;", "1:7: expected 0 arguments, found 1"),
-        ("param T; T<u8> == u8;", "1:10: expected an item, found `T`"),
-        (
-            "extern type F<T>;",
-            "1:15: expected no parameter, found `T`",
-        ),
-        ("[u8; 256u8] == u8;", "1:6: the number is too large"),
-        (
-            "[u8; 2x] == u8;",
-            "1:6: expected a number of a type of numbers, found `2x`",
-        ),
-        (
-            "?10000 == u8;",
-            "1:1: expected a variable below 10000, found `?10000`",
-        ),
-        (
-            "variables '?10000;",
-            "1:11: expected a variable below 10000, found `'?10000`",
-        ),
-        (
-            "variables ?0, ?c10000;",
-            "1:15: expected a variable below 10000, found `?c10000`",
-        ),
-        (
-            "variables ?0 in 10000;",
-            "1:17: expected a universe from 0 to 9999, found `10000`",
-        ),
-        (
-            "variables ?0 in 2;\nvariables ?1 in 1;",
-            "2:17: expected a universe from 2 to 9999, found `1`",
-        ),
-        (
-            "variables ?0 in 1u8;",
-            "1:17: expected a number alone, found `1u8`",
-        ),
-        (
-            "repeat 0 u8 == u8;",
-            "1:8: expected a number above 0, found `0`",
-        ),
-        (
-            "then u8 == u8;",
-            "1:1: expected a question before this, found none",
-        ),
-        ("budget 1u8;", "1:8: expected a number alone, found `1u8`"),
-        (
-            "!1.x == u8;",
-            "1:1: expected a place by its number, found `!1.x`",
-        ),
-        (
-            "let t = t;",
-            "1:9: expected a name that is known, found `t`",
-        ),
-        ("param T = 4294967295, U;", "1:23: the number is too large"),
-        (
-            "param 'a; fold u8 with u8 = 'a;",
-            "1:29: expected a type, found a region",
-        ),
-        (
-            "param 'a; rigid 'a;",
-            "1:17: expected a type, found a region",
-        ),
-        (
-            "visit ?0 is 1..=u8;",
-            "1:17: expected a constant, found a type",
-        ),
-        (
-            "visit 2 is 1..=2;",
-            "1:7: expected a type, found a constant",
-        ),
-        (
-            "struct K<T>; visit K<?c0>;",
-            "1:22: expected a type, found a constant",
-        ),
-        (
-            "visit [u8; ?i0];",
-            "1:12: expected a constant, found a type",
-        ),
-        (
-            "visit ?f10000;",
-            "1:7: expected a variable below 10000, found `?f10000`",
-        ),
-        (
-            "visit '!1.x;",
-            "1:7: expected a place by its number, found `'!1.x`",
-        ),
-        (
-            "then visit u8;",
-            "1:1: expected a question before this, found none",
-        ),
-        (
-            "visit fn(^0);",
-            "1:10: expected a name that is known, found `^0`",
-        ),
-        (
-            "visit fn(^18446744073709551615.0);",
-            "1:10: the number is too large",
-        ),
-        (
-            "visit [u8; ^1.0];",
-            "1:12: expected a constant, found a type",
-        ),
-        ("rigid '^0;", "1:7: expected a type, found a region"),
-        (
-            "components 'static;",
-            "1:12: expected a type, found a region",
-        ),
-        (
-            "visit for<'a, 'a> fn();",
-            "1:15: expected a new name, found `'a`",
-        ),
-        (
-            "visit for<'static> fn();",
-            "1:11: expected a new name, found `'static`",
-        ),
-        (
-            "visit for<'a> fn('a);",
-            "1:18: expected a type, found a region",
-        ),
-        (
-            "visit for<^0> fn([u8; ^0]);",
-            "1:23: expected a constant, found a type",
-        ),
-        (
-            "visit (for<'a> fn(&'a u8), &'a u8);",
-            "1:29: expected a name that is known, found `'a`",
-        ),
-        ("trait A; visit A;", "1:16: expected no trait, found `A`"),
-        (
-            "struct A; param 'a; visit dyn A + 'a;",
-            "1:31: expected a trait, found `A`",
-        ),
-        ("type u8::A;", "1:6: expected a trait, found `u8`"),
-        ("auto trait A<T>;", "1:14: expected no parameter, found `T`"),
-        (
-            "trait A; type A::B; const A::B;",
-            "1:30: expected a new name, found `B`",
-        ),
-        (
-            "trait A<T>; visit dyn A + 'static;",
-            "1:23: expected 1 argument, found 0",
-        ),
-        (
-            "trait A; visit dyn A<B = u8> + 'static;",
-            "1:22: expected a name that is known, found `B`",
-        ),
-        (
-            "trait A; const A::L; visit dyn A<L = u8> + 'static;",
-            "1:38: expected a constant, found a type",
-        ),
-        (
-            "trait A; type A::B; visit dyn A<B = u8>::B == u8 + 'static;",
-            "1:33: expected an argument, found `B = u8`",
-        ),
-        (
-            "trait A; type A::B; visit dyn A::B<B = u8> == u8 + 'static;",
-            "1:36: expected an argument, found `B = u8`",
-        ),
-        (
-            "trait A<T>; type A::B<T>; visit dyn A<u8, B = u8> + 'static;",
-            "1:43: expected 1 argument, found 0",
-        ),
-        (
-            "trait A<T>; type A::B; visit dyn A<u8>::B<u8> == u8 + 'static;",
-            "1:41: expected 0 arguments, found 1",
-        ),
-        (
-            "struct A; visit <u8 as A>::B;",
-            "1:24: expected a trait, found `A`",
-        ),
-        (
-            "trait A; visit <u8 as A>::B;",
-            "1:27: expected a name that is known, found `B`",
-        ),
-        (
-            "trait A<T>; type A::B; visit <u8 as A>::B;",
-            "1:37: expected 1 argument, found 0",
-        ),
-        (
-            "trait A; type A::B; visit <2 as A>::B;",
-            "1:28: expected a type, found a constant",
-        ),
-        (
-            "trait A; const A::B; visit [<u8 as A>::B];",
-            "1:29: expected a type, found a constant",
-        ),
-        (
-            "trait A; type A::B; visit <u8 as A<B = u8>>::B;",
-            "1:36: expected an argument, found `B = u8`",
-        ),
-        (
-            "opaque A<T>; visit A;",
-            "1:20: expected 1 argument, found 0",
-        ),
-        (
-            "const A; visit &'static A;",
-            "1:25: expected a type, found a constant",
-        ),
-        (
-            "trait A; type A::B; visit B;",
-            "1:27: expected a name that is known, found `B`",
-        ),
-        (
-            "trait A; type A::B<T>; visit dyn A::B<u8> == 2 + 'static;",
-            "1:46: expected a type, found a constant",
-        ),
-        (
-            "may unify[rigid, rigid] u8, u8 at 1u8;",
-            "1:35: expected a number alone, found `1u8`",
-        ),
-        (
-            "args may unify[rigid, rigid] [u8], [2];",
-            "1:37: expected a type, found a constant",
-        ),
-        ("param 'a; key 'a;", "1:15: expected a type, found a region"),
-        (
-            "visit unsafe<'a> 2;",
-            "1:18: expected a type, found a constant",
-        ),
-    ] {
+    for line in WRONG_NAMES.lines() {
+        let (text, why) = line.split_once(" => ").unwrap_or((line, ""));
         let all = shown(rt.alloc(), text)?;
         assert_eq!(rt; all.as_str(), why, "{text}");
     }
+    Ok(())
+}
+
+#[test]
+fn wrong_names_are_told_with_their_lines(rt: HostRuntime) -> Result<(), Fail> {
+    let all = shown(rt.alloc(), "param T;\n  param T;")?;
+    assert_eq!(rt; all.as_str(), "2:9: expected a new name, found `T`");
+    let all = shown(rt.alloc(), "variables ?0 in 2;\nvariables ?1 in 1;")?;
+    assert_eq!(rt;
+        all.as_str(),
+        "2:17: expected a universe from 2 to 9999, found `1`"
+    );
     Ok(())
 }
 

@@ -1,6 +1,5 @@
 //! How what has no text prints, and errors that no question answers.
 ghost use Rattle.std.specs.Prelude.{IsTrue};
-ghost use Rattle.std.specs.List.{All};
 ghost use Rattle.relation_terms.specs.Trees.{known};
 ghost use Rattle.relation_terms.specs.Meaning.{Extends, kind_tree};
 ghost use Rattle.relation_tools.specs.Faults.{KnowsError};
@@ -67,20 +66,17 @@ fn what_has_no_text_prints(rt: HostRuntime) -> Result<(), Fail> {
     Ok(())
 }
 
-// Writes errors, each with a semicolon behind it.
-fn write_errors<I: Interner, W: Write>(
+// Writes an error, and a semicolon.
+fn write_one<I: Interner, W: Write>(
     cx: &I,
     texts: &TextsOf<I>,
-    errors: &[TypeErrorOf<I>],
+    error: TypeErrorOf<I>,
     out: &mut W,
 ) -> fmt::Result
-    requires { All (KnowsError (I.meaning cx.now)) errors.now }
+    requires { KnowsError (I.meaning cx.now) error }
 {
-    for error in errors {
-        write_error(cx, texts, error, out)?;
-        out.write_str(";")?;
-    }
-    Ok(())
+    write_error(cx, texts, &error, out)?;
+    out.write_str(";")
 }
 
 // Writes errors that name no term.
@@ -89,18 +85,16 @@ fn write_plain_errors<I: Interner, W: Write>(
     texts: &TextsOf<I>,
     out: &mut W,
 ) -> fmt::Result {
-    let errors = [
-        TypeError::ForceInlineCast,
-        TypeError::ArgumentMutability(1),
-        TypeError::VariadicMismatch(ExpectedFound::new(true, false)),
-        TypeError::PolarityMismatch(ExpectedFound::new(
-            PredicatePolarity::Positive,
-            PredicatePolarity::Negative,
-        )),
-        TypeError::SafetyMismatch(ExpectedFound::new(Safety::Unsafe, Safety::Safe)),
-        TypeError::AbiMismatch(ExpectedFound::new(ExternAbi::Rust, ExternAbi::C)),
-    ];
-    write_errors(cx, texts, &errors, out)
+    let polarities = ExpectedFound::new(PredicatePolarity::Positive, PredicatePolarity::Negative);
+    let safeties = ExpectedFound::new(Safety::Unsafe, Safety::Safe);
+    let conventions = ExpectedFound::new(ExternAbi::Rust, ExternAbi::C);
+    let variadic = ExpectedFound::new(true, false);
+    write_one(cx, texts, TypeError::ForceInlineCast, out)?;
+    write_one(cx, texts, TypeError::ArgumentMutability(1), out)?;
+    write_one(cx, texts, TypeError::VariadicMismatch(variadic), out)?;
+    write_one(cx, texts, TypeError::PolarityMismatch(polarities), out)?;
+    write_one(cx, texts, TypeError::SafetyMismatch(safeties), out)?;
+    write_one(cx, texts, TypeError::AbiMismatch(conventions), out)
 }
 
 // Writes an error that names two regions, and one that names two types.
@@ -112,16 +106,12 @@ fn write_errors_of_terms<I: Interner, W: Write>(
 ) -> Result<(), Fail> {
     let longer = cx.mk_region(RegionKind::ReStatic)?;
     let shorter = cx.mk_region(RegionKind::ReVar(RegionVid(0)))?;
-    write_error(
-        cx,
-        texts,
-        &TypeError::RegionsDoesNotOutlive(longer, shorter),
-        out,
-    )?;
+    let regions = TypeError::RegionsDoesNotOutlive(longer, shorter);
+    write_one(cx, texts, regions, out)?;
     let expected = cx.mk_ty(TyKind::Bool)?;
     let found = cx.mk_ty(TyKind::Char)?;
     let types = TypeError::ArgumentSorts(ExpectedFound::new(expected, found), 1);
-    write_error(cx, texts, &types, out)?;
+    write_one(cx, texts, types, out)?;
     Ok(())
 }
 
@@ -135,7 +125,7 @@ fn errors_print_their_parts(rt: HostRuntime) -> Result<(), Fail> {
         text.as_str(),
         "ForceInlineCast;ArgumentMutability(1);VariadicMismatch(true, false);\
          PolarityMismatch(Positive, Negative);SafetyMismatch(Unsafe, Safe);AbiMismatch(Rust, C);\
-         RegionsDoesNotOutlive('static, '?0)ArgumentSorts(bool, char, 1)"
+         RegionsDoesNotOutlive('static, '?0);ArgumentSorts(bool, char, 1);"
     );
     Ok(())
 }

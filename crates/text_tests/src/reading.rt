@@ -189,102 +189,82 @@ fn texts_are_read(rt: HostRuntime) -> Result<(), Fail> {
     Ok(())
 }
 
+// Wrong texts, and what is told of each.
+const WRONG_TEXTS: &str = "\
+    struct => 1:7: expected a name, found the end\n\
+    T => 1:2: expected `<:`, `:>` or `==`, found the end\n\
+    T == [T, T]; => 1:8: expected `]`, found `,`\n\
+    T == (T; T); => 1:8: expected `,` or `)`, found `;`\n\
+    T == 340282366920938463463374607431768211456; => 1:6: the number is too large\n\
+    &T == u8; => 1:2: expected a region, found `T`\n\
+    *T == T => 1:2: expected `const` or `mut`, found `T`\n\
+    budget x; => 1:8: expected a number, found `x`\n\
+    variables ?i0; => 1:11: expected a variable, found `?i0`\n\
+    variables in 1; => 1:11: expected a variable, found `in`\n\
+    variables ?0 in; => 1:16: expected a number, found `;`\n\
+    variables ?0 in 1, ?1; => 1:18: expected `;`, found `,`\n\
+    fold T; => 1:7: expected `with`, found `;`\n\
+    visit T stop A skip B; => 1:16: expected `;`, found `skip`\n\
+    walk T skip 2; => 1:13: expected `after`, found `2`\n\
+    walk T skip after; => 1:18: expected a number, found `;`\n\
+    walk T stop U; => 1:8: expected `;`, found `stop`\n\
+    visit {error, T}; => 1:13: expected `}`, found `,`\n\
+    visit T is 1; => 1:13: expected `..=`, found `;`\n\
+    visit T is !; => 1:13: expected `null`, found `;`\n\
+    visit T is 1..=2 |; => 1:19: expected a term, found `;`\n\
+    visit T is (1..=2; => 1:18: expected `)`, found `;`\n\
+    visit T is 1..=2 is 3..=4; => 1:18: expected `;`, found `is`\n\
+    visit '!1; => 1:8: no word begins here\n\
+    visit ?i; => 1:9: no word begins here\n\
+    visit ^x; => 1:8: no word begins here\n\
+    visit ^1.; => 1:9: no word begins here\n\
+    visit '^; => 1:9: no word begins here\n\
+    visit &^0 T; => 1:8: expected a region, found `^0`\n\
+    visit for<^0.0> fn(); => 1:11: expected a variable of a binder, found `^0.0`\n\
+    struct for; => 1:8: expected a name, found `for`\n\
+    visit for<T> fn(); => 1:11: expected a variable of a binder, found `T`\n\
+    visit for<const 'a> fn(); => 1:17: expected a constant of a binder, found `'a`\n\
+    visit for<'a> T; => 1:15: expected `fn`, found `T`\n\
+    visit unsafe T; => 1:14: expected `fn`, found `T`\n\
+    visit extern fn(); => 1:14: expected `\"C\"` or `\"system\"`, found `fn`\n\
+    visit extern \"Rust\" fn(); => 1:14: no word begins here\n\
+    may T, U; => 1:5: expected `unify`, found `T`\n\
+    args T; => 1:6: expected `[`, found `T`\n\
+    args [T]; => 1:9: expected `==`, found `;`\n\
+    may unify[infer, rigid] T, U; => 1:18: expected `infer`, found `rigid`\n\
+    may unify[rigid, T] T, U; => 1:18: expected `rigid` or `infer`, found `T`\n\
+    may unify[rigid, rigid] T; => 1:26: expected `,`, found `;`\n\
+    visit dyn A; => 1:12: expected `+`, found `;`\n\
+    visit dyn + 'a; => 1:11: expected a name, found `+`\n\
+    visit dyn A::B + 'a; => 1:16: expected `==`, found `+`\n\
+    visit dyn A<B = C D> + 'a; => 1:19: expected `,` or `>`, found `D`\n\
+    type A::; => 1:9: expected a name, found `;`\n\
+    opaque A::B; => 1:9: expected `;`, found `::`\n\
+    inherent A; => 1:10: expected `type` or `const`, found `A`\n\
+    visit <A; => 1:9: expected `as`, found `;`\n\
+    visit <A as B; => 1:14: expected `>`, found `;`\n\
+    visit <A as B>; => 1:15: expected `::`, found `;`\n\
+    visit <A as &'a B>::C; => 1:13: expected a name, found `&`\n\
+    auto fn f; => 1:6: expected `trait`, found `fn`\n\
+    visit fn(.., u8); => 1:12: expected `)`, found `,`\n\
+    visit fn() -> ; => 1:15: expected a term, found `;`";
+
 #[test]
 fn wrong_texts_are_refused(rt: HostRuntime) -> Result<(), Fail> {
-    for (text, why) in [
-        ("", "file()"),
-        ("struct", "1:7: expected a name, found the end"),
-        ("T", "1:2: expected `<:`, `:>` or `==`, found the end"),
-        ("T == u8;\n//é\n  é", "3:3: no word begins here"),
-        ("T == [T, T];", "1:8: expected `]`, found `,`"),
-        ("T == (T; T);", "1:8: expected `,` or `)`, found `;`"),
-        (
-            "T == 340282366920938463463374607431768211456;",
-            "1:6: the number is too large",
-        ),
-        ("&T == u8;", "1:2: expected a region, found `T`"),
-        ("*T == T", "1:2: expected `const` or `mut`, found `T`"),
-        ("budget x;", "1:8: expected a number, found `x`"),
-        ("variables ?i0;", "1:11: expected a variable, found `?i0`"),
-        ("variables in 1;", "1:11: expected a variable, found `in`"),
-        ("variables ?0 in;", "1:16: expected a number, found `;`"),
-        ("variables ?0 in 1, ?1;", "1:18: expected `;`, found `,`"),
-        ("fold T;", "1:7: expected `with`, found `;`"),
-        ("visit T stop A skip B;", "1:16: expected `;`, found `skip`"),
-        ("walk T skip 2;", "1:13: expected `after`, found `2`"),
-        ("walk T skip after;", "1:18: expected a number, found `;`"),
-        ("walk T stop U;", "1:8: expected `;`, found `stop`"),
-        ("visit {error, T};", "1:13: expected `}`, found `,`"),
-        ("visit T is 1;", "1:13: expected `..=`, found `;`"),
-        ("visit T is !;", "1:13: expected `null`, found `;`"),
-        ("visit T is 1..=2 |;", "1:19: expected a term, found `;`"),
-        ("visit T is (1..=2;", "1:18: expected `)`, found `;`"),
-        (
-            "visit T is 1..=2 is 3..=4;",
-            "1:18: expected `;`, found `is`",
-        ),
-        ("visit '!1;", "1:8: no word begins here"),
-        ("visit ?i;", "1:9: no word begins here"),
-        ("visit ^x;", "1:8: no word begins here"),
-        ("visit ^1.;", "1:9: no word begins here"),
-        ("visit '^;", "1:9: no word begins here"),
-        ("visit &^0 T;", "1:8: expected a region, found `^0`"),
-        (
-            "visit for<^0.0> fn();",
-            "1:11: expected a variable of a binder, found `^0.0`",
-        ),
-        ("struct for;", "1:8: expected a name, found `for`"),
-        (
-            "visit for<T> fn();",
-            "1:11: expected a variable of a binder, found `T`",
-        ),
-        (
-            "visit for<const 'a> fn();",
-            "1:17: expected a constant of a binder, found `'a`",
-        ),
-        ("visit for<'a> T;", "1:15: expected `fn`, found `T`"),
-        ("visit unsafe T;", "1:14: expected `fn`, found `T`"),
-        (
-            "visit extern fn();",
-            "1:14: expected `\"C\"` or `\"system\"`, found `fn`",
-        ),
-        ("visit extern \"Rust\" fn();", "1:14: no word begins here"),
-        ("may T, U;", "1:5: expected `unify`, found `T`"),
-        ("args T;", "1:6: expected `[`, found `T`"),
-        ("args [T];", "1:9: expected `==`, found `;`"),
-        (
-            "may unify[infer, rigid] T, U;",
-            "1:18: expected `infer`, found `rigid`",
-        ),
-        (
-            "may unify[rigid, T] T, U;",
-            "1:18: expected `rigid` or `infer`, found `T`",
-        ),
-        (
-            "may unify[rigid, rigid] T;",
-            "1:26: expected `,`, found `;`",
-        ),
-        ("visit dyn A;", "1:12: expected `+`, found `;`"),
-        ("visit dyn + 'a;", "1:11: expected a name, found `+`"),
-        ("visit dyn A::B + 'a;", "1:16: expected `==`, found `+`"),
-        (
-            "visit dyn A<B = C D> + 'a;",
-            "1:19: expected `,` or `>`, found `D`",
-        ),
-        ("type A::;", "1:9: expected a name, found `;`"),
-        ("opaque A::B;", "1:9: expected `;`, found `::`"),
-        ("inherent A;", "1:10: expected `type` or `const`, found `A`"),
-        ("visit <A;", "1:9: expected `as`, found `;`"),
-        ("visit <A as B;", "1:14: expected `>`, found `;`"),
-        ("visit <A as B>;", "1:15: expected `::`, found `;`"),
-        ("visit <A as &'a B>::C;", "1:13: expected a name, found `&`"),
-        ("auto fn f;", "1:6: expected `trait`, found `fn`"),
-        ("visit fn(.., u8);", "1:12: expected `)`, found `,`"),
-        ("visit fn() -> ;", "1:15: expected a term, found `;`"),
-    ] {
+    for line in WRONG_TEXTS.lines() {
+        let (text, why) = line.split_once(" => ").unwrap_or((line, ""));
         let all = shown(rt.alloc(), text)?;
-        assert_eq!(rt; all.as_str(), why);
+        assert_eq!(rt; all.as_str(), why, "{text}");
     }
+    Ok(())
+}
+
+#[test]
+fn texts_have_lines(rt: HostRuntime) -> Result<(), Fail> {
+    let all = shown(rt.alloc(), "")?;
+    assert_eq!(rt; all.as_str(), "file()");
+    let all = shown(rt.alloc(), "T == u8;\n//é\n  é")?;
+    assert_eq!(rt; all.as_str(), "3:3: no word begins here");
     Ok(())
 }
 
