@@ -20,7 +20,7 @@ use type_relations::relate::Relate;
 use type_relations::relate::solver_relating::{RelateExt, RelateGoals};
 
 /// Why a question is not asked.
-#[derive(Clone, Copy, PartialEq, Eq, Debug)]
+#[derive(Clone, Copy)]
 pub enum NotAsked {
     /// No rules relate terms of one of the forms.
     Rules,

@@ -10,7 +10,7 @@ use std::alloc::{AllocError, Global};
 
 /// What a term needs of a context: variables up to these numbers, the largest that it names, if it names any; and a
 /// universe that names its placeholders. To be related, it needs to be of forms that have rules.
-#[derive(Clone, Copy, PartialEq, Eq, Debug)]
+#[derive(Clone, Copy)]
 pub struct Needs {
     pub types: Option<usize>,
     pub ints: Option<usize>,

@@ -48,7 +48,7 @@ pub(super) struct Ready<'a, I: Interner> {
 }
 
 // Why a question was not put.
-#[derive(Clone, Copy, PartialEq, Eq, Debug)]
+#[derive(Clone, Copy)]
 pub(super) enum Unasked {
     // A growth was refused before the terms could be related.
     Memory,
@@ -98,7 +98,7 @@ fn ran_out<I: Interner>(answer: &AnswerOf<I>) -> bool {
 pub(super) fn is_memory<I: Interner>(outcome: &Outcome<I>) -> bool {
     match outcome {
         Ok(answer) => ran_out::<I>(answer),
-        Err(why) => *why == Unasked::Memory,
+        Err(why) => matches!(why, Unasked::Memory),
     }
 }
 

@@ -32,6 +32,7 @@ use Rattle.type_relations.proofs.Growing.{constraint_holds, constraint_keeps}
 use Rattle.type_relations.proofs.Passing.{passes_nowhere}
 use Rattle.type_relations.proofs.Answering.{may_itself}
 use Rattle.type_relations.proofs.Erased.{erase_region}
+use Rattle.type_relations.proofs.OneUniverse.{keeps_pair, standing_keeps, binds_itself}
 use Rattle.relation_reference.proofs.Grows.{known_of_term}
 use Rattle.relation_terms.proofs.Stays.{stays_arg}
 use Rattle.relation_terms.specs.Meaning.{Extends}
@@ -175,7 +176,12 @@ module _ {Key Id Name : Type 0} (m : Meaning Key Id Name) where
     itself_answered k = record {
       passes = recorded_passes v cs c of_store _;
       verdict = record { outcome = outcome; answer = may_itself plain_manner (plain_state m v (cs ++ c ∷ [])) v (m.region a); known = k };
-      exact = λ q is pair. ((λ j n t found. absurd cc), exactly);
+      exact = λ q is pair. (
+        (λ j n t found. absurd cc),
+        exactly,
+        keeps_pair (plain_store m cs) (plain_store m (cs ++ c ∷ [])) (m.region a) (m.region b)
+            (standing_keeps (plain_store m cs) (plain_store m (cs ++ c ∷ [])) (λ k. refl) (λ k. refl)),
+      );
     }
 
     pub regions_related : (ds : List (RegionConstraint Key)) (x : RegionKey Key) → ds ≡ cs ++ c ∷ [] → x ≡ a →
@@ -187,7 +193,11 @@ module _ {Key Id Name : Type 0} (m : Meaning Key Id Name) where
   -- A growth was refused.
   module _ {X : Type 0} (v w : Variance) (cs : List (RegionConstraint Key)) (a b : Tree) (tree : X → Tree) where
     refused : Related plain_manner (plain_state m v cs) (plain_state m v cs) w a b tree (Err Memory)
-    refused = record { passes = passes_nowhere _ (plain_state m v cs); verdict = tt; exact = λ k is pair. tt }
+    refused = record {
+      passes = passes_nowhere _ (plain_state m v cs);
+      verdict = tt;
+      exact = λ k is pair. binds_itself (plain_store m cs) a b;
+    }
 
     pub not_recorded : (ds : List (RegionConstraint Key)) (r : Result X (RelateFault Key Id Name)) → ds ≡ cs →
         r ≡ Err Memory → Related plain_manner (plain_state m v cs) (plain_state m v ds) w a b tree r

@@ -7,18 +7,17 @@ ghost use Rattle.relation_terms.specs.Meaning.{region_tree};
 ghost use Rattle.type_relations.specs.Contexts.{KnowsTy};
 ghost use Rattle.type_relations.specs.ContextCalls.{IsUnresolved, Grows};
 
-use crate::relating::{only, outlives};
 use reference_interner::{RefInterner, SymbolId};
 use relation_reference::context::RefCtxt;
-use relation_terms::predicate::{OutlivesPredicate, RegionConstraint, RegionEqPredicate};
+use relation_terms::predicate::OutlivesPredicate;
 use relation_terms::terms::{
-    Const, ConstKind, ConstVid, EarlyParamRegion, FloatTy, FloatVarValue, FloatVid, IntTy,
-    IntVarValue, IntVid, Interner, Keys, OutOfMemory, ParamConst, Region, RegionKind, RegionVid,
-    Ty, TyKind, TyVid, UniverseIndex, Variance,
+    Const, ConstKind, ConstVid, FloatTy, FloatVarValue, FloatVid, IntTy, IntVarValue, IntVid,
+    Interner, Keys, OutOfMemory, ParamConst, Region, RegionKind, RegionVid, Ty, TyKind, TyVid,
+    UniverseIndex, Variance,
 };
 use relation_tools::error::RelateResult;
 use std::test::Fail;
-use type_relations::infer_ctxt::{InferCtxtLike, VisibleForLeakCheck};
+use type_relations::infer_ctxt::InferCtxtLike;
 use type_relations::relate::StructurallyRelateAliases;
 
 // The universe of a variable that is made in a new context.
@@ -27,17 +26,25 @@ const FIRST: Option<UniverseIndex> = Some(UniverseIndex(0));
 // A name of a context's interner.
 type NameOf<C> = <<C as InferCtxtLike>::Interner as Keys>::Name;
 
-// Whether the next solver is on in a context, its current universe, and its budget.
-fn read_whole<C: InferCtxtLike>(ctx: &C) -> (bool, UniverseIndex, usize) {
-    ctx.interner_grows();
-    (ctx.next_trait_solver(), ctx.universe(), ctx.budget_left())
+// Whether the next solver is on in a context, and three instantiations may be made.
+fn reads_settings<C: InferCtxtLike>(ctx: &C) -> bool {
+    ctx.next_trait_solver() && ctx.budget_left() == 3
 }
 
-// Whether a type that the interner makes twice is one.
-fn makes_once<C: InferCtxtLike>(ctx: &mut C) -> Result<bool, OutOfMemory> {
-    let once = ctx.cx_mut().mk_ty(TyKind::Char)?;
-    let again = ctx.cx_mut().mk_ty(TyKind::Char)?;
-    Ok(once == again)
+// Whether a context is in the first universe, and in the next one once that was made.
+fn enters_next<C: InferCtxtLike>(ctx: &mut C) -> Result<bool, OutOfMemory>
+    requires { (C.state ctx.old).lawful }
+{
+    let first = ctx.universe() == UniverseIndex(0);
+    let next = ctx.create_next_universe()?;
+    Ok(first && next == UniverseIndex(1) && ctx.universe() == next)
+}
+
+// Whether a new context is what it was made as, and stays that where it enters a universe.
+fn is_new<I: Interner + Drop>(cx: I) -> Result<bool, OutOfMemory> {
+    let mut ctx = RefCtxt::new(cx, true, 3)?;
+    let entered = enters_next(&mut ctx)?;
+    Ok(entered && reads_settings(&ctx))
 }
 
 // The type `char`.
@@ -104,12 +111,14 @@ fn has_new_region<C: InferCtxtLike>(ctx: &mut C) -> Result<bool, OutOfMemory>
     Ok(universe == FIRST && read == region)
 }
 
-// Whether a new universe is the current one from then on.
-fn enters_next<C: InferCtxtLike>(ctx: &mut C) -> Result<bool, OutOfMemory>
-    requires { (C.state ctx.old).lawful }
-{
-    let next = ctx.create_next_universe()?;
-    Ok(ctx.universe() == next)
+// Whether new variables of each kind are like that.
+fn has_new_variables<I: Interner + Drop>(cx: I) -> Result<bool, OutOfMemory> {
+    let mut ctx = RefCtxt::new(cx, true, 0)?;
+    let ty = has_new_ty(&mut ctx)?;
+    let mut ctx = RefCtxt::new(ctx.interner, true, 0)?;
+    let constant = has_new_const(&mut ctx)?;
+    let mut ctx = RefCtxt::new(ctx.interner, true, 0)?;
+    Ok(has_new_region(&mut ctx)? && ty && constant)
 }
 
 // Whether the second of two type variables is read as the first, once they were made one.
@@ -148,42 +157,38 @@ fn equates_consts<C: InferCtxtLike>(ctx: &mut C) -> Result<bool, OutOfMemory>
     Ok(ctx.root_const_var(ConstVid(1)) == ConstVid(0) && read == first)
 }
 
-// What the first of two integer variables is read as, once they were made one.
-fn equate_ints<C: InferCtxtLike>(ctx: &mut C, a: IntVid, b: IntVid) -> Ty<C::Interner>
+// Whether all of that holds in new contexts.
+fn equates<I: Interner + Drop>(cx: I) -> Result<bool, OutOfMemory> {
+    let mut ctx = RefCtxt::new(cx, true, 0)?;
+    let tys = equates_tys(&mut ctx)?;
+    let mut ctx = RefCtxt::new(ctx.interner, true, 0)?;
+    let marks = marks_tys(&mut ctx)?;
+    let mut ctx = RefCtxt::new(ctx.interner, true, 0)?;
+    Ok(equates_consts(&mut ctx)? && tys && marks)
+}
+
+// Whether the second of two integer variables is read as the first, once they were made one.
+fn equates_ints<C: InferCtxtLike>(ctx: &mut C) -> bool
     requires lawful { (C.state ctx.old).lawful }
-    requires a_unresolved { IsUnresolved (C.state ctx.old) int_var a.0 }
-    requires b_unresolved { IsUnresolved (C.state ctx.old) int_var b.0 }
+    requires first { IsUnresolved (C.state ctx.old) int_var 0 }
+    requires second { IsUnresolved (C.state ctx.old) int_var 1 }
 {
-    ctx.equate_int_vids_raw(a, b);
-    ctx.opportunistic_resolve_int_var(a)
+    let first = ctx.opportunistic_resolve_int_var(IntVid(0));
+    let apart = ctx.opportunistic_resolve_int_var(IntVid(1)) != first;
+    ctx.equate_int_vids_raw(IntVid(1), IntVid(0));
+    apart && ctx.opportunistic_resolve_int_var(IntVid(1)) == first
 }
 
 // The same of two float variables.
-fn equate_floats<C: InferCtxtLike>(ctx: &mut C, a: FloatVid, b: FloatVid) -> Ty<C::Interner>
+fn equates_floats<C: InferCtxtLike>(ctx: &mut C) -> bool
     requires lawful { (C.state ctx.old).lawful }
-    requires a_unresolved { IsUnresolved (C.state ctx.old) float_var a.0 }
-    requires b_unresolved { IsUnresolved (C.state ctx.old) float_var b.0 }
+    requires first { IsUnresolved (C.state ctx.old) float_var 0 }
+    requires second { IsUnresolved (C.state ctx.old) float_var 1 }
 {
-    ctx.equate_float_vids_raw(a, b);
-    ctx.opportunistic_resolve_float_var(a)
-}
-
-// What an integer variable is read as, once it was bound to `i8`.
-fn bind_int<C: InferCtxtLike>(ctx: &mut C, var: IntVid) -> Ty<C::Interner>
-    requires lawful { (C.state ctx.old).lawful }
-    requires unresolved { IsUnresolved (C.state ctx.old) int_var var.0 }
-{
-    ctx.instantiate_int_var_raw(var, IntVarValue::IntType(IntTy::I8));
-    ctx.opportunistic_resolve_int_var(var)
-}
-
-// What a float variable is read as, once it was bound to `f64`.
-fn bind_float<C: InferCtxtLike>(ctx: &mut C, var: FloatVid) -> Ty<C::Interner>
-    requires lawful { (C.state ctx.old).lawful }
-    requires unresolved { IsUnresolved (C.state ctx.old) float_var var.0 }
-{
-    ctx.instantiate_float_var_raw(var, FloatVarValue::Known(FloatTy::F64));
-    ctx.opportunistic_resolve_float_var(var)
+    let first = ctx.opportunistic_resolve_float_var(FloatVid(0));
+    let apart = ctx.opportunistic_resolve_float_var(FloatVid(1)) != first;
+    ctx.equate_float_vids_raw(FloatVid(1), FloatVid(0));
+    apart && ctx.opportunistic_resolve_float_var(FloatVid(1)) == first
 }
 
 // Whether `char` is read as itself, at the top and at every depth.
@@ -206,28 +211,12 @@ fn resolves_const<C: InferCtxtLike>(ctx: &mut C, name: NameOf<C>) -> Result<bool
     Ok(read == constant && resolved == constant)
 }
 
-// Whether a new type variable is bound to `char` where it is instantiated with it.
-fn binds_ty<C: InferCtxtLike>(ctx: &mut C) -> RelateResult<C::Interner, bool>
-    requires lawful { (C.state ctx.old).lawful }
-    requires none { ((C.state ctx.old).store).entries type_var ≡ [] }
-{
-    let _ = ctx.next_ty_infer()?;
-    let source = make_char(ctx)?;
-    let aliases = StructurallyRelateAliases::No;
-    let bound = ctx.instantiate_ty_var_raw(aliases, TyVid(0), Variance::Covariant, &source)?;
-    Ok(bound == source)
-}
-
-// Whether a new constant variable is bound to a parameter where it is instantiated with it.
-fn binds_const<C: InferCtxtLike>(ctx: &mut C, name: NameOf<C>) -> RelateResult<C::Interner, bool>
-    requires lawful { (C.state ctx.old).lawful }
-    requires none { ((C.state ctx.old).store).entries const_var ≡ [] }
-{
-    let _ = ctx.next_const_infer()?;
-    let source = make_param(ctx, name)?;
-    let aliases = StructurallyRelateAliases::No;
-    let bound = ctx.instantiate_const_var_raw(aliases, ConstVid(0), &source)?;
-    Ok(bound == source)
+// Whether both are, in new contexts.
+fn resolves<I: Interner + Drop>(cx: I, name: I::Name) -> Result<bool, OutOfMemory> {
+    let mut ctx = RefCtxt::new(cx, true, 0)?;
+    let ty = resolves_ty(&mut ctx)?;
+    let mut ctx = RefCtxt::new(ctx.interner, true, 0)?;
+    Ok(resolves_const(&mut ctx, name)? && ty)
 }
 
 // The slice of a type.
@@ -260,6 +249,36 @@ fn binds_slice<C: InferCtxtLike>(ctx: &mut C) -> RelateResult<C::Interner, ()>
     Ok(())
 }
 
+// Whether integer variables of a new context are made one.
+fn has_equal_ints<I: Interner + Drop>(cx: I) -> Result<bool, OutOfMemory> {
+    let mut ctx = RefCtxt::new(cx, true, 0)?;
+    let _ = ctx.next_int_var()?;
+    let _ = ctx.next_int_var()?;
+    Ok(equates_ints(&mut ctx))
+}
+
+// The same of float variables.
+fn has_equal_floats<I: Interner + Drop>(cx: I) -> Result<bool, OutOfMemory> {
+    let mut ctx = RefCtxt::new(cx, true, 0)?;
+    let _ = ctx.next_float_var()?;
+    let _ = ctx.next_float_var()?;
+    Ok(equates_floats(&mut ctx))
+}
+
+// Whether the variable that takes the place of the second type variable is marked as related to it, and to no other, for
+// one of the budget.
+fn marks_the_new_one<I: Interner + Drop>(cx: I) -> RelateResult<I, bool> {
+    let mut ctx = RefCtxt::new(cx, true, 0)?;
+    ctx.set_budget(2);
+    binds_slice(&mut ctx)?;
+    Ok(
+        ctx.budget_left() == 1
+            && ctx.inner.types.len() == 3
+            && ctx.inner.sub_roots.get(0).copied() == Some(0)
+            && ctx.inner.sub_roots.get(2).copied() == Some(1),
+    )
+}
+
 // The region of a form.
 fn make_region<C: InferCtxtLike>(
     ctx: &mut C,
@@ -275,23 +294,6 @@ fn make_region<C: InferCtxtLike>(
     ctx.cx_mut().mk_region(kind)
 }
 
-// Two regions, of which it was recorded that the second outlives the first.
-fn records_order<C: InferCtxtLike>(
-    ctx: &mut C,
-    name: NameOf<C>,
-) -> Result<(Region<C::Interner>, Region<C::Interner>), OutOfMemory>
-    requires { (C.state ctx.old).lawful }
-{
-    let a = make_region(ctx, RegionKind::ReStatic)?;
-    let b = make_region(
-        ctx,
-        RegionKind::ReEarlyParam(EarlyParamRegion { index: 0, name }),
-    )?;
-    let span = ctx.cx().dummy_span();
-    ctx.sub_regions(&a, &b, VisibleForLeakCheck::Yes, span)?;
-    Ok((a, b))
-}
-
 // A type and a region, of which it was registered that the one is to outlive the other.
 fn registers_outlives<C: InferCtxtLike>(
     ctx: &mut C,
@@ -305,151 +307,47 @@ fn registers_outlives<C: InferCtxtLike>(
     Ok((ty, region))
 }
 
-// Two regions, of which it was recorded that they outlive each other.
-fn records_equality<C: InferCtxtLike>(
-    ctx: &mut C,
-    name: NameOf<C>,
-) -> Result<(Region<C::Interner>, Region<C::Interner>), OutOfMemory>
-    requires { (C.state ctx.old).lawful }
-{
-    let a = make_region(ctx, RegionKind::ReStatic)?;
-    let b = make_region(
-        ctx,
-        RegionKind::ReEarlyParam(EarlyParamRegion { index: 0, name }),
-    )?;
-    let span = ctx.cx().dummy_span();
-    ctx.equate_regions(&a, &b, VisibleForLeakCheck::No, span)?;
-    Ok((a, b))
+// Whether that is what the context has then.
+fn has_registered<I: Interner + Drop>(cx: I) -> Result<bool, OutOfMemory> {
+    let mut ctx = RefCtxt::new(cx, true, 0)?;
+    let (ty, region) = registers_outlives(&mut ctx)?;
+    Ok(ctx.ty_outlives().len() == 1 && ctx.ty_outlives().contains(&OutlivesPredicate(ty, region)))
 }
 
 #[test]
 fn a_new_context_is_in_the_first_universe(rt: HostRuntime) -> Result<(), Fail> {
-    let mut ctx = RefCtxt::new(RefInterner::new(rt.alloc()), true, 3)?;
-    assert!(rt; read_whole(&ctx) == (true, UniverseIndex(0), 3));
-    assert!(rt; enters_next(&mut ctx)?);
-    assert!(rt; read_whole(&ctx) == (true, UniverseIndex(1), 3));
-    Ok(())
-}
-
-#[test]
-fn a_type_that_is_made_again_is_the_same(rt: HostRuntime) -> Result<(), Fail> {
-    let mut ctx = RefCtxt::new(RefInterner::new(rt.alloc()), true, 0)?;
-    assert!(rt; makes_once(&mut ctx)?);
+    assert!(rt; is_new(RefInterner::new(rt.alloc()))?);
     Ok(())
 }
 
 #[test]
 fn a_new_variable_is_its_own_root(rt: HostRuntime) -> Result<(), Fail> {
-    let mut ctx = RefCtxt::new(RefInterner::new(rt.alloc()), true, 0)?;
-    assert!(rt; has_new_ty(&mut ctx)?);
-    let mut ctx = RefCtxt::new(RefInterner::new(rt.alloc()), true, 0)?;
-    assert!(rt; has_new_const(&mut ctx)?);
-    let mut ctx = RefCtxt::new(RefInterner::new(rt.alloc()), true, 0)?;
-    assert!(rt; has_new_region(&mut ctx)?);
+    assert!(rt; has_new_variables(RefInterner::new(rt.alloc()))?);
     Ok(())
 }
 
 #[test]
 fn variables_are_made_one(rt: HostRuntime) -> Result<(), Fail> {
-    let mut ctx = RefCtxt::new(RefInterner::new(rt.alloc()), true, 0)?;
-    assert!(rt; equates_tys(&mut ctx)?);
-    let mut ctx = RefCtxt::new(RefInterner::new(rt.alloc()), true, 0)?;
-    assert!(rt; equates_consts(&mut ctx)?);
-    let mut ctx = RefCtxt::new(RefInterner::new(rt.alloc()), true, 0)?;
-    assert!(rt; marks_tys(&mut ctx)?);
-    Ok(())
-}
-
-#[test]
-fn integers_are_made_one_and_bound(rt: HostRuntime) -> Result<(), Fail> {
-    let mut ctx = RefCtxt::new(RefInterner::new(rt.alloc()), true, 0)?;
-    let first = ctx.next_int_var()?;
-    let _ = ctx.next_int_var()?;
-    assert!(rt; equate_ints(&mut ctx, IntVid(1), IntVid(0)) == first);
-    let mut ctx = RefCtxt::new(RefInterner::new(rt.alloc()), true, 0)?;
-    let _ = ctx.next_int_var()?;
-    let bound = bind_int(&mut ctx, IntVid(0));
-    assert!(rt; bound == ctx.interner.mk_ty(TyKind::Int(IntTy::I8))?);
-    Ok(())
-}
-
-#[test]
-fn floats_are_made_one_and_bound(rt: HostRuntime) -> Result<(), Fail> {
-    let mut ctx = RefCtxt::new(RefInterner::new(rt.alloc()), true, 0)?;
-    let first = ctx.next_float_var()?;
-    let _ = ctx.next_float_var()?;
-    assert!(rt; equate_floats(&mut ctx, FloatVid(1), FloatVid(0)) == first);
-    let mut ctx = RefCtxt::new(RefInterner::new(rt.alloc()), true, 0)?;
-    let _ = ctx.next_float_var()?;
-    let bound = bind_float(&mut ctx, FloatVid(0));
-    assert!(rt; bound == ctx.interner.mk_ty(TyKind::Float(FloatTy::F64))?);
+    assert!(rt; equates(RefInterner::new(rt.alloc()))?);
+    assert!(rt; has_equal_ints(RefInterner::new(rt.alloc()))?);
+    assert!(rt; has_equal_floats(RefInterner::new(rt.alloc()))?);
     Ok(())
 }
 
 #[test]
 fn what_has_no_variable_is_read_as_itself(rt: HostRuntime) -> Result<(), Fail> {
-    let mut ctx = RefCtxt::new(RefInterner::new(rt.alloc()), true, 0)?;
-    assert!(rt; resolves_ty(&mut ctx)?);
-    let mut ctx = RefCtxt::new(RefInterner::new(rt.alloc()), true, 0)?;
-    assert!(rt; resolves_const(&mut ctx, SymbolId(0))?);
-    Ok(())
-}
-
-#[test]
-fn a_type_is_taken_for_one_of_the_budget(rt: HostRuntime) -> Result<(), Fail> {
-    let mut ctx = RefCtxt::new(RefInterner::new(rt.alloc()), true, 2)?;
-    assert!(rt; binds_ty(&mut ctx) == Ok(true));
-    assert!(rt; read_whole(&ctx) == (true, UniverseIndex(0), 1));
+    assert!(rt; resolves(RefInterner::new(rt.alloc()), SymbolId(0))?);
     Ok(())
 }
 
 #[test]
 fn a_variable_is_marked_with_the_one_whose_place_it_takes(rt: HostRuntime) -> Result<(), Fail> {
-    let mut ctx = RefCtxt::new(RefInterner::new(rt.alloc()), true, 1)?;
-    assert!(rt; binds_slice(&mut ctx).is_ok());
-    assert!(rt; ctx.inner.types.len() == 3);
-    assert!(rt; ctx.inner.sub_roots.get(0).copied() == Some(0));
-    assert!(rt; ctx.inner.sub_roots.get(2).copied() == Some(1));
-    Ok(())
-}
-
-#[test]
-fn a_variable_is_made_in_an_earlier_universe(rt: HostRuntime) -> Result<(), Fail> {
-    let mut ctx = RefCtxt::new(RefInterner::new(rt.alloc()), true, 0)?;
-    let later = ctx.create_next_universe()?;
-    let _ = ctx.next_ty_var_in(UniverseIndex(0))?;
-    assert!(rt; ctx.universe_of_ty(TyVid(0)) == FIRST);
-    assert!(rt; later == UniverseIndex(1));
-    Ok(())
-}
-
-#[test]
-fn a_constant_is_taken_for_one_of_the_budget(rt: HostRuntime) -> Result<(), Fail> {
-    let mut ctx = RefCtxt::new(RefInterner::new(rt.alloc()), true, 2)?;
-    assert!(rt; binds_const(&mut ctx, SymbolId(0)) == Ok(true));
-    assert!(rt; read_whole(&ctx) == (true, UniverseIndex(0), 1));
+    assert!(rt; marks_the_new_one(RefInterner::new(rt.alloc())) == Ok(true));
     Ok(())
 }
 
 #[test]
 fn a_type_is_to_outlive_a_region(rt: HostRuntime) -> Result<(), Fail> {
-    let mut ctx = RefCtxt::new(RefInterner::new(rt.alloc()), true, 0)?;
-    let (ty, region) = registers_outlives(&mut ctx)?;
-    let mut registered = Vec::new(rt.alloc());
-    registered.push(OutlivesPredicate(ty, region))?;
-    assert!(rt; ctx.ty_outlives() == registered.as_slice());
-    Ok(())
-}
-
-#[test]
-fn constraints_are_recorded(rt: HostRuntime) -> Result<(), Fail> {
-    let mut ctx = RefCtxt::new(RefInterner::new(rt.alloc()), true, 0)?;
-    let (a, b) = records_order(&mut ctx, SymbolId(0))?;
-    let asks = only(rt.alloc(), outlives(b, a))?;
-    assert!(rt; ctx.region_constraints() == asks.as_slice());
-    let mut ctx = RefCtxt::new(RefInterner::new(rt.alloc()), true, 0)?;
-    let (a, b) = records_equality(&mut ctx, SymbolId(0))?;
-    let asks = only(rt.alloc(), RegionConstraint::Eq(RegionEqPredicate(a, b)))?;
-    assert!(rt; ctx.region_constraints() == asks.as_slice());
+    assert!(rt; has_registered(RefInterner::new(rt.alloc()))?);
     Ok(())
 }

@@ -13,7 +13,7 @@ use crate::plain::{PlainRelation, constraints_of};
 use reference_interner::{
     DefKind, GenericParam, GenericParamKind, ItemId, ItemKind, RefInterner, SymbolId,
 };
-use relation_terms::predicate::{OutlivesPredicate, RegionConstraint, RegionEqPredicate};
+use relation_terms::predicate::{OutlivesPredicate, RegionConstraint};
 use relation_terms::terms::{
     ArgsKey, DefId, EarlyParamRegion, GenericArgKind, GenericArgs, Interner, ItemOf, Mutability,
     OutOfMemory, Region, RegionKey, RegionKind, TermKind, Ty, TyForm, TyKey, TyKind, UintTy,
@@ -120,38 +120,40 @@ fn related<I: Interner + Drop, T: Relate<I> + Drop>(
     Ok(relation)
 }
 
-// What that asks of regions.
-fn asked<I: Interner + Drop, T: Relate<I> + Drop>(
+// Whether that asks just this of regions.
+fn asks<I: Interner + Drop, T: Relate<I> + Drop>(
     cx: I,
     variance: Variance,
     a: &T,
     b: &T,
-) -> RelateResult<I, Vec<RegionConstraint<I::Key>>>
+    what: RegionConstraint<I::Key>,
+) -> RelateResult<I, bool>
     requires decides { variance ≢ Bivariant }
     requires lhs { IsConcrete (related_tree T.over (T.tree (I.meaning cx) a.now)) }
     requires rhs { IsConcrete (related_tree T.over (T.tree (I.meaning cx) b.now)) }
     requires fits { T.fits (I.meaning cx) a.now b.now }
 {
     let relation = related(cx, variance, a, b)?;
-    Ok(relation.constraints)
+    Ok(relation.constraints.len() == 1 && relation.constraints.contains(&what))
 }
 
-// What relating two types asks of regions.
-fn asked_of_types<I: Interner + Drop>(
+// Whether relating two types does.
+fn asks_of_types<I: Interner + Drop>(
     cx: I,
     variance: Variance,
     a: &Ty<I>,
     b: &Ty<I>,
-) -> RelateResult<I, Vec<RegionConstraint<I::Key>>>
+    what: RegionConstraint<I::Key>,
+) -> RelateResult<I, bool>
     requires decides { variance ≢ Bivariant }
     requires lhs { IsConcrete ((I.meaning cx).ty a.now) }
     requires rhs { IsConcrete ((I.meaning cx).ty b.now) }
 {
-    let related = constraints_of(cx, variance, a, b)?;
-    Ok(related.constraints)
+    let relation = constraints_of(cx, variance, a, b)?;
+    Ok(relation.constraints.len() == 1 && relation.constraints.contains(&what))
 }
 
-// The same of the arguments of an item.
+// The relation after it has related the arguments of an item.
 fn related_args<I: Interner + Drop>(
     cx: I,
     variance: Variance,
@@ -170,80 +172,22 @@ fn related_args<I: Interner + Drop>(
     Ok(relation)
 }
 
-// What that asks of regions.
-fn asked_of_args<I: Interner + Drop>(
+// Whether that asks just this of regions.
+fn asks_of_args<I: Interner + Drop>(
     cx: I,
     variance: Variance,
     def_id: &ItemOf<I>,
     a: &GenericArgs<I>,
     b: &GenericArgs<I>,
-) -> RelateResult<I, Vec<RegionConstraint<I::Key>>>
+    what: RegionConstraint<I::Key>,
+) -> RelateResult<I, bool>
     requires decides { variance ≢ Bivariant }
     requires lhs { IsConcrete ((I.meaning cx).args a.now) }
     requires rhs { IsConcrete ((I.meaning cx).args b.now) }
     requires as_many { count ((I.meaning cx).args a.now) ≡ count ((I.meaning cx).args b.now) }
 {
     let relation = related_args(cx, variance, def_id, a, b)?;
-    Ok(relation.constraints)
-}
-
-// The one constraint alone.
-pub(super) fn only<X: Drop>(
-    alloc: Global,
-    constraint: RegionConstraint<X>,
-) -> Result<Vec<RegionConstraint<X>>, OutOfMemory> {
-    let mut constraints = Vec::new(alloc);
-    constraints.push(constraint)?;
-    Ok(constraints)
-}
-
-#[test]
-fn regions_are_related(rt: HostRuntime) -> Result<(), Fail> {
-    let mut cx = RefInterner::new(rt.alloc());
-    let two = make_two(&mut cx, &SymbolId(0))?;
-    let answer = asked(cx, Variance::Covariant, &two.a, &two.b);
-    assert!(rt; answer == Ok(only(rt.alloc(), outlives(two.a, two.b))?));
-    Ok(())
-}
-
-#[test]
-fn types_are_related(rt: HostRuntime) -> Result<(), Fail> {
-    let mut cx = RefInterner::new(rt.alloc());
-    let two = make_two(&mut cx, &SymbolId(0))?;
-    let answer = asked(cx, Variance::Contravariant, &two.left, &two.right);
-    assert!(rt; answer == Ok(only(rt.alloc(), outlives(two.b, two.a))?));
-    Ok(())
-}
-
-#[test]
-fn types_are_related_without_a_context(rt: HostRuntime) -> Result<(), Fail> {
-    let mut cx = RefInterner::new(rt.alloc());
-    let two = make_two(&mut cx, &SymbolId(0))?;
-    let answer = asked_of_types(cx, Variance::Covariant, &two.left, &two.right);
-    assert!(rt; answer == Ok(only(rt.alloc(), outlives(two.a, two.b))?));
-    Ok(())
-}
-
-#[test]
-fn arguments_are_related(rt: HostRuntime) -> Result<(), Fail> {
-    let mut cx = RefInterner::new(rt.alloc());
-    let two = make_two(&mut cx, &SymbolId(0))?;
-    let left = GenericArgKind::Ty(two.left);
-    let right = GenericArgKind::Ty(two.right);
-    let answer = asked(cx, Variance::Covariant, &left, &right);
-    assert!(rt; answer == Ok(only(rt.alloc(), outlives(two.a, two.b))?));
-    Ok(())
-}
-
-#[test]
-fn terms_are_related(rt: HostRuntime) -> Result<(), Fail> {
-    let mut cx = RefInterner::new(rt.alloc());
-    let two = make_two(&mut cx, &SymbolId(0))?;
-    let left = TermKind::Ty(two.left);
-    let right = TermKind::Ty(two.right);
-    let answer = asked(cx, Variance::Covariant, &left, &right);
-    assert!(rt; answer == Ok(only(rt.alloc(), outlives(two.a, two.b))?));
-    Ok(())
+    Ok(relation.constraints.len() == 1 && relation.constraints.contains(&what))
 }
 
 // The list of the one argument.
@@ -291,27 +235,51 @@ pub(super) fn make_lists<I: Interner>(
 }
 
 #[test]
-fn lists_are_related_invariantly(rt: HostRuntime) -> Result<(), Fail> {
+fn regions_are_related(rt: HostRuntime) -> Result<(), Fail> {
     let mut cx = RefInterner::new(rt.alloc());
-    let lists = make_lists(&mut cx, &SymbolId(0))?;
-    let answer = asked(cx, Variance::Covariant, &lists.left, &lists.right);
-    let equal = RegionConstraint::Eq(RegionEqPredicate(lists.a, lists.b));
-    assert!(rt; answer == Ok(only(rt.alloc(), equal)?));
+    let two = make_two(&mut cx, &SymbolId(0))?;
+    let what = outlives(two.a, two.b);
+    let answer = asks(cx, Variance::Covariant, &two.a, &two.b, what);
+    assert!(rt; matches!(answer, Ok(true)));
+    Ok(())
+}
+
+#[test]
+fn terms_are_related(rt: HostRuntime) -> Result<(), Fail> {
+    let mut cx = RefInterner::new(rt.alloc());
+    let two = make_two(&mut cx, &SymbolId(0))?;
+    let left = TermKind::Ty(two.left);
+    let right = TermKind::Ty(two.right);
+    let what = outlives(two.b, two.a);
+    let answer = asks(cx, Variance::Contravariant, &left, &right, what);
+    assert!(rt; matches!(answer, Ok(true)));
+    Ok(())
+}
+
+#[test]
+fn types_are_related_without_a_context(rt: HostRuntime) -> Result<(), Fail> {
+    let mut cx = RefInterner::new(rt.alloc());
+    let two = make_two(&mut cx, &SymbolId(0))?;
+    let what = outlives(two.a, two.b);
+    let answer = asks_of_types(cx, Variance::Covariant, &two.left, &two.right, what);
+    assert!(rt; matches!(answer, Ok(true)));
     Ok(())
 }
 
 #[test]
 fn lists_are_related_at_declared_variances(rt: HostRuntime) -> Result<(), Fail> {
     let mut cx = RefInterner::new(rt.alloc());
-    let item = add_contravariant(&mut cx, rt.alloc())?;
+    let item = DefId(add_contravariant(&mut cx, rt.alloc())?);
     let lists = make_lists(&mut cx, &SymbolId(0))?;
-    let answer = asked_of_args(
+    let what = outlives(lists.b, lists.a);
+    let answer = asks_of_args(
         cx,
         Variance::Covariant,
-        &DefId(item),
+        &item,
         &lists.left,
         &lists.right,
+        what,
     );
-    assert!(rt; answer == Ok(only(rt.alloc(), outlives(lists.b, lists.a))?));
+    assert!(rt; matches!(answer, Ok(true)));
     Ok(())
 }

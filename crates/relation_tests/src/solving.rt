@@ -4,16 +4,18 @@ ghost use Rattle.relation_terms.specs.Trees.{known};
 ghost use Rattle.relation_terms.specs.Meaning.{Extends};
 ghost use Rattle.relation_terms.specs.declared.terms.enums.Variance.TheVariants.{Bivariant};
 ghost use Rattle.type_relations.specs.Arguments.{related_tree};
+ghost use Rattle.type_relations.specs.Contexts.{KnowsEnv};
+ghost use Rattle.type_relations.specs.Relating.{term_in};
 ghost use Rattle.type_relations.specs.Lawful.{Asked};
 ghost use Rattle.relation_tests.specs.Concrete.{IsConcrete};
 ghost use Rattle.type_relations.specs.Solving.{solving_in, solver_manner};
 ghost use Rattle.relation_reference.specs.RefCtxt.{context_in};
 ghost use Rattle.relation_reference.specs.Tables.{IsLawful};
 
-use crate::relating::{make_lists, make_two, only, outlives};
+use crate::relating::{make_two, outlives};
 use reference_interner::{RefInterner, SymbolId};
 use relation_reference::context::RefCtxt;
-use relation_terms::predicate::{RegionConstraint, RegionEqPredicate};
+use relation_terms::predicate::RegionConstraint;
 use relation_terms::terms::{
     Const, ConstKind, GenericArgKind, Interner, OutOfMemory, ParamConst, ParamEnv, Ty, Variance,
 };
@@ -23,15 +25,15 @@ use type_relations::infer_ctxt::InferCtxtLike;
 use type_relations::relate::Relate;
 use type_relations::relate::solver_relating::{RelateExt, SolverRelating};
 
-// What relating two types answers, and whether the context that is given back has just these constraints.
+// Whether relating two types answers the first, and the context that is given back has just this constraint.
 fn recorded<I: Interner>(
     ctx: &mut RefCtxt<I>,
     variance: Variance,
     param_env: ParamEnv<I>,
     a: &Ty<I>,
     b: &Ty<I>,
-    asks: &[RegionConstraint<I::Key>],
-) -> RelateResult<I, (Ty<I>, bool)>
+    what: RegionConstraint<I::Key>,
+) -> RelateResult<I, bool>
     requires lawful { IsLawful (I.meaning ctx.old.interner) ctx.old.inner }
     requires env_known { IsTrue (known ((I.meaning ctx.old.interner).param_env param_env)) }
     requires decides { variance ≢ Bivariant }
@@ -42,7 +44,11 @@ fn recorded<I: Interner>(
     let mut relation = SolverRelating::new(ctx, variance, param_env, span);
     let answer = relation.relate(a, b)?;
     let infcx = relation.into_infcx();
-    Ok((answer, infcx.region_constraints() == asks))
+    Ok(
+        answer == *a
+            && infcx.region_constraints().len() == 1
+            && infcx.region_constraints().contains(&what),
+    )
 }
 
 // The same in a new context.
@@ -51,48 +57,48 @@ fn recorded_in<I: Interner + Drop>(
     variance: Variance,
     a: &Ty<I>,
     b: &Ty<I>,
-    asks: &[RegionConstraint<I::Key>],
-) -> RelateResult<I, (Ty<I>, bool)>
+    what: RegionConstraint<I::Key>,
+) -> RelateResult<I, bool>
     requires decides { variance ≢ Bivariant }
     requires lhs { IsConcrete ((I.meaning cx).ty a.now) }
     requires rhs { IsConcrete ((I.meaning cx).ty b.now) }
 {
     let param_env = cx.empty_param_env()?;
     let mut ctx = RefCtxt::new(cx, true, 0)?;
-    recorded(&mut ctx, variance, param_env, a, b, asks)
+    recorded(&mut ctx, variance, param_env, a, b, what)
 }
 
 #[test]
 fn the_context_has_what_was_recorded(rt: HostRuntime) -> Result<(), Fail> {
     let mut cx = RefInterner::new(rt.alloc());
     let two = make_two(&mut cx, &SymbolId(0))?;
-    let asks = only(rt.alloc(), outlives(two.a, two.b))?;
-    let answer = recorded_in(cx, Variance::Covariant, &two.left, &two.right, &asks);
-    assert!(rt; answer == Ok((two.left, true)));
+    let what = outlives(two.a, two.b);
+    let answer = recorded_in(cx, Variance::Covariant, &two.left, &two.right, what);
+    assert!(rt; matches!(answer, Ok(true)));
     Ok(())
 }
 
-// How many goals relating two in a context answers, and whether just these constraints are recorded then.
-fn answered_in<I: Interner, T: Relate<I>>(
-    ctx: &mut RefCtxt<I>,
-    param_env: ParamEnv<I>,
+// How many goals relating two in a context answers.
+fn goals_of<C: InferCtxtLike, T: Relate<C::Interner>>(
+    ctx: &mut C,
+    param_env: ParamEnv<C::Interner>,
     variance: Variance,
-    two: (T, T),
-    asks: &[RegionConstraint<I::Key>],
-) -> RelateResult<I, (usize, bool)>
-    requires lawful { IsLawful (I.meaning ctx.old.interner) ctx.old.inner }
-    requires env_known { IsTrue (known ((I.meaning ctx.old.interner).param_env param_env)) }
+    a: T,
+    b: T,
+) -> RelateResult<C::Interner, usize>
+    requires lawful { (C.state ctx.old).lawful }
+    requires env_known { KnowsEnv (C.state ctx.old) param_env }
     requires decides { variance ≢ Bivariant }
-    requires fits { T.fits (I.meaning ctx.old.interner) two.0 two.1 }
-    requires lhs { IsConcrete (related_tree T.over (T.tree (I.meaning ctx.old.interner) two.0)) }
-    requires rhs { IsConcrete (related_tree T.over (T.tree (I.meaning ctx.old.interner) two.1)) }
+    requires fits { T.fits (C.state ctx.old).meaning a b }
+    requires lhs { IsConcrete (term_in (C.state ctx.old) T.over T.tree a) }
+    requires rhs { IsConcrete (term_in (C.state ctx.old) T.over T.tree b) }
 {
-    let span = ctx.interner.dummy_span();
-    let goals = ctx.relate(param_env, two.0, variance, two.1, span)?;
-    Ok((goals.len(), ctx.region_constraints() == asks))
+    let span = ctx.cx().dummy_span();
+    let goals = ctx.relate(param_env, a, variance, b, span)?;
+    Ok(goals.len())
 }
 
-// The same in a new context.
+// The same in a new context, and whether it has just these constraints then.
 fn answered<I: Interner + Drop, T: Relate<I>>(
     mut cx: I,
     variance: Variance,
@@ -107,38 +113,19 @@ fn answered<I: Interner + Drop, T: Relate<I>>(
 {
     let param_env = cx.empty_param_env()?;
     let mut ctx = RefCtxt::new(cx, true, 0)?;
-    answered_in(&mut ctx, param_env, variance, (a, b), asks)
-}
-
-#[test]
-fn lists_are_related_in_a_context(rt: HostRuntime) -> Result<(), Fail> {
-    let mut cx = RefInterner::new(rt.alloc());
-    let lists = make_lists(&mut cx, &SymbolId(0))?;
-    let equal = RegionConstraint::Eq(RegionEqPredicate(lists.a, lists.b));
-    let asks = only(rt.alloc(), equal)?;
-    let answer = answered(cx, Variance::Covariant, lists.left, lists.right, &asks);
-    assert!(rt; answer == Ok((0, true)));
-    Ok(())
-}
-
-#[test]
-fn a_list_is_related_with_itself(rt: HostRuntime) -> Result<(), Fail> {
-    let mut cx = RefInterner::new(rt.alloc());
-    let lists = make_lists(&mut cx, &SymbolId(0))?;
-    let answer = answered(cx, Variance::Covariant, lists.left, lists.left, &[]);
-    assert!(rt; answer == Ok((0, true)));
-    Ok(())
+    let goals = goals_of(&mut ctx, param_env, variance, a, b)?;
+    Ok((goals, ctx.region_constraints() == asks))
 }
 
 #[test]
 fn arguments_are_related_in_a_context(rt: HostRuntime) -> Result<(), Fail> {
     let mut cx = RefInterner::new(rt.alloc());
     let two = make_two(&mut cx, &SymbolId(0))?;
-    let asks = only(rt.alloc(), outlives(two.b, two.a))?;
+    let asks = [outlives(two.b, two.a)];
     let left = GenericArgKind::Lifetime(two.a);
     let right = GenericArgKind::Lifetime(two.b);
     let answer = answered(cx, Variance::Contravariant, left, right, &asks);
-    assert!(rt; answer == Ok((0, true)));
+    assert!(rt; matches!(answer, Ok((0, true))));
     Ok(())
 }
 
@@ -170,15 +157,6 @@ fn make_parameters<I: Interner>(
 }
 
 #[test]
-fn a_constant_is_related_with_itself(rt: HostRuntime) -> Result<(), Fail> {
-    let mut cx = RefInterner::new(rt.alloc());
-    let n = make_parameter(&mut cx, 0, &SymbolId(0))?;
-    let answer = answered(cx, Variance::Covariant, n, n, &[]);
-    assert!(rt; answer == Ok((0, true)));
-    Ok(())
-}
-
-#[test]
 fn constants_of_two_parameters_are_told_apart(rt: HostRuntime) -> Result<(), Fail> {
     let mut cx = RefInterner::new(rt.alloc());
     let two = make_parameters(&mut cx, &SymbolId(0))?;
@@ -188,13 +166,5 @@ fn constants_of_two_parameters_are_told_apart(rt: HostRuntime) -> Result<(), Fai
         found: two.1,
     };
     assert!(rt; answer == Err(RelateFault::Unrelated(TypeError::ConstMismatch(expected))));
-    Ok(())
-}
-
-#[test]
-fn a_budget_is_set_anew(rt: HostRuntime) -> Result<(), Fail> {
-    let mut ctx = RefCtxt::new(RefInterner::new(rt.alloc()), true, 0)?;
-    ctx.set_budget(3);
-    assert!(rt; ctx.budget_left() == 3);
     Ok(())
 }

@@ -1,5 +1,6 @@
 pub mod BlankLemmas
 pub mod BuildingLemmas
+pub mod ListLemmas
 pub mod Parts
 pub mod PlaceLemmas
 pub mod TreeLemmas

@@ -1,7 +1,7 @@
 -- The parts of a list's tree.
 use Rattle.std.proofs.Common.{ℕ, zero, suc, ◌<◌, ◌≡◌, IsTrue, List, [], ◌∷◌, length, get_or, arith, sym, subst, subst₂}
 use Rattle.std.proofs.Common.{Option, Some, None, refl, ◌+◌, ◌≤◌, ◌&&◌, true, false, take, drop, slice_range}
-use Rattle.std.proofs.Common.{◌-◌}
+use Rattle.std.proofs.Common.{◌-◌, ◌*◌, ◌∙◌, ap}
 use Rattle.std.proofs.lemmas.Bool.{and_parts, false≢true}
 use Rattle.std.specs.Cmp.Derive.{both_true}
 use Rattle.relation_terms.specs.Heads.{BoundKind, Head}
@@ -104,3 +104,10 @@ signature_part o s i ts k =
     let small = under_size o sig k in
     let sum = front_size ts f in
     (front_known ts f, omega (arith, small, sum))
+
+-- All that stands in a known form is known, and smaller.
+pub over_part : (t u v : Tree) → t ≡ u → (IsTrue (known u) → IsTrue (known v)) × (size u ≡ suc (size v)) →
+    IsTrue (known t) → IsTrue (known v) × (4 * size v + 3 < 4 * size t)
+over_part t u v e o k =
+    let s : size t ≡ suc (size v) = ap size e ∙ o.1 in
+    (o.0 (subst (λ x. IsTrue (known x)) e k), omega (arith, s))

@@ -2,6 +2,7 @@ pub mod Places
 pub mod Errors
 pub mod Signs
 pub mod Texts
+pub mod Printed
 pub mod Names
 pub mod Words
 pub mod Trees

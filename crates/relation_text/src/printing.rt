@@ -1,8 +1,13 @@
 //! How terms print, over any interner.
 
 mod binders;
+mod constants;
+mod items;
 mod leaves;
 mod names;
+mod objects;
+mod patterns;
+mod signatures;
 mod terms;
 mod whole;
 

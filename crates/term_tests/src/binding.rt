@@ -53,10 +53,14 @@ fn moves_what_it_puts<I: Interner>(cx: &mut I, name: I::Name) -> Result<bool, Ou
     Ok(opened == under_binder(cx, moved)?)
 }
 
+// Whether both hold.
+fn moves<I: Interner>(cx: &mut I, name: I::Name) -> Result<bool, OutOfMemory> {
+    Ok(moves_what_escapes(cx, name)? && moves_what_it_puts(cx, name)?)
+}
+
 #[test]
 fn binders_are_passed_and_opened(rt: HostRuntime) -> Result<(), Fail> {
     let mut cx = RefInterner::new(rt.alloc());
-    assert!(rt; moves_what_escapes(&mut cx, SymbolId(0))?);
-    assert!(rt; moves_what_it_puts(&mut cx, SymbolId(0))?);
+    assert!(rt; moves(&mut cx, SymbolId(0))?);
     Ok(())
 }

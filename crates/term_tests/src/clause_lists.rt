@@ -51,11 +51,14 @@ fn empty_environment_goes<I: Interner>(cx: &mut I) -> Result<bool, OutOfMemory> 
     is_visited_and_moved(cx, &empty, 0, &empty)
 }
 
+// Whether each of them is.
+fn all_go<I: Interner>(cx: &mut I, def: I::Id, name: I::Name) -> Result<bool, OutOfMemory> {
+    Ok(list_goes(cx, def, name)? && environment_goes(cx, def, name)? && empty_environment_goes(cx)?)
+}
+
 #[test]
 fn lists_and_environments_are_visited_and_folded(rt: HostRuntime) -> Result<(), Fail> {
     let mut cx = RefInterner::new(rt.alloc());
-    assert!(rt; list_goes(&mut cx, ItemId(0), SymbolId(0))?);
-    assert!(rt; environment_goes(&mut cx, ItemId(0), SymbolId(0))?);
-    assert!(rt; empty_environment_goes(&mut cx)?);
+    assert!(rt; all_go(&mut cx, ItemId(0), SymbolId(0))?);
     Ok(())
 }

@@ -32,16 +32,21 @@ pub fn tower(
     Ok(ty)
 }
 
+// Whether a tower that is made again adds no nodes, and a region one.
+fn adds_each_once(cx: &mut RefInterner) -> Result<bool, OutOfMemory> {
+    let bottom = cx.mk_ty(TyKind::Bool)?;
+    let first = tower(cx, bottom, 60)?;
+    let made = cx.nodes();
+    let bottom = cx.mk_ty(TyKind::Bool)?;
+    let again = tower(cx, bottom, 60)?;
+    let same = first == again && cx.nodes() == made;
+    let _ = cx.mk_region(RegionKind::ReStatic)?;
+    Ok(made == 61 + 60 && same && cx.nodes() == 61 + 60 + 1)
+}
+
 #[test]
 fn counts_each_term_once(rt: HostRuntime) -> Result<(), Fail> {
     let mut cx = RefInterner::new(rt.alloc());
-    let bottom = cx.mk_ty(TyKind::Bool)?;
-    let first = tower(&mut cx, bottom, 60)?;
-    assert!(rt; cx.nodes() == 61 + 60);
-    let bottom = cx.mk_ty(TyKind::Bool)?;
-    let again = tower(&mut cx, bottom, 60)?;
-    assert!(rt; first == again && cx.nodes() == 61 + 60);
-    let _ = cx.mk_region(RegionKind::ReStatic)?;
-    assert!(rt; cx.nodes() == 61 + 60 + 1);
+    assert!(rt; adds_each_once(&mut cx)?);
     Ok(())
 }

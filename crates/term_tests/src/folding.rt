@@ -90,11 +90,14 @@ fn pairs_stay<I: Interner>(cx: &mut I) -> Result<bool, OutOfMemory> {
     Ok(stays(cx, &ExpectedFound::new(ty, ty))? && stay)
 }
 
+// Whether each of them does.
+fn all_stay<I: Interner>(cx: &mut I) -> Result<bool, OutOfMemory> {
+    Ok(lists_stay(cx)? && values_stay(cx)? && pairs_stay(cx)?)
+}
+
 #[test]
 fn lists_and_pairs_stay(rt: HostRuntime) -> Result<(), Fail> {
     let mut cx = RefInterner::new(rt.alloc());
-    assert!(rt; lists_stay(&mut cx)?);
-    assert!(rt; values_stay(&mut cx)?);
-    assert!(rt; pairs_stay(&mut cx)?);
+    assert!(rt; all_stay(&mut cx)?);
     Ok(())
 }

@@ -39,62 +39,80 @@ fn add_fn(cx: &mut RefInterner, alloc: Global) -> Result<ItemId, OutOfMemory> {
     add_plain(cx, alloc, DefKind::Fn)
 }
 
+// Whether each item has an id of its own.
+fn ids_are_apart(cx: &mut RefInterner, alloc: Global) -> Result<bool, OutOfMemory> {
+    let first = add_struct(cx, alloc)?;
+    let again = add_struct(cx, alloc)?;
+    let function = add_fn(cx, alloc)?;
+    let apart = first != again && first != function && again != function;
+    Ok(apart && cx.item_count() == 3)
+}
+
+// Whether variances are those that were added, and what there is not has none.
+fn variances_are_read(cx: &mut RefInterner, alloc: Global) -> Result<bool, OutOfMemory> {
+    let function = DefId(add_fn(cx, alloc)?);
+    let def = DefId(add_struct(cx, alloc)?);
+    let missing = DefId(ItemId(2));
+    let added = [Variance::Covariant, Variance::Invariant];
+    let read = cx.generics_count(&def) == 2 && cx.variances_of(&def) == added.as_slice();
+    let empty = cx.generics_count(&function) == 0 && cx.generics_count(&missing) == 0;
+    Ok(read && empty && cx.variances_of(&missing).is_empty())
+}
+
+// Whether it is told which trait declares an item, and which alias that is.
+fn aliases_are_told(cx: &mut RefInterner, alloc: Global) -> Result<bool, OutOfMemory> {
+    let parent = TraitId(add_plain(cx, alloc, DefKind::Trait)?);
+    let assoc = add_plain(cx, alloc, DefKind::AssocTy(parent))?;
+    let opaque = add_plain(cx, alloc, DefKind::OpaqueTy)?;
+    let parents = cx.projection_parent(&TraitAssocTermId(assoc)) == Some(parent)
+        && cx.projection_parent(&TraitAssocTermId(opaque)).is_none();
+    let def_id = TraitAssocTyId(assoc);
+    let kind = Some(AliasTermKind::ProjectionTy { def_id });
+    let kinds = cx.alias_term_kind_from_def_id(&DefId(assoc)) == kind
+        && cx.alias_term_kind_from_def_id(&DefId(parent.0)).is_none();
+    let variances = cx.opt_alias_variances(&DefId(opaque)).is_some()
+        && cx.opt_alias_variances(&DefId(assoc)).is_none();
+    Ok(parents && kinds && variances)
+}
+
+// Whether what is set of a trait, and of the solver, is told of it alone, and only then.
+fn settings_are_told(cx: &mut RefInterner, alloc: Global) -> Result<bool, OutOfMemory> {
+    let first = TraitId(add_plain(cx, alloc, DefKind::Trait)?);
+    let second = TraitId(add_plain(cx, alloc, DefKind::Trait)?);
+    let off = !cx.next_trait_solver_globally();
+    cx.set_auto(first);
+    cx.set_sized(second);
+    cx.set_solver_globally(true);
+    let auto = cx.trait_is_auto(&first) && !cx.trait_is_auto(&second);
+    let sized = cx.is_trait_lang_item(&second, SolverTraitLangItem::Sized)
+        && !cx.is_trait_lang_item(&first, SolverTraitLangItem::Sized);
+    Ok(auto && sized && off && cx.next_trait_solver_globally())
+}
+
 #[test]
 fn gives_each_item_an_id_of_its_own(rt: HostRuntime) -> Result<(), Fail> {
     let mut cx = RefInterner::new(rt.alloc());
-    let first = add_struct(&mut cx, rt.alloc())?;
-    let again = add_struct(&mut cx, rt.alloc())?;
-    let function = add_fn(&mut cx, rt.alloc())?;
-    assert!(rt; first != again && first != function && again != function);
-    assert!(rt; cx.item_count() == 3);
+    assert!(rt; ids_are_apart(&mut cx, rt.alloc())?);
     Ok(())
 }
 
 #[test]
 fn reads_the_variances_of_what_it_added(rt: HostRuntime) -> Result<(), Fail> {
     let mut cx = RefInterner::new(rt.alloc());
-    let function = add_fn(&mut cx, rt.alloc())?;
-    let def = DefId(add_struct(&mut cx, rt.alloc())?);
-    assert!(rt; cx.generics_count(&def) == 2);
-    assert!(rt; cx.variances_of(&def) == [Variance::Covariant, Variance::Invariant].as_slice());
-    assert!(rt; cx.generics_count(&DefId(function)) == 0);
-    assert!(rt; cx.generics_count(&DefId(ItemId(2))) == 0);
-    assert!(rt; cx.variances_of(&DefId(ItemId(2))).is_empty());
+    assert!(rt; variances_are_read(&mut cx, rt.alloc())?);
     Ok(())
 }
 
 #[test]
 fn says_which_trait_declares_an_item_and_which_alias_it_is(rt: HostRuntime) -> Result<(), Fail> {
     let mut cx = RefInterner::new(rt.alloc());
-    let parent = TraitId(add_plain(&mut cx, rt.alloc(), DefKind::Trait)?);
-    let assoc = add_plain(&mut cx, rt.alloc(), DefKind::AssocTy(parent))?;
-    let opaque = add_plain(&mut cx, rt.alloc(), DefKind::OpaqueTy)?;
-    assert!(rt; cx.projection_parent(&TraitAssocTermId(assoc)) == Some(parent));
-    assert!(rt; cx.projection_parent(&TraitAssocTermId(opaque)).is_none());
-    let kind = cx.alias_term_kind_from_def_id(&DefId(assoc));
-    assert!(rt;
-        kind == Some(AliasTermKind::ProjectionTy {
-            def_id: TraitAssocTyId(assoc)
-        })
-    );
-    assert!(rt; cx.alias_term_kind_from_def_id(&DefId(parent.0)).is_none());
-    assert!(rt; cx.opt_alias_variances(&DefId(opaque)).is_some());
-    assert!(rt; cx.opt_alias_variances(&DefId(assoc)).is_none());
+    assert!(rt; aliases_are_told(&mut cx, rt.alloc())?);
     Ok(())
 }
 
 #[test]
 fn says_what_is_set_of_a_trait_and_of_the_solver(rt: HostRuntime) -> Result<(), Fail> {
     let mut cx = RefInterner::new(rt.alloc());
-    let first = TraitId(add_plain(&mut cx, rt.alloc(), DefKind::Trait)?);
-    let second = TraitId(add_plain(&mut cx, rt.alloc(), DefKind::Trait)?);
-    cx.set_auto(first);
-    cx.set_sized(second);
-    assert!(rt; cx.trait_is_auto(&first) && !cx.trait_is_auto(&second));
-    assert!(rt; cx.is_trait_lang_item(&second, SolverTraitLangItem::Sized));
-    assert!(rt; !cx.is_trait_lang_item(&first, SolverTraitLangItem::Sized));
-    assert!(rt; !cx.next_trait_solver_globally());
-    cx.set_solver_globally(true);
-    assert!(rt; cx.next_trait_solver_globally());
+    assert!(rt; settings_are_told(&mut cx, rt.alloc())?);
     Ok(())
 }

@@ -13,8 +13,6 @@ mod counting;
 #[cfg(test)]
 mod errors;
 #[cfg(test)]
-mod fast_reject;
-#[cfg(test)]
 mod folding;
 #[cfg(test)]
 mod interning;

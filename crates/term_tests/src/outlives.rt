@@ -1,11 +1,8 @@
-//! Components of types behind others, those of an alias's arguments, and what follows from an assumption.
+//! Components of types behind others, and those of an alias's arguments.
 use reference_interner::{ItemId, RefInterner, SymbolId};
-use relation_terms::predicate::OutlivesPredicate;
 use relation_terms::terms::{
-    AliasTy, AliasTyKind, GenericArgKind, Interner, OpaqueTyId, OutOfMemory, ParamTy, RegionKind,
-    TyKind,
+    AliasTy, AliasTyKind, GenericArgKind, Interner, OpaqueTyId, OutOfMemory, ParamTy, TyKind,
 };
-use relation_tools::elaborate::elaborate_outlives_assumptions;
 use relation_tools::outlives::{
     Component, ComponentOf, compute_alias_components_recursive, push_outlives_components,
 };
@@ -46,28 +43,11 @@ fn arguments_have(cx: &mut RefInterner, id: ItemId, name: SymbolId) -> Result<bo
     Ok(list.len() == 1 && is_param(&list[0], 0))
 }
 
-// Whether a slice that outlives a region gives this, and the same of its elements, and nothing else.
-fn assumptions_follow(cx: &mut RefInterner, name: SymbolId) -> Result<bool, OutOfMemory> {
-    let element = cx.mk_ty(TyKind::Param(ParamTy { index: 0, name }))?;
-    let slice = cx.mk_ty(TyKind::Slice(element))?;
-    let region = cx.mk_region(RegionKind::ReStatic)?;
-    let given = OutlivesPredicate(GenericArgKind::Ty(slice), region);
-    let set = elaborate_outlives_assumptions(cx, &[given])?;
-    let follows = OutlivesPredicate(GenericArgKind::Ty(element), region);
-    Ok(set.len() == 2 && set.contains(&given) && set.contains(&follows))
-}
-
 #[test]
 fn components_are_added(rt: HostRuntime) -> Result<(), Fail> {
     let mut cx = RefInterner::new(rt.alloc());
-    assert!(rt; come_behind(&mut cx, SymbolId(0))?);
-    assert!(rt; arguments_have(&mut cx, ItemId(0), SymbolId(0))?);
-    Ok(())
-}
-
-#[test]
-fn what_follows_is_assumed(rt: HostRuntime) -> Result<(), Fail> {
-    let mut cx = RefInterner::new(rt.alloc());
-    assert!(rt; assumptions_follow(&mut cx, SymbolId(0))?);
+    assert!(rt;
+        come_behind(&mut cx, SymbolId(0))? && arguments_have(&mut cx, ItemId(0), SymbolId(0))?
+    );
     Ok(())
 }

@@ -482,12 +482,19 @@ fn parts_of_predicates_go<I: Interner>(
     Ok(fine && predicate_body_goes(cx, def, name, Other::NormalizesTo, 2131)?)
 }
 
+// Whether each of them goes.
+fn all_go<I: Interner>(cx: &mut I, def: I::Id, name: I::Name) -> Result<bool, OutOfMemory> {
+    Ok(
+        clauses_go(cx, def, name)?
+            && parts_of_clauses_go(cx, def, name)?
+            && predicates_go(cx, def, name)?
+            && parts_of_predicates_go(cx, def, name)?,
+    )
+}
+
 #[test]
 fn predicates_are_visited_and_folded(rt: HostRuntime) -> Result<(), Fail> {
     let mut cx = RefInterner::new(rt.alloc());
-    assert!(rt; clauses_go(&mut cx, ItemId(0), SymbolId(0))?);
-    assert!(rt; parts_of_clauses_go(&mut cx, ItemId(0), SymbolId(0))?);
-    assert!(rt; predicates_go(&mut cx, ItemId(0), SymbolId(0))?);
-    assert!(rt; parts_of_predicates_go(&mut cx, ItemId(0), SymbolId(0))?);
+    assert!(rt; all_go(&mut cx, ItemId(0), SymbolId(0))?);
     Ok(())
 }

@@ -72,11 +72,18 @@ fn environment_reads_back<I: Interner>(cx: &mut I, name: I::Name) -> Result<bool
     Ok(environment != empty && bounds == clauses && cx.clauses(&bounds) == list.as_slice())
 }
 
+// Whether each of them does.
+fn all_read_back<I: Interner>(cx: &mut I, def: I::Id, name: I::Name) -> Result<bool, OutOfMemory> {
+    Ok(
+        clause_reads_back(cx, def)?
+            && predicate_reads_back(cx)?
+            && environment_reads_back(cx, name)?,
+    )
+}
+
 #[test]
 fn reads_predicates_back(rt: HostRuntime) -> Result<(), Fail> {
     let mut cx = RefInterner::new(rt.alloc());
-    assert!(rt; clause_reads_back(&mut cx, ItemId(0))?);
-    assert!(rt; predicate_reads_back(&mut cx)?);
-    assert!(rt; environment_reads_back(&mut cx, SymbolId(0))?);
+    assert!(rt; all_read_back(&mut cx, ItemId(0), SymbolId(0))?);
     Ok(())
 }

@@ -85,21 +85,19 @@ fn of_pattern(
     well_formed(cx, ty, BoundVariableKind::Const(name))
 }
 
-#[test]
-fn types_are_gone_into_once(rt: HostRuntime) -> Result<(), Fail> {
-    let mut cx = RefInterner::new(rt.alloc());
-    let plain = of_types(&mut cx, 60)?;
-    let made = anonymize_bound_vars(&mut cx, &plain, SymbolId(0))?;
-    assert!(rt; made == plain);
-    Ok(())
+// Whether both are anonymous as they stand, which is told soon.
+fn stay(cx: &mut RefInterner) -> Result<bool, OutOfMemory> {
+    let name = SymbolId(0);
+    let plain = of_types(cx, 60)?;
+    let types = anonymize_bound_vars(cx, &plain, name)? == plain;
+    let pat = patterns(cx, name, 60)?;
+    let plain = of_pattern(cx, pat, name)?;
+    Ok(anonymize_bound_vars(cx, &plain, name)? == plain && types)
 }
 
 #[test]
-fn patterns_are_gone_into_once(rt: HostRuntime) -> Result<(), Fail> {
+fn types_and_patterns_are_gone_into_once(rt: HostRuntime) -> Result<(), Fail> {
     let mut cx = RefInterner::new(rt.alloc());
-    let pat = patterns(&mut cx, SymbolId(0), 60)?;
-    let plain = of_pattern(&mut cx, pat, SymbolId(0))?;
-    let made = anonymize_bound_vars(&mut cx, &plain, SymbolId(0))?;
-    assert!(rt; made == plain);
+    assert!(rt; stay(&mut cx)?);
     Ok(())
 }

@@ -53,17 +53,17 @@ fn start_of(alloc: Global, question: &str) -> Result<String, fmt::Error> {
 }
 
 #[test]
-fn a_tower_is_resolved_at_once(rt: HostRuntime) -> Result<(), Fail> {
-    let free = start_of(rt.alloc(), "?1 == t60;")?;
-    assert!(rt; free.as_str().starts_with("ok; bound=[?1=(((("));
-    let bound = start_of(rt.alloc(), "(?0, ?1) == (u8, (?0, t60));")?;
-    assert!(rt; bound.as_str().starts_with("ok; bound=[?0=u8, ?1=(u8, (((("));
-    Ok(())
-}
-
-#[test]
-fn a_variable_is_looked_for_in_a_tower_at_once(rt: HostRuntime) -> Result<(), Fail> {
-    let cyclic = start_of(rt.alloc(), "?0 == (t60, ?0);")?;
-    assert!(rt; cyclic.as_str().starts_with("err CyclicTy((((("));
+fn towers_are_gone_through_at_once(rt: HostRuntime) -> Result<(), Fail> {
+    for (question, start) in [
+        ("?1 == t60;", "ok; bound=[?1=(((("),
+        (
+            "(?0, ?1) == (u8, (?0, t60));",
+            "ok; bound=[?0=u8, ?1=(u8, ((((",
+        ),
+        ("?0 == (t60, ?0);", "err CyclicTy((((("),
+    ] {
+        let answer = start_of(rt.alloc(), question)?;
+        assert!(rt; answer.as_str().starts_with(start), "{question}");
+    }
     Ok(())
 }

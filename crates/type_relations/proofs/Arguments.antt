@@ -18,11 +18,12 @@ use Rattle.type_relations.specs.Lawful.{State, Manners, MayAnswer, Passes, Refus
 use Rattle.type_relations.proofs.OneParts.{parts_equal}
 use Rattle.type_relations.proofs.PartSizes.{weight_parts_most}
 use Rattle.type_relations.proofs.Registered.{registered_in}
-use Rattle.type_relations.proofs.Passing.{passes_within, manner_then}
-use Rattle.type_relations.proofs.Fronts.{Fronted, AreParts, IsLookedAt, fronted_all, fronted_never, fronted_passes, fronted_apart, fronted_exactly}
+use Rattle.type_relations.proofs.Passing.{passes_within, manner_then, stopped}
+use Rattle.type_relations.proofs.Fronts.{Fronted, AreParts, IsLookedAt, fronted_all, fronted_never, fronted_passes, fronted_fault, fronted_exactly}
 use Rattle.type_relations.proofs.Structural.{types_never}
 use Rattle.type_relations.proofs.Answering.{same_items, may_itself}
-use Rattle.type_relations.proofs.Unifying.{first_order_parts, exact_as, apart_as}
+use Rattle.type_relations.proofs.OneUniverse.{keeps_binds, binds_as}
+use Rattle.type_relations.proofs.Unifying.{first_order_parts, answered_as, refused_as}
 use Rattle.type_relations.proofs.Erased.{forms_unify_by_parts}
 use Rattle.type_relations.specs.Headline.{IsFirstOrderPair}
 use Rattle.relation_terms.specs.Heads.{value_type}
@@ -78,9 +79,16 @@ module _ {Key Id Name : Type 0} {r q : State Key Id Name} (M : Manners) (v : Var
       known = subst (λ u. IsTrue (known u)) (sym answer) k;
     };
     exact = λ exact is' pair.
-        let z = fronted_exactly h v i ts us are e (e ∙ n) f exact is' looked (list_pair pair) in
-        (z.0, exact_as r.store q.store (node h ts) (node h us) ts us (λ s. forms_unify_by_parts s h ts us apart) z.1);
+        answered_as r.store q.store (node h ts) (node h us) ts us (λ s. forms_unify_by_parts s h ts us apart) (λ u z. z)
+        (λ u z. z) (fronted_exactly h v i ts us are e (e ∙ n) f exact is' looked (list_pair pair));
   }
+
+  -- Memory ran out after some of the parts.
+  pub form_stopped : {X : Type 0} (tree : X → Tree) → Related {X = X} M r q v (node h ts) (node h us) tree (Err Memory)
+  form_stopped tree = stopped M v (node h ts) (node h us) tree
+      (passes_within (omega (arith, weight_parts_most r.store (node h ts), weight_parts_most r.store (node h us))) f.passes)
+      (λ exact is pair. binds_as r.store q.store (node h ts) (node h us) ts us (λ u z. z) (λ u z. z)
+      (keeps_binds r.store q.store ts us (f.exact exact is looked (list_pair pair)).2))
 
   -- Two parts of two forms were refused, and so are the forms.
   module _ (x y : Tree) (lx : i < count ts) (ly : i < count us) (ex : x ≡ nth i ts) (ey : y ≡ nth i us)
@@ -101,12 +109,10 @@ module _ {Key Id Name : Type 0} {r q : State Key Id Name} (M : Manners) (v : Var
     exactly : (A B : Type 0) (p : State Key Id Name) (e : RelateFault Key Id Name) →
         ExactlyRelated {X = A} (M q.settings) q.store p.store (part_at (items_in r) h i v) x y (Err e) →
         ExactlyRelated {X = B} (M r.settings) r.store p.store v (node h ts) (node h us) (Err e)
-    exactly A B p (Unrelated d) g exact is pair =
-        apart_as r.store (node h ts) (node h us) ts us (λ s. forms_unify_by_parts s h ts us apart)
-        (fronted_apart h v i ts us x y f lx ly ex ey are exact is looked (list_pair pair)
-        (λ z. g (manner_then M (λ m. m.is_exact) f.passes z)))
-    exactly A B p Budget g exact is pair = tt
-    exactly A B p Memory g exact is pair = tt
+    exactly A B p e g exact is pair =
+        refused_as r.store p.store (node h ts) (node h us) ts us (λ s. forms_unify_by_parts s h ts us apart) (λ u z. z)
+        (λ u z. z) A B e (fronted_fault h v i ts us x y f lx ly ex ey A A p e are exact is looked
+        (list_pair pair) (λ z. g (manner_then M (λ m. m.is_exact) f.passes z)))
 
     pub form_refused : {A B : Type 0} {p : State Key Id Name} (tree : A → Tree) (answer : B → Tree)
         (e : RelateFault Key Id Name) → Related M q p (part_at (items_in r) h i v) x y tree (Err e) →

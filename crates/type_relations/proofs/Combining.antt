@@ -32,6 +32,7 @@ use Rattle.type_relations.proofs.Going.{goes_nowhere, later_itself}
 use Rattle.type_relations.proofs.GeneralisingErrors.{const_cycle_error}
 use Rattle.type_relations.proofs.NumberVars.{is_number, type_formed}
 use Rattle.type_relations.proofs.Numbers.{IsNumber, number_no_region, number_goes}
+use Rattle.type_relations.proofs.OneUniverse.{keeps_itself}
 use Rattle.type_relations.proofs.OverContext.{carried, over_it, standing, all_taken, read_covered, one_step, roots_step, number_step, number_step_back, left_apart, right_apart, parts_step}
 use Rattle.type_relations.proofs.Roots.{roots_goes, exact_itself}
 use Rattle.type_relations.proofs.Shallowly.{read_step, shallow_free_const, variable_made}
@@ -135,7 +136,7 @@ module _ {Key Id Name : Type 0} where
       combined_shallow result (left_root_bound i x p f binds is) =
           subst₂ (λ z. Steps z (m.const_ b)) (sym p) (sym is)
           (const_left_step r L K l const_var tt (seen m was) (seen n now) grown sound numbers all i (m.const_ b) (n.const_ x)
-          asked.right_taken.1 asked.right_in asked.right_known t Invariant binds.0 binds.1 IsFormedConst a b x b b n.const_
+          asked.right_taken.1 asked.right_in asked.right_known t Invariant (λ e. refl) binds.0 binds.1 IsFormedConst a b x b b n.const_
           refl decides (a_stays ∙ p) b_stays refl b_stays (inr b_stays))
       combined_shallow result (left_root_refused i f p o binds is) =
           subst₂ (λ z. Steps z (m.const_ b)) (sym p) (sym is)
@@ -145,7 +146,7 @@ module _ {Key Id Name : Type 0} where
       combined_shallow result (right_root_bound i x p f binds is) =
           subst₂ (λ z. Steps (m.const_ a) z) (sym p) (sym is)
           (const_right_step r L K l const_var tt (seen m was) (seen n now) grown sound numbers all i (m.const_ a) (n.const_ x)
-          asked.left_taken.1 asked.left_in asked.left_known s Invariant binds.0 binds.1 IsFormedConst a b a x a n.const_
+          asked.left_taken.1 asked.left_in asked.left_known s Invariant (λ e. refl) binds.0 binds.1 IsFormedConst a b a x a n.const_
           refl decides a_stays (b_stays ∙ p) a_stays refl (inr a_stays))
       combined_shallow result (right_root_refused i f p o binds is) =
           subst₂ (λ z. Steps (m.const_ a) z) (sym p) (sym is)
@@ -185,7 +186,7 @@ module _ {Key Id Name : Type 0} where
           (m.const_ a) (m.const_ b) z.const_ (Ok (Done a))) (sym same) (sym stays)
           (one_step r IsFormedConst m m was was L K (m.const_ a) (m.const_ b) m.const_ a refl (goes_nowhere _ was) l
           (λ w s sat. ap (apply s) e) (λ w s sat h. sat)
-          (λ h. (h, exact_itself was (m.const_ a) (m.const_ b) e)) (inl refl) asked.left_known))
+          (λ h. (h, exact_itself was (m.const_ a) (m.const_ b) e)) (keeps_itself was) (inl refl) asked.left_known))
       combined_consts result (resolved_first x y differ f h combines) =
           let k = read_asked x y f h in
           read_step (standing r m was L) (standing r n now K) sound (m.const_ a) (m.const_ b) (m.const_ x) (m.const_ y)

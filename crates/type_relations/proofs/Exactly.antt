@@ -133,7 +133,7 @@ module _ {Key Id Name : Type 0} (v : Variance) (before after : Store) (a b : Tre
   unrelated : (X Y : Type 0) (f : RelateFault Key Id Name) → (v ≡ Invariant → IsFirstOrderPair before a b →
       ExactResult {X = X} before after a b (Err f)) →
       IfUnrelated {A = Y} (Err f) (λ e. v ≡ Invariant → IsFirstOrderPair before a b → NoUnifier before a b)
-  unrelated X Y (Unrelated e) h = h
+  unrelated X Y (Unrelated e) h = λ is pair. (h is pair).0
   unrelated X Y Budget h = tt
   unrelated X Y Memory h = tt
 

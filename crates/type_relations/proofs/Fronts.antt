@@ -1,5 +1,5 @@
 -- A loop over the parts of two forms, which relates them one after another.
-use Rattle.std.proofs.Common.{◌≡◌, ℕ, zero, suc, ◌+◌, ◌≤◌, ◌<◌, refl, sym, ap, ◌∙◌, subst, subst₂, arith, [], Ok}
+use Rattle.std.proofs.Common.{◌≡◌, ℕ, zero, suc, ◌+◌, ◌≤◌, ◌<◌, refl, sym, ap, ◌∙◌, subst, subst₂, arith, [], Ok, Err}
 use Rattle.relation_terms.specs.declared.terms.enums.Variance.TheVariants.{Invariant}
 use Rattle.relation_terms.specs.Variances.{xform}
 use Rattle.type_relations.specs.FirstOrder.{IsFirstOrder, IsFirstOrderStore}
@@ -7,12 +7,16 @@ use Rattle.type_relations.specs.Headline.{IsFirstOrderPair}
 use Rattle.type_relations.proofs.Exactness.{exact_front_goes_on, exact_front_ends}
 use Rattle.relation_terms.specs.declared.terms.enums.Variance.{Variance}
 use Rattle.relation_terms.specs.Heads.{Head, value_type}
-use Rattle.relation_terms.specs.Trees.{Tree, leaf, node, bind, nil, cons, IsList, count, nth}
+use Rattle.relation_terms.specs.Trees.{Tree, leaf, node, bind, nil, cons, IsList, count, nth, Leaves}
 use Rattle.type_relations.specs.Relation.{Items, at, parts, part_at, mode}
 use Rattle.type_relations.specs.Stores.{Store, InContext, weight, resolved}
 use Rattle.type_relations.specs.Outcomes.{Outcome, Front, NeverOne, Exact, ExactFront, NoUnifier}
 use Rattle.type_relations.specs.Measures.{grown}
-use Rattle.type_relations.specs.Lawful.{State, Manners, Passes, Related, items_in}
+use Rattle.relation_tools.specs.declared.error.RelateFault.{RelateFault}
+use Rattle.relation_tools.specs.declared.error.RelateFault.TheVariants.{Memory, Budget, Unrelated}
+use Rattle.type_relations.specs.OneUniverse.{NamesTypesTo, KeepsUniverseOf, LeadsInUniverse}
+use Rattle.type_relations.specs.Lawful.{State, Manners, Passes, Related, ExactResult, items_in}
+use Rattle.type_relations.proofs.OneUniverse.{keeps_itself, keeps_pair, leaves_nth, led_keeps, led_binds, led_fewer}
 use Rattle.type_relations.proofs.Going.{pair_grown, later_itself}
 use Rattle.type_relations.proofs.Composing.{front_begins, front_goes_on, front_ends}
 use Rattle.type_relations.proofs.Passing.{passes_nowhere, passes_then, manner_then, outcome_seen}
@@ -23,7 +27,7 @@ abbrev pub IsLookedAt : Head → Type 0
 IsLookedAt value_type = ⊥
 IsLookedAt h = Unit {0}
 
-part_invariant : (c : Items) (h : Head) (i : ℕ) (v : Variance) → IsLookedAt h → v ≡ Invariant →
+pub part_invariant : (c : Items) (h : Head) (i : ℕ) (v : Variance) → IsLookedAt h → v ≡ Invariant →
     part_at c h i v ≡ Invariant
 part_invariant c value_type i v l e = absurd l
 part_invariant c h i v l e = ap (λ z. xform z (mode c h i)) e
@@ -51,7 +55,7 @@ pub record Fronted {Key Id Name : Type 0} (M : Manners) (r q : State Key Id Name
   pub passes : Passes (weight r.store xs + weight r.store ys) r q
   pub front : Front (items_in r) r.environment h v i r.store q.store r.goals passes.added xs ys
   pub exact : (M r.settings).is_exact → v ≡ Invariant → IsLookedAt h → IsFirstOrderPair r.store xs ys →
-      IsFirstOrderStore q.store × ExactFront i r.store q.store xs ys
+      IsFirstOrderStore q.store × ExactFront i r.store q.store xs ys × KeepsUniverseOf r.store q.store xs ys
 
 -- What is asked of two lists of parts.
 pub record AreParts (st : Store) (xs ys : Tree) : Type 0 where
@@ -72,7 +76,11 @@ module _ {Key Id Name : Type 0} where
   fronted_none M r h v xs ys = record {
     passes = passes_nowhere (weight r.store xs + weight r.store ys) r;
     front = front_begins (items_in r) r.environment h v r.store r.goals xs ys;
-    exact = λ k is looked pair. (pair.bindings, exact_front_begins r.store xs ys);
+    exact = λ k is looked pair. (
+      pair.bindings,
+      exact_front_begins r.store xs ys,
+      keeps_pair r.store r.store xs ys (keeps_itself r.store),
+    );
   }
 
   module _ {M : Manners} {r q : State Key Id Name} (h : Head) (v : Variance) (i : ℕ) (xs ys x y : Tree)
@@ -95,6 +103,17 @@ module _ {Key Id Name : Type 0} where
       bindings = bindings;
     }
 
+    -- They stand in the universe of the lists.
+    leads_at : KeepsUniverseOf r.store q.store xs ys → LeadsInUniverse r.store q.store xs ys x y
+    leads_at f u p = let z = f u p in (
+      record {
+        variables = z.0;
+        left = subst (Leaves (NamesTypesTo u)) (sym ex) (leaves_nth (NamesTypesTo u) xs i lx p.left);
+        right = subst (Leaves (NamesTypesTo u)) (sym ey) (leaves_nth (NamesTypesTo u) ys i ly p.right);
+      },
+      z.1,
+    )
+
     pub fronted_next : {X : Type 0} {p : State Key Id Name} (tree : X → Tree) (t : X) →
         AreParts r.store xs ys → Related M q p (part_at (items_in r) h i v) x y tree (Ok t) →
         Fronted M r p h v (suc i) xs ys
@@ -112,17 +131,29 @@ module _ {Key Id Name : Type 0} where
             o.0,
             (exact_front_goes_on i r.store q.store p.store xs ys are.left_list are.right_list are.left_in are.right_in
                 z.1).0 (subst₂ (Exact q.store p.store) ex ey o.1),
+            led_keeps r.store q.store p.store xs ys x y (leads_at z.2) o.2,
           );
     }
 
-    -- Nor are lists unified two of whose parts are not.
-    pub fronted_apart : AreParts r.store xs ys → (M r.settings).is_exact → v ≡ Invariant → IsLookedAt h →
-        IsFirstOrderPair r.store xs ys → ((M r.settings).is_exact → part_at (items_in r) h i v ≡ Invariant →
-        IsFirstOrderPair q.store x y → NoUnifier q.store x y) → NoUnifier r.store xs ys
-    fronted_apart are k is looked pair g =
-        let z = f.exact k is looked pair in
-        (exact_front_goes_on i r.store q.store q.store xs ys are.left_list are.right_list are.left_in are.right_in z.1).1
-        (subst₂ (NoUnifier q.store) ex ey (g k (part_invariant (items_in r) h i v looked is) (pair_at pair z.0)))
+    -- A fault of two parts is one of the lists: they are not unified where the parts are not.
+    pub fronted_fault : (A B : Type 0) (p : State Key Id Name) (e : RelateFault Key Id Name) → AreParts r.store xs ys →
+        (M r.settings).is_exact → v ≡ Invariant → IsLookedAt h → IsFirstOrderPair r.store xs ys →
+        ((M r.settings).is_exact → part_at (items_in r) h i v ≡ Invariant → IsFirstOrderPair q.store x y →
+        ExactResult {X = A} q.store p.store x y (Err e)) → ExactResult {X = B} r.store p.store xs ys (Err e)
+    fronted_fault A B p e are k is looked pair g = go e (g k (part_invariant (items_in r) h i v looked is) (pair_at pair z.0))
+      where
+        z : IsFirstOrderStore q.store × ExactFront i r.store q.store xs ys × KeepsUniverseOf r.store q.store xs ys
+        z = f.exact k is looked pair
+
+        go : (e : RelateFault Key Id Name) → ExactResult {X = A} q.store p.store x y (Err e) →
+            ExactResult {X = B} r.store p.store xs ys (Err e)
+        go (Unrelated d) o = (
+          (exact_front_goes_on i r.store q.store q.store xs ys are.left_list are.right_list are.left_in are.right_in
+              z.1).1 (subst₂ (NoUnifier q.store) ex ey o.0),
+          led_binds r.store q.store p.store xs ys x y (leads_at z.2) o.1,
+        )
+        go Budget o = led_fewer r.store q.store p.store xs ys x y (leads_at z.2) o
+        go Memory o = led_binds r.store q.store p.store xs ys x y (leads_at z.2) o
 
     -- Where two parts are never one, nor are the lists.
     pub fronted_never : AreParts r.store xs ys → NeverOne (at (part_at (items_in r) h i v)) q.store x y →
@@ -139,12 +170,14 @@ module _ {Key Id Name : Type 0} where
   -- All parts were related exactly.
   pub fronted_exactly : {M : Manners} {r q : State Key Id Name} (h : Head) (v : Variance) (n : ℕ) (xs ys : Tree) →
       AreParts r.store xs ys → n ≡ count xs → n ≡ count ys → Fronted M r q h v n xs ys → (M r.settings).is_exact → v ≡ Invariant →
-      IsLookedAt h → IsFirstOrderPair r.store xs ys → IsFirstOrderStore q.store × Exact r.store q.store xs ys
+      IsLookedAt h → IsFirstOrderPair r.store xs ys → IsFirstOrderStore q.store × Exact r.store q.store xs ys ×
+      KeepsUniverseOf r.store q.store xs ys
   fronted_exactly {M} {r} {q} h v n xs ys are e d f k is looked pair =
       let z = f.exact k is looked pair in (
         z.0,
         exact_front_ends r.store q.store xs ys are.left_list are.right_list (sym e ∙ d)
             (subst (λ i. ExactFront i r.store q.store xs ys) e z.1),
+        z.2,
       )
 
   pub fronted_all : {M : Manners} {r q : State Key Id Name} (h : Head) (v : Variance) (n : ℕ) (xs ys : Tree) →

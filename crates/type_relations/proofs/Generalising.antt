@@ -28,7 +28,7 @@ gives_sort (atom static_region) j e = let q : region_var ≡ j = cc in ap var_so
 gives_sort (atom (early_region i x)) j e = let q : region_var ≡ j = cc in ap var_sort q
 gives_sort l j e = absurd cc
 
-some_path : {i j : VarKind} → Some i ≡ Some j → i ≡ j
+pub some_path : {i j : VarKind} → Some i ≡ Some j → i ≡ j
 some_path e = cc
 
 no_number_sort : (j : VarKind) (o : Option VarKind) → o ≡ Some j → (o ≡ Some type_var) ⊎ ((o ≡ Some const_var) ⊎ (o ≡ Some region_var)) → IsNumberKind j → ⊥

@@ -51,6 +51,7 @@ pub mod Deciding
 pub mod Constraints
 pub mod DiagInfo
 pub mod Making
+pub mod OneUniverse
 pub mod Answering
 pub mod Unifying
 pub mod Rejected
@@ -65,6 +66,8 @@ pub mod NumberVars
 pub mod Turning
 pub mod OverContext
 pub mod Solving
+pub mod GeneralisingInOne
+pub mod Spending
 pub mod SolvingVariables
 pub mod SolvingGoals
 pub mod Subtyping

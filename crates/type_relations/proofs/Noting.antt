@@ -12,16 +12,18 @@ use Rattle.type_relations.specs.FirstOrder.{IsFirstOrderStore, IsErasedSolution}
 use Rattle.type_relations.specs.Measures.{Goes}
 use Rattle.type_relations.specs.Goals.{Goal, IsQuiet}
 use Rattle.type_relations.specs.Lawful.{State, Noted, OnlyMemory, WithMeaning, RegisteredIn}
+use Rattle.type_relations.specs.OneUniverse.{KeepsUniverse}
 use Rattle.type_relations.specs.Steps.{IsLater}
 use Rattle.type_relations.specs.Stores.{Store, Satisfies}
 use Rattle.type_relations.proofs.Going.{goes_nowhere, later_itself}
+use Rattle.type_relations.proofs.OneUniverse.{keeps_itself, keeps_then}
 use Rattle.type_relations.proofs.Passing.{passes_then, passes_nowhere, passes_grown}
 
 module _ {Key Id Name : Type 0} where
   pub noted_then : {X Y : Type 0} {r q p : State Key Id Name} (x : Result X (RelateFault Key Id Name))
       (y : Result Y (RelateFault Key Id Name)) → Noted r q x → Noted q p y → Noted r p y
   unfolding passes_then
-  noted_then x y f g = record {
+  noted_then {r = r} {q = q} {p = p} x y f g = record {
     passes = passes_then f.passes g.passes (omega arith);
     keeps = λ w s sat. g.keeps w s (f.keeps w s sat);
     keeps_erased = λ s. (
@@ -29,6 +31,7 @@ module _ {Key Id Name : Type 0} where
       (λ h. (f.keeps_erased s).1 ((g.keeps_erased s).1 h)),
     );
     first_order = λ h. g.first_order (f.first_order h);
+    universe = keeps_then r.store q.store p.store f.universe g.universe;
     quiet = All-append IsQuiet (f.passes).added (g.passes).added f.quiet g.quiet;
     same_budget = g.same_budget ∙ f.same_budget;
     fault = g.fault;
@@ -46,6 +49,7 @@ module _ {Key Id Name : Type 0} where
       (λ h. subst (λ k. IsErasedSolution k s) w.store h),
     );
     first_order = λ h. subst IsFirstOrderStore (sym w.store) h;
+    universe = subst (KeepsUniverse r.store) (sym w.store) (keeps_itself r.store);
     quiet = All-nil IsQuiet;
     same_budget = ap (λ k. k.budget) w.store;
     fault = fault;
@@ -78,6 +82,7 @@ module _ {Key Id Name : Type 0} where
           (λ y. subst (λ k. IsErasedSolution k s) h.store y),
         );
         first_order = λ y. subst IsFirstOrderStore (sym h.store) y;
+        universe = subst (KeepsUniverse r.store) (sym h.store) (keeps_itself r.store);
         quiet = silent;
         same_budget = ap (λ k. k.budget) h.store;
         fault = fault;

@@ -27,6 +27,8 @@ use Rattle.type_relations.proofs.Standing.{itself_stands}
 use Rattle.type_relations.proofs.Written.{is_later, equal, weight_after, kinds_stand, others}
 use Rattle.type_relations.proofs.StoreCalls.{numbers_are_exact, resolved_stands}
 use Rattle.type_relations.proofs.Roots.{written_first_order}
+use Rattle.type_relations.specs.OneUniverse.{KeepsUniverse}
+use Rattle.type_relations.proofs.OneUniverse.{written_keeps}
 
 -- A variable of integers or floats.
 abbrev pub IsNumber : VarKind → Type 0
@@ -116,6 +118,10 @@ module _ (before after : Store) (k : VarKind) (n : ℕ) (t : Tree) (q : Instanti
 
   pub number_keep : (w : Interpretation) (s : Assign) → Satisfies w before s → s k n ≡ apply s t → Satisfies w after s
   number_keep w s sat e = ((numbers_are_exact before after k n t q).0 w s).1 (sat, e ∙ number_itself s k t q.fits)
+
+  -- Types and constants stay in their universe.
+  pub number_universe : KeepsUniverse before after
+  number_universe = written_keeps before after (number_goes 0).later q.writes.as_many q.same_universes
 
   -- It is exact.
   pub number_exactly : IsFirstOrderStore before → IsFirstOrderStore after × Exact before after (leaf (variable k n)) t

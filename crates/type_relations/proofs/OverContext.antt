@@ -35,8 +35,11 @@ use Rattle.type_relations.specs.Solving.{solver_manner, solver_settings}
 use Rattle.type_relations.proofs.Trees.{all_leaves}
 use Rattle.type_relations.proofs.Going.{later_itself, goes_nowhere}
 use Rattle.type_relations.proofs.ReadAs.{read_value, read_later, read_weight}
-use Rattle.type_relations.proofs.Roots.{roots_goes, roots_equal, roots_keep, roots_exactly, exact_turned}
+use Rattle.type_relations.specs.OneUniverse.{KeepsUniverse}
+use Rattle.type_relations.proofs.OneUniverse.{keeps_pair, binds_itself, reading_leads}
+use Rattle.type_relations.proofs.Roots.{roots_goes, roots_equal, roots_keep, roots_exactly, roots_universe, exact_turned}
 use Rattle.type_relations.proofs.Numbers.{IsNumber, number_goes, number_equal, number_keep, number_exactly, number_apart}
+use Rattle.type_relations.proofs.Numbers.{number_universe}
 use Rattle.type_relations.proofs.Numbers.{number_no_unifier, number_error, number_error_back}
 use Rattle.type_relations.proofs.Exactly.{read_pair, reading_exact}
 
@@ -87,11 +90,11 @@ module _ {Key Id Name : Type 0} (r : State Key Id Name) where
       ((w : Interpretation) (s : Assign) → Satisfies w now s → apply s a ≡ apply s b) →
       ((w : Interpretation) (s : Assign) → Satisfies w was s → apply s a ≡ apply s b →
       Satisfies w now s) →
-      (IsFirstOrderStore was → IsFirstOrderStore now × Exact was now a b) →
+      (IsFirstOrderStore was → IsFirstOrderStore now × Exact was now a b) → KeepsUniverse was now →
       (tree t ≡ a) ⊎ (tree t ≡ b) → IsTrue (known (tree t)) →
       Stepped solver_manner F (standing r m was L) (standing r n now K) a b tree (Ok (Done t))
   unfolding over_passes
-  one_step {X} F m n was now L K a b tree t same goes l equal keep exactly answer sure =
+  one_step {X} F m n was now L K a b tree t same goes l equal keep exactly universe answer sure =
       subst (λ n. Stepped solver_manner F (standing r m was L) (standing r n now K) a b tree (Ok (Done t))) (sym same)
       (record { passes = related.passes; verdict = related.verdict; exact = related.exact })
     where
@@ -113,7 +116,7 @@ module _ {Key Id Name : Type 0} (r : State Key Id Name) where
           answer = record { related = λ w s sat all. same_rel (answers answer w s sat); left = λ k. absurd k };
           known = sure;
         };
-        exact = λ k is pair. exactly pair.bindings;
+        exact = λ k is pair. let z = exactly pair.bindings in (z.0, z.1, keeps_pair was now a b universe);
       }
 
   -- Nothing was recorded, and an error tells two terms apart.
@@ -127,7 +130,7 @@ module _ {Key Id Name : Type 0} (r : State Key Id Name) where
       (sym is) (record {
         passes = over_passes (stays_same m) (goes_nowhere _ was) l;
         verdict = (apart, error, sure);
-        exact = λ k is pair. no_unifier;
+        exact = λ k is pair. (no_unifier, binds_itself was a b);
       }))
 
   -- Two roots of a kind were made one.
@@ -143,6 +146,7 @@ module _ {Key Id Name : Type 0} (r : State Key Id Name) where
       (sym (ap (apply s) p) ∙ one ∙ ap (apply s) q))
       (λ h. let z = roots_exactly was now k o i l sound still equates h in
       (z.0, subst₂ (Exact was now) (sym p) (sym q) z.1))
+      (roots_universe was now k o i l sound still equates)
       (inl answer) (subst (λ z. IsTrue (known z)) (sym (answer ∙ p)) refl)
 
   -- A root of a number variable was bound to the other side, a type of its kind.
@@ -156,6 +160,7 @@ module _ {Key Id Name : Type 0} (r : State Key Id Name) where
       (λ w s sat one. number_keep was now k i b h sound w s sat (sym (ap (apply s) p) ∙ one))
       (λ f. let z = number_exactly was now k i b h sound f in
       (z.0, subst (λ c. Exact was now c b) (sym p) z.1))
+      (number_universe was now k i b h sound)
       (inr answer) (subst (λ z. IsTrue (known z)) (sym answer) sure)
 
   pub number_step_back : {X : Type 0} (F : Tree → Type 0) (m n : Meaning Key Id Name) (was now : Store) (L K : Type 0) (k : VarKind) (i : ℕ) (a b : Tree) (tree : X → Tree) (t : X) → n ≡ m →
@@ -172,6 +177,7 @@ module _ {Key Id Name : Type 0} (r : State Key Id Name) where
         exact_turned was now b a
             (subst (λ c. Exact was now c a) (sym p) z.1),
       ))
+      (number_universe was now k i a h sound)
       (inl answer) (subst (λ z. IsTrue (known z)) (sym answer) sure)
 
   -- Or the other side is a type that may not stand for it.
@@ -258,6 +264,7 @@ module _ {Key Id Name : Type 0} (r : State Key Id Name) where
     exact = λ k is pair. (
       read_pair was a b (tree t) (tree u) p q pair,
       reading_exact was g a b (tree t) (tree u) p q,
+      reading_leads was g a b (tree t) (tree u) p q,
     );
   }
 

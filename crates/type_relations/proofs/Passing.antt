@@ -17,7 +17,7 @@ use Rattle.type_relations.specs.Relation.{Items, Way, at, anything, Rel}
 use Rattle.type_relations.specs.declared.relate.Step.TheVariants.{Done, Parts}
 use Rattle.relation_tools.specs.Faults.{KnowsError}
 use Rattle.type_relations.specs.Errors.{ErrorOf}
-use Rattle.type_relations.specs.Stores.{Store, IsSound, Satisfies, weight}
+use Rattle.type_relations.specs.Stores.{Store, IsSound, Satisfies, all_bound, weight}
 use Rattle.type_relations.specs.Goals.{Goal, GoalInContext, IsDirected, Holds, Relates, Asked as Asks, asked, asks_too_much, asks_nothing, IsQuiet, AsksNoPair, HasOneTree, MakesOneTree}
 use Rattle.type_relations.specs.Outcomes.{Outcome, CarriesOver, NeverOne, Exact, ExactStep}
 use Rattle.type_relations.specs.Headline.{IsFirstOrderPair}
@@ -34,6 +34,8 @@ use Rattle.type_relations.proofs.Composing.{steps_compose, first_goals}
 use Rattle.type_relations.proofs.Growing.{All_front}
 use Rattle.type_relations.proofs.Standing.{later_term}
 use Rattle.type_relations.proofs.Answering.{same_items, may_itself, may_later, if_ok_both}
+use Rattle.type_relations.specs.OneUniverse.{KeepsUniverseOf, LeadsInUniverse, BindsNoMore}
+use Rattle.type_relations.proofs.OneUniverse.{keeps_itself, keeps_binds, kept_then, binds_as_many, leads_itself, led_keeps, led_binds, led_fewer}
 
 -- An outcome over other items, in another environment, after other goals, which are the same.
 moved : {c d : Items} {e k : Tree} {gs hs : List Goal} (way : Way) (before after : Store) (added : List Goal)
@@ -45,7 +47,7 @@ moved {c} {d} {e} {k} {gs} {hs} way before after added a b p q s f =
     (subst (λ z. Outcome c e way before after z added a b) s f))
 
 -- Invariance seen from invariance, which is not bivariance.
-invariantly : (v : Variance) {w : Variance} → w ≡ Invariant → xform w v ≡ Invariant
+pub invariantly : (v : Variance) {w : Variance} → w ≡ Invariant → xform w v ≡ Invariant
 invariantly v e = ap (λ z. xform z v) e ∙ from_it v
   where
     from_it : (v : Variance) → xform Invariant v ≡ Invariant
@@ -161,33 +163,46 @@ module _ {Key Id Name : Type 0} where
   -- A step led exactly to another pair, and what comes of that.
   abbrev pub LeadsExactly : Manners → State Key Id Name → State Key Id Name → Tree → Tree → Tree → Tree → Type 0
   LeadsExactly M r q a b x y = (M r.settings).is_exact → r.ambient ≡ Invariant → IsFirstOrderPair r.store a b →
-      IsFirstOrderPair q.store x y × ExactStep r.store q.store a b x y
+      IsFirstOrderPair q.store x y × ExactStep r.store q.store a b x y × LeadsInUniverse r.store q.store a b x y
 
   exact_led : {X : Type 0} (M : Manner) (before middle after : Store) (a b x y : Tree) (v w : Variance) →
       (v ≡ Invariant → w ≡ Invariant) → (M.is_exact → v ≡ Invariant → IsFirstOrderPair before a b →
-      IsFirstOrderPair middle x y × ExactStep before middle a b x y) → (res : Result X (RelateFault Key Id Name)) →
-      ExactlyRelated M middle after w x y res → ExactlyRelated M before after v a b res
+      IsFirstOrderPair middle x y × ExactStep before middle a b x y × LeadsInUniverse before middle a b x y) →
+      (res : Result X (RelateFault Key Id Name)) → ExactlyRelated M middle after w x y res →
+      ExactlyRelated M before after v a b res
   exact_led M before middle after a b x y v w also led (Ok t) f k is pair =
       let l = led k is pair in
-      let o = f k (also is) l.0 in
-      (o.0, (exact_steps_compose before middle after a b x y l.1).0 o.1)
+      let o = f k (also is) l.0 in (
+        o.0,
+        (exact_steps_compose before middle after a b x y l.1).0 o.1,
+        led_keeps before middle after a b x y l.2 o.2,
+      )
   exact_led M before middle after a b x y v w also led (Err (Unrelated e)) f k is pair =
       let l = led k is pair in
-      (exact_steps_compose before middle after a b x y l.1).1 (f k (also is) l.0)
-  exact_led M before middle after a b x y v w also led (Err Budget) f k is pair = tt
-  exact_led M before middle after a b x y v w also led (Err Memory) f k is pair = tt
+      let o = f k (also is) l.0 in
+      ((exact_steps_compose before middle after a b x y l.1).1 o.0, led_binds before middle after a b x y l.2 o.1)
+  exact_led M before middle after a b x y v w also led (Err Budget) f k is pair =
+      let l = led k is pair in led_fewer before middle after a b x y l.2 (f k (also is) l.0)
+  exact_led M before middle after a b x y v w also led (Err Memory) f k is pair =
+      let l = led k is pair in led_binds before middle after a b x y l.2 (f k (also is) l.0)
 
-  -- A fault, of whatever was to be answered; want of memory says nothing.
+  -- A fault, of whatever was to be answered.
   exact_fault : (X Y : Type 0) (before after : Store) (a b : Tree) (e : RelateFault Key Id Name) →
       ExactResult {X = X} before after a b (Err e) → ExactResult {X = Y} before after a b (Err e)
   exact_fault X Y before after a b (Unrelated e) f = f
   exact_fault X Y before after a b Budget f = f
   exact_fault X Y before after a b Memory f = f
 
-  nothing_said : (X : Type 0) (before after : Store) (a b : Tree) (e : RelateFault Key Id Name) →
-      OnlyMemory {X = X} (Err e) → ExactResult {X = X} before after a b (Err e)
-  nothing_said X before after a b Memory k = tt
-  nothing_said X before after a b e k = absurd k
+  memory_said : (X Y : Type 0) (before after : Store) (a b : Tree) (e : RelateFault Key Id Name) →
+      OnlyMemory {X = Y} (Err e) → BindsNoMore before after a b → ExactResult {X = X} before after a b (Err e)
+  memory_said X Y before after a b Memory k f = f
+  memory_said X Y before after a b e k f = absurd k
+
+  -- A note binds no further variable.
+  noted_bound : {X : Type 0} {r q : State Key Id Name} {res : Result X (RelateFault Key Id Name)} → Noted r q res →
+      all_bound q.store ≡ all_bound r.store
+  noted_bound h = let g = (h.passes).goes in let b = g.binds in let c = g.counts in let e = h.same_budget in
+      omega (arith, b, c, e)
 
   -- What is related is so under the goals that are registered then.
   pub relates_by : {n : ℕ} {r q : State Key Id Name} (v : Variance) (a b : Tree) (g : Passes n r q) →
@@ -326,8 +341,11 @@ module _ {Key Id Name : Type 0} where
         answer = subst (MayAnswer M p v a) (sym e) (may_later M v a (tree t) h.passes (f.verdict).answer);
         known = subst (λ u. IsTrue (known u)) (sym e) (f.verdict).known;
       };
-      exact = λ k is pair. let z = f.exact k is pair in
-          (h.first_order z.0, exact_kept r.store q.store p.store a b ((h.passes).goes).later h.keeps_erased z.1);
+      exact = λ k is pair. let z = f.exact k is pair in (
+        h.first_order z.0,
+        exact_kept r.store q.store p.store a b ((h.passes).goes).later h.keeps_erased z.1,
+        kept_then r.store q.store p.store a b z.2 h.universe,
+      );
     }
 
     pub noted_refused : {Z : Type 0} (answer : Z → Tree) (e : RelateFault Key Id Name) → note ≡ Err e →
@@ -336,7 +354,9 @@ module _ {Key Id Name : Type 0} where
     noted_refused {Z} answer e n = record {
       passes = both;
       verdict = refuses e (subst OnlyMemory n h.fault);
-      exact = λ k is pair. nothing_said Z r.store p.store a b e (subst OnlyMemory n h.fault);
+      exact = λ k is pair. memory_said Z Y r.store p.store a b e (subst OnlyMemory n h.fault)
+          (binds_as_many r.store q.store p.store a b (noted_bound h)
+          (keeps_binds r.store q.store a b (f.exact k is pair).2));
     }
       where
         refuses : (e : RelateFault Key Id Name) → OnlyMemory {X = Y} (Err e) → Refuses r p v a b e
@@ -427,6 +447,7 @@ module _ {Key Id Name : Type 0} where
     keeps = λ w s h. h;
     keeps_erased = λ s. ((λ h. h), (λ h. h));
     first_order = λ h. h;
+    universe = keeps_itself r.store;
     quiet = All-nil IsQuiet;
     same_budget = refl;
     fault = tt;
@@ -476,7 +497,8 @@ module _ {Key Id Name : Type 0} where
         answer = may_with M v a (answer z) e w value;
         known = sure;
       };
-      exact = λ k is pair. subst (λ s. IsFirstOrderStore s × Exact r.store s a b) (sym w.store) (f.exact k is pair);
+      exact = λ k is pair. subst (λ s. IsFirstOrderStore s × Exact r.store s a b × KeepsUniverseOf r.store s a b)
+          (sym w.store) (f.exact k is pair);
     }
 
     -- Or it could not be made.
@@ -485,8 +507,12 @@ module _ {Key Id Name : Type 0} where
         IfOk res (λ z. MayAnswer M q v a (answer z) × IsTrue (known (answer z))) → Related M r p v a b answer res
     unfolding passes_grown
     made_or_not tree t f (Ok z) only h = remade tree t f z h.0 h.1
-    made_or_not tree t f (Err Memory) only h =
-        record { passes = passes_grown f.passes e w; verdict = tt; exact = λ k is pair. tt }
+    made_or_not tree t f (Err Memory) only h = record {
+      passes = passes_grown f.passes e w;
+      verdict = tt;
+      exact = λ k is pair. subst (λ s. BindsNoMore r.store s a b) (sym w.store)
+          (keeps_binds r.store q.store a b (f.exact k is pair).2);
+    }
     made_or_not tree t f (Err g) only h = absurd only
 
     -- The form over what may be answered for the parts was made, or could not be.
@@ -500,8 +526,9 @@ module _ {Key Id Name : Type 0} where
 
   -- Memory ran out.
   pub stopped : {X : Type 0} {r q : State Key Id Name} (M : Manners) (v : Variance) (a b : Tree) (tree : X → Tree) →
-      Passes (weight r.store a + weight r.store b) r q → Related {X = X} M r q v a b tree (Err Memory)
-  stopped M v a b tree g = record { passes = g; verdict = tt; exact = λ k is pair. tt }
+      Passes (weight r.store a + weight r.store b) r q → ((M r.settings).is_exact → v ≡ Invariant →
+      IsFirstOrderPair r.store a b → BindsNoMore r.store q.store a b) → Related {X = X} M r q v a b tree (Err Memory)
+  stopped M v a b tree g f = record { passes = g; verdict = tt; exact = f }
 
   -- A step that answers.
   pub step_done : {K : Type 0} {r q : State Key Id Name} (M : Manners) (F : Tree → Type 0) (a b : Tree) (tree : K → Tree)
@@ -574,6 +601,7 @@ module _ {Key Id Name K : Type 0} (M : Manners) (F : Tree → Type 0) (r : State
         shrinks = λ s h u. (h, u);
         keeps = λ s h u. (s, (λ j i h. refl), (h, u));
       },
+      leads_itself r.store (tree a) (tree b),
     );
   }
 

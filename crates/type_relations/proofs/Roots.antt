@@ -13,7 +13,9 @@ use Rattle.type_relations.specs.Outcomes.{Exact}
 use Rattle.type_relations.proofs.Only.{which}
 use Rattle.type_relations.proofs.Written.{OtherTerm, term_stays, term_led, others}
 use Rattle.type_relations.proofs.Going.{later_itself, goes_nowhere, goes_within}
-use Rattle.type_relations.proofs.Equating.{equated_goes, equated_value, equated_keeps}
+use Rattle.type_relations.specs.OneUniverse.{KeepsUniverse}
+use Rattle.type_relations.proofs.Equating.{equated_goes, equated_later, equated_value, equated_keeps}
+use Rattle.type_relations.proofs.OneUniverse.{keeps_itself, equated_keeps_universe}
 use Rattle.type_relations.proofs.StoreCalls.{equating_is_exact}
 
 -- One variable got an entry, of a first-order term.
@@ -89,6 +91,15 @@ module _ (before after : Store) (k : VarKind) (no_region : k ≢ region_var) (x 
       go : Dec (x ≡ y) → Satisfies w after s
       go (yes e) = subst (λ st. Satisfies w st s) (sym (stays e)) sat
       go (no o) = equated_keeps before after k (max x y) (min x y) (q o) g no_region w s sat (in_order (s k) x y one)
+
+  -- They stay in their universe.
+  pub roots_universe : KeepsUniverse before after
+  roots_universe = go (ℕ_discrete x y)
+    where
+      go : Dec (x ≡ y) → KeepsUniverse before after
+      go (yes e) = subst (KeepsUniverse before) (sym (stays e)) (keeps_itself before)
+      go (no o) = equated_keeps_universe before after k (max x y) (min x y) (q o)
+          (equated_later before after k (max x y) (min x y) (q o) g no_region)
 
   -- It is exact.
   pub roots_exactly : IsFirstOrderStore before → IsFirstOrderStore after × Exact before after (var x) (var y)

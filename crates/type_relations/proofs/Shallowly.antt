@@ -23,6 +23,8 @@ use Rattle.type_relations.proofs.Standing.{made_of_term}
 use Rattle.type_relations.specs.Resolving.{IsShallow, root, stays_bound, formed, IsShallowConst, const_root, no_variable}
 use Rattle.type_relations.specs.Solving.{solver_manner}
 use Rattle.type_relations.proofs.Exactly.{read_pair, step_read, exact_read, apart_read}
+use Rattle.type_relations.specs.OneUniverse.{LeadsInUniverse}
+use Rattle.type_relations.proofs.OneUniverse.{reading_leads, led_then, led_keeps, led_binds, led_fewer}
 
 -- What is resolved shallowly to a variable is an unbound one.
 free_entry : (st : Store) (k : VarKind) (n : ℕ) → bound_term st k n ≡ None → entry_of st k n ≡ unbound
@@ -100,6 +102,9 @@ module _ {Key Id Name : Type 0} (r q : State Key Id Name) (g : IsSound r.store) 
         (read_later r.store st (later_through (h.steps).later l) b w o) (h.errors m c st e l g z);
   }
 
+  as_read : LeadsInUniverse r.store r.store a b u w
+  as_read = reading_leads r.store g a b u w p o
+
   module _ {K : Type 0} (F : Tree → Type 0) (tree : K → Tree) (passes : Passes (weight r.store u + weight r.store w) r q)
     where
       shrinks : (i : Interpretation) (s : Assign) → Satisfies i q.store s → Satisfies i r.store s
@@ -151,12 +156,25 @@ module _ {Key Id Name : Type 0} (r q : State Key Id Name) (g : IsSound r.store) 
 
       read_exact : (res : Result (Step K) (RelateFault Key Id Name)) → ExactVerdict r q u w tree res →
           ExactVerdict r q a b tree res
-      read_exact (Ok (Done t)) h = (h.0, exact_read r.store g a b u w p o q.store h.1)
-      read_exact (Ok (Parts x y)) h = (h.0, step_read r.store g a b u w p o q.store (tree x) (tree y) h.1)
-      read_exact (Ok (Again k l x y v t)) h = (h.0, step_read r.store g a b u w p o q.store (tree x) (tree y) h.1)
-      read_exact (Err (Unrelated e)) h = apart_read r.store g a b u w p o h
-      read_exact (Err Budget) h = tt
-      read_exact (Err Memory) h = tt
+      read_exact (Ok (Done t)) h = (
+        h.0,
+        exact_read r.store g a b u w p o q.store h.1,
+        led_keeps r.store r.store q.store a b u w as_read h.2,
+      )
+      read_exact (Ok (Parts x y)) h = (
+        h.0,
+        step_read r.store g a b u w p o q.store (tree x) (tree y) h.1,
+        led_then r.store r.store q.store a b u w (tree x) (tree y) as_read h.2,
+      )
+      read_exact (Ok (Again k l x y v t)) h = (
+        h.0,
+        step_read r.store g a b u w p o q.store (tree x) (tree y) h.1,
+        led_then r.store r.store q.store a b u w (tree x) (tree y) as_read h.2,
+      )
+      read_exact (Err (Unrelated e)) h =
+          (apart_read r.store g a b u w p o h.0, led_binds r.store r.store q.store a b u w as_read h.1)
+      read_exact (Err Budget) h = led_fewer r.store r.store q.store a b u w as_read h
+      read_exact (Err Memory) h = led_binds r.store r.store q.store a b u w as_read h
 
   pub read_step : {K : Type 0} (F : Tree → Type 0) (tree : K → Tree) (res : Result (Step K) (RelateFault Key Id Name)) →
       Stepped solver_manner F r q u w tree res → Stepped solver_manner F r q a b tree res

@@ -28,7 +28,7 @@ use Rattle.type_relations.specs.declared.relate.Step.{Step}
 use Rattle.type_relations.specs.declared.relate.Step.TheVariants.{Done}
 use Rattle.type_relations.specs.Relation.{Interpretation, RegionRule, regions, at}
 use Rattle.type_relations.specs.Stores.{Store, Constraint, IsRegionIn, IsSound}
-use Rattle.type_relations.specs.Stores.{ConstraintHolds}
+use Rattle.type_relations.specs.Stores.{ConstraintHolds, all_bound}
 use Rattle.type_relations.specs.Goals.{goals_of, KnowsGoal, Registered, GoalInContext, Holds, MakesOneTree}
 use Rattle.type_relations.specs.Headline.{AnswersGoals, KeepsEqualTerms}
 use Rattle.type_relations.specs.Steps.{AddsConstraint, Equates}
@@ -43,6 +43,7 @@ use Rattle.type_relations.proofs.Growing.{constraint_holds, constraint_keeps}
 use Rattle.type_relations.proofs.Constraints.{asked_relates, asked_met}
 use Rattle.type_relations.proofs.OverContext.{standing, roots_step as roots_equated}
 use Rattle.type_relations.proofs.Answering.{may_itself}
+use Rattle.type_relations.proofs.OneUniverse.{keeps_pair, binds_itself, binds_none, standing_keeps}
 use Rattle.type_relations.specs.Solving.{KnowsGoals, solving, solver_settings, solver_manner}
 use Rattle.type_relations.proofs.Registered.{goals_stay, goals_known, none_at_invariance}
 use Rattle.type_relations.proofs.Exactly.{region_value, regions_exactly}
@@ -112,6 +113,11 @@ pub constrained_goes : {Key Id Name A F : Type 0} (c d : Context Key Id Name) (q
 constrained_goes c d q (Ok x) h = constraint_goes c.store d.store q h
 constrained_goes c d q (Err f) h = subst (Goes 0 c.store) (sym h) (goes_nowhere 0 c.store)
 
+pub constrained_bound : {Key Id Name A F : Type 0} (c d : Context Key Id Name) (q : Constraint) (r : Result A F) →
+    Constrains c d q r → all_bound d.store ≡ all_bound c.store
+constrained_bound c d q (Ok x) h = constraint_bound c.store d.store q h
+constrained_bound c d q (Err f) h = ap all_bound h
+
 module _ {Key Id Name : Type 0} (j : ℕ) (gs : List (KeyedGoal Key (PredicateKey Key))) where
   -- Work that recorded something, and registered no goal.
   unfoldable pub solver_passes : {N : ℕ} {m n : Meaning Key Id Name} {was now : Store} {L K : Type 0} (v : Variance)
@@ -135,15 +141,15 @@ module _ {Key Id Name : Type 0} (j : ℕ) (gs : List (KeyedGoal Key (PredicateKe
       (env : KnowsGoals m e gs) (same : n ≡ m) (l : K) (a b : Tree) where
     -- Memory ran out.
     pub memory_refused : (tree : X → Tree) (r : Result X (RelateFault Key Id Name)) → r ≡ Err Memory →
-        Goes 0 was now → Related solver_manner (solving j gs m was L v e)
+        Goes 0 was now → all_bound now ≡ all_bound was → Related solver_manner (solving j gs m was L v e)
         (solving j gs n now K v e) v a b tree r
-    memory_refused tree r is goes = subst₂ (λ n r. Related solver_manner (solving j gs m was L v e)
+    memory_refused tree r is goes as_many = subst₂ (λ n r. Related solver_manner (solving j gs m was L v e)
         (solving j gs n now K v e) v a b tree r)
         (sym same) (sym is)
         (record {
           passes = solver_passes v e (stays_same m) env (goes_within (omega arith) goes) l;
           verdict = tt;
-          exact = λ k is pair. tt;
+          exact = λ k is pair. binds_none was now a b as_many;
         })
 
   -- Two regions were related by what was recorded.
@@ -193,8 +199,14 @@ module _ {Key Id Name : Type 0} (j : ℕ) (gs : List (KeyedGoal Key (PredicateKe
         answer = record {
           passes = solver_passes v e (stays_same m) env (goes_within (omega arith) goes) l;
           verdict = record { outcome = outcome; answer = may_itself solver_manner (solving j gs m now K v e) v (m.region a); known = sure };
-          exact = λ k is pair. regions_exactly was now (m.region a) (m.region b) left right goes.later
-              added.same_entries added.same_universes pair.bindings;
+          exact = λ k is pair.
+              let z = regions_exactly was now (m.region a) (m.region b) left right goes.later added.same_entries
+              added.same_universes pair.bindings in (
+                z.0,
+                z.1,
+                keeps_pair was now (m.region a) (m.region b)
+                    (standing_keeps was now added.same_entries added.same_universes),
+              );
         }
 
   -- The same by what the variance asks for.
@@ -267,7 +279,7 @@ module _ {Key Id Name : Type 0} (j : ℕ) (gs : List (KeyedGoal Key (PredicateKe
       (sym is) (record {
         passes = solver_passes v e grown env (goes_nowhere _ was) l;
         verdict = tt;
-        exact = λ k is pair. tt;
+        exact = λ k is pair. binds_itself was a b;
       })
 
   -- What a relation leaves as it was need not be named, nor the reference that it held.

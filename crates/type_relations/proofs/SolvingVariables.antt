@@ -1,11 +1,11 @@
 -- Binding a variable, as a step of a relation over a context, and being refused.
-use Rattle.std.proofs.Common.{◌≡◌, ◌≢◌, ◌⊎◌, ℕ, ◌+◌, ◌*◌, ◌≤◌, refl, sym, ap, ap₂, ◌∙◌, arith, inl, inr, subst, subst₂, [], IsTrue}
+use Rattle.std.proofs.Common.{◌≡◌, ◌≢◌, ◌⊎◌, ℕ, ◌+◌, ◌*◌, ◌<◌, ◌≤◌, refl, sym, ap, ap₂, ◌∙◌, arith, inl, inr, subst, subst₂, [], IsTrue}
 use Rattle.std.proofs.Common.{Ok, Err}
 use Rattle.relation_terms.specs.declared.terms.enums.Variance.{Variance}
 use Rattle.relation_terms.specs.declared.terms.enums.Variance.TheVariants.{Covariant, Contravariant, Invariant, Bivariant}
 use Rattle.relation_terms.specs.Variances.{xform}
 use Rattle.relation_terms.specs.Heads.{const_sort, VarKind, type_var, const_var, atom, variable, bound, placeholder, unknown}
-use Rattle.relation_terms.specs.Trees.{Tree, leaf, node, bind, nil, cons, Assign, apply, known, IsTerm}
+use Rattle.relation_terms.specs.Trees.{Tree, leaf, node, bind, nil, cons, Assign, apply, known, IsTerm, Leaves}
 use Rattle.relation_terms.specs.Meaning.{Meaning, Extends}
 use Rattle.relation_tools.specs.declared.error.TypeError.{TypeError}
 use Rattle.relation_tools.specs.declared.error.RelateFault.{RelateFault}
@@ -13,7 +13,7 @@ use Rattle.relation_tools.specs.declared.error.RelateFault.TheVariants.{Memory, 
 use Rattle.type_relations.specs.declared.relate.Step.TheVariants.{Again}
 use Rattle.type_relations.specs.Relation.{Items, Interpretation, Rel, at, same as same_rel}
 use Rattle.type_relations.specs.Stores.{Store, unbound, entry_of, entry_term, IsMade, IsTermIn, IsSound, Satisfies}
-use Rattle.type_relations.specs.Stores.{MayStandFor, resolved, weight}
+use Rattle.type_relations.specs.Stores.{MayStandFor, universe_of, all_bound, resolved, weight}
 use Rattle.type_relations.specs.Headline.{IsFirstOrderPair}
 use Rattle.type_relations.specs.Steps.{Instantiates, RefusesToInstantiate}
 use Rattle.type_relations.specs.Outcomes.{StepsTo, CarriesOver, ExactStep}
@@ -22,7 +22,8 @@ use Rattle.type_relations.specs.Errors.{ErrorOf, BindingError, of_binding, of_bi
 use Rattle.type_relations.specs.ErasureLaws.{IsTypeOrConst}
 use Rattle.type_relations.specs.Parts.{IsFormed}
 use Rattle.type_relations.specs.FirstOrder.{IsFirstOrder, IsFirstOrderStore}
-use Rattle.type_relations.specs.Generalising.{Obstacle, cycle, beyond, InstantiatesBy, RefusesBy, NumbersNameNothing}
+use Rattle.type_relations.specs.Generalising.{Obstacle, cycle, beyond, InstantiatesBy, RefusesBy, MakesUnbound}
+use Rattle.type_relations.specs.Generalising.{NumbersNameNothing}
 use Rattle.type_relations.specs.Covered.{IsCovered}
 use Rattle.type_relations.specs.Resolving.{IsShallow, root as shallow_root, stays_bound, formed, IsShallowConst, const_root, no_variable}
 use Rattle.type_relations.specs.Lawful.{Passes, Asked, Stepped, Leads, LeadsAgain, items_of, State}
@@ -45,6 +46,9 @@ use Rattle.type_relations.proofs.BindingRefused.{generalising_refuses, refused}
 use Rattle.type_relations.proofs.GeneralisingErrors.{beyond_error}
 use Rattle.type_relations.proofs.NewVariables.{adds, adds_goes, instantiates_one}
 use Rattle.type_relations.proofs.OverContext.{standing, over_passes, all_taken}
+use Rattle.type_relations.specs.OneUniverse.{NamesTypesTo, HasOneUniverse, all_roots, StaysOf, LeadsInUniverse, BindsFewer}
+use Rattle.type_relations.proofs.OneUniverse.{binds_none, bound_fewer}
+use Rattle.type_relations.proofs.GeneralisingInOne.{instantiates_in_one}
 
 -- What a term comes to is a variable only where the term is one.
 variable_alone : (s : Assign) (t : Tree) (k : VarKind) (n : ℕ) → ((j : VarKind) (m : ℕ) → t ≡ leaf (variable j m) → ⊥) →
@@ -120,7 +124,7 @@ module _ {Key Id Name : Type 0} (r0 : State Key Id Name) (L K : Type 0) (lawful 
   module _ (k : VarKind) (counted : IsTypeOrConst k) (c d : Context Key Id Name) (grown : Extends c.meaning d.meaning)
       (before : IsSound c.store) (numbers : NumbersNameNothing c.store) (all : HasCoveredBindings d.store) (target : ℕ) (t u : Tree)
       (covered : IsCovered t) (t_in : IsTermIn c.store t) (t_known : IsTrue (known t)) (stands : MayStandFor k t)
-      (x : Variance) (u_known : IsTrue (known u))
+      (x : Variance) (seen : r0.ambient ≡ Invariant → x ≡ Invariant) (u_known : IsTrue (known u))
       (f : InstantiatesBy (items_of c.meaning) c.store d.store x k target t u) where
     abbrev v : Variance
     v = r0.ambient
@@ -230,6 +234,20 @@ module _ {Key Id Name : Type 0} (r0 : State Key Id Name) (L K : Type 0) (lawful 
     pair_left : IsFirstOrderStore was → IsFirstOrder t → IsFirstOrderPair now u t
     pair_left f h = let stays = first_order h f in record { left = stays.0; right = h; bindings = stays.1 }
 
+    -- At invariance both stay in their universe.
+    in_one : v ≡ Invariant → IsFirstOrder t → IsFirstOrderStore was → (w : ℕ) → HasOneUniverse w was →
+        Leaves (NamesTypesTo w) t → StaysOf w was now × Leaves (NamesTypesTo w) u
+    in_one same h simple =
+        instantiates_in_one (items_of c.meaning) was now x k target t u counted f numbers before t_in stands (seen same) h simple
+
+    left_universe : v ≡ Invariant → IsFirstOrder t → IsFirstOrderStore was → LeadsInUniverse was now root t u t
+    left_universe same h simple w p = let z = in_one same h simple w p.variables p.right in
+        (record { variables = z.0.0; left = z.1; right = p.right }, z.0.1)
+
+    right_universe : v ≡ Invariant → IsFirstOrder t → IsFirstOrderStore was → LeadsInUniverse was now t root t u
+    right_universe same h simple w p = let z = in_one same h simple w p.variables p.left in
+        (record { variables = z.0.0; left = p.left; right = z.1 }, z.0.1)
+
     -- A pair of a variance that relates another.
     abbrev Answers : Variance → Tree → Tree → Tree → Tree → Type 0
     Answers w x y a an =
@@ -292,8 +310,12 @@ module _ {Key Id Name : Type 0} (r0 : State Key Id Name) (L K : Type 0) (lawful 
         verdict = subst₂ (λ f g. LeadsAgain solver_manner r q [] root t f g b (tree i) (tree l) (tree a)) (sym ey)
             (sym ez) (subst₂ (λ f g. LeadsAgain solver_manner r q [] root t root t b f g (tree a)) (sym ei) (sym el)
             (left_again b w (tree a) seen o (sure ea) (to_root w o ea)));
-        exact = λ o same pair. subst₂ (λ f g. IsFirstOrderPair now f g × ExactStep was now root t f g) (sym ei)
-            (sym el) (pair_left pair.bindings pair.right, exactly.0);
+        exact = λ o same pair. subst₂ (λ f g. IsFirstOrderPair now f g × ExactStep was now root t f g ×
+            LeadsInUniverse was now root t f g) (sym ei) (sym el) (
+              pair_left pair.bindings pair.right,
+              exactly.0,
+              left_universe same pair.right pair.bindings,
+            );
       }
 
       right_by : (b w : Variance) → xform v b ≡ w → Lifts Key Id Name now w v t u → tree y ≡ t → tree z ≡ root →
@@ -306,8 +328,12 @@ module _ {Key Id Name : Type 0} (r0 : State Key Id Name) (L K : Type 0) (lawful 
         verdict = subst₂ (λ f g. LeadsAgain solver_manner r q [] t root f g b (tree i) (tree l) (tree a)) (sym ey)
             (sym ez) (subst₂ (λ f g. LeadsAgain solver_manner r q [] t root t root b f g (tree a)) (sym ei) (sym el)
             (right_again b w (tree a) seen o (sure ea) (to_term w o ea)));
-        exact = λ o same pair. subst₂ (λ f g. IsFirstOrderPair now f g × ExactStep was now t root f g) (sym ei)
-            (sym el) (back (pair_left pair.bindings pair.left), exactly.1);
+        exact = λ o same pair. subst₂ (λ f g. IsFirstOrderPair now f g × ExactStep was now t root f g ×
+            LeadsInUniverse was now t root f g) (sym ei) (sym el) (
+              back (pair_left pair.bindings pair.left),
+              exactly.1,
+              right_universe same pair.left pair.bindings,
+            );
       }
         where
           back : IsFirstOrderPair now u t → IsFirstOrderPair now t u
@@ -381,20 +407,35 @@ module _ {Key Id Name : Type 0} (r0 : State Key Id Name) (L K : Type 0) (lawful 
         RefusesToInstantiate c.store d.store Invariant k target t
     refuses g h = refused c.store d.store Invariant k target t h.1.0 counted h.1.1 before other
 
+    -- No further variable is bound.
+    none_bound : MakesUnbound (universe_of c.store k target) c.store d.store → all_bound d.store ≡ all_bound c.store
+    none_bound h = (adds before (before.below_current k target) h).none_bound
+
+    fewer : (a b : Tree) → d.store ≡ c.store → BindsFewer c.store d.store a b
+    fewer a b h w p = subst (λ st. all_bound st < all_roots c.store) (sym h)
+        (bound_fewer c.store k target counted unresolved.0 unresolved.1)
+
     pub left_refused : (f : RelateFault Key Id Name) → Instantiated c d x k target t means cyclic (Err f) →
         Stepped solver_manner F (standing r0 c.meaning c.store L) (standing r0 d.meaning d.store K)
         (leaf (variable k target)) t tree (Err f)
     left_refused (Unrelated g) h = record {
       passes = passes _ (Unrelated g) h;
       verdict = ((refuses g h).apart, of_binding decides (binding_error g h.1.0 h.1.1 h.1.2), h.0);
-      exact = λ o is pair. (refuses g h).apart_erased refl pair.right pair.bindings;
+      exact = λ o is pair. (
+        (refuses g h).apart_erased refl pair.right pair.bindings,
+        binds_none c.store d.store (leaf (variable k target)) t (none_bound (h.1.1).makes),
+      );
     }
     left_refused Budget h = record {
       passes = passes _ Budget h;
       verdict = ap (λ st. st.budget) h.1 ∙ h.0;
-      exact = λ o is pair. tt;
+      exact = λ o is pair. fewer (leaf (variable k target)) t h.1;
     }
-    left_refused Memory h = record { passes = passes _ Memory h; verdict = tt; exact = λ o is pair. tt }
+    left_refused Memory h = record {
+      passes = passes _ Memory h;
+      verdict = tt;
+      exact = λ o is pair. binds_none c.store d.store (leaf (variable k target)) t (none_bound h.1);
+    }
 
     pub right_refused : (f : RelateFault Key Id Name) → Instantiated c d x k target t means cyclic (Err f) →
         Stepped solver_manner F (standing r0 c.meaning c.store L) (standing r0 d.meaning d.store K)
@@ -406,11 +447,18 @@ module _ {Key Id Name : Type 0} (r0 : State Key Id Name) (L K : Type 0) (lawful 
         of_binding_back decides (binding_error g h.1.0 h.1.1 h.1.2),
         h.0,
       );
-      exact = λ o is pair. λ s sol one. (refuses g h).apart_erased refl pair.left pair.bindings s sol (sym one);
+      exact = λ o is pair. (
+        λ s sol one. (refuses g h).apart_erased refl pair.left pair.bindings s sol (sym one),
+        binds_none c.store d.store t (leaf (variable k target)) (none_bound (h.1.1).makes),
+      );
     }
     right_refused Budget h = record {
       passes = passes _ Budget h;
       verdict = ap (λ st. st.budget) h.1 ∙ h.0;
-      exact = λ o is pair. tt;
+      exact = λ o is pair. fewer t (leaf (variable k target)) h.1;
     }
-    right_refused Memory h = record { passes = passes _ Memory h; verdict = tt; exact = λ o is pair. tt }
+    right_refused Memory h = record {
+      passes = passes _ Memory h;
+      verdict = tt;
+      exact = λ o is pair. binds_none c.store d.store t (leaf (variable k target)) (none_bound h.1);
+    }

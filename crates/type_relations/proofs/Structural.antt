@@ -24,10 +24,12 @@ use Rattle.type_relations.specs.Parts.{IsFormed, parts_of, const_parts_of, head_
 use Rattle.type_relations.specs.Handing.{IsPassedOn, IsNoLength, IsFaultOfTy, passed, sized, IsFaultOfConst, passed_const, whole}
 use Rattle.type_relations.specs.Lawful.{State, Manners, MayAnswer, Passes, Refuses, Related, ExactResult, ExactlyRelated, items_in}
 use Rattle.type_relations.proofs.Registered.{registered_in}
-use Rattle.type_relations.proofs.Passing.{passes_within, manner_then}
-use Rattle.type_relations.proofs.Fronts.{Fronted, AreParts, fronted_never, fronted_all, fronted_passes, fronted_apart, fronted_exactly}
-use Rattle.type_relations.proofs.Unifying.{first_order_parts, formed_looked_at, types_unify, exact_as, apart_as}
+use Rattle.type_relations.proofs.Passing.{passes_within, manner_then, stopped}
+use Rattle.type_relations.proofs.Fronts.{Fronted, AreParts, fronted_never, fronted_all, fronted_passes, fronted_fault, fronted_exactly}
+use Rattle.type_relations.proofs.Unifying.{first_order_parts, formed_looked_at, types_unify, answered_as, refused_as}
 use Rattle.type_relations.specs.Headline.{IsFirstOrderPair}
+use Rattle.type_relations.specs.OneUniverse.{NamesTypesTo}
+use Rattle.type_relations.proofs.OneUniverse.{leaves_parts, keeps_binds, binds_as}
 use Rattle.type_relations.proofs.OneParts.{related_head, parts_equal, const_parts_equal, sort_is}
 use Rattle.type_relations.proofs.Handing.{ty_fault_known}
 use Rattle.type_relations.proofs.PartSizes.{weight_parts_most}
@@ -160,21 +162,28 @@ module _ {Key Id Name : Type 0} {r q : State Key Id Name} (M : Manners) (v : Var
           subst (KnowsFault p.meaning) z.1 (ty_fault_known p.meaning a X Y (Unrelated e) k kx ky t h.2),
         )
 
+    whole_type : (A B : Type 0) (p : State Key Id Name) (e : RelateFault Key Id Name) → IsFormed b →
+        ExactlyRelated {X = A} (M q.settings) q.store p.store (part_at (items_in r) (head_of a) i v) (arg_tree q.meaning X)
+        (arg_tree q.meaning Y) (Err e) → ExactlyRelated {X = B} (M r.settings) r.store p.store v a b (Err e)
+    whole_type A B p e is_formed' g exact is pair =
+        refused_as r.store p.store a b (parts_of a) (parts_of b) (types_unify a b is_formed is_formed' o)
+        (λ u. leaves_parts (NamesTypesTo u) a) (λ u. leaves_parts (NamesTypesTo u) b) A B e
+        (fronted_fault (head_of a) v i (parts_of a) (parts_of b) (arg_tree q.meaning X) (arg_tree q.meaning Y) f lx ly ex
+        ey A A p e are exact is (formed_looked_at a is_formed) (parts_pair r.store a b pair)
+        (λ z. g (manner_then M (λ m. m.is_exact) f.passes z)))
+
     ty_exactly : (A B : Type 0) (p : State Key Id Name) (e k : RelateFault Key Id Name) → IsFormed b →
         IsFaultOfTy a X Y e k →
         ExactlyRelated {X = A} (M q.settings) q.store p.store (part_at (items_in r) (head_of a) i v) (arg_tree q.meaning X)
         (arg_tree q.meaning Y) (Err e) → ExactlyRelated {X = B} (M r.settings) r.store p.store v a b (Err k)
     ty_exactly A B p Memory k is_formed' t g exact is pair = subst (λ k. ExactResult {X = B} r.store p.store a b (Err k))
-        (sym (same_fault a X Y Memory k t (λ e z. cc))) tt
+        (sym (same_fault a X Y Memory k t (λ e z. cc))) (whole_type A B p Memory is_formed' g exact is pair)
     ty_exactly A B p Budget k is_formed' t g exact is pair = subst (λ k. ExactResult {X = B} r.store p.store a b (Err k))
-        (sym (same_fault a X Y Budget k t (λ e z. cc))) tt
+        (sym (same_fault a X Y Budget k t (λ e z. cc))) (whole_type A B p Budget is_formed' g exact is pair)
     ty_exactly A B p (Unrelated e) k is_formed' t g exact is pair =
         let z = still_unrelated a X Y e k t in
         subst (λ k. ExactResult {X = B} r.store p.store a b (Err k)) (sym z.1)
-        (apart_as r.store a b (parts_of a) (parts_of b) (types_unify a b is_formed is_formed' o)
-        (fronted_apart (head_of a) v i (parts_of a) (parts_of b) (arg_tree q.meaning X) (arg_tree q.meaning Y) f lx ly ex
-        ey are exact is (formed_looked_at a is_formed) (parts_pair r.store a b pair)
-        (λ z. g (manner_then M (λ m. m.is_exact) f.passes z))))
+        (whole_type A B p (Unrelated e) is_formed' g exact is pair)
 
     pub ty_refused : {A B : Type 0} {p : State Key Id Name} (tree : A → Tree) (answer : B → Tree)
         (e k : RelateFault Key Id Name) → IsFormed b → IsTrue (known (arg_tree p.meaning X)) →
@@ -188,6 +197,15 @@ module _ {Key Id Name : Type 0} {r q : State Key Id Name} (M : Manners) (v : Var
       verdict = ty_refuses g.passes e k kx ky t g.verdict;
       exact = ty_exactly A B p e k is_formed' t g.exact;
     }
+
+  -- Memory ran out after some of the parts.
+  pub types_stopped : {X : Type 0} (tree : X → Tree) → IsFormed a →
+      Fronted M r q (head_of a) v i (parts_of a) (parts_of b) → Related {X = X} M r q v a b tree (Err Memory)
+  types_stopped tree is_formed f = stopped M v a b tree
+      (passes_within (omega (arith, weight_parts_most r.store a, weight_parts_most r.store b)) f.passes)
+      (λ exact is pair. binds_as r.store q.store a b (parts_of a) (parts_of b) (λ u. leaves_parts (NamesTypesTo u) a)
+      (λ u. leaves_parts (NamesTypesTo u) b) (keeps_binds r.store q.store (parts_of a) (parts_of b)
+      (f.exact exact is (formed_looked_at a is_formed) (parts_pair r.store a b pair)).2))
 
   -- All parts of two types were related, and so are the types.
   types_relate : IsFormed a → (o : AreOfOneForm a b) → (f : Fronted M r q (head_of a) v i (parts_of a) (parts_of b)) →
@@ -225,7 +243,8 @@ module _ {Key Id Name : Type 0} {r q : State Key Id Name} (M : Manners) (v : Var
       known = subst (λ u. IsTrue (known u)) (sym answer) k;
     };
     exact = λ exact is pair.
-        let z = fronted_exactly (head_of a) v i (parts_of a) (parts_of b) are ea eb f exact is
-        (formed_looked_at a is_formed) (parts_pair r.store a b pair) in
-        (z.0, exact_as r.store q.store a b (parts_of a) (parts_of b) (types_unify a b is_formed is_formed' o) z.1);
+        answered_as r.store q.store a b (parts_of a) (parts_of b) (types_unify a b is_formed is_formed' o)
+        (λ u. leaves_parts (NamesTypesTo u) a) (λ u. leaves_parts (NamesTypesTo u) b)
+        (fronted_exactly (head_of a) v i (parts_of a) (parts_of b) are ea eb f exact is
+        (formed_looked_at a is_formed) (parts_pair r.store a b pair));
   }

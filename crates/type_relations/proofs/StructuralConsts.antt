@@ -21,15 +21,17 @@ use Rattle.type_relations.specs.Stores.{Store, Satisfies, IsTermIn, weight}
 use Rattle.type_relations.specs.Goals.{Holds, GoalInContext}
 use Rattle.type_relations.specs.Outcomes.{NeverOne, NoUnifier}
 use Rattle.type_relations.specs.Headline.{IsFirstOrderPair}
+use Rattle.type_relations.specs.OneUniverse.{NamesTypesTo}
+use Rattle.type_relations.proofs.OneUniverse.{keeps_itself, keeps_pair, binds_itself, leaves_const_parts, keeps_binds, binds_as}
 use Rattle.type_relations.specs.Errors.{ErrorOf, of_parts, of_branches, of_kinds, of_forms, of_const_forms, FormError, ConstFormError}
 use Rattle.type_relations.specs.Errors.{AreOfOneConst, AreOfOneValue, values, expressions, const_parameters, one_value, as_many_branches}
 use Rattle.type_relations.specs.Parts.{IsFormed, IsFormedConst, const_parts_of, branches_of, const_head_of}
 use Rattle.type_relations.specs.Handing.{IsPassedOnConst, IsFaultOfConst, passed_const, whole}
 use Rattle.type_relations.specs.Lawful.{State, Manners, MayAnswer, Passes, Refuses, Related, ExactResult, ExactlyRelated, items_in}
 use Rattle.type_relations.proofs.Registered.{registered_in}
-use Rattle.type_relations.proofs.Passing.{passes_within, passes_nowhere, manner_then}
-use Rattle.type_relations.proofs.Fronts.{Fronted, AreParts, fronted_never, fronted_all, fronted_passes, fronted_apart, fronted_exactly}
-use Rattle.type_relations.proofs.Unifying.{first_order_const_parts, const_looked_at, consts_unify, exact_as, apart_as, exact_itself}
+use Rattle.type_relations.proofs.Passing.{passes_within, passes_nowhere, manner_then, stopped}
+use Rattle.type_relations.proofs.Fronts.{Fronted, AreParts, fronted_never, fronted_all, fronted_passes, fronted_fault, fronted_exactly}
+use Rattle.type_relations.proofs.Unifying.{first_order_const_parts, const_looked_at, consts_unify, answered_as, refused_as, exact_itself}
 use Rattle.type_relations.proofs.Unifying.{forms_not_unified, const_forms_not_unified, erased_sort}
 use Rattle.type_relations.proofs.Structural.{same_const_fault, consts_never}
 use Rattle.type_relations.proofs.OneParts.{const_parts_equal, sort_is}
@@ -145,20 +147,29 @@ module _ {Key Id Name : Type 0} {r q : State Key Id Name} (M : Manners) (v : Var
               (subst (λ u. IsTrue (known u)) (sym ec) ka) (subst (λ u. IsTrue (known u)) (sym ed) kb) t h.2),
         )
 
+    whole_const : (A B : Type 0) (p : State Key Id Name) (e : RelateFault Key Id Name) → IsFormedConst a →
+        IsFormedConst b →
+        ExactlyRelated {X = A} (M q.settings) q.store p.store (part_at (items_in r) (const_head_of a) i v) x y (Err e) →
+        ExactlyRelated {X = B} (M r.settings) r.store p.store v a b (Err e)
+    whole_const A B p e fa fb g exact is pair =
+        refused_as r.store p.store a b (const_parts_of a) (const_parts_of b) (consts_unify a b fa fb o)
+        (λ u. leaves_const_parts (NamesTypesTo u) a) (λ u. leaves_const_parts (NamesTypesTo u) b) A B e
+        (fronted_fault (const_head_of a) v i (const_parts_of a) (const_parts_of b) x y f lx ly ex ey A A p e
+        are exact is (const_looked_at a) (const_parts_pair r.store a b pair)
+        (λ z. g (manner_then M (λ m. m.is_exact) f.passes z)))
+
     const_exactly : (A B : Type 0) (p : State Key Id Name) (e k : RelateFault Key Id Name) → IsFormedConst a →
         IsFormedConst b → IsFaultOfConst a c d e k →
         ExactlyRelated {X = A} (M q.settings) q.store p.store (part_at (items_in r) (const_head_of a) i v) x y (Err e) →
         ExactlyRelated {X = B} (M r.settings) r.store p.store v a b (Err k)
     const_exactly A B p Memory k fa fb t g exact is pair = subst (λ k. ExactResult {X = B} r.store p.store a b (Err k))
-        (sym (same_const_fault a c d Memory k t (λ e z. cc))) tt
+        (sym (same_const_fault a c d Memory k t (λ e z. cc))) (whole_const A B p Memory fa fb g exact is pair)
     const_exactly A B p Budget k fa fb t g exact is pair = subst (λ k. ExactResult {X = B} r.store p.store a b (Err k))
-        (sym (same_const_fault a c d Budget k t (λ e z. cc))) tt
+        (sym (same_const_fault a c d Budget k t (λ e z. cc))) (whole_const A B p Budget fa fb g exact is pair)
     const_exactly A B p (Unrelated e) k fa fb t g exact is pair =
         let z = still_unrelated_const a c d e k t in
         subst (λ k. ExactResult {X = B} r.store p.store a b (Err k)) (sym z.1)
-        (apart_as r.store a b (const_parts_of a) (const_parts_of b) (consts_unify a b fa fb o)
-        (fronted_apart (const_head_of a) v i (const_parts_of a) (const_parts_of b) x y f lx ly ex ey are exact is
-        (const_looked_at a) (const_parts_pair r.store a b pair) (λ z. g (manner_then M (λ m. m.is_exact) f.passes z))))
+        (whole_const A B p (Unrelated e) fa fb g exact is pair)
 
     pub const_refused : {A B : Type 0} {p : State Key Id Name} (tree : A → Tree) (answer : B → Tree)
         (e k : RelateFault Key Id Name) → IsFormedConst a → IsFormedConst b → (p.meaning).const_ c ≡ a → (p.meaning).const_ d ≡ b → IsTrue (known a) →
@@ -171,6 +182,17 @@ module _ {Key Id Name : Type 0} {r q : State Key Id Name} (M : Manners) (v : Var
       verdict = const_refuses g.passes e k ec ed ka kb t g.verdict;
       exact = const_exactly A B p e k fa fb t g.exact;
     }
+
+  -- Memory ran out after some of the parts.
+  pub consts_stopped : {X : Type 0} (tree : X → Tree) →
+      Fronted M r q (const_head_of a) v i (const_parts_of a) (const_parts_of b) →
+      Related {X = X} M r q v a b tree (Err Memory)
+  consts_stopped tree f = stopped M v a b tree
+      (passes_within (omega (arith, weight_const_parts_most r.store a, weight_const_parts_most r.store b)) f.passes)
+      (λ exact is pair. binds_as r.store q.store a b (const_parts_of a) (const_parts_of b)
+      (λ u. leaves_const_parts (NamesTypesTo u) a) (λ u. leaves_const_parts (NamesTypesTo u) b)
+      (keeps_binds r.store q.store (const_parts_of a) (const_parts_of b)
+      (f.exact exact is (const_looked_at a) (const_parts_pair r.store a b pair)).2))
 
   -- All parts of two constants were related, and so are the constants.
   consts_relate : (o : AreOfOneConst a b) →
@@ -223,9 +245,10 @@ module _ {Key Id Name : Type 0} {r q : State Key Id Name} (M : Manners) (v : Var
       known = subst (λ u. IsTrue (known u)) (sym answer) k;
     };
     exact = λ exact is pair.
-        let z = fronted_exactly (const_head_of a) v i (const_parts_of a) (const_parts_of b) are ea eb f exact is
-        (const_looked_at a) (const_parts_pair r.store a b pair) in
-        (z.0, exact_as r.store q.store a b (const_parts_of a) (const_parts_of b) (consts_unify a b fa fb o) z.1);
+        answered_as r.store q.store a b (const_parts_of a) (const_parts_of b) (consts_unify a b fa fb o)
+        (λ u. leaves_const_parts (NamesTypesTo u) a) (λ u. leaves_const_parts (NamesTypesTo u) b)
+        (fronted_exactly (const_head_of a) v i (const_parts_of a) (const_parts_of b) are ea eb f exact is
+        (const_looked_at a) (const_parts_pair r.store a b pair));
   }
 
 module _ {Key Id Name : Type 0} {X : Type 0} (M : Manners) (r : State Key Id Name) (v : Variance) (tree : X → Tree) where
@@ -245,7 +268,8 @@ module _ {Key Id Name : Type 0} {X : Type 0} (M : Manners) (r : State Key Id Nam
       answer = subst (MayAnswer M r v a) (sym answer) (may_itself M r v a);
       known = subst (λ u. IsTrue (known u)) (sym answer) k;
     };
-    exact = λ exact is pair. (pair.bindings, exact_itself r.store a b e);
+    exact = λ exact is pair.
+        (pair.bindings, exact_itself r.store a b e, keeps_pair r.store r.store a b (keeps_itself r.store));
   }
 
   -- Two terms are refused at once.
@@ -256,7 +280,7 @@ module _ {Key Id Name : Type 0} {X : Type 0} (M : Manners) (r : State Key Id Nam
   refused_here a b e n o k u = record {
     passes = passes_nowhere (weight r.store a + weight r.store b) r;
     verdict = (n, o, k);
-    exact = λ exact is pair. u pair;
+    exact = λ exact is pair. (u pair, binds_itself r.store a b);
   }
 
   pub types_differ : (x y : TyKey Key) (e : TypeError Key Id Name) → v ≢ Bivariant → IsFormed ((r.meaning).ty x) →

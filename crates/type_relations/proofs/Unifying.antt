@@ -1,5 +1,5 @@
 -- What two terms have in common that are unified.
-use Rattle.std.proofs.Common.{◌≡◌, ◌≢◌, ◌↔◌, suc, refl, sym, ap, ◌∙◌, subst, subst₂}
+use Rattle.std.proofs.Common.{◌≡◌, ◌≢◌, ◌↔◌, ℕ, suc, refl, sym, ap, ◌∙◌, subst, subst₂, Err}
 use Rattle.relation_terms.specs.Heads.{type_sort, const_sort, value_sort, head_sort, atom_sort, leaf_sort, Atom, Head, Kind}
 use Rattle.relation_terms.specs.Heads.{bound_kind, region_kind, variable, bound, placeholder, atom, unknown, kind_sort}
 use Rattle.relation_terms.specs.Heads.{region_sort, early_region, type_param, const_param, ref, raw_ptr}
@@ -12,10 +12,10 @@ use Rattle.type_relations.specs.Errors.{ConstFormError, const_mismatch, operatio
 use Rattle.relation_terms.specs.declared.terms.keys.ConstKey.{ConstKey}
 use Rattle.relation_terms.specs.Heads.{Admits, region_var}
 use Rattle.relation_terms.specs.Heads.{unevaluated, expression, value, value_type, value_branch, Leaf, tuple, alias}
-use Rattle.relation_terms.specs.Trees.{Tree, leaf, node, bind, nil, cons, Assign, apply, count, IsList, IsTerm}
+use Rattle.relation_terms.specs.Trees.{Tree, leaf, node, bind, nil, cons, Assign, apply, count, IsList, IsTerm, Leaves}
 use Rattle.relation_terms.specs.Erasure.{erase, erase_atom, erase_kinded}
 use Rattle.type_relations.specs.Relation.{plain_atom, sort_of}
-use Rattle.type_relations.specs.FirstOrder.{IsFirstOrder, Unifies}
+use Rattle.type_relations.specs.FirstOrder.{IsFirstOrder, IsFirstOrderStore, Unifies}
 use Rattle.type_relations.specs.Errors.{AreAlike, outer_head, unlike_aliases, AreOfOneForm, over_parts, one_leaf, parameters}
 use Rattle.type_relations.specs.Errors.{AreOfOneConst, values, expressions, const_parameters}
 use Rattle.type_relations.specs.Errors.{AreOfOneValue, one_value, as_many_branches}
@@ -25,6 +25,11 @@ use Rattle.type_relations.specs.Parts.{IsFormed, IsFormedConst, parts_of, const_
 use Rattle.type_relations.proofs.Erased.{forms_unify_by_parts}
 use Rattle.type_relations.proofs.Fronts.{IsLookedAt}
 use Rattle.type_relations.proofs.Going.{later_itself}
+use Rattle.relation_tools.specs.declared.error.RelateFault.{RelateFault}
+use Rattle.relation_tools.specs.declared.error.RelateFault.TheVariants.{Memory, Budget, Unrelated}
+use Rattle.type_relations.specs.Lawful.{ExactResult}
+use Rattle.type_relations.specs.OneUniverse.{NamesTypesTo, KeepsUniverseOf}
+use Rattle.type_relations.proofs.OneUniverse.{keeps_as, binds_as, fewer_as}
 
 -- The parts of first-order terms are first-order.
 pub first_order_parts : (t : Tree) → IsFirstOrder t → IsFirstOrder (parts_of t)
@@ -332,6 +337,22 @@ exact_as before after a b xs ys same f = record {
 pub apart_as : (before : Store) (a b xs ys : Tree) → ((s : Assign) → Unifies s a b ↔ Unifies s xs ys) →
     NoUnifier before xs ys → NoUnifier before a b
 apart_as before a b xs ys same n s sol one = n s sol ((same s).0 one)
+
+-- So is what a result says, where the parts stand in one universe where the whole does.
+module _ (before after : Store) (a b xs ys : Tree) (same : (s : Assign) → Unifies s a b ↔ Unifies s xs ys)
+    (left : (u : ℕ) → Leaves (NamesTypesTo u) a → Leaves (NamesTypesTo u) xs)
+    (right : (u : ℕ) → Leaves (NamesTypesTo u) b → Leaves (NamesTypesTo u) ys) where
+  pub answered_as : IsFirstOrderStore after × Exact before after xs ys × KeepsUniverseOf before after xs ys →
+      IsFirstOrderStore after × Exact before after a b × KeepsUniverseOf before after a b
+  answered_as z =
+      (z.0, exact_as before after a b xs ys same z.1, keeps_as before after a b xs ys left right z.2)
+
+  pub refused_as : {Key Id Name : Type 0} (A B : Type 0) (e : RelateFault Key Id Name) →
+      ExactResult {X = A} before after xs ys (Err e) → ExactResult {X = B} before after a b (Err e)
+  refused_as A B (Unrelated e) z =
+      (apart_as before a b xs ys same z.0, binds_as before after a b xs ys left right z.1)
+  refused_as A B Budget z = fewer_as before after a b xs ys left right z
+  refused_as A B Memory z = binds_as before after a b xs ys left right z
 
 pub exact_itself : (st : Store) (a b : Tree) → a ≡ b → Exact st st a b
 exact_itself st a b e = record {

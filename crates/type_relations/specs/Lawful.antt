@@ -21,6 +21,7 @@ use Rattle.type_relations.specs.Goals.{Goal, Registered, ByDeclared, IsQuiet, Re
 use Rattle.type_relations.specs.Steps.{IsLater}
 use Rattle.type_relations.specs.Outcomes.{Outcome, StepsTo, CarriesOver, NeverOne, Exact, ExactStep, NoUnifier}
 use Rattle.type_relations.specs.Headline.{IsFirstOrderPair}
+use Rattle.type_relations.specs.OneUniverse.{KeepsUniverse, KeepsUniverseOf, LeadsInUniverse, BindsNoMore, BindsFewer}
 use Rattle.type_relations.specs.FirstOrder.{IsFirstOrderStore, IsErasedSolution}
 use Rattle.type_relations.specs.Errors.{ErrorOf}
 use Rattle.type_relations.specs.Measures.{Goes, grown}
@@ -202,11 +203,13 @@ module _ {Key Id Name : Type 0} where
 
   -- What a result says besides where the relation promises to be exact, of first-order terms and records at
   -- invariance: the record stays first-order, and up to erasure just the solutions that unify the terms stay; a type
-  -- error says that there was none.
+  -- error says that there was none. What stood in one universe does so still, and however it ends no more variables are
+  -- bound than there were, and one is unresolved where nothing was left of the budget.
   abbrev pub ExactResult : {X : Type 0} → Store → Store → Tree → Tree → Result X (RelateFault Key Id Name) → Type 0
-  ExactResult before after a b (Ok x) = IsFirstOrderStore after × Exact before after a b
-  ExactResult before after a b (Err (Unrelated e)) = NoUnifier before a b
-  ExactResult before after a b (Err f) = Unit {0}
+  ExactResult before after a b (Ok x) = IsFirstOrderStore after × Exact before after a b × KeepsUniverseOf before after a b
+  ExactResult before after a b (Err (Unrelated e)) = NoUnifier before a b × BindsNoMore before after a b
+  ExactResult before after a b (Err Budget) = BindsFewer before after a b
+  ExactResult before after a b (Err Memory) = BindsNoMore before after a b
 
   abbrev pub ExactlyRelated : {X : Type 0} → Manner → Store → Store → Variance → Tree → Tree →
       Result X (RelateFault Key Id Name) → Type 0
@@ -288,9 +291,9 @@ module _ {Key Id Name : Type 0} where
       Result (Step K) (RelateFault Key Id Name) → Type 0
   ExactVerdict {K} r q a b tree (Ok (Done t)) = ExactResult {X = K} r.store q.store a b (Ok t)
   ExactVerdict r q a b tree (Ok (Parts x y)) = IsFirstOrderPair q.store (tree x) (tree y) ×
-      ExactStep r.store q.store a b (tree x) (tree y)
+      ExactStep r.store q.store a b (tree x) (tree y) × LeadsInUniverse r.store q.store a b (tree x) (tree y)
   ExactVerdict r q a b tree (Ok (Again k l x y v u)) = IsFirstOrderPair q.store (tree x) (tree y) ×
-      ExactStep r.store q.store a b (tree x) (tree y)
+      ExactStep r.store q.store a b (tree x) (tree y) × LeadsInUniverse r.store q.store a b (tree x) (tree y)
   ExactVerdict {K} r q a b tree (Err f) = ExactResult {X = K} r.store q.store a b (Err f)
 
   -- A step was taken.
@@ -307,13 +310,15 @@ module _ {Key Id Name : Type 0} where
   OnlyMemory (Err Memory) = Unit {0}
   OnlyMemory (Err f) = ⊥
 
-  -- Something was noted: the record keeps all its assignments, up to erasure too, and stays first-order; nothing of the
-  -- budget is spent, no goal that was added asks anything of two terms, and a fault is want of memory.
+  -- Something was noted: the record keeps all its assignments, up to erasure too, and stays first-order and in its
+  -- universe; nothing of the budget is spent, no goal that was added asks anything of two terms, and a fault is want of
+  -- memory.
   pub record Noted {X : Type 0} (r q : State Key Id Name) (result : Result X (RelateFault Key Id Name)) : Type 0 where
     pub passes : Passes 0 r q
     pub keeps : (w : Interpretation) (s : _) → Satisfies w r.store s → Satisfies w q.store s
     pub keeps_erased : (s : Assign) → IsErasedSolution r.store s ↔ IsErasedSolution q.store s
     pub first_order : IsFirstOrderStore r.store → IsFirstOrderStore q.store
+    pub universe : KeepsUniverse r.store q.store
     pub quiet : All IsQuiet passes.added
     pub same_budget : (q.store).budget ≡ (r.store).budget
     pub fault : OnlyMemory result

@@ -20,6 +20,8 @@ pub mod Decided
 pub mod DiagInfo
 pub mod Parts
 pub mod Handing
+pub mod OneUniverse
+pub mod UniverseLaws
 pub mod Lawful
 pub mod Subtyping
 pub mod Constraints

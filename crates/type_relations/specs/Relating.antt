@@ -1,6 +1,6 @@
 -- What relating two values in a context asks and promises, by what is related of them: of a value that is `over` no form
 -- its tree, of another that form over its tree.
-use Rattle.std.specs.Prelude.{◌≡◌, [], ◌∷◌, Option, IsTrue, IfOk, Result, Ok, Err}
+use Rattle.std.specs.Prelude.{◌≡◌, ◌+◌, ◌<◌, ◌≤◌, ℕ, [], ◌∷◌, Option, IsTrue, IfOk, Result, Ok, Err}
 use Rattle.std.specs.Global.{Vec}
 use Rattle.relation_terms.specs.declared.terms.enums.Variance.{Variance}
 use Rattle.relation_terms.specs.declared.terms.enums.Variance.TheVariants.{Invariant}
@@ -12,12 +12,13 @@ use Rattle.relation_terms.specs.Trees.{Tree, known}
 use Rattle.relation_terms.specs.Meaning.{Meaning}
 use Rattle.relation_tools.specs.declared.error.RelateFault.{RelateFault}
 use Rattle.relation_tools.specs.declared.error.RelateFault.TheVariants.{Memory}
-use Rattle.relation_tools.specs.Faults.{IfUnrelated}
+use Rattle.relation_tools.specs.Faults.{IfUnrelated, IfSpent}
 use Rattle.type_relations.specs.Stores.{IsTermIn}
 use Rattle.type_relations.specs.Goals.{goals_of, goal_of}
 use Rattle.type_relations.specs.FirstOrder.{IsFirstOrderStore}
 use Rattle.type_relations.specs.Outcomes.{NoEqualTerms, Exact, NoUnifier}
 use Rattle.type_relations.specs.Headline.{AnswersGoals, KeepsEqualTerms, IsFirstOrderPair}
+use Rattle.type_relations.specs.OneUniverse.{IsPairOf, all_unbound}
 use Rattle.type_relations.specs.Errors.{ErrorOf}
 use Rattle.type_relations.specs.Covered.{IsCovered}
 use Rattle.type_relations.specs.Lawful.{items_of}
@@ -87,6 +88,15 @@ module _ {S Key Id Name A : Type 0} (state : S → Context Key Id Name) (old new
   abbrev pub ProvesApart : {X : Type 0} → Variance → A → A → Result X (RelateFault Key Id Name) → Type 0
   ProvesApart v a b result = IfUnrelated result (λ e. v ≡ Invariant →
       IsFirstOrderPair (state old).store (term a) (term b) → NoUnifier (state old).store (term a) (term b))
+
+  -- Of first-order terms in a first-order record, in one universe, at invariance: at most as many instantiations are
+  -- made as there were unresolved type and constant variables, and only where fewer could be made nothing is left of
+  -- them.
+  abbrev pub SpendsNoMore : {X : Type 0} → Variance → A → A → Result X (RelateFault Key Id Name) → Type 0
+  SpendsNoMore v a b result = v ≡ Invariant → IsFirstOrderPair (state old).store (term a) (term b) →
+      (u : ℕ) → IsPairOf u (state old).store (term a) (term b) →
+      (((state old).store).budget ≤ ((state new).store).budget + all_unbound (state old).store) ×
+      IfSpent result (((state old).store).budget < all_unbound (state old).store)
 
   -- One goal is answered, of this predicate in the environment, and nothing is recorded; or a growth was refused, and
   -- nothing is recorded either.

@@ -6,6 +6,7 @@ ghost use Rattle.type_relations.specs.StepLaws.{AssigningTwice, InstantiatingAss
 ghost use Rattle.type_relations.specs.ErasureLaws.{ErasureAssigns, FormsUnifyByParts, TypesOfValuesUnify, ListsUnifyByItems, UnlikeFormsDoNotUnify, ErasedOccursCheck, InvariantTermsAreAlike};
 ghost use Rattle.type_relations.specs.StoreLaws.{EquatingStaysSound, EquatingIsExact, BindingStaysSound, BindingIsExact, BindingInstantiates, CyclesRefuse, GeneralisingIsOne, GeneralisingInstantiates, GeneralisingRefuses, NumbersStaySound, NumbersAreExact, MakingStaysSound, MadeIsUnconstrained, ConstrainingIsExact, NothingIsSeen, ResolvedResolves, MakingOneMakes};
 ghost use Rattle.type_relations.specs.Stores.{BindingsAreMet};
+ghost use Rattle.type_relations.specs.UniverseLaws.{RootsAreBoundOrNot, EquatingKeepsUniverse, ReadingKeepsUniverse, GeneralisingKeepsUniverse};
 ghost use Rattle.type_relations.specs.RejectionLaws.{ClashesDoNotUnify, ClashesAreNotRelated};
 ghost use Rattle.type_relations.specs.RegionTerms.{RelatedTermsAgree, RelatedIffAgree};
 
@@ -117,6 +118,14 @@ pub fn stores()
     ensures constraining { ConstrainingIsExact }
     ensures nothing { NothingIsSeen }
     ensures resolving { ResolvedResolves }
+{}
+
+/// Types and constants in one universe stay in it.
+pub fn one_universe()
+    ensures roots { RootsAreBoundOrNot }
+    ensures equating { EquatingKeepsUniverse }
+    ensures reading { ReadingKeepsUniverse }
+    ensures generalising { GeneralisingKeepsUniverse }
 {}
 
 /// First-order terms that a quick test tells apart, parameters standing for themselves.

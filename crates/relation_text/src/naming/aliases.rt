@@ -85,7 +85,8 @@ impl<'a> Namer<'a> {
         let mut args = Vec::new(self.alloc);
         let mut assigned = Vec::new(self.alloc);
         for number in rest {
-            if self.node(&node, *number)?.kind == NodeKind::Form(Form::Assigned) {
+            let part = self.node(&node, *number)?;
+            if matches!(part.kind, NodeKind::Form(Form::Assigned)) {
                 assigned.push(*number)?;
             } else {
                 args.push(*number)?;

@@ -12,7 +12,7 @@ impl<'a> Namer<'a> {
         let [term, region] = self.parts(&node)? else {
             return Err(error_at(&node, Wrong::NotRead));
         };
-        if node.kind != NodeKind::Form(Form::Outlives) {
+        if !matches!(node.kind, NodeKind::Form(Form::Outlives)) {
             return Err(error_at(&node, Wrong::NotRead));
         }
         let term = self.term(&node, *term, None)?.number;

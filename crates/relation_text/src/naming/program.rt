@@ -148,7 +148,7 @@ pub struct Put<T> {
 }
 
 /// What is asked about terms, by their numbers.
-#[derive(Clone, Copy, PartialEq, Eq)]
+#[derive(Clone, Copy)]
 pub enum QuestionKind {
     /// Whether a type is related with another at a variance.
     Relate {
@@ -212,7 +212,7 @@ pub enum QuestionKind {
 }
 
 /// A question, and how it is asked.
-#[derive(Clone, Copy, PartialEq, Eq)]
+#[derive(Clone, Copy)]
 pub struct Question {
     pub kind: QuestionKind,
     /// Whether it is asked in the context that the question before left.

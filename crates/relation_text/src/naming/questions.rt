@@ -40,7 +40,7 @@ impl<'a> Namer<'a> {
     // The terms of a node that lists some.
     fn listed(&mut self, whole: &Node, number: usize) -> Result<Parts, NameError> {
         let node = self.node(whole, number)?;
-        if node.kind != NodeKind::Form(Form::Terms) {
+        if !matches!(node.kind, NodeKind::Form(Form::Terms)) {
             return Err(error_at(&node, Wrong::NotRead));
         }
         let numbers = self.parts(&node)?;

@@ -28,7 +28,7 @@ impl<'a> Namer<'a> {
     // The node that lists some terms, and the nodes of these.
     fn listing(&self, whole: &Node, number: usize) -> Result<(Node, &'a [usize]), NameError> {
         let node = self.node(whole, number)?;
-        if node.kind != NodeKind::Form(Form::Terms) {
+        if !matches!(node.kind, NodeKind::Form(Form::Terms)) {
             return Err(error_at(&node, Wrong::NotRead));
         }
         let numbers = self.parts(&node)?;

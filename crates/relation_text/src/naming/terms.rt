@@ -336,6 +336,12 @@ impl<'a> Namer<'a> {
         self.add(node, term, Sort::Type, levels)
     }
 
+    // A tuple.
+    fn tuple(&mut self, node: &Node, members: &[usize]) -> Result<Made, NameError> {
+        let list = self.list(node, members, Wanted::Each(Sort::Type))?;
+        self.add(node, Term::Tuple(list.parts), Sort::Type, list.levels)
+    }
+
     // A raw pointer.
     fn pointer(
         &mut self,
@@ -445,34 +451,29 @@ impl<'a> Namer<'a> {
         parts: &[usize],
     ) -> Result<Option<Made>, NameError> {
         let made = match (form, parts) {
-            (Form::Applied, _) => self.applied(node, parts)?,
-            (Form::Never, []) => self.add(node, Term::Never, Sort::Type, 0)?,
-            (Form::Slice, [element]) => self.slice(node, *element)?,
-            (Form::Array, [element, length]) => self.array(node, *element, *length)?,
-            (Form::Tuple, members) => {
-                let list = self.list(node, members, Wanted::Each(Sort::Type))?;
-                self.add(node, Term::Tuple(list.parts), Sort::Type, list.levels)?
-            }
-            (Form::RawPtr(mutability), [pointee]) => self.pointer(node, *pointee, mutability)?,
+            (Form::Applied, _) => self.applied(node, parts),
+            (Form::Never, []) => self.add(node, Term::Never, Sort::Type, 0),
+            (Form::Slice, [element]) => self.slice(node, *element),
+            (Form::Array, [element, length]) => self.array(node, *element, *length),
+            (Form::Tuple, members) => self.tuple(node, members),
+            (Form::RawPtr(mutability), [pointee]) => self.pointer(node, *pointee, mutability),
             (Form::Ref(mutability), [region, pointee]) => {
-                self.reference(node, *region, *pointee, mutability)?
+                self.reference(node, *region, *pointee, mutability)
             }
-            (Form::Branch, constants) => self.branch(node, constants)?,
-            (Form::Expr, _) => self.expression(node, parts)?,
-            (Form::Pat, [base, pat]) => self.pattern_type(node, *base, *pat)?,
-            (Form::Range, [start, end]) => self.range(node, *start, *end)?,
-            (Form::Or, pats) => self.alternatives(node, pats)?,
-            (Form::NotNull, []) => self.add(node, Term::NotNull, Sort::Pattern, 0)?,
+            (Form::Branch, constants) => self.branch(node, constants),
+            (Form::Expr, _) => self.expression(node, parts),
+            (Form::Pat, [base, pat]) => self.pattern_type(node, *base, *pat),
+            (Form::Range, [start, end]) => self.range(node, *start, *end),
+            (Form::Or, pats) => self.alternatives(node, pats),
+            (Form::NotNull, []) => self.add(node, Term::NotNull, Sort::Pattern, 0),
             (Form::FnPtr(header), [variables, types @ ..]) => {
-                self.fn_ptr(node, header, *variables, types)?
+                self.fn_ptr(node, header, *variables, types)
             }
-            (Form::UnsafeBinder, [variables, body]) => {
-                self.unsafe_binder(node, *variables, *body)?
-            }
-            (Form::Object, _) => self.object(node, parts)?,
-            (Form::Associated, [ty, of, own]) => self.associated(node, *ty, *of, *own)?,
+            (Form::UnsafeBinder, [variables, body]) => self.unsafe_binder(node, *variables, *body),
+            (Form::Object, _) => self.object(node, parts),
+            (Form::Associated, [ty, of, own]) => self.associated(node, *ty, *of, *own),
             _ => return Ok(None),
         };
-        Ok(Some(made))
+        Ok(Some(made?))
     }
 }

@@ -2,9 +2,13 @@
 ghost use Rattle.std.specs.Prelude.{IsTrue};
 ghost use Rattle.relation_terms.specs.Trees.{known};
 
-use crate::printing::binders::{Entered, write_bound_region};
-use crate::printing::names::{Parameter, TextsOf, name_text};
-use relation_terms::terms::{InferConst, InferTy, Interner, Region, RegionKind, UniverseIndex};
+use crate::printing::binders::{Entered, write_bound, write_bound_region};
+use crate::printing::names::{
+    Parameter, Texts, TextsOf, float_name, int_name, item_text, name_text, uint_name,
+};
+use relation_terms::terms::{
+    InferConst, InferTy, Interner, Region, RegionKind, TyKind, UniverseIndex,
+};
 use std::fmt::{self, Write};
 
 // Writes a region.
@@ -67,5 +71,48 @@ pub(super) fn write_const_variable<W: Write>(variable: InferConst, out: &mut W) 
             write!(out, "?c{number}")
         }
         InferConst::Fresh(number) => write!(out, "fresh c{number}"),
+    }
+}
+
+// Writes what stands between the members of a list, before the one at that place.
+pub(super) fn write_between<W: Write>(place: usize, between: &str, out: &mut W) -> fmt::Result {
+    if place == 0 {
+        return Ok(());
+    }
+    out.write_str(between)
+}
+
+// The text of a type that has no parts and no number.
+fn leaf_text<'a, X, D: PartialEq, N: PartialEq>(
+    texts: &Texts<'a, D, N>,
+    kind: &TyKind<X, D, N>,
+) -> &'a str {
+    match kind {
+        TyKind::Bool => "bool",
+        TyKind::Char => "char",
+        TyKind::Str => "str",
+        TyKind::Never => "!",
+        TyKind::Int(width) => int_name(*width),
+        TyKind::Uint(width) => uint_name(*width),
+        TyKind::Float(width) => float_name(*width),
+        TyKind::Foreign(def) => item_text(texts.items, &def.0),
+        TyKind::Param(named) => name_text(texts.names, &named.name, "_"),
+        TyKind::Error(_) => "{error}",
+        _ => "",
+    }
+}
+
+// Writes a type that has no parts.
+pub(super) fn write_leaf<X, D: PartialEq, N: PartialEq, W: Write>(
+    texts: &Texts<D, N>,
+    around: &[Entered],
+    kind: &TyKind<X, D, N>,
+    out: &mut W,
+) -> fmt::Result {
+    match kind {
+        TyKind::Placeholder(of) => write_placeholder(texts.names, of.universe, &of.bound.name, out),
+        TyKind::Bound(depth, of) => write_bound("^", around, *depth, of.var, out),
+        TyKind::Infer(variable) => write_variable(*variable, out),
+        _ => out.write_str(leaf_text(texts, kind)),
     }
 }

@@ -4,7 +4,7 @@ ghost use Rattle.relation_terms.specs.Trees.{known};
 ghost use Rattle.relation_terms.specs.Meaning.{arg_tree};
 
 use crate::printing::names::{TextsOf, item_text, name_text};
-use crate::printing::{leaves, terms};
+use crate::printing::{constants, items, leaves, terms};
 use relation_terms::terms::{
     AliasTy, Const, GenericArg, InferTy, Interner, ItemOf, ParamTy, PlaceholderType, Region, Ty,
 };
@@ -54,7 +54,7 @@ pub fn write_const<I: Interner, W: Write>(
 ) -> fmt::Result
     requires { IsTrue (known ((I.meaning cx.now).const_ constant.now)) }
 {
-    terms::write_const(cx, texts, &[], constant, out)
+    constants::write_const(cx, texts, &[], constant, out)
 }
 
 /// Writes a generic argument: a region, a type or a constant, as each is written alone.
@@ -135,6 +135,6 @@ pub fn write_alias<I: Interner, W: Write>(
 ) -> fmt::Result
     requires { IsTrue (known ((I.meaning cx.now).args (alias.now).args)) }
 {
-    let id = terms::alias_id(&alias.kind);
-    terms::write_item(cx, texts, &[], &id, &alias.args, out)
+    let id = items::alias_id(&alias.kind);
+    items::write_item(cx, texts, &[], &id, &alias.args, out)
 }

@@ -76,8 +76,8 @@ pub(super) fn is_region_next(reader: &Reader) -> bool {
 
 // Whether a name is next that something is assigned to.
 pub(super) fn is_assignment_next(reader: &Reader) -> bool {
-    reader.peek() == Some(WordKind::Leaf(Leaf::Name))
-        && reader.peek_behind() == Some(WordKind::Sign(Sign::Assign))
+    matches!(reader.peek(), Some(WordKind::Leaf(Leaf::Name)))
+        && matches!(reader.peek_behind(), Some(WordKind::Sign(Sign::Assign)))
 }
 
 // Whether a function pointer without a binder and without `unsafe` begins next.

@@ -117,7 +117,7 @@ fn open_unsafe(reader: &mut Reader, parts: &mut Vec<usize>) -> Result<Rest, Read
     ensures parts { OnOk result (Collects reader.old reader.new parts.old.items parts.new.items) }
     ensures wrong { IfErr result (LiesIn reader.old.tree.text_len) }
 {
-    if reader.peek() == Some(WordKind::Sign(Sign::Less)) {
+    if matches!(reader.peek(), Some(WordKind::Sign(Sign::Less))) {
         let variables = read_variables(reader)?;
         parts.push(variables)?;
         return Ok(Rest::Pointee(Form::UnsafeBinder));

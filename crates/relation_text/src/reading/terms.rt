@@ -51,7 +51,7 @@ fn read_applied(reader: &mut Reader, leaf: Leaf, levels: usize) -> Result<usize,
 {
     let start = reader.place();
     let number = reader.take(Expected::Term)?;
-    if leaf != Leaf::Name || !reader.accept(Sign::Less) {
+    if !matches!(leaf, Leaf::Name) || !reader.accept(Sign::Less) {
         return Ok(number);
     }
     let mut parts = Vec::new(reader.alloc);

@@ -50,7 +50,7 @@ pub enum KeyParams {
 }
 
 /// What a node makes of its parts.
-#[derive(Clone, Copy, PartialEq, Eq)]
+#[derive(Clone, Copy)]
 pub enum Form {
     /// The statements of a text.
     File,
@@ -155,7 +155,7 @@ pub enum Form {
 }
 
 /// What a node is: a word of the text, or a form over further nodes.
-#[derive(Clone, Copy, PartialEq, Eq)]
+#[derive(Clone, Copy)]
 pub enum NodeKind {
     Leaf(Leaf),
     Form(Form),
@@ -163,7 +163,7 @@ pub enum NodeKind {
 
 /// A node, the bytes of the text that it takes, from `start` on those before `end`, and where its parts stand in the
 /// tree's list of parts: from `first` on, those before `behind`.
-#[derive(Clone, Copy, PartialEq, Eq)]
+#[derive(Clone, Copy)]
 pub struct Node {
     pub kind: NodeKind,
     pub start: usize,

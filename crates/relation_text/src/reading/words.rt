@@ -2,7 +2,7 @@
 use crate::reading::signs::Sign;
 
 /// A word that stands for something of its own: it becomes a leaf of the tree.
-#[derive(Clone, Copy, PartialEq, Eq, Debug)]
+#[derive(Clone, Copy)]
 pub enum Leaf {
     Name,
     /// A lifetime, with its `'`.
@@ -32,7 +32,7 @@ pub enum Leaf {
 }
 
 /// What a word is.
-#[derive(Clone, Copy, PartialEq, Eq, Debug)]
+#[derive(Clone, Copy)]
 pub enum WordKind {
     Leaf(Leaf),
     /// A mark, or a word of the language.
@@ -40,7 +40,7 @@ pub enum WordKind {
 }
 
 /// A word, and the bytes of the text that it takes: from `start` on, those before `end`.
-#[derive(Clone, Copy, PartialEq, Eq, Debug)]
+#[derive(Clone, Copy)]
 pub struct Word {
     pub kind: WordKind,
     pub start: usize,

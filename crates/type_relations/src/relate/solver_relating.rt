@@ -8,7 +8,7 @@ ghost use Rattle.type_relations.specs.Contexts.{KnowsEnv, DoesNothing, SpendsByB
 ghost use Rattle.type_relations.specs.Lawful.{Asked, Related};
 ghost use Rattle.type_relations.specs.Relating.{term_in, KnowsTerm, TakesTerm, HasTerm, AreOne, AnswersTerms};
 ghost use Rattle.type_relations.specs.Relating.{KeepsEqual, TellsApart, AnswersError, AnswersExactly, ProvesApart};
-ghost use Rattle.type_relations.specs.Relating.{AnswersSubtype};
+ghost use Rattle.type_relations.specs.Relating.{AnswersSubtype, SpendsNoMore};
 ghost use Rattle.type_relations.specs.Subtyping.{RegistersSubtype};
 ghost use Rattle.type_relations.specs.Solving.{solving_in, solver_manner};
 
@@ -57,6 +57,11 @@ pub trait RelateExt: InferCtxtLike {
     /// one: none where nothing was left of the budget, or no variable of a type or a constant was unbound. It binds
     /// only what was the context's and unbound, or was made on the way: variables of types and constants each for one
     /// instantiation, those of numbers for none. After an error more may have been recorded and made on the way.
+    ///
+    /// Of first-order terms in a first-order record at `Invariant`, where the variables of types and constants are of
+    /// one universe and no placeholder of a type or a constant in the terms is beyond it, at most as many
+    /// instantiations are made as there were unresolved variables of types and constants: with a budget of that number
+    /// `Budget` never comes.
     fn relate<T: Relate<Self::Interner>>(
         &mut self,
         param_env: ParamEnv<Self::Interner>,
@@ -91,6 +96,7 @@ pub trait RelateExt: InferCtxtLike {
         ensures bound { BindsItsOwn (Self.state self.old).store (Self.state self.new).store }
         ensures sound { IsSound (Self.state self.new).store }
         ensures budget { SpendsByBinding (Self.state self.old) (Self.state self.new) }
+        ensures enough { SpendsNoMore Self.state self.old self.new T.over T.tree variance lhs rhs result }
         ensures lawful { (Self.state self.new).lawful }
         ensures grown { Extends (Self.state self.old).meaning (Self.state self.new).meaning }
         ensures why_known { IfErr result (λ e. KnowsFault (Self.state self.new).meaning e) };
@@ -131,6 +137,7 @@ impl<Infcx: InferCtxtLike> RelateExt for Infcx {
         ensures bound { BindsItsOwn (Infcx.state self.old).store (Infcx.state self.new).store }
         ensures sound { IsSound (Infcx.state self.new).store }
         ensures budget { SpendsByBinding (Infcx.state self.old) (Infcx.state self.new) }
+        ensures enough { SpendsNoMore Infcx.state self.old self.new T.over T.tree variance lhs rhs result }
         ensures lawful { (Infcx.state self.new).lawful }
         ensures grown { Extends (Infcx.state self.old).meaning (Infcx.state self.new).meaning }
         ensures why_known { IfErr result (λ e. KnowsFault (Infcx.state self.new).meaning e) }

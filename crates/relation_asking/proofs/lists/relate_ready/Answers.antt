@@ -5,7 +5,7 @@ use Rattle.relation_terms.specs.Meaning.{Extends}
 use Rattle.relation_terms.proofs.Stays.{extends_on}
 use Rattle.relation_reference.proofs.Grows.{lawful_grows}
 use Rattle.relation_asking.specs.Needs.{both_needs}
-use Rattle.relation_asking.specs.Asking.{IsReady, Has}
+use Rattle.relation_asking.specs.Asking.{Has}
 use Rattle.relation_asking.proofs.AskingLemmas.{one_ready, as_arguments, has_left, has_right, ready_in}
 use Rattle.relation_asking.proofs.lists.relate_ready.Goals as goal
 

@@ -4,7 +4,7 @@ use Rattle.relation_terms.proofs.Stays.{extends_on}
 use Rattle.relation_reference.proofs.Grows.{lawful_grows}
 use Rattle.relation_asking.specs.Needs.{both_needs}
 use Rattle.relation_asking.specs.Asking.{IsReady, Has}
-use Rattle.relation_asking.proofs.AskingLemmas.{one_ready, has_left, has_right, ready_in, related_known}
+use Rattle.relation_asking.proofs.AskingLemmas.{one_ready, has_left, has_right, ready_in}
 use Rattle.relation_asking.proofs.question.ask_related.Goals as goal
 
 pub relate-requires-clause-lawful : goal.relate-requires-clause-lawful

@@ -4,8 +4,8 @@ use Rattle.type_relations.proofs.Relatable.{tree_known}
 use Rattle.relation_tests.proofs.Concrete.{concrete_known, related_concrete}
 use Rattle.relation_tests.proofs.solving.answered.Goals as goal
 
-pub answered_in-requires-clause-fits : goal.answered_in-requires-clause-fits
-answered_in-requires-clause-fits g c =
+pub goals_of-requires-clause-fits : goal.goals_of-requires-clause-fits
+goals_of-requires-clause-fits g c =
     let m = g.I.Interner.meaning c.args.cx in
     let n = g.I.Interner.meaning c.in_ok-ctx.ctx.interner in
     let e = extends_on c.in_ok-param_env.ensures.grown c.in_ok-ctx.ensures.grown in
@@ -16,18 +16,18 @@ answered_in-requires-clause-fits g c =
     (tree_known over (tree c.args.b) (concrete_known (related_tree over (tree c.args.b)) c.requires.rhs))
     c.requires.fits
 
-pub answered_in-requires-clause-lhs : goal.answered_in-requires-clause-lhs
-answered_in-requires-clause-lhs g c =
+pub goals_of-requires-clause-lhs : goal.goals_of-requires-clause-lhs
+goals_of-requires-clause-lhs g c =
     let m = g.I.Interner.meaning c.args.cx in
     let n = g.I.Interner.meaning c.in_ok-ctx.ctx.interner in
     let e = extends_on c.in_ok-param_env.ensures.grown c.in_ok-ctx.ensures.grown in
-    related_concrete m n g.T.Relate.over g.T.HasTree.tree c.args.a (g.met.T.HasTree.stays m n e c.args.a)
+    related_concrete m n g.T.Relate.over g.T.HasTree.tree c.args.a (g.T.HasTree.stays m n e c.args.a)
     c.requires.lhs
 
-pub answered_in-requires-clause-rhs : goal.answered_in-requires-clause-rhs
-answered_in-requires-clause-rhs g c =
+pub goals_of-requires-clause-rhs : goal.goals_of-requires-clause-rhs
+goals_of-requires-clause-rhs g c =
     let m = g.I.Interner.meaning c.args.cx in
     let n = g.I.Interner.meaning c.in_ok-ctx.ctx.interner in
     let e = extends_on c.in_ok-param_env.ensures.grown c.in_ok-ctx.ensures.grown in
-    related_concrete m n g.T.Relate.over g.T.HasTree.tree c.args.b (g.met.T.HasTree.stays m n e c.args.b)
+    related_concrete m n g.T.Relate.over g.T.HasTree.tree c.args.b (g.T.HasTree.stays m n e c.args.b)
     c.requires.rhs

@@ -1,4 +1,4 @@
-use Rattle.std.proofs.Common.{◌≡◌, ◌<◌, refl, sym, ap, ◌∙◌, subst, subst₂, arith, IsTrue, Ok, Err}
+use Rattle.std.proofs.Common.{◌≡◌, ◌<◌, suc, refl, sym, ap, ◌∙◌, subst, subst₂, arith, IsTrue, Ok, Err}
 use Rattle.relation_terms.specs.declared.terms.keys.ArgsKey.{ArgsKey}
 use Rattle.relation_terms.specs.Heads.{argument_sort}
 use Rattle.relation_terms.specs.Trees.{Tree, node, known, count, nth, list_tree}
@@ -13,11 +13,10 @@ use Rattle.type_relations.proofs.Parts.{in_parts}
 use Rattle.relation_terms.proofs.Stays.{stays_list, stays_arg}
 use Rattle.relation_tools.specs.declared.error.RelateFault.TheVariants.{Memory}
 use Rattle.type_relations.proofs.Lists.{snoc, list_push}
-use Rattle.type_relations.proofs.PartSizes.{weight_parts_most}
-use Rattle.type_relations.proofs.Passing.{as_err, passes_within, made_or_not, stopped}
+use Rattle.type_relations.proofs.Passing.{as_err, made_or_not}
 use Rattle.type_relations.proofs.Fronts.{Fronted, fronted_none, fronted_next}
 use Rattle.type_relations.proofs.Looping.{next_asked}
-use Rattle.type_relations.proofs.Arguments.{form_related, form_refused, args_related_head, args_looked_at, args_handed_on, args_heads, are_list}
+use Rattle.type_relations.proofs.Arguments.{form_related, form_refused, form_stopped, args_related_head, args_looked_at, args_handed_on, args_heads, are_list}
 use Rattle.type_relations.proofs.Answering.{same_items, AreAnswers, answers_none, answers_next, answers_end, may_form, if_ok_both}
 use Rattle.type_relations.proofs.relate.args.relate_args.Goals as goal
 
@@ -157,10 +156,9 @@ returns-in_err-push g c =
     (λ k. node (args_head p.meaning c.args.variances.now) ((p.meaning).args k)) z)
     (sym (as_err c.from_residual-in_err-push.result Memory c.from_residual-in_err-push.ensures.0
     c.from_residual-in_err-push.ensures.1))
-    (stopped M r.ambient (node h ts) (node h us)
-    (λ k. node (args_head p.meaning c.args.variances.now) ((p.meaning).args k))
-    (passes_within (omega (arith, weight_parts_most r.store (node h ts), weight_parts_most r.store (node h us)))
-    next.passes))
+    (form_stopped M r.ambient h ts us (suc i) next inv.are_parts as_many
+    (args_looked_at r.meaning c.args.variances.now)
+    (λ k. node (args_head p.meaning c.args.variances.now) ((p.meaning).args k)))
 
 pub loop-i-preserved : goal.loop-i-preserved
 loop-i-preserved g c =

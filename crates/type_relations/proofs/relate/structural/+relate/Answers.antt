@@ -19,7 +19,6 @@ use Rattle.type_relations.specs.Handing.{IsResultOfTy, IsResultOfConst}
 use Rattle.type_relations.specs.Making.{arg_sort, Fit, over, const_over}
 use Rattle.type_relations.proofs.Answering.{same_items, AreAnswers, answers_none, answers_next, answers_end, may_over, may_const_over, may_later}
 use Rattle.type_relations.proofs.Making.{fit_pushed, fit_end, fits_place}
-use Rattle.type_relations.proofs.PartSizes.{weight_parts_most, weight_const_parts_most}
 use Rattle.type_relations.proofs.Lists.{firsts, snoc, list_push}
 use Rattle.relation_terms.proofs.Stays.{stays_list, stays_arg}
 use Rattle.type_relations.specs.Lawful.{Asked, Related, MayAnswer, Stepped, Turned, items_in}
@@ -32,10 +31,10 @@ use Rattle.type_relations.proofs.Passing.{asked_later, parts_related, again_rela
 use Rattle.type_relations.proofs.Passing.{turned, unlooked, step_done, retold, relates_now, as_err}
 use Rattle.type_relations.proofs.Registered.{directed_from}
 use Rattle.type_relations.specs.Goals.{IsDirected}
-use Rattle.type_relations.proofs.Passing.{form_made, stopped, passes_within}
+use Rattle.type_relations.proofs.Passing.{form_made}
 use Rattle.type_relations.proofs.Fronts.{Fronted, fronted_none, fronted_next}
-use Rattle.type_relations.proofs.Structural.{types_related, ty_refused}
-use Rattle.type_relations.proofs.StructuralConsts.{consts_related, const_refused, itself_related, types_differ, consts_differ, kinds_differ}
+use Rattle.type_relations.proofs.Structural.{types_related, types_stopped, ty_refused}
+use Rattle.type_relations.proofs.StructuralConsts.{consts_related, consts_stopped, const_refused, itself_related, types_differ, consts_differ, kinds_differ}
 use Rattle.type_relations.proofs.Looping.{next_asked, next_under, next_const_asked, next_const_under, parts_under, again_under}
 use Rattle.type_relations.proofs.Looping.{failed_ty, failed_const, kept_ty, kept_const, heads_alike, const_heads_alike}
 use Rattle.type_relations.specs.Subtyping.{RegistersSubtype, StepRegistersSubtype}
@@ -1132,8 +1131,7 @@ structurally_relate_consts-returns-in_err-push g t c =
     subst (λ z. Related M r p r.ambient a b (p.meaning).const_ z)
     (sym (as_err c.from_residual-in_err-push.result Memory c.from_residual-in_err-push.ensures.0
     c.from_residual-in_err-push.ensures.1))
-    (stopped M r.ambient a b (p.meaning).const_ (passes_within (omega (arith, weight_const_parts_most r.store a, weight_const_parts_most r.store b))
-    next.passes))
+    (consts_stopped M r.ambient a b (suc i) (p.meaning).const_ next)
 
 pub structurally_relate_consts-make_const-requires-clause-constant_known : goal.structurally_relate_consts-make_const-requires-clause-constant_known
 structurally_relate_consts-make_const-requires-clause-constant_known g t c =
@@ -1530,8 +1528,7 @@ structurally_relate_tys-returns-in_err-push g t c =
     subst (λ z. Related M r p r.ambient a b (p.meaning).ty z)
     (sym (as_err c.from_residual-in_err-push.result Memory c.from_residual-in_err-push.ensures.0
     c.from_residual-in_err-push.ensures.1))
-    (stopped M r.ambient a b (p.meaning).ty (passes_within (omega (arith, weight_parts_most r.store a, weight_parts_most r.store b))
-    next.passes))
+    (types_stopped M r.ambient a b (suc i) (p.meaning).ty c.requires.a_formed next)
 
 pub structurally_relate_tys-note_args-requires-clause-one_form : goal.structurally_relate_tys-note_args-requires-clause-one_form
 structurally_relate_tys-note_args-requires-clause-one_form g t c =

@@ -1,15 +1,17 @@
-use Rattle.std.proofs.Common.{refl, sym, ap, ◌∙◌, subst, [], All}
+use Rattle.std.proofs.Common.{◌<◌, refl, sym, ap, ◌∙◌, arith, subst, [], All}
 use Rattle.std.proofs.lemmas.Bool.{false≢true}
 use Rattle.std.proofs.lemmas.List.Elements.{All-nil}
 use Rattle.relation_terms.specs.Trees.{apply}
 use Rattle.type_relations.specs.Relation.{same}
 use Rattle.type_relations.specs.Goals.{goals_of, KnowsGoal, MakesOneTree}
+use Rattle.type_relations.specs.OneUniverse.{all_unbound}
 use Rattle.type_relations.specs.Lawful.{Related, ExactResult}
 use Rattle.type_relations.specs.Solving.{solving_in, solver_manner}
 use Rattle.type_relations.proofs.Going.{later_itself, goes_nowhere, binds_its_own}
 use Rattle.type_relations.proofs.Unifying.{exact_itself}
 use Rattle.type_relations.proofs.Passing.{as_err}
 use Rattle.type_relations.proofs.Exactly.{unrelated_apart}
+use Rattle.type_relations.proofs.Spending.{spends_no_more, spent_as}
 use Rattle.type_relations.specs.Relating.{term_in}
 use Rattle.type_relations.specs.Subtyping.{RegistersSubtype}
 use Rattle.type_relations.proofs.Relatable.{equal_one, one_equal}
@@ -190,3 +192,29 @@ returns-clause-subtype g c =
     (solving_in c.relate_in-related.result.1.items (g.Infcx.InferCtxtLike.state c.relate_in-related.new.infcx)
     c.args.variance c.args.param_env) c.args.variance (term_in s g.T.Relate.over g.T.HasTree.tree c.args.lhs)
     (term_in s g.T.Relate.over g.T.HasTree.tree c.args.rhs)) c.in_ok-related.was c.relate_in-related.ensures.registers tt
+
+pub returns-then-eq-clause-enough : goal.returns-then-eq-clause-enough
+returns-then-eq-clause-enough g c = λ is pair u one. (omega arith, tt)
+
+pub returns-clause-enough : goal.returns-clause-enough
+returns-clause-enough g c = λ is pair u one.
+    let s = g.Infcx.InferCtxtLike.state c.args.self.now in
+    let d = g.Infcx.InferCtxtLike.state c.relate_in-related.new.infcx in (
+      (spends_no_more solver_manner c.args.variance (term_in s g.T.Relate.over g.T.HasTree.tree c.args.lhs)
+          (term_in s g.T.Relate.over g.T.HasTree.tree c.args.rhs) (term_in d g.T.Relate.over g.T.HasTree.tree) tt is pair
+          u one c.relate_in-related.result.0 c.relate_in-related.ensures.related).0,
+      tt,
+    )
+
+pub returns-in_err-related-clause-enough : goal.returns-in_err-related-clause-enough
+returns-in_err-related-clause-enough g c = λ is pair u one.
+    let s = g.Infcx.InferCtxtLike.state c.args.self.now in
+    let d = g.Infcx.InferCtxtLike.state c.relate_in-related.new.infcx in
+    let f = c.in_err-related.field-0.0 in
+    let z = spends_no_more solver_manner c.args.variance (term_in s g.T.Relate.over g.T.HasTree.tree c.args.lhs)
+    (term_in s g.T.Relate.over g.T.HasTree.tree c.args.rhs) (term_in d g.T.Relate.over g.T.HasTree.tree) tt is pair u one
+    c.relate_in-related.result.0 c.relate_in-related.ensures.related in (
+      z.0,
+      spent_as ((s.store).budget < all_unbound s.store) c.relate_in-related.result.0 c.from_residual.result f
+          c.in_err-related.was (as_err c.from_residual.result f c.from_residual.ensures.0 c.from_residual.ensures.1) z.1,
+    )

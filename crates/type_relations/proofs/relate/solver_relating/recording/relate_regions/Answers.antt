@@ -1,4 +1,4 @@
-use Rattle.type_relations.proofs.Solving.{constrained_goes}
+use Rattle.type_relations.proofs.Solving.{constrained_goes, constrained_bound}
 use Rattle.type_relations.proofs.relate.solver_relating.recording.relate_regions.Goals as goal
 
 pub returns-in-Covariant-clause-goes : goal.returns-in-Covariant-clause-goes
@@ -14,4 +14,19 @@ returns-in-Contravariant-clause-goes g c =
 pub returns-in-Invariant-clause-goes : goal.returns-in-Invariant-clause-goes
 returns-in-Invariant-clause-goes g c =
     constrained_goes (g.Infcx.InferCtxtLike.state c.args.infcx.now) (g.Infcx.InferCtxtLike.state c.equate_regions.new.self) _
+    c.equate_regions.result c.equate_regions.ensures.constrains
+
+pub returns-in-Covariant-clause-bound : goal.returns-in-Covariant-clause-bound
+returns-in-Covariant-clause-bound g c =
+    constrained_bound (g.Infcx.InferCtxtLike.state c.args.infcx.now) (g.Infcx.InferCtxtLike.state c.sub_regions.new.self) _
+    c.sub_regions.result c.sub_regions.ensures.constrains
+
+pub returns-in-Contravariant-clause-bound : goal.returns-in-Contravariant-clause-bound
+returns-in-Contravariant-clause-bound g c =
+    constrained_bound (g.Infcx.InferCtxtLike.state c.args.infcx.now) (g.Infcx.InferCtxtLike.state c.sub_regions-in-Contravariant.new.self) _
+    c.sub_regions-in-Contravariant.result c.sub_regions-in-Contravariant.ensures.constrains
+
+pub returns-in-Invariant-clause-bound : goal.returns-in-Invariant-clause-bound
+returns-in-Invariant-clause-bound g c =
+    constrained_bound (g.Infcx.InferCtxtLike.state c.args.infcx.now) (g.Infcx.InferCtxtLike.state c.equate_regions.new.self) _
     c.equate_regions.result c.equate_regions.ensures.constrains

@@ -1,5 +1,5 @@
 use Rattle.std.proofs.Common.{◌≡◌, refl, sym, ◌∙◌, inl, inr, subst, Ok, Err}
-use Rattle.relation_terms.specs.declared.terms.enums.Variance.TheVariants.{Covariant}
+use Rattle.relation_terms.specs.declared.terms.enums.Variance.TheVariants.{Covariant, Contravariant}
 use Rattle.relation_terms.specs.Heads.{type_var, variable}
 use Rattle.relation_terms.specs.Trees.{leaf}
 use Rattle.relation_tools.specs.declared.error.TypeError.TheVariants.{CyclicTy}
@@ -8,7 +8,7 @@ use Rattle.type_relations.specs.Stores.{unbound, entry_of, IsMade}
 use Rattle.type_relations.specs.Parts.{IsFormed}
 use Rattle.type_relations.specs.Lawful.{Stepped}
 use Rattle.type_relations.specs.Solving.{solving_through, solver_manner, KnowsGoals}
-use Rattle.type_relations.proofs.Passing.{as_err}
+use Rattle.type_relations.proofs.Passing.{as_err, invariantly}
 use Rattle.type_relations.proofs.Shallowly.{shallow_free, variable_made}
 use Rattle.type_relations.proofs.GeneralisingErrors.{cycle_error}
 use Rattle.type_relations.proofs.Solving.{decides_back, ty_sorted, as_solving, still_lawful}
@@ -148,7 +148,7 @@ returns-in_ok-bound-in-None-ty_var-clause-stepped g c =
     (g.met.Infcx.InferCtxtLike.numbers r.infcx.now c.requires.lawful)
     (g.met.Infcx.InferCtxtLike.covered q h.grows.lawful) c.in-Some.x.0 t ((d.meaning).ty z) k.right_taken.1 k.right_in
     k.right_known (ty_sorted of c.args.b.now (g.met.Infcx.Interner.Interner.is_ty cx c.args.b.now) k.right_known)
-    r.ambient_variance h.instantiates.0 h.instantiates.1 IsFormed c.args.a.now c.args.b.now z
+    r.ambient_variance (λ e. e) h.instantiates.0 h.instantiates.1 IsFormed c.args.a.now c.args.b.now z
     c.args.b.now c.args.a.now (d.meaning).ty root_stays t_stays refl t_stays
     (inl root_stays)))
 
@@ -183,7 +183,8 @@ returns-in_ok-bound-in-Some-ty_var-2-clause-stepped g c =
     (g.met.Infcx.InferCtxtLike.numbers r.infcx.now c.requires.lawful)
     (g.met.Infcx.InferCtxtLike.covered q h.grows.lawful) c.in-Some-ty_var-2.y.0 t ((d.meaning).ty z) k.left_taken.1
     k.left_in k.left_known (ty_sorted of c.args.a.now (g.met.Infcx.Interner.Interner.is_ty cx c.args.a.now) k.left_known)
-    c.xform-variance.result h.instantiates.0 h.instantiates.1 IsFormed c.args.a.now c.args.b.now
+    c.xform-variance.result (λ e. c.xform-variance.ensures ∙ invariantly Contravariant e)
+    h.instantiates.0 h.instantiates.1 IsFormed c.args.a.now c.args.b.now
     c.args.a.now z c.args.a.now (d.meaning).ty t_stays root_stays t_stays refl
     (inr t_stays)))
 

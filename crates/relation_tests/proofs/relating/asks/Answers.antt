@@ -1,6 +1,6 @@
 use Rattle.type_relations.specs.Arguments.{related_tree}
 use Rattle.relation_tests.proofs.Concrete.{concrete_asked}
-use Rattle.relation_tests.proofs.relating.asked.Goals as goal
+use Rattle.relation_tests.proofs.relating.asks.Goals as goal
 
 pub related-requires-clause-asked : goal.related-requires-clause-asked
 related-requires-clause-asked g c =

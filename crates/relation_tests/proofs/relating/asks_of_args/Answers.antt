@@ -1,7 +1,7 @@
 use Rattle.relation_terms.specs.Heads.{adt}
 use Rattle.relation_terms.specs.Trees.{node}
 use Rattle.relation_tests.proofs.Concrete.{concrete_asked}
-use Rattle.relation_tests.proofs.relating.asked_of_args.Goals as goal
+use Rattle.relation_tests.proofs.relating.asks_of_args.Goals as goal
 
 pub related_args-requires-clause-asked : goal.related_args-requires-clause-asked
 related_args-requires-clause-asked g c =

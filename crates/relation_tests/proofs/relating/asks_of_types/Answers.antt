@@ -1,5 +1,5 @@
 use Rattle.relation_tests.proofs.Concrete.{concrete_asked}
-use Rattle.relation_tests.proofs.relating.asked_of_types.Goals as goal
+use Rattle.relation_tests.proofs.relating.asks_of_types.Goals as goal
 
 pub constraints_of-requires-clause-asked : goal.constraints_of-requires-clause-asked
 constraints_of-requires-clause-asked g c =

@@ -1,11 +1,11 @@
 use Rattle.std.proofs.Common.{rules, refl}
 use Rattle.relation_terms.specs.Trees.{list_tree}
-use Rattle.relation_terms.specs.Meaning.{arg_tree, object_predicate_tree}
-use Rattle.relation_text.proofs.Parts.{part_of, range_of}
-use Rattle.relation_text.proofs.printing.terms.+write_ty.Goals as goal
+use Rattle.relation_terms.specs.Meaning.{arg_tree, kind_tree, object_predicate_tree}
+use Rattle.relation_text.proofs.Parts.{part_of, range_of, over_part}
+use Rattle.relation_text.proofs.printing.+write_ty.Goals as goal
 
-pub write_args-write_arg-requires : goal.write_args-write_arg-requires
-write_args-write_arg-requires g t c κs within =
+pub items::write_args-write_arg-requires : goal.items::write_args-write_arg-requires
+items::write_args-write_arg-requires g t c κs within =
     let m = g.I.Interner.meaning c.args.cx.now in
     let d = c.decreases in
     let part =
@@ -15,8 +15,8 @@ write_args-write_arg-requires g t c κs within =
     let small = part.1 in
     search rules
 
-pub write_trait-write_assigned-requires : goal.write_trait-write_assigned-requires
-write_trait-write_assigned-requires g t c κs within =
+pub objects::write_trait-write_assigned-requires : goal.objects::write_trait-write_assigned-requires
+objects::write_trait-write_assigned-requires g t c κs within =
     let m = g.I.Interner.meaning c.args.cx.now in
     let d = c.decreases in
     let part =
@@ -27,14 +27,25 @@ write_trait-write_assigned-requires g t c κs within =
     let small = part.1 in
     search rules
 
-pub write_object_predicates-write_object_bound-requires : goal.write_object_predicates-write_object_bound-requires
-write_object_predicates-write_object_bound-requires g t c κs within =
+pub objects::write_object_predicates-write_object_bound-requires : goal.objects::write_object_predicates-write_object_bound-requires
+objects::write_object_predicates-write_object_bound-requires g t c κs within =
     let m = g.I.Interner.meaning c.args.cx.now in
     let d = c.decreases in
     let part =
     range_of (object_predicate_tree m) (m.existential_predicates c.args.predicates.now)
     c.existential_predicates-list.result.now c.in-Some.bound.now c.loop-place.place _ c.in-Some.ensures
     c.existential_predicates-list.ensures c.requires in
+    let sure = part.0 in
+    let small = part.1 in
+    search rules
+
+pub terms::write_ty-write_item-requires : goal.terms::write_ty-write_item-requires
+terms::write_ty-write_item-requires g t c κs within =
+    let m = g.I.Interner.meaning c.args.cx.now in
+    let d = c.decreases in
+    let part =
+    over_part (m.ty c.args.ty.now) (kind_tree m c.ty_kind-kind.result) (m.args c.in-Some.over.1) c.ty_kind-kind.ensures
+    (c.in-Some.ensures m) c.requires in
     let sure = part.0 in
     let small = part.1 in
     search rules

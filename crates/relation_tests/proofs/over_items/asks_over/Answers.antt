@@ -2,7 +2,7 @@ use Rattle.relation_terms.specs.Heads.{adt}
 use Rattle.relation_terms.specs.Trees.{node}
 use Rattle.reference_interner.specs.Adding.{meaning_in}
 use Rattle.relation_tests.proofs.Concrete.{concrete_as, concrete_asked, concrete_known}
-use Rattle.relation_tests.proofs.over_items.asked_over.Goals as goal
+use Rattle.relation_tests.proofs.over_items.asks_over.Goals as goal
 
 pub related_over-requires-clause-asked : goal.related_over-requires-clause-asked
 related_over-requires-clause-asked c =

@@ -1,0 +1,86 @@
+//! How constants print.
+ghost use Rattle.std.specs.Prelude.{IsTrue};
+ghost use Rattle.relation_terms.specs.Trees.{known};
+
+use crate::printing::binders::{Entered, write_bound};
+use crate::printing::items::{write_args, write_item};
+use crate::printing::leaves::{write_between, write_const_variable, write_placeholder};
+use crate::printing::names::{TextsOf, name_text};
+use relation_terms::terms::{
+    Const, ConstKind, ExprKind, GenericArgs, Interner, ValTree, ValTreeKind,
+};
+use std::fmt::{self, Write};
+
+// Writes a constant.
+#[cycle(write_ty)]
+#[tactic(auto, using(crate::proofs::Parts::size_part, crate::proofs::Parts::known_part))]
+pub(super) fn write_const<I: Interner, W: Write>(
+    cx: &I,
+    texts: &TextsOf<I>,
+    around: &[Entered],
+    constant: &Const<I>,
+    out: &mut W,
+) -> fmt::Result
+    requires { IsTrue (known ((I.meaning cx.now).const_ constant.now)) }
+{
+    match cx.const_kind(constant) {
+        ConstKind::Param(named) => out.write_str(name_text(texts.names, &named.name, "_")),
+        ConstKind::Placeholder(of) => write_placeholder(
+            texts.names,
+            of.universe,
+            &of.bound.name,
+            out,
+        ),
+        ConstKind::Bound(depth, of) => write_bound("^c", around, depth, of.var, out),
+        ConstKind::Infer(variable) => write_const_variable(variable, out),
+        ConstKind::Error(_) => out.write_str("{error}"),
+        ConstKind::Value(_, value) => write_valtree(cx, texts, around, &value, out),
+        ConstKind::Unevaluated(of) => write_item(cx, texts, around, &of.def.0, &of.args, out),
+        ConstKind::Expr(kind, args) => write_expression(cx, texts, around, kind, &args, out),
+    }
+}
+
+// Writes an expression: the number of its operation, and its arguments.
+#[cycle(write_ty)]
+#[tactic(auto, using(crate::proofs::Parts::size_part, crate::proofs::Parts::known_part))]
+fn write_expression<I: Interner, W: Write>(
+    cx: &I,
+    texts: &TextsOf<I>,
+    around: &[Entered],
+    kind: ExprKind,
+    args: &GenericArgs<I>,
+    out: &mut W,
+) -> fmt::Result
+    requires { IsTrue (known ((I.meaning cx.now).args args.now)) }
+{
+    let number = kind.0;
+    let count = cx.args(args).len();
+    write!(out, "expr {number}(")?;
+    write_args(cx, texts, around, args, 0, count, out)?;
+    out.write_str(")")
+}
+
+// Writes a value: a leaf's bits as a number, or the constants that it is made of, in braces.
+#[cycle(write_ty)]
+#[tactic(auto, using(crate::proofs::Parts::size_part, crate::proofs::Parts::known_part))]
+fn write_valtree<I: Interner, W: Write>(
+    cx: &I,
+    texts: &TextsOf<I>,
+    around: &[Entered],
+    value: &ValTree<I>,
+    out: &mut W,
+) -> fmt::Result
+    requires { IsTrue (known ((I.meaning cx.now).valtree value.now)) }
+{
+    match cx.valtree_kind(value) {
+        ValTreeKind::Leaf { bits, .. } => write!(out, "{bits}"),
+        ValTreeKind::Branch(branches) => {
+            out.write_str("{")?;
+            for (place, constant) in cx.branches(&branches).iter().enumerate() {
+                write_between(place, ", ", out)?;
+                write_const(cx, texts, around, constant, out)?;
+            }
+            out.write_str("}")
+        }
+    }
+}
