@@ -25,7 +25,7 @@ use type_relations::relate::StructurallyRelateAliases;
 const FIRST: Option<UniverseIndex> = Some(UniverseIndex(0));
 
 // A name of a context's interner.
-type NameOf<C> = <<C as InferCtxtLike>::Interner as Keys>::Name;
+pub(crate) type NameOf<C> = <<C as InferCtxtLike>::Interner as Keys>::Name;
 
 // Whether the next solver is on in a context, its current universe, and its budget.
 fn read_whole<C: InferCtxtLike>(ctx: &C) -> (bool, UniverseIndex, usize) {
@@ -41,7 +41,7 @@ fn makes_once<C: InferCtxtLike>(ctx: &mut C) -> Result<bool, OutOfMemory> {
 }
 
 // The type `char`.
-fn make_char<C: InferCtxtLike>(ctx: &mut C) -> Result<Ty<C::Interner>, OutOfMemory>
+pub(crate) fn make_char<C: InferCtxtLike>(ctx: &mut C) -> Result<Ty<C::Interner>, OutOfMemory>
     requires { (C.state ctx.old).lawful }
     ensures grows { Grows (C.state ctx.old) (C.state ctx.new) }
     ensures store { (C.state ctx.new).store ≡ (C.state ctx.old).store }
@@ -261,7 +261,7 @@ fn binds_slice<C: InferCtxtLike>(ctx: &mut C) -> RelateResult<C::Interner, ()>
 }
 
 // The region of a form.
-fn make_region<C: InferCtxtLike>(
+pub(crate) fn make_region<C: InferCtxtLike>(
     ctx: &mut C,
     kind: RegionKind<NameOf<C>>,
 ) -> Result<Region<C::Interner>, OutOfMemory>

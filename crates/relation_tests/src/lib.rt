@@ -3,6 +3,7 @@
 #![tactic(auto)]
 
 #[cfg(test)]
+mod binders;
 mod contexts;
 #[cfg(test)]
 mod decided;

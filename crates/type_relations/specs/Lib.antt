@@ -32,6 +32,7 @@ pub mod EqualTerms
 pub mod Resolving
 pub mod NumberValues
 pub mod ContextCalls
+pub mod Binders
 pub mod NumberVars
 pub mod Solving
 pub mod Bivariance

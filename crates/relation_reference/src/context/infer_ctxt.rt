@@ -6,7 +6,8 @@ use relation_terms::terms::{
 };
 use relation_tools::error::RelateResult;
 use relation_tools::fold::TypeFoldable;
-use type_relations::infer_ctxt::{InferCtxtLike, VisibleForLeakCheck};
+use relation_tools::visit::TypeVisitable;
+use type_relations::infer_ctxt::{BinderOf, InferCtxtLike, VisibleForLeakCheck};
 use type_relations::relate::StructurallyRelateAliases;
 
 impl<I: Interner> InferCtxtLike for RefCtxt<I> {
@@ -117,6 +118,20 @@ impl<I: Interner> InferCtxtLike for RefCtxt<I> {
 
     fn create_next_universe(&mut self) -> Result<UniverseIndex, OutOfMemory> {
         self.create_next_universe()
+    }
+
+    fn enter_forall<T: TypeFoldable<I> + TypeVisitable<I> + Copy>(
+        &mut self,
+        value: BinderOf<I, T>,
+    ) -> Result<T, OutOfMemory> {
+        self.enter_forall(value)
+    }
+
+    fn instantiate_binder_with_infer<T: TypeFoldable<I> + Copy>(
+        &mut self,
+        value: BinderOf<I, T>,
+    ) -> Result<T, OutOfMemory> {
+        self.instantiate_binder_with_infer(value)
     }
 
     fn equate_ty_vids_raw(&mut self, a: TyVid, b: TyVid) {
