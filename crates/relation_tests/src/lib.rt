@@ -4,6 +4,7 @@
 
 #[cfg(test)]
 mod binders;
+#[cfg(test)]
 mod contexts;
 #[cfg(test)]
 mod decided;

@@ -12,6 +12,8 @@ pub mod Tallies
 pub mod Written
 pub mod Growing
 pub mod NewVariables
+pub mod MakingEach
+pub mod Opened
 pub mod Erased
 pub mod Composing
 pub mod Opening
