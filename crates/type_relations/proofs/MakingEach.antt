@@ -1,5 +1,5 @@
 -- New variables for what a binder binds, made one after another: what stands, and that they may have any values.
-use Rattle.std.proofs.Common.{◌≡◌, ◌≢◌, ℕ, suc, ◌<◌, ◌≤◌, refl, sym, ap, ap₂, ◌∙◌, arith, subst, List, [], ◌∷◌, ◌++◌, map, length}
+use Rattle.std.proofs.Common.{◌≡◌, ◌≢◌, ℕ, suc, ◌<◌, ◌≤◌, refl, sym, ap, ap₂, ◌∙◌, arith, subst, subst₂, List, [], ◌∷◌, ◌++◌, map, length}
 use Rattle.std.proofs.lemmas.List.{map-append}
 use Rattle.relation_terms.specs.Heads.{type_kind, region_kind, const_kind, BoundKind, bound_kind, bound_sort, VarKind, type_var, int_var, float_var, const_var, region_var, var_sort, variable}
 use Rattle.relation_terms.specs.Trees.{Tree, leaf, Assign, apply, IsTerm}
@@ -27,7 +27,7 @@ variable_sort (bound_kind const_kind n) = refl
 pub each_unbound : {u : ℕ} {before after : Store} {ks : List BoundKind} {xs : List Tree} → MakesEach u before ks xs after →
     MakesUnbound u before after
 each_unbound (makes_none p q) = none_made
-each_unbound (makes_next {k = k} f q p e) = makes_one (each_unbound f) (no_number k) q
+each_unbound (makes_next k f q p e) = makes_one (each_unbound f) (no_number k) q
 
 -- A tree that is none of a list and not a further one.
 avoids_more : (p x : Tree) (xs : List Tree) → AvoidsAll p xs → (x ≢ p) → AvoidsAll p (xs ++ x ∷ [])
@@ -110,7 +110,8 @@ stands_for (bound_kind type_kind n) t h = h
 stands_for (bound_kind region_kind n) t h = h
 stands_for (bound_kind const_kind n) t h = h
 
-Unconstrained : Store → Store → ℕ → List BoundKind → List Tree → Type 0
+-- New variables may have any values that the universe can name.
+abbrev pub Unconstrained : Store → Store → ℕ → List BoundKind → List Tree → Type 0
 Unconstrained before after u ks xs = (w : Interpretation) (s : Assign) (values : List Tree) → Satisfies w before s →
     FitKinds ks values → AllNamable u values → Extends before s (λ s'. Satisfies w after s' × (map (apply s') xs ≡ values))
 
@@ -140,23 +141,21 @@ none_values u st w s (t ∷ ts) sat fit names = absurd fit
 
 pub each_new : {u : ℕ} {before after : Store} {ks : List BoundKind} {xs : List Tree} → MakesEach u before ks xs after →
     u ≤ before.universe → IsSound before → AreNewVariables before after u ks xs
-each_new {u} {before} (makes_none p q) low g = subst (λ z. AreNewVariables before before u z _) (sym p)
-    (subst (AreNewVariables before before u []) (sym q) tt)
-each_new {u} {before} {after} (makes_next {middle = middle} {ks = ks} {xs = xs} {k = k} {n = n} f q p e) low g =
+each_new {u} {before} (makes_none p q) low g = subst₂ (AreNewVariables before before u) (sym p) (sym q) tt
+each_new {u} {before} {after} (makes_next {middle = middle} {ks = ks} {xs = xs} {n = n} k f q p e) low g =
     let a = adds g low (each_unbound f) in
     let universe = a.universe in
     let b = adds a.sound (omega arith) (makes_one none_made (no_number k) q) in
-    subst (λ z. AreNewVariables before after u z _) (sym p) (subst (AreNewVariables before after u (ks ++ k ∷ [])) (sym e)
-    (new_more u before middle after k n q a.sound a.later b.later b.universes ks xs (each_new f low g)))
+    subst₂ (AreNewVariables before after u) (sym p) (sym e)
+    (new_more u before middle after k n q a.sound a.later b.later b.universes ks xs (each_new f low g))
 
 pub each_unconstrained : {u : ℕ} {before after : Store} {ks : List BoundKind} {xs : List Tree} → MakesEach u before ks xs after →
     u ≤ before.universe → IsSound before → Unconstrained before after u ks xs
-each_unconstrained {u} {before} (makes_none p q) low g = subst (λ z. Unconstrained before before u z _) (sym p)
-    (subst (Unconstrained before before u []) (sym q) (none_values u before))
-each_unconstrained {u} {before} {after} (makes_next {middle = middle} {ks = ks} {xs = xs} {k = k} {n = n} f q p e) low g =
+each_unconstrained {u} {before} (makes_none p q) low g = subst₂ (Unconstrained before before u) (sym p) (sym q) (none_values u before)
+each_unconstrained {u} {before} {after} (makes_next {middle = middle} {ks = ks} {xs = xs} {n = n} k f q p e) low g =
     let a = adds g low (each_unbound f) in
-    subst (λ z. Unconstrained before after u z _) (sym p) (subst (Unconstrained before after u (ks ++ k ∷ [])) (sym e)
-    (unconstrained_more u before middle after k n q a.sound a.later ks xs (each_new f low g) (each_unconstrained f low g)))
+    subst₂ (Unconstrained before after u) (sym p) (sym e)
+    (unconstrained_more u before middle after k n q a.sound a.later ks xs (each_new f low g) (each_unconstrained f low g))
 
 pub making_each_makes : MakingEachMakes
 making_each_makes before after u ks xs f low g =

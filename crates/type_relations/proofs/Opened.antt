@@ -1,12 +1,15 @@
 -- What is put for what a binder binds: the fold of terms that opens a binder instantiates the binder's body.
-use Rattle.std.proofs.Common.{◌≡◌, ◌≢◌, ◌⊎◌, ℕ, zero, suc, refl, sym, ap, ap₂, ◌∙◌, subst, inl, inr, Bool, true, false, List, [], ◌∷◌, ◌++◌}
-use Rattle.std.specs.Prelude.{nat_eq, cond, Option, Some, None, slice_get}
+use Rattle.std.proofs.Common.{◌≡◌, ◌≢◌, ◌⊎◌, ℕ, zero, suc, refl, sym, ap, ap₂, ◌∙◌, subst, subst₂, inl, inr, ◌<◌, not, ◌||◌, Bool, true, false, List, [], ◌∷◌, ◌++◌}
+use Rattle.std.specs.Prelude.{nat_eq, nat_lt, cond, Option, Some, None, slice_get}
+use Rattle.std.proofs.lemmas.Bool.{false≢true, or_parts, or_from, ltb-true, lt-ltb}
 use Rattle.std.proofs.lemmas.Bool.Decides.{eqb_tells}
 use Rattle.relation_terms.specs.Heads.{Kind, type_kind, region_kind, const_kind, kind_sort, BoundKind, bound_kind, bound_sort, head_sort, var_sort, atom_sort, variable, bound, placeholder, atom, unknown}
 use Rattle.relation_terms.specs.Trees.{Tree, leaf, node, bind, nil, cons, tree_at, inst}
 use Rattle.relation_terms.specs.Parts.{tree_sort}
 use Rattle.relation_tools.specs.Folds.{asks, put_or, folded}
+use Rattle.relation_tools.specs.Visits.{has_leaf, is_escaping}
 use Rattle.relation_tools.specs.Shifts.{is_for, standing, shifted, opens}
+use Rattle.type_relations.specs.Relation.{StaysWithin}
 use Rattle.type_relations.specs.Steps.{ArePlaceholders}
 use Rattle.type_relations.specs.Stores.{Store}
 use Rattle.type_relations.specs.Binders.{IsBoundAs, AreBoundAs, variable_kind, MakesEach, makes_none, makes_next}
@@ -108,6 +111,38 @@ all_more k t (j ∷ ks) [] h s = absurd h
 all_more k t (j ∷ ks) (x ∷ ts) h s = (h.0, all_more k t ks ts h.1 s)
 
 pub variables_stand : {u : ℕ} {before after : Store} {ks : List BoundKind} {xs : List Tree} → MakesEach u before ks xs after → AllStandFor ks xs
-variables_stand (makes_none p q) = subst (λ z. AllStandFor z _) (sym p) (subst (AllStandFor []) (sym q) tt)
-variables_stand (makes_next {ks = ks} {xs = xs} {k = k} {n = n} f q p e) =
-    subst (λ z. AllStandFor z _) (sym p) (subst (AllStandFor (ks ++ k ∷ [])) (sym e) (all_more k _ ks xs (variables_stand f) (variable_stands k n)))
+variables_stand (makes_none p q) = subst₂ AllStandFor (sym p) (sym q) tt
+variables_stand (makes_next {ks = ks} {xs = xs} {n = n} k f q p e) =
+    subst₂ AllStandFor (sym p) (sym e) (all_more k _ ks xs (variables_stand f) (variable_stands k n))
+
+-- What a visit tells of bound variables: whether a tree stays within its own binders.
+not_false : (b : Bool) → not b ≡ false → b ≡ true
+not_false true e = refl
+not_false false e = sym e
+
+pub none_escapes : (d : ℕ) (t : Tree) → has_leaf is_escaping d t ≡ false → StaysWithin d t
+none_escapes d (leaf (bound k e i)) h = ltb-true e d (not_false (nat_lt e d) h)
+none_escapes d (leaf (variable v n)) h = tt
+none_escapes d (leaf (placeholder k u n)) h = tt
+none_escapes d (leaf (atom x)) h = tt
+none_escapes d (leaf unknown) h = tt
+none_escapes d (node a t) h = none_escapes d t h
+none_escapes d (bind ks t) h = none_escapes (suc d) t h
+none_escapes d nil h = tt
+none_escapes d (cons t u) h =
+    let o = or_parts (has_leaf is_escaping d t) (has_leaf is_escaping d u) h in
+    (none_escapes d t o.0, none_escapes d u o.1)
+
+within_none : (d : ℕ) (t : Tree) → StaysWithin d t → has_leaf is_escaping d t ≡ false
+within_none d (leaf (bound k e i)) h = ap not (lt-ltb e d h)
+within_none d (leaf (variable v n)) h = refl
+within_none d (leaf (placeholder k u n)) h = refl
+within_none d (leaf (atom x)) h = refl
+within_none d (leaf unknown) h = refl
+within_none d (node a t) h = within_none d t h
+within_none d (bind ks t) h = within_none (suc d) t h
+within_none d nil h = refl
+within_none d (cons t u) h = or_from (has_leaf is_escaping d t) (has_leaf is_escaping d u) (within_none d t h.0) (within_none d u h.1)
+
+pub some_escapes : (d : ℕ) (t : Tree) → has_leaf is_escaping d t ≡ true → StaysWithin d t → ⊥
+some_escapes d t e h = false≢true (sym (within_none d t h) ∙ e)

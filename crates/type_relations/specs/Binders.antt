@@ -44,7 +44,7 @@ variable_kind (bound_kind const_kind n) = const_var
 -- other.
 pub data MakesEach (u : ℕ) (before : Store) : List BoundKind → List Tree → Store → Type 0 where
   makes_none : {ks : List BoundKind} {xs : List Tree} → ks ≡ [] → xs ≡ [] → MakesEach u before ks xs before
-  makes_next : {middle after : Store} {ks ls : List BoundKind} {xs ys : List Tree} {k : BoundKind} {n : ℕ} →
+  makes_next : {middle after : Store} {ks ls : List BoundKind} {xs ys : List Tree} {n : ℕ} (k : BoundKind) →
       MakesEach u before ks xs middle → MakesVariable middle after (variable_kind k) n u → ls ≡ ks ++ k ∷ [] →
       ys ≡ xs ++ leaf (variable (variable_kind k) n) ∷ [] → MakesEach u before ls ys after
 

@@ -62,14 +62,12 @@ fn placeholder<I: Interner>(
         }
         BoundVariableKind::Region(name) => {
             let bound = BoundRegion { var, name };
-            let region =
-                cx.mk_region(RegionKind::RePlaceholder(Placeholder { universe, bound }))?;
+            let region = cx.mk_region(RegionKind::RePlaceholder(Placeholder { universe, bound }))?;
             Ok(GenericArgKind::Lifetime(region))
         }
         BoundVariableKind::Const(name) => {
             let bound = BoundConst { var, name };
-            let constant =
-                cx.mk_const(ConstKind::Placeholder(Placeholder { universe, bound }))?;
+            let constant = cx.mk_const(ConstKind::Placeholder(Placeholder { universe, bound }))?;
             Ok(GenericArgKind::Const(constant))
         }
     }
@@ -90,17 +88,15 @@ fn placeholders<I: Interner>(
     let mut args = Vec::new(cx.alloc());
     for place in 0..count_of(cx, bound_vars) {
         let variable = variable_at(cx, bound_vars, place);
-        args.push(placeholder(cx, universe, place, &variable)?)?;
+        let arg = placeholder(cx, universe, place, &variable)?;
+        args.push(arg)?;
     }
     Ok(args)
 }
 
 impl<I: Interner> RefCtxt<I> {
     // A new variable of the current universe for what a binder binds. After `OutOfMemory` none was made.
-    fn next_arg_infer(
-        &mut self,
-        variable: &BoundVariable<I>,
-    ) -> Result<GenericArg<I>, OutOfMemory>
+    fn next_arg_infer(&mut self, variable: &BoundVariable<I>) -> Result<GenericArg<I>, OutOfMemory>
         requires { IsLawful (I.meaning self.old.interner) self.old.inner }
         ensures lawful { IsLawful (I.meaning self.new.interner) self.new.inner }
         ensures grown { Extends (I.meaning self.old.interner) (I.meaning self.new.interner) }
@@ -111,11 +107,20 @@ impl<I: Interner> RefCtxt<I> {
         ensures refused { OnErr result (store_in I.meaning self.new ≡ store_in I.meaning self.old) }
         ensures rest { KeepsRest (context_in I.meaning self.old) (context_in I.meaning self.new) }
     {
-        Ok(match variable {
-            BoundVariableKind::Ty(_) => GenericArgKind::Ty(self.next_ty_infer()?),
-            BoundVariableKind::Region(_) => GenericArgKind::Lifetime(self.next_region_infer()?),
-            BoundVariableKind::Const(_) => GenericArgKind::Const(self.next_const_infer()?),
-        })
+        match variable {
+            BoundVariableKind::Ty(_) => {
+                let ty = self.next_ty_infer()?;
+                Ok(GenericArgKind::Ty(ty))
+            }
+            BoundVariableKind::Region(_) => {
+                let region = self.next_region_infer()?;
+                Ok(GenericArgKind::Lifetime(region))
+            }
+            BoundVariableKind::Const(_) => {
+                let constant = self.next_const_infer()?;
+                Ok(GenericArgKind::Const(constant))
+            }
+        }
     }
 
     // New variables of the current universe for what a binder binds, in the order of its list.
@@ -139,7 +144,8 @@ impl<I: Interner> RefCtxt<I> {
         let mut args = Vec::new(self.interner.alloc());
         for place in 0..count_of(&self.interner, bound_vars) {
             let variable = variable_at(&self.interner, bound_vars, place);
-            args.push(self.next_arg_infer(&variable)?)?;
+            let arg = self.next_arg_infer(&variable)?;
+            args.push(arg)?;
         }
         Ok(args)
     }
