@@ -129,15 +129,18 @@ module _ {Key Id Name : Type 0} (c d : Context Key Id Name) where
       x ≡ opened ps t → EntersAs c d (under o t) x
   entered_as (Some ks) t x ps k b h changes above p e =
       let are : ArePlaceholders (d.store).universe ks ps =
-          subst (ArePlaceholders (d.store).universe ks) (sym p) (placeholders_are (d.store).universe 0 ks) in
+      subst (ArePlaceholders (d.store).universe ks) (sym p) (placeholders_are (d.store).universe 0 ks) in
       record {
         changes_nothing = changes;
-        opens = inr (some_escapes 0 t h, record {
-          placeholders = ps;
-          are_placeholders = are;
-          above = above;
-          body_is = e ∙ opened_inst ks ps (placeholders_stand (d.store).universe ks ps are) 0 t b;
-        });
+        opens = inr (
+          some_escapes 0 t h,
+          record {
+            placeholders = ps;
+            are_placeholders = are;
+            above = above;
+            body_is = e ∙ opened_inst ks ps (placeholders_stand (d.store).universe ks ps are) 0 t b;
+          },
+        );
       }
   entered_as None t x ps k b h changes above p e = absurd (false≢true k)
 
