@@ -1,6 +1,6 @@
 -- Opening binders in a reference context.
 use Rattle.std.proofs.Common.{◌≡◌, ℕ, zero, suc, ◌+◌, ◌<◌, ◌≤◌, IsTrue, Bool, true, false, refl, sym, ap, ap₂, ◌∙◌, arith, subst, inl, inr, List, [], ◌∷◌, ◌++◌, length, map, take}
-use Rattle.std.specs.Prelude.{Option, Some, None, slice_get}
+use Rattle.std.specs.Prelude.{Option, Some, None, IsSome, Result, Ok, Err, IfOk, OnErr, slice_get}
 use Rattle.std.proofs.lemmas.Bool.{false≢true, and_parts}
 use Rattle.std.proofs.lemmas.List.{map-append, length-take-le}
 use Rattle.std.proofs.lemmas.Option.{slice_get_within}
@@ -15,7 +15,9 @@ use Rattle.type_relations.specs.Relation.{AvoidsAll}
 use Rattle.type_relations.specs.Steps.{ChangesNothing, ArePlaceholders, MakesVariable}
 use Rattle.type_relations.specs.Stores.{Store}
 use Rattle.type_relations.specs.Contexts.{Context}
-use Rattle.type_relations.specs.Binders.{kinds_in, BindsByList, variable_kind, MakesEach, makes_none, makes_next, EntersAs, InstantiatesAs}
+use Rattle.type_relations.specs.ContextCalls.{KeepsRest}
+use Rattle.type_relations.specs.Generalising.{MakesUnbound}
+use Rattle.type_relations.specs.Binders.{kinds_in, BindsByList, variable_kind, MakesEach, makes_none, makes_next, EntersAs, InstantiatesAs, EntersBinder, InstantiatesWithInfer}
 use Rattle.type_relations.proofs.Opened.{opened_inst, placeholders_stand, variables_stand, none_escapes, some_escapes}
 use Rattle.relation_reference.specs.Opened.{placeholders_from, MakesOne}
 use Rattle.relation_reference.proofs.Grows.{both}
@@ -110,6 +112,10 @@ same_changes st = record {
 }
 
 -- A known binder's list is known, and so is its body.
+pub binder_list : (o : Option (List BoundKind)) (t : Tree) → IsTrue (known (under o t)) → IsSome o
+binder_list (Some ks) t k = tt
+binder_list None t k = absurd (false≢true k)
+
 pub binder_body : (o : Option (List BoundKind)) (t : Tree) → IsTrue (known (under o t)) → IsTrue (known t)
 binder_body (Some ks) t k = k
 binder_body None t k = absurd (false≢true k)
@@ -150,3 +156,27 @@ module _ {Key Id Name : Type 0} (c d : Context Key Id Name) where
   instantiated_as (Some ks) t x xs k b f e =
       record { variables = xs; makes = f; body_is = e ∙ opened_inst ks xs (variables_stand f) 0 t b }
   instantiated_as None t x xs k b f e = absurd (false≢true k)
+
+  pub entered_binder : {K F : Type 0} (tree : Meaning Key Id Name → K → Tree) (t : Tree) (r : Result K F) →
+      IfOk r (λ x. IsTrue (known (tree d.meaning x))) → IfOk r (λ x. EntersAs c d t (tree d.meaning x)) →
+      OnErr r (d.store ≡ c.store) → EntersBinder c d tree t r
+  entered_binder tree t (Ok x) sure enters refused = (sure, enters)
+  entered_binder tree t (Err f) sure enters refused = refused
+
+  pub instantiated_binder : {K F : Type 0} (tree : Meaning Key Id Name → K → Tree) (t : Tree) (r : Result K F) →
+      IfOk r (λ x. IsTrue (known (tree d.meaning x))) → IfOk r (λ x. InstantiatesAs c d t (tree d.meaning x)) →
+      OnErr r (MakesUnbound (c.store).universe c.store d.store) → InstantiatesWithInfer c d tree t r
+  instantiated_binder tree t (Ok x) sure instantiates refused = (sure, instantiates)
+  instantiated_binder tree t (Err f) sure instantiates refused = refused
+
+-- What stands beside variables and constraints stands through two calls, and where nothing happens.
+module _ {Key Id Name : Type 0} where
+  pub rest_itself : (c : Context Key Id Name) → KeepsRest c c
+  rest_itself c = record { solver = refl; outliving = refl; marks = λ n. refl }
+
+  pub rest_on : {c d e : Context Key Id Name} → KeepsRest c d → KeepsRest d e → KeepsRest c e
+  rest_on p q = record {
+    solver = q.solver ∙ p.solver;
+    outliving = q.outliving ∙ p.outliving;
+    marks = λ n. q.marks n ∙ p.marks n;
+  }

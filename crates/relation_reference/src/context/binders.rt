@@ -8,7 +8,7 @@ ghost use Rattle.type_relations.specs.Steps.{ArePlaceholders, MakesVariable};
 ghost use Rattle.type_relations.specs.Generalising.{MakesUnbound};
 ghost use Rattle.type_relations.specs.ContextCalls.{KeepsRest};
 ghost use Rattle.type_relations.specs.Binders.{kinds_in, variable_kind, MakesEach, binder_tree, BindsByList};
-ghost use Rattle.type_relations.specs.Binders.{EntersBinder, InstantiatesWithInfer};
+ghost use Rattle.type_relations.specs.Binders.{EntersAs, InstantiatesAs};
 ghost use Rattle.relation_reference.specs.Tables.{IsLawful};
 ghost use Rattle.relation_reference.specs.RefCtxt.{store_in, context_in};
 ghost use Rattle.relation_reference.specs.Opened.{placeholders_from, MakesOne};
@@ -163,8 +163,11 @@ impl<I: Interner> RefCtxt<I> {
         requires value_binds { BindsByList (binder_tree T.tree (I.meaning self.old.interner) value) }
         ensures lawful { IsLawful (I.meaning self.new.interner) self.new.inner }
         ensures grown { Extends (I.meaning self.old.interner) (I.meaning self.new.interner) }
-        ensures enters { let t = binder_tree T.tree (I.meaning self.old.interner) value in
-            EntersBinder (context_in I.meaning self.old) (context_in I.meaning self.new) T.tree t result }
+        ensures sure { IfOk result (λ x. IsTrue (known (T.tree (I.meaning self.new.interner) x))) }
+        ensures enters { let t = binder_tree T.tree (I.meaning self.old.interner) value in IfOk result (λ x.
+            EntersAs (context_in I.meaning self.old) (context_in I.meaning self.new) t
+            (T.tree (I.meaning self.new.interner) x)) }
+        ensures refused { OnErr result (store_in I.meaning self.new ≡ store_in I.meaning self.old) }
         ensures rest { KeepsRest (context_in I.meaning self.old) (context_in I.meaning self.new) }
     {
         let body = value.value;
@@ -192,8 +195,12 @@ impl<I: Interner> RefCtxt<I> {
         requires value_binds { BindsByList (binder_tree T.tree (I.meaning self.old.interner) value) }
         ensures lawful { IsLawful (I.meaning self.new.interner) self.new.inner }
         ensures grown { Extends (I.meaning self.old.interner) (I.meaning self.new.interner) }
-        ensures instantiates { let t = binder_tree T.tree (I.meaning self.old.interner) value in
-            InstantiatesWithInfer (context_in I.meaning self.old) (context_in I.meaning self.new) T.tree t result }
+        ensures sure { IfOk result (λ x. IsTrue (known (T.tree (I.meaning self.new.interner) x))) }
+        ensures instantiates { let t = binder_tree T.tree (I.meaning self.old.interner) value in IfOk result (λ x.
+            InstantiatesAs (context_in I.meaning self.old) (context_in I.meaning self.new) t
+            (T.tree (I.meaning self.new.interner) x)) }
+        ensures refused { OnErr result (MakesUnbound self.old.inner.universe.0 (store_in I.meaning self.old)
+            (store_in I.meaning self.new)) }
         ensures rest { KeepsRest (context_in I.meaning self.old) (context_in I.meaning self.new) }
     {
         let args = self.next_args_infer(&value.bound_vars)?;
