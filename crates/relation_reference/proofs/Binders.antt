@@ -4,7 +4,7 @@ use Rattle.std.specs.Prelude.{Option, Some, None, IsSome, Result, Ok, Err, IfOk,
 use Rattle.std.proofs.lemmas.Bool.{false≢true, and_parts}
 use Rattle.std.proofs.lemmas.List.{map-append, length-take-le}
 use Rattle.std.proofs.lemmas.Option.{slice_get_within}
-use Rattle.relation_terms.specs.Heads.{BoundKind, placeholder}
+use Rattle.relation_terms.specs.Heads.{BoundKind, VarKind, placeholder, variable}
 use Rattle.relation_terms.specs.Trees.{Tree, leaf, known, list_tree}
 use Rattle.relation_terms.specs.Meaning.{Meaning, Extends, arg_tree, under}
 use Rattle.relation_terms.specs.declared.terms.generic_arg.GenericArgKind.{GenericArgKind}
@@ -85,6 +85,11 @@ module _ {Key Id Name : Type 0} {m n : Meaning Key Id Name} (e : Extends m n) wh
     args_known k = subst (λ zs. IsTrue (known (list_tree (arg_tree n) zs))) (sym more)
         (known_more (arg_tree n) xs y (knows_all e xs sure) k)
 
+-- A new variable is of the kind that what it stands for asks for.
+pub made_one : {before after : Store} (k q : VarKind) (x : Tree) (n : ℕ) → k ≡ q → x ≡ leaf (variable q n) →
+    MakesVariable before after q n before.universe → MakesOne before after k x
+made_one {before} {after} k q x n e is makes = subst (λ z. MakesOne before after z x) (sym e) (n, is, makes)
+
 -- One more variable.
 each_universe : {u : ℕ} {before after : Store} {ks : List BoundKind} {xs : List Tree} → MakesEach u before ks xs after →
     after.universe ≡ before.universe
@@ -113,7 +118,7 @@ same_changes st = record {
 
 -- A known binder's list is known, and so is its body.
 pub binder_list : (o : Option (List BoundKind)) (t : Tree) → IsTrue (known (under o t)) → IsSome o
-binder_list (Some ks) t k = tt
+binder_list (Some ks) t k = refl
 binder_list None t k = absurd (false≢true k)
 
 pub binder_body : (o : Option (List BoundKind)) (t : Tree) → IsTrue (known (under o t)) → IsTrue (known t)

@@ -31,7 +31,7 @@ over_atom st i x v = record { sure = refl; is_in = (v, tt, tt); binds = tt }
 module _ {Key Id Name : Type 0} {m n : Meaning Key Id Name} (e : Extends m n) (st : Store) (k : BoundVarsKey Key) (i : ℕ)
     (is : m.bound_vars k ≡ Some (bound_kind region_kind i ∷ [])) (t : Tree) where
   there : n.bound_vars k ≡ Some (bound_kind region_kind i ∷ [])
-  there = e.bound_vars k (subst IsSome (sym is) tt) ∙ is
+  there = e.bound_vars k (subst IsSome (sym is) refl) ∙ is
 
   pub region_opens : (j : ℕ) → t ≡ leaf (bound (bound_kind region_kind j) 0 0) → MayOpen st (under (n.bound_vars k) t)
   region_opens j h = subst₂ (λ o u. MayOpen st (under o u)) (sym there) (sym h) (over_itself st i j)

@@ -14,6 +14,7 @@ pub mod Growing
 pub mod NewVariables
 pub mod MakingEach
 pub mod Opened
+pub mod OpenedTerms
 pub mod Erased
 pub mod Composing
 pub mod Opening

@@ -28,13 +28,13 @@ AllStandFor [] (t ∷ ts) = ⊥
 AllStandFor (k ∷ ks) [] = ⊥
 
 -- The one at a place.
-record Found (ts : List Tree) (i : ℕ) (q : BoundKind) : Type 0 where
-  tree : Tree
-  got : slice_get ts i ≡ Some tree
-  there : (t : Tree) → tree_at ts i t ≡ tree
-  stands : StandsFor q tree
+pub record Found (ts : List Tree) (i : ℕ) (q : BoundKind) : Type 0 where
+  pub tree : Tree
+  pub got : slice_get ts i ≡ Some tree
+  pub there : (t : Tree) → tree_at ts i t ≡ tree
+  pub stands : StandsFor q tree
 
-found : (ks : List BoundKind) (ts : List Tree) → AllStandFor ks ts → (i : ℕ) (q : BoundKind) → slice_get ks i ≡ Some q → Found ts i q
+pub found : (ks : List BoundKind) (ts : List Tree) → AllStandFor ks ts → (i : ℕ) (q : BoundKind) → slice_get ks i ≡ Some q → Found ts i q
 found [] ts h i q e = absurd cc
 found (k ∷ ks) [] h i q e = absurd h
 found (k ∷ ks) (t ∷ ts) h zero q e = let p : k ≡ q = cc in

@@ -65,7 +65,7 @@ instantiate_bound_vars-requires g c =
     let k = binder_body (m.bound_vars c.args.value.bound_vars) (g.T.HasTree.tree m v) c.requires.value_known in
     let made = c.in_ok-args.ensures in
     record {
-      known = subst (λ t. IsTrue (known t)) (sym (g.met.T.HasTree.stays m n made.grown v k)) k;
+      known = subst (λ t. IsTrue (known t)) (sym (g.T.HasTree.stays m n made.grown v k)) k;
       args_known = subst (λ xs. IsTrue (known (list_tree (arg_tree n) xs))) (sym c.deref.ensures.value) made.sure;
     }
 
@@ -111,7 +111,7 @@ returns-clause-enters g c =
     let ps = map (arg_tree n) c.in_ok-args.args.items in
     let some : bound_var_escapes t ≡ true = grind (arith, common_steps) in
     let same : g.T.HasTree.tree n v ≡ t =
-    g.met.T.HasTree.stays m n made.grown v (binder_body list t c.requires.value_known) in
+    g.T.HasTree.stays m n made.grown v (binder_body list t c.requires.value_known) in
     entered_as (context_in g.I.Interner.meaning p) (context_in g.I.Interner.meaning _) list t
     (g.T.HasTree.tree o c.in_ok-entered.entered) ps c.requires.value_known c.requires.value_binds some
     (subst (λ st. ChangesNothing st (store_of o y)) (store_grows grown p.inner c.requires.lawful)

@@ -29,7 +29,7 @@ instantiate_bound_vars-requires g c =
     let k = binder_body (m.bound_vars c.args.value.bound_vars) (g.T.HasTree.tree m v) c.requires.value_known in
     let made = c.in_ok-args.ensures in
     record {
-      known = subst (λ t. IsTrue (known t)) (sym (g.met.T.HasTree.stays m n made.grown v k)) k;
+      known = subst (λ t. IsTrue (known t)) (sym (g.T.HasTree.stays m n made.grown v k)) k;
       args_known = subst (λ xs. IsTrue (known (list_tree (arg_tree n) xs))) (sym c.deref.ensures.value) made.sure;
     }
 
@@ -54,7 +54,7 @@ returns-clause-instantiates g c =
     let made = c.in_ok-args.ensures in
     let xs = map (arg_tree n) c.in_ok-args.args.items in
     let same : g.T.HasTree.tree n v ≡ t =
-    g.met.T.HasTree.stays m n made.grown v (binder_body list t c.requires.value_known) in
+    g.T.HasTree.stays m n made.grown v (binder_body list t c.requires.value_known) in
     let still = store_grows c.instantiate_bound_vars.ensures.grown q.inner made.lawful in
     let each : MakesEach (p.inner.universe).0 (store_in meaning p) (kinds_in list) xs _ =
     subst (MakesEach (p.inner.universe).0 (store_in meaning p) (kinds_in list) xs) (sym still) made.makes in

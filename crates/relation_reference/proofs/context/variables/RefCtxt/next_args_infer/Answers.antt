@@ -106,11 +106,13 @@ loop-place-preserved g c =
 
 pub returns-clause-makes : goal.returns-clause-makes
 returns-clause-makes g c =
+    let meaning = g.I.Interner.meaning in
     let p = c.args.self.now in
-    let m = g.I.Interner.meaning p.interner in
-    let ks = kinds_in (m.bound_vars c.args.bound_vars.now) in
+    let q = c.loop-place.self in
+    let ks = kinds_in ((meaning p.interner).bound_vars c.args.bound_vars.now) in
     let counted = c.count_of-place-end.ensures in
     let test = c.loop-place-test.false in
     let all : length ks ≤ c.loop-place.place = omega (arith, counted, test) in
-    subst (λ zs. MakesEach (p.inner.universe).0 (store_in g.I.Interner.meaning p) zs _ _)
+    subst (λ zs. MakesEach (p.inner.universe).0 (store_in meaning p) zs
+    (map (arg_tree (meaning q.interner)) c.loop-place.args.items) (store_in meaning q))
     (take_all c.loop-place.place ks all) c.loop-place.invariant.makes
