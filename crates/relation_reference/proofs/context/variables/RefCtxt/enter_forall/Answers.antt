@@ -112,11 +112,14 @@ returns-clause-enters g c =
     let some : bound_var_escapes t ≡ true = grind (arith, common_steps) in
     let same : g.T.HasTree.tree n v ≡ t =
     g.T.HasTree.stays m n made.grown v (binder_body list t c.requires.value_known) in
-    entered_as (context_in g.I.Interner.meaning p) (context_in g.I.Interner.meaning _) list t
-    (g.T.HasTree.tree o c.in_ok-entered.entered) ps c.requires.value_known c.requires.value_binds some
-    (subst (λ st. ChangesNothing st (store_of o y)) (store_grows grown p.inner c.requires.lawful)
-    (universe_alone o p.inner c.in_ok-universe.universe above)) above made.made
-    (put.made ∙ ap₂ opened (ap (map (arg_tree n)) c.deref.ensures.value) same)
+    let q = record p { interner = c.instantiate_bound_vars.new.cx; inner = y } in
+    let changes : ChangesNothing (store_of m p.inner) (store_of o y) =
+    subst (λ st. ChangesNothing st (store_of o y)) (store_grows grown p.inner c.requires.lawful)
+    (universe_alone o p.inner c.in_ok-universe.universe above) in
+    let is : g.T.HasTree.tree o c.in_ok-entered.entered ≡ opened ps t =
+    put.made ∙ ap₂ opened (ap (map (arg_tree n)) c.deref.ensures.value) same in
+    entered_as (context_in g.I.Interner.meaning p) (context_in g.I.Interner.meaning q) list t
+    (g.T.HasTree.tree o c.in_ok-entered.entered) ps c.requires.value_known c.requires.value_binds some changes above made.made is
 
 pub returns-clause-rest : goal.returns-clause-rest
 returns-clause-rest g c = record { solver = refl; outliving = refl; marks = λ n. refl }

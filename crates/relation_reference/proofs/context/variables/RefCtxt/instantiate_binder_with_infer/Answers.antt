@@ -55,10 +55,11 @@ returns-clause-instantiates g c =
     let xs = map (arg_tree n) c.in_ok-args.args.items in
     let same : g.T.HasTree.tree n v ≡ t =
     g.T.HasTree.stays m n made.grown v (binder_body list t c.requires.value_known) in
+    let r = record q { interner = c.instantiate_bound_vars.new.cx } in
     let still = store_grows c.instantiate_bound_vars.ensures.grown q.inner made.lawful in
-    let each : MakesEach (p.inner.universe).0 (store_in meaning p) (kinds_in list) xs _ =
+    let each : MakesEach (p.inner.universe).0 (store_in meaning p) (kinds_in list) xs (store_in meaning r) =
     subst (MakesEach (p.inner.universe).0 (store_in meaning p) (kinds_in list) xs) (sym still) made.makes in
-    if_ok c.instantiate_bound_vars.result (λ x e. instantiated_as (context_in meaning p) (context_in meaning _) list t
+    if_ok c.instantiate_bound_vars.result (λ x e. instantiated_as (context_in meaning p) (context_in meaning r) list t
     (g.T.HasTree.tree o x) xs c.requires.value_known c.requires.value_binds each
     (e ∙ ap₂ opened (ap (map (arg_tree n)) c.deref.ensures.value) same)) c.instantiate_bound_vars.ensures.made
 
