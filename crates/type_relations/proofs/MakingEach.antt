@@ -61,8 +61,7 @@ module _ (u : ℕ) (before middle after : Store) (k : BoundKind) (n : ℕ) (q : 
       let v = h.0.0 in
       let m = h.0.1 in
       let e = h.0.2 in
-      let made = h.0.5 in
-      (
+      let made = h.0.5 in (
         (v, m, e, h.0.3, h.0.4, up.grows v m made, still v m made ∙ h.0.6),
         avoids_more x (leaf (variable (variable_kind k) n)) xs h.1 (subst (λ z. leaf (variable (variable_kind k) n) ≢ z) (sym e) (another v m made)),
         new_more ks xs h.2,
@@ -123,15 +122,14 @@ module _ (u : ℕ) (before middle after : Store) (k : BoundKind) (n : ℕ) (q : 
   unconstrained_more f w s values sat fit names =
       let r = split u ks k values fit names in
       let a = f w s r.front sat r.fit r.namable in
-      let b = made_is_unconstrained middle after (variable_kind k) n u q g w a.0 r.value a.2.0 (stands_for k r.value r.last.0) r.last.1 r.last.2 r.last_namable.0 in
-      (
+      let b = made_is_unconstrained middle after (variable_kind k) n u q g w a.0 r.value a.2.0 (stands_for k r.value r.last.0) r.last.1 r.last.2 r.last_namable.0 in (
         b.0,
         λ j m h. a.1 j m h ∙ b.1 j m (l.grows j m h),
         (
           b.2.0,
           map-append (apply b.0) xs (leaf (variable (variable_kind k) n) ∷ [])
-          ∙ ap₂ ◌++◌ (same_values before middle u ks xs a.0 b.0 b.1 new ∙ a.2.1) (ap (λ y. y ∷ []) b.2.1)
-          ∙ sym r.is,
+              ∙ ap₂ ◌++◌ (same_values before middle u ks xs a.0 b.0 b.1 new ∙ a.2.1) (ap (λ y. y ∷ []) b.2.1)
+              ∙ sym r.is,
         ),
       )
 

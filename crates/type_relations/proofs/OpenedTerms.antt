@@ -120,13 +120,13 @@ module _ (st : Store) (g : IsSound st) (ks : List BoundKind) (ts : List Tree) (s
 
 -- Placeholders are such.
 placeholders_small : (st : Store) (ks : List BoundKind) (ps : List Tree) → ArePlaceholders st.universe ks ps → EachTree (IsSmall st) ps
+unfolding IsTermIn InContext
 placeholders_small st [] [] h = tt
 placeholders_small st [] (p ∷ ps) h = absurd h
 placeholders_small st (k ∷ ks) [] h = absurd h
 placeholders_small st (k ∷ ks) (p ∷ ps) h = (subst (IsSmall st) (sym h.0.1) (small h.0.0), placeholders_small st ks ps h.2)
   where
     small : (n : ℕ) → IsSmall st (leaf (placeholder k st.universe n))
-    unfolding IsTermIn InContext
     small n = record { is_in = (tt, tt, omega arith); own = refl; one = refl }
 
 -- So are variables of which nothing is recorded.
@@ -142,6 +142,7 @@ variables_small before st u (k ∷ ks) (x ∷ xs) h free =
     small v n made none = record { is_in = term_of_made st v n made; own = resolved_free st v n none; one = refl }
 
 pub entered_body_is_in : EnteredBodyIsIn
+unfolding IsTermIn InContext weight
 entered_body_is_in before after ks body opened f g h b = go f.opens
   where
     sound : IsSound after
@@ -151,7 +152,6 @@ entered_body_is_in before after ks body opened f g h b = go f.opens
     same_terms k n = ap (λ es. entry_term k (get_or es n unbound)) (sym (f.changes_nothing.same_entries k))
 
     same_weight : weight after body ≡ weight before body
-    unfolding weight
     same_weight = ap size (apply_alike (resolved after) (resolved before) body (λ k n. sym
         (resolved_same before after same_terms (sym (all_alike counts_term before after f.changes_nothing.same_entries)) k n)))
 
@@ -160,7 +160,6 @@ entered_body_is_in before after ks body opened f g h b = go f.opens
         f.changes_nothing.universe_stands t i
 
     left : IsTermIn before (bind ks body) → StaysWithin 0 body → IsTermIn before body
-    unfolding IsTermIn InContext
     left i w = (i.0, w, i.2)
 
     go : LeavesBody before after body opened ⊎ ((StaysWithin 0 body → ⊥) × EntersUniverse before after ks body opened) →
@@ -172,8 +171,7 @@ entered_body_is_in before after ks body opened f g h b = go f.opens
     go (inr p) =
         let e = p.1 in
         let stand = placeholders_stand after.universe ks e.placeholders e.are_placeholders in
-        let small = placeholders_small after ks e.placeholders e.are_placeholders in
-        (
+        let small = placeholders_small after ks e.placeholders e.are_placeholders in (
           subst (IsTermIn after) (sym e.body_is) (inst_in after sound ks e.placeholders stand small body b (later (bind ks body) h)),
           ap (weight after) e.body_is ∙ inst_weight after sound ks e.placeholders stand small body b ∙ same_weight,
         )
@@ -184,10 +182,9 @@ instantiated_body_is_in before after ks body opened f g h b =
     let new = each_new f.makes (omega arith) g in
     let stand = variables_stand f.makes in
     let small = variables_small before after before.universe ks f.variables new (λ k n o. sym (a.terms k n) ∙ none k n o) in
-    let same = a.universe in
-    (
+    let same = a.universe in (
       subst (IsTermIn after) (sym f.body_is) (inst_in after a.sound ks f.variables stand small body b
-      (later_term before after (a.later).grows (omega (arith, same)) (bind ks body) h)),
+          (later_term before after (a.later).grows (omega (arith, same)) (bind ks body) h)),
       ap (weight after) f.body_is ∙ inst_weight after a.sound ks f.variables stand small body b ∙ sym (a.weights body),
     )
   where
