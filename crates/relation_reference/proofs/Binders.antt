@@ -1,5 +1,6 @@
 -- Opening binders in a reference context.
-use Rattle.std.proofs.Common.{◌≡◌, ℕ, zero, suc, ◌+◌, ◌<◌, ◌≤◌, IsTrue, Bool, true, false, refl, sym, ap, ap₂, ◌∙◌, arith, subst, inl, inr, List, [], ◌∷◌, ◌++◌, length, map, take}
+use Rattle.std.proofs.Common.{◌≡◌, ℕ, zero, suc, ◌+◌, ◌<◌, ◌≤◌, IsTrue, Bool, true, false, refl, sym, ap, ap₂, ◌∙◌}
+use Rattle.std.proofs.Common.{arith, subst, inl, inr, List, [], ◌∷◌, ◌++◌, length, map, take}
 use Rattle.std.specs.Prelude.{Option, Some, None, IsSome, Result, Ok, Err, IfOk, OnErr, slice_get}
 use Rattle.std.proofs.lemmas.Bool.{false≢true, and_parts}
 use Rattle.std.proofs.lemmas.List.{map-append, length-take-le}
@@ -17,7 +18,8 @@ use Rattle.type_relations.specs.Stores.{Store}
 use Rattle.type_relations.specs.Contexts.{Context}
 use Rattle.type_relations.specs.ContextCalls.{KeepsRest}
 use Rattle.type_relations.specs.Generalising.{MakesUnbound}
-use Rattle.type_relations.specs.Binders.{kinds_in, BindsByList, variable_kind, MakesEach, makes_none, makes_next, EntersAs, InstantiatesAs, EntersBinder, InstantiatesWithInfer}
+use Rattle.type_relations.specs.Binders.{kinds_in, BindsByList, variable_kind, MakesEach, makes_none, makes_next}
+use Rattle.type_relations.specs.Binders.{EntersAs, InstantiatesAs, EntersBinder, InstantiatesWithInfer}
 use Rattle.type_relations.proofs.Opened.{opened_inst, placeholders_stand, variables_stand, none_escapes, some_escapes}
 use Rattle.relation_reference.specs.Opened.{placeholders_from, MakesOne}
 use Rattle.relation_reference.proofs.Grows.{both}
@@ -42,10 +44,13 @@ placeholders_more u n (j ∷ ks) k =
     ∙ ap (λ i. placeholders_from u (suc n) ks ++ leaf (placeholder k u i) ∷ []) e)
 
 pub placeholders_next : (u i j : ℕ) (ks : List BoundKind) (k : BoundKind) (ps qs : List Tree) (p : Tree) → j ≡ suc i →
-    slice_get ks i ≡ Some k → ps ≡ placeholders_from u 0 (take i ks) → qs ≡ ps ++ p ∷ [] → p ≡ leaf (placeholder k u i) →
+    slice_get ks i ≡ Some k → ps ≡ placeholders_from u 0 (take i ks) → qs ≡ ps ++ p ∷ [] →
+    p ≡ leaf (placeholder k u i) →
     qs ≡ placeholders_from u 0 (take j ks)
 placeholders_next u i j ks k ps qs p e at h more is =
-    let number : i ≡ 0 + length (take i ks) = (let below = slice_get_within ks i k at in let long = length-take-le i ks (omega (arith, below)) in omega (arith, long)) in
+    let below = slice_get_within ks i k at in
+    let long = length-take-le i ks (omega (arith, below)) in
+    let number : i ≡ 0 + length (take i ks) = omega (arith, long) in
     more ∙ ap₂ (λ z y. z ++ y ∷ []) h (is ∙ ap (λ n. leaf (placeholder k u n)) number)
     ∙ sym (placeholders_more u 0 (take i ks) k) ∙ sym (ap (placeholders_from u 0) (take_next ks i j k e at))
 
@@ -96,8 +101,10 @@ each_universe : {u : ℕ} {before after : Store} {ks : List BoundKind} {xs : Lis
 each_universe (makes_none p q) = refl
 each_universe (makes_next k f q p e) = q.same_universe ∙ each_universe f
 
-pub each_next : (u : ℕ) (before middle after : Store) (ks : List BoundKind) (i j : ℕ) (k : BoundKind) (xs ys : List Tree)
-    (x : Tree) → before.universe ≡ u → MakesEach u before (take i ks) xs middle → MakesOne middle after (variable_kind k) x →
+pub each_next : (u : ℕ) (before middle after : Store) (ks : List BoundKind) (i j : ℕ) (k : BoundKind)
+    (xs ys : List Tree)
+    (x : Tree) → before.universe ≡ u → MakesEach u before (take i ks) xs middle →
+    MakesOne middle after (variable_kind k) x →
     j ≡ suc i → slice_get ks i ≡ Some k → ys ≡ xs ++ x ∷ [] → MakesEach u before (take j ks) ys after
 each_next u before middle after ks i j k xs ys x low f one p at more =
     makes_next k f (subst (MakesVariable middle after (variable_kind k) one.0) (each_universe f ∙ low) one.2)

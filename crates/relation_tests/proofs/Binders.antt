@@ -15,7 +15,8 @@ pub record MayOpen (st : Store) (b : Tree) : Type 0 where
   pub is_in : IsTermIn st b
   pub binds : BindsByList b
 
-over_itself : (st : Store) (i j : ℕ) → MayOpen st (bind (bound_kind region_kind i ∷ []) (leaf (bound (bound_kind region_kind j) 0 0)))
+over_itself : (st : Store) (i j : ℕ) → MayOpen st
+    (bind (bound_kind region_kind i ∷ []) (leaf (bound (bound_kind region_kind j) 0 0)))
 unfolding IsTermIn InContext
 over_itself st i j = record {
   sure = refl;
@@ -23,12 +24,14 @@ over_itself st i j = record {
   binds = λ e. (bound_kind region_kind i, refl, refl);
 }
 
-over_atom : (st : Store) (i : ℕ) (x : Atom) → IsValueAtom x → MayOpen st (bind (bound_kind region_kind i ∷ []) (leaf (atom x)))
+over_atom : (st : Store) (i : ℕ) (x : Atom) → IsValueAtom x →
+    MayOpen st (bind (bound_kind region_kind i ∷ []) (leaf (atom x)))
 unfolding IsTermIn InContext
 over_atom st i x v = record { sure = refl; is_in = (v, tt, tt); binds = tt }
 
 -- The list of the binder was made before what stands under it.
-module _ {Key Id Name : Type 0} {m n : Meaning Key Id Name} (e : Extends m n) (st : Store) (k : BoundVarsKey Key) (i : ℕ)
+module _ {Key Id Name : Type 0} {m n : Meaning Key Id Name} (e : Extends m n) (st : Store) (k : BoundVarsKey Key)
+    (i : ℕ)
     (is : m.bound_vars k ≡ Some (bound_kind region_kind i ∷ [])) (t : Tree) where
   there : n.bound_vars k ≡ Some (bound_kind region_kind i ∷ [])
   there = e.bound_vars k (subst IsSome (sym is) refl) ∙ is

@@ -1,24 +1,27 @@
 -- Bodies that were opened in a context: they are the context's, and come to what is as large as before.
-use Rattle.std.proofs.Common.{◌≡◌, ◌≢◌, ◌⊎◌, ℕ, zero, suc, ◌<◌, ◌≤◌, refl, sym, ap, ap₂, ◌∙◌, arith, subst, inl, inr, ◌+◌, true, false, List, [], ◌∷◌, map, length, get_or}
-use Rattle.std.specs.Prelude.{nat_eq, cond, Option, None}
+use Rattle.std.proofs.Common.{◌≡◌, ◌≢◌, ◌⊎◌, ℕ, zero, suc, ◌<◌, refl, sym, ap, ap₂, ◌∙◌, arith, subst, inl, inr}
+use Rattle.std.proofs.Common.{◌+◌, true, false, List, [], ◌∷◌, map, length, get_or}
+use Rattle.std.specs.Prelude.{nat_eq, cond, None}
 use Rattle.std.proofs.lemmas.List.{get_or_past}
 use Rattle.std.proofs.lemmas.Bool.Decides.{eqb_tells}
 use Rattle.relation_terms.specs.Heads.{BoundKind, VarKind, Leaf, variable, bound, placeholder, atom, unknown}
 use Rattle.relation_terms.specs.Trees.{Tree, leaf, node, bind, nil, cons, apply, put, inst, tree_at, size, Leaves}
 use Rattle.type_relations.specs.Relation.{StaysWithin}
-use Rattle.type_relations.specs.Stores.{Store, unbound, entry_term, counts_term, bound_term, IsMade, IsMadeLeaf, InContext, IsNamable, IsTermIn, IsSound, resolved, weight}
-use Rattle.type_relations.specs.Steps.{ChangesNothing, AreNewVariables, ArePlaceholders, EntersForall, LeavesBody, EntersUniverse}
-use Rattle.type_relations.specs.Binders.{IsBoundAs, AreBoundAs, BindsByList, MakesEach, InstantiatesEach}
+use Rattle.type_relations.specs.Stores.{Store, unbound, entry_term, counts_term, bound_term, IsMade, IsMadeLeaf}
+use Rattle.type_relations.specs.Stores.{InContext, IsNamable, IsTermIn, IsSound, resolved, weight}
+use Rattle.type_relations.specs.Steps.{AreNewVariables, ArePlaceholders, LeavesBody}
+use Rattle.type_relations.specs.Steps.{EntersUniverse}
+use Rattle.type_relations.specs.Binders.{AreBoundAs}
 use Rattle.type_relations.specs.StoreLaws.{EnteredBodyIsIn, InstantiatedBodyIsIn}
 use Rattle.type_relations.proofs.Trees.{apply-inst, apply_alike, StaysWithin-mono}
 use Rattle.type_relations.proofs.Standing.{later_term, term_in, term_of_made}
-use Rattle.type_relations.proofs.Values.{occurring_stay, placeholders_stay}
+use Rattle.type_relations.proofs.Values.{occurring_stay}
 use Rattle.type_relations.proofs.Resolved.{resolved_same, resolved_free}
 use Rattle.type_relations.proofs.Tallies.{all_alike}
 use Rattle.type_relations.proofs.StoreCalls.{nothing_is_seen, resolved_within}
 use Rattle.type_relations.proofs.NewVariables.{adds}
 use Rattle.type_relations.proofs.MakingEach.{each_unbound, each_new}
-use Rattle.type_relations.proofs.Opened.{AllStandFor, Found, found, placeholders_stand, variables_stand}
+use Rattle.type_relations.proofs.Opened.{AllStandFor, found, placeholders_stand, variables_stand}
 
 -- A list of trees that have a property.
 abbrev EachTree : (Tree → Type 0) → List Tree → Type 0
@@ -43,10 +46,12 @@ put_leaf P ts h d unknown p = p
 put_leaf P ts h d (bound k e i) p = go (eqb_tells e d)
   where
     go : ((nat_eq e d ≡ true) × (e ≡ d)) ⊎ ((nat_eq e d ≡ false) × (e ≢ d)) → P (put ts d (bound k e i))
-    go (inl q) = subst (λ b. P (cond b (tree_at ts i (leaf (bound k e i))) (leaf (bound k e i)))) (sym q.0) (each_at P ts h i (leaf (bound k e i)) p)
+    go (inl q) = subst (λ b. P (cond b (tree_at ts i (leaf (bound k e i))) (leaf (bound k e i)))) (sym q.0)
+        (each_at P ts h i (leaf (bound k e i)) p)
     go (inr q) = subst (λ b. P (cond b (tree_at ts i (leaf (bound k e i))) (leaf (bound k e i)))) (sym q.0) p
 
-inst_leaves : (P : Leaf → Type 0) (ts : List Tree) → EachTree (Leaves P) ts → (d : ℕ) (t : Tree) → Leaves P t → Leaves P (inst ts d t)
+inst_leaves : (P : Leaf → Type 0) (ts : List Tree) → EachTree (Leaves P) ts → (d : ℕ) (t : Tree) → Leaves P t →
+    Leaves P (inst ts d t)
 inst_leaves P ts h d (leaf l) p = put_leaf (Leaves P) ts h d l p
 inst_leaves P ts h d (node a t) p = inst_leaves P ts h d t p
 inst_leaves P ts h d (bind ks t) p = inst_leaves P ts h (suc d) t p
@@ -73,7 +78,8 @@ module _ (ks : List BoundKind) (ts : List Tree) (stand : AllStandFor ks ts) (eac
   inst_stays d (leaf unknown) f h = tt
   inst_stays d (leaf (bound k e i)) f h = go (eqb_tells e d)
     where
-      at : (x : Tree) → ((y : Tree) → tree_at ts i y ≡ x) → StaysWithin 0 (tree_at ts i nil) → StaysWithin 0 (tree_at ts i (leaf (bound k e i)))
+      at : (x : Tree) → ((y : Tree) → tree_at ts i y ≡ x) → StaysWithin 0 (tree_at ts i nil) →
+          StaysWithin 0 (tree_at ts i (leaf (bound k e i)))
       at x there p = subst (StaysWithin 0) (there nil ∙ sym (there (leaf (bound k e i)))) p
 
       go : ((nat_eq e d ≡ true) × (e ≡ d)) ⊎ ((nat_eq e d ≡ false) × (e ≢ d)) → StaysWithin d (put ts d (bound k e i))
@@ -81,7 +87,8 @@ module _ (ks : List BoundKind) (ts : List Tree) (stand : AllStandFor ks ts) (eac
           let b = f q.1 in
           let r = found ks ts stand i b.0 b.1 in
           subst (λ z. StaysWithin d (cond z (tree_at ts i (leaf (bound k e i))) (leaf (bound k e i)))) (sym q.0)
-          (StaysWithin-mono 0 d (tree_at ts i (leaf (bound k e i))) (omega arith) (at r.tree r.there (each_at (StaysWithin 0) ts each i nil tt)))
+          (StaysWithin-mono 0 d (tree_at ts i (leaf (bound k e i))) (omega arith)
+          (at r.tree r.there (each_at (StaysWithin 0) ts each i nil tt)))
       go (inr q) =
           let o = q.1 in
           let below : e < d = omega (arith, h, o) in
@@ -107,36 +114,44 @@ module _ (st : Store) (g : IsSound st) (ks : List BoundKind) (ts : List Tree) (s
   inst_in : IsTermIn st (bind ks body) → IsTermIn st (inst ts 0 body)
   unfolding IsTermIn InContext
   inst_in h = term_in st (inst ts 0 body)
-      (inst_leaves (IsMadeLeaf st) ts (each_map (IsSmall st) (Leaves (IsMadeLeaf st)) (λ t s. s.is_in.0) ts small) 0 body h.0)
+      (inst_leaves (IsMadeLeaf st) ts (each_map (IsSmall st) (Leaves (IsMadeLeaf st)) (λ t s. s.is_in.0) ts small) 0
+      body h.0)
       (inst_stays ks ts stand (each_map (IsSmall st) (StaysWithin 0) (λ t s. s.is_in.1) ts small) 0 body binds h.1)
-      (inst_leaves (IsNamable st.universe) ts (each_map (IsSmall st) (Leaves (IsNamable st.universe)) (λ t s. s.is_in.2) ts small) 0 body h.2)
+      (inst_leaves (IsNamable st.universe) ts
+      (each_map (IsSmall st) (Leaves (IsNamable st.universe)) (λ t s. s.is_in.2) ts small) 0 body h.2)
 
   inst_weight : weight st (inst ts 0 body) ≡ weight st body
   unfolding weight IsOne
   inst_weight =
-      ap size (apply-inst (resolved st) ts 0 body (occurring_stay (resolved st) body (λ k n o. resolved_within st g k n))
+      ap size (apply-inst (resolved st) ts 0 body
+      (occurring_stay (resolved st) body (λ k n o. resolved_within st g k n))
       ∙ ap (λ xs. inst xs 0 (apply (resolved st) body)) (own_map st ts small))
       ∙ inst_size ts (each_map (IsSmall st) IsOne (λ t s. s.one) ts small) 0 (apply (resolved st) body)
 
 -- Placeholders are such.
-placeholders_small : (st : Store) (ks : List BoundKind) (ps : List Tree) → ArePlaceholders st.universe ks ps → EachTree (IsSmall st) ps
+placeholders_small : (st : Store) (ks : List BoundKind) (ps : List Tree) → ArePlaceholders st.universe ks ps →
+    EachTree (IsSmall st) ps
 unfolding IsTermIn InContext
 placeholders_small st [] [] h = tt
 placeholders_small st [] (p ∷ ps) h = absurd h
 placeholders_small st (k ∷ ks) [] h = absurd h
-placeholders_small st (k ∷ ks) (p ∷ ps) h = (subst (IsSmall st) (sym h.0.1) (small h.0.0), placeholders_small st ks ps h.2)
+placeholders_small st (k ∷ ks) (p ∷ ps) h =
+    (subst (IsSmall st) (sym h.0.1) (small h.0.0), placeholders_small st ks ps h.2)
   where
     small : (n : ℕ) → IsSmall st (leaf (placeholder k st.universe n))
     small n = record { is_in = (tt, tt, omega arith); own = refl; one = refl }
 
 -- So are variables of which nothing is recorded.
-variables_small : (before st : Store) (u : ℕ) (ks : List BoundKind) (xs : List Tree) → AreNewVariables before st u ks xs →
+variables_small : (before st : Store) (u : ℕ) (ks : List BoundKind) (xs : List Tree) →
+    AreNewVariables before st u ks xs →
     ((k : VarKind) (n : ℕ) → (IsMade before k n → ⊥) → bound_term st k n ≡ None) → EachTree (IsSmall st) xs
 variables_small before st u [] [] h free = tt
 variables_small before st u [] (x ∷ xs) h free = absurd h
 variables_small before st u (k ∷ ks) [] h free = absurd h
-variables_small before st u (k ∷ ks) (x ∷ xs) h free =
-    (subst (IsSmall st) (sym h.0.2) (small h.0.0 h.0.1 h.0.5 (free h.0.0 h.0.1 h.0.4)), variables_small before st u ks xs h.2 free)
+variables_small before st u (k ∷ ks) (x ∷ xs) h free = (
+  subst (IsSmall st) (sym h.0.2) (small h.0.0 h.0.1 h.0.5 (free h.0.0 h.0.1 h.0.4)),
+  variables_small before st u ks xs h.2 free,
+)
   where
     small : (v : VarKind) (n : ℕ) → IsMade st v n → bound_term st v n ≡ None → IsSmall st (leaf (variable v n))
     small v n made none = record { is_in = term_of_made st v n made; own = resolved_free st v n none; one = refl }
@@ -153,10 +168,12 @@ entered_body_is_in before after ks body opened f g h b = go f.opens
 
     same_weight : weight after body ≡ weight before body
     same_weight = ap size (apply_alike (resolved after) (resolved before) body (λ k n. sym
-        (resolved_same before after same_terms (sym (all_alike counts_term before after f.changes_nothing.same_entries)) k n)))
+        (resolved_same before after same_terms
+        (sym (all_alike counts_term before after f.changes_nothing.same_entries)) k n)))
 
     later : (t : Tree) → IsTermIn before t → IsTermIn after t
-    later t i = later_term before after (λ k n m. subst (λ es. n < length es) (sym (f.changes_nothing.same_entries k)) m)
+    later t i =
+        later_term before after (λ k n m. subst (λ es. n < length es) (sym (f.changes_nothing.same_entries k)) m)
         f.changes_nothing.universe_stands t i
 
     left : IsTermIn before (bind ks body) → StaysWithin 0 body → IsTermIn before body
@@ -172,7 +189,8 @@ entered_body_is_in before after ks body opened f g h b = go f.opens
         let e = p.1 in
         let stand = placeholders_stand after.universe ks e.placeholders e.are_placeholders in
         let small = placeholders_small after ks e.placeholders e.are_placeholders in (
-          subst (IsTermIn after) (sym e.body_is) (inst_in after sound ks e.placeholders stand small body b (later (bind ks body) h)),
+          subst (IsTermIn after) (sym e.body_is)
+              (inst_in after sound ks e.placeholders stand small body b (later (bind ks body) h)),
           ap (weight after) e.body_is ∙ inst_weight after sound ks e.placeholders stand small body b ∙ same_weight,
         )
 
@@ -181,7 +199,8 @@ instantiated_body_is_in before after ks body opened f g h b =
     let a = adds g (omega arith) (each_unbound f.makes) in
     let new = each_new f.makes (omega arith) g in
     let stand = variables_stand f.makes in
-    let small = variables_small before after before.universe ks f.variables new (λ k n o. sym (a.terms k n) ∙ none k n o) in
+    let small = variables_small before after before.universe ks f.variables new
+    (λ k n o. sym (a.terms k n) ∙ none k n o) in
     let same = a.universe in (
       subst (IsTermIn after) (sym f.body_is) (inst_in after a.sound ks f.variables stand small body b
           (later_term before after (a.later).grows (omega (arith, same)) (bind ks body) h)),

@@ -120,8 +120,8 @@ MakingOneMakes = (before after : Store) (k : BoundKind) (v : VarKind) (n u : ℕ
     u ≤ before.universe → IsSound before → var_sort v ≡ bound_sort k →
     (v ≡ int_var → ⊥) → (v ≡ float_var → ⊥) → Makes before after u (k ∷ []) (leaf (variable v n) ∷ [])
 
--- Making a variable for each place of a binder's list is making the variables of the binder; and a body with these put in
--- is opened by them.
+-- Making a variable for each place of a binder's list is making the variables of the binder; and a body with these put
+-- in is opened by them.
 abbrev pub MakingEachMakes : Type 0
 MakingEachMakes = (before after : Store) (u : ℕ) (ks : List BoundKind) (xs : List Tree) →
     MakesEach u before ks xs after → u ≤ before.universe → IsSound before → Makes before after u ks xs

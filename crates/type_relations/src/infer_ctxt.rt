@@ -236,8 +236,8 @@ pub trait InferCtxtLike {
             EntersBinder (state self.old) (state self.new) T.tree t result }
         ensures rest { KeepsRest (state self.old) (state self.new) };
 
-    /// The body of a binder, with new variables of the current universe for what the binder binds: one for each place of
-    /// its list, in that order, also where the body uses none. After `OutOfMemory` some may have been made, of which
+    /// The body of a binder, with new variables of the current universe for what the binder binds: one for each place
+    /// of its list, in that order, also where the body uses none. After `OutOfMemory` some may have been made, of which
     /// nothing is recorded.
     fn instantiate_binder_with_infer<T: TypeFoldable<Self::Interner> + Copy>(
         &mut self,

@@ -182,8 +182,8 @@ impl<I: Interner> RefCtxt<I> {
         Ok(entered)
     }
 
-    /// The body of a binder, with new variables of the current universe for what the binder binds: one for each place of
-    /// its list, in that order, also where the body uses none.
+    /// The body of a binder, with new variables of the current universe for what the binder binds: one for each place
+    /// of its list, in that order, also where the body uses none.
     ///
     /// After `OutOfMemory` some may have been made, of which nothing is recorded.
     pub fn instantiate_binder_with_infer<T: TypeFoldable<I> + Copy>(

@@ -3,4 +3,9 @@ use Rattle.type_relations.proofs.OpenedTerms.{entered_body_is_in, instantiated_b
 use Rattle.type_relations.proofs.laws.opening.Goals as goal
 
 pub returns : goal.returns
-returns c = record { makes = making_each_makes; opens = instantiating_each_opens; entered = entered_body_is_in; instantiated = instantiated_body_is_in }
+returns c = record {
+  makes = making_each_makes;
+  opens = instantiating_each_opens;
+  entered = entered_body_is_in;
+  instantiated = instantiated_body_is_in;
+}

@@ -12,7 +12,8 @@ returns g c =
     record {
       grows = record { extends = done.grown; lawful = done.lawful };
       instantiates = instantiated_binder (context_in meaning p) (context_in meaning q) g.T.HasTree.tree
-          (binder_tree g.T.HasTree.tree (meaning p.interner) c.args.value) c.instantiate_binder_with_infer.result done.sure done.instantiates
+          (binder_tree g.T.HasTree.tree (meaning p.interner) c.args.value) c.instantiate_binder_with_infer.result
+          done.sure done.instantiates
           done.refused;
       rest = done.rest;
     }

@@ -5,5 +5,6 @@ use Rattle.relation_reference.proofs.context.variables.RefCtxt.create_next_unive
 pub returns-clause-lawful : goal.returns-clause-lawful
 returns-clause-lawful g c =
     let next = c.in_ok-next.ensures in
-    universe_lawful (g.I.Interner.meaning c.args.self.now.interner) c.args.self.now.inner c.in_ok-next.next (omega (arith, next))
+    universe_lawful (g.I.Interner.meaning c.args.self.now.interner) c.args.self.now.inner c.in_ok-next.next
+    (omega (arith, next))
     c.requires

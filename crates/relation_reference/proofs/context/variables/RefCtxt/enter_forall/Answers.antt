@@ -30,7 +30,8 @@ returns-then-not-has_escaping_bound_vars-clause-enters g c =
     let m = g.I.Interner.meaning p.interner in
     let t = g.T.HasTree.tree m c.args.value.value in
     let none : bound_var_escapes t ≡ false = grind (arith, common_steps) in
-    left_as (context_in g.I.Interner.meaning p) (context_in g.I.Interner.meaning p) (m.bound_vars c.args.value.bound_vars) t t
+    left_as (context_in g.I.Interner.meaning p) (context_in g.I.Interner.meaning p)
+    (m.bound_vars c.args.value.bound_vars) t t
     c.requires.value_known none refl refl
 
 pub returns-then-not-has_escaping_bound_vars-clause-rest : goal.returns-then-not-has_escaping_bound_vars-clause-rest
@@ -71,14 +72,16 @@ instantiate_bound_vars-requires g c =
 
 pub returns-in_err-entered-clause-lawful : goal.returns-in_err-entered-clause-lawful
 returns-in_err-entered-clause-lawful g c =
-    lawful_grows (extends_on c.in_ok-args.ensures.grown c.in_err-entered.ensures.grown) c.args.self.now.inner c.requires.lawful
+    lawful_grows (extends_on c.in_ok-args.ensures.grown c.in_err-entered.ensures.grown) c.args.self.now.inner
+    c.requires.lawful
 
 pub returns-in_err-entered-clause-grown : goal.returns-in_err-entered-clause-grown
 returns-in_err-entered-clause-grown g c = extends_on c.in_ok-args.ensures.grown c.in_err-entered.ensures.grown
 
 pub returns-in_err-entered-clause-refused : goal.returns-in_err-entered-clause-refused
 returns-in_err-entered-clause-refused g c = on_err c.from_residual-in_err-entered.result _
-    (store_grows (extends_on c.in_ok-args.ensures.grown c.in_err-entered.ensures.grown) c.args.self.now.inner c.requires.lawful)
+    (store_grows (extends_on c.in_ok-args.ensures.grown c.in_err-entered.ensures.grown) c.args.self.now.inner
+    c.requires.lawful)
 
 pub returns-in_err-entered-clause-rest : goal.returns-in_err-entered-clause-rest
 returns-in_err-entered-clause-rest g c = record { solver = refl; outliving = refl; marks = λ n. refl }
@@ -87,7 +90,8 @@ pub returns-clause-lawful : goal.returns-clause-lawful
 returns-clause-lawful g c =
     let next = c.in_ok-universe.ensures in
     let x = c.args.self.now.inner in
-    universe_lawful (g.I.Interner.meaning c.instantiate_bound_vars.new.cx) x c.in_ok-universe.universe (omega (arith, next))
+    universe_lawful (g.I.Interner.meaning c.instantiate_bound_vars.new.cx) x c.in_ok-universe.universe
+    (omega (arith, next))
     (lawful_grows (extends_on c.in_ok-args.ensures.grown c.in_ok-entered.ensures.grown) x c.requires.lawful)
 
 pub returns-clause-grown : goal.returns-clause-grown
@@ -119,7 +123,8 @@ returns-clause-enters g c =
     let is : g.T.HasTree.tree o c.in_ok-entered.entered ≡ opened ps t =
     put.made ∙ ap₂ opened (ap (map (arg_tree n)) c.deref.ensures.value) same in
     entered_as (context_in g.I.Interner.meaning p) (context_in g.I.Interner.meaning q) list t
-    (g.T.HasTree.tree o c.in_ok-entered.entered) ps c.requires.value_known c.requires.value_binds some changes above made.made is
+    (g.T.HasTree.tree o c.in_ok-entered.entered) ps c.requires.value_known c.requires.value_binds some changes above
+    made.made is
 
 pub returns-clause-rest : goal.returns-clause-rest
 returns-clause-rest g c = record { solver = refl; outliving = refl; marks = λ n. refl }

@@ -70,7 +70,8 @@ returns-clause-refused g c =
     let q = c.next_args_infer.new.self in
     let still = store_grows c.instantiate_bound_vars.ensures.grown q.inner c.in_ok-args.ensures.lawful in
     on_err c.instantiate_bound_vars.result _
-    (subst (MakesUnbound (p.inner.universe).0 (store_in meaning p)) (sym still) (each_unbound c.in_ok-args.ensures.makes))
+    (subst (MakesUnbound (p.inner.universe).0 (store_in meaning p)) (sym still)
+    (each_unbound c.in_ok-args.ensures.makes))
 
 pub returns-clause-rest : goal.returns-clause-rest
 returns-clause-rest g c =

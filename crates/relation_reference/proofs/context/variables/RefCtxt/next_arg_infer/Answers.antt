@@ -14,7 +14,8 @@ pub returns-in_ok-ty-in-Ty-clause-makes : goal.returns-in_ok-ty-in-Ty-clause-mak
 returns-in_ok-ty-in-Ty-clause-makes g c =
     let m = g.I.Interner.meaning c.args.self.now.interner in
     let made = c.in_ok-ty-in-Ty.ensures in
-    made_one _ type_var _ (length c.args.self.now.inner.types.items) (ap (λ v. variable_kind (bound_kind_of m v)) c.in-Ty.is)
+    made_one _ type_var _ (length c.args.self.now.inner.types.items)
+    (ap (λ v. variable_kind (bound_kind_of m v)) c.in-Ty.is)
     made.means made.makes
 
 pub returns-in_err-region-in-Region-clause-refused : goal.returns-in_err-region-in-Region-clause-refused
@@ -25,7 +26,8 @@ pub returns-in_ok-region-in-Region-clause-makes : goal.returns-in_ok-region-in-R
 returns-in_ok-region-in-Region-clause-makes g c =
     let m = g.I.Interner.meaning c.args.self.now.interner in
     let made = c.in_ok-region-in-Region.ensures in
-    made_one _ region_var _ (length c.args.self.now.inner.regions.items) (ap (λ v. variable_kind (bound_kind_of m v)) c.in-Region.is)
+    made_one _ region_var _ (length c.args.self.now.inner.regions.items)
+    (ap (λ v. variable_kind (bound_kind_of m v)) c.in-Region.is)
     made.means made.makes
 
 pub returns-in_err-constant-in-Const-clause-refused : goal.returns-in_err-constant-in-Const-clause-refused
@@ -36,5 +38,6 @@ pub returns-in_ok-constant-in-Const-clause-makes : goal.returns-in_ok-constant-i
 returns-in_ok-constant-in-Const-clause-makes g c =
     let m = g.I.Interner.meaning c.args.self.now.interner in
     let made = c.in_ok-constant-in-Const.ensures in
-    made_one _ const_var _ (length c.args.self.now.inner.consts.items) (ap (λ v. variable_kind (bound_kind_of m v)) c.in-Const.is)
+    made_one _ const_var _ (length c.args.self.now.inner.consts.items)
+    (ap (λ v. variable_kind (bound_kind_of m v)) c.in-Const.is)
     made.means made.makes
