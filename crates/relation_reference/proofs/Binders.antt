@@ -1,5 +1,5 @@
 -- Opening binders in a reference context.
-use Rattle.std.proofs.Common.{◌≡◌, ℕ, zero, suc, ◌+◌, ◌<◌, ◌≤◌, IsTrue, Bool, true, false, refl, sym, ap, ap₂, ◌∙◌}
+use Rattle.std.proofs.Common.{◌≡◌, ℕ, zero, suc, ◌+◌, ◌<◌, IsTrue, true, false, refl, sym, ap, ap₂, ◌∙◌}
 use Rattle.std.proofs.Common.{arith, subst, inl, inr, List, [], ◌∷◌, ◌++◌, length, map, take}
 use Rattle.std.specs.Prelude.{Option, Some, None, IsSome, Result, Ok, Err, IfOk, OnErr, slice_get}
 use Rattle.std.proofs.lemmas.Bool.{false≢true, and_parts}

@@ -1,7 +1,7 @@
 use Rattle.std.proofs.Common.{◌≡◌, ◌<◌, refl, sym, ap, ap₂, ◌∙◌, subst, arith, map, false, true, IsTrue}
 use Rattle.std.proofs.lemmas.Grind.{common_steps}
 use Rattle.relation_terms.specs.Trees.{known, list_tree}
-use Rattle.relation_terms.specs.Meaning.{arg_tree, under}
+use Rattle.relation_terms.specs.Meaning.{arg_tree}
 use Rattle.relation_terms.proofs.Stays.{extends_on}
 use Rattle.relation_tools.specs.Shifts.{opened}
 use Rattle.relation_tools.specs.Visits.{bound_var_escapes}
