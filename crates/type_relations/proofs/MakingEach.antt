@@ -11,7 +11,7 @@ use Rattle.type_relations.specs.Steps.{IsNumberKind, MakesVariable, IsLater, Agr
 use Rattle.type_relations.specs.Steps.{AreNewVariables}
 use Rattle.type_relations.specs.Generalising.{MakesUnbound, makes_none as none_made, makes_one}
 use Rattle.type_relations.specs.Binders.{variable_kind, MakesEach, makes_none, makes_next}
-use Rattle.type_relations.specs.StoreLaws.{MakingEachMakes, InstantiatingEachOpens}
+use Rattle.type_relations.specs.OpeningLaws.{MakingEachMakes, InstantiatingEachOpens}
 use Rattle.type_relations.proofs.Growing.{new_made}
 use Rattle.type_relations.proofs.StoreCalls.{made_is_unconstrained}
 use Rattle.type_relations.proofs.NewVariables.{adds, new_universe}

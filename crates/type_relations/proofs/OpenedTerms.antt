@@ -1,6 +1,6 @@
 -- Bodies that were opened in a context: they are the context's, and come to what is as large as before.
 use Rattle.std.proofs.Common.{◌≡◌, ◌≢◌, ◌⊎◌, ℕ, zero, suc, ◌<◌, refl, sym, ap, ap₂, ◌∙◌, arith, subst, inl, inr}
-use Rattle.std.proofs.Common.{◌+◌, true, false, List, [], ◌∷◌, map, length, get_or}
+use Rattle.std.proofs.Common.{◌+◌, true, false, List, [], ◌∷◌, ◌++◌, map, length, get_or}
 use Rattle.std.specs.Prelude.{nat_eq, cond, None}
 use Rattle.std.proofs.lemmas.List.{get_or_past}
 use Rattle.std.proofs.lemmas.Bool.Decides.{eqb_tells}
@@ -11,8 +11,9 @@ use Rattle.type_relations.specs.Stores.{Store, unbound, entry_term, counts_term,
 use Rattle.type_relations.specs.Stores.{InContext, IsNamable, IsTermIn, IsSound, resolved, weight}
 use Rattle.type_relations.specs.Steps.{AreNewVariables, ArePlaceholders, LeavesBody}
 use Rattle.type_relations.specs.Steps.{EntersUniverse}
-use Rattle.type_relations.specs.Binders.{AreBoundAs}
-use Rattle.type_relations.specs.StoreLaws.{EnteredBodyIsIn, InstantiatedBodyIsIn}
+use Rattle.type_relations.specs.Binders.{AreBoundAs, BindByLists, MakesEach, makes_none, makes_next}
+use Rattle.type_relations.specs.OpeningLaws.{EnteredBodyIsIn, InstantiatedBodyIsIn, EnteredBodyBinds}
+use Rattle.type_relations.specs.OpeningLaws.{InstantiatedBodyBinds}
 use Rattle.type_relations.proofs.Trees.{apply-inst, apply_alike, StaysWithin-mono}
 use Rattle.type_relations.proofs.Standing.{later_term, term_in, term_of_made}
 use Rattle.type_relations.proofs.Values.{occurring_stay}
@@ -209,3 +210,57 @@ instantiated_body_is_in before after ks body opened f g h b =
   where
     none : (k : VarKind) (n : ℕ) → (IsMade before k n → ⊥) → bound_term before k n ≡ None
     none k n o = ap (entry_term k) (get_or_past (before.entries k) n unbound (omega (arith, o)))
+
+-- A tree without bound variables, and so one that has no binder either.
+record HasNoBound (t : Tree) : Type 0 where
+  bound_as : (ks : List BoundKind) (d : ℕ) → AreBoundAs ks d t
+  by_lists : BindByLists t
+
+inst_bound : (ts : List Tree) → EachTree HasNoBound ts → (ks : List BoundKind) (d e : ℕ) (t : Tree) → AreBoundAs ks d t →
+    AreBoundAs ks d (inst ts e t)
+inst_bound ts h ks d e (leaf l) f =
+    put_leaf (AreBoundAs ks d) ts (each_map HasNoBound (AreBoundAs ks d) (λ t s. s.bound_as ks d) ts h) e l f
+inst_bound ts h ks d e (node a t) f = inst_bound ts h ks d e t f
+inst_bound ts h ks d e (bind ls t) f = inst_bound ts h ks (suc d) (suc e) t f
+inst_bound ts h ks d e nil f = tt
+inst_bound ts h ks d e (cons t u) f = (inst_bound ts h ks d e t f.0, inst_bound ts h ks d e u f.1)
+
+inst_lists : (ts : List Tree) → EachTree HasNoBound ts → (e : ℕ) (t : Tree) → BindByLists t → BindByLists (inst ts e t)
+inst_lists ts h e (leaf l) f =
+    put_leaf BindByLists ts (each_map HasNoBound BindByLists (λ t s. s.by_lists) ts h) e l tt
+inst_lists ts h e (node a t) f = inst_lists ts h e t f
+inst_lists ts h e (bind ls t) f = (inst_bound ts h ls 0 (suc e) t f.0, inst_lists ts h (suc e) t f.1)
+inst_lists ts h e nil f = tt
+inst_lists ts h e (cons t u) f = (inst_lists ts h e t f.0, inst_lists ts h e u f.1)
+
+placeholders_unbound : (u : ℕ) (ks : List BoundKind) (ps : List Tree) → ArePlaceholders u ks ps → EachTree HasNoBound ps
+placeholders_unbound u [] [] h = tt
+placeholders_unbound u [] (p ∷ ps) h = absurd h
+placeholders_unbound u (k ∷ ks) [] h = absurd h
+placeholders_unbound u (k ∷ ks) (p ∷ ps) h =
+    (subst HasNoBound (sym h.0.1) (record { bound_as = λ ls d. tt; by_lists = tt }), placeholders_unbound u ks ps h.2)
+
+unbound_more : (t : Tree) (ts : List Tree) → EachTree HasNoBound ts → HasNoBound t → EachTree HasNoBound (ts ++ t ∷ [])
+unbound_more t [] h s = (s, tt)
+unbound_more t (x ∷ ts) h s = (h.0, unbound_more t ts h.1 s)
+
+variables_unbound : {u : ℕ} {before after : Store} {ks : List BoundKind} {xs : List Tree} →
+    MakesEach u before ks xs after → EachTree HasNoBound xs
+variables_unbound (makes_none p q) = subst (EachTree HasNoBound) (sym q) tt
+variables_unbound (makes_next {xs = xs} {n = n} k f q p e) = subst (EachTree HasNoBound) (sym e)
+    (unbound_more _ xs (variables_unbound f) (record { bound_as = λ ls d. tt; by_lists = tt }))
+
+pub entered_body_binds : EnteredBodyBinds
+entered_body_binds before after ks body opened f b = go f.opens
+  where
+    go : LeavesBody before after body opened ⊎ ((StaysWithin 0 body → ⊥) × EntersUniverse before after ks body opened) →
+        BindByLists opened
+    go (inl p) = subst BindByLists (sym p.body_is) b
+    go (inr p) =
+        let e = p.1 in
+        subst BindByLists (sym e.body_is) (inst_lists e.placeholders
+        (placeholders_unbound after.universe ks e.placeholders e.are_placeholders) 0 body b)
+
+pub instantiated_body_binds : InstantiatedBodyBinds
+instantiated_body_binds before after ks body opened f b =
+    subst BindByLists (sym f.body_is) (inst_lists f.variables (variables_unbound f.makes) 0 body b)

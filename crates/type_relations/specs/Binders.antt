@@ -34,6 +34,14 @@ abbrev pub BindsByList : Tree → Type 0
 BindsByList (bind ks t) = AreBoundAs ks 0 t
 BindsByList t = Unit {0}
 
+-- Each binder in a tree does that.
+abbrev pub BindByLists : Tree → Type 0
+BindByLists (leaf l) = Unit {0}
+BindByLists (node h ts) = BindByLists ts
+BindByLists (bind ks t) = AreBoundAs ks 0 t × BindByLists t
+BindByLists nil = Unit {0}
+BindByLists (cons t ts) = BindByLists t × BindByLists ts
+
 -- Of which kind a variable is that may stand for what a binder binds.
 abbrev pub variable_kind : BoundKind → VarKind
 variable_kind (bound_kind type_kind n) = type_var

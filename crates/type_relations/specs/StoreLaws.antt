@@ -1,16 +1,14 @@
 -- Laws of a store's calls: which assignments each keeps, and that a sound store stays sound.
-use Rattle.std.specs.Prelude.{◌≡◌, ◌≢◌, ◌↔◌, ℕ, ◌≤◌, List, [], ◌∷◌}
+use Rattle.std.specs.Prelude.{◌≡◌, ◌≢◌, ◌↔◌, ℕ, ◌≤◌, [], ◌∷◌}
 use Rattle.relation_terms.specs.declared.terms.enums.Variance.{Variance}
 use Rattle.relation_terms.specs.Heads.{BoundKind, bound_sort, VarKind, int_var, float_var, region_var, var_sort}
 use Rattle.relation_terms.specs.Heads.{variable}
-use Rattle.relation_terms.specs.Trees.{Tree, leaf, bind, Assign, apply, Leaves, Occurs}
+use Rattle.relation_terms.specs.Trees.{Tree, leaf, Assign, apply, Leaves, Occurs}
 use Rattle.type_relations.specs.Relation.{Items, Interpretation, IsValueLeaf, StaysWithin}
 use Rattle.type_relations.specs.Stores.{Store, universe_of, MayStandFor, IsNamable, IsInScope, IsTermIn, IsSound}
 use Rattle.type_relations.specs.Stores.{Satisfies, ConstraintHolds, ConstraintIn, Constraint, resolved, weight}
 use Rattle.type_relations.specs.Steps.{Equates, BindsTo, Instantiates, RefusesToInstantiate, MakesVariable}
 use Rattle.type_relations.specs.Steps.{AddsConstraint, ChangesNothing, InstantiatesNumber, Resolves, Extends, Makes}
-use Rattle.type_relations.specs.Steps.{EntersForall, InstantiatesBinder}
-use Rattle.type_relations.specs.Binders.{BindsByList, MakesEach, InstantiatesEach}
 use Rattle.type_relations.specs.Measures.{Goes}
 use Rattle.type_relations.specs.Generalising.{Stage, any_part, Generalised, InstantiatesBy, NumbersNameNothing}
 use Rattle.type_relations.specs.Generalising.{Obstacle, RefusesBy}
@@ -119,24 +117,3 @@ abbrev pub MakingOneMakes : Type 0
 MakingOneMakes = (before after : Store) (k : BoundKind) (v : VarKind) (n u : ℕ) → MakesVariable before after v n u →
     u ≤ before.universe → IsSound before → var_sort v ≡ bound_sort k →
     (v ≡ int_var → ⊥) → (v ≡ float_var → ⊥) → Makes before after u (k ∷ []) (leaf (variable v n) ∷ [])
-
--- Making a variable for each place of a binder's list is making the variables of the binder; and a body with these put
--- in is opened by them.
-abbrev pub MakingEachMakes : Type 0
-MakingEachMakes = (before after : Store) (u : ℕ) (ks : List BoundKind) (xs : List Tree) →
-    MakesEach u before ks xs after → u ≤ before.universe → IsSound before → Makes before after u ks xs
-
-abbrev pub InstantiatingEachOpens : Type 0
-InstantiatingEachOpens = (before after : Store) (ks : List BoundKind) (body opened : Tree) →
-    InstantiatesEach before after ks body opened → IsSound before → InstantiatesBinder before after ks body opened
-
--- A body that was opened in either way is the context's, and comes to what is as large as before.
-abbrev pub EnteredBodyIsIn : Type 0
-EnteredBodyIsIn = (before after : Store) (ks : List BoundKind) (body opened : Tree) →
-    EntersForall before after ks body opened → IsSound before → IsTermIn before (bind ks body) →
-    BindsByList (bind ks body) → IsTermIn after opened × (weight after opened ≡ weight before body)
-
-abbrev pub InstantiatedBodyIsIn : Type 0
-InstantiatedBodyIsIn = (before after : Store) (ks : List BoundKind) (body opened : Tree) →
-    InstantiatesEach before after ks body opened → IsSound before → IsTermIn before (bind ks body) →
-    BindsByList (bind ks body) → IsTermIn after opened × (weight after opened ≡ weight before body)

@@ -4,7 +4,9 @@
 ghost use Rattle.type_relations.specs.SmallTerms.{IsReflexive, AnythingAtBivariance, ErrorsAreRelated, ParametersByIndex, ValuesByTheirTrees, ConstantsAtEachVariance, ReferencesByRegions, MutablePointeesAreFixed, InputsTurnRound, BivariantArguments, UnlikeHeadsAreUnrelated, UnlikeAtomsAreUnrelated, AtomsAreNoForms, FormsByParts, PredicatesWithThemselvesAlone, AnyIsStatic, StaticIsNotAny, PlaceholderIsNotAny, OneRegionIsNotTwo, AnyIsNotInvariantlyStatic};
 ghost use Rattle.type_relations.specs.StepLaws.{AssigningTwice, InstantiatingAssigns, OccursCheck, CyclesDoNotUnify, ValuesAreNamable, RelatesLater, RelatesUnderMore, PartsCompose, NoPartsRelate, FormsRelate, StepsCompose, InstantiatingSteps, OpeningSteps, OneRoundRelates, TwoRoundsRelate, UnusedBindersRelate, FrontBegins, FrontGoesOn, FrontEnds, ExactsCompose, ExactStepsCompose, InstantiatingIsExactStep, ExactFrontGoesOn, ExactFrontEnds, ExactKeepsUnifiers};
 ghost use Rattle.type_relations.specs.ErasureLaws.{ErasureAssigns, FormsUnifyByParts, TypesOfValuesUnify, ListsUnifyByItems, UnlikeFormsDoNotUnify, ErasedOccursCheck, InvariantTermsAreAlike};
-ghost use Rattle.type_relations.specs.StoreLaws.{EquatingStaysSound, EquatingIsExact, BindingStaysSound, BindingIsExact, BindingInstantiates, CyclesRefuse, GeneralisingIsOne, GeneralisingInstantiates, GeneralisingRefuses, NumbersStaySound, NumbersAreExact, MakingStaysSound, MadeIsUnconstrained, ConstrainingIsExact, NothingIsSeen, ResolvedResolves, MakingOneMakes, MakingEachMakes, InstantiatingEachOpens, EnteredBodyIsIn, InstantiatedBodyIsIn};
+ghost use Rattle.type_relations.specs.StoreLaws.{EquatingStaysSound, EquatingIsExact, BindingStaysSound, BindingIsExact, BindingInstantiates, CyclesRefuse, GeneralisingIsOne, GeneralisingInstantiates, GeneralisingRefuses, NumbersStaySound, NumbersAreExact, MakingStaysSound, MadeIsUnconstrained, ConstrainingIsExact, NothingIsSeen, ResolvedResolves, MakingOneMakes};
+ghost use Rattle.type_relations.specs.OpeningLaws.{MakingEachMakes, InstantiatingEachOpens, EnteredBodyIsIn};
+ghost use Rattle.type_relations.specs.OpeningLaws.{InstantiatedBodyIsIn, EnteredBodyBinds, InstantiatedBodyBinds};
 ghost use Rattle.type_relations.specs.Stores.{BindingsAreMet};
 ghost use Rattle.type_relations.specs.RejectionLaws.{ClashesDoNotUnify, ClashesAreNotRelated};
 ghost use Rattle.type_relations.specs.RegionTerms.{RelatedTermsAgree, RelatedIffAgree};
@@ -126,6 +128,8 @@ pub fn opening()
     ensures opens { InstantiatingEachOpens }
     ensures entered { EnteredBodyIsIn }
     ensures instantiated { InstantiatedBodyIsIn }
+    ensures entered_binds { EnteredBodyBinds }
+    ensures instantiated_binds { InstantiatedBodyBinds }
 {}
 
 /// First-order terms that a quick test tells apart, parameters standing for themselves.
