@@ -1,10 +1,8 @@
 //! Opening binders: their bodies with placeholders or new variables for what they bind.
-ghost use Rattle.std.specs.Prelude.{◌≡◌, ◌<◌, IsTrue, IsSome, Some, IfOk, OnErr, length, map, slice_get, suc};
-ghost use Rattle.relation_terms.specs.Heads.{placeholder, variable};
+ghost use Rattle.std.specs.Prelude.{◌≡◌, ◌<◌, IsTrue, IsSome, Some, IfOk, OnErr, length, map, slice_get};
+ghost use Rattle.relation_terms.specs.Heads.{placeholder};
 ghost use Rattle.relation_terms.specs.Trees.{leaf, known, list_tree};
 ghost use Rattle.relation_terms.specs.Meaning.{Extends, arg_tree, bound_kind_of};
-ghost use Rattle.type_relations.specs.Stores.{IsTermIn};
-ghost use Rattle.type_relations.specs.Steps.{ArePlaceholders, MakesVariable};
 ghost use Rattle.type_relations.specs.Generalising.{MakesUnbound};
 ghost use Rattle.type_relations.specs.ContextCalls.{KeepsRest};
 ghost use Rattle.type_relations.specs.Binders.{kinds_in, variable_kind, MakesEach, binder_tree, BindsByList};
