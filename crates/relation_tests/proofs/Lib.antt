@@ -2,4 +2,4 @@ pub mod PlainLemmas
 pub mod Concrete
 pub mod OverItems
 pub mod Atoms
-pub mod Binders
+pub mod Opening

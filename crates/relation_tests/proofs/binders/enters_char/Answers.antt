@@ -1,5 +1,5 @@
 use Rattle.relation_terms.specs.Heads.{char_type}
-use Rattle.relation_tests.proofs.Binders.{atom_opens}
+use Rattle.relation_tests.proofs.Opening.{atom_opens}
 use Rattle.relation_tests.proofs.binders.enters_char.Goals as goal
 
 pub enter_forall-requires : goal.enter_forall-requires

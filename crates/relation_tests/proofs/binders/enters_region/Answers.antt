@@ -1,6 +1,6 @@
 use Rattle.std.proofs.Common.{ap, ◌∙◌}
 use Rattle.relation_terms.specs.Meaning.{region_tree}
-use Rattle.relation_tests.proofs.Binders.{region_opens}
+use Rattle.relation_tests.proofs.Opening.{region_opens}
 use Rattle.relation_tests.proofs.binders.enters_region.Goals as goal
 
 pub enter_forall-requires : goal.enter_forall-requires

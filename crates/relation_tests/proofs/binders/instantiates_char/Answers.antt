@@ -1,5 +1,5 @@
 use Rattle.relation_terms.specs.Heads.{char_type}
-use Rattle.relation_tests.proofs.Binders.{atom_opens}
+use Rattle.relation_tests.proofs.Opening.{atom_opens}
 use Rattle.relation_tests.proofs.binders.instantiates_char.Goals as goal
 
 pub instantiate_binder_with_infer-requires : goal.instantiate_binder_with_infer-requires

@@ -1,6 +1,6 @@
 use Rattle.std.proofs.Common.{ap, ◌∙◌}
 use Rattle.relation_terms.specs.Meaning.{region_tree}
-use Rattle.relation_tests.proofs.Binders.{region_opens}
+use Rattle.relation_tests.proofs.Opening.{region_opens}
 use Rattle.relation_tests.proofs.binders.instantiates_region.Goals as goal
 
 pub instantiate_binder_with_infer-requires : goal.instantiate_binder_with_infer-requires
