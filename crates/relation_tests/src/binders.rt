@@ -26,8 +26,9 @@ fn make_bound_vars<C: InferCtxtLike>(
         IfOk result (λ k. ((C.state ctx.new).meaning).bound_vars k ≡ Some (bound_kind region_kind n ∷ [])) }
 {
     ctx.interner_grows();
-    ctx.cx_mut()
-        .mk_bound_vars(&[BoundVariableKind::Region(name)])
+    let mut list = Vec::new(ctx.cx().alloc());
+    list.push(BoundVariableKind::Region(name))?;
+    ctx.cx_mut().mk_bound_vars(&list)
 }
 
 // The region that the binder around it binds in the first place.
