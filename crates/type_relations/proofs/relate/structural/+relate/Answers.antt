@@ -1,4 +1,4 @@
-use Rattle.std.proofs.Common.{ap₂, suc, ◌+◌, IfOk, rules, ◌≡◌, ◌≢◌, ◌↔◌, ◌<◌, IsTrue, refl, sym, ap, ◌∙◌, subst, subst₂, arith, Ok, Err}
+use Rattle.std.proofs.Common.{ap₂, suc, ◌+◌, ◌*◌, IfOk, rules, ◌≡◌, ◌≢◌, ◌↔◌, ◌<◌, IsTrue, refl, sym, ap, ◌∙◌, subst, subst₂, arith, Ok, Err}
 use Rattle.std.proofs.lemmas.Bool.{false≢true}
 use Rattle.relation_terms.specs.declared.terms.enums.Variance.TheVariants.{Bivariant}
 use Rattle.relation_terms.specs.declared.terms.generic_arg.GenericArgKind.TheVariants.{Lifetime, Ty, Const}
@@ -6,6 +6,8 @@ use Rattle.relation_terms.specs.Heads.{type_sort}
 use Rattle.relation_terms.specs.Trees.{nil, known, count, nth, list_tree}
 use Rattle.relation_terms.specs.Variances.{xform}
 use Rattle.relation_terms.specs.Meaning.{arg_tree}
+use Rattle.relation_terms.specs.Parts.{part_tree, part_sort, tree_sort, Fit as PartsFit}
+use Rattle.relation_terms.proofs.Parts.{sort_known, stays_part}
 use Rattle.relation_terms.proofs.Sorted.{Sorted}
 use Rattle.relation_terms.proofs.Stays.{knows_arg}
 use Rattle.relation_tools.specs.declared.error.TypeError.TheVariants.{Mismatch}
@@ -14,7 +16,13 @@ use Rattle.type_relations.specs.Relation.{part_at}
 use Rattle.type_relations.specs.Goals.{Relates}
 use Rattle.type_relations.specs.Errors.{AreOfOneForm}
 use Rattle.type_relations.specs.Covered.{IsCovered}
-use Rattle.type_relations.specs.Parts.{IsFormed, IsFormedConst, parts_of, const_parts_of, head_of, const_head_of}
+use Rattle.type_relations.specs.Parts.{IsFormed, IsFormedConst, IsOfPattern, IsInPattern, parts_of, const_parts_of, head_of}
+use Rattle.type_relations.specs.Parts.{const_head_of}
+use Rattle.type_relations.specs.Stores.{weight}
+use Rattle.type_relations.specs.Measures.{depth}
+use Rattle.type_relations.proofs.Patterns.{pattern_is, pattern_alike, pattern_part_at, part_sorted, in_pattern, of_one_sort}
+use Rattle.type_relations.proofs.InOrder.{patterns_stopped, patterns_answer, patterns_refused, patterns_differ}
+use Rattle.type_relations.proofs.InOrder.{may_over_pattern, part_pushed, parts_end}
 use Rattle.type_relations.specs.Handing.{IsResultOfTy, IsResultOfConst}
 use Rattle.type_relations.specs.Making.{arg_sort, Fit, over, const_over}
 use Rattle.type_relations.proofs.Answering.{same_items, AreAnswers, answers_none, answers_next, answers_end, may_over, may_const_over, may_later}
@@ -1777,3 +1785,384 @@ structurally_relate_tys-returns g t c =
     (may_later M r.ambient a (over a was) (n.ensures).passes may)
     (ap₂ over stays (ap (list_tree (arg_tree u.meaning)) c.as_slice.ensures.value ∙ listed)) (made.made).sure
     (made.made).means
+
+pub relate_in_order-loop-i-init : goal.relate_in_order-loop-i-init
+relate_in_order-loop-i-init g t c =
+    let r = g.R.TypeRelation.state c.args.r.now in
+    let M = g.R.TypeRelation.manner in
+    let a = part_tree r.meaning c.args.a.now in
+    let b = part_tree r.meaning c.args.b.now in
+    let e = g.met.R.TypeRelation.reads c.args.r.now in
+    let cx = g.R.TypeRelation.interner c.args.r.now in
+    let sorted : Sorted r.meaning = subst (λ m. Sorted m) (sym e) (record {
+      ty = g.met.I.Interner.is_ty cx;
+      region = g.met.I.Interner.is_region cx;
+      tys = g.met.I.Interner.are_tys cx;
+      const_ = g.met.I.Interner.is_const cx;
+      valtree = g.met.I.Interner.is_valtree cx;
+      args = g.met.I.Interner.are_args cx;
+      branches = g.met.I.Interner.are_branches cx;
+      pat = g.met.I.Interner.is_pat cx;
+      alternatives = g.met.I.Interner.are_alternatives cx;
+      existential_predicates = g.met.I.Interner.are_existential_predicates cx;
+    }) in
+    let k = c.requires.asked in
+    let form = c.requires.form in
+    let alike = c.requires.alike in
+    let left = part_sorted r.meaning sorted c.args.a.now k.left_known form in
+    let right = part_sorted r.meaning sorted c.args.b.now k.right_known (pattern_alike a b alike form) in
+    record {
+      lawful = c.requires.lawful;
+      fronted = fronted_none M r (head_of a) r.ambient (parts_of a) (parts_of b);
+      left_count = c.pattern_parts_count_of-n.ensures;
+      right_count = c.pattern_parts_count_of-n.ensures ∙ parts_counted a b alike;
+      are_parts = record {
+        left_list = parts_of_list (part_sort c.args.a.now) a left;
+        right_list = parts_of_list (part_sort c.args.b.now) b right;
+        left_in = term_context r.store (parts_of a) (in_parts r.store a k.left_in);
+        right_in = term_context r.store (parts_of b) (in_parts r.store b k.right_in);
+      };
+      answers = subst (λ z. AreAnswers M r (head_of a) r.ambient 0 (parts_of a) (list_tree (part_tree r.meaning) z))
+          (sym c.new-answers.ensures.items) (answers_none M r (head_of a) r.ambient (parts_of a));
+      fits = subst (λ z. PartsFit z nil) (sym c.new-answers.ensures.items) tt;
+    }
+
+pub relate_in_order-pattern_part_of-x-requires : goal.relate_in_order-pattern_part_of-x-requires
+relate_in_order-pattern_part_of-x-requires g t c =
+    let r = g.R.TypeRelation.state c.args.r.now in
+    let M = g.R.TypeRelation.manner in
+    let a = part_tree r.meaning c.args.a.now in
+    let b = part_tree r.meaning c.args.b.now in
+    let q = g.R.TypeRelation.state c.loop-i.r in
+    let i = c.loop-i.i in
+    let inv = c.loop-i.invariant in
+    let k = c.requires.asked in
+    let form = c.requires.form in
+    let alike = c.requires.alike in
+    let extends = ((inv.fronted).passes).extends in
+    let same_a : part_tree q.meaning c.args.a.now ≡ a = stays_part extends c.args.a.now k.left_known in
+    let same_b : part_tree q.meaning c.args.b.now ≡ b = stays_part extends c.args.b.now k.right_known in
+    let test = c.loop-i-test.true in
+    let l : i < count (parts_of a) = omega (arith, test, inv.left_count) in
+    record {
+      term_known = subst (λ z. IsTrue (known z)) (sym same_a) k.left_known;
+      form = subst IsOfPattern (sym same_a) form;
+      in_bounds = subst (λ z. i < count (parts_of z)) (sym same_a) l;
+    }
+
+pub relate_in_order-pattern_part_of-y-requires : goal.relate_in_order-pattern_part_of-y-requires
+relate_in_order-pattern_part_of-y-requires g t c =
+    let r = g.R.TypeRelation.state c.args.r.now in
+    let M = g.R.TypeRelation.manner in
+    let a = part_tree r.meaning c.args.a.now in
+    let b = part_tree r.meaning c.args.b.now in
+    let q = g.R.TypeRelation.state c.loop-i.r in
+    let i = c.loop-i.i in
+    let inv = c.loop-i.invariant in
+    let k = c.requires.asked in
+    let form = c.requires.form in
+    let alike = c.requires.alike in
+    let extends = ((inv.fronted).passes).extends in
+    let same_a : part_tree q.meaning c.args.a.now ≡ a = stays_part extends c.args.a.now k.left_known in
+    let same_b : part_tree q.meaning c.args.b.now ≡ b = stays_part extends c.args.b.now k.right_known in
+    let test = c.loop-i-test.true in
+    let l : i < count (parts_of b) = omega (arith, test, inv.right_count) in
+    record {
+      term_known = subst (λ z. IsTrue (known z)) (sym same_b) k.right_known;
+      form = subst IsOfPattern (sym same_b) (pattern_alike a b alike form);
+      in_bounds = subst (λ z. i < count (parts_of z)) (sym same_b) l;
+    }
+
+pub relate_in_order-relate_parts-requires : goal.relate_in_order-relate_parts-requires
+relate_in_order-relate_parts-requires g t c κs within =
+    let r = g.R.TypeRelation.state c.args.r.now in
+    let M = g.R.TypeRelation.manner in
+    let a = part_tree r.meaning c.args.a.now in
+    let b = part_tree r.meaning c.args.b.now in
+    let takes = g.met.R.TypeRelation.takes_parts in
+    let q = g.R.TypeRelation.state c.loop-i.r in
+    let i = c.loop-i.i in
+    let inv = c.loop-i.invariant in
+    let k = c.requires.asked in
+    let form = c.requires.form in
+    let alike = c.requires.alike in
+    let extends = ((inv.fronted).passes).extends in
+    let same_a : part_tree q.meaning c.args.a.now ≡ a = stays_part extends c.args.a.now k.left_known in
+    let same_b : part_tree q.meaning c.args.b.now ≡ b = stays_part extends c.args.b.now k.right_known in
+    let test = c.loop-i-test.true in
+    let lx : i < count (parts_of a) = omega (arith, test, inv.left_count) in
+    let ly : i < count (parts_of b) = omega (arith, test, inv.right_count) in
+    let X = c.pattern_part_of-x.result in
+    let Y = c.pattern_part_of-y.result in
+    let x = part_tree q.meaning X in
+    let y = part_tree q.meaning Y in
+    let kx = c.pattern_part_of-x.ensures.sure in
+    let ky = c.pattern_part_of-y.ensures.sure in
+    let ex : x ≡ nth i (parts_of a) = c.pattern_part_of-x.ensures.means ∙ ap (λ z. nth i (parts_of z)) same_a in
+    let ey : y ≡ nth i (parts_of b) = c.pattern_part_of-y.ensures.means ∙ ap (λ z. nth i (parts_of z)) same_b in
+    let ew : q.ambient ≡ part_at (items_in r) (head_of a) i r.ambient =
+    ((inv.fronted).passes).ambient ∙ sym (pattern_part_at (items_in r) a i r.ambient form) in
+    let e_before = g.met.R.TypeRelation.reads c.args.r.now in
+    let cx_before = g.R.TypeRelation.interner c.args.r.now in
+    let sorted_before : Sorted r.meaning = subst (λ m. Sorted m) (sym e_before) (record {
+      ty = g.met.I.Interner.is_ty cx_before;
+      region = g.met.I.Interner.is_region cx_before;
+      tys = g.met.I.Interner.are_tys cx_before;
+      const_ = g.met.I.Interner.is_const cx_before;
+      valtree = g.met.I.Interner.is_valtree cx_before;
+      args = g.met.I.Interner.are_args cx_before;
+      branches = g.met.I.Interner.are_branches cx_before;
+      pat = g.met.I.Interner.is_pat cx_before;
+      alternatives = g.met.I.Interner.are_alternatives cx_before;
+      existential_predicates = g.met.I.Interner.are_existential_predicates cx_before;
+    }) in
+    let e = g.met.R.TypeRelation.reads c.loop-i.r in
+    let cx = g.R.TypeRelation.interner c.loop-i.r in
+    let sorted : Sorted q.meaning = subst (λ m. Sorted m) (sym e) (record {
+      ty = g.met.I.Interner.is_ty cx;
+      region = g.met.I.Interner.is_region cx;
+      tys = g.met.I.Interner.are_tys cx;
+      const_ = g.met.I.Interner.is_const cx;
+      valtree = g.met.I.Interner.is_valtree cx;
+      args = g.met.I.Interner.are_args cx;
+      branches = g.met.I.Interner.are_branches cx;
+      pat = g.met.I.Interner.is_pat cx;
+      alternatives = g.met.I.Interner.are_alternatives cx;
+      existential_predicates = g.met.I.Interner.are_existential_predicates cx;
+    }) in
+    let eu : q.ambient ≡ part_at (items_in r) (head_of b) i r.ambient =
+    ((inv.fronted).passes).ambient ∙ sym (pattern_part_at (items_in r) b i r.ambient (pattern_alike a b alike form)) in
+    let fa = part_sorted r.meaning sorted_before c.args.a.now k.left_known form in
+    let fb = part_sorted r.meaning sorted_before c.args.b.now k.right_known (pattern_alike a b alike form) in
+    let is_x = ap tree_sort (sym ex) ∙ sort_known q.meaning sorted X kx in
+    let is_y = ap tree_sort (sym ey) ∙ sort_known q.meaning sorted Y ky in
+    let kind : IsInPattern X = in_pattern (part_sort c.args.a.now) (part_sort c.args.b.now) a b i fa fb form lx X is_x in
+    let one_sort : part_sort Y ≡ part_sort X = of_one_sort (part_sort c.args.a.now) (part_sort c.args.b.now) a b i fa fb
+    form lx X is_x Y alike (heads_alike a b alike) ly is_y in
+    let lawful = inv.lawful in
+    let decides : q.ambient ≢ Bivariant = λ e. c.requires.decides (sym ((inv.fronted).passes).ambient ∙ e) in
+    let asked = next_asked M takes r q a b i x y kx ky k inv.fronted lx ly ex ey q.ambient ew eu in
+    let smaller = next_under M takes r q a b i x y kx ky k inv.fronted lx ly ex ey in
+    let under : 8 * depth (q.store).budget (weight q.store x + weight q.store y) + 3 <
+        8 * depth (r.store).budget (weight r.store a + weight r.store b) = omega (arith, smaller) in
+    let d = c.decreases in
+    search rules
+
+pub relate_in_order-returns-in_err-answer : goal.relate_in_order-returns-in_err-answer
+relate_in_order-returns-in_err-answer g t c =
+    let r = g.R.TypeRelation.state c.args.r.now in
+    let M = g.R.TypeRelation.manner in
+    let a = part_tree r.meaning c.args.a.now in
+    let b = part_tree r.meaning c.args.b.now in
+    let q = g.R.TypeRelation.state c.loop-i.r in
+    let i = c.loop-i.i in
+    let inv = c.loop-i.invariant in
+    let k = c.requires.asked in
+    let form = c.requires.form in
+    let alike = c.requires.alike in
+    let extends = ((inv.fronted).passes).extends in
+    let same_a : part_tree q.meaning c.args.a.now ≡ a = stays_part extends c.args.a.now k.left_known in
+    let same_b : part_tree q.meaning c.args.b.now ≡ b = stays_part extends c.args.b.now k.right_known in
+    let test = c.loop-i-test.true in
+    let lx : i < count (parts_of a) = omega (arith, test, inv.left_count) in
+    let ly : i < count (parts_of b) = omega (arith, test, inv.right_count) in
+    let X = c.pattern_part_of-x.result in
+    let Y = c.pattern_part_of-y.result in
+    let x = part_tree q.meaning X in
+    let y = part_tree q.meaning Y in
+    let kx = c.pattern_part_of-x.ensures.sure in
+    let ky = c.pattern_part_of-y.ensures.sure in
+    let ex : x ≡ nth i (parts_of a) = c.pattern_part_of-x.ensures.means ∙ ap (λ z. nth i (parts_of z)) same_a in
+    let ey : y ≡ nth i (parts_of b) = c.pattern_part_of-y.ensures.means ∙ ap (λ z. nth i (parts_of z)) same_b in
+    let ew : q.ambient ≡ part_at (items_in r) (head_of a) i r.ambient =
+    ((inv.fronted).passes).ambient ∙ sym (pattern_part_at (items_in r) a i r.ambient form) in
+    let p = g.R.TypeRelation.state c.relate_parts.new.r in
+    let n = c.in_err-answer in
+    let gone = subst (λ v. Related M q p v x y (part_tree p.meaning) (Err n.field-0.0)) ew (n.ensures).related in
+    let failed = as_err c.from_residual-in_err-answer.result n.field-0.0 c.from_residual-in_err-answer.ensures.0
+    c.from_residual-in_err-answer.ensures.1 in
+    record {
+      related = subst (λ u. Related M r p r.ambient a b (part_tree p.meaning) u) (sym failed)
+          (patterns_refused M r.ambient a b i form alike inv.fronted inv.are_parts x y lx ly ex ey (part_tree p.meaning)
+          (part_tree p.meaning) n.field-0.0 gone);
+      sort = subst (λ u. IfOk u (λ z. part_sort z ≡ part_sort c.args.a.now)) (sym failed) tt;
+    }
+
+pub relate_in_order-loop-i-preserved : goal.relate_in_order-loop-i-preserved
+relate_in_order-loop-i-preserved g t c =
+    let r = g.R.TypeRelation.state c.args.r.now in
+    let M = g.R.TypeRelation.manner in
+    let a = part_tree r.meaning c.args.a.now in
+    let b = part_tree r.meaning c.args.b.now in
+    let q = g.R.TypeRelation.state c.loop-i.r in
+    let i = c.loop-i.i in
+    let inv = c.loop-i.invariant in
+    let k = c.requires.asked in
+    let form = c.requires.form in
+    let alike = c.requires.alike in
+    let extends = ((inv.fronted).passes).extends in
+    let same_a : part_tree q.meaning c.args.a.now ≡ a = stays_part extends c.args.a.now k.left_known in
+    let same_b : part_tree q.meaning c.args.b.now ≡ b = stays_part extends c.args.b.now k.right_known in
+    let test = c.loop-i-test.true in
+    let lx : i < count (parts_of a) = omega (arith, test, inv.left_count) in
+    let ly : i < count (parts_of b) = omega (arith, test, inv.right_count) in
+    let X = c.pattern_part_of-x.result in
+    let Y = c.pattern_part_of-y.result in
+    let x = part_tree q.meaning X in
+    let y = part_tree q.meaning Y in
+    let kx = c.pattern_part_of-x.ensures.sure in
+    let ky = c.pattern_part_of-y.ensures.sure in
+    let ex : x ≡ nth i (parts_of a) = c.pattern_part_of-x.ensures.means ∙ ap (λ z. nth i (parts_of z)) same_a in
+    let ey : y ≡ nth i (parts_of b) = c.pattern_part_of-y.ensures.means ∙ ap (λ z. nth i (parts_of z)) same_b in
+    let ew : q.ambient ≡ part_at (items_in r) (head_of a) i r.ambient =
+    ((inv.fronted).passes).ambient ∙ sym (pattern_part_at (items_in r) a i r.ambient form) in
+    let p = g.R.TypeRelation.state c.relate_parts.new.r in
+    let n = c.in_ok-answer in
+    let gone = subst (λ v. Related M q p v x y (part_tree p.meaning) (Ok n.answer)) ew (n.ensures).related in
+    let next = fronted_next (head_of a) r.ambient i (parts_of a) (parts_of b) x y inv.fronted lx ly ex ey
+    (part_tree p.meaning) n.answer inv.are_parts gone in
+    let e = g.met.R.TypeRelation.reads c.loop-i.r in
+    let cx = g.R.TypeRelation.interner c.loop-i.r in
+    let sorted : Sorted q.meaning = subst (λ m. Sorted m) (sym e) (record {
+      ty = g.met.I.Interner.is_ty cx;
+      region = g.met.I.Interner.is_region cx;
+      tys = g.met.I.Interner.are_tys cx;
+      const_ = g.met.I.Interner.is_const cx;
+      valtree = g.met.I.Interner.is_valtree cx;
+      args = g.met.I.Interner.are_args cx;
+      branches = g.met.I.Interner.are_branches cx;
+      pat = g.met.I.Interner.is_pat cx;
+      alternatives = g.met.I.Interner.are_alternatives cx;
+      existential_predicates = g.met.I.Interner.are_existential_predicates cx;
+    }) in
+    let was = c.loop-i.answers.items in
+    let more : suc i ≡ i + 1 = omega arith in
+    let pushed : list_tree (part_tree p.meaning) c.push.new.self.items
+    ≡ snoc (list_tree (part_tree q.meaning) was) (part_tree p.meaning n.answer) =
+    ap (list_tree (part_tree p.meaning)) c.in_ok-push.ensures.items
+    ∙ list_push (part_tree p.meaning) was n.answer
+    ∙ ap (λ z. snoc z (part_tree p.meaning n.answer)) (stays_list (part_tree q.meaning) (part_tree p.meaning) was
+    (stays_part (gone.passes).extends) (inv.answers).sure) in
+    record {
+      lawful = (gone.passes).lawful inv.lawful;
+      fronted = subst (λ j. Fronted M r p (head_of a) r.ambient j (parts_of a) (parts_of b)) more next;
+      left_count = inv.left_count;
+      right_count = inv.right_count;
+      are_parts = inv.are_parts;
+      answers = subst₂ (λ j z. AreAnswers M p (head_of a) r.ambient j (parts_of a) z) more (sym pushed)
+          (answers_next M (head_of a) r.ambient i (parts_of a) (list_tree (part_tree q.meaning) was) x
+          (part_tree p.meaning n.answer) gone.passes lx inv.answers ex
+          (subst (λ z. MayAnswer M p (part_at z (head_of a) i r.ambient) x (part_tree p.meaning n.answer))
+          (sym (same_items (inv.fronted).passes)) (gone.verdict).answer) (gone.verdict).known);
+      fits = subst₂ (λ j z. PartsFit z (firsts j (parts_of a))) more (sym c.in_ok-push.ensures.items)
+          (part_pushed was n.answer (parts_of a) i lx inv.fits
+          ((n.ensures).sort ∙ sym (sort_known q.meaning sorted X kx) ∙ ap tree_sort ex));
+    }
+
+pub relate_in_order-returns-in_err-push : goal.relate_in_order-returns-in_err-push
+relate_in_order-returns-in_err-push g t c =
+    let r = g.R.TypeRelation.state c.args.r.now in
+    let M = g.R.TypeRelation.manner in
+    let a = part_tree r.meaning c.args.a.now in
+    let b = part_tree r.meaning c.args.b.now in
+    let q = g.R.TypeRelation.state c.loop-i.r in
+    let i = c.loop-i.i in
+    let inv = c.loop-i.invariant in
+    let k = c.requires.asked in
+    let form = c.requires.form in
+    let alike = c.requires.alike in
+    let extends = ((inv.fronted).passes).extends in
+    let same_a : part_tree q.meaning c.args.a.now ≡ a = stays_part extends c.args.a.now k.left_known in
+    let same_b : part_tree q.meaning c.args.b.now ≡ b = stays_part extends c.args.b.now k.right_known in
+    let test = c.loop-i-test.true in
+    let lx : i < count (parts_of a) = omega (arith, test, inv.left_count) in
+    let ly : i < count (parts_of b) = omega (arith, test, inv.right_count) in
+    let X = c.pattern_part_of-x.result in
+    let Y = c.pattern_part_of-y.result in
+    let x = part_tree q.meaning X in
+    let y = part_tree q.meaning Y in
+    let kx = c.pattern_part_of-x.ensures.sure in
+    let ky = c.pattern_part_of-y.ensures.sure in
+    let ex : x ≡ nth i (parts_of a) = c.pattern_part_of-x.ensures.means ∙ ap (λ z. nth i (parts_of z)) same_a in
+    let ey : y ≡ nth i (parts_of b) = c.pattern_part_of-y.ensures.means ∙ ap (λ z. nth i (parts_of z)) same_b in
+    let ew : q.ambient ≡ part_at (items_in r) (head_of a) i r.ambient =
+    ((inv.fronted).passes).ambient ∙ sym (pattern_part_at (items_in r) a i r.ambient form) in
+    let p = g.R.TypeRelation.state c.relate_parts.new.r in
+    let n = c.in_ok-answer in
+    let gone = subst (λ v. Related M q p v x y (part_tree p.meaning) (Ok n.answer)) ew (n.ensures).related in
+    let next = fronted_next (head_of a) r.ambient i (parts_of a) (parts_of b) x y inv.fronted lx ly ex ey
+    (part_tree p.meaning) n.answer inv.are_parts gone in
+    let failed = as_err c.from_residual-in_err-push.result Memory c.from_residual-in_err-push.ensures.0
+    c.from_residual-in_err-push.ensures.1 in
+    record {
+      related = subst (λ z. Related M r p r.ambient a b (part_tree p.meaning) z) (sym failed)
+          (patterns_stopped M r.ambient a b (suc i) form (part_tree p.meaning) next);
+      sort = subst (λ u. IfOk u (λ z. part_sort z ≡ part_sort c.args.a.now)) (sym failed) tt;
+    }
+
+pub relate_in_order-make_pattern-requires : goal.relate_in_order-make_pattern-requires
+relate_in_order-make_pattern-requires g t c =
+    let r = g.R.TypeRelation.state c.args.r.now in
+    let M = g.R.TypeRelation.manner in
+    let a = part_tree r.meaning c.args.a.now in
+    let b = part_tree r.meaning c.args.b.now in
+    let q = g.R.TypeRelation.state c.loop-i.r in
+    let i = c.loop-i.i in
+    let inv = c.loop-i.invariant in
+    let k = c.requires.asked in
+    let form = c.requires.form in
+    let alike = c.requires.alike in
+    let extends = ((inv.fronted).passes).extends in
+    let same_a : part_tree q.meaning c.args.a.now ≡ a = stays_part extends c.args.a.now k.left_known in
+    let same_b : part_tree q.meaning c.args.b.now ≡ b = stays_part extends c.args.b.now k.right_known in
+    let test = c.loop-i-test.false in
+    let end = (c.loop-i.auto).i-end in
+    let left : i ≡ count (parts_of a) = omega (arith, test, end, inv.left_count) in
+    let right : i ≡ count (parts_of b) = omega (arith, test, end, inv.right_count) in
+    let items = c.loop-i.answers.items in
+    let was = list_tree (part_tree q.meaning) items in
+    record {
+      lawful = inv.lawful;
+      term_known = subst (λ z. IsTrue (known z)) (sym same_a) k.left_known;
+      form = subst IsOfPattern (sym same_a) form;
+      parts_known = subst (λ z. IsTrue (known z)) (sym (ap (list_tree (part_tree q.meaning)) c.as_slice.ensures.value))
+          (inv.answers).sure;
+      fits = subst₂ (λ xs z. PartsFit xs (parts_of z)) (sym c.as_slice.ensures.value) (sym same_a)
+          (parts_end items (parts_of a) i (inv.are_parts).left_list left inv.fits);
+    }
+
+pub relate_in_order-returns : goal.relate_in_order-returns
+relate_in_order-returns g t c =
+    let r = g.R.TypeRelation.state c.args.r.now in
+    let M = g.R.TypeRelation.manner in
+    let a = part_tree r.meaning c.args.a.now in
+    let b = part_tree r.meaning c.args.b.now in
+    let q = g.R.TypeRelation.state c.loop-i.r in
+    let i = c.loop-i.i in
+    let inv = c.loop-i.invariant in
+    let k = c.requires.asked in
+    let form = c.requires.form in
+    let alike = c.requires.alike in
+    let extends = ((inv.fronted).passes).extends in
+    let same_a : part_tree q.meaning c.args.a.now ≡ a = stays_part extends c.args.a.now k.left_known in
+    let same_b : part_tree q.meaning c.args.b.now ≡ b = stays_part extends c.args.b.now k.right_known in
+    let test = c.loop-i-test.false in
+    let end = (c.loop-i.auto).i-end in
+    let left : i ≡ count (parts_of a) = omega (arith, test, end, inv.left_count) in
+    let right : i ≡ count (parts_of b) = omega (arith, test, end, inv.right_count) in
+    let items = c.loop-i.answers.items in
+    let was = list_tree (part_tree q.meaning) items in
+    let done : Related M r q r.ambient a b (part_tree q.meaning) (Ok c.args.a.now) =
+    patterns_answer M r.ambient a b i form (part_tree q.meaning) c.args.a.now alike inv.fronted inv.are_parts left right
+    same_a k.left_known in
+    let p = g.R.TypeRelation.state c.make_pattern.new.r in
+    let made = c.make_pattern.ensures in
+    record {
+      related = form_made M r.ambient a b (made.made).extends made.grown (part_tree p.meaning) (part_tree q.meaning)
+          c.args.a.now done c.make_pattern.result made.fault (over a was) _
+          (may_over_pattern M q r.ambient a was form
+          (answers_end M q (head_of a) r.ambient i (parts_of a) was (inv.are_parts).left_list left inv.answers))
+          (ap₂ over same_a (ap (list_tree (part_tree q.meaning)) c.as_slice.ensures.value)) (made.made).sure
+          (made.made).means;
+      sort = made.sort;
+    }
