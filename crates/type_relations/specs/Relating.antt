@@ -89,8 +89,9 @@ module _ {S Key Id Name A : Type 0} (state : S → Context Key Id Name) (old new
   ProvesApart v a b result = IfUnrelated result (λ e. v ≡ Invariant →
       IsFirstOrderPair (state old).store (term a) (term b) → NoUnifier (state old).store (term a) (term b))
 
-  -- Of first-order terms in a first-order record, in one universe, at invariance: at most as many instantiations are made
-  -- as there were unresolved type and constant variables, and only where fewer could be made nothing is left of them.
+  -- Of first-order terms in a first-order record, in one universe, at invariance: at most as many instantiations are
+  -- made as there were unresolved type and constant variables, and only where fewer could be made nothing is left of
+  -- them.
   abbrev pub SpendsNoMore : {X : Type 0} → Variance → A → A → Result X (RelateFault Key Id Name) → Type 0
   SpendsNoMore v a b result = v ≡ Invariant → IsFirstOrderPair (state old).store (term a) (term b) →
       (u : ℕ) → IsPairOf u (state old).store (term a) (term b) →

@@ -59,9 +59,9 @@ pub trait RelateExt: InferCtxtLike {
     /// instantiation, those of numbers for none. After an error more may have been recorded and made on the way.
     ///
     /// Of first-order terms in a first-order record at `Invariant`, where the variables of types and constants are of
-    /// one universe and no placeholder of a type or a constant in the terms is beyond it, at most as many instantiations
-    /// are made as there were unresolved variables of types and constants: with a budget of that number `Budget` never
-    /// comes.
+    /// one universe and no placeholder of a type or a constant in the terms is beyond it, at most as many
+    /// instantiations are made as there were unresolved variables of types and constants: with a budget of that number
+    /// `Budget` never comes.
     fn relate<T: Relate<Self::Interner>>(
         &mut self,
         param_env: ParamEnv<Self::Interner>,
