@@ -1,5 +1,5 @@
 -- Pattern types and patterns: their parts, and when two of them differ.
-use Rattle.std.proofs.Common.{◌≡◌, ℕ, zero, suc, ◌<◌, refl, sym, ap, ◌∙◌, subst, arith, [], ◌∷◌, None, Some, IsTrue}
+use Rattle.std.proofs.Common.{◌≡◌, ℕ, zero, suc, ◌<◌, refl, sym, ap, ◌∙◌, subst, arith, List, [], ◌∷◌, Option, None, Some, IsTrue}
 use Rattle.relation_terms.specs.declared.terms.enums.Variance.{Variance}
 use Rattle.relation_terms.specs.declared.terms.part_kind.Part.{Part as TermPart}
 use Rattle.relation_terms.specs.declared.terms.part_kind.Part.TheVariants.{Region, Ty, Const, ValTree, Pat, ValueType}
@@ -12,8 +12,8 @@ use Rattle.relation_terms.specs.Heads.{Head, pattern_type, range_pattern, or_pat
 use Rattle.relation_terms.specs.Heads.{placeholder, atom, unknown, atom_sort, head_sort, BoundKind, bound_kind, bound_sort}
 use Rattle.relation_terms.specs.Heads.{region_kind, type_kind, const_kind}
 use Rattle.relation_terms.specs.Trees.{Tree, leaf, node, bind, nil, cons, Assign, apply, known, IsTerm, Fits, count, nth}
-use Rattle.relation_terms.specs.Meaning.{Meaning, existential_tree}
-use Rattle.relation_terms.specs.Parts.{part_tree, part_sort, tree_sort, parts_of as list_of_parts, over as term_over}
+use Rattle.relation_terms.specs.Meaning.{Meaning, under, existential_tree}
+use Rattle.relation_terms.specs.Parts.{body_tree, part_tree, part_sort, tree_sort, parts_of as list_of_parts, over as term_over}
 use Rattle.relation_terms.proofs.Sorted.{Sorted}
 use Rattle.relation_terms.proofs.Members.{type_term, const_term, pattern_term}
 use Rattle.relation_tools.specs.declared.error.TypeError.{TypeError}
@@ -244,6 +244,10 @@ module _ {Key Id : Type 0} (s k : Sort) (a b : Tree) (i : ℕ) (f : IsTerm s a) 
       ∙ ap (λ h. place_sort h i) (sym e) ∙ sym (pattern_place s a i f o l) ∙ is
 
 -- What such a part is a term of.
+under_not : (ks : Option (List BoundKind)) (t : Tree) → IsOfPattern (under ks t) → ⊥
+under_not (Some ks) t o = o
+under_not None t o = o
+
 module _ {Key Id Name : Type 0} (m : Meaning Key Id Name) (sorted : Sorted m) where
   existential_not : (p : ExistentialPredicate Key Id) → IsOfPattern (existential_tree m p) → ⊥
   existential_not (Trait p) o = o
@@ -258,7 +262,7 @@ module _ {Key Id Name : Type 0} (m : Meaning Key Id Name) (sorted : Sorted m) wh
   part_sorted (ValTree v) k o = sorted.valtree v k
   part_sorted (Pat p) k o = sorted.pat p k
   part_sorted (ValueType t) k o = absurd o
-  part_sorted (Binder vs b) k o = absurd o
+  part_sorted (Binder vs b) k o = absurd (under_not (m.bound_vars vs) (body_tree m b) o)
   part_sorted (Signature g) k o = absurd o
   part_sorted (Inputs t) k o = absurd o
   part_sorted (Existential p) k o = absurd (existential_not p o)

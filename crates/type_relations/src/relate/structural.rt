@@ -176,7 +176,6 @@ pub fn relate_with_variance<I: Interner, R: TypeRelation<I>>(
 /// parts in order, each at the variance of its place; a `ConstMismatch` of two lengths is the `ArraySize` of both. All
 /// other errors of the parts are handed on.
 #[cycle(relate)]
-#[tactic(none)]
 pub fn structurally_relate_tys<I: Interner, R: TypeRelation<I>>(
     r: &mut R,
     a: &Ty<I>,
@@ -249,7 +248,6 @@ pub fn structurally_relate_consts<I: Interner, R: TypeRelation<I>>(
 /// Conditions are those of `tys`. Two of different forms, or with unlike numbers of alternatives, are `Mismatch`. All
 /// errors of the parts are handed on. Upstream this is the interner's `relate` of patterns.
 #[cycle(relate)]
-#[tactic(none)]
 pub fn pats<I: Interner, R: TypeRelation<I>>(
     r: &mut R,
     a: &Pat<I>,
@@ -267,7 +265,6 @@ pub fn pats<I: Interner, R: TypeRelation<I>>(
 // Relates two pattern types, or two patterns, that are of one form by their parts, in order, and answers the form over
 // what these answered.
 #[cycle(relate)]
-#[tactic(none)]
 fn relate_in_order<I: Interner, R: TypeRelation<I>>(
     r: &mut R,
     a: &PartOf<I>,
@@ -294,7 +291,6 @@ fn relate_in_order<I: Interner, R: TypeRelation<I>>(
 
 // Relates two types, two constants or two patterns.
 #[cycle(relate)]
-#[tactic(none)]
 fn relate_parts<I: Interner, R: TypeRelation<I>>(
     r: &mut R,
     a: &PartOf<I>,

@@ -7,6 +7,7 @@ use Rattle.relation_terms.specs.Trees.{nil, known, count, nth, list_tree}
 use Rattle.relation_terms.specs.Variances.{xform}
 use Rattle.relation_terms.specs.Meaning.{arg_tree}
 use Rattle.relation_terms.specs.Parts.{part_tree, part_sort, tree_sort, Fit as PartsFit}
+use Rattle.relation_terms.specs.declared.terms.part_kind.Part.TheVariants.{Ty as TyPart, Const as ConstPart, Pat as PatPart}
 use Rattle.relation_terms.proofs.Parts.{sort_known, stays_part}
 use Rattle.relation_terms.proofs.Sorted.{Sorted}
 use Rattle.relation_terms.proofs.Stays.{knows_arg}
@@ -36,7 +37,7 @@ use Rattle.type_relations.proofs.OneParts.{parts_counted, const_parts_counted}
 use Rattle.type_relations.proofs.Comparing.{parts_of_list, const_parts_list}
 use Rattle.type_relations.proofs.Handing.{AreOfTwoKinds, no_lifetime, no_ty, no_const_arg}
 use Rattle.type_relations.proofs.Passing.{asked_later, parts_related, again_related, again_refused, again_relates, noted_related, noted_refused}
-use Rattle.type_relations.proofs.Passing.{turned, unlooked, step_done, retold, relates_now, as_err}
+use Rattle.type_relations.proofs.Passing.{turned, unlooked, step_done, retold, refused_again, relates_now, as_err}
 use Rattle.type_relations.proofs.Registered.{directed_from}
 use Rattle.type_relations.specs.Goals.{IsDirected}
 use Rattle.type_relations.proofs.Passing.{form_made}
@@ -2166,3 +2167,338 @@ relate_in_order-returns g t c =
           (made.made).means;
       sort = made.sort;
     }
+
+pub relate_parts-the_ty-requires : goal.relate_parts-the_ty-requires
+relate_parts-the_ty-requires g t c = c.requires.one_sort ∙ ap part_sort c.in-Ty.is
+
+pub relate_parts-tys-requires : goal.relate_parts-tys-requires
+relate_parts-tys-requires g t c κs within =
+    let r = g.R.TypeRelation.state c.args.r.now in
+    let M = g.R.TypeRelation.manner in
+    let a = part_tree r.meaning c.args.a.now in
+    let b = part_tree r.meaning c.args.b.now in
+    let k = c.in-Ty.a in
+    let o = c.the_ty.result in
+    let ea : a ≡ (r.meaning).ty k = ap (part_tree r.meaning) c.in-Ty.is in
+    let eb : b ≡ (r.meaning).ty o = ap (part_tree r.meaning) (sym c.the_ty.ensures) in
+    let lawful = c.requires.lawful in
+    let decides = c.requires.decides in
+    let asked = subst₂ (λ x y. Asked M r r.ambient x y) ea eb c.requires.asked in
+    let same = ap₂ (λ x y. depth (r.store).budget (weight r.store x + weight r.store y)) ea eb in
+    let under : 8 * depth (r.store).budget (weight r.store ((r.meaning).ty k) + weight r.store ((r.meaning).ty o)) + 2 <
+        8 * depth (r.store).budget (weight r.store a + weight r.store b) + 3 = omega (arith, same) in
+    let d = c.decreases in
+    search rules
+
+pub relate_parts-returns-in_ok-tys-in-Ty : goal.relate_parts-returns-in_ok-tys-in-Ty
+relate_parts-returns-in_ok-tys-in-Ty g t c =
+    let r = g.R.TypeRelation.state c.args.r.now in
+    let M = g.R.TypeRelation.manner in
+    let a = part_tree r.meaning c.args.a.now in
+    let b = part_tree r.meaning c.args.b.now in
+    let k = c.in-Ty.a in
+    let o = c.the_ty.result in
+    let ea : a ≡ (r.meaning).ty k = ap (part_tree r.meaning) c.in-Ty.is in
+    let eb : b ≡ (r.meaning).ty o = ap (part_tree r.meaning) (sym c.the_ty.ensures) in
+    let q = g.R.TypeRelation.state c.tys.new.r in
+    let n = c.in_ok-tys-in-Ty in
+    record {
+      related = subst₂ (λ x y. Related M r q r.ambient x y (part_tree q.meaning) (Ok (TyPart n.field-0))) (sym ea) (sym eb)
+          (retold M r.ambient ((r.meaning).ty k) ((r.meaning).ty o) (q.meaning).ty n.field-0
+          (part_tree q.meaning) (TyPart n.field-0) refl (n.ensures).related);
+      sort = ap part_sort (sym c.in-Ty.is);
+    }
+
+pub relate_parts-returns-in_err-tys-in-Ty : goal.relate_parts-returns-in_err-tys-in-Ty
+relate_parts-returns-in_err-tys-in-Ty g t c =
+    let r = g.R.TypeRelation.state c.args.r.now in
+    let M = g.R.TypeRelation.manner in
+    let a = part_tree r.meaning c.args.a.now in
+    let b = part_tree r.meaning c.args.b.now in
+    let k = c.in-Ty.a in
+    let o = c.the_ty.result in
+    let ea : a ≡ (r.meaning).ty k = ap (part_tree r.meaning) c.in-Ty.is in
+    let eb : b ≡ (r.meaning).ty o = ap (part_tree r.meaning) (sym c.the_ty.ensures) in
+    let q = g.R.TypeRelation.state c.tys.new.r in
+    let n = c.in_err-tys-in-Ty in
+    let res = c.from_residual.result in
+    let failed = as_err res n.field-0.0 c.from_residual.ensures.0 c.from_residual.ensures.1 in
+    record {
+      related = subst (λ z. Related M r q r.ambient a b (part_tree q.meaning) z) (sym failed)
+          (subst₂ (λ x y. Related M r q r.ambient x y (part_tree q.meaning) (Err n.field-0.0)) (sym ea) (sym eb)
+          (refused_again M r.ambient ((r.meaning).ty k) ((r.meaning).ty o) (q.meaning).ty
+          (part_tree q.meaning) n.field-0.0 (n.ensures).related));
+      sort = subst (λ u. IfOk u (λ z. part_sort z ≡ part_sort c.args.a.now)) (sym failed) tt;
+    }
+
+pub relate_parts-the_const-requires : goal.relate_parts-the_const-requires
+relate_parts-the_const-requires g t c = c.requires.one_sort ∙ ap part_sort c.in-Const.is
+
+pub relate_parts-consts-requires : goal.relate_parts-consts-requires
+relate_parts-consts-requires g t c κs within =
+    let r = g.R.TypeRelation.state c.args.r.now in
+    let M = g.R.TypeRelation.manner in
+    let a = part_tree r.meaning c.args.a.now in
+    let b = part_tree r.meaning c.args.b.now in
+    let k = c.in-Const.a in
+    let o = c.the_const.result in
+    let ea : a ≡ (r.meaning).const_ k = ap (part_tree r.meaning) c.in-Const.is in
+    let eb : b ≡ (r.meaning).const_ o = ap (part_tree r.meaning) (sym c.the_const.ensures) in
+    let lawful = c.requires.lawful in
+    let decides = c.requires.decides in
+    let asked = subst₂ (λ x y. Asked M r r.ambient x y) ea eb c.requires.asked in
+    let same = ap₂ (λ x y. depth (r.store).budget (weight r.store x + weight r.store y)) ea eb in
+    let under : 8 * depth (r.store).budget (weight r.store ((r.meaning).const_ k) + weight r.store ((r.meaning).const_ o)) + 2 <
+        8 * depth (r.store).budget (weight r.store a + weight r.store b) + 3 = omega (arith, same) in
+    let d = c.decreases in
+    search rules
+
+pub relate_parts-returns-in_ok-consts-in-Const : goal.relate_parts-returns-in_ok-consts-in-Const
+relate_parts-returns-in_ok-consts-in-Const g t c =
+    let r = g.R.TypeRelation.state c.args.r.now in
+    let M = g.R.TypeRelation.manner in
+    let a = part_tree r.meaning c.args.a.now in
+    let b = part_tree r.meaning c.args.b.now in
+    let k = c.in-Const.a in
+    let o = c.the_const.result in
+    let ea : a ≡ (r.meaning).const_ k = ap (part_tree r.meaning) c.in-Const.is in
+    let eb : b ≡ (r.meaning).const_ o = ap (part_tree r.meaning) (sym c.the_const.ensures) in
+    let q = g.R.TypeRelation.state c.consts.new.r in
+    let n = c.in_ok-consts-in-Const in
+    record {
+      related = subst₂ (λ x y. Related M r q r.ambient x y (part_tree q.meaning) (Ok (ConstPart n.field-0))) (sym ea) (sym eb)
+          (retold M r.ambient ((r.meaning).const_ k) ((r.meaning).const_ o) (q.meaning).const_ n.field-0
+          (part_tree q.meaning) (ConstPart n.field-0) refl n.ensures);
+      sort = ap part_sort (sym c.in-Const.is);
+    }
+
+pub relate_parts-returns-in_err-consts-in-Const : goal.relate_parts-returns-in_err-consts-in-Const
+relate_parts-returns-in_err-consts-in-Const g t c =
+    let r = g.R.TypeRelation.state c.args.r.now in
+    let M = g.R.TypeRelation.manner in
+    let a = part_tree r.meaning c.args.a.now in
+    let b = part_tree r.meaning c.args.b.now in
+    let k = c.in-Const.a in
+    let o = c.the_const.result in
+    let ea : a ≡ (r.meaning).const_ k = ap (part_tree r.meaning) c.in-Const.is in
+    let eb : b ≡ (r.meaning).const_ o = ap (part_tree r.meaning) (sym c.the_const.ensures) in
+    let q = g.R.TypeRelation.state c.consts.new.r in
+    let n = c.in_err-consts-in-Const in
+    let res = c.from_residual-in_err-consts-in-Const.result in
+    let failed = as_err res n.field-0.0 c.from_residual-in_err-consts-in-Const.ensures.0 c.from_residual-in_err-consts-in-Const.ensures.1 in
+    record {
+      related = subst (λ z. Related M r q r.ambient a b (part_tree q.meaning) z) (sym failed)
+          (subst₂ (λ x y. Related M r q r.ambient x y (part_tree q.meaning) (Err n.field-0.0)) (sym ea) (sym eb)
+          (refused_again M r.ambient ((r.meaning).const_ k) ((r.meaning).const_ o) (q.meaning).const_
+          (part_tree q.meaning) n.field-0.0 n.ensures));
+      sort = subst (λ u. IfOk u (λ z. part_sort z ≡ part_sort c.args.a.now)) (sym failed) tt;
+    }
+
+pub relate_parts-the_pat-requires : goal.relate_parts-the_pat-requires
+relate_parts-the_pat-requires g t c = c.requires.one_sort ∙ ap part_sort c.in-Pat.is
+
+pub relate_parts-pats-requires : goal.relate_parts-pats-requires
+relate_parts-pats-requires g t c κs within =
+    let r = g.R.TypeRelation.state c.args.r.now in
+    let M = g.R.TypeRelation.manner in
+    let a = part_tree r.meaning c.args.a.now in
+    let b = part_tree r.meaning c.args.b.now in
+    let k = c.in-Pat.a in
+    let o = c.the_pat.result in
+    let ea : a ≡ (r.meaning).pat k = ap (part_tree r.meaning) c.in-Pat.is in
+    let eb : b ≡ (r.meaning).pat o = ap (part_tree r.meaning) (sym c.the_pat.ensures) in
+    let lawful = c.requires.lawful in
+    let decides = c.requires.decides in
+    let asked = subst₂ (λ x y. Asked M r r.ambient x y) ea eb c.requires.asked in
+    let same = ap₂ (λ x y. depth (r.store).budget (weight r.store x + weight r.store y)) ea eb in
+    let under : 8 * depth (r.store).budget (weight r.store ((r.meaning).pat k) + weight r.store ((r.meaning).pat o)) + 1 <
+        8 * depth (r.store).budget (weight r.store a + weight r.store b) + 3 = omega (arith, same) in
+    let d = c.decreases in
+    search rules
+
+pub relate_parts-returns-in_ok-pats-in-Pat : goal.relate_parts-returns-in_ok-pats-in-Pat
+relate_parts-returns-in_ok-pats-in-Pat g t c =
+    let r = g.R.TypeRelation.state c.args.r.now in
+    let M = g.R.TypeRelation.manner in
+    let a = part_tree r.meaning c.args.a.now in
+    let b = part_tree r.meaning c.args.b.now in
+    let k = c.in-Pat.a in
+    let o = c.the_pat.result in
+    let ea : a ≡ (r.meaning).pat k = ap (part_tree r.meaning) c.in-Pat.is in
+    let eb : b ≡ (r.meaning).pat o = ap (part_tree r.meaning) (sym c.the_pat.ensures) in
+    let q = g.R.TypeRelation.state c.pats.new.r in
+    let n = c.in_ok-pats-in-Pat in
+    record {
+      related = subst₂ (λ x y. Related M r q r.ambient x y (part_tree q.meaning) (Ok (PatPart n.field-0))) (sym ea) (sym eb)
+          (retold M r.ambient ((r.meaning).pat k) ((r.meaning).pat o) (q.meaning).pat n.field-0
+          (part_tree q.meaning) (PatPart n.field-0) refl n.ensures);
+      sort = ap part_sort (sym c.in-Pat.is);
+    }
+
+pub relate_parts-returns-in_err-pats-in-Pat : goal.relate_parts-returns-in_err-pats-in-Pat
+relate_parts-returns-in_err-pats-in-Pat g t c =
+    let r = g.R.TypeRelation.state c.args.r.now in
+    let M = g.R.TypeRelation.manner in
+    let a = part_tree r.meaning c.args.a.now in
+    let b = part_tree r.meaning c.args.b.now in
+    let k = c.in-Pat.a in
+    let o = c.the_pat.result in
+    let ea : a ≡ (r.meaning).pat k = ap (part_tree r.meaning) c.in-Pat.is in
+    let eb : b ≡ (r.meaning).pat o = ap (part_tree r.meaning) (sym c.the_pat.ensures) in
+    let q = g.R.TypeRelation.state c.pats.new.r in
+    let n = c.in_err-pats-in-Pat in
+    let res = c.from_residual-in_err-pats-in-Pat.result in
+    let failed = as_err res n.field-0.0 c.from_residual-in_err-pats-in-Pat.ensures.0 c.from_residual-in_err-pats-in-Pat.ensures.1 in
+    record {
+      related = subst (λ z. Related M r q r.ambient a b (part_tree q.meaning) z) (sym failed)
+          (subst₂ (λ x y. Related M r q r.ambient x y (part_tree q.meaning) (Err n.field-0.0)) (sym ea) (sym eb)
+          (refused_again M r.ambient ((r.meaning).pat k) ((r.meaning).pat o) (q.meaning).pat
+          (part_tree q.meaning) n.field-0.0 n.ensures));
+      sort = subst (λ u. IfOk u (λ z. part_sort z ≡ part_sort c.args.a.now)) (sym failed) tt;
+    }
+
+pub pats-returns-in_err-compare_pats_of : goal.pats-returns-in_err-compare_pats_of
+pats-returns-in_err-compare_pats_of g t c =
+    let r = g.R.TypeRelation.state c.args.r.now in
+    let M = g.R.TypeRelation.manner in
+    let a = (r.meaning).pat c.args.a.now in
+    let b = (r.meaning).pat c.args.b.now in
+    let e = g.met.R.TypeRelation.reads c.args.r.now in
+    let cx = g.R.TypeRelation.interner c.args.r.now in
+    let sorted : Sorted r.meaning = subst (λ m. Sorted m) (sym e) (record {
+      ty = g.met.I.Interner.is_ty cx;
+      region = g.met.I.Interner.is_region cx;
+      tys = g.met.I.Interner.are_tys cx;
+      const_ = g.met.I.Interner.is_const cx;
+      valtree = g.met.I.Interner.is_valtree cx;
+      args = g.met.I.Interner.are_args cx;
+      branches = g.met.I.Interner.are_branches cx;
+      pat = g.met.I.Interner.is_pat cx;
+      alternatives = g.met.I.Interner.are_alternatives cx;
+      existential_predicates = g.met.I.Interner.are_existential_predicates cx;
+    }) in
+    let n = c.in_err-compare_pats_of in
+    let k = c.requires.asked in
+    let left = sorted.pat c.args.a.now k.left_known in
+    let failed = as_err c.from_residual.result (Unrelated n.field-0.0) c.from_residual.ensures.0 c.from_residual.ensures.1 in
+    subst (λ z. Related M r r r.ambient a b (r.meaning).pat z) (sym failed)
+    (patterns_differ M r r.ambient (r.meaning).pat a b n.field-0.0 c.requires.decides (pattern_is a left) left
+    (sorted.pat c.args.b.now k.right_known) (n.ensures).errors)
+
+pub pats-relate_in_order-requires : goal.pats-relate_in_order-requires
+pats-relate_in_order-requires g t c κs within =
+    let r = g.R.TypeRelation.state c.args.r.now in
+    let M = g.R.TypeRelation.manner in
+    let a = (r.meaning).pat c.args.a.now in
+    let b = (r.meaning).pat c.args.b.now in
+    let e = g.met.R.TypeRelation.reads c.args.r.now in
+    let cx = g.R.TypeRelation.interner c.args.r.now in
+    let sorted : Sorted r.meaning = subst (λ m. Sorted m) (sym e) (record {
+      ty = g.met.I.Interner.is_ty cx;
+      region = g.met.I.Interner.is_region cx;
+      tys = g.met.I.Interner.are_tys cx;
+      const_ = g.met.I.Interner.is_const cx;
+      valtree = g.met.I.Interner.is_valtree cx;
+      args = g.met.I.Interner.are_args cx;
+      branches = g.met.I.Interner.are_branches cx;
+      pat = g.met.I.Interner.is_pat cx;
+      alternatives = g.met.I.Interner.are_alternatives cx;
+      existential_predicates = g.met.I.Interner.are_existential_predicates cx;
+    }) in
+    let lawful = c.requires.lawful in
+    let decides = c.requires.decides in
+    let asked = c.requires.asked in
+    let form : IsOfPattern a = pattern_is a (sorted.pat c.args.a.now asked.left_known) in
+    let alike = (c.in_ok-compare_pats_of.ensures).alike in
+    let under : 8 * depth (r.store).budget (weight r.store a + weight r.store b) <
+        8 * depth (r.store).budget (weight r.store a + weight r.store b) + 1 = omega arith in
+    let d = c.decreases in
+    search rules
+
+pub pats-the_pat-requires : goal.pats-the_pat-requires
+pats-the_pat-requires g t c = (c.in_ok-relate_in_order.ensures).sort
+
+pub pats-returns-in_err-relate_in_order : goal.pats-returns-in_err-relate_in_order
+pats-returns-in_err-relate_in_order g t c =
+    let r = g.R.TypeRelation.state c.args.r.now in
+    let M = g.R.TypeRelation.manner in
+    let a = (r.meaning).pat c.args.a.now in
+    let b = (r.meaning).pat c.args.b.now in
+    let q = g.R.TypeRelation.state c.relate_in_order.new.r in
+    let n = c.in_err-relate_in_order in
+    let res = c.from_residual-in_err-relate_in_order.result in
+    let failed = as_err res n.field-0.0 c.from_residual-in_err-relate_in_order.ensures.0
+    c.from_residual-in_err-relate_in_order.ensures.1 in
+    subst (λ z. Related M r q r.ambient a b (q.meaning).pat z) (sym failed)
+    (refused_again M r.ambient a b (part_tree q.meaning) (q.meaning).pat n.field-0.0 (n.ensures).related)
+
+pub pats-returns : goal.pats-returns
+pats-returns g t c =
+    let r = g.R.TypeRelation.state c.args.r.now in
+    let M = g.R.TypeRelation.manner in
+    let a = (r.meaning).pat c.args.a.now in
+    let b = (r.meaning).pat c.args.b.now in
+    let q = g.R.TypeRelation.state c.relate_in_order.new.r in
+    let n = c.in_ok-relate_in_order in
+    retold M r.ambient a b (part_tree q.meaning) n.field-0 (q.meaning).pat c.the_pat.result
+    (ap (part_tree q.meaning) c.the_pat.ensures) (n.ensures).related
+
+pub structurally_relate_tys-relate_in_order-requires : goal.structurally_relate_tys-relate_in_order-requires
+structurally_relate_tys-relate_in_order-requires g t c κs within =
+    let r = g.R.TypeRelation.state c.args.r.now in
+    let M = g.R.TypeRelation.manner in
+    let a = (r.meaning).ty c.args.a.now in
+    let b = (r.meaning).ty c.args.b.now in
+    let lawful = c.requires.lawful in
+    let decides = c.requires.decides in
+    let asked = c.requires.asked in
+    let form : IsOfPattern a = (c.is_pattern_type_of.ensures).pattern c.if-is_pattern_type_of.true in
+    let alike = (c.in_ok-compare_tys_of.ensures).alike in
+    let under : 8 * depth (r.store).budget (weight r.store a + weight r.store b) <
+        8 * depth (r.store).budget (weight r.store a + weight r.store b) + 1 = omega arith in
+    let d = c.decreases in
+    search rules
+
+pub structurally_relate_tys-the_ty-requires : goal.structurally_relate_tys-the_ty-requires
+structurally_relate_tys-the_ty-requires g t c = (c.in_ok-relate_in_order.ensures).sort
+
+pub structurally_relate_tys-returns-in_err-relate_in_order : goal.structurally_relate_tys-returns-in_err-relate_in_order
+structurally_relate_tys-returns-in_err-relate_in_order g t c =
+    let r = g.R.TypeRelation.state c.args.r.now in
+    let M = g.R.TypeRelation.manner in
+    let a = (r.meaning).ty c.args.a.now in
+    let b = (r.meaning).ty c.args.b.now in
+    let q = g.R.TypeRelation.state c.relate_in_order.new.r in
+    let n = c.in_err-relate_in_order in
+    let res = c.from_residual-in_err-relate_in_order.result in
+    let failed = as_err res n.field-0.0 c.from_residual-in_err-relate_in_order.ensures.0
+    c.from_residual-in_err-relate_in_order.ensures.1 in
+    subst (λ z. Related M r q r.ambient a b (q.meaning).ty z) (sym failed)
+    (refused_again M r.ambient a b (part_tree q.meaning) (q.meaning).ty n.field-0.0 (n.ensures).related)
+
+pub structurally_relate_tys-returns-then-is_pattern_type_of : goal.structurally_relate_tys-returns-then-is_pattern_type_of
+structurally_relate_tys-returns-then-is_pattern_type_of g t c =
+    let r = g.R.TypeRelation.state c.args.r.now in
+    let M = g.R.TypeRelation.manner in
+    let a = (r.meaning).ty c.args.a.now in
+    let b = (r.meaning).ty c.args.b.now in
+    let q = g.R.TypeRelation.state c.relate_in_order.new.r in
+    let n = c.in_ok-relate_in_order in
+    retold M r.ambient a b (part_tree q.meaning) n.field-0 (q.meaning).ty c.the_ty.result
+    (ap (part_tree q.meaning) c.the_ty.ensures) (n.ensures).related
+
+pub structurally_relate_tys-part_of-x-requires-clause-no_pattern : goal.structurally_relate_tys-part_of-x-requires-clause-no_pattern
+structurally_relate_tys-part_of-x-requires-clause-no_pattern g t c =
+    let k = c.requires.asked in
+    let same = (((c.loop-i.invariant.fronted).passes).extends).ty c.args.a.now k.left_known in
+    λ e. (c.is_pattern_type_of.ensures).others c.if-is_pattern_type_of.false (sym (ap head_of same) ∙ e)
+
+pub structurally_relate_tys-part_of-y-requires-clause-no_pattern : goal.structurally_relate_tys-part_of-y-requires-clause-no_pattern
+structurally_relate_tys-part_of-y-requires-clause-no_pattern g t c =
+    let r = g.R.TypeRelation.state c.args.r.now in
+    let a = (r.meaning).ty c.args.a.now in
+    let b = (r.meaning).ty c.args.b.now in
+    let k = c.requires.asked in
+    let same = (((c.loop-i.invariant.fronted).passes).extends).ty c.args.b.now k.right_known in
+    λ e. (c.is_pattern_type_of.ensures).others c.if-is_pattern_type_of.false
+    (heads_alike a b (c.in_ok-compare_tys_of.ensures).alike ∙ sym (ap head_of same) ∙ e)
