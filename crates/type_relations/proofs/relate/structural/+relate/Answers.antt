@@ -1945,7 +1945,7 @@ relate_in_order-relate_parts-requires g t c κs within =
     let asked = next_asked M takes r q a b i x y kx ky k inv.fronted lx ly ex ey q.ambient ew eu in
     let smaller = next_under M takes r q a b i x y kx ky k inv.fronted lx ly ex ey in
     let under : 8 * depth (q.store).budget (weight q.store x + weight q.store y) + 3 <
-        8 * depth (r.store).budget (weight r.store a + weight r.store b) = omega (arith, smaller) in
+    8 * depth (r.store).budget (weight r.store a + weight r.store b) = omega (arith, smaller) in
     let d = c.decreases in
     search rules
 
@@ -2186,7 +2186,7 @@ relate_parts-tys-requires g t c κs within =
     let asked = subst₂ (λ x y. Asked M r r.ambient x y) ea eb c.requires.asked in
     let same = ap₂ (λ x y. depth (r.store).budget (weight r.store x + weight r.store y)) ea eb in
     let under : 8 * depth (r.store).budget (weight r.store ((r.meaning).ty k) + weight r.store ((r.meaning).ty o)) + 2 <
-        8 * depth (r.store).budget (weight r.store a + weight r.store b) + 3 = omega (arith, same) in
+    8 * depth (r.store).budget (weight r.store a + weight r.store b) + 3 = omega (arith, same) in
     let d = c.decreases in
     search rules
 
@@ -2249,7 +2249,7 @@ relate_parts-consts-requires g t c κs within =
     let asked = subst₂ (λ x y. Asked M r r.ambient x y) ea eb c.requires.asked in
     let same = ap₂ (λ x y. depth (r.store).budget (weight r.store x + weight r.store y)) ea eb in
     let under : 8 * depth (r.store).budget (weight r.store ((r.meaning).const_ k) + weight r.store ((r.meaning).const_ o)) + 2 <
-        8 * depth (r.store).budget (weight r.store a + weight r.store b) + 3 = omega (arith, same) in
+    8 * depth (r.store).budget (weight r.store a + weight r.store b) + 3 = omega (arith, same) in
     let d = c.decreases in
     search rules
 
@@ -2312,7 +2312,7 @@ relate_parts-pats-requires g t c κs within =
     let asked = subst₂ (λ x y. Asked M r r.ambient x y) ea eb c.requires.asked in
     let same = ap₂ (λ x y. depth (r.store).budget (weight r.store x + weight r.store y)) ea eb in
     let under : 8 * depth (r.store).budget (weight r.store ((r.meaning).pat k) + weight r.store ((r.meaning).pat o)) + 1 <
-        8 * depth (r.store).budget (weight r.store a + weight r.store b) + 3 = omega (arith, same) in
+    8 * depth (r.store).budget (weight r.store a + weight r.store b) + 3 = omega (arith, same) in
     let d = c.decreases in
     search rules
 
@@ -2411,7 +2411,7 @@ pats-relate_in_order-requires g t c κs within =
     let form : IsOfPattern a = pattern_is a (sorted.pat c.args.a.now asked.left_known) in
     let alike = (c.in_ok-compare_pats_of.ensures).alike in
     let under : 8 * depth (r.store).budget (weight r.store a + weight r.store b) <
-        8 * depth (r.store).budget (weight r.store a + weight r.store b) + 1 = omega arith in
+    8 * depth (r.store).budget (weight r.store a + weight r.store b) + 1 = omega arith in
     let d = c.decreases in
     search rules
 
@@ -2455,7 +2455,7 @@ structurally_relate_tys-relate_in_order-requires g t c κs within =
     let form : IsOfPattern a = (c.is_pattern_type_of.ensures).pattern c.if-is_pattern_type_of.true in
     let alike = (c.in_ok-compare_tys_of.ensures).alike in
     let under : 8 * depth (r.store).budget (weight r.store a + weight r.store b) <
-        8 * depth (r.store).budget (weight r.store a + weight r.store b) + 1 = omega arith in
+    8 * depth (r.store).budget (weight r.store a + weight r.store b) + 1 = omega arith in
     let d = c.decreases in
     search rules
 
