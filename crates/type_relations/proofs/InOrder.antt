@@ -82,10 +82,10 @@ module _ {Key Id Name : Type 0} {r q : State Key Id Name} (M : Manners) (v : Var
   module _ (o : AreOfOneForm a b) (f : Fronted M r q (head_of a) v i (parts_of a) (parts_of b))
       (are : AreParts r.store (parts_of a) (parts_of b)) (x y : Tree) (lx : i < count (parts_of a))
       (ly : i < count (parts_of b)) (ex : x ≡ nth i (parts_of a)) (ey : y ≡ nth i (parts_of b)) where
-    part_error : {p : State Key Id Name} (e : TypeError Key Id Name) →
+    part_error : (p : State Key Id Name) (e : TypeError Key Id Name) →
         ErrorOf p.meaning (items_in p) p.store (part_at (items_in p) (head_of a) i v) e x y →
         ErrorOf p.meaning (items_in p) p.store v e a b
-    part_error {p} e g = go o
+    part_error p e g = go o
       where
         go : AreOfOneForm a b → ErrorOf p.meaning (items_in p) p.store v e a b
         go (over_parts {h} {ts} {us} d k n) = of_parts i d k n (subst (λ z. i < count (parts_of z)) d lx)
@@ -105,7 +105,7 @@ module _ {Key Id Name : Type 0} {r q : State Key Id Name} (M : Manners) (v : Var
     patterns_refuse {p = p} g (Unrelated e) h =
         let same : items_in p ≡ items_in r = same_items g ∙ same_items f.passes in (
           types_never r.store v a b o (fronted_never (head_of a) v i (parts_of a) (parts_of b) x y f lx ly ex ey are h.0),
-          part_error {p} e (subst (λ c. ErrorOf p.meaning (items_in p) p.store (part_at c (head_of a) i v) e x y) (sym same)
+          part_error p e (subst (λ c. ErrorOf p.meaning (items_in p) p.store (part_at c (head_of a) i v) e x y) (sym same)
               h.1),
           h.2,
         )

@@ -1828,8 +1828,8 @@ relate_in_order-loop-i-init g t c =
       fits = subst (λ z. PartsFit z nil) (sym c.new-answers.ensures.items) tt;
     }
 
-pub relate_in_order-pattern_part_of-x-requires : goal.relate_in_order-pattern_part_of-x-requires
-relate_in_order-pattern_part_of-x-requires g t c =
+pub relate_in_order-pattern_part_of-x-requires-clause-term_known : goal.relate_in_order-pattern_part_of-x-requires-clause-term_known
+relate_in_order-pattern_part_of-x-requires-clause-term_known g t c =
     let r = g.R.TypeRelation.state c.args.r.now in
     let M = g.R.TypeRelation.manner in
     let a = part_tree r.meaning c.args.a.now in
@@ -1845,14 +1845,48 @@ relate_in_order-pattern_part_of-x-requires g t c =
     let same_b : part_tree q.meaning c.args.b.now ≡ b = stays_part extends c.args.b.now k.right_known in
     let test = c.loop-i-test.true in
     let l : i < count (parts_of a) = omega (arith, test, inv.left_count) in
-    record {
-      term_known = subst (λ z. IsTrue (known z)) (sym same_a) k.left_known;
-      form = subst IsOfPattern (sym same_a) form;
-      in_bounds = subst (λ z. i < count (parts_of z)) (sym same_a) l;
-    }
+    subst (λ z. IsTrue (known z)) (sym same_a) k.left_known
 
-pub relate_in_order-pattern_part_of-y-requires : goal.relate_in_order-pattern_part_of-y-requires
-relate_in_order-pattern_part_of-y-requires g t c =
+pub relate_in_order-pattern_part_of-x-requires-clause-form : goal.relate_in_order-pattern_part_of-x-requires-clause-form
+relate_in_order-pattern_part_of-x-requires-clause-form g t c =
+    let r = g.R.TypeRelation.state c.args.r.now in
+    let M = g.R.TypeRelation.manner in
+    let a = part_tree r.meaning c.args.a.now in
+    let b = part_tree r.meaning c.args.b.now in
+    let q = g.R.TypeRelation.state c.loop-i.r in
+    let i = c.loop-i.i in
+    let inv = c.loop-i.invariant in
+    let k = c.requires.asked in
+    let form = c.requires.form in
+    let alike = c.requires.alike in
+    let extends = ((inv.fronted).passes).extends in
+    let same_a : part_tree q.meaning c.args.a.now ≡ a = stays_part extends c.args.a.now k.left_known in
+    let same_b : part_tree q.meaning c.args.b.now ≡ b = stays_part extends c.args.b.now k.right_known in
+    let test = c.loop-i-test.true in
+    let l : i < count (parts_of a) = omega (arith, test, inv.left_count) in
+    subst IsOfPattern (sym same_a) form
+
+pub relate_in_order-pattern_part_of-x-requires-clause-in_bounds : goal.relate_in_order-pattern_part_of-x-requires-clause-in_bounds
+relate_in_order-pattern_part_of-x-requires-clause-in_bounds g t c =
+    let r = g.R.TypeRelation.state c.args.r.now in
+    let M = g.R.TypeRelation.manner in
+    let a = part_tree r.meaning c.args.a.now in
+    let b = part_tree r.meaning c.args.b.now in
+    let q = g.R.TypeRelation.state c.loop-i.r in
+    let i = c.loop-i.i in
+    let inv = c.loop-i.invariant in
+    let k = c.requires.asked in
+    let form = c.requires.form in
+    let alike = c.requires.alike in
+    let extends = ((inv.fronted).passes).extends in
+    let same_a : part_tree q.meaning c.args.a.now ≡ a = stays_part extends c.args.a.now k.left_known in
+    let same_b : part_tree q.meaning c.args.b.now ≡ b = stays_part extends c.args.b.now k.right_known in
+    let test = c.loop-i-test.true in
+    let l : i < count (parts_of a) = omega (arith, test, inv.left_count) in
+    subst (λ z. i < count (parts_of z)) (sym same_a) l
+
+pub relate_in_order-pattern_part_of-y-requires-clause-term_known : goal.relate_in_order-pattern_part_of-y-requires-clause-term_known
+relate_in_order-pattern_part_of-y-requires-clause-term_known g t c =
     let r = g.R.TypeRelation.state c.args.r.now in
     let M = g.R.TypeRelation.manner in
     let a = part_tree r.meaning c.args.a.now in
@@ -1868,11 +1902,45 @@ relate_in_order-pattern_part_of-y-requires g t c =
     let same_b : part_tree q.meaning c.args.b.now ≡ b = stays_part extends c.args.b.now k.right_known in
     let test = c.loop-i-test.true in
     let l : i < count (parts_of b) = omega (arith, test, inv.right_count) in
-    record {
-      term_known = subst (λ z. IsTrue (known z)) (sym same_b) k.right_known;
-      form = subst IsOfPattern (sym same_b) (pattern_alike a b alike form);
-      in_bounds = subst (λ z. i < count (parts_of z)) (sym same_b) l;
-    }
+    subst (λ z. IsTrue (known z)) (sym same_b) k.right_known
+
+pub relate_in_order-pattern_part_of-y-requires-clause-form : goal.relate_in_order-pattern_part_of-y-requires-clause-form
+relate_in_order-pattern_part_of-y-requires-clause-form g t c =
+    let r = g.R.TypeRelation.state c.args.r.now in
+    let M = g.R.TypeRelation.manner in
+    let a = part_tree r.meaning c.args.a.now in
+    let b = part_tree r.meaning c.args.b.now in
+    let q = g.R.TypeRelation.state c.loop-i.r in
+    let i = c.loop-i.i in
+    let inv = c.loop-i.invariant in
+    let k = c.requires.asked in
+    let form = c.requires.form in
+    let alike = c.requires.alike in
+    let extends = ((inv.fronted).passes).extends in
+    let same_a : part_tree q.meaning c.args.a.now ≡ a = stays_part extends c.args.a.now k.left_known in
+    let same_b : part_tree q.meaning c.args.b.now ≡ b = stays_part extends c.args.b.now k.right_known in
+    let test = c.loop-i-test.true in
+    let l : i < count (parts_of b) = omega (arith, test, inv.right_count) in
+    subst IsOfPattern (sym same_b) (pattern_alike a b alike form)
+
+pub relate_in_order-pattern_part_of-y-requires-clause-in_bounds : goal.relate_in_order-pattern_part_of-y-requires-clause-in_bounds
+relate_in_order-pattern_part_of-y-requires-clause-in_bounds g t c =
+    let r = g.R.TypeRelation.state c.args.r.now in
+    let M = g.R.TypeRelation.manner in
+    let a = part_tree r.meaning c.args.a.now in
+    let b = part_tree r.meaning c.args.b.now in
+    let q = g.R.TypeRelation.state c.loop-i.r in
+    let i = c.loop-i.i in
+    let inv = c.loop-i.invariant in
+    let k = c.requires.asked in
+    let form = c.requires.form in
+    let alike = c.requires.alike in
+    let extends = ((inv.fronted).passes).extends in
+    let same_a : part_tree q.meaning c.args.a.now ≡ a = stays_part extends c.args.a.now k.left_known in
+    let same_b : part_tree q.meaning c.args.b.now ≡ b = stays_part extends c.args.b.now k.right_known in
+    let test = c.loop-i-test.true in
+    let l : i < count (parts_of b) = omega (arith, test, inv.right_count) in
+    subst (λ z. i < count (parts_of z)) (sym same_b) l
 
 pub relate_in_order-relate_parts-requires : goal.relate_in_order-relate_parts-requires
 relate_in_order-relate_parts-requires g t c κs within =
@@ -1980,8 +2048,8 @@ relate_in_order-returns-in_err-answer g t c =
     let p = g.R.TypeRelation.state c.relate_parts.new.r in
     let n = c.in_err-answer in
     let gone = subst (λ v. Related M q p v x y (part_tree p.meaning) (Err n.field-0.0)) ew (n.ensures).related in
-    let failed = as_err c.from_residual-in_err-answer.result n.field-0.0 c.from_residual-in_err-answer.ensures.0
-    c.from_residual-in_err-answer.ensures.1 in
+    let failed = as_err c.from_residual.result n.field-0.0 c.from_residual.ensures.0
+    c.from_residual.ensures.1 in
     record {
       related = subst (λ u. Related M r p r.ambient a b (part_tree p.meaning) u) (sym failed)
           (patterns_refused M r.ambient a b i form alike inv.fronted inv.are_parts x y lx ly ex ey (part_tree p.meaning)
@@ -2101,8 +2169,8 @@ relate_in_order-returns-in_err-push g t c =
       sort = subst (λ u. IfOk u (λ z. part_sort z ≡ part_sort c.args.a.now)) (sym failed) tt;
     }
 
-pub relate_in_order-make_pattern-requires : goal.relate_in_order-make_pattern-requires
-relate_in_order-make_pattern-requires g t c =
+pub relate_in_order-make_pattern-requires-clause-lawful : goal.relate_in_order-make_pattern-requires-clause-lawful
+relate_in_order-make_pattern-requires-clause-lawful g t c =
     let r = g.R.TypeRelation.state c.args.r.now in
     let M = g.R.TypeRelation.manner in
     let a = part_tree r.meaning c.args.a.now in
@@ -2122,15 +2190,101 @@ relate_in_order-make_pattern-requires g t c =
     let right : i ≡ count (parts_of b) = omega (arith, test, end, inv.right_count) in
     let items = c.loop-i.answers.items in
     let was = list_tree (part_tree q.meaning) items in
-    record {
-      lawful = inv.lawful;
-      term_known = subst (λ z. IsTrue (known z)) (sym same_a) k.left_known;
-      form = subst IsOfPattern (sym same_a) form;
-      parts_known = subst (λ z. IsTrue (known z)) (sym (ap (list_tree (part_tree q.meaning)) c.as_slice.ensures.value))
-          (inv.answers).sure;
-      fits = subst₂ (λ xs z. PartsFit xs (parts_of z)) (sym c.as_slice.ensures.value) (sym same_a)
-          (parts_end items (parts_of a) i (inv.are_parts).left_list left inv.fits);
-    }
+    inv.lawful
+
+pub relate_in_order-make_pattern-requires-clause-term_known : goal.relate_in_order-make_pattern-requires-clause-term_known
+relate_in_order-make_pattern-requires-clause-term_known g t c =
+    let r = g.R.TypeRelation.state c.args.r.now in
+    let M = g.R.TypeRelation.manner in
+    let a = part_tree r.meaning c.args.a.now in
+    let b = part_tree r.meaning c.args.b.now in
+    let q = g.R.TypeRelation.state c.loop-i.r in
+    let i = c.loop-i.i in
+    let inv = c.loop-i.invariant in
+    let k = c.requires.asked in
+    let form = c.requires.form in
+    let alike = c.requires.alike in
+    let extends = ((inv.fronted).passes).extends in
+    let same_a : part_tree q.meaning c.args.a.now ≡ a = stays_part extends c.args.a.now k.left_known in
+    let same_b : part_tree q.meaning c.args.b.now ≡ b = stays_part extends c.args.b.now k.right_known in
+    let test = c.loop-i-test.false in
+    let end = (c.loop-i.auto).i-end in
+    let left : i ≡ count (parts_of a) = omega (arith, test, end, inv.left_count) in
+    let right : i ≡ count (parts_of b) = omega (arith, test, end, inv.right_count) in
+    let items = c.loop-i.answers.items in
+    let was = list_tree (part_tree q.meaning) items in
+    subst (λ z. IsTrue (known z)) (sym same_a) k.left_known
+
+pub relate_in_order-make_pattern-requires-clause-form : goal.relate_in_order-make_pattern-requires-clause-form
+relate_in_order-make_pattern-requires-clause-form g t c =
+    let r = g.R.TypeRelation.state c.args.r.now in
+    let M = g.R.TypeRelation.manner in
+    let a = part_tree r.meaning c.args.a.now in
+    let b = part_tree r.meaning c.args.b.now in
+    let q = g.R.TypeRelation.state c.loop-i.r in
+    let i = c.loop-i.i in
+    let inv = c.loop-i.invariant in
+    let k = c.requires.asked in
+    let form = c.requires.form in
+    let alike = c.requires.alike in
+    let extends = ((inv.fronted).passes).extends in
+    let same_a : part_tree q.meaning c.args.a.now ≡ a = stays_part extends c.args.a.now k.left_known in
+    let same_b : part_tree q.meaning c.args.b.now ≡ b = stays_part extends c.args.b.now k.right_known in
+    let test = c.loop-i-test.false in
+    let end = (c.loop-i.auto).i-end in
+    let left : i ≡ count (parts_of a) = omega (arith, test, end, inv.left_count) in
+    let right : i ≡ count (parts_of b) = omega (arith, test, end, inv.right_count) in
+    let items = c.loop-i.answers.items in
+    let was = list_tree (part_tree q.meaning) items in
+    subst IsOfPattern (sym same_a) form
+
+pub relate_in_order-make_pattern-requires-clause-parts_known : goal.relate_in_order-make_pattern-requires-clause-parts_known
+relate_in_order-make_pattern-requires-clause-parts_known g t c =
+    let r = g.R.TypeRelation.state c.args.r.now in
+    let M = g.R.TypeRelation.manner in
+    let a = part_tree r.meaning c.args.a.now in
+    let b = part_tree r.meaning c.args.b.now in
+    let q = g.R.TypeRelation.state c.loop-i.r in
+    let i = c.loop-i.i in
+    let inv = c.loop-i.invariant in
+    let k = c.requires.asked in
+    let form = c.requires.form in
+    let alike = c.requires.alike in
+    let extends = ((inv.fronted).passes).extends in
+    let same_a : part_tree q.meaning c.args.a.now ≡ a = stays_part extends c.args.a.now k.left_known in
+    let same_b : part_tree q.meaning c.args.b.now ≡ b = stays_part extends c.args.b.now k.right_known in
+    let test = c.loop-i-test.false in
+    let end = (c.loop-i.auto).i-end in
+    let left : i ≡ count (parts_of a) = omega (arith, test, end, inv.left_count) in
+    let right : i ≡ count (parts_of b) = omega (arith, test, end, inv.right_count) in
+    let items = c.loop-i.answers.items in
+    let was = list_tree (part_tree q.meaning) items in
+    subst (λ z. IsTrue (known z)) (sym (ap (list_tree (part_tree q.meaning)) c.as_slice.ensures.value))
+          (inv.answers).sure
+
+pub relate_in_order-make_pattern-requires-clause-fits : goal.relate_in_order-make_pattern-requires-clause-fits
+relate_in_order-make_pattern-requires-clause-fits g t c =
+    let r = g.R.TypeRelation.state c.args.r.now in
+    let M = g.R.TypeRelation.manner in
+    let a = part_tree r.meaning c.args.a.now in
+    let b = part_tree r.meaning c.args.b.now in
+    let q = g.R.TypeRelation.state c.loop-i.r in
+    let i = c.loop-i.i in
+    let inv = c.loop-i.invariant in
+    let k = c.requires.asked in
+    let form = c.requires.form in
+    let alike = c.requires.alike in
+    let extends = ((inv.fronted).passes).extends in
+    let same_a : part_tree q.meaning c.args.a.now ≡ a = stays_part extends c.args.a.now k.left_known in
+    let same_b : part_tree q.meaning c.args.b.now ≡ b = stays_part extends c.args.b.now k.right_known in
+    let test = c.loop-i-test.false in
+    let end = (c.loop-i.auto).i-end in
+    let left : i ≡ count (parts_of a) = omega (arith, test, end, inv.left_count) in
+    let right : i ≡ count (parts_of b) = omega (arith, test, end, inv.right_count) in
+    let items = c.loop-i.answers.items in
+    let was = list_tree (part_tree q.meaning) items in
+    subst₂ (λ xs z. PartsFit xs (parts_of z)) (sym c.as_slice.ensures.value) (sym same_a)
+          (parts_end items (parts_of a) i (inv.are_parts).left_list left inv.fits)
 
 pub relate_in_order-returns : goal.relate_in_order-returns
 relate_in_order-returns g t c =
@@ -2457,7 +2611,7 @@ structurally_relate_tys-relate_in_order-requires g t c κs within =
     let under : 8 * depth (r.store).budget (weight r.store a + weight r.store b) <
     8 * depth (r.store).budget (weight r.store a + weight r.store b) + 1 = omega arith in
     let d = c.decreases in
-    search rules
+    search (rules, lawful, decides, asked, form, alike, under)
 
 pub structurally_relate_tys-the_ty-requires : goal.structurally_relate_tys-the_ty-requires
 structurally_relate_tys-the_ty-requires g t c = (c.in_ok-relate_in_order.ensures).sort
