@@ -3,17 +3,16 @@ ghost use Rattle.std.specs.Prelude.{◌≡◌, IsTrue, IfOk};
 ghost use Rattle.relation_terms.specs.Trees.{known, count};
 ghost use Rattle.relation_terms.specs.Meaning.{Extends};
 ghost use Rattle.relation_reference.specs.Tables.{IsLawful};
-ghost use Rattle.relation_asking.specs.Asking.{AreReady, IsReady, KnowsRelated};
+ghost use Rattle.relation_asking.specs.Asking.{AreReady, IsReady, KnowsAnswer, KnowsRelated};
 
 use crate::context::{NotAsked, have_variables, refusal, relate};
 use crate::needs::{Needs, both, parts_need};
-use crate::question::{Ready, Unasked};
+use crate::question::{Answer, Outcome, Ready, Unasked};
 use relation_reference::context::RefCtxt;
 use relation_terms::terms::parts::member_count;
 use relation_terms::terms::{GenericArgs, Interner, Parts as PartsOfTerm, Variance};
 use relation_text::building::keys_at;
 use relation_text::naming::Parts;
-use type_relations::relate::solver_relating::RelateGoals;
 
 // The arguments of a list of terms, and what they need.
 pub(super) fn args_of<I: Interner>(
@@ -53,13 +52,13 @@ fn relate_ready<I: Interner>(
     ctx: &mut RefCtxt<I>,
     lhs: (GenericArgs<I>, Needs),
     rhs: (GenericArgs<I>, Needs),
-) -> Result<RelateGoals<I>, Unasked>
+) -> Outcome<I>
     requires lawful { IsLawful (I.meaning ctx.old.interner) ctx.old.inner }
     requires lhs_ready { IsReady lhs.1 ((I.meaning ctx.old.interner).args lhs.0) }
     requires rhs_ready { IsReady rhs.1 ((I.meaning ctx.old.interner).args rhs.0) }
     ensures lawful { IsLawful (I.meaning ctx.new.interner) ctx.new.inner }
     ensures grown { Extends (I.meaning ctx.old.interner) (I.meaning ctx.new.interner) }
-    ensures known { IfOk result (KnowsRelated (I.meaning ctx.new.interner)) }
+    ensures known { let m = I.meaning ctx.new.interner in IfOk result (KnowsAnswer m (KnowsRelated m)) }
 {
     let (lhs, lhs_needs) = lhs;
     let (rhs, rhs_needs) = rhs;
@@ -76,7 +75,8 @@ fn relate_ready<I: Interner>(
         return Err(Unasked::Memory);
     };
     let span = ctx.interner.dummy_span();
-    Ok(relate(ctx, param_env, lhs, Variance::Invariant, rhs, span))
+    let related = relate(ctx, param_env, lhs, Variance::Invariant, rhs, span);
+    Ok(Answer::Related(related))
 }
 
 // Relates two lists of arguments in a context.
@@ -85,12 +85,12 @@ pub(super) fn ask_args_related<I: Interner>(
     terms: &Ready<I>,
     lhs: Parts,
     rhs: Parts,
-) -> Result<RelateGoals<I>, Unasked>
+) -> Outcome<I>
     requires lawful { IsLawful (I.meaning ctx.old.interner) ctx.old.inner }
     requires ready { AreReady (I.meaning ctx.old.interner) terms.now.built.now terms.now.needs.now }
     ensures lawful { IsLawful (I.meaning ctx.new.interner) ctx.new.inner }
     ensures grown { Extends (I.meaning ctx.old.interner) (I.meaning ctx.new.interner) }
-    ensures known { IfOk result (KnowsRelated (I.meaning ctx.new.interner)) }
+    ensures known { let m = I.meaning ctx.new.interner in IfOk result (KnowsAnswer m (KnowsRelated m)) }
 {
     let lhs = args_of(ctx, terms, lhs)?;
     let rhs = args_of(ctx, terms, rhs)?;

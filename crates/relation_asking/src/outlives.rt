@@ -6,10 +6,10 @@ ghost use Rattle.relation_terms.specs.Meaning.{Meaning, Extends, arg_tree};
 ghost use Rattle.relation_tools.specs.Assumptions.{IsKnown};
 ghost use Rattle.relation_reference.specs.Tables.{IsLawful};
 ghost use Rattle.relation_asking.specs.Meets.{AllKnown};
-ghost use Rattle.relation_asking.specs.Asking.{AreReady};
+ghost use Rattle.relation_asking.specs.Asking.{AreReady, KnowsAnswer, KnowsRelated};
 ghost use Rattle.relation_asking.specs.Outlives.{KnowsComponent, KnowsComponents};
 
-use crate::question::{Ready, Unasked, terms_of, type_of};
+use crate::question::{Answer, Outcome, Ready, Unasked, terms_of, type_of};
 use crate::sized_keys::SizedKeys;
 use relation_reference::context::RefCtxt;
 use relation_terms::predicate::OutlivesPredicate;
@@ -26,19 +26,15 @@ use std::fmt::{self, Write};
 use std::hash::Hash;
 
 // The components of a type.
-pub(super) fn ask_components<I: SizedKeys>(
-    cx: &I,
-    terms: &Ready<I>,
-    number: usize,
-) -> Result<Vec<ComponentOf<I>>, Unasked>
+pub(super) fn ask_components<I: SizedKeys>(cx: &I, terms: &Ready<I>, number: usize) -> Outcome<I>
     requires { AreReady (I.meaning cx.now) terms.now.built.now terms.now.needs.now }
-    ensures { IfOk result (λ found. KnowsComponents (I.meaning cx.now) found.items) }
+    ensures { let m = I.meaning cx.now in IfOk result (KnowsAnswer m (KnowsRelated m)) }
 {
     let Some((ty, _)) = type_of(terms, number) else {
         return Err(Unasked::Memory);
     };
     match cx.components(&ty) {
-        Ok(found) => Ok(found),
+        Ok(found) => Ok(Answer::Components(found)),
         Err(_) => Err(Unasked::Memory),
     }
 }
@@ -151,12 +147,12 @@ pub(super) fn ask_assumptions<I: Interner>(
     terms: &Ready<I>,
     assumed: Parts,
     regions: Parts,
-) -> Result<Vec<OutlivesAssumption<I>>, Unasked>
+) -> Outcome<I>
     requires lawful { IsLawful (I.meaning ctx.old.interner) ctx.old.inner }
     requires ready { AreReady (I.meaning ctx.old.interner) terms.now.built.now terms.now.needs.now }
     ensures lawful { IsLawful (I.meaning ctx.new.interner) ctx.new.inner }
     ensures grown { Extends (I.meaning ctx.old.interner) (I.meaning ctx.new.interner) }
-    ensures sure { IfOk result (λ all. All (IsKnown (I.meaning ctx.new.interner)) all.items) }
+    ensures known { let m = I.meaning ctx.new.interner in IfOk result (KnowsAnswer m (KnowsRelated m)) }
 {
     let alloc = ctx.interner.alloc();
     let assumed = terms_of(alloc, terms, assumed)?;
@@ -165,7 +161,7 @@ pub(super) fn ask_assumptions<I: Interner>(
         return Err(Unasked::Memory);
     };
     match followed(&mut ctx.interner, &assumptions) {
-        Ok(all) => Ok(all),
+        Ok(all) => Ok(Answer::Assumed(all)),
         Err(_) => Err(Unasked::Memory),
     }
 }

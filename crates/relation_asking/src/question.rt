@@ -139,12 +139,12 @@ fn ask_related<I: Interner>(
     lhs: usize,
     variance: Variance,
     rhs: usize,
-) -> Result<RelateGoals<I>, Unasked>
+) -> Outcome<I>
     requires lawful { IsLawful (I.meaning ctx.old.interner) ctx.old.inner }
     requires ready { AreReady (I.meaning ctx.old.interner) terms.now.built.now terms.now.needs.now }
     ensures lawful { IsLawful (I.meaning ctx.new.interner) ctx.new.inner }
     ensures grown { Extends (I.meaning ctx.old.interner) (I.meaning ctx.new.interner) }
-    ensures known { IfOk result (KnowsRelated (I.meaning ctx.new.interner)) }
+    ensures known { let m = I.meaning ctx.new.interner in IfOk result (KnowsAnswer m (KnowsRelated m)) }
 {
     let Some((lhs, lhs_needs)) = type_of(terms, lhs) else {
         return Err(Unasked::Memory);
@@ -162,7 +162,8 @@ fn ask_related<I: Interner>(
         return Err(Unasked::Memory);
     };
     let span = ctx.interner.dummy_span();
-    Ok(relate(ctx, param_env, lhs, variance, rhs, span))
+    let related = relate(ctx, param_env, lhs, variance, rhs, span);
+    Ok(Answer::Related(related))
 }
 
 // The term of that number.
@@ -213,33 +214,28 @@ fn ask_visited<I: Interner>(
     term: usize,
     skip: Parts,
     stop: Parts,
-) -> Result<Met<I::Key>, Unasked>
+) -> Outcome<I>
     requires { AreReady (I.meaning cx.now) terms.now.built.now terms.now.needs.now }
-    ensures { IfOk result (λ met. AllKnown (I.meaning cx.now) met.terms.items) }
+    ensures { let m = I.meaning cx.now in IfOk result (KnowsAnswer m (KnowsRelated m)) }
 {
     let term = term_of(terms, term)?;
     let skip = terms_of(cx.alloc(), terms, skip)?;
     let stop = terms_of(cx.alloc(), terms, stop)?;
     match visit(cx, &term, &skip, &stop) {
-        Some(met) => Ok(met),
+        Some(met) => Ok(Answer::Met(met)),
         None => Err(Unasked::Memory),
     }
 }
 
 // Walks a term.
-fn ask_walked<I: SizedKeys>(
-    cx: &I,
-    terms: &Ready<I>,
-    term: usize,
-    skips: Parts,
-) -> Result<Vec<GenericArg<I>>, Unasked>
+fn ask_walked<I: SizedKeys>(cx: &I, terms: &Ready<I>, term: usize, skips: Parts) -> Outcome<I>
     requires { AreReady (I.meaning cx.now) terms.now.built.now terms.now.needs.now }
-    ensures { IfOk result (λ yielded. AllKnown (I.meaning cx.now) yielded.items) }
+    ensures { let m = I.meaning cx.now in IfOk result (KnowsAnswer m (KnowsRelated m)) }
 {
     let term = term_of(terms, term)?;
     let skips = numbers_at(terms.skips, skips);
     match cx.walk(&term, skips) {
-        Ok(yielded) => Ok(yielded),
+        Ok(yielded) => Ok(Answer::Walked(yielded)),
         Err(_) => Err(Unasked::Memory),
     }
 }
@@ -250,45 +246,48 @@ fn ask_folded<I: Interner>(
     terms: &Ready<I>,
     term: usize,
     puts: Parts,
-) -> Result<GenericArg<I>, Unasked>
+) -> Outcome<I>
     requires lawful { IsLawful (I.meaning ctx.old.interner) ctx.old.inner }
     requires ready { AreReady (I.meaning ctx.old.interner) terms.now.built.now terms.now.needs.now }
     ensures lawful { IsLawful (I.meaning ctx.new.interner) ctx.new.inner }
     ensures grown { Extends (I.meaning ctx.old.interner) (I.meaning ctx.new.interner) }
-    ensures sure { IfOk result (λ key. IsTrue (known (arg_tree (I.meaning ctx.new.interner) key))) }
+    ensures known { let m = I.meaning ctx.new.interner in IfOk result (KnowsAnswer m (KnowsRelated m)) }
 {
     let term = term_of(terms, term)?;
     let puts = puts_of(ctx.interner.alloc(), terms, puts)?;
     match fold(&mut ctx.interner, &term, &puts) {
-        Ok(folded) => Ok(folded),
+        Ok(folded) => Ok(Answer::Folded(folded)),
         Err(_) => Err(Unasked::Memory),
     }
 }
 
 // Whether a variable stands in a term that a binder outside it binds.
-fn ask_escapes<I: Interner>(cx: &I, terms: &Ready<I>, number: usize) -> Result<bool, Unasked>
+fn ask_escapes<I: Interner>(cx: &I, terms: &Ready<I>, number: usize) -> Outcome<I>
     requires { AreReady (I.meaning cx.now) terms.now.built.now terms.now.needs.now }
+    ensures { let m = I.meaning cx.now in IfOk result (KnowsAnswer m (KnowsRelated m)) }
 {
     let term = term_of(terms, number)?;
-    Ok(has_escaping_bound_vars(cx, &term))
+    Ok(Answer::Is(has_escaping_bound_vars(cx, &term)))
 }
 
 // Whether a variable that is no region stands in a term.
-fn ask_infers<I: Interner>(cx: &I, terms: &Ready<I>, number: usize) -> Result<bool, Unasked>
+fn ask_infers<I: Interner>(cx: &I, terms: &Ready<I>, number: usize) -> Outcome<I>
     requires { AreReady (I.meaning cx.now) terms.now.built.now terms.now.needs.now }
+    ensures { let m = I.meaning cx.now in IfOk result (KnowsAnswer m (KnowsRelated m)) }
 {
     let term = term_of(terms, number)?;
-    Ok(has_non_region_infer(cx, &term))
+    Ok(Answer::Is(has_non_region_infer(cx, &term)))
 }
 
 // Whether a type's outermost form stays what it is.
-fn ask_rigid<I: Interner>(cx: &I, terms: &Ready<I>, number: usize) -> Result<bool, Unasked>
+fn ask_rigid<I: Interner>(cx: &I, terms: &Ready<I>, number: usize) -> Outcome<I>
     requires { AreReady (I.meaning cx.now) terms.now.built.now terms.now.needs.now }
+    ensures { let m = I.meaning cx.now in IfOk result (KnowsAnswer m (KnowsRelated m)) }
 {
     let Some((ty, _)) = type_of(terms, number) else {
         return Err(Unasked::Memory);
     };
-    Ok(is_known_rigid(cx, &ty))
+    Ok(Answer::Is(is_known_rigid(cx, &ty)))
 }
 
 // Asks a question of a context.
@@ -302,66 +301,31 @@ fn ask<I: SizedKeys>(ctx: &mut RefCtxt<I>, terms: &Ready<I>, question: &Question
         IfOk result (KnowsAnswer m (KnowsRelated m)) }
 {
     match question.kind {
-        QuestionKind::Relate { lhs, variance, rhs } => {
-            let related = ask_related(ctx, terms, lhs, variance, rhs)?;
-            Ok(Answer::Related(related))
-        }
+        QuestionKind::Relate { lhs, variance, rhs } => ask_related(ctx, terms, lhs, variance, rhs),
         QuestionKind::Visit { term, skip, stop } => {
-            let met = ask_visited(&ctx.interner, terms, term, skip, stop)?;
-            Ok(Answer::Met(met))
+            ask_visited(&ctx.interner, terms, term, skip, stop)
         }
-        QuestionKind::Walk { term, skips } => {
-            let yielded = ask_walked(&ctx.interner, terms, term, skips)?;
-            Ok(Answer::Walked(yielded))
-        }
-        QuestionKind::Components(number) => {
-            let found = ask_components(&ctx.interner, terms, number)?;
-            Ok(Answer::Components(found))
-        }
+        QuestionKind::Walk { term, skips } => ask_walked(&ctx.interner, terms, term, skips),
+        QuestionKind::Components(number) => ask_components(&ctx.interner, terms, number),
         QuestionKind::Assumptions {
             terms: list,
             regions,
-        } => {
-            let all = ask_assumptions(ctx, terms, list, regions)?;
-            Ok(Answer::Assumed(all))
-        }
-        QuestionKind::Fold { term, puts } => {
-            let folded = ask_folded(ctx, terms, term, puts)?;
-            Ok(Answer::Folded(folded))
-        }
-        QuestionKind::Escapes(number) => {
-            let escapes = ask_escapes(&ctx.interner, terms, number)?;
-            Ok(Answer::Is(escapes))
-        }
-        QuestionKind::Infers(number) => {
-            let infers = ask_infers(&ctx.interner, terms, number)?;
-            Ok(Answer::Is(infers))
-        }
-        QuestionKind::Rigid(number) => {
-            let rigid = ask_rigid(&ctx.interner, terms, number)?;
-            Ok(Answer::Is(rigid))
-        }
+        } => ask_assumptions(ctx, terms, list, regions),
+        QuestionKind::Fold { term, puts } => ask_folded(ctx, terms, term, puts),
+        QuestionKind::Escapes(number) => ask_escapes(&ctx.interner, terms, number),
+        QuestionKind::Infers(number) => ask_infers(&ctx.interner, terms, number),
+        QuestionKind::Rigid(number) => ask_rigid(&ctx.interner, terms, number),
         QuestionKind::MayUnify {
             params,
             lhs,
             rhs,
             depth,
-        } => {
-            let may = ask_may_unify(&ctx.interner, terms, params, lhs, rhs, depth)?;
-            Ok(Answer::Is(may))
-        }
+        } => ask_may_unify(&ctx.interner, terms, params, lhs, rhs, depth),
         QuestionKind::ArgsMayUnify { params, lhs, rhs } => {
-            let may = ask_args_may_unify(ctx, terms, params, lhs, rhs)?;
-            Ok(Answer::Is(may))
+            ask_args_may_unify(ctx, terms, params, lhs, rhs)
         }
-        QuestionKind::RelateArgs { lhs, rhs } => {
-            let related = ask_args_related(ctx, terms, lhs, rhs)?;
-            Ok(Answer::Related(related))
-        }
-        QuestionKind::Key { params, ty } => {
-            let key = ask_key(&ctx.interner, terms, params, ty)?;
-            Ok(Answer::Key(key))
-        }
+        QuestionKind::RelateArgs { lhs, rhs } => ask_args_related(ctx, terms, lhs, rhs),
+        QuestionKind::Key { params, ty } => ask_key(&ctx.interner, terms, params, ty),
     }
 }
 

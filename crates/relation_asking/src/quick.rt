@@ -1,12 +1,12 @@
 //! Quick tests that are asked, and keys that are written.
-ghost use Rattle.std.specs.Prelude.{IsTrue};
+ghost use Rattle.std.specs.Prelude.{IsTrue, IfOk};
 ghost use Rattle.relation_terms.specs.Trees.{known};
 ghost use Rattle.relation_terms.specs.Meaning.{Extends};
 ghost use Rattle.relation_reference.specs.Tables.{IsLawful};
-ghost use Rattle.relation_asking.specs.Asking.{AreReady};
+ghost use Rattle.relation_asking.specs.Asking.{AreReady, KnowsAnswer, KnowsRelated};
 
 use crate::lists::args_of;
-use crate::question::{Ready, Unasked, type_of};
+use crate::question::{Answer, Outcome, Ready, Unasked, type_of};
 use relation_reference::context::RefCtxt;
 use relation_terms::terms::{Interner, ItemOf, Mutability, Ty};
 use relation_text::naming::Parts;
@@ -43,8 +43,9 @@ pub(super) fn ask_may_unify<I: Interner>(
     lhs: usize,
     rhs: usize,
     depth: Option<usize>,
-) -> Result<bool, Unasked>
+) -> Outcome<I>
     requires { AreReady (I.meaning cx.now) terms.now.built.now terms.now.needs.now }
+    ensures { let m = I.meaning cx.now in IfOk result (KnowsAnswer m (KnowsRelated m)) }
 {
     let Some((lhs, _)) = type_of(terms, lhs) else {
         return Err(Unasked::Memory);
@@ -52,7 +53,7 @@ pub(super) fn ask_may_unify<I: Interner>(
     let Some((rhs, _)) = type_of(terms, rhs) else {
         return Err(Unasked::Memory);
     };
-    Ok(match params {
+    let may = match params {
         SideParams::RigidRigid => {
             let test = DeepRejectCtxt::<I, false, false>::relate_rigid_rigid(cx);
             test_types(&test, cx, &lhs, &rhs, depth)
@@ -65,7 +66,8 @@ pub(super) fn ask_may_unify<I: Interner>(
             let test = DeepRejectCtxt::<I, true, true>::relate_infer_infer(cx);
             test_types(&test, cx, &lhs, &rhs, depth)
         }
-    })
+    };
+    Ok(Answer::Is(may))
 }
 
 // Whether two lists of arguments may unify.
@@ -76,16 +78,17 @@ pub(super) fn ask_args_may_unify<I: Interner>(
     params: SideParams,
     lhs: Parts,
     rhs: Parts,
-) -> Result<bool, Unasked>
+) -> Outcome<I>
     requires lawful { IsLawful (I.meaning ctx.old.interner) ctx.old.inner }
     requires ready { AreReady (I.meaning ctx.old.interner) terms.now.built.now terms.now.needs.now }
     ensures lawful { IsLawful (I.meaning ctx.new.interner) ctx.new.inner }
     ensures grown { Extends (I.meaning ctx.old.interner) (I.meaning ctx.new.interner) }
+    ensures known { let m = I.meaning ctx.new.interner in IfOk result (KnowsAnswer m (KnowsRelated m)) }
 {
     let (lhs, _) = args_of(ctx, terms, lhs)?;
     let (rhs, _) = args_of(ctx, terms, rhs)?;
     let cx = &ctx.interner;
-    Ok(match params {
+    let may = match params {
         SideParams::RigidRigid => {
             let test = DeepRejectCtxt::<I, false, false>::relate_rigid_rigid(cx);
             test.args_may_unify(cx, &lhs, &rhs)
@@ -98,7 +101,8 @@ pub(super) fn ask_args_may_unify<I: Interner>(
             let test = DeepRejectCtxt::<I, true, true>::relate_infer_infer(cx);
             test.args_may_unify(cx, &lhs, &rhs)
         }
-    })
+    };
+    Ok(Answer::Is(may))
 }
 
 // The key of a type.
@@ -107,8 +111,9 @@ pub(super) fn ask_key<I: Interner>(
     terms: &Ready<I>,
     params: KeyParams,
     number: usize,
-) -> Result<KeyOf<I>, Unasked>
+) -> Outcome<I>
     requires { AreReady (I.meaning cx.now) terms.now.built.now terms.now.needs.now }
+    ensures { let m = I.meaning cx.now in IfOk result (KnowsAnswer m (KnowsRelated m)) }
 {
     let Some((ty, _)) = type_of(terms, number) else {
         return Err(Unasked::Memory);
@@ -117,7 +122,7 @@ pub(super) fn ask_key<I: Interner>(
         KeyParams::Infer => TreatParams::InstantiateWithInfer,
         KeyParams::Rigid => TreatParams::AsRigid,
     };
-    Ok(simplify_type(cx, &ty, treat_params))
+    Ok(Answer::Key(simplify_type(cx, &ty, treat_params)))
 }
 
 // The name of a key.
