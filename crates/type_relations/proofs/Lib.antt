@@ -53,6 +53,8 @@ pub mod DiagInfo
 pub mod Making
 pub mod OneUniverse
 pub mod Answering
+pub mod Patterns
+pub mod InOrder
 pub mod Unifying
 pub mod Rejected
 pub mod Roots
