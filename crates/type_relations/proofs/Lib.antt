@@ -12,6 +12,9 @@ pub mod Tallies
 pub mod Written
 pub mod Growing
 pub mod NewVariables
+pub mod MakingEach
+pub mod Opened
+pub mod OpenedTerms
 pub mod Erased
 pub mod Composing
 pub mod Opening
