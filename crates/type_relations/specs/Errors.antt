@@ -283,11 +283,11 @@ module _ {Key Id Name : Type 0} (m : Meaning Key Id Name) where
         StandsOutside (placeholder q u i) (apply (resolved st) b) → bound_sort q ≢ region_sort →
         universe_of st k n < u → e ≡ Mismatch → BindingError st a b e
 
-  -- The error comes of a pair that is met when two terms are related at a variance that is not bivariance: of two
-  -- types, constants or patterns, as read, that differ in form; of what they are read as by what is recorded; of two arguments of
-  -- different kinds; of two parts at one place of one form, at the variance of that place, as the whole's error; or of a
-  -- variable that can't be bound to the other side. Two terms of which one is a variable that may be bound to the other
-  -- do not differ in form.
+  -- The error comes of a pair that is met when two terms are related at a variance that is not bivariance: of two types,
+  -- constants or patterns, as read, that differ in form; of what they are read as by what is recorded; of two arguments
+  -- of different kinds; of two parts at one place of one form, at the variance of that place, as the whole's error; or of
+  -- a variable that can't be bound to the other side. Two terms of which one is a variable that may be bound to the
+  -- other do not differ in form.
   pub data ErrorOf (c : Items) (st : Store) : Variance → TypeError Key Id Name → Tree → Tree → Type 0 where
     of_forms : {v : Variance} {e : _} {a b : Tree} (x y : TyKey Key) → v ≢ Bivariant → m.ty x ≡ a → m.ty y ≡ b →
         (AreBindable a b → ⊥) → FormError x y e → ErrorOf c st v e a b

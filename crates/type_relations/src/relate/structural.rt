@@ -242,8 +242,8 @@ pub fn structurally_relate_consts<I: Interner, R: TypeRelation<I>>(
     make_const(r, a, answers.as_slice())
 }
 
-/// Relates two patterns at the ambient variance, and answers the left one's form over what its parts answered: ranges by
-/// start, then end; alternatives pair by pair.
+/// Relates two patterns at the ambient variance, and answers the left one's form over what its parts answered: ranges
+/// by start, then end; alternatives pair by pair.
 ///
 /// Conditions are those of `tys`. Two of different forms, or with unlike numbers of alternatives, are `Mismatch`. All
 /// errors of the parts are handed on. Upstream this is the interner's `relate` of patterns.

@@ -2611,7 +2611,8 @@ structurally_relate_tys-relate_in_order-requires g t c κs within =
     let under : 8 * depth (r.store).budget (weight r.store a + weight r.store b) <
     8 * depth (r.store).budget (weight r.store a + weight r.store b) + 1 = omega arith in
     let d = c.decreases in
-    search (rules, lawful, decides, asked, form, alike, under)
+    (search rules, (within.0, (within.1.0, (within.1.1.0, (within.1.1.1.0, (within.1.1.1.1.0, (within.1.1.1.1.1,
+    (lawful, (decides, (asked, (form, alike)))))))))))
 
 pub structurally_relate_tys-the_ty-requires : goal.structurally_relate_tys-the_ty-requires
 structurally_relate_tys-the_ty-requires g t c = (c.in_ok-relate_in_order.ensures).sort
