@@ -90,7 +90,10 @@ module _ (items names parts : List ℕ) where
   term_covered ts ns h (term.IntVar n) k r = tt
   term_covered ts ns h (term.FloatVar n) k r = tt
   term_covered ts ns h term.TyError k r = absurd (false≢true r)
-  term_covered ts ns h (term.Pat t p) k r = absurd (false≢true r)
+  term_covered ts ns h (term.Pat t c) k r =
+      let p = and_parts (known (at ts t)) (known (at ts c) && true) k in
+      let q = and_parts (need_at ns t).has_rules (need_at ns c).has_rules r in
+      (tt, (h t p.0 q.0, (h c (and_parts (known (at ts c)) true p.1).0 q.1, tt)))
   term_covered ts ns h term.Static k r = tt
   term_covered ts ns h (term.RegionParam i n) k r = leaf_covered _ (λ x. tt) (slice_get names n) k
   term_covered ts ns h (term.RegionVar n) k r = tt
@@ -113,9 +116,12 @@ module _ (items names parts : List ℕ) where
         ),
       )
   term_covered ts ns h (term.Expr e q) k r = (tt, list_covered ts ns h no_needs _ k r)
-  term_covered ts ns h (term.Range a b) k r = absurd (false≢true r)
-  term_covered ts ns h (term.Or q) k r = absurd (false≢true r)
-  term_covered ts ns h term.NotNull k r = absurd (false≢true r)
+  term_covered ts ns h (term.Range a b) k r =
+      let p = and_parts (known (at ts a)) (known (at ts b) && true) k in
+      let q = and_parts (need_at ns a).has_rules (need_at ns b).has_rules r in
+      (tt, (h a p.0 q.0, (h b (and_parts (known (at ts b)) true p.1).0 q.1, tt)))
+  term_covered ts ns h (term.Or q) k r = (tt, list_covered ts ns h no_needs _ k r)
+  term_covered ts ns h term.NotNull k r = tt
   term_covered ts ns h (term.TyBound d v n) k r = absurd (false≢true r)
   term_covered ts ns h (term.RegionBound d v n) k r = absurd (false≢true r)
   term_covered ts ns h (term.ConstBound d v n) k r = absurd (false≢true r)

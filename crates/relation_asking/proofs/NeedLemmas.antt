@@ -150,13 +150,9 @@ object_enough a b ps r h k = (
   (allows_without (both_needs a b) r (allows_right a b r k), tt),
 )
 
--- Of two parts of a form without rules.
-two_without : (a b : Needs) (t u : Tree) → Allows a t → Allows b u →
-    Allows (without_rules (both_needs a b)) (cons t (cons u nil))
-two_without a b t u h k = (
-  allows_without (both_needs a b) t (allows_left a b t h),
-  (allows_without (both_needs a b) u (allows_right a b u k), tt),
-)
+-- Of two parts of a form.
+two_enough : (a b : Needs) (t u : Tree) → Allows a t → Allows b u → Allows (both_needs a b) (cons t (cons u nil))
+two_enough a b t u h k = (allows_left a b t h, (allows_right a b u k, tt))
 
 -- Of inputs and of an output, and of what stands under a binder.
 cond_allowed : (n : Needs) (b : Bool) → Allows n (cond b nil (leaf unknown))
@@ -250,16 +246,10 @@ module _ (items names parts : List ℕ) where
   term_enough ts ns e (term.Float w) = tt
   term_enough ts ns e (term.Item s d p) = item_enough _ s (slice_get items d) _ (list_enough ts ns e no_needs _)
   term_enough ts ns e (term.Slice t) = (e t, tt)
-  term_enough ts ns e (term.Array t c) = (
-    allows_left (need_at ns t) (need_at ns c) (at ts t) (e t),
-    (allows_right (need_at ns t) (need_at ns c) (at ts c) (e c), tt),
-  )
+  term_enough ts ns e (term.Array t c) = two_enough (need_at ns t) (need_at ns c) (at ts t) (at ts c) (e t) (e c)
   term_enough ts ns e (term.Tuple p) = list_enough ts ns e no_needs _
   term_enough ts ns e (term.RawPtr t u) = (e t, tt)
-  term_enough ts ns e (term.Ref r t u) = (
-    allows_left (need_at ns r) (need_at ns t) (at ts r) (e r),
-    (allows_right (need_at ns r) (need_at ns t) (at ts t) (e t), tt),
-  )
+  term_enough ts ns e (term.Ref r t u) = two_enough (need_at ns r) (need_at ns t) (at ts r) (at ts t) (e r) (e t)
   term_enough ts ns e (term.TyParam i n) = leaf_enough no_needs _ (λ x. tt) (slice_get names n)
   term_enough ts ns e (term.TyPlaceholder u v n) =
       leaf_enough (universe_need u) _ (λ x. same_number u) (slice_get names n)
@@ -288,10 +278,9 @@ module _ (items names parts : List ℕ) where
   term_enough ts ns e term.TyError = tt
   term_enough ts ns e term.ConstError = tt
   term_enough ts ns e term.NotNull = tt
-  term_enough ts ns e (term.Pat t p) = two_without (need_at ns t) (need_at ns p) (at ts t) (at ts p) (e t) (e p)
-  term_enough ts ns e (term.Range a b) = two_without (need_at ns a) (need_at ns b) (at ts a) (at ts b) (e a) (e b)
-  term_enough ts ns e (term.Or p) =
-      allows_without (parts_need parts ns p) (parts_tree parts ts p) (list_enough ts ns e no_needs _)
+  term_enough ts ns e (term.Pat t p) = two_enough (need_at ns t) (need_at ns p) (at ts t) (at ts p) (e t) (e p)
+  term_enough ts ns e (term.Range a b) = two_enough (need_at ns a) (need_at ns b) (at ts a) (at ts b) (e a) (e b)
+  term_enough ts ns e (term.Or p) = list_enough ts ns e no_needs _
   term_enough ts ns e (term.TyBound d v n) = leaf_enough (without_rules no_needs) _ (λ x. refl) (slice_get names n)
   term_enough ts ns e (term.RegionBound d v n) = leaf_enough (without_rules no_needs) _ (λ x. refl) (slice_get names n)
   term_enough ts ns e (term.ConstBound d v n) = leaf_enough (without_rules no_needs) _ (λ x. refl) (slice_get names n)

@@ -105,10 +105,9 @@ module _ (parts : List ℕ) where
   term_need ns (term.Expr k p) = parts_need parts ns p
   term_need ns term.TyError = without_rules no_needs
   term_need ns term.ConstError = without_rules no_needs
-  term_need ns term.NotNull = without_rules no_needs
-  term_need ns (term.Pat t p) = without_rules (both_needs (need_at ns t) (need_at ns p))
-  term_need ns (term.Range s e) = without_rules (both_needs (need_at ns s) (need_at ns e))
-  term_need ns (term.Or p) = without_rules (parts_need parts ns p)
+  term_need ns (term.Pat t p) = both_needs (need_at ns t) (need_at ns p)
+  term_need ns (term.Range s e) = both_needs (need_at ns s) (need_at ns e)
+  term_need ns (term.Or p) = parts_need parts ns p
   term_need ns (term.TyBound d v n) = without_rules no_needs
   term_need ns (term.RegionBound d v n) = without_rules no_needs
   term_need ns (term.ConstBound d v n) = without_rules no_needs

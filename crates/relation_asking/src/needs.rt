@@ -179,12 +179,10 @@ fn term_need(numbers: &[usize], before: &[Needs], term: Term) -> Needs
         Term::Item(sort, _, parts) => item_need(sort, parts_need(numbers, before, parts)),
         Term::Tuple(parts) => parts_need(numbers, before, parts),
         Term::Expr(_, parts) => parts_need(numbers, before, parts),
-        Term::TyError | Term::ConstError | Term::NotNull => without_rules(NONE),
-        Term::Pat(base, pat) => without_rules(both(need_at(before, base), need_at(before, pat))),
-        Term::Range(start, end) => {
-            without_rules(both(need_at(before, start), need_at(before, end)))
-        }
-        Term::Or(parts) => without_rules(parts_need(numbers, before, parts)),
+        Term::Pat(base, pat) => both(need_at(before, base), need_at(before, pat)),
+        Term::Range(start, end) => both(need_at(before, start), need_at(before, end)),
+        Term::Or(parts) => parts_need(numbers, before, parts),
+        Term::TyError | Term::ConstError => without_rules(NONE),
         Term::TyBound(..) | Term::RegionBound(..) | Term::ConstBound(..) => without_rules(NONE),
         Term::FnPtr(_, _, types) => without_rules(parts_need(numbers, before, types)),
         Term::UnsafeBinder(_, body) => without_rules(need_at(before, body)),

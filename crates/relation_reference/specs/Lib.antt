@@ -7,3 +7,4 @@ pub mod Remembering
 pub mod Resolvers
 pub mod Generalises
 pub mod Answers
+pub mod Opened

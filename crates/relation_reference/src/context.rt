@@ -1,5 +1,6 @@
 //! An inference context over plain tables.
 
+mod binders;
 mod equating;
 mod folding;
 mod generalising;

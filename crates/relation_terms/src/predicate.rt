@@ -1,4 +1,5 @@
 //! Predicates.
+ghost use Rattle.std.specs.Prelude.{◌≡◌};
 
 mod alias_term;
 mod kinds;
@@ -45,12 +46,42 @@ pub struct ExistentialTraitRef<X, D> {
     pub args: ArgsKey<X>,
 }
 
+impl<X, D> ExistentialTraitRef<X, D> {
+    /// The trait with these arguments, which fit it but for the type that implements it. Upstream the interner is handed in
+    /// too, and asserts that.
+    pub fn new_from_args(trait_def_id: TraitId<D>, args: ArgsKey<X>) -> ExistentialTraitRef<X, D>
+        ensures item { result.def_id ≡ trait_def_id }
+        ensures arguments { result.args ≡ args }
+    {
+        ExistentialTraitRef {
+            def_id: trait_def_id,
+            args,
+        }
+    }
+}
+
 /// What an associated type or constant of a trait is, with its arguments but for the type that implements the trait.
 #[derive(Clone, Copy, PartialEq, Eq, Hash)]
 pub struct ExistentialProjection<X, D> {
     pub def_id: TraitAssocTermId<D>,
     pub args: ArgsKey<X>,
     pub term: TermKind<X>,
+}
+
+impl<X, D> ExistentialProjection<X, D> {
+    /// The item with these arguments, which fit it but for the type that implements its trait, and what it is. Upstream the
+    /// interner is handed in too, and asserts that.
+    pub fn new_from_args(
+        def_id: TraitAssocTermId<D>,
+        args: ArgsKey<X>,
+        term: TermKind<X>,
+    ) -> ExistentialProjection<X, D>
+        ensures item { result.def_id ≡ def_id }
+        ensures arguments { result.args ≡ args }
+        ensures comes_to { result.term ≡ term }
+    {
+        ExistentialProjection { def_id, args, term }
+    }
 }
 
 /// A predicate of an interner's trait object, under its binder.

@@ -2,3 +2,4 @@ pub mod PlainLemmas
 pub mod Concrete
 pub mod OverItems
 pub mod Atoms
+pub mod Opening

@@ -24,7 +24,7 @@ use type_relations::relate::StructurallyRelateAliases;
 const FIRST: Option<UniverseIndex> = Some(UniverseIndex(0));
 
 // A name of a context's interner.
-type NameOf<C> = <<C as InferCtxtLike>::Interner as Keys>::Name;
+pub(crate) type NameOf<C> = <<C as InferCtxtLike>::Interner as Keys>::Name;
 
 // Whether the next solver is on in a context, and three instantiations may be made.
 fn reads_settings<C: InferCtxtLike>(ctx: &C) -> bool {
@@ -48,7 +48,7 @@ fn is_new<I: Interner + Drop>(cx: I) -> Result<bool, OutOfMemory> {
 }
 
 // The type `char`.
-fn make_char<C: InferCtxtLike>(ctx: &mut C) -> Result<Ty<C::Interner>, OutOfMemory>
+pub(crate) fn make_char<C: InferCtxtLike>(ctx: &mut C) -> Result<Ty<C::Interner>, OutOfMemory>
     requires { (C.state ctx.old).lawful }
     ensures grows { Grows (C.state ctx.old) (C.state ctx.new) }
     ensures store { (C.state ctx.new).store ≡ (C.state ctx.old).store }
@@ -280,7 +280,7 @@ fn marks_the_new_one<I: Interner + Drop>(cx: I) -> RelateResult<I, bool> {
 }
 
 // The region of a form.
-fn make_region<C: InferCtxtLike>(
+pub(crate) fn make_region<C: InferCtxtLike>(
     ctx: &mut C,
     kind: RegionKind<NameOf<C>>,
 ) -> Result<Region<C::Interner>, OutOfMemory>

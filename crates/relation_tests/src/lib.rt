@@ -3,6 +3,8 @@
 #![tactic(auto)]
 
 #[cfg(test)]
+mod binders;
+#[cfg(test)]
 mod contexts;
 #[cfg(test)]
 mod decided;

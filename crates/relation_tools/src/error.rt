@@ -27,8 +27,6 @@ impl<T> ExpectedFound<T> {
 }
 
 /// Why two terms do not relate, over keys, ids of items and names.
-///
-/// So far relating answers `Mismatch`, `Mutability`, `TupleSize`, `ArraySize`, `Sorts`, `CyclicTy` and `ConstMismatch`.
 #[derive(PartialEq, Eq, Debug)]
 pub enum TypeError<X, D, N> {
     /// Two terms differ, and nothing more is told.

@@ -1,10 +1,11 @@
 -- The parts that are related of types and constants, among those of terms of any sort: they are generic arguments.
-use Rattle.std.proofs.Common.{◌≡◌, ℕ, zero, suc, ◌<◌, refl, sym, subst, subst₂, arith, IsTrue, Option, Some, None}
+use Rattle.std.proofs.Common.{◌≡◌, ◌≢◌, ℕ, zero, suc, ◌<◌, refl, sym, subst, subst₂, arith, IsTrue, Option, Some, None}
 use Rattle.std.proofs.Common.{List, [], ◌∷◌, map}
 use Rattle.relation_terms.specs.Heads.{Sort, region_sort, type_sort, const_sort, value_sort, argument_sort, Admits, head_sort}
 use Rattle.relation_terms.specs.Heads.{Part, term_of, binder_of, Shape, one, row, head_parts}
 use Rattle.relation_terms.specs.Heads.{Head, adt, fn_def, closure, coroutine_closure, coroutine, coroutine_witness}
-use Rattle.relation_terms.specs.Heads.{array, slice, tuple, raw_ptr, ref, arguments, unevaluated, expression, value}
+use Rattle.relation_terms.specs.Heads.{array, slice, pattern_type, tuple, raw_ptr, ref, arguments, unevaluated}
+use Rattle.relation_terms.specs.Heads.{expression, value, range_pattern, or_pattern}
 use Rattle.relation_terms.specs.Heads.{value_type, value_branch}
 use Rattle.relation_terms.specs.Trees.{Tree, leaf, node, bind, nil, cons, known, list_tree, count, nth, Fits, IsTerm, AreTerms}
 use Rattle.relation_terms.specs.Meaning.{Meaning, arg_tree, const_tree}
@@ -23,7 +24,7 @@ use Rattle.relation_terms.proofs.Sorted.{Sorted, widen}
 use Rattle.relation_terms.proofs.Members.{fit_args, mapped, region_term, type_term, const_term}
 use Rattle.relation_terms.proofs.Parts.{sort_known, arg_part}
 use Rattle.type_relations.specs.Covered.{IsCovered, IsCoveredHead}
-use Rattle.type_relations.specs.Parts.{parts_of, branches_of, const_parts_of}
+use Rattle.type_relations.specs.Parts.{parts_of, branches_of, const_parts_of, head_of}
 use Rattle.type_relations.specs.Making.{arg_sort, Fit, over, const_over}
 use Rattle.type_relations.proofs.Comparing.{value_shape}
 use Rattle.type_relations.proofs.Making.{value_of}
@@ -70,29 +71,34 @@ shape_arguments : (x : Shape) (ts : Tree) → HasArguments x → Fits x ts → A
 shape_arguments (one p) ts a f = absurd a
 shape_arguments (row ps r) ts a f = row_arguments ps r ts a f
 
--- The types that relating has rules for are over arguments.
-covered_arguments : (h : Head) → IsCoveredHead h → Admits type_sort (head_sort h) → HasArguments (head_parts h)
-covered_arguments (adt d) c a = λ x h. h
-covered_arguments (fn_def d) c a = λ x h. h
-covered_arguments (closure d) c a = λ x h. h
-covered_arguments (coroutine_closure d) c a = λ x h. h
-covered_arguments (coroutine d) c a = λ x h. h
-covered_arguments (coroutine_witness d) c a = λ x h. h
-covered_arguments array c a = (type_admitted, (const_admitted, tt))
-covered_arguments slice c a = (type_admitted, tt)
-covered_arguments tuple c a = type_admitted
-covered_arguments (raw_ptr u) c a = (type_admitted, tt)
-covered_arguments (ref u) c a = (region_admitted, (type_admitted, tt))
-covered_arguments arguments c a = absurd a
-covered_arguments (expression k) c a = absurd a
-covered_arguments value c a = absurd a
-covered_arguments value_type c a = absurd a
-covered_arguments value_branch c a = absurd a
-covered_arguments h c a = absurd c
+-- The types that relating has rules for are over arguments, but for pattern types.
+covered_arguments : (h : Head) → IsCoveredHead h → h ≢ pattern_type → Admits type_sort (head_sort h) →
+    HasArguments (head_parts h)
+covered_arguments (adt d) c n a = λ x h. h
+covered_arguments (fn_def d) c n a = λ x h. h
+covered_arguments (closure d) c n a = λ x h. h
+covered_arguments (coroutine_closure d) c n a = λ x h. h
+covered_arguments (coroutine d) c n a = λ x h. h
+covered_arguments (coroutine_witness d) c n a = λ x h. h
+covered_arguments array c n a = (type_admitted, (const_admitted, tt))
+covered_arguments slice c n a = (type_admitted, tt)
+covered_arguments pattern_type c n a = absurd (n refl)
+covered_arguments tuple c n a = type_admitted
+covered_arguments (raw_ptr u) c n a = (type_admitted, tt)
+covered_arguments (ref u) c n a = (region_admitted, (type_admitted, tt))
+covered_arguments arguments c n a = absurd a
+covered_arguments (expression k) c n a = absurd a
+covered_arguments value c n a = absurd a
+covered_arguments value_type c n a = absurd a
+covered_arguments value_branch c n a = absurd a
+covered_arguments range_pattern c n a = absurd a
+covered_arguments or_pattern c n a = absurd a
+covered_arguments h c n a = absurd c
 
-ty_arguments : (t : Tree) → IsTerm type_sort t → IsCovered t → AreTerms argument_sort (parts_of t)
-ty_arguments (node h ts) f c = shape_arguments (head_parts h) ts (covered_arguments h c.0 f.0) f.1
-ty_arguments t f c = tt
+ty_arguments : (t : Tree) → IsTerm type_sort t → IsCovered t → head_of t ≢ pattern_type →
+    AreTerms argument_sort (parts_of t)
+ty_arguments (node h ts) f c n = shape_arguments (head_parts h) ts (covered_arguments h c.0 n f.0) f.1
+ty_arguments t f c n = tt
 
 branch_arguments : (v : Tree) → IsTerm value_sort v → AreTerms argument_sort (branches_of v)
 branch_arguments (node value_branch ts) f = row_arguments [] (Some (term_of const_sort)) ts const_admitted f.1
@@ -112,8 +118,8 @@ term_nth s (cons t ts) (suc i) l f = term_nth s ts i (omega (arith, l)) f.1
 term_nth s t i l f = absurd (omega (arith, l))
 
 pub ty_argument : (t : Tree) (i : ℕ) → i < count (parts_of t) → IsTerm type_sort t → IsCovered t →
-    IsTerm argument_sort (nth i (parts_of t))
-ty_argument t i l f c = term_nth argument_sort (parts_of t) i l (ty_arguments t f c)
+    head_of t ≢ pattern_type → IsTerm argument_sort (nth i (parts_of t))
+ty_argument t i l f c n = term_nth argument_sort (parts_of t) i l (ty_arguments t f c n)
 
 pub const_argument : (c : Tree) (i : ℕ) → i < count (const_parts_of c) → IsTerm const_sort c →
     IsTerm argument_sort (nth i (const_parts_of c))

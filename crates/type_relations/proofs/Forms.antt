@@ -6,7 +6,8 @@ use Rattle.relation_terms.specs.declared.terms.enums.Mutability.TheVariants.{Not
 use Rattle.relation_terms.specs.declared.terms.keys.TyKey.{TyKey}
 use Rattle.relation_terms.specs.Heads.{Head, adt, fn_def, closure, coroutine_closure, coroutine, coroutine_witness}
 use Rattle.relation_terms.specs.Heads.{array, slice, pattern_type, tuple, unsafe_binder, dynamic, fn_ptr, raw_ptr, ref}
-use Rattle.relation_terms.specs.Heads.{alias, region_sort, type_sort, const_sort, Part, term_of, row, head_parts}
+use Rattle.relation_terms.specs.Heads.{alias, region_sort, type_sort, const_sort, pattern_sort, Part, term_of, row}
+use Rattle.relation_terms.specs.Heads.{head_parts}
 use Rattle.relation_terms.specs.Trees.{Tree, leaf, node, bind, nil, cons, count, Fits, IsTerm}
 use Rattle.relation_terms.specs.Meaning.{Meaning}
 use Rattle.relation_tools.specs.Outlines.{named}
@@ -17,7 +18,7 @@ use Rattle.type_relations.specs.declared.relate.forms.Outline.{Outline}
 use Rattle.type_relations.specs.declared.relate.forms.Form.{Form}
 use Rattle.type_relations.specs.declared.relate.forms.Form.TheVariants.{Leaf, Adt, FnDef, Closure, CoroutineClosure}
 use Rattle.type_relations.specs.declared.relate.forms.Form.TheVariants.{Coroutine, CoroutineWitness, Array, Slice}
-use Rattle.type_relations.specs.declared.relate.forms.Form.TheVariants.{RawPtr, Ref, Tuple}
+use Rattle.type_relations.specs.declared.relate.forms.Form.TheVariants.{Pat, RawPtr, Ref, Tuple}
 use Rattle.type_relations.specs.Covered.{IsCovered, IsCoveredHead}
 use Rattle.type_relations.specs.Parts.{parts_of, head_of}
 use Rattle.type_relations.specs.Forms.{named_outline, head_outline, tree_outline, IsFixed}
@@ -36,6 +37,7 @@ from Coroutine (Some d) u = coroutine d
 from CoroutineWitness (Some d) u = coroutine_witness d
 from Array n u = array
 from Slice n u = slice
+from Pat n u = pattern_type
 from RawPtr n u = raw_ptr u
 from Ref n u = ref u
 from f n u = tuple
@@ -52,10 +54,10 @@ rebuilt (coroutine d) c n = refl
 rebuilt (coroutine_witness d) c n = refl
 rebuilt array c n = refl
 rebuilt slice c n = refl
+rebuilt pattern_type c n = refl
 rebuilt tuple c n = refl
 rebuilt (raw_ptr u) c n = refl
 rebuilt (ref u) c n = refl
-rebuilt pattern_type c n = absurd c
 rebuilt unsafe_binder c n = absurd c
 rebuilt dynamic c n = absurd c
 rebuilt fn_ptr c n = absurd c
@@ -120,6 +122,7 @@ itself_alike (cons t ts) u f c e = absurd f
 abbrev fixed_count : Form → ℕ
 fixed_count Array = 2
 fixed_count Ref = 2
+fixed_count Pat = 2
 fixed_count f = 1
 
 row_count : (ps : List Part) (ts : Tree) → Fits (row ps None) ts → count ts ≡ length ps
@@ -131,6 +134,7 @@ head_count : (h : Head) (ts : Tree) → Fits (head_parts h) ts → IsFixed (head
     count ts ≡ fixed_count (head_outline h).form
 head_count array ts f k = row_count (term_of type_sort ∷ term_of const_sort ∷ []) ts f
 head_count slice ts f k = row_count (term_of type_sort ∷ []) ts f
+head_count pattern_type ts f k = row_count (term_of type_sort ∷ term_of pattern_sort ∷ []) ts f
 head_count (raw_ptr u) ts f k = row_count (term_of type_sort ∷ []) ts f
 head_count (ref u) ts f k = row_count (term_of region_sort ∷ term_of type_sort ∷ []) ts f
 head_count h ts f k = absurd k

@@ -12,6 +12,9 @@ pub mod Tallies
 pub mod Written
 pub mod Growing
 pub mod NewVariables
+pub mod MakingEach
+pub mod Opened
+pub mod OpenedTerms
 pub mod Erased
 pub mod Composing
 pub mod Opening
@@ -53,6 +56,8 @@ pub mod DiagInfo
 pub mod Making
 pub mod OneUniverse
 pub mod Answering
+pub mod Patterns
+pub mod InOrder
 pub mod Unifying
 pub mod Rejected
 pub mod Roots

@@ -12,12 +12,13 @@ use Rattle.relation_terms.specs.declared.predicate.RegionConstraint.TheVariants.
 use Rattle.relation_terms.specs.declared.terms.generic_arg.GenericArgKind.TheVariants.{Lifetime}
 use Rattle.relation_terms.specs.declared.terms.keys.TyKey.{TyKey}
 use Rattle.relation_terms.specs.declared.terms.keys.ConstKey.{ConstKey}
+use Rattle.relation_terms.specs.declared.terms.keys.PatKey.{PatKey}
 use Rattle.relation_terms.specs.declared.terms.keys.RegionKey.{RegionKey}
 use Rattle.relation_terms.specs.declared.terms.keys.ParamEnvKey.{ParamEnvKey}
 use Rattle.relation_terms.specs.declared.terms.keys.PredicateKey.{PredicateKey}
 use Rattle.relation_terms.specs.declared.terms.goal.Goal.{Goal as KeyedGoal}
 use Rattle.relation_terms.specs.Variances.{xform}
-use Rattle.relation_terms.specs.Heads.{type_sort, const_sort, region_sort, VarKind, region_var, atom, variable}
+use Rattle.relation_terms.specs.Heads.{type_sort, const_sort, region_sort, pattern_sort, VarKind, region_var, atom, variable}
 use Rattle.relation_terms.specs.Heads.{bound, placeholder, unknown}
 use Rattle.relation_terms.specs.Trees.{Tree, leaf, node, bind, nil, cons, Assign, apply, IsTerm, known}
 use Rattle.relation_terms.specs.Meaning.{Meaning, Extends}
@@ -74,6 +75,11 @@ module _ {Key Id Name : Type 0} {m n : Meaning Key Id Name} (e : m ≡ n) where
       IsTrue (known (m.region t)) → IsTerm region_sort (m.region t)
   region_sorted t f h =
       subst (λ z. IsTerm region_sort (z.region t)) (sym e) (f (subst (λ z. IsTrue (known (z.region t))) e h))
+
+  pub pat_sorted : (t : PatKey Key) → (IsTrue (known (n.pat t)) → IsTerm pattern_sort (n.pat t)) →
+      IsTrue (known (m.pat t)) → IsTerm pattern_sort (m.pat t)
+  pat_sorted t f h =
+      subst (λ z. IsTerm pattern_sort (z.pat t)) (sym e) (f (subst (λ z. IsTrue (known (z.pat t))) e h))
 
   pub one_ty : (a b : TyKey Key) → (IsTrue (known (n.ty a)) → IsTrue (known (n.ty b)) → n.ty a ≡ n.ty b) →
       IsTrue (known (m.ty a)) → IsTrue (known (m.ty b)) → m.ty a ≡ m.ty b

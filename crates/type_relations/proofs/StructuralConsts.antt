@@ -273,7 +273,7 @@ module _ {Key Id Name : Type 0} {X : Type 0} (M : Manners) (r : State Key Id Nam
   }
 
   -- Two terms are refused at once.
-  refused_here : (a b : Tree) (e : TypeError Key Id Name) → NeverOne (at v) r.store a b →
+  pub refused_here : (a b : Tree) (e : TypeError Key Id Name) → NeverOne (at v) r.store a b →
       ErrorOf r.meaning (items_in r) r.store v e a b → KnowsError r.meaning e → (IsFirstOrderPair r.store a b → NoUnifier r.store a b) →
       Related M r r v a b tree (Err (Unrelated e))
   unfolding passes_nowhere

@@ -11,7 +11,7 @@ use Rattle.relation_terms.specs.declared.terms.keys.TyKey.{TyKey}
 use Rattle.relation_terms.specs.declared.terms.keys.ConstKey.{ConstKey}
 use Rattle.relation_terms.specs.declared.terms.keys.RegionKey.{RegionKey}
 use Rattle.relation_terms.specs.declared.terms.keys.PredicateKey.{PredicateKey}
-use Rattle.relation_terms.specs.Heads.{Head, VarKind, type_var, variable, region_sort, const_sort}
+use Rattle.relation_terms.specs.Heads.{Head, VarKind, type_var, variable, region_sort, const_sort, pattern_sort}
 use Rattle.relation_terms.specs.Trees.{Tree, leaf, node, IsTerm, known}
 use Rattle.relation_terms.specs.Meaning.{Meaning, Extends, arg_tree}
 use Rattle.relation_terms.proofs.Sorted.{Sorted}
@@ -199,12 +199,15 @@ no_ty_none sorted (Lifetime k) o h v = lifetime_none sorted (Lifetime k) h k ref
 no_ty_none sorted (Ty k) o h v = o k refl
 no_ty_none sorted (Const k) o h v = const_none sorted (Const k) h k refl v
 
--- Nor are regions, constants and forms over parts.
+-- Nor are regions, constants, patterns and forms over parts.
 pub region_is_none : (t : Tree) → IsTerm region_sort t → IsTyVar t → ⊥
 region_is_none t h v = subst (IsTerm region_sort) v.1 h
 
 pub const_is_none : (t : Tree) → IsTerm const_sort t → IsTyVar t → ⊥
 const_is_none t h v = subst (IsTerm const_sort) v.1 h
+
+pub pattern_is_none : (t : Tree) → IsTerm pattern_sort t → IsTyVar t → ⊥
+pattern_is_none t h v = subst (IsTerm pattern_sort) v.1 h
 
 pub node_is_none : (h : Head) (ts : Tree) → IsTyVar (node h ts) → ⊥
 node_is_none h ts v = let e = v.1 in cc

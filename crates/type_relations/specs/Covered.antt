@@ -13,7 +13,7 @@ use Rattle.relation_terms.specs.Heads.{well_formed, const_evaluatable, coerce, n
 use Rattle.relation_terms.specs.Heads.{environment, Leaf, variable, bound, placeholder, atom, unknown}
 use Rattle.relation_terms.specs.Trees.{Tree, leaf, node, bind, nil, cons}
 
--- Types, regions, constants and value trees without parts: no error, and nothing that stands for a variable.
+-- Types, regions, constants, value trees and patterns without parts: no error, and nothing that stands for a variable.
 abbrev pub IsCoveredAtom : Atom → Type 0
 IsCoveredAtom bool_type = Unit {0}
 IsCoveredAtom char_type = Unit {0}
@@ -34,7 +34,7 @@ IsCoveredAtom const_error = ⊥
 IsCoveredAtom (fresh_const n) = ⊥
 IsCoveredAtom (const_param i n) = Unit {0}
 IsCoveredAtom (value_leaf b n) = Unit {0}
-IsCoveredAtom not_null_pattern = ⊥
+IsCoveredAtom not_null_pattern = Unit {0}
 IsCoveredAtom (existential_auto d) = ⊥
 IsCoveredAtom (unstable_feature d) = ⊥
 IsCoveredAtom ambiguous = ⊥
@@ -47,8 +47,8 @@ IsCoveredLeaf (placeholder k u n) = Unit {0}
 IsCoveredLeaf (atom x) = IsCoveredAtom x
 IsCoveredLeaf unknown = ⊥
 
--- Types, constants and value trees over parts, and lists of arguments: no alias, no unevaluated constant, no pattern
--- type, and nothing over a binder.
+-- Types, constants, value trees and patterns over parts, and lists of arguments: no alias, no unevaluated constant, and
+-- nothing over a binder.
 abbrev pub IsCoveredHead : Head → Type 0
 IsCoveredHead (adt d) = Unit {0}
 IsCoveredHead (fn_def d) = Unit {0}
@@ -58,7 +58,7 @@ IsCoveredHead (coroutine d) = Unit {0}
 IsCoveredHead (coroutine_witness d) = Unit {0}
 IsCoveredHead array = Unit {0}
 IsCoveredHead slice = Unit {0}
-IsCoveredHead pattern_type = ⊥
+IsCoveredHead pattern_type = Unit {0}
 IsCoveredHead tuple = Unit {0}
 IsCoveredHead unsafe_binder = ⊥
 IsCoveredHead dynamic = ⊥
@@ -73,8 +73,8 @@ IsCoveredHead (expression k) = Unit {0}
 IsCoveredHead value = Unit {0}
 IsCoveredHead value_type = Unit {0}
 IsCoveredHead value_branch = Unit {0}
-IsCoveredHead range_pattern = ⊥
-IsCoveredHead or_pattern = ⊥
+IsCoveredHead range_pattern = Unit {0}
+IsCoveredHead or_pattern = Unit {0}
 IsCoveredHead arguments = Unit {0}
 IsCoveredHead object = ⊥
 IsCoveredHead (existential_trait d) = ⊥

@@ -7,7 +7,7 @@ use Rattle.relation_terms.specs.declared.terms.enums.Safety.{Safety}
 use Rattle.relation_terms.specs.declared.terms.enums.ExternAbi.{ExternAbi}
 use Rattle.relation_terms.specs.declared.terms.keys.TyKey.{TyKey}
 use Rattle.relation_terms.specs.declared.terms.keys.ConstKey.{ConstKey}
-use Rattle.relation_terms.specs.Heads.{const_sort, region_sort, VarKind, type_var, const_var, BoundKind, bound_sort}
+use Rattle.relation_terms.specs.Heads.{const_sort, region_sort, pattern_sort, VarKind, type_var, const_var, BoundKind, bound_sort}
 use Rattle.relation_terms.specs.Heads.{Atom, Head, array, tuple, raw_ptr, ref, AliasKind, projection_alias, alias}
 use Rattle.relation_terms.specs.Heads.{adt, fn_def, closure, coroutine_closure, coroutine, coroutine_witness, slice}
 use Rattle.relation_terms.specs.Heads.{pattern_type, unsafe_binder, dynamic, fn_ptr, signature, inputs, unevaluated}
@@ -99,7 +99,8 @@ AreAlikeLeaves x y = outer_leaf x ≡ outer_leaf y
 abbrev pub AreAlike : Tree → Tree → Type 0
 AreAlike t u = outermost t ≡ outermost u
 
--- Two types of one outermost form with as many parts; or one form without parts; or two parameters of one index.
+-- Two types, or two patterns, of one outermost form with as many parts; or one form without parts; or two parameters of
+-- one index.
 pub data AreOfOneForm (a b : Tree) : Type 0 where
   over_parts : {h : Head} {ts us : Tree} → a ≡ node h ts → b ≡ node h us → count ts ≡ count us → AreOfOneForm a b
   one_leaf : {l : Leaf} → a ≡ leaf l → b ≡ leaf l → AreOfOneForm a b
@@ -129,6 +130,11 @@ pub data AreAlikeConsts (t u : Tree) : Type 0 where
       AreAlikeConsts t u
   both_values : {x y v w : Tree} → t ≡ node value (cons x (cons v nil)) → u ≡ node value (cons y (cons w nil)) →
       AreOfOneValue v w → AreAlikeConsts t u
+
+-- Two patterns are of different forms, or have unlike numbers of alternatives, and the error that says so.
+pub data PatternError {Key Id Name : Type 0} (a b : Tree) (e : TypeError Key Id Name) : Type 0 where
+  unlike_patterns : sort_of a ≡ pattern_sort → sort_of b ≡ pattern_sort → (AreOfOneForm a b → ⊥) → e ≡ Mismatch →
+      PatternError a b e
 
 -- No error of the lengths of two arrays, as which constants that differ are sizes that differ.
 abbrev pub IsNoLengths : {Key Id Name : Type 0} → TypeError Key Id Name → Tree → Tree → Type 0
@@ -277,17 +283,18 @@ module _ {Key Id Name : Type 0} (m : Meaning Key Id Name) where
         StandsOutside (placeholder q u i) (apply (resolved st) b) → bound_sort q ≢ region_sort →
         universe_of st k n < u → e ≡ Mismatch → BindingError st a b e
 
-  -- The error comes of a pair that is met when two terms are related at a variance that is not bivariance: of two types
-  -- or constants, as read, that differ in form; of what they are read as by what is recorded; of two arguments of
-  -- different kinds; of two parts at one place of one form, at the variance of that place, as the whole's error; or of a
-  -- variable that can't be bound to the other side. Two terms of which one is a variable that may be bound to the other
-  -- do not differ in form.
+  -- The error comes of a pair that is met when two terms are related at a variance that is not bivariance: of two types,
+  -- constants or patterns, as read, that differ in form; of what they are read as by what is recorded; of two arguments
+  -- of different kinds; of two parts at one place of one form, at the variance of that place, as the whole's error; or of
+  -- a variable that can't be bound to the other side. Two terms of which one is a variable that may be bound to the
+  -- other do not differ in form.
   pub data ErrorOf (c : Items) (st : Store) : Variance → TypeError Key Id Name → Tree → Tree → Type 0 where
     of_forms : {v : Variance} {e : _} {a b : Tree} (x y : TyKey Key) → v ≢ Bivariant → m.ty x ≡ a → m.ty y ≡ b →
         (AreBindable a b → ⊥) → FormError x y e → ErrorOf c st v e a b
     of_const_forms : {v : Variance} {e : _} {a b : Tree} (x y : ConstKey Key) → v ≢ Bivariant → m.const_ x ≡ a →
         m.const_ y ≡ b → (AreBindable a b → ⊥) → ConstFormError x y e → ErrorOf c st v e a b
     of_kinds : {v : Variance} {a b : Tree} → v ≢ Bivariant → sort_of a ≢ sort_of b → ErrorOf c st v Mismatch a b
+    of_patterns : {v : Variance} {e : _} {a b : Tree} → v ≢ Bivariant → PatternError a b e → ErrorOf c st v e a b
     of_entries : {v : Variance} {e : _} {a b t u : Tree} → IsReadAs st a t → IsReadAs st b u → ErrorOf c st v e t u →
         ErrorOf c st v e a b
     of_parts : {v : Variance} {e : _} {h : Head} {a b ts us : Tree} (i : ℕ) → a ≡ node h ts → b ≡ node h us →

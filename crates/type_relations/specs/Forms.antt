@@ -57,6 +57,7 @@ tree_outline t = plain Leaf
 abbrev pub IsFixed : Form → Type 0
 IsFixed Array = Unit {0}
 IsFixed Slice = Unit {0}
+IsFixed Pat = Unit {0}
 IsFixed RawPtr = Unit {0}
 IsFixed Ref = Unit {0}
 IsFixed f = ⊥

@@ -6,10 +6,13 @@ use Rattle.relation_terms.specs.declared.terms.keys.TyKey.{TyKey}
 use Rattle.relation_terms.specs.declared.terms.keys.RegionKey.{RegionKey}
 use Rattle.relation_terms.specs.declared.terms.keys.ConstKey.{ConstKey}
 use Rattle.relation_terms.specs.declared.terms.keys.ArgsKey.{ArgsKey}
+use Rattle.relation_terms.specs.declared.terms.keys.PatKey.{PatKey}
+use Rattle.relation_terms.specs.declared.terms.part_kind.Part.{Part}
 use Rattle.relation_terms.specs.declared.terms.generic_arg.GenericArgKind.{GenericArgKind}
 use Rattle.relation_terms.specs.Heads.{Head, adt}
 use Rattle.relation_terms.specs.Trees.{node, known, count}
 use Rattle.relation_terms.specs.Meaning.{Meaning, arg_tree}
+use Rattle.relation_terms.specs.Parts.{part_tree}
 use Rattle.relation_terms.specs.Variances.{xform}
 use Rattle.relation_tools.specs.declared.error.RelateFault.{RelateFault}
 use Rattle.type_relations.specs.declared.relate.Step.{Step}
@@ -38,7 +41,8 @@ module _ {Key Id Name : Type 0} where
   abbrev pub AreAsMany : State Key Id Name → ArgsKey Key → ArgsKey Key → Type 0
   AreAsMany r a b = count ((r.meaning).args a) ≡ count ((r.meaning).args b)
 
-  -- Two known types of the relation's context that it takes. The same of constants, regions and arguments.
+  -- Two known types of the relation's context that it takes. The same of constants, regions, arguments and patterns,
+  -- and of parts of terms.
   abbrev pub AskedTys : Manners → State Key Id Name → TyKey Key → TyKey Key → Type 0
   AskedTys M r a b = Asked M r r.ambient ((r.meaning).ty a) ((r.meaning).ty b)
 
@@ -51,6 +55,12 @@ module _ {Key Id Name : Type 0} where
   abbrev pub AskedArgs : Manners → State Key Id Name → GenericArgKind Key → GenericArgKind Key → Type 0
   AskedArgs M r a b = Asked M r r.ambient (arg_tree r.meaning a) (arg_tree r.meaning b)
 
+  abbrev pub AskedPats : Manners → State Key Id Name → PatKey Key → PatKey Key → Type 0
+  AskedPats M r a b = Asked M r r.ambient ((r.meaning).pat a) ((r.meaning).pat b)
+
+  abbrev pub AskedParts : Manners → State Key Id Name → Part Key Id → Part Key Id → Type 0
+  AskedParts M r a b = Asked M r r.ambient (part_tree r.meaning a) (part_tree r.meaning b)
+
   -- The same at a variance, seen from the ambient one.
   abbrev pub AskedArgsAt : Manners → State Key Id Name → Variance → GenericArgKind Key → GenericArgKind Key → Type 0
   AskedArgsAt M r v a b = Asked M r (xform r.ambient v) (arg_tree r.meaning a) (arg_tree r.meaning b)
@@ -61,7 +71,8 @@ module _ {Key Id Name : Type 0} where
   AskedLists M r h a b = Asked M r r.ambient (node (h r.meaning) ((r.meaning).args a))
       (node (h r.meaning) ((r.meaning).args b))
 
-  -- Two types were related, and what came of it. The same of constants, regions and arguments.
+  -- Two types were related, and what came of it. The same of constants, regions, arguments and patterns, and of parts
+  -- of terms.
   abbrev pub RelatedTys : Manners → State Key Id Name → State Key Id Name → TyKey Key → TyKey Key →
       Result (TyKey Key) (RelateFault Key Id Name) → Type 0
   RelatedTys M r q a b result =
@@ -82,7 +93,17 @@ module _ {Key Id Name : Type 0} where
   RelatedArgs M r q a b result =
       Related M r q r.ambient (arg_tree r.meaning a) (arg_tree r.meaning b) (arg_tree q.meaning) result
 
-  -- The same at a variance, seen from the ambient one.
+  abbrev pub RelatedPats : Manners → State Key Id Name → State Key Id Name → PatKey Key → PatKey Key →
+      Result (PatKey Key) (RelateFault Key Id Name) → Type 0
+  RelatedPats M r q a b result =
+      Related M r q r.ambient ((r.meaning).pat a) ((r.meaning).pat b) (q.meaning).pat result
+
+  abbrev pub RelatedParts : Manners → State Key Id Name → State Key Id Name → Part Key Id → Part Key Id →
+      Result (Part Key Id) (RelateFault Key Id Name) → Type 0
+  RelatedParts M r q a b result =
+      Related M r q r.ambient (part_tree r.meaning a) (part_tree r.meaning b) (part_tree q.meaning) result
+
+  -- The same of arguments at a variance, seen from the ambient one.
   abbrev pub RelatedArgsAt : Manners → State Key Id Name → State Key Id Name → Variance → GenericArgKind Key →
       GenericArgKind Key → Result (GenericArgKind Key) (RelateFault Key Id Name) → Type 0
   RelatedArgsAt M r q v a b result =

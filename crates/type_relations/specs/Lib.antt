@@ -34,6 +34,8 @@ pub mod EqualTerms
 pub mod Resolving
 pub mod NumberValues
 pub mod ContextCalls
+pub mod Binders
+pub mod OpeningLaws
 pub mod NumberVars
 pub mod Solving
 pub mod Bivariance

@@ -1,8 +1,11 @@
--- Types and constants with an outermost form, and the parts that relating goes through.
+-- Types, constants and patterns with an outermost form, and the parts that relating goes through.
 use Rattle.std.specs.Prelude.{◌≡◌}
 use Rattle.relation_terms.specs.Heads.{type_sort, const_sort, head_sort, atom_sort, leaf_sort, placeholder, atom}
-use Rattle.relation_terms.specs.Heads.{Head, tuple, unevaluated, expression, value, value_branch}
+use Rattle.relation_terms.specs.Heads.{Head, pattern_type, tuple, unevaluated, expression, value, value_branch}
+use Rattle.relation_terms.specs.Heads.{range_pattern, or_pattern, not_null_pattern}
 use Rattle.relation_terms.specs.Trees.{Tree, leaf, node, nil, cons}
+use Rattle.relation_terms.specs.declared.terms.part_kind.Part.{Part}
+use Rattle.relation_terms.specs.declared.terms.part_kind.Part.TheVariants.{Ty, Const, Pat}
 
 -- A type with an outermost form: no variable and no bound variable.
 abbrev pub IsFormed : Tree → Type 0
@@ -46,3 +49,18 @@ abbrev pub const_head_of : Tree → Head
 const_head_of (node (unevaluated d) ts) = unevaluated d
 const_head_of (node (expression k) ts) = expression k
 const_head_of t = value_branch
+
+-- A pattern type, or a pattern: all its parts are related at its own variance.
+abbrev pub IsOfPattern : Tree → Type 0
+IsOfPattern (node pattern_type ts) = Unit {0}
+IsOfPattern (node range_pattern ts) = Unit {0}
+IsOfPattern (node or_pattern ts) = Unit {0}
+IsOfPattern (leaf (atom not_null_pattern)) = Unit {0}
+IsOfPattern t = ⊥
+
+-- What may be a part of such a term: a type, a constant or a pattern.
+abbrev pub IsInPattern : {Key Id : Type 0} → Part Key Id → Type 0
+IsInPattern (Ty t) = Unit {0}
+IsInPattern (Const c) = Unit {0}
+IsInPattern (Pat p) = Unit {0}
+IsInPattern p = ⊥

@@ -18,14 +18,19 @@ ghost use Rattle.type_relations.specs.ContextCalls.{IsUnresolved, IsRootOf, Read
 ghost use Rattle.type_relations.specs.ContextCalls.{EntersNext, EquatesTwo, BindsNumber, Constrains, Instantiated};
 ghost use Rattle.type_relations.specs.ContextCalls.{HasUniverse, ComesTo, JoinsRoots, Registers, HasCoveredBindings};
 ghost use Rattle.type_relations.specs.ContextCalls.{KeepsRest, KeepsSolver, KeepsOutliving, KeepsMarks, MarksNew};
+ghost use Rattle.type_relations.specs.Binders.{binder_tree, BindsByList, EntersBinder, InstantiatesWithInfer};
 
 use crate::relate::StructurallyRelateAliases;
 use relation_terms::terms::{
-    Const, ConstVid, FloatVarValue, FloatVid, IntVarValue, IntVid, Interner, OutOfMemory, Region,
-    RegionVid, Span, Ty, TyVid, UniverseIndex, Variance,
+    Binder, Const, ConstVid, FloatVarValue, FloatVid, IntVarValue, IntVid, Interner, Keys,
+    OutOfMemory, Region, RegionVid, Span, Ty, TyVid, UniverseIndex, Variance,
 };
 use relation_tools::error::RelateResult;
 use relation_tools::fold::TypeFoldable;
+use relation_tools::visit::TypeVisitable;
+
+/// A binder of an interner over what stands for a tree.
+pub type BinderOf<I, T> = Binder<<I as Keys>::Key, T>;
 
 /// Whether a constraint on regions is seen where placeholders are checked for leaks. No answer of relating looks at it.
 #[derive(Clone, Copy, PartialEq, Eq)]
@@ -213,6 +218,38 @@ pub trait InferCtxtLike {
         requires lawful { (state self.old).lawful }
         ensures stands { Stands (state self.old) (state self.new) }
         ensures enters { EntersNext (state self.old) (state self.new) result }
+        ensures rest { KeepsRest (state self.old) (state self.new) };
+
+    /// The body of a binder, with placeholders for what the binder binds. They are of a new universe, above all earlier
+    /// ones, which is the current one from then on. A body that uses nothing of its binder is answered as it is, and no
+    /// universe is made. After `OutOfMemory` none was made either.
+    fn enter_forall<T: TypeFoldable<Self::Interner> + TypeVisitable<Self::Interner> + Copy>(
+        &mut self,
+        value: BinderOf<Self::Interner, T>,
+    ) -> Result<T, OutOfMemory>
+        requires lawful { (state self.old).lawful }
+        requires value_known { IsTrue (known (binder_tree T.tree (state self.old).meaning value)) }
+        requires value_in { IsTermIn (state self.old).store (binder_tree T.tree (state self.old).meaning value) }
+        requires value_binds { BindsByList (binder_tree T.tree (state self.old).meaning value) }
+        ensures grows { Grows (state self.old) (state self.new) }
+        ensures enters { let t = binder_tree T.tree (state self.old).meaning value in
+            EntersBinder (state self.old) (state self.new) T.tree t result }
+        ensures rest { KeepsRest (state self.old) (state self.new) };
+
+    /// The body of a binder, with new variables of the current universe for what the binder binds: one for each place
+    /// of its list, in that order, also where the body uses none. After `OutOfMemory` some may have been made, of which
+    /// nothing is recorded.
+    fn instantiate_binder_with_infer<T: TypeFoldable<Self::Interner> + Copy>(
+        &mut self,
+        value: BinderOf<Self::Interner, T>,
+    ) -> Result<T, OutOfMemory>
+        requires lawful { (state self.old).lawful }
+        requires value_known { IsTrue (known (binder_tree T.tree (state self.old).meaning value)) }
+        requires value_in { IsTermIn (state self.old).store (binder_tree T.tree (state self.old).meaning value) }
+        requires value_binds { BindsByList (binder_tree T.tree (state self.old).meaning value) }
+        ensures grows { Grows (state self.old) (state self.new) }
+        ensures instantiates { let t = binder_tree T.tree (state self.old).meaning value in
+            InstantiatesWithInfer (state self.old) (state self.new) T.tree t result }
         ensures rest { KeepsRest (state self.old) (state self.new) };
 
     /// Makes two unresolved type variables one. The smaller number is the root, with the smaller of both universes.

@@ -5,6 +5,8 @@ ghost use Rattle.type_relations.specs.SmallTerms.{IsReflexive, AnythingAtBivaria
 ghost use Rattle.type_relations.specs.StepLaws.{AssigningTwice, InstantiatingAssigns, OccursCheck, CyclesDoNotUnify, ValuesAreNamable, RelatesLater, RelatesUnderMore, PartsCompose, NoPartsRelate, FormsRelate, StepsCompose, InstantiatingSteps, OpeningSteps, OneRoundRelates, TwoRoundsRelate, UnusedBindersRelate, FrontBegins, FrontGoesOn, FrontEnds, ExactsCompose, ExactStepsCompose, InstantiatingIsExactStep, ExactFrontGoesOn, ExactFrontEnds, ExactKeepsUnifiers};
 ghost use Rattle.type_relations.specs.ErasureLaws.{ErasureAssigns, FormsUnifyByParts, TypesOfValuesUnify, ListsUnifyByItems, UnlikeFormsDoNotUnify, ErasedOccursCheck, InvariantTermsAreAlike};
 ghost use Rattle.type_relations.specs.StoreLaws.{EquatingStaysSound, EquatingIsExact, BindingStaysSound, BindingIsExact, BindingInstantiates, CyclesRefuse, GeneralisingIsOne, GeneralisingInstantiates, GeneralisingRefuses, NumbersStaySound, NumbersAreExact, MakingStaysSound, MadeIsUnconstrained, ConstrainingIsExact, NothingIsSeen, ResolvedResolves, MakingOneMakes};
+ghost use Rattle.type_relations.specs.OpeningLaws.{MakingEachMakes, InstantiatingEachOpens, EnteredBodyIsIn};
+ghost use Rattle.type_relations.specs.OpeningLaws.{InstantiatedBodyIsIn, EnteredBodyBinds, InstantiatedBodyBinds};
 ghost use Rattle.type_relations.specs.Stores.{BindingsAreMet};
 ghost use Rattle.type_relations.specs.UniverseLaws.{RootsAreBoundOrNot, EquatingKeepsUniverse, ReadingKeepsUniverse, GeneralisingKeepsUniverse};
 ghost use Rattle.type_relations.specs.RejectionLaws.{ClashesDoNotUnify, ClashesAreNotRelated};
@@ -126,6 +128,17 @@ pub fn one_universe()
     ensures equating { EquatingKeepsUniverse }
     ensures reading { ReadingKeepsUniverse }
     ensures generalising { GeneralisingKeepsUniverse }
+{}
+
+/// What becomes of a store where a variable is made for each place of a binder's list, and of a binder's body that is
+/// opened by variables or placeholders.
+pub fn opening()
+    ensures makes { MakingEachMakes }
+    ensures opens { InstantiatingEachOpens }
+    ensures entered { EnteredBodyIsIn }
+    ensures instantiated { InstantiatedBodyIsIn }
+    ensures entered_binds { EnteredBodyBinds }
+    ensures instantiated_binds { InstantiatedBodyBinds }
 {}
 
 /// First-order terms that a quick test tells apart, parameters standing for themselves.

@@ -1,4 +1,11 @@
 //! The context by what the trait of contexts asks of it.
+ghost use Rattle.std.specs.Prelude.{IsTrue};
+ghost use Rattle.relation_terms.specs.Trees.{known};
+ghost use Rattle.type_relations.specs.Stores.{IsTermIn};
+ghost use Rattle.type_relations.specs.ContextCalls.{Grows, KeepsRest};
+ghost use Rattle.type_relations.specs.Binders.{binder_tree, BindsByList, EntersBinder, InstantiatesWithInfer};
+ghost use Rattle.relation_reference.specs.RefCtxt.{context_in};
+
 use crate::context::RefCtxt;
 use relation_terms::terms::{
     Const, ConstVid, FloatVarValue, FloatVid, IntVarValue, IntVid, Interner, OutOfMemory, Region,
@@ -6,7 +13,8 @@ use relation_terms::terms::{
 };
 use relation_tools::error::RelateResult;
 use relation_tools::fold::TypeFoldable;
-use type_relations::infer_ctxt::{InferCtxtLike, VisibleForLeakCheck};
+use relation_tools::visit::TypeVisitable;
+use type_relations::infer_ctxt::{BinderOf, InferCtxtLike, VisibleForLeakCheck};
 use type_relations::relate::StructurallyRelateAliases;
 
 impl<I: Interner> InferCtxtLike for RefCtxt<I> {
@@ -14,7 +22,6 @@ impl<I: Interner> InferCtxtLike for RefCtxt<I> {
 
     ghost use Rattle.std.specs.Prelude.{refl};
     ghost use Rattle.relation_reference.specs.Tables.{covered_bindings};
-    ghost use Rattle.relation_reference.specs.RefCtxt.{context_in};
 
     ghost state = { λ c. context_in I.meaning c };
 
@@ -117,6 +124,40 @@ impl<I: Interner> InferCtxtLike for RefCtxt<I> {
 
     fn create_next_universe(&mut self) -> Result<UniverseIndex, OutOfMemory> {
         self.create_next_universe()
+    }
+
+    fn enter_forall<T: TypeFoldable<I> + TypeVisitable<I> + Copy>(
+        &mut self,
+        value: BinderOf<I, T>,
+    ) -> Result<T, OutOfMemory>
+        requires lawful { (context_in I.meaning self.old).lawful }
+        requires value_known { IsTrue (known (binder_tree T.tree (context_in I.meaning self.old).meaning value)) }
+        requires value_in { let c = context_in I.meaning self.old in
+            IsTermIn c.store (binder_tree T.tree c.meaning value) }
+        requires value_binds { BindsByList (binder_tree T.tree (context_in I.meaning self.old).meaning value) }
+        ensures grows { Grows (context_in I.meaning self.old) (context_in I.meaning self.new) }
+        ensures enters { let t = binder_tree T.tree (context_in I.meaning self.old).meaning value in
+            EntersBinder (context_in I.meaning self.old) (context_in I.meaning self.new) T.tree t result }
+        ensures rest { KeepsRest (context_in I.meaning self.old) (context_in I.meaning self.new) }
+    {
+        self.enter_forall(value)
+    }
+
+    fn instantiate_binder_with_infer<T: TypeFoldable<I> + Copy>(
+        &mut self,
+        value: BinderOf<I, T>,
+    ) -> Result<T, OutOfMemory>
+        requires lawful { (context_in I.meaning self.old).lawful }
+        requires value_known { IsTrue (known (binder_tree T.tree (context_in I.meaning self.old).meaning value)) }
+        requires value_in { let c = context_in I.meaning self.old in
+            IsTermIn c.store (binder_tree T.tree c.meaning value) }
+        requires value_binds { BindsByList (binder_tree T.tree (context_in I.meaning self.old).meaning value) }
+        ensures grows { Grows (context_in I.meaning self.old) (context_in I.meaning self.new) }
+        ensures instantiates { let t = binder_tree T.tree (context_in I.meaning self.old).meaning value in
+            InstantiatesWithInfer (context_in I.meaning self.old) (context_in I.meaning self.new) T.tree t result }
+        ensures rest { KeepsRest (context_in I.meaning self.old) (context_in I.meaning self.new) }
+    {
+        self.instantiate_binder_with_infer(value)
     }
 
     fn equate_ty_vids_raw(&mut self, a: TyVid, b: TyVid) {

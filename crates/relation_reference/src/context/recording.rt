@@ -11,6 +11,7 @@ ghost use Rattle.type_relations.specs.ContextCalls.{KeepsRest};
 ghost use Rattle.relation_reference.specs.Tables.{store_of, IsLawful};
 ghost use Rattle.relation_reference.specs.RefCtxt.{store_in, context_in};
 
+use crate::context::universes::next_universe;
 use crate::context::{RefCtxt, Variable, VariableValue};
 use relation_terms::predicate::{OutlivesPredicate, RegionConstraint, RegionEqPredicate};
 use relation_terms::terms::{
@@ -247,10 +248,10 @@ impl<I: Interner> RefCtxt<I> {
         ensures next { IfOk result (λ u. u.0 ≡ suc self.old.inner.universe.0) }
         ensures refused { OnErr result (self.new.inner ≡ self.old.inner) }
     {
-        let next = self.inner.universe.0.checked_add(1).ok_or(OutOfMemory)?;
+        let next = next_universe(self.inner.universe)?;
         let inner = &mut self.inner;
-        inner.universe = UniverseIndex(next);
-        Ok(inner.universe)
+        inner.universe = next;
+        Ok(next)
     }
 
     // Records that two regions outlive each other, also where both are one.

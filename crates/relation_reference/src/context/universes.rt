@@ -1,5 +1,5 @@
 //! The universes of a context's variables, and the keys of its region variables.
-ghost use Rattle.std.specs.Prelude.{◌≡◌, ◌<◌, IsTrue, length};
+ghost use Rattle.std.specs.Prelude.{◌≡◌, ◌<◌, suc, IsTrue, IfOk, length};
 ghost use Rattle.relation_terms.specs.Heads.{type_var, const_var, region_var, variable};
 ghost use Rattle.relation_terms.specs.Trees.{leaf, known};
 ghost use Rattle.type_relations.specs.ContextCalls.{HasUniverse};
@@ -8,7 +8,17 @@ ghost use Rattle.relation_reference.specs.RefCtxt.{context_in};
 
 use crate::context::RefCtxt;
 use crate::context::table::{key_of, universe_of_class};
-use relation_terms::terms::{ConstVid, Interner, Region, RegionVid, TyVid, UniverseIndex};
+use relation_terms::terms::{
+    ConstVid, Interner, OutOfMemory, Region, RegionVid, TyVid, UniverseIndex,
+};
+
+// The universe behind one. After `OutOfMemory` it cannot be counted.
+pub(crate) fn next_universe(universe: UniverseIndex) -> Result<UniverseIndex, OutOfMemory>
+    ensures { IfOk result (λ u. u.0 ≡ suc universe.0) }
+{
+    let next = universe.0.checked_add(1).ok_or(OutOfMemory)?;
+    Ok(UniverseIndex(next))
+}
 
 impl<I: Interner> RefCtxt<I> {
     /// The universe of an unresolved type variable, which is that of its root, or none.

@@ -1,7 +1,8 @@
 //! Comparing the outermost forms of two terms.
 ghost use Rattle.std.specs.Prelude.{◌≡◌, ◌≢◌, ◌⊎◌, ◌<◌, IsTrue, IsFalse, OnOk, IfErr};
 ghost use Rattle.relation_terms.specs.Trees.{known};
-ghost use Rattle.type_relations.specs.Errors.{FormError, ConstFormError, AreOfOneForm, AreOfOneConst, AreOfOneValue};
+ghost use Rattle.type_relations.specs.Errors.{FormError, ConstFormError, PatternError, AreOfOneForm, AreOfOneConst};
+ghost use Rattle.type_relations.specs.Errors.{AreOfOneValue};
 ghost use Rattle.relation_tools.specs.declared.error.TypeError.TheVariants.{Sorts, TupleSize, ConstMismatch};
 ghost use Rattle.type_relations.specs.Forms.{tree_outline};
 ghost use Rattle.type_relations.specs.declared.relate.forms.Form.TheVariants.{Leaf, Tuple};
@@ -10,7 +11,9 @@ ghost use Rattle.type_relations.specs.Covered.{IsCovered};
 
 use crate::relate::forms::{Form, has_fixed_parts, is_same_form, is_same_item, outline_of};
 use crate::relate::parts::parts_count_in;
-use relation_terms::terms::{Const, ConstKind, Interner, Ty, TyKind, ValTree, ValTreeKind};
+use relation_terms::terms::{
+    Const, ConstKind, Interner, Pat, PatternKind, Ty, TyKind, ValTree, ValTreeKind,
+};
 use relation_tools::error::{ExpectedFound, TypeError, TypeErrorOf};
 
 /// Answers `Ok` where two types are of one outermost form, with as many parts, which are not compared. Parameters are
@@ -163,6 +166,42 @@ fn is_one_value<I: Interner>(cx: &I, a: &ValTree<I>, b: &ValTree<I>) -> bool
         return false;
     };
     cx.branches(&branches).len() == cx.branches(&other).len()
+}
+
+/// Answers `Ok` where two patterns are of one form, with as many parts, which are not compared, and else `Mismatch`.
+///
+/// The interner has to know both patterns; it is only read. Upstream these cases stand in the interner's `relate` of
+/// patterns, which relates the parts too.
+pub fn compare_pats<I: Interner>(cx: &I, a: &Pat<I>, b: &Pat<I>) -> Result<(), TypeErrorOf<I>>
+    requires a_known { IsTrue (known ((I.meaning cx.now).pat a.now)) }
+    requires b_known { IsTrue (known ((I.meaning cx.now).pat b.now)) }
+    ensures alike { OnOk result (AreOfOneForm ((I.meaning cx.now).pat a.now) ((I.meaning cx.now).pat b.now)) }
+    ensures errors { IfErr result (PatternError ((I.meaning cx.now).pat a.now) ((I.meaning cx.now).pat b.now)) }
+{
+    let right = cx.pat_kind(b);
+    match cx.pat_kind(a) {
+        PatternKind::Range { .. } => {
+            let PatternKind::Range { .. } = right else {
+                return Err(TypeError::Mismatch);
+            };
+            Ok(())
+        }
+        PatternKind::Or(alternatives) => {
+            let PatternKind::Or(other) = right else {
+                return Err(TypeError::Mismatch);
+            };
+            if cx.alternatives(&alternatives).len() != cx.alternatives(&other).len() {
+                return Err(TypeError::Mismatch);
+            }
+            Ok(())
+        }
+        PatternKind::NotNull => {
+            let PatternKind::NotNull = right else {
+                return Err(TypeError::Mismatch);
+            };
+            Ok(())
+        }
+    }
 }
 
 // Two types of unlike forms.

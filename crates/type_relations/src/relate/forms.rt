@@ -114,7 +114,7 @@ pub(crate) fn has_fixed_parts(form: Form) -> bool
     ensures { IsTrue result → IsFixed form }
 {
     match form {
-        Form::Array | Form::Slice | Form::RawPtr | Form::Ref => true,
+        Form::Array | Form::Slice | Form::Pat | Form::RawPtr | Form::Ref => true,
         _ => false,
     }
 }

@@ -2,8 +2,9 @@
 ghost use Rattle.std.specs.Prelude.{◌≡◌, IsTrue, IfOk, map};
 ghost use Rattle.relation_terms.specs.Trees.{known, list_tree};
 ghost use Rattle.relation_terms.specs.Meaning.{arg_tree};
-ghost use Rattle.relation_terms.specs.Parts.{part_tree, part_of_arg};
-ghost use Rattle.type_relations.specs.Parts.{parts_of, const_parts_of};
+ghost use Rattle.relation_terms.specs.Parts.{part_tree, part_of_arg, part_sort};
+ghost use Rattle.relation_terms.specs.Parts.{Fit as PartsFit};
+ghost use Rattle.type_relations.specs.Parts.{parts_of, const_parts_of, IsOfPattern};
 ghost use Rattle.type_relations.specs.Covered.{IsCovered};
 ghost use Rattle.type_relations.specs.Lawful.{WithMeaning, OnlyMemory};
 ghost use Rattle.type_relations.specs.Making.{Fit, over, const_over, Made};
@@ -127,6 +128,23 @@ fn const_with_parts<I: Interner>(
     }
 }
 
+// The pattern type or the pattern of that one's form over these parts, as a part of terms.
+fn pattern_with_parts<I: Interner>(
+    cx: &mut I,
+    term: &PartOf<I>,
+    parts: &[PartOf<I>],
+) -> Result<PartOf<I>, OutOfMemory>
+    requires term_known { IsTrue (known (part_tree (I.meaning cx.old) term.now)) }
+    requires form { IsOfPattern (part_tree (I.meaning cx.old) term.now) }
+    requires parts_known { IsTrue (known (list_tree (part_tree (I.meaning cx.old)) parts.now)) }
+    requires fits { PartsFit parts.now (parts_of (part_tree (I.meaning cx.old) term.now)) }
+    ensures made { let m = I.meaning cx.old in let n = I.meaning cx.new in
+        Made m n (part_tree n) (over (part_tree m term.now) (list_tree (part_tree m) parts.now)) result }
+    ensures sort { IfOk result (λ p. part_sort p ≡ part_sort term.now) }
+{
+    with_parts(cx, term, parts)
+}
+
 // The same through a relation: nothing of it changes but what its interner knows.
 pub(crate) fn make_ty<I: Interner, R: TypeRelation<I>>(
     r: &mut R,
@@ -165,5 +183,27 @@ pub(crate) fn make_const<I: Interner, R: TypeRelation<I>>(
 {
     r.interner_grows();
     let made = const_with_parts(r.cx_mut(), constant, parts)?;
+    Ok(made)
+}
+
+// The same of pattern types and patterns.
+pub(crate) fn make_pattern<I: Interner, R: TypeRelation<I>>(
+    r: &mut R,
+    term: &PartOf<I>,
+    parts: &[PartOf<I>],
+) -> RelateResult<I, PartOf<I>>
+    requires lawful { (R.state r.old).lawful }
+    requires term_known { IsTrue (known (part_tree (R.state r.old).meaning term.now)) }
+    requires form { IsOfPattern (part_tree (R.state r.old).meaning term.now) }
+    requires parts_known { IsTrue (known (list_tree (part_tree (R.state r.old).meaning) parts.now)) }
+    requires fits { PartsFit parts.now (parts_of (part_tree (R.state r.old).meaning term.now)) }
+    ensures grown { WithMeaning (R.state r.old) (R.state r.new).meaning (R.state r.new) }
+    ensures fault { OnlyMemory result }
+    ensures made { let m = (R.state r.old).meaning in let n = (R.state r.new).meaning in
+        Made m n (part_tree n) (over (part_tree m term.now) (list_tree (part_tree m) parts.now)) result }
+    ensures sort { IfOk result (λ p. part_sort p ≡ part_sort term.now) }
+{
+    r.interner_grows();
+    let made = pattern_with_parts(r.cx_mut(), term, parts)?;
     Ok(made)
 }

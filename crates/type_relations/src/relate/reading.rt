@@ -1,23 +1,29 @@
 //! Reading terms through a relation's interner.
-ghost use Rattle.std.specs.Prelude.{◌≡◌, ◌≢◌, ◌<◌, IsTrue, OnOk, IfErr};
+ghost use Rattle.std.specs.Prelude.{◌≡◌, ◌≢◌, ◌<◌, IsTrue, IsFalse, OnOk, IfErr};
+ghost use Rattle.relation_terms.specs.Heads.{pattern_type};
 ghost use Rattle.relation_terms.specs.Trees.{known, count, nth, IsList};
 ghost use Rattle.relation_terms.specs.declared.terms.enums.Variance.TheVariants.{Bivariant};
 ghost use Rattle.relation_terms.specs.Variances.{xform};
 ghost use Rattle.relation_terms.specs.Meaning.{arg_tree};
+ghost use Rattle.relation_terms.specs.Parts.{part_tree};
 ghost use Rattle.type_relations.specs.Relation.{part_at, pointee_variance};
-ghost use Rattle.type_relations.specs.Errors.{FormError, ConstFormError, AreOfOneForm, AreOfOneConst};
-ghost use Rattle.type_relations.specs.Parts.{IsFormedConst, parts_of, const_parts_of, head_of, const_head_of};
+ghost use Rattle.type_relations.specs.Errors.{FormError, ConstFormError, PatternError, AreOfOneForm, AreOfOneConst};
+ghost use Rattle.type_relations.specs.Parts.{IsFormedConst, IsOfPattern, parts_of, const_parts_of, head_of};
+ghost use Rattle.type_relations.specs.Parts.{const_head_of};
 ghost use Rattle.type_relations.specs.Covered.{IsCovered};
 ghost use Rattle.type_relations.specs.Lawful.{Noted, items_in};
 ghost use Rattle.type_relations.specs.Keyed.{AskedTys, RelatesTys, AreOver, part_in};
 ghost use Rattle.type_relations.specs.Handing.{IsResultOfTy, IsResultOfConst};
 
-use crate::relate::comparing::{compare_consts, compare_tys};
-use crate::relate::parts::{const_part, const_parts_count, part, parts_count};
+use crate::relate::comparing::{compare_consts, compare_pats, compare_tys};
+use crate::relate::parts::{
+    const_part, const_parts_count, is_pattern_type, part, parts_count, pattern_part,
+    pattern_parts_count,
+};
 use crate::relate::{TypeRelation, handing};
 use relation_terms::terms::{
-    Const, ConstKind, DefId, GenericArg, GenericArgs, Interner, ItemOf, Mutability, Ty, TyKind,
-    Variance,
+    Const, ConstKind, DefId, GenericArg, GenericArgs, Interner, ItemOf, Mutability, PartOf, Pat,
+    Ty, TyKind, Variance,
 };
 use relation_tools::error::{RelateResult, TypeErrorOf};
 
@@ -54,6 +60,27 @@ pub(crate) fn compare_consts_of<I: Interner, R: TypeRelation<I>>(
     compare_consts(r.cx(), a, b)
 }
 
+pub(crate) fn compare_pats_of<I: Interner, R: TypeRelation<I>>(
+    r: &R,
+    a: &Pat<I>,
+    b: &Pat<I>,
+) -> Result<(), TypeErrorOf<I>>
+    requires a_known { IsTrue (known ((R.state r.now).meaning.pat a.now)) }
+    requires b_known { IsTrue (known ((R.state r.now).meaning.pat b.now)) }
+    ensures alike { let m = (R.state r.now).meaning in OnOk result (AreOfOneForm (m.pat a.now) (m.pat b.now)) }
+    ensures errors { let m = (R.state r.now).meaning in IfErr result (PatternError (m.pat a.now) (m.pat b.now)) }
+{
+    compare_pats(r.cx(), a, b)
+}
+
+pub(crate) fn is_pattern_type_of<I: Interner, R: TypeRelation<I>>(r: &R, ty: &Ty<I>) -> bool
+    requires { IsTrue (known ((R.state r.now).meaning.ty ty.now)) }
+    ensures pattern { IsTrue result → IsOfPattern ((R.state r.now).meaning.ty ty.now) }
+    ensures others { IsFalse result → head_of ((R.state r.now).meaning.ty ty.now) ≢ pattern_type }
+{
+    is_pattern_type(r.cx(), ty)
+}
+
 pub(crate) fn parts_count_of<I: Interner, R: TypeRelation<I>>(r: &R, ty: &Ty<I>) -> usize
     requires { IsTrue (known ((R.state r.now).meaning.ty ty.now)) }
     ensures counts { result ≡ count (parts_of ((R.state r.now).meaning.ty ty.now)) }
@@ -65,6 +92,7 @@ pub(crate) fn parts_count_of<I: Interner, R: TypeRelation<I>>(r: &R, ty: &Ty<I>)
 pub(crate) fn part_of<I: Interner, R: TypeRelation<I>>(r: &R, ty: &Ty<I>, i: usize) -> GenericArg<I>
     requires ty_known { IsTrue (known ((R.state r.now).meaning.ty ty.now)) }
     requires ty_covered { IsCovered ((R.state r.now).meaning.ty ty.now) }
+    requires no_pattern { head_of ((R.state r.now).meaning.ty ty.now) ≢ pattern_type }
     requires in_bounds { i < count (parts_of ((R.state r.now).meaning.ty ty.now)) }
     ensures sure { IsTrue (known (arg_tree (R.state r.now).meaning result)) }
     ensures means { arg_tree (R.state r.now).meaning result ≡ nth i (parts_of ((R.state r.now).meaning.ty ty.now)) }
@@ -95,6 +123,32 @@ pub(crate) fn const_part_of<I: Interner, R: TypeRelation<I>>(
         arg_tree m result ≡ nth i (const_parts_of (m.const_ constant.now)) }
 {
     const_part(r.cx(), constant, i)
+}
+
+pub(crate) fn pattern_parts_count_of<I: Interner, R: TypeRelation<I>>(
+    r: &R,
+    term: &PartOf<I>,
+) -> usize
+    requires known { IsTrue (known (part_tree (R.state r.now).meaning term.now)) }
+    requires form { IsOfPattern (part_tree (R.state r.now).meaning term.now) }
+    ensures { result ≡ count (parts_of (part_tree (R.state r.now).meaning term.now)) }
+{
+    pattern_parts_count(r.cx(), term)
+}
+
+pub(crate) fn pattern_part_of<I: Interner, R: TypeRelation<I>>(
+    r: &R,
+    term: &PartOf<I>,
+    i: usize,
+) -> PartOf<I>
+    requires term_known { IsTrue (known (part_tree (R.state r.now).meaning term.now)) }
+    requires form { IsOfPattern (part_tree (R.state r.now).meaning term.now) }
+    requires in_bounds { i < count (parts_of (part_tree (R.state r.now).meaning term.now)) }
+    ensures sure { IsTrue (known (part_tree (R.state r.now).meaning result)) }
+    ensures means { part_tree (R.state r.now).meaning result ≡
+        nth i (parts_of (part_tree (R.state r.now).meaning term.now)) }
+{
+    pattern_part(r.cx(), term, i)
 }
 
 // How a pointee varies with its pointer.

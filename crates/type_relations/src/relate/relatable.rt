@@ -14,14 +14,14 @@ ghost use Rattle.type_relations.specs.Subtyping.{RegistersSubtype};
 
 use crate::relate::TypeRelation;
 use crate::relate::args::relate_args_invariantly;
-use crate::relate::structural::{consts, relate, tys};
+use crate::relate::structural::{consts, pats, relate, tys};
 use relation_terms::terms::{
-    ArgsKey, ConstKey, GenericArgKind, Interner, RegionKey, TermKind, TyKey,
+    ArgsKey, ConstKey, GenericArgKind, Interner, PatKey, RegionKey, TermKind, TyKey,
 };
 use relation_tools::error::{RelateFault, RelateResult, TypeError};
 use relation_tools::fold::TypeFoldable;
 
-/// What can be related: types, regions, constants, generic arguments and terms, and lists of arguments.
+/// What can be related: types, regions, constants, patterns, generic arguments and terms, and lists of arguments.
 ///
 /// What is related of it is its tree, or of a list a form over its tree, which the ghost member `over` names.
 pub trait Relate<I: Interner>: TypeFoldable<I> + PartialEq + Copy {
@@ -103,6 +103,20 @@ impl<I: Interner> Relate<I> for ConstKey<I::Key> {
     ghost fits_on = { λ m n e x y h k f. tt };
 
     ghost same = { I.same_const };
+}
+
+impl<I: Interner> Relate<I> for PatKey<I::Key> {
+    ghost over = { None };
+
+    ghost fits = { λ m a b. Unit {0} };
+
+    fn relate<R: TypeRelation<I>>(r: &mut R, a: &Self, b: &Self) -> RelateResult<I, Self> {
+        pats(r, a, b)
+    }
+
+    ghost fits_on = { λ m n e x y h k f. tt };
+
+    ghost same = { I.same_pat };
 }
 
 impl<I: Interner> Relate<I> for GenericArgKind<I::Key> {

@@ -5,19 +5,27 @@ ghost use Rattle.std.specs.Prelude.{◌≡◌, ◌≢◌, IsTrue, IfOk};
 ghost use Rattle.relation_terms.specs.declared.terms.enums.Variance.TheVariants.{Bivariant};
 ghost use Rattle.relation_terms.specs.Variances.{xform};
 ghost use Rattle.relation_terms.specs.Meaning.{arg_tree};
-ghost use Rattle.type_relations.specs.Parts.{IsFormed, IsFormedConst};
-ghost use Rattle.type_relations.specs.Keyed.{AskedArgs, AskedArgsAt, AskedConsts, AskedTys, RelatedArgs, RelatedArgsAt, RelatedConsts, RelatedTys};
+ghost use Rattle.relation_terms.specs.Parts.{part_tree, part_sort};
+ghost use Rattle.type_relations.specs.Errors.{AreOfOneForm};
+ghost use Rattle.type_relations.specs.Parts.{IsFormed, IsFormedConst, IsOfPattern, IsInPattern};
+ghost use Rattle.type_relations.specs.Keyed.{AskedArgs, AskedArgsAt, AskedConsts, AskedPats, AskedParts, AskedTys};
+ghost use Rattle.type_relations.specs.Keyed.{RelatedArgs, RelatedArgsAt, RelatedConsts, RelatedPats, RelatedParts};
+ghost use Rattle.type_relations.specs.Keyed.{RelatedTys};
 ghost use Rattle.type_relations.specs.Keyed.{ArgsRegisterSubtype, TysRegisterSubtype};
 ghost use Rattle.type_relations.specs.Making.{arg_sort};
 ghost use Rattle.type_relations.specs.Arguments.{IsSkipped};
 
-use crate::relate::making::{make_const, make_ty};
+use crate::relate::making::{make_const, make_pattern, make_ty};
 use crate::relate::reading::{
-    compare_consts_of, compare_tys_of, const_part_of, const_parts_count_of, const_variance_at,
-    in_const, in_ty, note_args, part_of, parts_count_of, variance_at,
+    compare_consts_of, compare_pats_of, compare_tys_of, const_part_of, const_parts_count_of,
+    const_variance_at, in_const, in_ty, is_pattern_type_of, note_args, part_of, parts_count_of,
+    pattern_part_of, pattern_parts_count_of, variance_at,
 };
 use crate::relate::{Step, TypeRelation};
-use relation_terms::terms::{Const, GenericArg, GenericArgKind, Interner, Ty, Variance};
+use relation_terms::terms::parts::{the_const, the_pat, the_ty};
+use relation_terms::terms::{
+    Const, GenericArg, GenericArgKind, Interner, Part, PartOf, Pat, Ty, Variance,
+};
 use relation_tools::error::{RelateFault, RelateResult, TypeError};
 
 /// Relates two types at the ambient variance, as the relation's steps lead: what a step answers is the answer; two
@@ -181,6 +189,9 @@ pub fn structurally_relate_tys<I: Interner, R: TypeRelation<I>>(
     ensures { RelatedTys R.manner (R.state r.old) (R.state r.new) a.now b.now result }
 {
     compare_tys_of::<I, R>(r, a, b)?;
+    if is_pattern_type_of::<I, R>(r, a) {
+        return Ok(the_ty(&relate_in_order(r, &Part::Ty(*a), &Part::Ty(*b))?));
+    }
     let n = parts_count_of::<I, R>(r, a);
     let mut answers = Vec::new(r.cx().alloc());
     for i in 0..n {
@@ -229,4 +240,74 @@ pub fn structurally_relate_consts<I: Interner, R: TypeRelation<I>>(
         answers.push(answer)?;
     }
     make_const(r, a, answers.as_slice())
+}
+
+/// Relates two patterns at the ambient variance, and answers the left one's form over what its parts answered: ranges
+/// by start, then end; alternatives pair by pair.
+///
+/// Conditions are those of `tys`. Two of different forms, or with unlike numbers of alternatives, are `Mismatch`. All
+/// errors of the parts are handed on. Upstream this is the interner's `relate` of patterns.
+#[cycle(relate)]
+pub fn pats<I: Interner, R: TypeRelation<I>>(
+    r: &mut R,
+    a: &Pat<I>,
+    b: &Pat<I>,
+) -> RelateResult<I, Pat<I>>
+    requires lawful { (R.state r.old).lawful }
+    requires decides { (R.state r.old).ambient ≢ Bivariant }
+    requires asked { AskedPats R.manner (R.state r.old) a.now b.now }
+    ensures { RelatedPats R.manner (R.state r.old) (R.state r.new) a.now b.now result }
+{
+    compare_pats_of::<I, R>(r, a, b)?;
+    Ok(the_pat(&relate_in_order(r, &Part::Pat(*a), &Part::Pat(*b))?))
+}
+
+// Relates two pattern types, or two patterns, that are of one form by their parts, in order, and answers the form over
+// what these answered.
+#[cycle(relate)]
+fn relate_in_order<I: Interner, R: TypeRelation<I>>(
+    r: &mut R,
+    a: &PartOf<I>,
+    b: &PartOf<I>,
+) -> RelateResult<I, PartOf<I>>
+    requires lawful { (R.state r.old).lawful }
+    requires decides { (R.state r.old).ambient ≢ Bivariant }
+    requires asked { AskedParts R.manner (R.state r.old) a.now b.now }
+    requires form { IsOfPattern (part_tree (R.state r.old).meaning a.now) }
+    requires alike { let m = (R.state r.old).meaning in AreOfOneForm (part_tree m a.now) (part_tree m b.now) }
+    ensures related { RelatedParts R.manner (R.state r.old) (R.state r.new) a.now b.now result }
+    ensures sort { IfOk result (λ p. part_sort p ≡ part_sort a.now) }
+{
+    let n = pattern_parts_count_of::<I, R>(r, a);
+    let mut answers = Vec::new(r.cx().alloc());
+    for i in 0..n {
+        let x = pattern_part_of::<I, R>(r, a, i);
+        let y = pattern_part_of::<I, R>(r, b, i);
+        let answer = relate_parts(r, &x, &y)?;
+        answers.push(answer)?;
+    }
+    make_pattern(r, a, answers.as_slice())
+}
+
+// Relates two types, two constants or two patterns.
+#[cycle(relate)]
+fn relate_parts<I: Interner, R: TypeRelation<I>>(
+    r: &mut R,
+    a: &PartOf<I>,
+    b: &PartOf<I>,
+) -> RelateResult<I, PartOf<I>>
+    requires lawful { (R.state r.old).lawful }
+    requires decides { (R.state r.old).ambient ≢ Bivariant }
+    requires asked { AskedParts R.manner (R.state r.old) a.now b.now }
+    requires kind { IsInPattern a.now }
+    requires one_sort { part_sort b.now ≡ part_sort a.now }
+    ensures related { RelatedParts R.manner (R.state r.old) (R.state r.new) a.now b.now result }
+    ensures sort { IfOk result (λ p. part_sort p ≡ part_sort a.now) }
+{
+    match a {
+        Part::Ty(a) => Ok(Part::Ty(tys(r, a, &the_ty(b))?)),
+        Part::Const(a) => Ok(Part::Const(consts(r, a, &the_const(b))?)),
+        Part::Pat(a) => Ok(Part::Pat(pats(r, a, &the_pat(b))?)),
+        _ => unreachable!(),
+    }
 }

@@ -22,7 +22,7 @@ use relation_tools::error::RelateResult;
 ///
 /// The steps ask for terms that the relation's interner knows, that are the relation's own and that it takes at the
 /// ambient variance, which is not `Bivariant`. No relation takes terms of forms that have no rule yet: aliases,
-/// unevaluated constants, pattern types, errors, binders and what they bind.
+/// unevaluated constants, errors, binders and what they bind.
 pub trait TypeRelation<I: Interner> {
     // The relation as it stands.
     ghost state: { Self → State I.Key I.Id I.Name };

@@ -1,6 +1,7 @@
 use Rattle.std.proofs.Common.{◌≡◌, ◌+◌, ◌*◌}
 use Rattle.relation_terms.specs.Trees.{count, list_tree}
 use Rattle.relation_terms.specs.Meaning.{arg_tree}
+use Rattle.relation_terms.specs.Parts.{part_tree, Fit as PartsFit}
 use Rattle.type_relations.specs.Stores.{weight}
 use Rattle.type_relations.specs.Measures.{depth}
 use Rattle.type_relations.specs.Parts.{parts_of, const_parts_of, head_of, const_head_of}
@@ -40,6 +41,21 @@ decreases-relate_with_variance g l =
     let r = g.R.TypeRelation.state l.r.now in
     8 * depth (r.store).budget (weight r.store (arg_tree r.meaning l.a.now) + weight r.store (arg_tree r.meaning l.b.now)) + 4
 
+abbrev pub decreases-relate_in_order : goal.decreases-relate_in_order
+decreases-relate_in_order g l =
+    let r = g.R.TypeRelation.state l.r.now in
+    8 * depth (r.store).budget (weight r.store (part_tree r.meaning l.a.now) + weight r.store (part_tree r.meaning l.b.now))
+
+abbrev pub decreases-pats : goal.decreases-pats
+decreases-pats g l =
+    let r = g.R.TypeRelation.state l.r.now in
+    8 * depth (r.store).budget (weight r.store ((r.meaning).pat l.a.now) + weight r.store ((r.meaning).pat l.b.now)) + 1
+
+abbrev pub decreases-relate_parts : goal.decreases-relate_parts
+decreases-relate_parts g l =
+    let r = g.R.TypeRelation.state l.r.now in
+    8 * depth (r.store).budget (weight r.store (part_tree r.meaning l.a.now) + weight r.store (part_tree r.meaning l.b.now)) + 3
+
 abbrev pub invariant-structurally_relate_tys-loop-i : goal.invariant-structurally_relate_tys-loop-i
 invariant-structurally_relate_tys-loop-i g l =
     let r = g.R.TypeRelation.state l.initial.r in
@@ -72,4 +88,21 @@ invariant-structurally_relate_consts-loop-i g l =
       answers : AreAnswers g.R.TypeRelation.manner q (const_head_of t) r.ambient l.i (const_parts_of t)
           (list_tree (arg_tree q.meaning) l.answers.items);
       fits : Fit l.answers.items (firsts l.i (const_parts_of t));
+    }
+
+abbrev pub invariant-relate_in_order-loop-i : goal.invariant-relate_in_order-loop-i
+invariant-relate_in_order-loop-i g l =
+    let r = g.R.TypeRelation.state l.initial.r in
+    let q = g.R.TypeRelation.state l.r in
+    let t = part_tree r.meaning l.a in
+    let u = part_tree r.meaning l.b in
+    record {
+      lawful : q.lawful;
+      fronted : Fronted g.R.TypeRelation.manner r q (head_of t) r.ambient l.i (parts_of t) (parts_of u);
+      left_count : l.n ≡ count (parts_of t);
+      right_count : l.n ≡ count (parts_of u);
+      are_parts : AreParts r.store (parts_of t) (parts_of u);
+      answers : AreAnswers g.R.TypeRelation.manner q (head_of t) r.ambient l.i (parts_of t)
+          (list_tree (part_tree q.meaning) l.answers.items);
+      fits : PartsFit l.answers.items (firsts l.i (parts_of t));
     }

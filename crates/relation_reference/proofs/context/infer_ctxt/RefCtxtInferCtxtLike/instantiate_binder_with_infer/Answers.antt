@@ -1,0 +1,19 @@
+use Rattle.type_relations.specs.Binders.{binder_tree}
+use Rattle.relation_reference.specs.RefCtxt.{context_in}
+use Rattle.relation_reference.proofs.Binders.{instantiated_binder}
+use Rattle.relation_reference.proofs.context.infer_ctxt.RefCtxtInferCtxtLike.instantiate_binder_with_infer.Goals as goal
+
+pub returns : goal.returns
+returns g c =
+    let meaning = g.I.Interner.meaning in
+    let p = c.args.self.now in
+    let q = c.instantiate_binder_with_infer.new.self in
+    let done = c.instantiate_binder_with_infer.ensures in
+    record {
+      grows = record { extends = done.grown; lawful = done.lawful };
+      instantiates = instantiated_binder (context_in meaning p) (context_in meaning q) g.T.HasTree.tree
+          (binder_tree g.T.HasTree.tree (meaning p.interner) c.args.value) c.instantiate_binder_with_infer.result
+          done.sure done.instantiates
+          done.refused;
+      rest = done.rest;
+    }

@@ -1,0 +1,15 @@
+-- What is put for what a binder binds.
+use Rattle.std.specs.Prelude.{◌≡◌, ℕ, suc, List, [], ◌∷◌}
+use Rattle.relation_terms.specs.Heads.{BoundKind, VarKind, placeholder, variable}
+use Rattle.relation_terms.specs.Trees.{Tree, leaf}
+use Rattle.type_relations.specs.Steps.{MakesVariable}
+use Rattle.type_relations.specs.Stores.{Store}
+
+-- Placeholders of a universe for the variables of a list, numbered by their places from `n` on.
+abbrev pub placeholders_from : ℕ → ℕ → List BoundKind → List Tree
+placeholders_from u n [] = []
+placeholders_from u n (k ∷ ks) = leaf (placeholder k u n) ∷ placeholders_from u (suc n) ks
+
+-- A new variable of a kind was made in the current universe.
+abbrev pub MakesOne : Store → Store → VarKind → Tree → Type 0
+MakesOne before after k x = (n : ℕ) × (x ≡ leaf (variable k n)) × MakesVariable before after k n before.universe

@@ -1,0 +1,91 @@
+-- Opening binders in a context: placeholders or new variables put for what a binder binds.
+use Rattle.std.specs.Prelude.{◌≡◌, ℕ, suc, List, [], ◌∷◌, ◌++◌, Option, Some, None, IsTrue, Result, Ok, Err, slice_get}
+use Rattle.relation_terms.specs.declared.terms.binder.Binder.{Binder}
+use Rattle.relation_terms.specs.Heads.{type_kind, region_kind, const_kind, BoundKind, bound_kind, bound_sort}
+use Rattle.relation_terms.specs.Heads.{VarKind, type_var, const_var, region_var, Leaf, variable, bound}
+use Rattle.relation_terms.specs.Trees.{Tree, leaf, node, bind, nil, cons, inst, known}
+use Rattle.relation_terms.specs.Meaning.{Meaning, under}
+use Rattle.type_relations.specs.Contexts.{Context}
+use Rattle.type_relations.specs.Generalising.{MakesUnbound}
+use Rattle.type_relations.specs.Steps.{MakesVariable, EntersForall}
+use Rattle.type_relations.specs.Stores.{Store}
+
+-- The variables of a list that there may be.
+abbrev pub kinds_in : Option (List BoundKind) → List BoundKind
+kinds_in (Some ks) = ks
+kinds_in None = []
+
+-- A leaf that the binder `depth` steps up binds is of the kind that stands at its place in the binder's list.
+abbrev pub IsBoundAs : List BoundKind → ℕ → Leaf → Type 0
+IsBoundAs ks depth (bound k d i) = d ≡ depth →
+    (q : BoundKind) × (slice_get ks i ≡ Some q) × (bound_sort q ≡ bound_sort k)
+IsBoundAs ks depth l = Unit {0}
+
+-- All that the binder `depth` steps up binds in a tree.
+abbrev pub AreBoundAs : List BoundKind → ℕ → Tree → Type 0
+AreBoundAs ks depth (leaf l) = IsBoundAs ks depth l
+AreBoundAs ks depth (node h ts) = AreBoundAs ks depth ts
+AreBoundAs ks depth (bind ls t) = AreBoundAs ks (suc depth) t
+AreBoundAs ks depth nil = Unit {0}
+AreBoundAs ks depth (cons t ts) = AreBoundAs ks depth t × AreBoundAs ks depth ts
+
+-- What a binder binds stands in its body by places of its list, as what it is there.
+abbrev pub BindsByList : Tree → Type 0
+BindsByList (bind ks t) = AreBoundAs ks 0 t
+BindsByList t = Unit {0}
+
+-- Each binder in a tree does that.
+abbrev pub BindByLists : Tree → Type 0
+BindByLists (leaf l) = Unit {0}
+BindByLists (node h ts) = BindByLists ts
+BindByLists (bind ks t) = AreBoundAs ks 0 t × BindByLists t
+BindByLists nil = Unit {0}
+BindByLists (cons t ts) = BindByLists t × BindByLists ts
+
+-- Of which kind a variable is that may stand for what a binder binds.
+abbrev pub variable_kind : BoundKind → VarKind
+variable_kind (bound_kind type_kind n) = type_var
+variable_kind (bound_kind region_kind n) = region_var
+variable_kind (bound_kind const_kind n) = const_var
+
+-- Variables of a universe were made one after another, one for each place of a binder's list in its order, and for no
+-- other.
+pub data MakesEach (u : ℕ) (before : Store) : List BoundKind → List Tree → Store → Type 0 where
+  makes_none : {ks : List BoundKind} {xs : List Tree} → ks ≡ [] → xs ≡ [] → MakesEach u before ks xs before
+  makes_next : {middle after : Store} {ks ls : List BoundKind} {xs ys : List Tree} {n : ℕ} (k : BoundKind) →
+      MakesEach u before ks xs middle → MakesVariable middle after (variable_kind k) n u → ls ≡ ks ++ k ∷ [] →
+      ys ≡ xs ++ leaf (variable (variable_kind k) n) ∷ [] → MakesEach u before ls ys after
+
+-- A body with the variables that were made for its binder put for what that binds.
+pub record InstantiatesEach (before after : Store) (ks : List BoundKind) (body opened : Tree) : Type 0 where
+  pub variables : List Tree
+  pub makes : MakesEach before.universe before ks variables after
+  pub body_is : opened ≡ inst variables 0 body
+
+module _ {Key Id Name : Type 0} where
+  -- The tree of a binder over what has a tree.
+  abbrev pub binder_tree : {T : Type 0} → (Meaning Key Id Name → T → Tree) → Meaning Key Id Name → Binder Key T → Tree
+  binder_tree tree m b = under (m.bound_vars b.bound_vars) (tree m b.value)
+
+-- Between a context before a call and after it.
+module _ {Key Id Name : Type 0} (c d : Context Key Id Name) where
+  -- What the body of a binder was entered as.
+  abbrev pub EntersAs : Tree → Tree → Type 0
+  EntersAs (bind ks t) x = EntersForall c.store d.store ks t x
+  EntersAs t x = ⊥
+
+  -- A binder was entered, and its body answered; or a growth was refused, and nothing was recorded.
+  abbrev pub EntersBinder : {K F : Type 0} → (Meaning Key Id Name → K → Tree) → Tree → Result K F → Type 0
+  EntersBinder tree t (Ok x) = IsTrue (known (tree d.meaning x)) × EntersAs t (tree d.meaning x)
+  EntersBinder tree t (Err f) = d.store ≡ c.store
+
+  -- What the body of a binder was instantiated as.
+  abbrev pub InstantiatesAs : Tree → Tree → Type 0
+  InstantiatesAs (bind ks t) x = InstantiatesEach c.store d.store ks t x
+  InstantiatesAs t x = ⊥
+
+  -- A binder's body was answered over new variables; or a growth was refused, and variables that were made on the way
+  -- stay unbound.
+  abbrev pub InstantiatesWithInfer : {K F : Type 0} → (Meaning Key Id Name → K → Tree) → Tree → Result K F → Type 0
+  InstantiatesWithInfer tree t (Ok x) = IsTrue (known (tree d.meaning x)) × InstantiatesAs t (tree d.meaning x)
+  InstantiatesWithInfer tree t (Err f) = MakesUnbound (c.store).universe c.store d.store
