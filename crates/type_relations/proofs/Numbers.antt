@@ -101,7 +101,7 @@ module _ (before after : Store) (k : VarKind) (n : ℕ) (t : Tree) (q : Instanti
   pub number_goes : (N : ℕ) → Goes N before after
   number_goes N = record {
     later = is_later before after k n (bound_to t) t q.writes refl (λ j i. le_of_eq (q.same_universes j i));
-    made = record { no_number = λ j h. q.writes.as_many j; none = λ h. q.writes.as_many };
+    made = λ j h. q.writes.as_many j;
     spent = 0;
     counts = let b = q.same_budget in omega arith;
     binds = (

@@ -15,7 +15,8 @@ use Rattle.relation_tools.specs.Shifts.{is_for, standing, shifted, opens}
 use Rattle.type_relations.specs.Relation.{StaysWithin}
 use Rattle.type_relations.specs.Steps.{ArePlaceholders}
 use Rattle.type_relations.specs.Stores.{Store}
-use Rattle.type_relations.specs.Binders.{IsBoundAs, AreBoundAs, variable_kind, MakesEach, makes_none, makes_next}
+use Rattle.type_relations.specs.Bound.{IsBoundAs, AreBoundAs}
+use Rattle.type_relations.specs.Binders.{variable_kind, MakesEach, makes_none, makes_next}
 use Rattle.type_relations.proofs.MakingEach.{variable_sort}
 
 -- A tree that may stand for a variable of a kind: it is of its sort, and no binder around it changes it.

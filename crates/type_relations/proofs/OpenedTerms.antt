@@ -11,7 +11,8 @@ use Rattle.type_relations.specs.Stores.{Store, unbound, entry_term, counts_term,
 use Rattle.type_relations.specs.Stores.{InContext, IsNamable, IsTermIn, IsSound, resolved, weight}
 use Rattle.type_relations.specs.Steps.{AreNewVariables, ArePlaceholders, LeavesBody}
 use Rattle.type_relations.specs.Steps.{EntersUniverse}
-use Rattle.type_relations.specs.Binders.{AreBoundAs, BindByLists, MakesEach, makes_none, makes_next}
+use Rattle.type_relations.specs.Bound.{AreBoundAs, BindByLists}
+use Rattle.type_relations.specs.Binders.{MakesEach, makes_none, makes_next}
 use Rattle.type_relations.specs.OpeningLaws.{EnteredBodyIsIn, InstantiatedBodyIsIn, EnteredBodyBinds}
 use Rattle.type_relations.specs.OpeningLaws.{InstantiatedBodyBinds}
 use Rattle.type_relations.proofs.Trees.{apply-inst, apply_alike, StaysWithin-mono}

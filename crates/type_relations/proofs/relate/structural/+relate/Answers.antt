@@ -2260,7 +2260,7 @@ relate_in_order-make_pattern-requires-clause-parts_known g t c =
     let items = c.loop-i.answers.items in
     let was = list_tree (part_tree q.meaning) items in
     subst (λ z. IsTrue (known z)) (sym (ap (list_tree (part_tree q.meaning)) c.as_slice.ensures.value))
-          (inv.answers).sure
+    (inv.answers).sure
 
 pub relate_in_order-make_pattern-requires-clause-fits : goal.relate_in_order-make_pattern-requires-clause-fits
 relate_in_order-make_pattern-requires-clause-fits g t c =
@@ -2284,7 +2284,7 @@ relate_in_order-make_pattern-requires-clause-fits g t c =
     let items = c.loop-i.answers.items in
     let was = list_tree (part_tree q.meaning) items in
     subst₂ (λ xs z. PartsFit xs (parts_of z)) (sym c.as_slice.ensures.value) (sym same_a)
-          (parts_end items (parts_of a) i (inv.are_parts).left_list left inv.fits)
+    (parts_end items (parts_of a) i (inv.are_parts).left_list left inv.fits)
 
 pub relate_in_order-returns : goal.relate_in_order-returns
 relate_in_order-returns g t c =
