@@ -11,7 +11,7 @@ use Rattle.type_relations.specs.Relation.{Items, Interpretation, IsValueLeaf, St
 use Rattle.type_relations.specs.Stores.{Store, entry_term, bound_to, bound_term, universe_of, IsMade, IsFree, IsMadeLeaf, InContext, IsInScope, IsNamable, IsAssignment, MayStandFor, IsTermIn, IsSound, Satisfies, resolved, weight}
 use Rattle.type_relations.specs.FirstOrder.{IsFirstOrder, IsFirstOrderStore, IsClosedLeaf, IsTypeClosed, Unifies, IsErasedSolution}
 use Rattle.type_relations.specs.StoreLaws.{GeneralisingInstantiates}
-use Rattle.type_relations.specs.Steps.{IsLater, InstantiatesNone, AgreeOn, AgreeErased, Extends, ExtendsErased, IsGeneralised, kept, replaced, in_form, in_binder, in_list, IsNamedBy, Instantiates}
+use Rattle.type_relations.specs.Steps.{IsLater, AgreeOn, AgreeErased, Extends, ExtendsErased, IsGeneralised, kept, replaced, in_form, in_binder, in_list, IsNamedBy, Instantiates}
 use Rattle.type_relations.specs.ErasureLaws.{IsTypeOrConst}
 use Rattle.type_relations.specs.Measures.{Goes}
 use Rattle.type_relations.specs.Generalising.{gives_way_to, any_part, variance_for, InstantiatesBy, NumbersNameNothing}
