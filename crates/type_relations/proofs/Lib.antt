@@ -71,6 +71,8 @@ pub mod NumberVars
 pub mod Turning
 pub mod OverContext
 pub mod Solving
+pub mod OpeningBoth
+pub mod SolvingBinders
 pub mod GeneralisingInOne
 pub mod Spending
 pub mod SolvingVariables

@@ -1,7 +1,8 @@
 //! Opening two binders in a context.
-ghost use Rattle.std.specs.Prelude.{◌≡◌, ◌⊎◌, ◌↔◌, IsTrue};
+ghost use Rattle.std.specs.Prelude.{◌≡◌, ◌⊎◌, ◌↔◌, ◌||◌, IsTrue};
 ghost use Rattle.relation_terms.specs.Trees.{known};
 ghost use Rattle.relation_terms.specs.declared.terms.enums.Variance.TheVariants.{Covariant, Contravariant, Invariant};
+ghost use Rattle.relation_tools.specs.Visits.{bound_var_escapes};
 ghost use Rattle.type_relations.specs.Binders.{binder_tree, OpensBoth};
 ghost use Rattle.type_relations.specs.Bound.{BindsByList};
 ghost use Rattle.type_relations.specs.ContextCalls.{Grows};
@@ -10,7 +11,7 @@ ghost use Rattle.type_relations.specs.Stores.{IsTermIn};
 use crate::infer_ctxt::{BinderOf, InferCtxtLike};
 use relation_terms::terms::{OutOfMemory, Variance};
 use relation_tools::fold::TypeFoldable;
-use relation_tools::visit::TypeVisitable;
+use relation_tools::visit::{TypeVisitable, has_escaping_bound_vars};
 
 // Whether a round has placeholders for what the second of two binders binds, and new variables for the first's.
 pub(crate) fn enters_second(variance: Variance, round: usize) -> bool
@@ -31,6 +32,21 @@ pub(crate) fn enters_first(variance: Variance, round: usize) -> bool
         Variance::Invariant => round == 1,
         Variance::Covariant | Variance::Bivariant => false,
     }
+}
+
+// Whether either of two bodies uses what its binder binds.
+pub(crate) fn one_uses<Infcx: InferCtxtLike, T: TypeVisitable<Infcx::Interner>>(
+    infcx: &Infcx,
+    a: &BinderOf<Infcx::Interner, T>,
+    b: &BinderOf<Infcx::Interner, T>,
+) -> bool
+    requires a_known { IsTrue (known (binder_tree T.tree (Infcx.state infcx.now).meaning a.now)) }
+    requires b_known { IsTrue (known (binder_tree T.tree (Infcx.state infcx.now).meaning b.now)) }
+    ensures { let m = (Infcx.state infcx.now).meaning in
+        result ≡ (bound_var_escapes (T.tree m (a.now).value) || bound_var_escapes (T.tree m (b.now).value)) }
+{
+    let cx = infcx.cx();
+    has_escaping_bound_vars(cx, &a.value) || has_escaping_bound_vars(cx, &b.value)
 }
 
 // The bodies of two binders: of the first with placeholders for what it binds, then of the second with new variables.

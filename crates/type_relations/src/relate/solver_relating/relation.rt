@@ -15,7 +15,9 @@ ghost use Rattle.type_relations.specs.Solving.{solving_in, solving_through, solv
 
 use crate::infer_ctxt::{BinderOf, InferCtxtLike};
 use crate::relate::combine::{combine_ty_args, super_combine_consts, super_combine_tys};
-use crate::relate::solver_relating::opening::{enter_and_instantiate, enters_first, enters_second};
+use crate::relate::solver_relating::opening::{
+    enter_and_instantiate, enters_first, enters_second, one_uses,
+};
 use crate::relate::solver_relating::recording::{relate_regions, subtype_predicate};
 use crate::relate::variables::{have_no_variable, ty_var};
 use crate::relate::{Relate, Step, StructurallyRelateAliases, TypeRelation};
@@ -25,7 +27,7 @@ use relation_terms::terms::{
 };
 use relation_tools::error::RelateResult;
 use relation_tools::fold::TypeFoldable;
-use relation_tools::visit::{TypeVisitable, has_escaping_bound_vars};
+use relation_tools::visit::TypeVisitable;
 use std::mem::replace;
 
 /// A goal over an interner's keys.
@@ -343,9 +345,7 @@ impl<'a, Infcx: InferCtxtLike> TypeRelation<Infcx::Interner> for SolverRelating<
         b: &BinderOf<Infcx::Interner, T>,
         round: usize,
     ) -> RelateResult<Infcx::Interner, Option<(T, T)>> {
-        let uses = has_escaping_bound_vars(self.infcx.cx(), &a.value)
-            || has_escaping_bound_vars(self.infcx.cx(), &b.value);
-        if !uses {
+        if !one_uses(&*self.infcx, a, b) {
             if round > 0 {
                 return Ok(None);
             }
