@@ -1,6 +1,6 @@
 -- Relating two binders in a context, round by round.
-use Rattle.std.proofs.Common.{◌≡◌, ◌≢◌, ◌⊎◌, ◌↔◌, ℕ, ◌<◌, ◌++◌, refl, sym, ap, ◌∙◌, arith, inl, inr, subst, subst₂, List, []}
-use Rattle.std.proofs.Common.{IsTrue, Bool, true, false, ◌||◌, Option, Some, None, Result, Ok, Err, IsSome}
+use Rattle.std.proofs.Common.{◌≡◌, ◌≢◌, ◌⊎◌, ℕ, ◌<◌, refl, sym, ◌∙◌, arith, inl, inr, subst, subst₂, List, []}
+use Rattle.std.proofs.Common.{IsTrue, Bool, true, false, ◌||◌, Option, Some, None, Result, Ok, Err, IsErr}
 use Rattle.std.proofs.lemmas.Bool.{false≢true, or_parts}
 use Rattle.relation_terms.specs.declared.terms.binder.Binder.{Binder}
 use Rattle.relation_terms.specs.declared.terms.enums.Variance.{Variance}
@@ -21,6 +21,8 @@ use Rattle.type_relations.specs.Stores.{Store, InContext, IsTermIn, IsSound}
 use Rattle.type_relations.specs.Steps.{ChangesNothing, EntersForall}
 use Rattle.type_relations.specs.Measures.{Goes}
 use Rattle.type_relations.specs.Generalising.{MakesUnbound, makes_none}
+use Rattle.type_relations.specs.Covered.{IsCovered}
+use Rattle.type_relations.specs.Bound.{BindsByList}
 use Rattle.type_relations.specs.Lawful.{State, Asked, items_of}
 use Rattle.type_relations.specs.Goals.{goals_of}
 use Rattle.type_relations.specs.Contexts.{Context}
@@ -39,18 +41,23 @@ use Rattle.type_relations.proofs.OpeningBoth.{changes_made, opened_goes, body_sc
 use Rattle.type_relations.proofs.OpeningBoth.{BothOpened, both_opened, bodies_smaller}
 
 -- A body in which something is bound outside uses what its binder binds.
-one_uses : (t u : Tree) → bound_var_escapes t || bound_var_escapes u ≡ true → StaysWithin 0 t × StaysWithin 0 u → ⊥
+one_uses : (t u : Tree) → (bound_var_escapes t || bound_var_escapes u) ≡ true → StaysWithin 0 t × StaysWithin 0 u → ⊥
 one_uses t u h w = go (bound_var_escapes t) (bound_var_escapes u) (within_none 0 t w.0) (within_none 0 u w.1) h
   where
-    go : (b d : Bool) → b ≡ false → d ≡ false → b || d ≡ true → ⊥
+    go : (b d : Bool) → b ≡ false → d ≡ false → (b || d) ≡ true → ⊥
     go false false p q e = false≢true e
     go true d p q e = false≢true (sym p)
     go false true p q e = false≢true (sym q)
 
-none_uses : (t u : Tree) → bound_var_escapes t || bound_var_escapes u ≡ false → StaysWithin 0 t × StaysWithin 0 u
+none_uses : (t u : Tree) → (bound_var_escapes t || bound_var_escapes u) ≡ false → StaysWithin 0 t × StaysWithin 0 u
 none_uses t u h =
     let o = or_parts (bound_var_escapes t) (bound_var_escapes u) h in
     (none_escapes 0 t o.0, none_escapes 0 u o.1)
+
+-- What is covered binds by its list.
+pub covered_binds : (t : Tree) → IsCovered t → BindsByList t
+covered_binds (bind ks t) c = c.0
+covered_binds t c = tt
 
 -- Two rounds relate two binders only at invariance, where a body uses what its binder binds.
 two_rounds : (v : Variance) (t u : Tree) → v ≡ Invariant → (StaysWithin 0 t × StaysWithin 0 u → ⊥) →
@@ -67,25 +74,21 @@ covariant_apart h = cc
 contravariant_apart : Contravariant ≢ Invariant
 contravariant_apart h = cc
 
--- The round after one that relates the binders.
-pub last_round : (n : ℕ) → 0 < n → n < 2 → n ≡ 1
-last_round n h k = omega arith
+-- Of two rounds the one that is not the first.
+pub other_round : (n : ℕ) → n < 2 → (n ≡ 0 → ⊥) → n ≡ 1
+other_round n below o = omega (arith, below, o)
 
-pub no_round : (v : Variance) (n : ℕ) → v ≢ Bivariant → n < 2 → ((n ≡ 0) × ((v ≡ Covariant) ⊎ (v ≡ Invariant)) → ⊥) →
+no_round : (n : ℕ) → n < 2 → (n ≡ 0 → ⊥) → (n ≡ 1 → ⊥) → ⊥
+no_round n below o p = omega (arith, below, o, p)
+
+-- Where a round opens neither binder first it is the other one, and one round relates both.
+pub opens_neither : (v : Variance) (n : ℕ) → v ≢ Bivariant → n < 2 →
+    ((n ≡ 0) × ((v ≡ Covariant) ⊎ (v ≡ Invariant)) → ⊥) →
     (((n ≡ 0) × (v ≡ Contravariant)) ⊎ ((n ≡ 1) × (v ≡ Invariant)) → ⊥) → (n ≡ 1) × (v ≢ Invariant)
-no_round Covariant n d below s f = (last_round n (first n (λ h. s (h, inl refl))) below, covariant_apart)
-  where
-    first : (n : ℕ) → (n ≡ 0 → ⊥) → 0 < n
-    first n o = omega (arith, o)
-no_round Contravariant n d below s f = (last_round n (first n (λ h. f (inl (h, refl)))) below, contravariant_apart)
-  where
-    first : (n : ℕ) → (n ≡ 0 → ⊥) → 0 < n
-    first n o = omega (arith, o)
-no_round Invariant n d below s f = absurd (none n below (λ h. s (h, inr refl)) (λ h. f (inr (h, refl))))
-  where
-    none : (n : ℕ) → n < 2 → (n ≡ 0 → ⊥) → (n ≡ 1 → ⊥) → ⊥
-    none n b o p = omega (arith, b, o, p)
-no_round Bivariant n d below s f = absurd (d refl)
+opens_neither Covariant n d below s f = (other_round n below (λ h. s (h, inl refl)), covariant_apart)
+opens_neither Contravariant n d below s f = (other_round n below (λ h. f (inl (h, refl))), contravariant_apart)
+opens_neither Invariant n d below s f = absurd (no_round n below (λ h. s (h, inr refl)) (λ h. f (inr (h, refl))))
+opens_neither Bivariant n d below s f = absurd (d refl)
 
 module _ {Key Id Name : Type 0} where
   -- A known binder keeps its tree while the interner grows.
@@ -122,9 +125,10 @@ module _ {Key Id Name : Type 0} where
   opens_from c d e (Some ks) None t u x y z same f g = absurd g
   opens_from c d e None p t u x y z same f g = absurd f
 
-  pub refused_first : (c d : Context Key Id Name) → d.store ≡ c.store →
-      (middle : Store) × ChangesNothing c.store middle × MakesUnbound middle.universe middle d.store
-  refused_first c d same =
+  pub refused_first : (c d : Context Key Id Name) {K F : Type 0} (tree : Meaning Key Id Name → K → Tree) (t u : Tree)
+      (r : Result (K × K) F) → IsErr r → d.store ≡ c.store → OpensBoth c d tree t u r
+  refused_first c d tree t u (Ok x) h same = absurd (false≢true h)
+  refused_first c d tree t u (Err f) h same =
       (c.store, same_changes c.store, subst (MakesUnbound (c.store).universe c.store) (sym same) makes_none)
 
 -- The relation of a context before opening and after it.
@@ -213,11 +217,12 @@ module _ {Key Id Name : Type 0} (j : ℕ) (gs : List (KeyedGoal Key (PredicateKe
             (both.first (items_of c.meaning) ((c.meaning).param_env e) v (goals_of c.meaning gs))
 
   -- The same of what a context's calls say.
-  module _ {T F : Type 0} (env : KnowsGoals c.meaning e gs) (sound : IsSound c.store) (grows : Grows c d) (round : ℕ)
+  module _ {T : Type 0} (env : KnowsGoals c.meaning e gs) (sound : IsSound c.store) (grows : Grows c d) (round : ℕ)
       (t u : Tree) (tree : Meaning Key Id Name → T → Tree) (x y : T)
-      (some : bound_var_escapes t || bound_var_escapes u ≡ true) where
+      (some : (bound_var_escapes t || bound_var_escapes u) ≡ true) where
     pub opens_second : (o p : Option (List BoundKind)) → Asked solver_manner before v (under o t) (under p u) →
-        OpensBoth {F = F} c d tree (under p u) (under o t) (Ok (y, x)) → round ≡ 0 →
+        IsTrue (known (tree d.meaning y)) × IsTrue (known (tree d.meaning x)) ×
+        OpensFrom c d (under p u) (under o t) (tree d.meaning y) (tree d.meaning x) → round ≡ 0 →
         (v ≡ Covariant) ⊎ (v ≡ Invariant) →
         Opened solver_manner before after round (under o t) (under p u) (tree d.meaning) (Ok (Some (x, y)))
     opens_second (Some ks) (Some ls) k h zero_round at_variance =
@@ -231,7 +236,8 @@ module _ {Key Id Name : Type 0} (j : ℕ) (gs : List (KeyedGoal Key (PredicateKe
     opens_second None p k h zero_round at_variance = absurd (false≢true k.left_known)
 
     pub opens_first : (o p : Option (List BoundKind)) → Asked solver_manner before v (under o t) (under p u) →
-        OpensBoth {F = F} c d tree (under o t) (under p u) (Ok (x, y)) →
+        IsTrue (known (tree d.meaning x)) × IsTrue (known (tree d.meaning y)) ×
+        OpensFrom c d (under o t) (under p u) (tree d.meaning x) (tree d.meaning y) →
         ((round ≡ 0) × (v ≡ Contravariant)) ⊎ ((round ≡ 1) × (v ≡ Invariant)) →
         Opened solver_manner before after round (under o t) (under p u) (tree d.meaning) (Ok (Some (x, y)))
     opens_first (Some ks) (Some ls) k h at_variance =
@@ -257,7 +263,7 @@ module _ {Key Id Name T : Type 0} (j : ℕ) (gs : List (KeyedGoal Key (Predicate
 
   -- Nothing is opened, and the bodies are related as they stand.
   pub opens_none : (o p : Option (List BoundKind)) → Asked solver_manner there v (under o t) (under p u) →
-      v ≢ Bivariant → IsSound c.store → bound_var_escapes t || bound_var_escapes u ≡ false → round ≡ 0 → (x y : T) →
+      v ≢ Bivariant → IsSound c.store → (bound_var_escapes t || bound_var_escapes u) ≡ false → round ≡ 0 → (x y : T) →
       tree x ≡ t → tree y ≡ u →
       Opened solver_manner there there round (under o t) (under p u) tree (Ok (Some (x, y)))
   opens_none (Some ks) (Some ls) k decides sound none zero_round x y p q =
@@ -285,14 +291,14 @@ module _ {Key Id Name T : Type 0} (j : ℕ) (gs : List (KeyedGoal Key (Predicate
 
   -- Nothing is left after a round that relates the binders.
   pub no_more : (o p : Option (List BoundKind)) → Asked solver_manner there v (under o t) (under p u) → round ≡ 1 →
-      (v ≢ Invariant) ⊎ (bound_var_escapes t || bound_var_escapes u ≡ false) →
+      (v ≢ Invariant) ⊎ ((bound_var_escapes t || bound_var_escapes u) ≡ false) →
       Opened solver_manner there there round (under o t) (under p u) tree (Ok None)
-  no_more (Some ks) (Some ls) k one_round h = opened j gs c c v e env grows (goes_nowhere 0 c.store) round (bind ks t)
-      (bind ls u) tree (Ok None) (one_round, go h)
+  no_more (Some ks) (Some ls) k is_last h = opened j gs c c v e env grows (goes_nowhere 0 c.store) round (bind ks t)
+      (bind ls u) tree (Ok None) (is_last, go h)
     where
-      go : (v ≢ Invariant) ⊎ (bound_var_escapes t || bound_var_escapes u ≡ false) →
+      go : (v ≢ Invariant) ⊎ ((bound_var_escapes t || bound_var_escapes u) ≡ false) →
           OneRound v (bind ks t) (bind ls u)
       go (inl n) = inl n
       go (inr n) = inr (none_uses t u n)
-  no_more (Some ks) None k one_round h = absurd (false≢true k.right_known)
-  no_more None p k one_round h = absurd (false≢true k.left_known)
+  no_more (Some ks) None k is_last h = absurd (false≢true k.right_known)
+  no_more None p k is_last h = absurd (false≢true k.left_known)
