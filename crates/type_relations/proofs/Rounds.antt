@@ -3,7 +3,8 @@ use Rattle.std.proofs.Common.{◌≡◌, ◌≢◌, ℕ, zero, suc, ◌+◌, ◌
 use Rattle.std.proofs.Common.{inl, List, [], ◌++◌, IsTrue, Result, Ok, Err, Option, Some, None}
 use Rattle.std.proofs.lemmas.List.{append-nil}
 use Rattle.relation_terms.specs.declared.terms.enums.Variance.{Variance}
-use Rattle.relation_terms.specs.declared.terms.enums.Variance.TheVariants.{Covariant, Contravariant, Invariant, Bivariant}
+use Rattle.relation_terms.specs.declared.terms.enums.Variance.TheVariants.{Covariant, Contravariant, Invariant}
+use Rattle.relation_terms.specs.declared.terms.enums.Variance.TheVariants.{Bivariant}
 use Rattle.relation_terms.specs.declared.terms.part_kind.Part.{Part}
 use Rattle.relation_terms.specs.declared.terms.part_kind.Part.TheVariants.{Binder}
 use Rattle.relation_terms.specs.Heads.{BoundKind}
@@ -25,11 +26,17 @@ use Rattle.type_relations.specs.Parts.{IsBinderPart}
 use Rattle.type_relations.specs.Rounds.{OneRound, StepsToBodies, RoundSteps, one_round, first_round, second_round}
 use Rattle.type_relations.specs.Rounds.{RoundLeads, Opened}
 use Rattle.type_relations.proofs.Standing.{term_context}
-use Rattle.type_relations.proofs.Going.{grown-mono, le_grown, le_square, weight_cons, depth-strict, depth_later}
+use Rattle.type_relations.proofs.Going.{grown-mono, le_grown, depth-strict, depth_later}
 use Rattle.type_relations.proofs.Answering.{may_itself}
 use Rattle.type_relations.proofs.Composing.{steps_compose, values_still}
-use Rattle.type_relations.proofs.Opening.{binder_kinds, binder_bodies, two_rounds_relate}
+use Rattle.type_relations.proofs.Opening.{two_rounds_relate}
 use Rattle.type_relations.proofs.Passing.{passes_then, stopped, asked_later, outcome_seen}
+
+binder_kinds : {ks ls : List BoundKind} {a b : Tree} → bind ks a ≡ bind ls b → ks ≡ ls
+binder_kinds e = cc
+
+binder_bodies : {ks ls : List BoundKind} {a b : Tree} → bind ks a ≡ bind ls b → a ≡ b
+binder_bodies e = cc
 
 -- Two binders.
 abbrev AreBinders : Tree → Tree → Type 0
@@ -70,7 +77,8 @@ renamed P {ks} {ls} {ks'} {ls'} {t} {u} {t'} {u'} p q h =
     (subst₂ (λ x y. P ks ls x y) (binder_bodies p) (binder_bodies q) h)
 
 -- The body of a binder is over the context's variables.
-body_context : (st : Store) (a : Tree) (ks : List BoundKind) (t : Tree) → a ≡ bind ks t → InContext st a → InContext st t
+body_context : (st : Store) (a : Tree) (ks : List BoundKind) (t : Tree) → a ≡ bind ks t → InContext st a →
+    InContext st t
 unfolding InContext
 body_context st a ks t e h = subst (InContext st) e h
 
@@ -78,8 +86,12 @@ body_context st a ks t e h = subst (InContext st) e h
 square_apart : (m d : ℕ) → m * m + d ≤ (m + d) * (m + d)
 square_apart m d =
     let e : (m + d) * (m + d) ≡ m * m + (m * d + m * d) + d * d = grind arith in
-    let s = le_square d in
+    let s = square d in
     omega (arith, e, s)
+  where
+    square : (n : ℕ) → n ≤ n * n
+    square zero = omega arith
+    square (suc n) = let e : suc n * suc n ≡ n * n + n + n + 1 = grind arith in omega (arith, e)
 
 grown_apart : (j m d : ℕ) → grown j m + d ≤ grown j (m + d)
 grown_apart zero m d = omega arith
@@ -96,6 +108,10 @@ grown_next j n l =
     let up : grown j (n * n + 3) ≤ grown j (suc n * suc n) =
     grown-mono j (n * n + 3) (suc n * suc n) (omega (arith, e, l)) in
     omega (arith, i, up)
+
+weight_cons : (st : Store) (t u : Tree) → weight st (cons t u) ≡ weight st t + weight st u + 1
+unfolding weight
+weight_cons st t u = omega arith
 
 weight_bind : (st : Store) (ks : List BoundKind) (t : Tree) → weight st (bind ks t) ≡ weight st t + 2
 unfolding weight
@@ -161,7 +177,7 @@ both_rounds c e v before middle after earlier first others ks ls a b is ina inb 
     (subst (λ z. Outcome c e (first_opened ks ls z) middle after (earlier ++ first) others a b) is g))
 
 -- What relating the bodies of round 0 did for two binders: all of it, or the first of two rounds.
-data Begun (c : Items) (e : Tree) (v : Variance) (before after : Store) (earlier added : List Goal) (a b : Tree) :
+pub data Begun (c : Items) (e : Tree) (v : Variance) (before after : Store) (earlier added : List Goal) (a b : Tree) :
     Type 0 where
   wholly : OneRound v a b → Outcome c e (at v) before after earlier added a b →
       Begun c e v before after earlier added a b
@@ -176,25 +192,6 @@ pub record HalfDone {Key Id Name : Type 0} (r p : State Key Id Name) (a b : Tree
       grown (passes.goes).spent (weight r.store a + weight r.store b)
 
 module _ {Key Id Name : Type 0} where
-  -- A round of values is told as one of others that have their trees.
-  pub opened_some : {T U : Type 0} {r q : State Key Id Name} (M : Manners) (n : ℕ) (a b : Tree) (tree : T → Tree)
-      (other : U → Tree) (x y : T) (u v : U) → other u ≡ tree x → other v ≡ tree y →
-      Opened M r q n a b tree (Ok (Some (x, y))) → Opened M r q n a b other (Ok (Some (u, v)))
-  opened_some {r = r} {q = q} M n a b tree other x y u v i j o = record {
-    passes = o.passes;
-    verdict = subst₂ (λ s t. RoundLeads M r q (o.passes).added n a b s t) (sym i) (sym j) o.verdict;
-  }
-
-  pub opened_none : {T U : Type 0} {r q : State Key Id Name} (M : Manners) (n : ℕ) (a b : Tree) (tree : T → Tree)
-      (other : U → Tree) → Opened M r q n a b tree (Ok None) → Opened M r q n a b other (Ok None)
-  opened_none M n a b tree other o = record { passes = o.passes; verdict = o.verdict }
-
-  pub opened_not : {T U : Type 0} {r q : State Key Id Name} (M : Manners) (n : ℕ) (a b : Tree) (tree : T → Tree)
-      (other : U → Tree) (f : RelateFault Key Id Name) → Opened M r q n a b tree (Err f) →
-      Opened M r q n a b other (Err f)
-  opened_not M n a b tree other Memory o = record { passes = o.passes; verdict = tt }
-  opened_not M n a b tree other f o = absurd o.verdict
-
   -- Opening was refused in round 0.
   pub opening_refused : {T X : Type 0} {r q : State Key Id Name} (M : Manners) (n : ℕ) (a b : Tree) (tree : T → Tree)
       (answer : X → Tree) → (IsFirstOrder a → ⊥) → (f : RelateFault Key Id Name) → Opened M r q n a b tree (Err f) →
@@ -258,13 +255,14 @@ module _ {Key Id Name : Type 0} where
     room = room (passes_then g f.passes (round_small M 0 a b x y g l)) (binders l.steps);
   }
     where
-      bodies : Outcome (items_in r) r.environment (at r.ambient) q.store p.store (r.goals ++ g.added) (f.passes).added x y
+      bodies : Outcome (items_in r) r.environment (at r.ambient) q.store p.store (r.goals ++ g.added)
+          (f.passes).added x y
       bodies = outcome_seen g (at r.ambient) p.store (f.passes).added x y (f.verdict).outcome
 
       begun : RoundSteps r q g.added 0 a b x y →
           Begun (items_in r) r.environment r.ambient r.store p.store r.goals (g.added ++ (f.passes).added) a b
-      begun (one_round e o s) = wholly o ((steps_compose (items_in r) r.environment (at r.ambient) (at r.ambient) r.store
-          q.store p.store r.goals g.added (f.passes).added a b x y s).0 bodies)
+      begun (one_round e o s) = wholly o ((steps_compose (items_in r) r.environment (at r.ambient) (at r.ambient)
+          r.store q.store p.store r.goals g.added (f.passes).added a b x y s).0 bodies)
       begun (first_round {ks} {ls} {t} {u} e o i j s) = by_half o i j ((steps_compose (items_in r) r.environment
           (second_opened ks ls r.ambient) (at r.ambient) r.store q.store p.store r.goals g.added (f.passes).added
           t u x y s).0 bodies)
@@ -297,8 +295,8 @@ module _ {Key Id Name : Type 0} where
       (asked_later M r.ambient (part_tree r.meaning a) (part_tree r.meaning b) h.passes k))
 
   -- Opening was refused in round 1.
-  pub reopening_refused : {T X : Type 0} {r p q : State Key Id Name} (M : Manners) (n : ℕ) (a b : Tree) (tree : T → Tree)
-      (answer : X → Tree) → (IsFirstOrder a → ⊥) → HalfDone r p a b → (f : RelateFault Key Id Name) →
+  pub reopening_refused : {T X : Type 0} {r p q : State Key Id Name} (M : Manners) (n : ℕ) (a b : Tree)
+      (tree : T → Tree) (answer : X → Tree) → (IsFirstOrder a → ⊥) → HalfDone r p a b → (f : RelateFault Key Id Name) →
       Opened M p q n a b tree (Err f) → Related {X = X} M r q r.ambient a b answer (Err f)
   reopening_refused {r = r} M n a b tree answer no h Memory o =
       stopped M r.ambient a b answer (passes_then h.passes o.passes h.room) (λ k is pair. absurd (no pair.left))
@@ -379,13 +377,13 @@ module _ {Key Id Name : Type 0} where
         (both_rounds (items_in r) r.environment r.ambient r.store p.store z.store r.goals (h.passes).added
         (added ++ f.added) ks ls t u (two_rounds_variance r.ambient ks ls a b t u i' j' two)
         (body_context r.store a ks t i' ina) (body_context r.store b ls u j' inb) half
-        (subst (λ v. Outcome (items_in r) r.environment (first_opened ks ls v) p.store z.store (r.goals ++ (h.passes).added)
-        (added ++ f.added) t u) (h.passes).ambient
+        (subst (λ v. Outcome (items_in r) r.environment (first_opened ks ls v) p.store z.store
+        (r.goals ++ (h.passes).added) (added ++ f.added) t u) (h.passes).ambient
         (outcome_seen h.passes (first_opened ks ls p.ambient) z.store (added ++ f.added) t u opened)))
       where
         bodies : Outcome (items_in p) p.environment (at p.ambient) q.store z.store (p.goals ++ added) f.added x y
-        bodies = subst (λ gs. Outcome (items_in p) p.environment (at p.ambient) q.store z.store (p.goals ++ gs) f.added x y)
-            (sym is) (outcome_seen g (at p.ambient) z.store f.added x y n)
+        bodies = subst (λ gs. Outcome (items_in p) p.environment (at p.ambient) q.store z.store (p.goals ++ gs) f.added
+            x y) (sym is) (outcome_seen g (at p.ambient) z.store f.added x y n)
 
         opened : Outcome (items_in p) p.environment (first_opened ks ls p.ambient) p.store z.store p.goals
             (added ++ f.added) t u
@@ -413,8 +411,8 @@ module _ {Key Id Name : Type 0} where
     second_refuses f sound Memory c = tt
 
     -- The bodies of round 1 were refused, and so are the binders.
-    pub second_refused : {X Y : Type 0} {z : State Key Id Name} (tree : X → Tree) (answer : Y → Tree) → IsSound z.store →
-        (e : RelateFault Key Id Name) → Related M q z p.ambient x y tree (Err e) →
+    pub second_refused : {X Y : Type 0} {z : State Key Id Name} (tree : X → Tree) (answer : Y → Tree) →
+        IsSound z.store → (e : RelateFault Key Id Name) → Related M q z p.ambient x y tree (Err e) →
         Related {X = Y} M r z r.ambient a b answer (Err e)
     second_refused tree answer sound e f = record {
       passes = passes_then h.passes (passes_then g f.passes (round_small M 1 a b x y g l)) h.room;
