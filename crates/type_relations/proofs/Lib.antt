@@ -28,6 +28,8 @@ pub mod Fronts
 pub mod Structural
 pub mod StructuralConsts
 pub mod Looping
+pub mod Rounds
+pub mod Bodies
 pub mod Lists
 pub mod Parts
 pub mod OneParts

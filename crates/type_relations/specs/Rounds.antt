@@ -1,5 +1,5 @@
 -- Opening two binders in rounds: which bodies each round leaves to be related.
-use Rattle.std.specs.Prelude.{◌≡◌, ◌≢◌, ◌⊎◌, ◌+◌, ◌<◌, ℕ, List, Option, Some, None, Result, Ok, Err}
+use Rattle.std.specs.Prelude.{◌≡◌, ◌≢◌, ◌⊎◌, ◌+◌, ◌<◌, ℕ, List, [], Option, Some, None, Result, Ok, Err}
 use Rattle.relation_terms.specs.declared.terms.enums.Variance.{Variance}
 use Rattle.relation_terms.specs.declared.terms.enums.Variance.TheVariants.{Invariant}
 use Rattle.relation_terms.specs.Heads.{BoundKind}
@@ -49,12 +49,13 @@ module _ {Key Id Name : Type 0} where
     pub same_budget : (q.store).budget ≡ (r.store).budget
     pub smaller : weight q.store x + weight q.store y < weight r.store a + weight r.store b
 
-  -- What a round of two binders says: it leads to bodies; nothing is left after one that relates them; or a growth was
-  -- refused.
+  -- What a round of two binders says: it leads to bodies; nothing is left after one that relates them, and nothing was
+  -- recorded or registered; or a growth was refused.
   abbrev pub RoundVerdict : {T : Type 0} → Manners → State Key Id Name → State Key Id Name → List Goal → ℕ → Tree →
       Tree → (T → Tree) → Result (Option (T × T)) (RelateFault Key Id Name) → Type 0
   RoundVerdict M r q added round a b tree (Ok (Some p)) = RoundLeads M r q added round a b (tree p.0) (tree p.1)
-  RoundVerdict M r q added round a b tree (Ok None) = (round ≡ 1) × OneRound r.ambient a b
+  RoundVerdict M r q added round a b tree (Ok None) =
+      (round ≡ 1) × OneRound r.ambient a b × (q.store ≡ r.store) × (added ≡ [])
   RoundVerdict {T} M r q added round a b tree (Err f) = OnlyMemory {X = T} (Err f)
 
   -- A round was begun.

@@ -46,15 +46,20 @@ decreases-relate_in_order g l =
     let r = g.R.TypeRelation.state l.r.now in
     8 * depth (r.store).budget (weight r.store (part_tree r.meaning l.a.now) + weight r.store (part_tree r.meaning l.b.now))
 
-abbrev pub decreases-pats : goal.decreases-pats
-decreases-pats g l =
-    let r = g.R.TypeRelation.state l.r.now in
-    8 * depth (r.store).budget (weight r.store ((r.meaning).pat l.a.now) + weight r.store ((r.meaning).pat l.b.now)) + 1
-
 abbrev pub decreases-relate_parts : goal.decreases-relate_parts
 decreases-relate_parts g l =
     let r = g.R.TypeRelation.state l.r.now in
-    8 * depth (r.store).budget (weight r.store (part_tree r.meaning l.a.now) + weight r.store (part_tree r.meaning l.b.now)) + 3
+    8 * depth (r.store).budget (weight r.store (part_tree r.meaning l.a.now) + weight r.store (part_tree r.meaning l.b.now)) + 5
+
+abbrev pub decreases-relate_parts_with_variance : goal.decreases-relate_parts_with_variance
+decreases-relate_parts_with_variance g l =
+    let r = g.R.TypeRelation.state l.r.now in
+    8 * depth (r.store).budget (weight r.store (part_tree r.meaning l.a.now) + weight r.store (part_tree r.meaning l.b.now)) + 6
+
+abbrev pub decreases-binders : goal.decreases-binders
+decreases-binders g l =
+    let r = g.R.TypeRelation.state l.r.now in
+    8 * depth (r.store).budget (weight r.store (part_tree r.meaning l.a.now) + weight r.store (part_tree r.meaning l.b.now)) + 4
 
 abbrev pub invariant-structurally_relate_tys-loop-i : goal.invariant-structurally_relate_tys-loop-i
 invariant-structurally_relate_tys-loop-i g l =
