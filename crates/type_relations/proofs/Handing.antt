@@ -1,8 +1,14 @@
 -- What an error of two parts is as the error of the terms, and arguments of two kinds.
-use Rattle.std.proofs.Common.{◌≡◌, refl, sym, subst, IsTrue}
+use Rattle.std.proofs.Common.{◌≡◌, ℕ, zero, suc, ◌<◌, Bool, refl, sym, ap, ◌∙◌, subst, subst₂, arith, IsTrue, Option, Some, None, [], ◌∷◌}
+use Rattle.relation_terms.specs.declared.terms.enums.Variance.{Variance}
+use Rattle.relation_terms.specs.declared.terms.enums.Safety.{Safety}
+use Rattle.relation_terms.specs.declared.terms.enums.ExternAbi.{ExternAbi}
 use Rattle.relation_terms.specs.Heads.{Sort, Admits, region_sort, type_sort, const_sort, var_sort}
 use Rattle.relation_terms.specs.Heads.{head_sort, array, variable, bound, placeholder, atom, unknown}
-use Rattle.relation_terms.specs.Trees.{Tree, leaf, node, Assign, apply, IsTerm, known}
+use Rattle.relation_terms.specs.Heads.{inputs_sort, atom_sort, bound_sort, term_of, row, Atom, bool_type, Head, pattern_type}
+use Rattle.relation_terms.specs.Heads.{range_pattern, or_pattern, fn_ptr, unsafe_binder, dynamic, object, signature, inputs}
+use Rattle.relation_terms.specs.Heads.{existential_trait, existential_projection}
+use Rattle.relation_terms.specs.Trees.{Tree, leaf, node, nil, cons, Assign, apply, IsTerm, Fits, known, count, nth}
 use Rattle.relation_terms.specs.Meaning.{Meaning, arg_tree, kind_tree}
 use Rattle.relation_terms.specs.declared.terms.ty_kind.TyKind.{TyKind}
 use Rattle.relation_terms.specs.declared.terms.ty_kind.TyKind.TheVariants.{Array, Infer}
@@ -14,14 +20,23 @@ use Rattle.relation_terms.specs.declared.terms.generic_arg.GenericArgKind.{Gener
 use Rattle.relation_terms.specs.declared.terms.generic_arg.GenericArgKind.TheVariants.{Lifetime, Ty, Const}
 use Rattle.relation_tools.specs.declared.error.ExpectedFound.{ExpectedFound}
 use Rattle.relation_tools.specs.declared.error.TypeError.{TypeError}
-use Rattle.relation_tools.specs.declared.error.TypeError.TheVariants.{ConstMismatch}
+use Rattle.relation_tools.specs.declared.error.TypeError.TheVariants.{ConstMismatch, Sorts, ArgumentSorts}
+use Rattle.relation_tools.specs.declared.error.TypeError.TheVariants.{Mutability, ArgumentMutability}
 use Rattle.relation_tools.specs.declared.error.RelateFault.{RelateFault}
 use Rattle.relation_tools.specs.declared.error.RelateFault.TheVariants.{Unrelated}
 use Rattle.relation_tools.specs.Faults.{KnowsFault}
-use Rattle.type_relations.specs.Relation.{sort_of}
+use Rattle.type_relations.specs.Relation.{Items, part_at, sort_of}
 use Rattle.type_relations.specs.Stores.{Store, IsAssignment, InContext}
+use Rattle.type_relations.specs.Errors.{ErrorOf, of_parts, of_inputs, of_outputs, IsHandedOn, IsPlaced, NamesNoPlace}
+use Rattle.type_relations.specs.Errors.{sorts_at, argument_sorts_at, mutability_at, argument_mutability_at, AreOfOneForm}
+use Rattle.type_relations.specs.Errors.{over_parts, one_leaf, parameters}
+use Rattle.type_relations.specs.Parts.{parts_of, head_of, IsByParts}
 use Rattle.type_relations.proofs.Standing.{stands_term}
+use Rattle.type_relations.proofs.Patterns.{no_argument, var_argument, bound_argument}
+use Rattle.type_relations.proofs.PartPlaces.{two_shape}
 use Rattle.type_relations.specs.Handing.{IsPassedOn, IsNoLength, IsFaultOfTy, passed, sized, IsFaultOfConst, passed_const, whole}
+use Rattle.type_relations.specs.Handing.{named_place, IsFaultOfPart, no_place, no_error, unplaced, placed}
+use Rattle.relation_tools.specs.Faults.{KnowsError}
 use Rattle.type_relations.proofs.OneParts.{sort_is}
 
 -- The fault names what is known.
@@ -127,3 +142,116 @@ module _ {Key Id Name : Type 0} where
   pub passed_fault : (f : RelateFault Key Id Name) (t : Tree) (x y : GenericArgKind Key) → ((e : TypeError Key Id Name) → f ≡ Unrelated e → ⊥) → IsPassedOn f t x y
   passed_fault (Unrelated e) t x y o = absurd (o e refl)
   passed_fault f t x y o = tt
+
+-- A list of inputs, and the parts of a signature.
+inputs_shape : (t : Tree) → IsTerm inputs_sort t → (ts : Tree) × (t ≡ node inputs ts)
+inputs_shape (node h ts) f = (ts, ap (λ z. node z ts) (is_inputs h f.0))
+  where
+    is_inputs : (h : Head) → Admits inputs_sort (head_sort h) → h ≡ inputs
+    is_inputs inputs a = refl
+    is_inputs h a = absurd a
+inputs_shape (leaf (variable v n)) f = absurd (no_argument inputs_sort (var_sort v) tt (var_argument v) f)
+inputs_shape (leaf (bound q d i)) f = absurd (no_argument inputs_sort (bound_sort q) tt (bound_argument q) f)
+inputs_shape (leaf (placeholder q u n)) f = absurd (no_argument inputs_sort (bound_sort q) tt (bound_argument q) f)
+inputs_shape (leaf (atom x)) f = absurd (no_inputs x f)
+  where
+    no_inputs : (x : Atom) → Admits inputs_sort (atom_sort x) → ⊥
+    no_inputs bool_type a = a
+    no_inputs x a = a
+inputs_shape (leaf unknown) f = absurd f
+inputs_shape t f = absurd f
+
+-- What the parts of a signature are.
+signature_shape : (ts : Tree) → Fits (row (term_of inputs_sort ∷ term_of type_sort ∷ []) None) ts →
+    (p : Tree) × (u : Tree) × (ts ≡ cons (node inputs p) (cons u nil))
+signature_shape ts f =
+    let (t, u, e, g, h) = two_shape inputs_sort type_sort ts f in
+    let (p, q) = inputs_shape t g in
+    (p, u, e ∙ ap (λ z. cons z (cons u nil)) q)
+
+-- An error of the parts at a place is the whole's where no place is named.
+module _ {Key Id Name : Type 0} (e : TypeError Key Id Name) where
+  pub term_handed : (s : Sort) (h : Head) (ts : Tree) (i : ℕ) (t u : Tree) → IsTerm s (node h ts) →
+      IsByParts (node h ts) → named_place (node h ts) i ≡ None → IsHandedOn e h i t u
+  term_handed s pattern_type ts i t u f o n = tt
+  term_handed s range_pattern ts i t u f o n = tt
+  term_handed s or_pattern ts i t u f o n = tt
+  term_handed s fn_ptr ts i t u f o n = tt
+  term_handed s unsafe_binder ts i t u f o n = tt
+  term_handed s dynamic ts i t u f o n = tt
+  term_handed s object ts i t u f o n = tt
+  term_handed s (signature x z k) ts zero t u f o n = tt
+  term_handed s (signature x z k) ts (suc i) t u f o n =
+      let (p, w, q) = signature_shape ts f.1 in
+      let named : Some (count p) ≡ None = subst (λ y. named_place (node (signature x z k) y) (suc i) ≡ None) q n in
+      absurd (cc)
+  term_handed s inputs ts i t u f o n = absurd (cc)
+  term_handed s (existential_trait d) ts i t u f o n = tt
+  term_handed s (existential_projection d) ts i t u f o n = tt
+  term_handed s h ts i t u f o n = absurd o
+
+  pub term_unplaced : (h : Head) (ts : Tree) (i : ℕ) (t u : Tree) → IsByParts (node h ts) → NamesNoPlace e →
+      IsHandedOn e h i t u
+  term_unplaced pattern_type ts i t u o n = tt
+  term_unplaced range_pattern ts i t u o n = tt
+  term_unplaced or_pattern ts i t u o n = tt
+  term_unplaced fn_ptr ts i t u o n = tt
+  term_unplaced unsafe_binder ts i t u o n = tt
+  term_unplaced dynamic ts i t u o n = tt
+  term_unplaced object ts i t u o n = tt
+  term_unplaced (signature x s k) ts zero t u o n = tt
+  term_unplaced (signature x s k) ts (suc i) t u o n = n
+  term_unplaced inputs ts i t u o n = n
+  term_unplaced (existential_trait d) ts i t u o n = tt
+  term_unplaced (existential_projection d) ts i t u o n = tt
+  term_unplaced h ts i t u o n = absurd o
+
+-- At a signature's output both have as many inputs.
+abbrev pub HaveAsManyInputs : Tree → Tree → ℕ → Type 0
+HaveAsManyInputs (node (signature x s k) (cons (node inputs p) us)) (node (signature y t l) (cons (node inputs q) ws)) (suc i) =
+    count p ≡ count q
+HaveAsManyInputs a b i = Unit {0}
+
+module _ {Key Id Name : Type 0} (m : Meaning Key Id Name) (c : Items) (st : Store) (v : Variance) where
+  output_error : {x : Bool} {s : Safety} {w : ExternAbi} (p q t u a b : Tree) →
+      a ≡ node (signature x s w) (cons (node inputs p) (cons t nil)) →
+      b ≡ node (signature x s w) (cons (node inputs q) (cons u nil)) → (i j : ℕ) → i < 2 →
+      HaveAsManyInputs (node (signature x s w) (cons (node inputs p) (cons t nil)))
+      (node (signature x s w) (cons (node inputs q) (cons u nil))) i →
+      named_place (node (signature x s w) (cons (node inputs p) (cons t nil))) i ≡ Some j →
+      (e d : TypeError Key Id Name) → IsPlaced j e d →
+      ErrorOf m c st (part_at c (signature x s w) i v) e (nth i (cons (node inputs p) (cons t nil)))
+      (nth i (cons (node inputs q) (cons u nil))) → ErrorOf m c st v d a b
+  output_error p q t u a b da db zero j l n named e d is h = absurd (cc)
+  output_error p q t u a b da db (suc zero) j l n named e d is h =
+      let same : j ≡ count p = cc in
+      of_outputs da db n h (subst (λ z. IsPlaced z e d) same is)
+  output_error p q t u a b da db (suc (suc i)) j l n named e d is h = absurd (omega (arith, l))
+
+  module _ (k l : Sort) (a b : Tree) (i : ℕ) (f : IsTerm k a) (g : IsTerm l b) (o : IsByParts a)
+      (one : AreOfOneForm a b) (lx : i < count (parts_of a)) (x y : Tree) (ex : x ≡ nth i (parts_of a))
+      (ey : y ≡ nth i (parts_of b)) (many : HaveAsManyInputs a b i) where
+    -- What two terms say where their parts at a place are refused.
+    pub part_complains : (e : TypeError Key Id Name) (r : RelateFault Key Id Name) →
+        IsFaultOfPart a i (Unrelated e) r → ErrorOf m c st (part_at c (head_of a) i v) e x y →
+        (d : TypeError Key Id Name) × (r ≡ Unrelated d) × ErrorOf m c st v d a b
+    part_complains e r is h = ?
+
+module _ {Key Id Name : Type 0} (t : Tree) (i : ℕ) (f r : RelateFault Key Id Name) where
+  -- A fault that is no error stays, and an error is one still.
+  pub same_part_fault : IsFaultOfPart t i f r → ((e : TypeError Key Id Name) → f ≡ Unrelated e → ⊥) → r ≡ f
+  same_part_fault (no_place is n) o = is
+  same_part_fault (no_error is n) o = is
+  same_part_fault (unplaced e p n is) o = is
+  same_part_fault (placed e d n p q is) o = absurd (o e p)
+
+  pub part_still_unrelated : (e : TypeError Key Id Name) → f ≡ Unrelated e → IsFaultOfPart t i f r →
+      (d : TypeError Key Id Name) × (r ≡ Unrelated d)
+  part_still_unrelated e p (no_place is n) = (e, is ∙ p)
+  part_still_unrelated e p (no_error is n) = (e, is ∙ p)
+  part_still_unrelated e p (unplaced d q n is) = (e, is ∙ p)
+  part_still_unrelated e p (placed z d n q w is) = (d, is)
+
+  -- It names what is known.
+  pub part_fault_known : (m : Meaning Key Id Name) → IsFaultOfPart t i f r → KnowsFault m f → KnowsFault m r
+  part_fault_known m h k = ?
