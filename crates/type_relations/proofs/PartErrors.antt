@@ -1,5 +1,7 @@
 -- Terms that are related by their parts: when two are unified, and the errors of two that are not of one form.
-use Rattle.std.proofs.Common.{◌≡◌, ◌≢◌, ◌↔◌, ℕ, zero, suc, ◌<◌, refl, sym, ap, ◌∙◌, subst, subst₂, arith, List, [], ◌∷◌, IsTrue, Some, None}
+use Rattle.std.proofs.Common.{◌≡◌, ◌≢◌, ◌↔◌, ℕ, zero, suc, ◌<◌, refl, sym, ap, ◌∙◌, subst, subst₂, arith, List, [], ◌∷◌, IsTrue}
+use Rattle.std.proofs.Common.{Option, Some, None}
+use Rattle.std.proofs.lemmas.Bool.{false≢true}
 use Rattle.relation_terms.specs.declared.terms.enums.Safety.{Safety}
 use Rattle.relation_terms.specs.declared.terms.enums.ExternAbi.{ExternAbi}
 use Rattle.relation_terms.specs.declared.terms.enums.Variance.{Variance}
@@ -11,7 +13,7 @@ use Rattle.relation_terms.specs.Heads.{BoundKind, Atom, not_null_pattern, existe
 use Rattle.relation_terms.specs.Trees.{Tree, leaf, node, bind, nil, cons, Assign, apply, known, IsTerm, IsBinder, IsList, Fits}
 use Rattle.relation_terms.specs.Trees.{count, nth}
 use Rattle.relation_terms.specs.Erasure.{erase, erase_atom}
-use Rattle.relation_terms.specs.Meaning.{Meaning}
+use Rattle.relation_terms.specs.Meaning.{Meaning, under}
 use Rattle.relation_tools.specs.declared.error.TypeError.{TypeError}
 use Rattle.relation_tools.specs.Faults.{KnowsError}
 use Rattle.type_relations.specs.Relation.{at, plain_atom, sort_of}
@@ -137,6 +139,22 @@ members_alike s (bind ks t) (node h us) f g e = absurd g
 members_alike s (bind ks t) nil f g e = absurd g
 members_alike s (bind ks t) (cons u us) f g e = absurd g
 members_alike s t u f g e = absurd f
+
+-- Members are alike just where the predicates under their binders are.
+alike_under : (ks ls : List BoundKind) (a b t u : Tree) → bind ks a ≡ t → bind ls b ≡ u → AreAlikeMembers t u →
+    AreAlikeExistentials a b
+alike_under ks ls a b t u p q (under_binders {a = x} {b = y} d e h) =
+    let left : a ≡ x = (let z = p ∙ d in cc) in
+    let right : b ≡ y = (let z = q ∙ e in cc) in
+    subst₂ AreAlikeExistentials (sym left) (sym right) h
+
+pub members_as : (o q : Option (List BoundKind)) (a b t u : Tree) → under o a ≡ t → under q b ≡ u →
+    IsTrue (known t) → IsTrue (known u) →
+    (AreAlikeExistentials a b → AreAlikeMembers t u) × (AreAlikeMembers t u → AreAlikeExistentials a b)
+members_as (Some ks) (Some ls) a b t u p q k l =
+    (λ h. under_binders (sym p) (sym q) h, λ h. alike_under ks ls a b t u p q h)
+members_as None q a b t u p e k l = absurd (false≢true (subst (λ z. IsTrue (known z)) (sym p) k))
+members_as (Some ks) None a b t u p e k l = absurd (false≢true (subst (λ z. IsTrue (known z)) (sym e) l))
 
 unified_nth : (s : Assign) (ts us : Tree) (i : ℕ) → i < count ts → i < count us → Unifies s ts us →
     Unifies s (nth i ts) (nth i us)
