@@ -1,5 +1,5 @@
 -- What an error of two parts is as the error of the terms, and arguments of two kinds.
-use Rattle.std.proofs.Common.{◌≡◌, ℕ, zero, suc, ◌<◌, Bool, refl, sym, ap, ◌∙◌, subst, subst₂, arith, IsTrue, Option, Some, None, [], ◌∷◌}
+use Rattle.std.proofs.Common.{◌≡◌, ℕ, zero, suc, ◌<◌, Bool, refl, sym, ap, ◌∙◌, subst, subst₂, inl, inr, arith, IsTrue, Option, Some, None, Result, Ok, Err, [], ◌∷◌}
 use Rattle.relation_terms.specs.declared.terms.enums.Variance.{Variance}
 use Rattle.relation_terms.specs.declared.terms.enums.Safety.{Safety}
 use Rattle.relation_terms.specs.declared.terms.enums.ExternAbi.{ExternAbi}
@@ -44,7 +44,7 @@ use Rattle.type_relations.proofs.Standing.{stands_term}
 use Rattle.type_relations.proofs.Patterns.{no_argument, var_argument, bound_argument}
 use Rattle.type_relations.proofs.PartPlaces.{two_shape}
 use Rattle.type_relations.specs.Handing.{IsPassedOn, IsNoLength, IsFaultOfTy, passed, sized, IsFaultOfConst, passed_const, whole}
-use Rattle.type_relations.specs.Handing.{named_place, IsFaultOfPart, no_place, no_error, unplaced, placed}
+use Rattle.type_relations.specs.Handing.{named_place, IsFaultOfPart, IsResultOfPart, IsPlacedOrNot, no_place, no_error, unplaced, placed}
 use Rattle.relation_tools.specs.Faults.{KnowsError}
 use Rattle.type_relations.proofs.OneParts.{sort_is}
 
@@ -236,6 +236,21 @@ module _ {Key Id Name : Type 0} (m : Meaning Key Id Name) (sorted : Sorted m) wh
       let e = sort_known m sorted p k in
       unnamed (part_tree m p) i (λ q. no_inputs p n (sym e ∙ q)) (λ q. first_signature p i o (sym e ∙ q))
 
+-- What two terms answer where no place is named, and what where one is.
+pub no_place_named : (o : Option ℕ) → ((j : ℕ) → o ≡ Some j → ⊥) → o ≡ None
+no_place_named (Some j) n = absurd (n j refl)
+no_place_named None n = refl
+
+pub result_stays : {A Key Id Name : Type 0} (t : Tree) (i : ℕ) (a : Result A (RelateFault Key Id Name)) →
+    named_place t i ≡ None → IsResultOfPart t i a a
+result_stays t i (Ok x) n = refl
+result_stays t i (Err f) n = no_place refl n
+
+pub fault_placed : {Key Id Name : Type 0} (t : Tree) (i j : ℕ) (f : RelateFault Key Id Name) (e d : TypeError Key Id Name) →
+    named_place t i ≡ Some j → f ≡ Unrelated e → IsPlacedOrNot j e d → IsFaultOfPart t i f (Unrelated d)
+fault_placed t i j f e d n p (inl q) = placed {j = j} e d n p q refl
+fault_placed t i j f e d n p (inr q) = unplaced e p q.0 (ap Unrelated q.1 ∙ sym p)
+
 -- Errors that name no place.
 pub names_none : {Key Id Name : Type 0} (e : TypeError Key Id Name) →
     ((p : ExpectedFound (TyKey Key)) → e ≡ Sorts p → ⊥) →
@@ -370,13 +385,20 @@ module _ {Key Id Name : Type 0} (m : Meaning Key Id Name) (c : Items) (st : Stor
     pub part_complains : (e : TypeError Key Id Name) (r : RelateFault Key Id Name) →
         IsFaultOfPart a i (Unrelated e) r → ErrorOf m c st (part_at c (head_of a) i v) e x y →
         (d : TypeError Key Id Name) × (r ≡ Unrelated d) × ErrorOf m c st v d a b
-    part_complains e r (no_place is n) h = (e, is, hand_on e (λ p ts us d. term_handed e k p ts i (nth i ts) (nth i us)
-        (subst (IsTerm k) d f) (subst IsByParts d o) (subst (λ t. named_place t i ≡ None) d n)) h one)
+    part_complains e r (no_place is n) h = (
+      e,
+      is,
+      hand_on e (λ p ts us d. term_handed e k p ts i (nth i ts) (nth i us)
+          (subst (IsTerm k) d f) (subst IsByParts d o) (subst (λ t. named_place t i ≡ None) d n)) h one,
+    )
     part_complains e r (no_error is n) h = absurd (n e refl)
     part_complains e r (unplaced d p n is) h =
-        let same : d ≡ e = cc in
-        (e, is, hand_on e (λ q ts us w. term_unplaced e q ts i (nth i ts) (nth i us) (subst IsByParts w o)
-        (subst (λ z. NamesNoPlace z) same n)) h one)
+        let same : d ≡ e = cc in (
+          e,
+          is,
+          hand_on e (λ q ts us w. term_unplaced e q ts i (nth i ts) (nth i us) (subst IsByParts w o)
+              (subst (λ z. NamesNoPlace z) same n)) h one,
+        )
     part_complains e r (placed {j} z d n p q is) h =
         let same : z ≡ e = cc in
         (d, is, place j e d n (subst (λ z. IsPlaced j z d) same q) h one)

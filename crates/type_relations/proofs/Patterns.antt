@@ -257,6 +257,24 @@ unlike_many a b ts us h p q differ (over_parts {h = k} {ts = xs} {us = ys} d e n
 unlike_many a b ts us h p q differ (one_leaf d e) = absurd (let z = sym p ∙ d in cc)
 unlike_many a b ts us h p q differ (parameters d e n) = absurd (let z = sym p ∙ d in cc)
 
+module _ {Key Id Name : Type 0} (m : Meaning Key Id Name) where
+  -- Of types it is these four forms alone.
+  pub kind_not : (k : TyKind Key Id Name) → ((t : TyKey Key) (p : PatKey Key) → k ≡ TyPat t p → ⊥) →
+      ((b : BinderOf Key (FnSigTys Key)) (h : FnHeader) → k ≡ FnPtr b h → ⊥) →
+      ((b : BinderOf Key (TyKey Key)) → k ≡ UnsafeBinder b → ⊥) →
+      ((ps : ExistentialPredicatesKey Key) (r : RegionKey Key) → k ≡ Dynamic ps r → ⊥) → IsByParts (kind_tree m k) → ⊥
+  kind_not (TyPat t p) a b c d o = a t p refl
+  kind_not (FnPtr s h) a b c d o = b s h refl
+  kind_not (UnsafeBinder s) a b c d o = c s refl
+  kind_not (Dynamic ps r) a b c d o = d ps r refl
+  kind_not (Infer (TyVar v)) a b c d o = o
+  kind_not (Infer (IntVar v)) a b c d o = o
+  kind_not (Infer (FloatVar v)) a b c d o = o
+  kind_not (Infer (FreshTy n)) a b c d o = o
+  kind_not (Infer (FreshIntTy n)) a b c d o = o
+  kind_not (Infer (FreshFloatTy n)) a b c d o = o
+  kind_not k a b c d o = o
+
 -- What such a part is a term of.
 under_not : (ks : Option (List BoundKind)) (t : Tree) → IsByParts (under ks t) → ⊥
 under_not (Some ks) t o = o
@@ -281,23 +299,6 @@ module _ {Key Id Name : Type 0} (m : Meaning Key Id Name) (sorted : Sorted m) wh
   existential_is (Trait p) = tt
   existential_is (Projection p) = tt
   existential_is (AutoTrait d) = tt
-
-  -- Of types it is these four forms alone.
-  pub kind_not : (k : TyKind Key Id Name) → ((t : TyKey Key) (p : PatKey Key) → k ≡ TyPat t p → ⊥) →
-      ((b : BinderOf Key (FnSigTys Key)) (h : FnHeader) → k ≡ FnPtr b h → ⊥) →
-      ((b : BinderOf Key (TyKey Key)) → k ≡ UnsafeBinder b → ⊥) →
-      ((ps : ExistentialPredicatesKey Key) (r : RegionKey Key) → k ≡ Dynamic ps r → ⊥) → IsByParts (kind_tree m k) → ⊥
-  kind_not (TyPat t p) a b c d o = a t p refl
-  kind_not (FnPtr s h) a b c d o = b s h refl
-  kind_not (UnsafeBinder s) a b c d o = c s refl
-  kind_not (Dynamic ps r) a b c d o = d ps r refl
-  kind_not (Infer (TyVar v)) a b c d o = o
-  kind_not (Infer (IntVar v)) a b c d o = o
-  kind_not (Infer (FloatVar v)) a b c d o = o
-  kind_not (Infer (FreshTy n)) a b c d o = o
-  kind_not (Infer (FreshIntTy n)) a b c d o = o
-  kind_not (Infer (FreshFloatTy n)) a b c d o = o
-  kind_not k a b c d o = o
 
   -- What is compared is related by its parts.
   pub compared_is : (p : Part Key Id) → IsComparedPart p → IsTrue (known (part_tree m p)) →
