@@ -59,6 +59,8 @@ pub mod Making
 pub mod OneUniverse
 pub mod Answering
 pub mod Patterns
+pub mod PartPlaces
+pub mod PartErrors
 pub mod InOrder
 pub mod Unifying
 pub mod Rejected

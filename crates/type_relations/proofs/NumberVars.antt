@@ -21,6 +21,7 @@ use Rattle.relation_terms.specs.declared.terms.enums.UintTy.{UintTy}
 use Rattle.relation_terms.specs.declared.terms.enums.FloatTy.{FloatTy}
 use Rattle.type_relations.specs.Relation.{StaysWithin}
 use Rattle.type_relations.specs.Steps.{IsNumberFor}
+use Rattle.type_relations.specs.Relation.{StaysWithin}
 use Rattle.type_relations.specs.Covered.{IsCovered}
 use Rattle.type_relations.specs.Parts.{IsFormed}
 use Rattle.type_relations.proofs.Numbers.{IsNumber, covered_formed}

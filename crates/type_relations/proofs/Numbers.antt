@@ -206,11 +206,11 @@ module _ (st : Store) (s : Assign) (a : IsAssignment st s) (x : Atom) where
   no_placeholder (bound_kind type_kind m) u n f e = cc
   no_placeholder (bound_kind const_kind m) u n f e = f
 
-  no_bound : (q : BoundKind) (d n : ℕ) → IsTerm type_sort (leaf (bound q d n)) →
-      erase (leaf (bound q d n)) ≡ leaf (atom x) → ⊥
-  no_bound (bound_kind region_kind m) d n f e = f
-  no_bound (bound_kind type_kind m) d n f e = cc
-  no_bound (bound_kind const_kind m) d n f e = f
+  no_bound : (q : BoundKind) (d i : ℕ) → IsTerm type_sort (leaf (bound q d i)) →
+      erase (leaf (bound q d i)) ≡ leaf (atom x) → ⊥
+  no_bound (bound_kind region_kind m) d i f e = f
+  no_bound (bound_kind type_kind m) d i f e = cc
+  no_bound (bound_kind const_kind m) d i f e = f
 
   -- A type that has it.
   value_type : (k : VarKind) → IsNumber k → (t : Tree) → IsTerm type_sort t → IsCovered t →
@@ -369,7 +369,7 @@ no_type_variable st g (bind ks t) f o n e = f
 no_type_variable st g nil f o n e = f
 no_type_variable st g (cons t ts) f o n e = f
 
--- A covered type that is no variable is of a form.
+-- A covered type that is no variable and no bound one is of a form.
 type_admitted : (s : Sort) → Admits type_sort s → s ≡ type_sort
 type_admitted type_sort a = refl
 type_admitted s a = absurd a

@@ -19,7 +19,7 @@ use Rattle.type_relations.specs.Relation.{StaysWithin}
 use Rattle.type_relations.specs.Covered.{IsCovered, IsCoveredHead}
 use Rattle.type_relations.specs.Parts.{IsFormedConst}
 
--- A covered constant that is no variable is of a form.
+-- A covered constant that is no variable and no bound one is of a form.
 const_admitted : (s : Sort) → Admits const_sort s → s ≡ const_sort
 const_admitted const_sort a = refl
 const_admitted s a = absurd a

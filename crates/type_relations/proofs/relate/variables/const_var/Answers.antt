@@ -1,6 +1,7 @@
 use Rattle.std.proofs.Common.{◌≡◌, IfSome, IfNone, IsTrue, sym, subst}
 use Rattle.relation_terms.specs.Heads.{const_var, variable}
 use Rattle.relation_terms.specs.Trees.{leaf, known}
+use Rattle.type_relations.specs.Relation.{StaysWithin}
 use Rattle.type_relations.specs.Covered.{IsCovered}
 use Rattle.type_relations.specs.Relation.{StaysWithin}
 use Rattle.type_relations.specs.Parts.{IsFormedConst}
