@@ -5,7 +5,7 @@ use Rattle.relation_terms.specs.declared.terms.enums.Safety.{Safety}
 use Rattle.relation_terms.specs.declared.terms.enums.ExternAbi.{ExternAbi}
 use Rattle.relation_terms.specs.Heads.{Sort, Admits, region_sort, type_sort, const_sort, var_sort}
 use Rattle.relation_terms.specs.Heads.{head_sort, array, variable, bound, placeholder, atom, unknown}
-use Rattle.relation_terms.specs.Heads.{inputs_sort, atom_sort, bound_sort, term_of, row, Atom, bool_type, Head, pattern_type}
+use Rattle.relation_terms.specs.Heads.{Leaf, inputs_sort, atom_sort, bound_sort, term_of, row, Atom, bool_type, Head, pattern_type}
 use Rattle.relation_terms.specs.Heads.{range_pattern, or_pattern, fn_ptr, unsafe_binder, dynamic, object, signature, inputs}
 use Rattle.relation_terms.specs.Heads.{existential_trait, existential_projection}
 use Rattle.relation_terms.specs.Trees.{Tree, leaf, node, nil, cons, Assign, apply, IsTerm, Fits, known, count, nth}
@@ -228,14 +228,87 @@ module _ {Key Id Name : Type 0} (m : Meaning Key Id Name) (c : Items) (st : Stor
       of_outputs da db n h (subst (λ z. IsPlaced z e d) same is)
   output_error p q t u a b da db (suc (suc i)) j l n named e d is h = absurd (omega (arith, l))
 
+  placed_error : (k l : Sort) (a b : Tree) (i j : ℕ) (h : Head) (ts us : Tree) (e d : TypeError Key Id Name) →
+      IsByParts (node h ts) → IsTerm k (node h ts) → IsTerm l (node h us) → a ≡ node h ts → b ≡ node h us →
+      count ts ≡ count us → i < count ts → HaveAsManyInputs (node h ts) (node h us) i →
+      named_place (node h ts) i ≡ Some j → IsPlaced j e d →
+      ErrorOf m c st (part_at c h i v) e (nth i ts) (nth i us) → ErrorOf m c st v d a b
+  placed_error k l a b i j pattern_type ts us e d o f g da db n lt many named is z = absurd (cc)
+  placed_error k l a b i j range_pattern ts us e d o f g da db n lt many named is z = absurd (cc)
+  placed_error k l a b i j or_pattern ts us e d o f g da db n lt many named is z = absurd (cc)
+  placed_error k l a b i j fn_ptr ts us e d o f g da db n lt many named is z = absurd (cc)
+  placed_error k l a b i j unsafe_binder ts us e d o f g da db n lt many named is z = absurd (cc)
+  placed_error k l a b i j dynamic ts us e d o f g da db n lt many named is z = absurd (cc)
+  placed_error k l a b i j object ts us e d o f g da db n lt many named is z = absurd (cc)
+  placed_error k l a b i j (signature x s w) ts us e d o f g da db n lt many named is z =
+      let (p, t, q) = signature_shape ts f.1 in
+      let (r, u, y) = signature_shape us g.1 in
+      output_error p r t u a b (da ∙ ap (λ z. node (signature x s w) z) q) (db ∙ ap (λ z. node (signature x s w) z) y) i j
+      (subst (λ z. i < count z) q lt)
+      (subst₂ (λ t u. HaveAsManyInputs (node (signature x s w) t) (node (signature x s w) u) i) q y many)
+      (subst (λ z. named_place (node (signature x s w) z) i ≡ Some j) q named) e d is
+      (subst₂ (λ t u. ErrorOf m c st (part_at c (signature x s w) i v) e (nth i t) (nth i u)) q y z)
+  placed_error k l a b i j inputs ts us e d o f g da db n lt many named is z =
+      let same : j ≡ i = cc in
+      of_inputs i da db n lt z (subst (λ y. IsPlaced y e d) same is)
+  placed_error k l a b i j (existential_trait x) ts us e d o f g da db n lt many named is z = absurd (cc)
+  placed_error k l a b i j (existential_projection x) ts us e d o f g da db n lt many named is z = absurd (cc)
+  placed_error k l a b i j h ts us e d o f g da db n lt many named is z = absurd o
+
   module _ (k l : Sort) (a b : Tree) (i : ℕ) (f : IsTerm k a) (g : IsTerm l b) (o : IsByParts a)
       (one : AreOfOneForm a b) (lx : i < count (parts_of a)) (x y : Tree) (ex : x ≡ nth i (parts_of a))
       (ey : y ≡ nth i (parts_of b)) (many : HaveAsManyInputs a b i) where
+    none : {x : Leaf} → a ≡ leaf x → ⊥
+    none d = let z : count (parts_of a) ≡ 0 = ap (λ z. count (parts_of z)) d in omega (arith, z, lx)
+
+    at_parts : (e : TypeError Key Id Name) (h : Head) (ts us : Tree) → a ≡ node h ts → b ≡ node h us →
+        ErrorOf m c st (part_at c (head_of a) i v) e x y →
+        ErrorOf m c st (part_at c h i v) e (nth i ts) (nth i us)
+    at_parts e h ts us d w z =
+        subst₂ (ErrorOf m c st (part_at c h i v) e) (ex ∙ ap (λ z. nth i (parts_of z)) d)
+        (ey ∙ ap (λ z. nth i (parts_of z)) w)
+        (subst (λ z. ErrorOf m c st (part_at c (head_of z) i v) e x y) d z)
+
+    hand_on : (e : TypeError Key Id Name) → ((h : Head) (ts us : Tree) → a ≡ node h ts →
+        IsHandedOn e h i (nth i ts) (nth i us)) → ErrorOf m c st (part_at c (head_of a) i v) e x y →
+        AreOfOneForm a b → ErrorOf m c st v e a b
+    hand_on e n z (over_parts {h} {ts} {us} d w q) = of_parts i d w q (subst (λ z. i < count (parts_of z)) d lx)
+        (n h ts us d) (at_parts e h ts us d w z)
+    hand_on e n z (one_leaf d w) = absurd (none d)
+    hand_on e n z (parameters d w q) = absurd (none d)
+
+    place : (j : ℕ) (e d : TypeError Key Id Name) → named_place a i ≡ Some j → IsPlaced j e d →
+        ErrorOf m c st (part_at c (head_of a) i v) e x y → AreOfOneForm a b → ErrorOf m c st v d a b
+    place j e d n is z (over_parts {h} {ts} {us} p w q) = placed_error k l a b i j h ts us e d (subst IsByParts p o)
+        (subst (IsTerm k) p f) (subst (IsTerm l) w g) p w q (subst (λ z. i < count (parts_of z)) p lx)
+        (subst₂ (λ t u. HaveAsManyInputs t u i) p w many) (subst (λ t. named_place t i ≡ Some j) p n) is
+        (at_parts e h ts us p w z)
+    place j e d n is z (one_leaf p w) = absurd (none p)
+    place j e d n is z (parameters p w q) = absurd (none p)
+
     -- What two terms say where their parts at a place are refused.
     pub part_complains : (e : TypeError Key Id Name) (r : RelateFault Key Id Name) →
         IsFaultOfPart a i (Unrelated e) r → ErrorOf m c st (part_at c (head_of a) i v) e x y →
         (d : TypeError Key Id Name) × (r ≡ Unrelated d) × ErrorOf m c st v d a b
-    part_complains e r is h = ?
+    part_complains e r (no_place is n) h = (e, is, hand_on e (λ p ts us d. term_handed e k p ts i (nth i ts) (nth i us)
+        (subst (IsTerm k) d f) (subst IsByParts d o) (subst (λ t. named_place t i ≡ None) d n)) h one)
+    part_complains e r (no_error is n) h = absurd (n e refl)
+    part_complains e r (unplaced d p n is) h =
+        let same : d ≡ e = cc in
+        (e, is, hand_on e (λ q ts us w. term_unplaced e q ts i (nth i ts) (nth i us) (subst IsByParts w o)
+        (subst (λ z. NamesNoPlace z) same n)) h one)
+    part_complains e r (placed {j} z d n p q is) h =
+        let same : z ≡ e = cc in
+        (d, is, place j e d n (subst (λ z. IsPlaced j z d) same q) h one)
+
+placed_known : {Key Id Name : Type 0} (m : Meaning Key Id Name) (j : ℕ) (e d : TypeError Key Id Name) → IsPlaced j e d →
+    KnowsError m e → KnowsError m d
+placed_known m j e d (sorts_at p q is) k =
+    let z : KnowsError m (Sorts p) = subst (KnowsError m) q k in subst (KnowsError m) (sym is) z
+placed_known m j e d (argument_sorts_at p i q is) k =
+    let z : KnowsError m (ArgumentSorts p i) = subst (KnowsError m) q k in subst (KnowsError m) (sym is) z
+placed_known m j e d (mutability_at q is) k = subst (KnowsError m) (sym is) tt
+placed_known m j e d (argument_mutability_at i q is) k = subst (KnowsError m) (sym is) tt
 
 module _ {Key Id Name : Type 0} (t : Tree) (i : ℕ) (f r : RelateFault Key Id Name) where
   -- A fault that is no error stays, and an error is one still.
@@ -254,4 +327,8 @@ module _ {Key Id Name : Type 0} (t : Tree) (i : ℕ) (f r : RelateFault Key Id N
 
   -- It names what is known.
   pub part_fault_known : (m : Meaning Key Id Name) → IsFaultOfPart t i f r → KnowsFault m f → KnowsFault m r
-  part_fault_known m h k = ?
+  part_fault_known m (no_place is n) k = subst (KnowsFault m) (sym is) k
+  part_fault_known m (no_error is n) k = subst (KnowsFault m) (sym is) k
+  part_fault_known m (unplaced e p n is) k = subst (KnowsFault m) (sym is) k
+  part_fault_known m (placed {j} e d n p q is) k =
+      let z : KnowsError m e = subst (KnowsFault m) p k in subst (KnowsFault m) (sym is) (placed_known m j e d q z)

@@ -3,6 +3,7 @@ use Rattle.std.proofs.Common.{◌≡◌, ◌≢◌, ◌↔◌, ℕ, zero, suc, �
 use Rattle.relation_terms.specs.declared.terms.enums.Safety.{Safety}
 use Rattle.relation_terms.specs.declared.terms.enums.ExternAbi.{ExternAbi}
 use Rattle.relation_terms.specs.declared.terms.enums.Variance.{Variance}
+use Rattle.relation_terms.specs.declared.terms.keys.ExistentialPredicatesKey.{ExistentialPredicatesKey}
 use Rattle.relation_terms.specs.Heads.{Sort, existential_sort, Admits, VarKind, leaf_sort, head_sort, atom_sort}
 use Rattle.relation_terms.specs.Heads.{Head, pattern_type, range_pattern, or_pattern, fn_ptr, unsafe_binder, dynamic, object}
 use Rattle.relation_terms.specs.Heads.{signature, inputs, existential_trait, existential_projection, value_type, region_sort}
@@ -30,7 +31,8 @@ use Rattle.type_relations.proofs.Erased.{forms_unify_by_parts}
 use Rattle.type_relations.proofs.Fronts.{IsLookedAt}
 use Rattle.type_relations.proofs.Unifying.{one_head, unified_counts, erased_parameters}
 use Rattle.type_relations.proofs.Patterns.{term_alike, IsFormSort, form_is}
-use Rattle.type_relations.proofs.PartPlaces.{binder_nth}
+use Rattle.type_relations.proofs.OneParts.{sort_is}
+use Rattle.type_relations.proofs.PartPlaces.{binder_nth, only}
 
 -- Their forms are looked at.
 head_looked_at : (h : Head) (ts : Tree) → IsByParts (node h ts) → IsLookedAt h
@@ -123,7 +125,8 @@ shapes_alike s a b (auto_shape p) (projection_shape q) e = absurd (let z = subst
 
 -- So are the members of a trait object, under their binders.
 existential_shape : (t : Tree) → IsTerm existential_sort t → ExistentialShape t
-existential_shape t f = ?
+existential_shape t f = shape_of t (form_is existential_sort t tt f)
+    (only existential_sort (sort_of t) tt (sort_is existential_sort t f))
 
 members_alike : (s : Assign) (t u : Tree) → IsBinder existential_sort t → IsBinder existential_sort u →
     Unifies s t u → AreAlikeMembers t u
@@ -137,13 +140,69 @@ members_alike s t u f g e = absurd f
 
 unified_nth : (s : Assign) (ts us : Tree) (i : ℕ) → i < count ts → i < count us → Unifies s ts us →
     Unifies s (nth i ts) (nth i us)
-unified_nth s ts us i l m e = ?
+unified_nth s (cons t ts) (cons u us) zero l m e = cc
+unified_nth s (cons t ts) (cons u us) (suc i) l m e = unified_nth s ts us i (omega (arith, l)) (omega (arith, m)) (cc)
+unified_nth s (cons t ts) us i l m e = absurd (omega (arith, m))
+unified_nth s ts us i l m e = absurd (omega (arith, l))
 
 module _ {Key Id Name : Type 0} (m : Meaning Key Id Name) where
+  signatures_apart : (s : Assign) (k l : Sort) (a b : Tree) (e : TypeError Key Id Name) → IsTerm k a → IsTerm l b →
+      SignatureError a b e → Unifies s a b → ⊥
+  signatures_apart s k l a b e f g (unlike_variadic {x} {y} {s = i} {t = j} {k = c} {l = d} {ts} {us} p r n is) z =
+      n (let h = one_head s (signature x i c) (signature y j d) ts us (subst₂ (Unifies s) p r z) in cc)
+  signatures_apart s k l a b e f g (unlike_safety {x} {s = i} {t = j} {k = c} {l = d} {ts} {us} p r n is) z =
+      n (let h = one_head s (signature x i c) (signature x j d) ts us (subst₂ (Unifies s) p r z) in cc)
+  signatures_apart s k l a b e f g (unlike_abi {x} {s = i} {k = c} {l = d} {ts} {us} p r n is) z =
+      n (let h = one_head s (signature x i c) (signature x i d) ts us (subst₂ (Unifies s) p r z) in cc)
+  signatures_apart s k l a b e f g (unlike_counts {ts} {us} p r n is) z =
+      n (unified_counts s inputs ts us a b (λ h. absurd (cc)) p r (list_of inputs k ts a p f) (list_of inputs l us b r g) z)
+
+  existentials_apart : (s : Assign) (k l : Sort) (a b : Tree) (e : TypeError Key Id Name) → IsByParts a →
+      IsByParts b → IsTerm k a → IsTerm l b → ExistentialError m a b e → Unifies s a b → ⊥
+  existentials_apart s k l a b e o q f g (unlike_traits {ts} {us} c d p r n) z =
+      n (let h = one_head s (existential_trait (m.id c.0)) (existential_trait (m.id d.0)) ts us (subst₂ (Unifies s) p r z) in cc)
+  existentials_apart s k l a b e o q f g (unlike_auto_traits c d p r n) z =
+      n (let h : leaf (atom (existential_auto (m.id c.0))) ≡ leaf (atom (existential_auto (m.id d.0))) =
+      subst₂ (Unifies s) p r z in cc)
+  existentials_apart s k l a b e o q f g (unlike_projections {ts} {us} c d p r n) z =
+      n (let h = one_head s (existential_projection (m.id c)) (existential_projection (m.id d)) ts us
+      (subst₂ (Unifies s) p r z) in cc)
+  existentials_apart s k l a b e o q f g (unlike_arguments {h} {ts} {us} i p r n) z =
+      n (unified_counts s h ts us a b (no_value_type h ts (subst IsByParts p o)) p r (list_of h k ts a p f)
+      (list_of h l us b r g) z)
+  existentials_apart s k l a b e o q f g (unlike_existentials i j n) z =
+      n (shapes_alike s a b (shape_of a o i) (shape_of b q j) z)
+
+  objects_apart : (s : Assign) (k l : Sort) (xs ys : Tree) → IsTerm k (node object xs) → IsTerm l (node object ys) →
+      Unifies s (node object xs) (node object ys) → (count xs ≡ count ys) × ((i : ℕ) → i < count xs → i < count ys →
+      AreAlikeMembers (nth i xs) (nth i ys))
+  objects_apart s k l xs ys f g z =
+      let no : object ≢ value_type = (λ h. absurd (cc)) in
+      let inside : Unifies s xs ys = (forms_unify_by_parts s object xs ys no).0 z in (
+        unified_counts s object xs ys (node object xs) (node object ys) no refl refl (parts_list object xs f.1)
+            (parts_list object ys g.1) z,
+        λ i lx ly. members_alike s (nth i xs) (nth i ys) (binder_nth existential_sort xs i f.1 lx)
+            (binder_nth existential_sort ys i g.1 ly) (unified_nth s xs ys i lx ly inside),
+      )
+
+  object_error_apart : (s : Assign) (k l : Sort) (x y : ExistentialPredicatesKey Key) (e : TypeError Key Id Name) →
+      IsTerm k (node object (m.existential_predicates x)) → IsTerm l (node object (m.existential_predicates y)) →
+      ObjectError m x y e → Unifies s (node object (m.existential_predicates x))
+      (node object (m.existential_predicates y)) → ⊥
+  object_error_apart s k l x y e f g (unlike_numbers n) z =
+      n (objects_apart s k l (m.existential_predicates x) (m.existential_predicates y) f g z).0
+  object_error_apart s k l x y e f g (unlike_members i lx ly n) z =
+      n ((objects_apart s k l (m.existential_predicates x) (m.existential_predicates y) f g z).1 i lx ly)
+
   -- Two that are not of one form are not unified, and so never one.
   pub part_error_not_unified : (s : Assign) (k l : Sort) (a b : Tree) (e : TypeError Key Id Name) → IsByParts a →
       IsByParts b → IsTerm k a → IsTerm l b → PartError m a b e → Unifies s a b → ⊥
-  part_error_not_unified s k l a b e o q f g h z = ?
+  part_error_not_unified s k l a b e o q f g (pattern_error (unlike_patterns i j n is)) z =
+      n (terms_unified s k l a b o q f g z)
+  part_error_not_unified s k l a b e o q f g (signature_error h) z = signatures_apart s k l a b e f g h z
+  part_error_not_unified s k l a b e o q f g (existential_error h) z = existentials_apart s k l a b e o q f g h z
+  part_error_not_unified s k l a b e o q f g (object_error x y p r h) z = object_error_apart s k l x y e
+      (subst (IsTerm k) (sym p) f) (subst (IsTerm l) (sym r) g) h (subst₂ (Unifies s) (sym p) (sym r) z)
 
   pub part_error_apart : (st : Store) (k l : Sort) (a b : Tree) (e : TypeError Key Id Name) → IsByParts a →
       IsByParts b → IsTerm k a → IsTerm l b → PartError m a b e → NoUnifier st a b
@@ -156,4 +215,17 @@ module _ {Key Id Name : Type 0} (m : Meaning Key Id Name) where
   -- It names lists that are known where the two are.
   pub part_error_known : (a b : Tree) (e : TypeError Key Id Name) → IsTrue (known a) → IsTrue (known b) →
       PartError m a b e → KnowsError m e
-  part_error_known a b e x y h = ?
+  part_error_known a b e x y (pattern_error (unlike_patterns i j n is)) = subst (KnowsError m) (sym is) tt
+  part_error_known a b e x y (signature_error (unlike_variadic p r n is)) = subst (KnowsError m) (sym is) tt
+  part_error_known a b e x y (signature_error (unlike_safety p r n is)) = subst (KnowsError m) (sym is) tt
+  part_error_known a b e x y (signature_error (unlike_abi p r n is)) = subst (KnowsError m) (sym is) tt
+  part_error_known a b e x y (signature_error (unlike_counts p r n is)) = subst (KnowsError m) (sym is) tt
+  part_error_known a b e x y (existential_error (unlike_traits c d p r n)) = tt
+  part_error_known a b e x y (existential_error (unlike_auto_traits c d p r n)) = tt
+  part_error_known a b e x y (existential_error (unlike_projections c d p r n)) = tt
+  part_error_known a b e x y (existential_error (unlike_arguments i p r n)) = tt
+  part_error_known a b e x y (existential_error (unlike_existentials i j n)) = tt
+  part_error_known a b e x y (object_error c d p r (unlike_numbers n)) =
+      (subst (λ t. IsTrue (known t)) (sym p) x, subst (λ t. IsTrue (known t)) (sym r) y)
+  part_error_known a b e x y (object_error c d p r (unlike_members i lx ly n)) =
+      (subst (λ t. IsTrue (known t)) (sym p) x, subst (λ t. IsTrue (known t)) (sym r) y)

@@ -22,7 +22,7 @@ admitted k (leaf l) f = f
 admitted k (node h ts) f = f.0
 admitted k t f = absurd f
 
-only : (k j : Sort) → IsFormSort k → Admits k j → j ≡ k
+pub only : (k j : Sort) → IsFormSort k → Admits k j → j ≡ k
 only pattern_sort pattern_sort o h = refl
 only pattern_sort j o h = absurd h
 only signature_sort signature_sort o h = refl

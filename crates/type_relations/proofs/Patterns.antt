@@ -1,5 +1,5 @@
 -- Terms that are related by their parts: patterns, and what stands over binders or under them.
-use Rattle.std.proofs.Common.{◌≡◌, ◌≢◌, ℕ, zero, suc, refl, sym, ◌∙◌, subst, List, Option, None, Some, IsTrue}
+use Rattle.std.proofs.Common.{◌≡◌, ◌≢◌, ℕ, zero, suc, refl, sym, ap, ◌∙◌, subst, List, Option, None, Some, IsTrue}
 use Rattle.relation_terms.specs.declared.terms.enums.Variance.{Variance}
 use Rattle.relation_terms.specs.declared.terms.enums.Variance.TheVariants.{Covariant, Contravariant, Invariant, Bivariant}
 use Rattle.relation_terms.specs.declared.terms.part_kind.Part.{Part}
@@ -15,7 +15,7 @@ use Rattle.relation_terms.specs.Heads.{or_pattern, fn_ptr, unsafe_binder, dynami
 use Rattle.relation_terms.specs.Heads.{existential_trait, existential_projection, Atom, not_null_pattern, bool_type}
 use Rattle.relation_terms.specs.Heads.{existential_auto, variable, bound, placeholder, atom, unknown, BoundKind, bound_kind}
 use Rattle.relation_terms.specs.Heads.{bound_sort, region_kind, type_kind, const_kind}
-use Rattle.relation_terms.specs.Trees.{Tree, leaf, node, bind, nil, cons, known, IsTerm}
+use Rattle.relation_terms.specs.Trees.{Tree, leaf, node, bind, nil, cons, known, IsTerm, count}
 use Rattle.relation_terms.specs.Meaning.{Meaning, under, existential_tree}
 use Rattle.relation_terms.specs.Parts.{body_tree, part_tree, part_sort, parts_of as list_of_parts, over as term_over}
 use Rattle.relation_terms.proofs.Binders.{front_known, front_terms}
@@ -235,6 +235,16 @@ form_is k (node h ts) o f = head_is k h ts o f.0
 form_is k (bind ks t) o f = absurd f
 form_is k nil o f = absurd f
 form_is k (cons t ts) o f = absurd f
+
+-- Terms of one form have as many parts.
+pub unlike_many : (a b ts us : Tree) (h : Head) → a ≡ node h ts → b ≡ node h us → (count ts ≡ count us → ⊥) →
+    AreOfOneForm a b → ⊥
+unlike_many a b ts us h p q differ (over_parts {h = k} {ts = xs} {us = ys} d e n) =
+    let left : ts ≡ xs = (let z = sym p ∙ d in cc) in
+    let right : us ≡ ys = (let z = sym q ∙ e in cc) in
+    differ (ap count left ∙ n ∙ sym (ap count right))
+unlike_many a b ts us h p q differ (one_leaf d e) = absurd (let z = sym p ∙ d in cc)
+unlike_many a b ts us h p q differ (parameters d e n) = absurd (let z = sym p ∙ d in cc)
 
 -- What such a part is a term of.
 under_not : (ks : Option (List BoundKind)) (t : Tree) → IsByParts (under ks t) → ⊥
