@@ -1,5 +1,5 @@
 -- Parts at one place: what is paired with what, and what is compared.
-use Rattle.std.proofs.Common.{◌≡◌, ℕ, zero, suc, sym, subst, refl, inl, inr, [], ◌∷◌, Result, Ok, Err, OnOk}
+use Rattle.std.proofs.Common.{◌≡◌, ℕ, zero, suc, ◌+◌, refl, sym, ap, ap₂, subst, inl, inr, [], ◌∷◌, Result, Ok, Err, OnOk}
 use Rattle.relation_terms.specs.declared.terms.enums.Variance.{Variance}
 use Rattle.relation_terms.specs.declared.terms.generic_arg.GenericArgKind.{GenericArgKind}
 use Rattle.relation_terms.specs.declared.terms.generic_arg.GenericArgKind.TheVariants.{Lifetime, Ty as TyArg, Const as ConstArg}
@@ -8,12 +8,14 @@ use Rattle.relation_terms.specs.declared.terms.part_kind.Part.TheVariants.{Regio
 use Rattle.relation_terms.specs.declared.terms.part_kind.Part.TheVariants.{Binder, Signature, Inputs, Existential, Object}
 use Rattle.relation_terms.specs.Heads.{Sort, region_sort, type_sort, const_sort, inputs_sort, signature, inputs}
 use Rattle.relation_terms.specs.Trees.{Tree, node, cons, nth}
-use Rattle.relation_terms.specs.Parts.{part_sort, part_of_arg, tree_sort, AreArgs}
+use Rattle.relation_terms.specs.Meaning.{Meaning}
+use Rattle.relation_terms.specs.Parts.{part_tree, part_sort, part_of_arg, tree_sort, AreArgs}
 use Rattle.type_relations.specs.Errors.{AreOfOneForm, over_parts, one_leaf, parameters}
 use Rattle.type_relations.specs.Lawful.{State, Manners, Takes, Turned, Asked}
 use Rattle.type_relations.specs.Making.{arg_sort}
 use Rattle.type_relations.specs.Parts.{parts_of, IsRelatedPart, IsComparedPart, IsArgPart, IsBinderPart, ArePaired}
-use Rattle.type_relations.specs.Stores.{IsTermIn}
+use Rattle.type_relations.specs.Measures.{depth}
+use Rattle.type_relations.specs.Stores.{Store, IsTermIn, weight}
 use Rattle.type_relations.proofs.OneParts.{parts_counted}
 use Rattle.type_relations.proofs.Handing.{HaveAsManyInputs}
 use Rattle.type_relations.proofs.Patterns.{IsFormSort}
@@ -49,10 +51,10 @@ module _ {Key Id : Type 0} where
   are_args (Const c) o = tt
   are_args x o = absurd o
 
-  pub sort_of_arg : (k : GenericArgKind Key) → part_sort {Id = Id} (part_of_arg k) ≡ arg_sort k
-  sort_of_arg (Lifetime r) = refl
-  sort_of_arg (TyArg t) = refl
-  sort_of_arg (ConstArg c) = refl
+  pub sort_as_arg : (x : Part Key Id) (k : GenericArgKind Key) → x ≡ part_of_arg k → part_sort x ≡ arg_sort k
+  sort_as_arg x (Lifetime r) e = ap part_sort e
+  sort_as_arg x (TyArg t) e = ap part_sort e
+  sort_as_arg x (ConstArg c) e = ap part_sort e
 
   pub arg_not_compared : (x : Part Key Id) → IsArgPart x → IsComparedPart x → ⊥
   arg_not_compared (Region r) o p = p
@@ -148,3 +150,9 @@ asked_turned M w a b there k = record {
   left_taken = subst (λ z. Takes (M z) w a) (sym there.settings) k.left_taken;
   right_taken = subst (λ z. Takes (M z) w b) (sym there.settings) k.right_taken;
 }
+
+pub depth_turned : {Key Id Name : Type 0} {v : Variance} {r t : State Key Id Name} (x y : Part Key Id) → Turned v r t →
+    depth (t.store).budget (weight t.store (part_tree t.meaning x) + weight t.store (part_tree t.meaning y)) ≡
+    depth (r.store).budget (weight r.store (part_tree r.meaning x) + weight r.store (part_tree r.meaning y))
+depth_turned {Key} {Id} {Name} x y there = ap₂ (λ (m : Meaning Key Id Name) (s : Store). depth s.budget
+    (weight s (part_tree m x) + weight s (part_tree m y))) there.meaning there.store

@@ -12,7 +12,7 @@ use Rattle.relation_tools.specs.declared.error.RelateFault.{RelateFault}
 use Rattle.relation_tools.specs.declared.error.RelateFault.TheVariants.{Memory, Budget, Unrelated}
 use Rattle.relation_tools.specs.Faults.{KnowsFault}
 use Rattle.type_relations.specs.Relation.{Interpretation, at, parts, part_at, Rel, same, atoms, forms}
-use Rattle.type_relations.specs.Stores.{Satisfies, weight}
+use Rattle.type_relations.specs.Stores.{Satisfies}
 use Rattle.type_relations.specs.Goals.{Holds}
 use Rattle.type_relations.specs.Headline.{IsFirstOrderPair}
 use Rattle.type_relations.specs.OneUniverse.{NamesTypesTo, BindsNoMore}
@@ -100,7 +100,6 @@ module _ {Key Id Name : Type 0} {r q : State Key Id Name} (M : Manners) (v : Var
   pub terms_unlike : {X : Type 0} (tree : X → Tree) (k l : Sort) (e : TypeError Key Id Name) → v ≢ Bivariant →
       IsByParts b → IsTerm k a → IsTerm l b → IsTrue (known a) → IsTrue (known b) → PartError q.meaning a b e →
       Fronted M r q (head_of a) v i (parts_of a) (parts_of b) → Related {X = X} M r q v a b tree (Err (Unrelated e))
-  unfolding passes_within
   terms_unlike tree k l e d other ta tb ka kb unlike f = record {
     passes = passes_within (omega (arith, weight_parts_most r.store a, weight_parts_most r.store b)) f.passes;
     verdict = (

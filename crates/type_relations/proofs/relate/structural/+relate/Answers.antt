@@ -25,9 +25,10 @@ use Rattle.type_relations.proofs.Patterns.{term_alike, term_decides, part_sorted
 use Rattle.type_relations.proofs.PartPlaces.{related_part, paired_part}
 use Rattle.type_relations.proofs.InOrder.{terms_stopped, terms_answer, terms_unlike, term_refused, terms_differ}
 use Rattle.type_relations.proofs.InOrder.{may_over_term, part_pushed, parts_end}
-use Rattle.type_relations.proofs.ByParts.{paired_args, are_args, sort_of_arg, arg_not_compared, paired_binders}
+use Rattle.type_relations.proofs.ByParts.{paired_args, are_args, sort_as_arg, arg_not_compared, paired_binders}
 use Rattle.type_relations.proofs.ByParts.{binder_not_compared, form_compared, paired_compared, inputs_compared}
 use Rattle.type_relations.proofs.ByParts.{no_inputs_yet, inputs_next, compared_as, alike_back, on_ok, asked_turned}
+use Rattle.type_relations.proofs.ByParts.{depth_turned}
 use Rattle.type_relations.specs.Handing.{IsResultOfTy, IsResultOfConst, IsResultOfPart}
 use Rattle.type_relations.specs.Making.{arg_sort, Fit, over, const_over}
 use Rattle.type_relations.proofs.Answering.{same_items, AreAnswers, answers_none, answers_next, answers_end, may_over, may_const_over, may_later}
@@ -2128,9 +2129,18 @@ relate_in_order-relate_parts_with_variance-related-requires g t c κs within =
       alternatives = g.met.I.Interner.are_alternatives cx_sorted_before;
       existential_predicates = g.met.I.Interner.are_existential_predicates cx_sorted_before;
     }) in
+    let q = g.R.TypeRelation.state c.loop-i.r in
+    let i = c.loop-i.i in
+    let inv = c.loop-i.invariant in
+    let k = c.requires.asked in
+    let form = c.requires.form in
+    let alike = c.requires.alike in
+    let extends = ((inv.fronted).passes).extends in
+    let same_a : part_tree q.meaning c.args.a.now ≡ a = stays_part extends c.args.a.now k.left_known in
+    let same_b : part_tree q.meaning c.args.b.now ≡ b = stays_part extends c.args.b.now k.right_known in
     let e = g.met.R.TypeRelation.reads c.loop-i.r in
     let cx = g.R.TypeRelation.interner c.loop-i.r in
-    let sorted : Sorted (g.R.TypeRelation.state c.loop-i.r).meaning = subst (λ m. Sorted m) (sym e) (record {
+    let sorted : Sorted q.meaning = subst (λ m. Sorted m) (sym e) (record {
       ty = g.met.I.Interner.is_ty cx;
       region = g.met.I.Interner.is_region cx;
       tys = g.met.I.Interner.are_tys cx;
@@ -2142,15 +2152,6 @@ relate_in_order-relate_parts_with_variance-related-requires g t c κs within =
       alternatives = g.met.I.Interner.are_alternatives cx;
       existential_predicates = g.met.I.Interner.are_existential_predicates cx;
     }) in
-    let q = g.R.TypeRelation.state c.loop-i.r in
-    let i = c.loop-i.i in
-    let inv = c.loop-i.invariant in
-    let k = c.requires.asked in
-    let form = c.requires.form in
-    let alike = c.requires.alike in
-    let extends = ((inv.fronted).passes).extends in
-    let same_a : part_tree q.meaning c.args.a.now ≡ a = stays_part extends c.args.a.now k.left_known in
-    let same_b : part_tree q.meaning c.args.b.now ≡ b = stays_part extends c.args.b.now k.right_known in
     let other = term_alike a b alike form in
     let ta = part_sorted r.meaning sorted_before c.args.a.now k.left_known form in
     let tb = part_sorted r.meaning sorted_before c.args.b.now k.right_known other in
@@ -2556,8 +2557,7 @@ relate_parts_with_variance-relate_parts-answer-requires g t c κs within =
     (asked_turned M (xform r.ambient c.args.variance) a b there c.requires.asked) in
     let kind = c.requires.kind in
     let paired = c.requires.paired in
-    let same = ap₂ (λ m z. depth z.budget (weight z (part_tree m c.args.a.now) + weight z (part_tree m c.args.b.now)))
-    there.meaning there.store in
+    let same = depth_turned c.args.a.now c.args.b.now there in
     let under : 8 * depth (s.store).budget (weight s.store (part_tree s.meaning c.args.a.now) + weight s.store (part_tree s.meaning c.args.b.now)) + 5 <
     8 * depth (r.store).budget (weight r.store a + weight r.store b) + 6 = omega (arith, same) in
     let d = c.decreases in
@@ -2621,8 +2621,8 @@ relate_parts-relate-requires g t c κs within =
     search rules
 
 
-pub relate_parts-returns-in_ok-answer : goal.relate_parts-returns-in_ok-answer
-relate_parts-returns-in_ok-answer g t c =
+pub relate_parts-returns-in_ok-answer-in-Argument : goal.relate_parts-returns-in_ok-answer-in-Argument
+relate_parts-returns-in_ok-answer-in-Argument g t c =
     let r = g.R.TypeRelation.state c.args.r.now in
     let M = g.R.TypeRelation.manner in
     let a = part_tree r.meaning c.args.a.now in
@@ -2633,20 +2633,20 @@ relate_parts-returns-in_ok-answer g t c =
     let ea : a ≡ arg_tree r.meaning X = ap (part_tree r.meaning) (sym c.the_arg.ensures) ∙ arg_part r.meaning X in
     let eb : b ≡ arg_tree r.meaning Y = ap (part_tree r.meaning) (sym c.the_arg-2.ensures) ∙ arg_part r.meaning Y in
     let q = g.R.TypeRelation.state c.relate.new.r in
-    let n = c.in_ok-answer in
+    let n = c.in_ok-answer-in-Argument in
     record {
       related = subst₂ (λ x y. Related M r q r.ambient x y (part_tree q.meaning) (Ok c.of_arg.result)) (sym ea) (sym eb)
           (retold M r.ambient (arg_tree r.meaning X) (arg_tree r.meaning Y) (arg_tree q.meaning) n.answer
           (part_tree q.meaning) c.of_arg.result
           (ap (part_tree q.meaning) c.of_arg.ensures ∙ arg_part q.meaning n.answer) (n.ensures).related);
-      sort = ap part_sort c.of_arg.ensures ∙ sort_of_arg n.answer ∙ (n.ensures).kind ∙ sym (sort_of_arg X)
-          ∙ ap part_sort c.the_arg.ensures;
+      sort = sort_as_arg c.of_arg.result n.answer c.of_arg.ensures ∙ (n.ensures).kind
+          ∙ sym (sort_as_arg c.args.a.now X (sym c.the_arg.ensures));
       alike = λ o. absurd (arg_not_compared c.args.a.now arg o);
     }
 
 
-pub relate_parts-returns-in_err-answer : goal.relate_parts-returns-in_err-answer
-relate_parts-returns-in_err-answer g t c =
+pub relate_parts-returns-in_err-answer-in-Argument : goal.relate_parts-returns-in_err-answer-in-Argument
+relate_parts-returns-in_err-answer-in-Argument g t c =
     let r = g.R.TypeRelation.state c.args.r.now in
     let M = g.R.TypeRelation.manner in
     let a = part_tree r.meaning c.args.a.now in
@@ -2657,7 +2657,7 @@ relate_parts-returns-in_err-answer g t c =
     let ea : a ≡ arg_tree r.meaning X = ap (part_tree r.meaning) (sym c.the_arg.ensures) ∙ arg_part r.meaning X in
     let eb : b ≡ arg_tree r.meaning Y = ap (part_tree r.meaning) (sym c.the_arg-2.ensures) ∙ arg_part r.meaning Y in
     let q = g.R.TypeRelation.state c.relate.new.r in
-    let n = c.in_err-answer in
+    let n = c.in_err-answer-in-Argument in
     let res = c.from_residual.result in
     let failed = as_err res n.field-0.0 c.from_residual.ensures.0 c.from_residual.ensures.1 in
     record {
@@ -2714,8 +2714,8 @@ relate_parts-compare_parts_of-requires-clause-one_sort g t c =
     one_sort
 
 
-pub relate_parts-returns-in_err-compare_parts_of : goal.relate_parts-returns-in_err-compare_parts_of
-relate_parts-returns-in_err-compare_parts_of g t c =
+pub relate_parts-returns-in_err-compare_parts_of-in-Form : goal.relate_parts-returns-in_err-compare_parts_of-in-Form
+relate_parts-returns-in_err-compare_parts_of-in-Form g t c =
     let r = g.R.TypeRelation.state c.args.r.now in
     let M = g.R.TypeRelation.manner in
     let a = part_tree r.meaning c.args.a.now in
@@ -2742,9 +2742,9 @@ relate_parts-returns-in_err-compare_parts_of g t c =
     let form = compared_is r.meaning sorted c.args.a.now kind k.left_known in
     let other_kind : IsComparedPart c.args.b.now = compared_as c.args.a.now c.args.b.now kind one_sort in
     let other = compared_is r.meaning sorted c.args.b.now other_kind k.right_known in
-    let n = c.in_err-compare_parts_of in
-    let failed = as_err c.from_residual-in_err-compare_parts_of.result (Unrelated n.field-0.0)
-    c.from_residual-in_err-compare_parts_of.ensures.0 c.from_residual-in_err-compare_parts_of.ensures.1 in
+    let n = c.in_err-compare_parts_of-in-Form in
+    let failed = as_err c.from_residual-in_err-compare_parts_of-in-Form.result (Unrelated n.field-0.0)
+    c.from_residual-in_err-compare_parts_of-in-Form.ensures.0 c.from_residual-in_err-compare_parts_of-in-Form.ensures.1 in
     record {
       related = subst (λ z. Related M r r r.ambient a b (part_tree r.meaning) z) (sym failed)
           (terms_differ M r r.ambient (part_tree r.meaning) (part_sort c.args.a.now) (part_sort c.args.b.now) a b
@@ -2785,15 +2785,15 @@ relate_parts-relate_in_order-requires g t c κs within =
     let lawful = c.requires.lawful in
     let decides = c.requires.decides in
     let asked = c.requires.asked in
-    let alike = (c.in_ok-compare_parts_of.ensures).alike in
+    let alike = (c.in_ok-compare_parts_of-in-Form.ensures).alike in
     let under : 8 * depth (r.store).budget (weight r.store a + weight r.store b) <
     8 * depth (r.store).budget (weight r.store a + weight r.store b) + 5 = omega arith in
     let d = c.decreases in
     search rules
 
 
-pub relate_parts-returns-in-Form : goal.relate_parts-returns-in-Form
-relate_parts-returns-in-Form g t c =
+pub relate_parts-returns-in_ok-compare_parts_of-in-Form : goal.relate_parts-returns-in_ok-compare_parts_of-in-Form
+relate_parts-returns-in_ok-compare_parts_of-in-Form g t c =
     let r = g.R.TypeRelation.state c.args.r.now in
     let M = g.R.TypeRelation.manner in
     let a = part_tree r.meaning c.args.a.now in
@@ -2802,7 +2802,7 @@ relate_parts-returns-in-Form g t c =
     record {
       related = (c.relate_in_order.ensures).related;
       sort = (c.relate_in_order.ensures).sort;
-      alike = λ o. on_ok res (AreOfOneForm a b) (c.in_ok-compare_parts_of.ensures).alike;
+      alike = λ o. on_ok res (AreOfOneForm a b) (c.in_ok-compare_parts_of-in-Form.ensures).alike;
     }
 
 
