@@ -2185,7 +2185,8 @@ relate_in_order-relate_parts_with_variance-related-requires g t c κs within =
     let under : 8 * depth (q.store).budget (weight q.store x + weight q.store y) + 6 <
     8 * depth (r.store).budget (weight r.store a + weight r.store b) = omega (arith, smaller) in
     let d = c.decreases in
-    search rules
+    (search rules, (within.0, (within.1.0, (within.1.1.0, (within.1.1.1.0, (within.1.1.1.1.0, (within.1.1.1.1.1,
+    (lawful, (decides, (asked, (kind, paired)))))))))))
 
 
 pub relate_in_order-in_part-requires : goal.relate_in_order-in_part-requires
@@ -2561,7 +2562,8 @@ relate_parts_with_variance-relate_parts-answer-requires g t c κs within =
     let under : 8 * depth (s.store).budget (weight s.store (part_tree s.meaning c.args.a.now) + weight s.store (part_tree s.meaning c.args.b.now)) + 5 <
     8 * depth (r.store).budget (weight r.store a + weight r.store b) + 6 = omega (arith, same) in
     let d = c.decreases in
-    search rules
+    (search rules, (within.0, (within.1.0, (within.1.1.0, (within.1.1.1.0, (within.1.1.1.1.0, (within.1.1.1.1.1,
+    (lawful, (decides, (asked, (kind, paired)))))))))))
 
 
 pub relate_parts_with_variance-returns : goal.relate_parts_with_variance-returns
@@ -2618,7 +2620,8 @@ relate_parts-relate-requires g t c κs within =
     let under : 8 * depth (r.store).budget (weight r.store (arg_tree r.meaning X) + weight r.store (arg_tree r.meaning Y)) + 3 <
     8 * depth (r.store).budget (weight r.store a + weight r.store b) + 5 = omega (arith, same) in
     let d = c.decreases in
-    search rules
+    (search rules, (within.0, (within.1.0, (within.1.1.0, (within.1.1.1.0, (within.1.1.1.1.0, (within.1.1.1.1.1,
+    (lawful, (decides, asked)))))))))
 
 
 pub relate_parts-returns-in_ok-answer-in-Argument : goal.relate_parts-returns-in_ok-answer-in-Argument
@@ -2684,7 +2687,8 @@ relate_parts-binders-requires g t c κs within =
     let under : 8 * depth (r.store).budget (weight r.store a + weight r.store b) + 4 <
     8 * depth (r.store).budget (weight r.store a + weight r.store b) + 5 = omega arith in
     let d = c.decreases in
-    search rules
+    (search rules, (within.0, (within.1.0, (within.1.1.0, (within.1.1.1.0, (within.1.1.1.1.0, (within.1.1.1.1.1,
+    (lawful, (decides, (asked, (binder, one_sort)))))))))))
 
 
 pub relate_parts-returns-in-Binder : goal.relate_parts-returns-in-Binder
@@ -2789,7 +2793,8 @@ relate_parts-relate_in_order-requires g t c κs within =
     let under : 8 * depth (r.store).budget (weight r.store a + weight r.store b) <
     8 * depth (r.store).budget (weight r.store a + weight r.store b) + 5 = omega arith in
     let d = c.decreases in
-    search rules
+    (search rules, (within.0, (within.1.0, (within.1.1.0, (within.1.1.1.0, (within.1.1.1.1.0, (within.1.1.1.1.1,
+    (lawful, (decides, (asked, (form, (one_sort, alike))))))))))))
 
 
 pub relate_parts-returns-in_ok-compare_parts_of-in-Form : goal.relate_parts-returns-in_ok-compare_parts_of-in-Form
@@ -2820,7 +2825,8 @@ structurally_relate_tys-relate_in_order-requires g t c κs within =
     let under : 8 * depth (r.store).budget (weight r.store a + weight r.store b) <
     8 * depth (r.store).budget (weight r.store a + weight r.store b) + 1 = omega arith in
     let d = c.decreases in
-    search (rules, lawful, decides, asked, form, alike, under)
+    (search rules, (within.0, (within.1.0, (within.1.1.0, (within.1.1.1.0, (within.1.1.1.1.0, (within.1.1.1.1.1,
+    (lawful, (decides, (asked, (form, (refl, alike))))))))))))
 
 
 pub structurally_relate_tys-the_ty-requires : goal.structurally_relate_tys-the_ty-requires

@@ -1,8 +1,11 @@
-use Rattle.std.proofs.Common.{◌≡◌, sym, ap, ◌∙◌, subst, Ok, Err}
+use Rattle.std.proofs.Common.{◌≡◌, refl, sym, ap, subst, inr, Ok, Err}
 use Rattle.relation_terms.specs.Parts.{part_tree}
 use Rattle.type_relations.specs.Lawful.{Related}
 use Rattle.type_relations.proofs.Passing.{retold, refused_again, as_err}
 use Rattle.type_relations.proofs.relate.structural.pats.Goals as goal
+
+pub relate_parts-requires-clause-paired : goal.relate_parts-requires-clause-paired
+relate_parts-requires-clause-paired g c = inr refl
 
 pub the_pat-requires : goal.the_pat-requires
 the_pat-requires g c = (c.in_ok-relate_parts.ensures).sort
