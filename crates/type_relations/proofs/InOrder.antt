@@ -1,11 +1,12 @@
 -- Terms that are related by their parts, one after another, and terms that differ.
-use Rattle.std.proofs.Common.{◌≡◌, ◌≢◌, ℕ, suc, ◌<◌, refl, sym, ap, ◌∙◌, subst, subst₂, arith, ◌++◌, All, IsTrue, Ok, Err}
-use Rattle.std.proofs.Common.{List, [], ◌∷◌}
+use Rattle.std.proofs.Common.{◌≡◌, ◌≢◌, ℕ, suc, ◌<◌, refl, sym, ap, ◌∙◌, subst, subst₂, arith, Ok, Err}
+use Rattle.std.proofs.Common.{IsTrue, List, [], ◌∷◌, ◌++◌, All}
 use Rattle.relation_terms.specs.declared.terms.enums.Variance.{Variance}
 use Rattle.relation_terms.specs.declared.terms.enums.Variance.TheVariants.{Bivariant, Invariant}
 use Rattle.relation_terms.specs.declared.terms.part_kind.Part.{Part}
 use Rattle.relation_terms.specs.Heads.{Sort}
-use Rattle.relation_terms.specs.Trees.{Tree, node, leaf, bind, nil, cons, known, IsTerm, IsList, count, nth, apply, Assign}
+use Rattle.relation_terms.specs.Trees.{Tree, node, leaf, bind, nil, cons, known, IsTerm, IsList, count, nth, apply}
+use Rattle.relation_terms.specs.Trees.{Assign}
 use Rattle.relation_terms.specs.Parts.{Fit, part_sort, tree_sort}
 use Rattle.relation_tools.specs.declared.error.TypeError.{TypeError}
 use Rattle.relation_tools.specs.declared.error.RelateFault.{RelateFault}
@@ -16,11 +17,13 @@ use Rattle.type_relations.specs.Stores.{Satisfies}
 use Rattle.type_relations.specs.Goals.{Holds}
 use Rattle.type_relations.specs.Headline.{IsFirstOrderPair}
 use Rattle.type_relations.specs.OneUniverse.{NamesTypesTo, BindsNoMore}
-use Rattle.type_relations.specs.Errors.{ErrorOf, of_part_forms, AreOfOneForm, over_parts, one_leaf, parameters, PartError}
+use Rattle.type_relations.specs.Errors.{ErrorOf, of_part_forms, AreOfOneForm, over_parts, one_leaf, parameters}
+use Rattle.type_relations.specs.Errors.{PartError}
 use Rattle.type_relations.specs.Parts.{parts_of, head_of, IsByParts}
 use Rattle.type_relations.specs.Handing.{IsFaultOfPart}
 use Rattle.type_relations.specs.Making.{over}
-use Rattle.type_relations.specs.Lawful.{State, Manners, MayAnswer, Passes, Refuses, Related, ExactResult, ExactlyRelated, items_in}
+use Rattle.type_relations.specs.Lawful.{State, Manners, MayAnswer, Passes, Refuses, Related, items_in}
+use Rattle.type_relations.specs.Lawful.{ExactResult, ExactlyRelated}
 use Rattle.type_relations.proofs.Registered.{registered_in}
 use Rattle.type_relations.proofs.Passing.{passes_within, manner_then, stopped}
 use Rattle.type_relations.proofs.Fronts.{Fronted, AreParts, fronted_never, fronted_all, fronted_passes, fronted_fault}
@@ -34,7 +37,8 @@ use Rattle.type_relations.proofs.PartSizes.{weight_parts_most}
 use Rattle.type_relations.proofs.Answering.{same_items, may_itself, AnswersParts, may_form}
 use Rattle.type_relations.proofs.Lists.{firsts, snoc, firsts_more, firsts_all}
 use Rattle.type_relations.proofs.Patterns.{term_related}
-use Rattle.type_relations.proofs.PartErrors.{term_looked_at, terms_unify, part_error_never, part_error_apart, part_error_known}
+use Rattle.type_relations.proofs.PartErrors.{term_looked_at, terms_unify, part_error_never, part_error_apart}
+use Rattle.type_relations.proofs.PartErrors.{part_error_known}
 use Rattle.type_relations.proofs.Handing.{HaveAsManyInputs, part_complains, same_part_fault, part_still_unrelated}
 use Rattle.type_relations.proofs.Handing.{part_fault_known}
 
@@ -118,8 +122,10 @@ module _ {Key Id Name : Type 0} {r q : State Key Id Name} (M : Manners) (v : Var
       (ex : x ≡ nth i (parts_of a)) (ey : y ≡ nth i (parts_of b)) where
     term_refuses : {n : ℕ} {p : State Key Id Name} (g : Passes n q p) (e d : RelateFault Key Id Name) →
         IsFaultOfPart a i e d → Refuses q p (part_at (items_in r) (head_of a) i v) x y e → Refuses r p v a b d
-    term_refuses {p = p} g Memory d t h = subst (Refuses r p v a b) (sym (same_part_fault a i Memory d t (λ e z. cc))) tt
-    term_refuses {p = p} g Budget d t h = subst (Refuses r p v a b) (sym (same_part_fault a i Budget d t (λ e z. cc))) h
+    term_refuses {p = p} g Memory d t h =
+        subst (Refuses r p v a b) (sym (same_part_fault a i Memory d t (λ e z. cc))) tt
+    term_refuses {p = p} g Budget d t h =
+        subst (Refuses r p v a b) (sym (same_part_fault a i Budget d t (λ e z. cc))) h
     term_refuses {p = p} g (Unrelated e) d t h =
         let items : items_in p ≡ items_in r = same_items g ∙ same_items f.passes in
         let z = part_complains p.meaning (items_in p) p.store v k l a b i ta tb form o lx x y ex ey many e d t

@@ -245,8 +245,8 @@ pub fn structurally_relate_consts<I: Interner, R: TypeRelation<I>>(
     make_const(r, a, answers.as_slice())
 }
 
-/// Relates two patterns at the ambient variance, and answers the left one's form over what its parts answered: ranges by
-/// start, then end; alternatives pair by pair.
+/// Relates two patterns at the ambient variance, and answers the left one's form over what its parts answered: ranges
+/// by start, then end; alternatives pair by pair.
 ///
 /// Conditions are those of `tys`. Two of different forms, or with unlike numbers of alternatives, are `Mismatch`. All
 /// errors of the parts are handed on. Upstream this is the interner's `relate` of patterns.
@@ -294,8 +294,8 @@ fn relate_in_order<I: Interner, R: TypeRelation<I>>(
     make_part(r, a, answers.as_slice())
 }
 
-// Relates two parts at a variance, seen from the ambient one, which is put back after it, also after an error. An answer
-// says what `relate_parts` says.
+// Relates two parts at a variance, seen from the ambient one, which is put back after it, also after an error. An
+// answer says what one of `relate_parts` says.
 #[cycle(relate)]
 fn relate_parts_with_variance<I: Interner, R: TypeRelation<I>>(
     r: &mut R,
