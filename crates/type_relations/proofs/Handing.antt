@@ -5,11 +5,20 @@ use Rattle.relation_terms.specs.declared.terms.enums.Safety.{Safety}
 use Rattle.relation_terms.specs.declared.terms.enums.ExternAbi.{ExternAbi}
 use Rattle.relation_terms.specs.Heads.{Sort, Admits, region_sort, type_sort, const_sort, var_sort}
 use Rattle.relation_terms.specs.Heads.{head_sort, array, variable, bound, placeholder, atom, unknown}
-use Rattle.relation_terms.specs.Heads.{Leaf, inputs_sort, atom_sort, bound_sort, term_of, row, Atom, bool_type, Head, pattern_type}
+use Rattle.relation_terms.specs.Heads.{Leaf, inputs_sort, signature_sort, atom_sort, bound_sort, term_of, row, Atom, bool_type, Head, pattern_type}
 use Rattle.relation_terms.specs.Heads.{range_pattern, or_pattern, fn_ptr, unsafe_binder, dynamic, object, signature, inputs}
 use Rattle.relation_terms.specs.Heads.{existential_trait, existential_projection}
 use Rattle.relation_terms.specs.Trees.{Tree, leaf, node, nil, cons, Assign, apply, IsTerm, Fits, known, count, nth}
 use Rattle.relation_terms.specs.Meaning.{Meaning, arg_tree, kind_tree}
+use Rattle.relation_terms.specs.Parts.{part_tree, part_sort, tree_sort}
+use Rattle.relation_terms.specs.declared.terms.part_kind.Part.{Part}
+use Rattle.relation_terms.specs.declared.terms.part_kind.Part.TheVariants.{Region, Ty as TyPart, Const as ConstPart, ValTree}
+use Rattle.relation_terms.specs.declared.terms.part_kind.Part.TheVariants.{Pat, ValueType, Binder, Signature, Inputs}
+use Rattle.relation_terms.specs.declared.terms.part_kind.Part.TheVariants.{Existential, Object}
+use Rattle.relation_terms.specs.declared.terms.keys.TysKey.{TysKey}
+use Rattle.relation_terms.specs.declared.terms.fn_sig.FnSig.{FnSig}
+use Rattle.relation_terms.proofs.Sorted.{Sorted}
+use Rattle.relation_terms.proofs.Parts.{sort_known}
 use Rattle.relation_terms.specs.declared.terms.ty_kind.TyKind.{TyKind}
 use Rattle.relation_terms.specs.declared.terms.ty_kind.TyKind.TheVariants.{Array, Infer}
 use Rattle.relation_terms.specs.declared.terms.ty_kind.InferTy.TheVariants.{TyVar, IntVar, FloatVar, FreshTy, FreshIntTy, FreshFloatTy}
@@ -168,6 +177,77 @@ signature_shape ts f =
     let (t, u, e, g, h) = two_shape inputs_sort type_sort ts f in
     let (p, q) = inputs_shape t g in
     (p, u, e ∙ ap (λ z. cons z (cons u nil)) q)
+
+-- Which place an error of two parts names.
+pub named_output : (x : Bool) (s : Safety) (w : ExternAbi) (ts us : Tree) (i : ℕ) → 0 < i →
+    named_place (node (signature x s w) (cons (node inputs ts) us)) i ≡ Some (count ts)
+named_output x s w ts us zero l = absurd (omega (arith, l))
+named_output x s w ts us (suc i) l = refl
+
+first_unnamed : (x : Bool) (s : Safety) (w : ExternAbi) (ts : Tree) → named_place (node (signature x s w) ts) zero ≡ None
+first_unnamed x s w (cons (node inputs ts) us) = refl
+first_unnamed x s w (cons (node h ts) us) = refl
+first_unnamed x s w (cons t us) = refl
+first_unnamed x s w t = refl
+
+head_unnamed : (h : Head) (ts : Tree) (i : ℕ) → (head_sort h ≡ inputs_sort → ⊥) →
+    (head_sort h ≡ signature_sort → i ≡ 0) → named_place (node h ts) i ≡ None
+head_unnamed inputs ts i n o = absurd (n refl)
+head_unnamed (signature x s w) ts i n o = ap (named_place (node (signature x s w) ts)) (o refl) ∙ first_unnamed x s w ts
+head_unnamed h ts i n o = refl
+
+unnamed : (t : Tree) (i : ℕ) → (tree_sort t ≡ inputs_sort → ⊥) → (tree_sort t ≡ signature_sort → i ≡ 0) →
+    named_place t i ≡ None
+unnamed (node h ts) i n o = head_unnamed h ts i n o
+unnamed t i n o = refl
+
+module _ {Key Id Name : Type 0} (m : Meaning Key Id Name) (sorted : Sorted m) where
+  no_inputs : (p : Part Key Id) → ((t : TysKey Key) → p ≡ Inputs t → ⊥) → part_sort p ≡ inputs_sort → ⊥
+  no_inputs (Inputs t) n e = n t refl
+  no_inputs (Region r) n e = cc
+  no_inputs (TyPart t) n e = cc
+  no_inputs (ConstPart c) n e = cc
+  no_inputs (ValTree v) n e = cc
+  no_inputs (Pat o) n e = cc
+  no_inputs (ValueType t) n e = cc
+  no_inputs (Binder vs b) n e = cc
+  no_inputs (Signature s) n e = cc
+  no_inputs (Existential o) n e = cc
+  no_inputs (Object k) n e = cc
+
+  first_signature : (p : Part Key Id) (i : ℕ) → ((s : FnSig Key) → p ≡ Signature s → i ≡ 0) →
+      part_sort p ≡ signature_sort → i ≡ 0
+  first_signature (Signature s) i n e = n s refl
+  first_signature (Inputs t) i n e = absurd (cc)
+  first_signature (Region r) i n e = absurd (cc)
+  first_signature (TyPart t) i n e = absurd (cc)
+  first_signature (ConstPart c) i n e = absurd (cc)
+  first_signature (ValTree v) i n e = absurd (cc)
+  first_signature (Pat o) i n e = absurd (cc)
+  first_signature (ValueType t) i n e = absurd (cc)
+  first_signature (Binder vs b) i n e = absurd (cc)
+  first_signature (Existential o) i n e = absurd (cc)
+  first_signature (Object k) i n e = absurd (cc)
+
+  pub part_unnamed : (p : Part Key Id) (i : ℕ) → IsTrue (known (part_tree m p)) →
+      ((t : TysKey Key) → p ≡ Inputs t → ⊥) → ((s : FnSig Key) → p ≡ Signature s → i ≡ 0) →
+      named_place (part_tree m p) i ≡ None
+  part_unnamed p i k n o =
+      let e = sort_known m sorted p k in
+      unnamed (part_tree m p) i (λ q. no_inputs p n (sym e ∙ q)) (λ q. first_signature p i o (sym e ∙ q))
+
+-- Errors that name no place.
+pub names_none : {Key Id Name : Type 0} (e : TypeError Key Id Name) →
+    ((p : ExpectedFound (TyKey Key)) → e ≡ Sorts p → ⊥) →
+    ((p : ExpectedFound (TyKey Key)) (j : ℕ) → e ≡ ArgumentSorts p j → ⊥) → (e ≡ Mutability → ⊥) →
+    ((j : ℕ) → e ≡ ArgumentMutability j → ⊥) → NamesNoPlace e
+names_none {Key} {Id} {Name} e a b c d = λ f h. none f h
+  where
+    none : (f : TypeError Key Id Name) → IsPlaced 0 e f → ⊥
+    none f (sorts_at p q r) = a p q
+    none f (argument_sorts_at p j q r) = b p j q
+    none f (mutability_at q r) = c q
+    none f (argument_mutability_at j q r) = d j q
 
 -- An error of the parts at a place is the whole's where no place is named.
 module _ {Key Id Name : Type 0} (e : TypeError Key Id Name) where

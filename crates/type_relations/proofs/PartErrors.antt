@@ -1,5 +1,8 @@
 -- Terms that are related by their parts: when two are unified, and the errors of two that are not of one form.
-use Rattle.std.proofs.Common.{◌≡◌, ◌≢◌, ◌↔◌, ℕ, zero, suc, ◌<◌, refl, sym, ap, ◌∙◌, subst, subst₂, arith, List, [], ◌∷◌, IsTrue, Some, None}
+use Rattle.std.proofs.Common.{◌≡◌, ◌≢◌, ◌↔◌, ℕ, zero, suc, ◌<◌, refl, sym, ap, ◌∙◌, subst, subst₂, arith, List, [], ◌∷◌, IsTrue}
+use Rattle.std.proofs.Common.{Option, Some, None, Result, OnOk, IfErr}
+use Rattle.std.proofs.lemmas.Result.{on_ok_weaker, IfErr-weaker}
+use Rattle.std.proofs.lemmas.Bool.{false≢true}
 use Rattle.relation_terms.specs.declared.terms.enums.Safety.{Safety}
 use Rattle.relation_terms.specs.declared.terms.enums.ExternAbi.{ExternAbi}
 use Rattle.relation_terms.specs.declared.terms.enums.Variance.{Variance}
@@ -11,8 +14,14 @@ use Rattle.relation_terms.specs.Heads.{BoundKind, Atom, not_null_pattern, existe
 use Rattle.relation_terms.specs.Trees.{Tree, leaf, node, bind, nil, cons, Assign, apply, known, IsTerm, IsBinder, IsList, Fits}
 use Rattle.relation_terms.specs.Trees.{count, nth}
 use Rattle.relation_terms.specs.Erasure.{erase, erase_atom}
-use Rattle.relation_terms.specs.Meaning.{Meaning}
+use Rattle.relation_terms.specs.Meaning.{Meaning, under, existential_tree}
+use Rattle.relation_terms.specs.declared.terms.ids.TraitId.{TraitId}
+use Rattle.relation_terms.specs.declared.predicate.ExistentialTraitRef.{ExistentialTraitRef}
+use Rattle.relation_terms.specs.declared.predicate.ExistentialProjection.{ExistentialProjection}
+use Rattle.relation_terms.specs.declared.predicate.ExistentialPredicate.{ExistentialPredicate}
+use Rattle.relation_terms.specs.declared.predicate.ExistentialPredicate.TheVariants.{Trait, Projection, AutoTrait}
 use Rattle.relation_tools.specs.declared.error.TypeError.{TypeError}
+use Rattle.relation_tools.specs.declared.error.TypeError.TheVariants.{Mismatch}
 use Rattle.relation_tools.specs.Faults.{KnowsError}
 use Rattle.type_relations.specs.Relation.{at, plain_atom, sort_of}
 use Rattle.type_relations.specs.Stores.{Store}
@@ -137,6 +146,88 @@ members_alike s (bind ks t) (node h us) f g e = absurd g
 members_alike s (bind ks t) nil f g e = absurd g
 members_alike s (bind ks t) (cons u us) f g e = absurd g
 members_alike s t u f g e = absurd f
+
+-- Which of the three forms it has.
+abbrev form_number : Tree → ℕ
+form_number (node (existential_trait d) ts) = 0
+form_number (node (existential_projection d) ts) = 1
+form_number t = 2
+
+same_number : (a b : Tree) → AreAlikeExistentials a b → form_number a ≡ form_number b
+same_number a b (both_traits d e) = ap form_number d ∙ sym (ap form_number e)
+same_number a b (both_projections d e) = ap form_number d ∙ sym (ap form_number e)
+same_number a b (both_auto_traits d e) = ap form_number d ∙ sym (ap form_number e)
+
+module _ {Key Id Name : Type 0} (m : Meaning Key Id Name) where
+  abbrev tree : ExistentialPredicate Key Id → Tree
+  tree p = existential_tree m p
+
+  pub not_trait : (p q : ExistentialPredicate Key Id) (r : ExistentialTraitRef Key Id) → p ≡ Trait r →
+      ((o : ExistentialTraitRef Key Id) → q ≡ Trait o → ⊥) → AreAlikeExistentials (tree p) (tree q) → ⊥
+  not_trait p (Trait o) r e n a = n o refl
+  not_trait p (Projection o) r e n a =
+      let z : 0 ≡ 1 = sym (ap (λ x. form_number (tree x)) e) ∙ same_number (tree p) (tree (Projection o)) a in
+      omega (arith, z)
+  not_trait p (AutoTrait o) r e n a =
+      let z : 0 ≡ 2 = sym (ap (λ x. form_number (tree x)) e) ∙ same_number (tree p) (tree (AutoTrait o)) a in
+      omega (arith, z)
+
+  pub not_projection : (p q : ExistentialPredicate Key Id) (r : ExistentialProjection Key Id) → p ≡ Projection r →
+      ((o : ExistentialProjection Key Id) → q ≡ Projection o → ⊥) → AreAlikeExistentials (tree p) (tree q) → ⊥
+  not_projection p (Projection o) r e n a = n o refl
+  not_projection p (Trait o) r e n a =
+      let z : 1 ≡ 0 = sym (ap (λ x. form_number (tree x)) e) ∙ same_number (tree p) (tree (Trait o)) a in
+      omega (arith, z)
+  not_projection p (AutoTrait o) r e n a =
+      let z : 1 ≡ 2 = sym (ap (λ x. form_number (tree x)) e) ∙ same_number (tree p) (tree (AutoTrait o)) a in
+      omega (arith, z)
+
+  pub not_auto : (p q : ExistentialPredicate Key Id) (r : TraitId Id) → p ≡ AutoTrait r →
+      ((o : TraitId Id) → q ≡ AutoTrait o → ⊥) → AreAlikeExistentials (tree p) (tree q) → ⊥
+  not_auto p (AutoTrait o) r e n a = n o refl
+  not_auto p (Trait o) r e n a =
+      let z : 2 ≡ 0 = sym (ap (λ x. form_number (tree x)) e) ∙ same_number (tree p) (tree (Trait o)) a in
+      omega (arith, z)
+  not_auto p (Projection o) r e n a =
+      let z : 2 ≡ 1 = sym (ap (λ x. form_number (tree x)) e) ∙ same_number (tree p) (tree (Projection o)) a in
+      omega (arith, z)
+
+  existential_sort_is : (p : ExistentialPredicate Key Id) → sort_of (tree p) ≡ existential_sort
+  existential_sort_is (Trait o) = refl
+  existential_sort_is (Projection o) = refl
+  existential_sort_is (AutoTrait o) = refl
+
+  pub unlike_predicates : (p q : ExistentialPredicate Key Id) → (AreAlikeExistentials (tree p) (tree q) → ⊥) →
+      ExistentialError m (tree p) (tree q) Mismatch
+  unlike_predicates p q n = unlike_existentials (existential_sort_is p) (existential_sort_is q) n
+
+  -- Over one item two are told apart by the numbers of their parts.
+  module _ (p q : ExistentialPredicate Key Id) (h : Head) (ts us : Tree) (i j : ℕ) (s : head_sort h ≡ existential_sort)
+      (d : tree p ≡ node h ts) (e : tree q ≡ node h us) (result : Result (Unit {0}) (TypeError Key Id Name)) where
+    pub counts_alike : (i ≡ j → count ts ≡ count us) → OnOk result (i ≡ j) →
+        OnOk result (AreOfOneForm (tree p) (tree q))
+    counts_alike n r = on_ok_weaker result (λ z. over_parts d e (n z)) r
+
+    pub counts_differ : (count ts ≡ count us → i ≡ j) → IfErr result (λ x. (i ≢ j) × (x ≡ Mismatch)) →
+        IfErr result (ExistentialError m (tree p) (tree q))
+    counts_differ n r = IfErr-weaker result (λ x. (i ≢ j) × (x ≡ Mismatch)) (ExistentialError m (tree p) (tree q))
+        (λ x z. subst (ExistentialError m (tree p) (tree q)) (sym z.1) (unlike_arguments s d e (λ c. z.0 (n c)))) r
+
+-- Members are alike just where the predicates under their binders are.
+alike_under : (ks ls : List BoundKind) (a b t u : Tree) → bind ks a ≡ t → bind ls b ≡ u → AreAlikeMembers t u →
+    AreAlikeExistentials a b
+alike_under ks ls a b t u p q (under_binders {a = x} {b = y} d e h) =
+    let left : a ≡ x = (let z = p ∙ d in cc) in
+    let right : b ≡ y = (let z = q ∙ e in cc) in
+    subst₂ AreAlikeExistentials (sym left) (sym right) h
+
+pub members_as : (o q : Option (List BoundKind)) (a b t u : Tree) → under o a ≡ t → under q b ≡ u →
+    IsTrue (known t) → IsTrue (known u) →
+    (AreAlikeExistentials a b → AreAlikeMembers t u) × (AreAlikeMembers t u → AreAlikeExistentials a b)
+members_as (Some ks) (Some ls) a b t u p q k l =
+    (λ h. under_binders (sym p) (sym q) h, λ h. alike_under ks ls a b t u p q h)
+members_as None q a b t u p e k l = absurd (false≢true (subst (λ z. IsTrue (known z)) (sym p) k))
+members_as (Some ks) None a b t u p e k l = absurd (false≢true (subst (λ z. IsTrue (known z)) (sym e) l))
 
 unified_nth : (s : Assign) (ts us : Tree) (i : ℕ) → i < count ts → i < count us → Unifies s ts us →
     Unifies s (nth i ts) (nth i us)

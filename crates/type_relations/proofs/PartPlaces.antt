@@ -11,6 +11,14 @@ use Rattle.relation_terms.specs.Heads.{head_sort, Head, pattern_type, range_patt
 use Rattle.relation_terms.specs.Heads.{dynamic, object, signature, inputs, existential_trait, existential_projection}
 use Rattle.relation_terms.specs.Trees.{Tree, leaf, node, bind, nil, cons, IsTerm, IsBinder, AreTerms, Fits, count, nth}
 use Rattle.relation_terms.specs.Parts.{part_sort, tree_sort}
+use Rattle.relation_terms.specs.Variances.{xform}
+use Rattle.relation_terms.specs.Meaning.{Meaning, existential_tree, signature_tree}
+use Rattle.relation_terms.specs.declared.terms.fn_sig.FnSig.{FnSig}
+use Rattle.relation_terms.specs.declared.terms.enums.Variance.{Variance}
+use Rattle.relation_terms.specs.declared.terms.enums.Variance.TheVariants.{Covariant, Contravariant, Invariant}
+use Rattle.relation_terms.specs.declared.predicate.ExistentialPredicate.{ExistentialPredicate}
+use Rattle.relation_terms.specs.declared.predicate.ExistentialPredicate.TheVariants.{Trait, Projection, AutoTrait}
+use Rattle.type_relations.specs.Relation.{Items, mode, part_at}
 use Rattle.relation_terms.proofs.Members.{type_term, const_term, pattern_term, region_term}
 use Rattle.type_relations.specs.Errors.{AreOfOneForm}
 use Rattle.type_relations.specs.Parts.{parts_of, head_of, IsByParts, IsRelatedPart, IsArgPart, ArePaired}
@@ -165,6 +173,36 @@ term_place : (s : Sort) (t : Tree) (i : ℕ) → IsTerm s t → IsByParts t → 
 term_place s (node h ts) i f o l = head_place h ts i o f.1 l
 term_place s (leaf x) i f o l = absurd (omega (arith, l))
 term_place s t i f o l = absurd o
+
+-- A place is at the whole's own variance, but of a signature's inputs and in predicates of trait objects.
+pub covariant_place : (c : Items) (t : Tree) (i : ℕ) → IsByParts t → (tree_sort t ≡ existential_sort → ⊥) →
+    (tree_sort t ≡ signature_sort → i ≡ 0 → ⊥) → mode c (head_of t) i ≡ Covariant
+covariant_place c (node pattern_type ts) i o e n = refl
+covariant_place c (node range_pattern ts) i o e n = refl
+covariant_place c (node or_pattern ts) i o e n = refl
+covariant_place c (node fn_ptr ts) i o e n = refl
+covariant_place c (node unsafe_binder ts) i o e n = refl
+covariant_place c (node dynamic ts) i o e n = refl
+covariant_place c (node object ts) i o e n = refl
+covariant_place c (node (signature x s k) ts) zero o e n = absurd (n refl refl)
+covariant_place c (node (signature x s k) ts) (suc i) o e n = refl
+covariant_place c (node inputs ts) i o e n = refl
+covariant_place c (node (existential_trait d) ts) i o e n = absurd (e refl)
+covariant_place c (node (existential_projection d) ts) i o e n = absurd (e refl)
+covariant_place c (leaf l) i o e n = refl
+covariant_place c t i o e n = absurd o
+
+module _ {Key Id Name : Type 0} (m : Meaning Key Id Name) (c : Items) where
+  pub existential_place : (p : ExistentialPredicate Key Id) (i : ℕ) (v : Variance) →
+      i < count (parts_of (existential_tree m p)) → xform v Invariant ≡ part_at c (head_of (existential_tree m p)) i v
+  existential_place (Trait p) i v l = refl
+  existential_place (Projection p) i v l = refl
+  existential_place (AutoTrait d) i v l = absurd (omega (arith, l))
+
+  pub signature_place : (g : FnSig Key) (i : ℕ) (v : Variance) → i ≡ 0 →
+      xform v Contravariant ≡ part_at c (head_of (signature_tree m g)) i v
+  signature_place g zero v e = refl
+  signature_place g (suc i) v e = absurd (omega (arith, e))
 
 -- No such part is a value tree or the type of a value.
 abbrev IsNoValue : Sort → Type 0

@@ -16,7 +16,18 @@ use Rattle.relation_terms.specs.Heads.{existential_trait, existential_projection
 use Rattle.relation_terms.specs.Heads.{existential_auto, variable, bound, placeholder, atom, unknown, BoundKind, bound_kind}
 use Rattle.relation_terms.specs.Heads.{bound_sort, region_kind, type_kind, const_kind}
 use Rattle.relation_terms.specs.Trees.{Tree, leaf, node, bind, nil, cons, known, IsTerm, count}
-use Rattle.relation_terms.specs.Meaning.{Meaning, under, existential_tree}
+use Rattle.relation_terms.specs.Meaning.{Meaning, under, existential_tree, kind_tree}
+use Rattle.relation_terms.specs.declared.terms.ty_kind.TyKind.{TyKind}
+use Rattle.relation_terms.specs.declared.terms.ty_kind.TyKind.TheVariants.{Pat as TyPat, FnPtr, UnsafeBinder, Dynamic, Infer}
+use Rattle.relation_terms.specs.declared.terms.ty_kind.InferTy.TheVariants.{TyVar, IntVar, FloatVar}
+use Rattle.relation_terms.specs.declared.terms.ty_kind.InferTy.TheVariants.{FreshTy, FreshIntTy, FreshFloatTy}
+use Rattle.relation_terms.specs.declared.terms.binder.Binder.{Binder as BinderOf}
+use Rattle.relation_terms.specs.declared.terms.fn_sig.FnSigTys.{FnSigTys}
+use Rattle.relation_terms.specs.declared.terms.fn_sig.FnHeader.{FnHeader}
+use Rattle.relation_terms.specs.declared.terms.keys.TyKey.{TyKey}
+use Rattle.relation_terms.specs.declared.terms.keys.PatKey.{PatKey}
+use Rattle.relation_terms.specs.declared.terms.keys.RegionKey.{RegionKey}
+use Rattle.relation_terms.specs.declared.terms.keys.ExistentialPredicatesKey.{ExistentialPredicatesKey}
 use Rattle.relation_terms.specs.Parts.{body_tree, part_tree, part_sort, parts_of as list_of_parts, over as term_over}
 use Rattle.relation_terms.proofs.Binders.{front_known, front_terms}
 use Rattle.relation_terms.proofs.Sorted.{Sorted, signature_sorted, existential_sorted}
@@ -270,6 +281,23 @@ module _ {Key Id Name : Type 0} (m : Meaning Key Id Name) (sorted : Sorted m) wh
   existential_is (Trait p) = tt
   existential_is (Projection p) = tt
   existential_is (AutoTrait d) = tt
+
+  -- Of types it is these four forms alone.
+  pub kind_not : (k : TyKind Key Id Name) → ((t : TyKey Key) (p : PatKey Key) → k ≡ TyPat t p → ⊥) →
+      ((b : BinderOf Key (FnSigTys Key)) (h : FnHeader) → k ≡ FnPtr b h → ⊥) →
+      ((b : BinderOf Key (TyKey Key)) → k ≡ UnsafeBinder b → ⊥) →
+      ((ps : ExistentialPredicatesKey Key) (r : RegionKey Key) → k ≡ Dynamic ps r → ⊥) → IsByParts (kind_tree m k) → ⊥
+  kind_not (TyPat t p) a b c d o = a t p refl
+  kind_not (FnPtr s h) a b c d o = b s h refl
+  kind_not (UnsafeBinder s) a b c d o = c s refl
+  kind_not (Dynamic ps r) a b c d o = d ps r refl
+  kind_not (Infer (TyVar v)) a b c d o = o
+  kind_not (Infer (IntVar v)) a b c d o = o
+  kind_not (Infer (FloatVar v)) a b c d o = o
+  kind_not (Infer (FreshTy n)) a b c d o = o
+  kind_not (Infer (FreshIntTy n)) a b c d o = o
+  kind_not (Infer (FreshFloatTy n)) a b c d o = o
+  kind_not k a b c d o = o
 
   -- What is compared is related by its parts.
   pub compared_is : (p : Part Key Id) → IsComparedPart p → IsTrue (known (part_tree m p)) →

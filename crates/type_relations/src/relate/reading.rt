@@ -244,6 +244,7 @@ pub(crate) fn term_variance_at<I: Interner, R: TypeRelation<I>>(
 ) -> Variance
     requires known { IsTrue (known (part_tree (R.state r.now).meaning term.now)) }
     requires form { IsByParts (part_tree (R.state r.now).meaning term.now) }
+    requires in_bounds { i < count (parts_of (part_tree (R.state r.now).meaning term.now)) }
     ensures { let q = R.state r.now in
         xform q.ambient result ≡ part_in q (head_of (part_tree q.meaning term.now)) i }
 {

@@ -1,8 +1,8 @@
 //! Comparing signatures and predicates of trait objects, and parts of terms.
 ghost use Rattle.std.specs.Prelude.{◌≡◌, ◌≢◌, ◌<◌, IsTrue, IsFalse, OnOk, IfErr};
-ghost use Rattle.relation_terms.specs.Heads.{object, inputs};
+ghost use Rattle.relation_terms.specs.Heads.{object, inputs, object_sort};
 ghost use Rattle.relation_terms.specs.Trees.{known, node, count, nth, front};
-ghost use Rattle.relation_terms.specs.Meaning.{Meaning, existential_tree, signature_tree};
+ghost use Rattle.relation_terms.specs.Meaning.{existential_tree, signature_tree};
 ghost use Rattle.relation_tools.specs.declared.error.TypeError.TheVariants.{Mismatch};
 ghost use Rattle.relation_terms.specs.Parts.{part_tree, part_sort};
 ghost use Rattle.type_relations.specs.Errors.{AreOfOneForm, AreAlikeExistentials, AreAlikeMembers, SignatureError};
@@ -122,13 +122,17 @@ pub fn compare_existentials<I: Interner>(
 }
 
 // Whether two predicates of trait objects are of one form.
-fn are_alike_existentials<X: Copy, D: Copy>(
-    a: &ExistentialPredicate<X, D>,
-    b: &ExistentialPredicate<X, D>,
+fn are_alike_existentials<I: Interner>(
+    cx: &I,
+    a: &ExistentialPredicate<I::Key, I::Id>,
+    b: &ExistentialPredicate<I::Key, I::Id>,
 ) -> bool
-    ensures { (N : Type 0) (m : Meaning X D N) →
+    ensures alike { let m = I.meaning cx.now in
+        IsTrue result → AreAlikeExistentials (existential_tree m a.now) (existential_tree m b.now) }
+    ensures unlike { let m = I.meaning cx.now in
         IsFalse result → AreAlikeExistentials (existential_tree m a.now) (existential_tree m b.now) → ⊥ }
 {
+    let _ = cx;
     match a {
         ExistentialPredicate::Trait(_) => matches!(b, ExistentialPredicate::Trait(_)),
         ExistentialPredicate::Projection(_) => matches!(b, ExistentialPredicate::Projection(_)),
@@ -172,7 +176,10 @@ pub fn compare_members<I: Interner>(
     requires in_a { i < count (parts_of (part_tree (I.meaning cx.now) a.now)) }
     requires in_b { i < count (parts_of (part_tree (I.meaning cx.now) b.now)) }
     requires one_sort { part_sort b.now ≡ part_sort a.now }
-    ensures { let m = I.meaning cx.now in IfErr result (PartError m (part_tree m a.now) (part_tree m b.now)) }
+    ensures alike { let m = I.meaning cx.now in OnOk result (part_sort a.now ≡ object_sort →
+        AreAlikeMembers (nth i (parts_of (part_tree m a.now))) (nth i (parts_of (part_tree m b.now)))) }
+    ensures errors { let m = I.meaning cx.now in
+        IfErr result (PartError m (part_tree m a.now) (part_tree m b.now)) }
 {
     let Part::Object(left) = a else {
         return Ok(());
@@ -182,7 +189,7 @@ pub fn compare_members<I: Interner>(
     };
     let x = cx.existential_predicates(left)[i];
     let y = cx.existential_predicates(right)[i];
-    if !are_alike_existentials(&x.value, &y.value) {
+    if !are_alike_existentials(cx, &x.value, &y.value) {
         return Err(TypeError::ExistentialMismatch(ExpectedFound::new(*left, *right)));
     }
     Ok(())
