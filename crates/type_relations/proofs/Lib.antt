@@ -62,6 +62,7 @@ pub mod Patterns
 pub mod PartPlaces
 pub mod PartErrors
 pub mod InOrder
+pub mod ByParts
 pub mod Unifying
 pub mod Rejected
 pub mod Roots

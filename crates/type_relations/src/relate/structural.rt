@@ -1,13 +1,14 @@
 //! The recursion over every relation.
 //!
 //! These calls stand beside the relation, whose steps never call them: one proof serves all relations.
-ghost use Rattle.std.specs.Prelude.{◌≡◌, ◌≢◌, IsTrue, IfOk};
+ghost use Rattle.std.specs.Prelude.{◌≡◌, ◌≢◌, IsTrue, IfOk, OnOk};
 ghost use Rattle.relation_terms.specs.declared.terms.enums.Variance.TheVariants.{Bivariant};
 ghost use Rattle.relation_terms.specs.Variances.{xform};
 ghost use Rattle.relation_terms.specs.Meaning.{arg_tree};
 ghost use Rattle.relation_terms.specs.Parts.{part_tree, part_sort};
 ghost use Rattle.type_relations.specs.Errors.{AreOfOneForm};
-ghost use Rattle.type_relations.specs.Parts.{IsFormed, IsFormedConst, IsByParts, IsRelatedPart, IsBinderPart, ArePaired};
+ghost use Rattle.type_relations.specs.Parts.{IsFormed, IsFormedConst, IsByParts, IsRelatedPart, IsComparedPart};
+ghost use Rattle.type_relations.specs.Parts.{IsBinderPart, ArePaired};
 ghost use Rattle.type_relations.specs.Keyed.{AskedArgs, AskedArgsAt, AskedConsts, AskedPats, AskedParts, AskedTys};
 ghost use Rattle.type_relations.specs.Keyed.{AskedPartsAt, RelatedArgs, RelatedArgsAt, RelatedConsts, RelatedPats};
 ghost use Rattle.type_relations.specs.Keyed.{RelatedParts, RelatedPartsAt, RelatedTys};
@@ -244,8 +245,8 @@ pub fn structurally_relate_consts<I: Interner, R: TypeRelation<I>>(
     make_const(r, a, answers.as_slice())
 }
 
-/// Relates two patterns at the ambient variance, and answers the left one's form over what its parts answered: ranges by
-/// start, then end; alternatives pair by pair.
+/// Relates two patterns at the ambient variance, and answers the left one's form over what its parts answered: ranges
+/// by start, then end; alternatives pair by pair.
 ///
 /// Conditions are those of `tys`. Two of different forms, or with unlike numbers of alternatives, are `Mismatch`. All
 /// errors of the parts are handed on. Upstream this is the interner's `relate` of patterns.
@@ -293,7 +294,8 @@ fn relate_in_order<I: Interner, R: TypeRelation<I>>(
     make_part(r, a, answers.as_slice())
 }
 
-// Relates two parts at a variance, seen from the ambient one, which is put back after it, also after an error.
+// Relates two parts at a variance, seen from the ambient one, which is put back after it, also after an error. An
+// answer says what one of `relate_parts` says.
 #[cycle(relate)]
 fn relate_parts_with_variance<I: Interner, R: TypeRelation<I>>(
     r: &mut R,
@@ -308,6 +310,8 @@ fn relate_parts_with_variance<I: Interner, R: TypeRelation<I>>(
     requires paired { ArePaired a.now b.now }
     ensures related { RelatedPartsAt R.manner (R.state r.old) (R.state r.new) variance a.now b.now result }
     ensures sort { IfOk result (λ p. part_sort p ≡ part_sort a.now) }
+    ensures alike { let m = (R.state r.old).meaning in
+        IsComparedPart a.now → OnOk result (AreOfOneForm (part_tree m a.now) (part_tree m b.now)) }
 {
     let old = r.ambient();
     r.set_ambient(old.xform(variance));
@@ -316,7 +320,8 @@ fn relate_parts_with_variance<I: Interner, R: TypeRelation<I>>(
     answer
 }
 
-// Relates two parts of terms: generic arguments, whose kinds may differ, binders, or others of one sort.
+// Relates two parts of terms: generic arguments, whose kinds may differ, binders, or others of one sort. Of these an
+// answer says that they are of one form, with as many parts.
 #[cycle(relate)]
 fn relate_parts<I: Interner, R: TypeRelation<I>>(
     r: &mut R,
@@ -330,6 +335,8 @@ fn relate_parts<I: Interner, R: TypeRelation<I>>(
     requires paired { ArePaired a.now b.now }
     ensures related { RelatedParts R.manner (R.state r.old) (R.state r.new) a.now b.now result }
     ensures sort { IfOk result (λ p. part_sort p ≡ part_sort a.now) }
+    ensures alike { let m = (R.state r.old).meaning in
+        IsComparedPart a.now → OnOk result (AreOfOneForm (part_tree m a.now) (part_tree m b.now)) }
 {
     match kind_of_part(a) {
         PartKind::Argument => {

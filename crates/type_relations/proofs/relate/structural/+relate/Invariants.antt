@@ -9,6 +9,7 @@ use Rattle.type_relations.specs.Making.{Fit}
 use Rattle.type_relations.proofs.Lists.{firsts}
 use Rattle.type_relations.proofs.Fronts.{Fronted, AreParts}
 use Rattle.type_relations.proofs.Answering.{AreAnswers}
+use Rattle.type_relations.proofs.Handing.{HaveAsManyInputs}
 use Rattle.type_relations.proofs.relate.structural.+relate.Given as goal
 
 abbrev pub decreases-structurally_relate_tys : goal.decreases-structurally_relate_tys
@@ -110,4 +111,5 @@ invariant-relate_in_order-loop-i g l =
       answers : AreAnswers g.R.TypeRelation.manner q (head_of t) r.ambient l.i (parts_of t)
           (list_tree (part_tree q.meaning) l.answers.items);
       fits : PartsFit l.answers.items (firsts l.i (parts_of t));
+      inputs : HaveAsManyInputs t u l.i;
     }
