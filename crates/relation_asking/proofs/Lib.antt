@@ -1,4 +1,5 @@
 pub mod AskingLemmas
+pub mod BindingLemmas
 pub mod Counting
 pub mod CoverLemmas
 pub mod NeedLemmas
