@@ -133,7 +133,7 @@ module _ (items names parts : List ℕ) (ts : List Tree) (us : List Uses) (told 
       let b = is_variable (at ts h.0) v.0 v.2 in
       let said : Tells (Some h.1) (at ts h.0) = subst (λ o. Tells o (at ts h.0)) h.4 (told h.0) in
       let one : AreUsed (h.2 ∷ []) 0 (leaf (bound v.0 b.0 b.1)) =
-          subst (λ xs. AreUsed xs 0 (leaf (bound v.0 b.0 b.1))) h.5 (subst (AreUsed (h.1.outer).items 0) b.2 said.0) in
+      subst (λ xs. AreUsed xs 0 (leaf (bound v.0 b.0 b.1))) h.5 (subst (AreUsed (h.1.outer).items 0) b.2 said.0) in
       (v.0, v.1, sym (only_one h.2 v.0 b.0 b.1 one) ∙ ap sort_of h.6)
 
   module _ (inner : Uses) where

@@ -176,12 +176,21 @@ module _ (items names parts : List ℕ) where
       let o = variables_of (parts_tree parts ts v) in
       let ins = front (parts_tree parts ts q) in
       let out = last (parts_tree parts ts q) in
-      let body = node (signature g.c_variadic g.safety g.abi) (cons (node inputs ins) (cons out nil)) in
-      (tt, (under_covered o body
-      (λ j b. let p = and_parts (known ins) (known out && true) j in
-      (tt, ((tt, front_covered ts ns h no_needs _ p.0 r b.0),
-      (last_covered ts ns h no_needs _ (and_parts (known out) true p.1).0 r b.1.0, tt))))
-      (and_parts (known (under o body)) true k).0 l.0, tt))
+      let body = node (signature g.c_variadic g.safety g.abi) (cons (node inputs ins) (cons out nil)) in (
+        tt,
+        (
+          under_covered o body
+              (λ j b. let p = and_parts (known ins) (known out && true) j in (
+                tt,
+                (
+                  (tt, front_covered ts ns h no_needs _ p.0 r b.0),
+                  (last_covered ts ns h no_needs _ (and_parts (known out) true p.1).0 r b.1.0, tt),
+                ),
+              ))
+              (and_parts (known (under o body)) true k).0 l.0,
+          tt,
+        ),
+      )
   term_covered ts ns h (term.UnsafeBinder v t) k r l =
       let o = variables_of (parts_tree parts ts v) in
       (tt, (under_covered o (at ts t) (λ j b. h t j r b) (and_parts (known (under o (at ts t))) true k).0 l.0, tt))

@@ -237,7 +237,7 @@ module _ (items names parts : List ℕ) (P : Needs → Tree → Type 0) (missing
         let t = term_tree items names parts ts x in
         let o = slice_get us (length ns) in
         let said : Tells o t = subst (λ k. Tells (slice_get us k) t) l
-            (subst (Tells (slice_get us (length ts))) (next_is items names parts ts x xs) (h (length ts))) in
+        (subst (Tells (slice_get us (length ts))) (next_is items names parts ts x xs) (h (length ts))) in
         let n = told o (term_need parts ns x) in
         holds_from (ts ++ t ∷ []) (ns ++ n ∷ []) (one_longer ts ns t n l) (holds_more ts ns l e t n (each ts ns e x o said)) xs h
 

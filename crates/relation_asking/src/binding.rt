@@ -1,9 +1,12 @@
 //! What terms use that binders outside them bind, and whether their own binders bind by their lists.
-ghost use Rattle.std.specs.Prelude.{◌≡◌, ℕ, List, All, Contains, IsTrue, IfOk, IfSome, OnOk, slice_range};
+ghost use Rattle.std.specs.Prelude.{◌≡◌, ℕ, suc, List, [], ◌∷◌, All, Contains, Some, IsTrue, IfOk, IfSome, OnOk};
+ghost use Rattle.std.specs.Prelude.{slice_get, slice_range};
+ghost use Rattle.relation_asking.specs.declared.binding.Uses.{Uses};
 ghost use Rattle.relation_text.specs.Terms.{trees_of};
 ghost use Rattle.relation_asking.specs.Binding.{AreIn, TakesAll, TakesAt, TakesIf, TakesInside, Behind, HasSort};
 ghost use Rattle.relation_asking.specs.Binding.{BindsAll, SaysOf, AreTold, own_of, inside_of};
 
+use crate::needs::number_at;
 use relation_text::naming::{Parts, Program, Term};
 use std::alloc::{AllocError, Global};
 
@@ -95,29 +98,66 @@ fn add_all(to: &mut Uses, from: &Uses) -> Result<(), AllocError>
     Ok(())
 }
 
+// Adds what a binder leaves of a thing that is used under it.
+fn add_behind(outside: &mut Vec<Outer>, one: Outer) -> Result<(), AllocError>
+    ensures there { OnOk result ((d : ℕ) → one.depth ≡ suc d →
+        Contains outside.new.items (record one { depth = d })) }
+    ensures kept { OnOk result (AreIn outside.new.items outside.old.items) }
+{
+    match one.depth.checked_sub(1) {
+        None => Ok(()),
+        Some(depth) => add(outside, Outer { depth, ..one }),
+    }
+}
+
 // What a binder leaves of what is used under it.
 fn behind(alloc: Global, inside: &[Outer]) -> Result<Vec<Outer>, AllocError>
     ensures { IfOk result (λ outside. Behind inside.now outside.items) }
 {
     let mut outside = Vec::new(alloc);
     for one in inside {
-        if let Some(depth) = one.depth.checked_sub(1) {
-            add(&mut outside, Outer { depth, ..*one })?;
-        }
+        add_behind(&mut outside, *one)?;
     }
     Ok(outside)
 }
 
-// What the term at a place of a binder's list is, if it is what a binder binds.
+// The number at a place of a list.
+fn number_in(numbers: &[usize], list: Parts, place: usize) -> Option<usize>
+    ensures { IfSome result (λ n.
+        slice_get (slice_range numbers.now list.first list.behind) place ≡ Some n) }
+{
+    let places = numbers.get(list.first..list.behind)?;
+    number_at(places, place)
+}
+
+// The one thing, if there is just one.
+fn only(all: &[Outer]) -> Option<Outer>
+    ensures { IfSome result (λ x. all.now ≡ x ∷ []) }
+{
+    match all {
+        [one] => Some(*one),
+        _ => None,
+    }
+}
+
+// The one thing that the term of a number uses, if it uses just one.
+fn only_at(before: &[Uses], number: usize) -> Option<Outer>
+    ensures { IfSome result (λ x.
+        (u : Uses) × (slice_get before.now number ≡ Some u) × ((u.outer).items ≡ x ∷ [])) }
+{
+    match before.get(number) {
+        None => None,
+        Some(uses) => only(&uses.outer),
+    }
+}
+
+// What stands at a place of a binder's list, if that is what a binder binds.
 fn sort_at(numbers: &[usize], before: &[Uses], list: Parts, place: usize) -> Option<BoundSort>
     ensures { IfSome result (HasSort before.now (slice_range numbers.now list.first list.behind) place) }
 {
-    let places = numbers.get(list.first..list.behind)?;
-    let uses = before.get(*places.get(place)?)?;
-    match uses.outer.as_slice() {
-        [one] => Some(one.sort),
-        _ => None,
-    }
+    let number = number_in(numbers, list, place)?;
+    let one = only_at(before, number)?;
+    Some(one.sort)
 }
 
 // Whether a thing stands in a binder's list by its place, if that binder binds it.
@@ -200,10 +240,8 @@ fn inside_of(term: Term) -> Inside
             second: Some(second),
             ..NOTHING
         },
-        Term::Item(_, _, list) | Term::Tuple(list) | Term::Expr(_, list) | Term::Or(list) => Inside {
-            list,
-            ..NOTHING
-        },
+        Term::Item(_, _, list) | Term::Tuple(list) | Term::Expr(_, list) | Term::Or(list) =>
+            Inside { list, ..NOTHING },
         Term::Branch(first, list) | Term::Object(list, first) => Inside {
             first: Some(first),
             list,
@@ -258,9 +296,8 @@ fn add_list(
         (slice_range numbers.now list.first list.behind)) }
     ensures kept { OnOk result (TakesAll to.new to.old) }
 {
-    let places = numbers.get(list.first..list.behind).unwrap_or(&[]);
-    for number in places {
-        add_at(to, before, Some(*number))?;
+    for place in list.first..list.behind {
+        add_at(to, before, number_at(numbers, place))?;
     }
     Ok(())
 }
@@ -284,6 +321,29 @@ fn uses_inside(
     Ok(uses)
 }
 
+// The same with what the term itself is, if it is a bound variable.
+fn with_own(uses: Uses, own: Option<Outer>) -> Result<Uses, AllocError>
+    ensures kept { IfOk result (λ u. TakesAll u uses) }
+    ensures own { IfOk result (λ u. IfSome own (Contains (u.outer).items)) }
+{
+    let mut uses = uses;
+    match own {
+        None => Ok(uses),
+        Some(own) => {
+            add(&mut uses.outer, own)?;
+            Ok(uses)
+        }
+    }
+}
+
+// Whether the binders under a binder bind by their lists, and that one does.
+fn bind_all(numbers: &[usize], before: &[Uses], list: Parts, inside: &Uses) -> bool
+    ensures { IsTrue result → IsTrue (inside.now).by_lists ×
+        BindsAll before.now (slice_range numbers.now list.first list.behind) ((inside.now).outer).items }
+{
+    inside.by_lists && binds_all(numbers, before, list, &inside.outer)
+}
+
 // What a term uses, by what the terms before it use.
 fn term_uses(
     alloc: Global,
@@ -294,18 +354,14 @@ fn term_uses(
     ensures { IfOk result (SaysOf numbers.now before.now term) }
 {
     let inside = inside_of(term);
-    let mut uses = uses_inside(alloc, numbers, before, inside)?;
-    if let Some(own) = own_of(term) {
-        add(&mut uses.outer, own)?;
-    }
+    let parts = uses_inside(alloc, numbers, before, inside)?;
+    let uses = with_own(parts, own_of(term))?;
     let Some(list) = inside.binder else {
         return Ok(uses);
     };
-    let by_lists = uses.by_lists && binds_all(numbers, before, list, &uses.outer);
-    Ok(Uses {
-        outer: behind(alloc, &uses.outer)?,
-        by_lists,
-    })
+    let by_lists = bind_all(numbers, before, list, &uses);
+    let outer = behind(alloc, &uses.outer)?;
+    Ok(Uses { outer, by_lists })
 }
 
 /// What each term of a program uses of the binders outside it, and whether the binders in it bind by their lists.

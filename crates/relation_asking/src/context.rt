@@ -279,7 +279,9 @@ pub(super) fn write_not_asked<W: Write>(why: NotAsked, out: &mut W) -> fmt::Resu
     out.write_str("not asked: ")?;
     match why {
         NotAsked::Rules => out.write_str("a form in these types has no rules yet"),
-        NotAsked::Escapes => out.write_str("a binder outside these types binds what stands in them"),
+        NotAsked::Escapes => out.write_str(
+            "a binder outside these types binds what stands in them",
+        ),
         NotAsked::Lists => out.write_str("a binder in these types does not bind by its list"),
         NotAsked::Universe(universe) => {
             write!(

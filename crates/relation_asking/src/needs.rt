@@ -86,7 +86,7 @@ pub(crate) fn need_at(before: &[Needs], number: usize) -> Needs
 }
 
 // The number at a place of a list.
-fn number_at(numbers: &[usize], place: usize) -> Option<usize>
+pub(crate) fn number_at(numbers: &[usize], place: usize) -> Option<usize>
     ensures { result ≡ slice_get numbers.now place }
 {
     numbers.get(place).copied()
@@ -193,9 +193,15 @@ fn term_need(numbers: &[usize], before: &[Needs], term: Term) -> Needs
         Term::TyError | Term::ConstError => without_rules(NONE),
         Term::FnPtr(_, _, types) => parts_need(numbers, before, types),
         Term::UnsafeBinder(_, body) => need_at(before, body),
-        Term::Object(parts, region) => both(parts_need(numbers, before, parts), need_at(before, region)),
+        Term::Object(parts, region) => both(
+            parts_need(numbers, before, parts),
+            need_at(before, region),
+        ),
         Term::Implements(_, _, args) => parts_need(numbers, before, args),
-        Term::Projects(_, _, args, term) => both(need_at(before, term), parts_need(numbers, before, args)),
+        Term::Projects(_, _, args, term) => both(
+            need_at(before, term),
+            parts_need(numbers, before, args),
+        ),
         _ => NONE,
     }
 }
@@ -218,11 +224,7 @@ fn told_at(needs: Needs, all: &[Uses], number: usize) -> Needs
 ///
 /// # Errors
 /// `AllocError` where a growth was refused.
-pub fn needs_of(
-    alloc: Global,
-    program: &Program,
-    uses: &[Uses],
-) -> Result<Vec<Needs>, AllocError>
+pub fn needs_of(alloc: Global, program: &Program, uses: &[Uses]) -> Result<Vec<Needs>, AllocError>
     ensures { let xs = program.now.terms.items in
         IfOk result (λ needs. needs.items ≡ needs_of program.now.parts.items uses.now xs) }
 {
