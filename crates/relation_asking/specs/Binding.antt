@@ -9,7 +9,7 @@ use Rattle.relation_text.specs.declared.naming.program.Term.{Term}
 use Rattle.relation_text.specs.declared.naming.program.Term.TheVariants as term
 use Rattle.relation_text.specs.Terms.{at}
 use Rattle.relation_asking.specs.declared.binding.BoundSort.{BoundSort}
-use Rattle.relation_asking.specs.declared.binding.BoundSort.TheVariants.{Region, Type as TypeSort, Const}
+use Rattle.relation_asking.specs.declared.binding.BoundSort.TheVariants.{Region, Ty, Const}
 use Rattle.relation_asking.specs.declared.binding.Outer.{Outer}
 use Rattle.relation_asking.specs.declared.binding.Uses.{Uses}
 use Rattle.relation_asking.specs.declared.binding.Inside.{Inside}
@@ -17,7 +17,7 @@ use Rattle.relation_asking.specs.declared.binding.Inside.{Inside}
 -- The sort of what a binder binds.
 abbrev pub sort_of : BoundSort → Sort
 sort_of Region = region_sort
-sort_of TypeSort = type_sort
+sort_of Ty = type_sort
 sort_of Const = const_sort
 
 -- What a leaf uses, which stands under so many binders of the term, of a binder outside the term: it is among these.
@@ -75,7 +75,7 @@ BindsAll before places xs = All (λ x. x.depth ≡ 0 → HasSort before places x
 
 -- What a bound variable uses: itself.
 abbrev pub own_of : Term → Option Outer
-own_of (term.TyBound d v n) = Some (record { depth = d; place = v; sort = TypeSort })
+own_of (term.TyBound d v n) = Some (record { depth = d; place = v; sort = Ty })
 own_of (term.RegionBound d v n) = Some (record { depth = d; place = v; sort = Region })
 own_of (term.ConstBound d v n) = Some (record { depth = d; place = v; sort = Const })
 own_of t = None

@@ -14,7 +14,7 @@ use std::alloc::{AllocError, Global};
 #[derive(Clone, Copy)]
 pub enum BoundSort {
     Region,
-    Type,
+    Ty,
     Const,
 }
 
@@ -50,7 +50,7 @@ fn is_same_sort(a: BoundSort, b: BoundSort) -> bool
     matches!(
         (a, b),
         (BoundSort::Region, BoundSort::Region)
-            | (BoundSort::Type, BoundSort::Type)
+            | (BoundSort::Ty, BoundSort::Ty)
             | (BoundSort::Const, BoundSort::Const)
     )
 }
@@ -195,7 +195,7 @@ fn own_of(term: Term) -> Option<Outer>
         Term::TyBound(depth, place, _) => Some(Outer {
             depth,
             place,
-            sort: BoundSort::Type,
+            sort: BoundSort::Ty,
         }),
         Term::RegionBound(depth, place, _) => Some(Outer {
             depth,

@@ -451,12 +451,11 @@ stays_covered (by_parts h g) cov all = let i = stays_covered g cov.1 all in
 stays_covered (in_binder {ks = ks} g) cov all = let i = stays_covered g cov.1 all in
     ((i.1.bound ks 0 cov.0, i.0), record { bound = λ ls d b. i.1.bound ls (suc d) b; within = λ d b. i.1.within (suc d) b }, i.2)
 stays_covered no_parts cov all = (tt, record { bound = λ ks d b. tt; within = λ d b. tt }, all)
-stays_covered (next_part g f) cov all = let a = stays_covered g cov.0 all in let b = stays_covered f cov.1 a.2 in
-    (
-      (a.0, b.0),
-      record { bound = λ ks d h. (a.1.bound ks d h.0, b.1.bound ks d h.1); within = λ d h. (a.1.within d h.0, b.1.within d h.1) },
-      b.2,
-    )
+stays_covered (next_part g f) cov all = let a = stays_covered g cov.0 all in let b = stays_covered f cov.1 a.2 in (
+  (a.0, b.0),
+  record { bound = λ ks d h. (a.1.bound ks d h.0, b.1.bound ks d h.1); within = λ d h. (a.1.within d h.0, b.1.within d h.1) },
+  b.2,
+)
 
 module _ {c : Items} {start st : Store} {k : VarKind} {n : ℕ} {turn : Turn} {q : Stage} {t x : Tree}
     (g : Generalised c start k n turn (record { store = st; met = [] }) t q x) (cov : IsCovered t) where
