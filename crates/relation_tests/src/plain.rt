@@ -148,10 +148,10 @@ impl<I: Interner> TypeRelation<I> for PlainRelation<I> {
         b: &BinderOf<I, T>,
         round: usize,
     ) -> RelateResult<I, Option<(T, T)>> {
-        if round > 0 {
-            return Ok(None);
+        if round == 0 {
+            return Ok(Some((a.value, b.value)));
         }
-        Ok(Some((a.value, b.value)))
+        Ok(None)
     }
 
     fn tys_done(&mut self, _a: &Ty<I>, _b: &Ty<I>) -> RelateResult<I, ()> {
