@@ -55,6 +55,13 @@ use Rattle.type_relations.proofs.Looping.{failed_part, kept_part}
 use Rattle.type_relations.specs.Subtyping.{RegistersSubtype, StepRegistersSubtype}
 use Rattle.type_relations.proofs.Subtyping.{left_none, right_none, lifetime_none, const_none, no_ty_none, refused_told}
 use Rattle.type_relations.proofs.Subtyping.{done_registers, refused_registers, parts_register, again_registers}
+use Rattle.std.proofs.Common.{Some, None}
+use Rattle.relation_terms.proofs.Stays.{extends_on}
+use Rattle.type_relations.specs.Rounds.{Opened}
+use Rattle.type_relations.proofs.Bodies.{opened_related, opened_paired}
+use Rattle.type_relations.proofs.Rounds.{no_first_order, opening_refused, first_refused, first_done, half_asked}
+use Rattle.type_relations.proofs.Rounds.{reopening_refused, nothing_left, second_refused, second_related}
+use Rattle.type_relations.proofs.Rounds.{first_under, second_under}
 use Rattle.type_relations.proofs.relate.structural.+relate.Goals as goal
 
 pub consts-returns-in-Done : goal.consts-returns-in-Done
@@ -2878,3 +2885,300 @@ structurally_relate_tys-part_of-y-requires-clause-over_args g t c =
     λ o. absurd (false≢true (sym c.if-is_by_parts_of.false ∙ (c.is_by_parts_of.ensures).1
     (term_alike b a back (subst IsByParts same o))))
 
+pub binders-returns-then-is_same_of : goal.binders-returns-then-is_same_of
+binders-returns-then-is_same_of g t c =
+    let r = g.R.TypeRelation.state c.args.r.now in
+    let M = g.R.TypeRelation.manner in
+    let a = part_tree r.meaning c.args.a.now in
+    let b = part_tree r.meaning c.args.b.now in
+    let k = c.requires.asked in
+    record {
+      related = itself_related M r r.ambient (part_tree r.meaning) a b c.args.a.now
+          (c.is_same_of.ensures c.if-is_same_of.true) refl k.left_known;
+      sort = refl;
+    }
+
+pub binders-returns-in_err-x : goal.binders-returns-in_err-x
+binders-returns-in_err-x g t c =
+    let r = g.R.TypeRelation.state c.args.r.now in
+    let M = g.R.TypeRelation.manner in
+    let a = part_tree r.meaning c.args.a.now in
+    let b = part_tree r.meaning c.args.b.now in
+    let k = c.requires.asked in
+    let no = no_first_order r.meaning c.args.a.now c.requires.binder in
+    let q = g.R.TypeRelation.state c.open_bodies.new.r in
+    let e = c.in_err-x in
+    let failed = as_err c.from_residual.result e.field-0.0 c.from_residual.ensures.0 c.from_residual.ensures.1 in
+    record {
+      related = subst (λ z. Related M r q r.ambient a b (part_tree q.meaning) z) (sym failed)
+          (opening_refused M 0 a b (part_tree q.meaning) (part_tree q.meaning) no e.field-0.0 (e.ensures).opened);
+      sort = subst (λ u. IfOk u (λ z. part_sort z ≡ part_sort c.args.a.now)) (sym failed) tt;
+    }
+
+pub binders-returns-in_default : goal.binders-returns-in_default
+binders-returns-in_default g t c =
+    let r = g.R.TypeRelation.state c.args.r.now in
+    let M = g.R.TypeRelation.manner in
+    let a = part_tree r.meaning c.args.a.now in
+    let b = part_tree r.meaning c.args.b.now in
+    let k = c.requires.asked in
+    let q = g.R.TypeRelation.state c.open_bodies.new.r in
+    let o : Opened M r q 0 a b (part_tree q.meaning) (Ok None) =
+    subst (λ z. Opened M r q 0 a b (part_tree q.meaning) (Ok z)) c.in_default.is (c.in_ok-x.ensures).opened in
+    let never = (o.verdict).0 in
+    absurd (omega (arith, never))
+
+pub binders-relate_parts-requires : goal.binders-relate_parts-requires
+binders-relate_parts-requires g t c κs within =
+    let r = g.R.TypeRelation.state c.args.r.now in
+    let M = g.R.TypeRelation.manner in
+    let a = part_tree r.meaning c.args.a.now in
+    let b = part_tree r.meaning c.args.b.now in
+    let k = c.requires.asked in
+    let q = g.R.TypeRelation.state c.open_bodies.new.r in
+    let x = part_tree q.meaning c.in-Some.x in
+    let y = part_tree q.meaning c.in-Some.y in
+    let o : Opened M r q 0 a b (part_tree q.meaning) (Ok (Some (c.in-Some.x, c.in-Some.y))) =
+    subst (λ z. Opened M r q 0 a b (part_tree q.meaning) (Ok z)) c.in-Some.is (c.in_ok-x.ensures).opened in
+    let lawful = (o.passes).lawful c.requires.lawful in
+    let decides : q.ambient ≢ Bivariant = λ e. c.requires.decides (sym (o.passes).ambient ∙ e) in
+    let asked : Asked M q q.ambient x y = subst (λ v. Asked M q v x y) (sym (o.passes).ambient) (o.verdict).asked in
+    let kind = opened_related c.in_ok-x.field-0 c.in-Some.x c.in-Some.y c.in-Some.is (c.in_ok-x.ensures).related in
+    let paired = opened_paired c.in_ok-x.field-0 c.in-Some.x c.in-Some.y c.in-Some.is (c.in_ok-x.ensures).paired in
+    let less = first_under M (o.passes).added a b x y o.verdict in
+    let under : 8 * depth (q.store).budget (weight q.store x + weight q.store y) + 5 <
+    8 * depth (r.store).budget (weight r.store a + weight r.store b) + 4 = omega (arith, less) in
+    let d = c.decreases in
+    search (rules, lawful, decides, asked, kind, paired, under)
+
+pub binders-returns-in_err-relate_parts : goal.binders-returns-in_err-relate_parts
+binders-returns-in_err-relate_parts g t c =
+    let r = g.R.TypeRelation.state c.args.r.now in
+    let M = g.R.TypeRelation.manner in
+    let a = part_tree r.meaning c.args.a.now in
+    let b = part_tree r.meaning c.args.b.now in
+    let k = c.requires.asked in
+    let no = no_first_order r.meaning c.args.a.now c.requires.binder in
+    let q = g.R.TypeRelation.state c.open_bodies.new.r in
+    let x = part_tree q.meaning c.in-Some.x in
+    let y = part_tree q.meaning c.in-Some.y in
+    let o : Opened M r q 0 a b (part_tree q.meaning) (Ok (Some (c.in-Some.x, c.in-Some.y))) =
+    subst (λ z. Opened M r q 0 a b (part_tree q.meaning) (Ok z)) c.in-Some.is (c.in_ok-x.ensures).opened in
+    let p = g.R.TypeRelation.state c.relate_parts.new.r in
+    let e = c.in_err-relate_parts in
+    let failed = as_err c.from_residual-in_err-relate_parts.result e.field-0.0 c.from_residual-in_err-relate_parts.ensures.0 c.from_residual-in_err-relate_parts.ensures.1 in
+    let inner = subst (λ v. Related M q p v x y (part_tree p.meaning) (Err e.field-0.0)) (o.passes).ambient
+    (e.ensures).related in
+    let sound = g.met.R.TypeRelation.sound c.relate_parts.new.r
+    ((inner.passes).lawful ((o.passes).lawful c.requires.lawful)) in
+    record {
+      related = subst (λ z. Related M r p r.ambient a b (part_tree p.meaning) z) (sym failed)
+          (first_refused M a b x y (part_tree p.meaning) (part_tree p.meaning) no sound o.passes o.verdict e.field-0.0 inner);
+      sort = subst (λ u. IfOk u (λ z. part_sort z ≡ part_sort c.args.a.now)) (sym failed) tt;
+    }
+
+pub binders-open_bodies-requires-2 : goal.binders-open_bodies-requires-2
+binders-open_bodies-requires-2 g t c =
+    let r = g.R.TypeRelation.state c.args.r.now in
+    let M = g.R.TypeRelation.manner in
+    let a = part_tree r.meaning c.args.a.now in
+    let b = part_tree r.meaning c.args.b.now in
+    let k = c.requires.asked in
+    let q = g.R.TypeRelation.state c.open_bodies.new.r in
+    let x = part_tree q.meaning c.in-Some.x in
+    let y = part_tree q.meaning c.in-Some.y in
+    let o : Opened M r q 0 a b (part_tree q.meaning) (Ok (Some (c.in-Some.x, c.in-Some.y))) =
+    subst (λ z. Opened M r q 0 a b (part_tree q.meaning) (Ok z)) c.in-Some.is (c.in_ok-x.ensures).opened in
+    let p = g.R.TypeRelation.state c.relate_parts.new.r in
+    let n = c.in_ok-relate_parts in
+    let inner = subst (λ v. Related M q p v x y (part_tree p.meaning) (Ok n.field-0)) (o.passes).ambient
+    (n.ensures).related in
+    let half = first_done M a b x y (part_tree p.meaning) n.field-0 o.passes o.verdict inner in
+    record {
+      lawful = (half.passes).lawful c.requires.lawful;
+      decides = λ e. c.requires.decides (sym (half.passes).ambient ∙ e);
+      round = omega arith;
+      asked = half_asked M c.args.a.now c.args.b.now half k;
+      binder = c.requires.binder;
+      one_sort = c.requires.one_sort;
+    }
+
+pub binders-returns-in_err-x-2 : goal.binders-returns-in_err-x-2
+binders-returns-in_err-x-2 g t c =
+    let r = g.R.TypeRelation.state c.args.r.now in
+    let M = g.R.TypeRelation.manner in
+    let a = part_tree r.meaning c.args.a.now in
+    let b = part_tree r.meaning c.args.b.now in
+    let k = c.requires.asked in
+    let no = no_first_order r.meaning c.args.a.now c.requires.binder in
+    let q = g.R.TypeRelation.state c.open_bodies.new.r in
+    let x = part_tree q.meaning c.in-Some.x in
+    let y = part_tree q.meaning c.in-Some.y in
+    let o : Opened M r q 0 a b (part_tree q.meaning) (Ok (Some (c.in-Some.x, c.in-Some.y))) =
+    subst (λ z. Opened M r q 0 a b (part_tree q.meaning) (Ok z)) c.in-Some.is (c.in_ok-x.ensures).opened in
+    let p = g.R.TypeRelation.state c.relate_parts.new.r in
+    let n = c.in_ok-relate_parts in
+    let inner = subst (λ v. Related M q p v x y (part_tree p.meaning) (Ok n.field-0)) (o.passes).ambient
+    (n.ensures).related in
+    let half = first_done M a b x y (part_tree p.meaning) n.field-0 o.passes o.verdict inner in
+    let same_a = stays_part (half.passes).extends c.args.a.now k.left_known in
+    let same_b = stays_part (half.passes).extends c.args.b.now k.right_known in
+    let w = g.R.TypeRelation.state c.open_bodies-2.new.r in
+    let e = c.in_err-x-2 in
+    let failed = as_err c.from_residual-in_err-x-2.result e.field-0.0 c.from_residual-in_err-x-2.ensures.0 c.from_residual-in_err-x-2.ensures.1 in
+    let again = subst₂ (λ t u. Opened M p w 1 t u (part_tree w.meaning) (Err e.field-0.0)) same_a same_b
+    (e.ensures).opened in
+    record {
+      related = subst (λ z. Related M r w r.ambient a b (part_tree w.meaning) z) (sym failed)
+          (reopening_refused M 1 a b (part_tree w.meaning) (part_tree w.meaning) no half e.field-0.0 again);
+      sort = subst (λ u. IfOk u (λ z. part_sort z ≡ part_sort c.args.a.now)) (sym failed) tt;
+    }
+
+pub binders-returns-in_default-2 : goal.binders-returns-in_default-2
+binders-returns-in_default-2 g t c =
+    let r = g.R.TypeRelation.state c.args.r.now in
+    let M = g.R.TypeRelation.manner in
+    let a = part_tree r.meaning c.args.a.now in
+    let b = part_tree r.meaning c.args.b.now in
+    let k = c.requires.asked in
+    let no = no_first_order r.meaning c.args.a.now c.requires.binder in
+    let q = g.R.TypeRelation.state c.open_bodies.new.r in
+    let x = part_tree q.meaning c.in-Some.x in
+    let y = part_tree q.meaning c.in-Some.y in
+    let o : Opened M r q 0 a b (part_tree q.meaning) (Ok (Some (c.in-Some.x, c.in-Some.y))) =
+    subst (λ z. Opened M r q 0 a b (part_tree q.meaning) (Ok z)) c.in-Some.is (c.in_ok-x.ensures).opened in
+    let p = g.R.TypeRelation.state c.relate_parts.new.r in
+    let n = c.in_ok-relate_parts in
+    let inner = subst (λ v. Related M q p v x y (part_tree p.meaning) (Ok n.field-0)) (o.passes).ambient
+    (n.ensures).related in
+    let half = first_done M a b x y (part_tree p.meaning) n.field-0 o.passes o.verdict inner in
+    let same_a = stays_part (half.passes).extends c.args.a.now k.left_known in
+    let same_b = stays_part (half.passes).extends c.args.b.now k.right_known in
+    let w = g.R.TypeRelation.state c.open_bodies-2.new.r in
+    let again = subst₂ (λ t u. Opened M p w 1 t u (part_tree w.meaning) (Ok None)) same_a same_b
+    (subst (λ z. Opened M p w 1 (part_tree p.meaning c.args.a.now) (part_tree p.meaning c.args.b.now)
+    (part_tree w.meaning) (Ok z)) c.in_default-2.is (c.in_ok-x-2.ensures).opened) in
+    let stays = extends_on (half.passes).extends (again.passes).extends in
+    record {
+      related = nothing_left M 1 a b (part_tree w.meaning) (part_tree w.meaning) c.args.a.now no
+          (stays_part stays c.args.a.now k.left_known) k.left_known half again;
+      sort = refl;
+    }
+
+pub binders-relate_parts-requires-2 : goal.binders-relate_parts-requires-2
+binders-relate_parts-requires-2 g t c κs within =
+    let r = g.R.TypeRelation.state c.args.r.now in
+    let M = g.R.TypeRelation.manner in
+    let a = part_tree r.meaning c.args.a.now in
+    let b = part_tree r.meaning c.args.b.now in
+    let k = c.requires.asked in
+    let q = g.R.TypeRelation.state c.open_bodies.new.r in
+    let x = part_tree q.meaning c.in-Some.x in
+    let y = part_tree q.meaning c.in-Some.y in
+    let o : Opened M r q 0 a b (part_tree q.meaning) (Ok (Some (c.in-Some.x, c.in-Some.y))) =
+    subst (λ z. Opened M r q 0 a b (part_tree q.meaning) (Ok z)) c.in-Some.is (c.in_ok-x.ensures).opened in
+    let p = g.R.TypeRelation.state c.relate_parts.new.r in
+    let n = c.in_ok-relate_parts in
+    let inner = subst (λ v. Related M q p v x y (part_tree p.meaning) (Ok n.field-0)) (o.passes).ambient
+    (n.ensures).related in
+    let half = first_done M a b x y (part_tree p.meaning) n.field-0 o.passes o.verdict inner in
+    let same_a = stays_part (half.passes).extends c.args.a.now k.left_known in
+    let same_b = stays_part (half.passes).extends c.args.b.now k.right_known in
+    let w = g.R.TypeRelation.state c.open_bodies-2.new.r in
+    let s = part_tree w.meaning c.in-Some-2.x in
+    let u = part_tree w.meaning c.in-Some-2.y in
+    let again : Opened M p w 1 a b (part_tree w.meaning) (Ok (Some (c.in-Some-2.x, c.in-Some-2.y))) =
+    subst₂ (λ t u. Opened M p w 1 t u (part_tree w.meaning) (Ok (Some (c.in-Some-2.x, c.in-Some-2.y)))) same_a same_b
+    (subst (λ z. Opened M p w 1 (part_tree p.meaning c.args.a.now) (part_tree p.meaning c.args.b.now)
+    (part_tree w.meaning) (Ok z)) c.in-Some-2.is (c.in_ok-x-2.ensures).opened) in
+    let lawful = (again.passes).lawful ((half.passes).lawful c.requires.lawful) in
+    let decides : w.ambient ≢ Bivariant =
+    λ e. c.requires.decides (sym ((again.passes).ambient ∙ (half.passes).ambient) ∙ e) in
+    let asked : Asked M w w.ambient s u =
+    subst (λ v. Asked M w v s u) (sym (again.passes).ambient) (again.verdict).asked in
+    let kind = opened_related c.in_ok-x-2.field-0 c.in-Some-2.x c.in-Some-2.y c.in-Some-2.is (c.in_ok-x-2.ensures).related in
+    let paired = opened_paired c.in_ok-x-2.field-0 c.in-Some-2.x c.in-Some-2.y c.in-Some-2.is (c.in_ok-x-2.ensures).paired in
+    let less = second_under M (again.passes).added a b s u half again.verdict in
+    let under : 8 * depth (w.store).budget (weight w.store s + weight w.store u) + 5 <
+    8 * depth (r.store).budget (weight r.store a + weight r.store b) + 4 = omega (arith, less) in
+    let d = c.decreases in
+    search (rules, lawful, decides, asked, kind, paired, under)
+
+pub binders-returns-in_err-relate_parts-2 : goal.binders-returns-in_err-relate_parts-2
+binders-returns-in_err-relate_parts-2 g t c =
+    let r = g.R.TypeRelation.state c.args.r.now in
+    let M = g.R.TypeRelation.manner in
+    let a = part_tree r.meaning c.args.a.now in
+    let b = part_tree r.meaning c.args.b.now in
+    let k = c.requires.asked in
+    let no = no_first_order r.meaning c.args.a.now c.requires.binder in
+    let q = g.R.TypeRelation.state c.open_bodies.new.r in
+    let x = part_tree q.meaning c.in-Some.x in
+    let y = part_tree q.meaning c.in-Some.y in
+    let o : Opened M r q 0 a b (part_tree q.meaning) (Ok (Some (c.in-Some.x, c.in-Some.y))) =
+    subst (λ z. Opened M r q 0 a b (part_tree q.meaning) (Ok z)) c.in-Some.is (c.in_ok-x.ensures).opened in
+    let p = g.R.TypeRelation.state c.relate_parts.new.r in
+    let n = c.in_ok-relate_parts in
+    let inner = subst (λ v. Related M q p v x y (part_tree p.meaning) (Ok n.field-0)) (o.passes).ambient
+    (n.ensures).related in
+    let half = first_done M a b x y (part_tree p.meaning) n.field-0 o.passes o.verdict inner in
+    let same_a = stays_part (half.passes).extends c.args.a.now k.left_known in
+    let same_b = stays_part (half.passes).extends c.args.b.now k.right_known in
+    let w = g.R.TypeRelation.state c.open_bodies-2.new.r in
+    let s = part_tree w.meaning c.in-Some-2.x in
+    let u = part_tree w.meaning c.in-Some-2.y in
+    let again : Opened M p w 1 a b (part_tree w.meaning) (Ok (Some (c.in-Some-2.x, c.in-Some-2.y))) =
+    subst₂ (λ t u. Opened M p w 1 t u (part_tree w.meaning) (Ok (Some (c.in-Some-2.x, c.in-Some-2.y)))) same_a same_b
+    (subst (λ z. Opened M p w 1 (part_tree p.meaning c.args.a.now) (part_tree p.meaning c.args.b.now)
+    (part_tree w.meaning) (Ok z)) c.in-Some-2.is (c.in_ok-x-2.ensures).opened) in
+    let z = g.R.TypeRelation.state c.relate_parts-2.new.r in
+    let e = c.in_err-relate_parts-2 in
+    let failed = as_err c.from_residual-in_err-relate_parts-2.result e.field-0.0 c.from_residual-in_err-relate_parts-2.ensures.0 c.from_residual-in_err-relate_parts-2.ensures.1 in
+    let last = subst (λ v. Related M w z v s u (part_tree z.meaning) (Err e.field-0.0)) (again.passes).ambient
+    (e.ensures).related in
+    let sound = g.met.R.TypeRelation.sound c.relate_parts-2.new.r
+    ((last.passes).lawful ((again.passes).lawful ((half.passes).lawful c.requires.lawful))) in
+    record {
+      related = subst (λ t. Related M r z r.ambient a b (part_tree z.meaning) t) (sym failed)
+          (second_refused M a b s u no k half again.passes again.verdict (part_tree z.meaning) (part_tree z.meaning)
+          sound e.field-0.0 last);
+      sort = subst (λ u. IfOk u (λ z. part_sort z ≡ part_sort c.args.a.now)) (sym failed) tt;
+    }
+
+pub binders-returns : goal.binders-returns
+binders-returns g t c =
+    let r = g.R.TypeRelation.state c.args.r.now in
+    let M = g.R.TypeRelation.manner in
+    let a = part_tree r.meaning c.args.a.now in
+    let b = part_tree r.meaning c.args.b.now in
+    let k = c.requires.asked in
+    let no = no_first_order r.meaning c.args.a.now c.requires.binder in
+    let q = g.R.TypeRelation.state c.open_bodies.new.r in
+    let x = part_tree q.meaning c.in-Some.x in
+    let y = part_tree q.meaning c.in-Some.y in
+    let o : Opened M r q 0 a b (part_tree q.meaning) (Ok (Some (c.in-Some.x, c.in-Some.y))) =
+    subst (λ z. Opened M r q 0 a b (part_tree q.meaning) (Ok z)) c.in-Some.is (c.in_ok-x.ensures).opened in
+    let p = g.R.TypeRelation.state c.relate_parts.new.r in
+    let n = c.in_ok-relate_parts in
+    let inner = subst (λ v. Related M q p v x y (part_tree p.meaning) (Ok n.field-0)) (o.passes).ambient
+    (n.ensures).related in
+    let half = first_done M a b x y (part_tree p.meaning) n.field-0 o.passes o.verdict inner in
+    let same_a = stays_part (half.passes).extends c.args.a.now k.left_known in
+    let same_b = stays_part (half.passes).extends c.args.b.now k.right_known in
+    let w = g.R.TypeRelation.state c.open_bodies-2.new.r in
+    let s = part_tree w.meaning c.in-Some-2.x in
+    let u = part_tree w.meaning c.in-Some-2.y in
+    let again : Opened M p w 1 a b (part_tree w.meaning) (Ok (Some (c.in-Some-2.x, c.in-Some-2.y))) =
+    subst₂ (λ t u. Opened M p w 1 t u (part_tree w.meaning) (Ok (Some (c.in-Some-2.x, c.in-Some-2.y)))) same_a same_b
+    (subst (λ z. Opened M p w 1 (part_tree p.meaning c.args.a.now) (part_tree p.meaning c.args.b.now)
+    (part_tree w.meaning) (Ok z)) c.in-Some-2.is (c.in_ok-x-2.ensures).opened) in
+    let z = g.R.TypeRelation.state c.relate_parts-2.new.r in
+    let m = c.in_ok-relate_parts-2 in
+    let last = subst (λ v. Related M w z v s u (part_tree z.meaning) (Ok m.field-0)) (again.passes).ambient
+    (m.ensures).related in
+    let stays = extends_on (half.passes).extends (extends_on (again.passes).extends (last.passes).extends) in
+    record {
+      related = second_related M a b s u no k half again.passes again.verdict (part_tree z.meaning) m.field-0
+          (part_tree z.meaning) c.args.a.now (stays_part stays c.args.a.now k.left_known) last;
+      sort = refl;
+    }
