@@ -1,17 +1,17 @@
 -- Opening two binders in a context, the one with placeholders and the other with new variables: what that does to the
 -- context, and that the bodies may stand for the binders.
-use Rattle.std.proofs.Common.{◌≡◌, ◌≢◌, ◌⊎◌, ℕ, ◌+◌, ◌<◌, refl, sym, ap, ap₂, ◌∙◌, arith, inl, inr, subst, subst₂, List}
+use Rattle.std.proofs.Common.{◌≡◌, ◌⊎◌, ℕ, ◌+◌, ◌<◌, refl, sym, ap, ap₂, ◌∙◌, arith, inl, inr, subst, subst₂, List}
 use Rattle.std.proofs.Common.{[], ◌∷◌, ◌++◌, length, get_or}
 use Rattle.relation_terms.specs.declared.terms.enums.Variance.{Variance}
-use Rattle.relation_terms.specs.Heads.{BoundKind, VarKind, type_var, const_var, Leaf, variable, bound, placeholder, atom}
-use Rattle.relation_terms.specs.Heads.{unknown}
+use Rattle.relation_terms.specs.Heads.{BoundKind, VarKind, type_var, const_var, Leaf, variable, bound, placeholder}
+use Rattle.relation_terms.specs.Heads.{atom, unknown}
 use Rattle.relation_terms.specs.Trees.{Tree, leaf, bind, inst, size, Leaves}
 use Rattle.relation_terms.specs.Meaning.{Meaning}
 use Rattle.relation_tools.specs.declared.error.TypeError.{TypeError}
 use Rattle.type_relations.specs.Relation.{Items, StaysWithin, at, second_opened, first_opened}
-use Rattle.type_relations.specs.Stores.{Store, unbound, entry_term, counts_term, counts_bound, tally, bound_term, all_bound}
-use Rattle.type_relations.specs.Stores.{IsMade, IsMadeLeaf, IsInScope, InContext, IsNamable, IsTermIn, IsSound, resolved}
-use Rattle.type_relations.specs.Stores.{weight}
+use Rattle.type_relations.specs.Stores.{Store, unbound, entry_term, counts_term, counts_bound, tally, bound_term}
+use Rattle.type_relations.specs.Stores.{all_bound, IsMade, IsMadeLeaf, IsInScope, InContext, IsNamable, IsTermIn}
+use Rattle.type_relations.specs.Stores.{IsSound, resolved, weight}
 use Rattle.type_relations.specs.Goals.{Goal}
 use Rattle.type_relations.specs.Steps.{ChangesNothing, EntersForall, LeavesBody, EntersUniverse, InstantiatesBinder}
 use Rattle.type_relations.specs.Steps.{ArePlaceholders}
