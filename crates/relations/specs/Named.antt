@@ -20,8 +20,9 @@ IsMiddleRow name =
 -- A row from r40 on, but below r60, has that name.
 abbrev pub IsUpperRow : List ℕ → Type 0
 IsUpperRow name =
-    (name ≡ codes "r42") ⊎ ((name ≡ codes "r43") ⊎ ((name ≡ codes "r45") ⊎ ((name ≡ codes "r46") ⊎ (
-    (name ≡ codes "r53") ⊎ ((name ≡ codes "r54") ⊎ ((name ≡ codes "r55") ⊎ (name ≡ codes "r59")))))))
+    (name ≡ codes "r42") ⊎ ((name ≡ codes "r43") ⊎ ((name ≡ codes "r44") ⊎ ((name ≡ codes "r45") ⊎ (
+    (name ≡ codes "r46") ⊎ ((name ≡ codes "r53") ⊎ ((name ≡ codes "r54") ⊎ ((name ≡ codes "r55") ⊎
+    (name ≡ codes "r59"))))))))
 
 -- A row from r60 on has that name.
 abbrev pub IsHighRow : List ℕ → Type 0

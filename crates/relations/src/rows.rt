@@ -32,7 +32,7 @@ pub enum RowFault {
 }
 
 /// The rows, in the order of their numbers.
-pub const ROWS: [Row; 39] = [
+pub const ROWS: [Row; 40] = [
     Row {
         name: "r01",
         questions: "may unify[rigid, rigid] bool, char at 0; may unify[rigid, rigid] bool, char at 1;",
@@ -190,6 +190,12 @@ pub const ROWS: [Row; 39] = [
         name: "r43",
         questions: "fn(u8, fn(u8)) <: fn(u8, fn(bool)); fn(u8) <: fn();",
         stored: "err ArgumentSorts(u8, bool, 1) | err ArgCount",
+    },
+    Row {
+        name: "r44",
+        questions: "trait Tr; trait Us; param 'a, 'b;
+            dyn Tr + 'a <: dyn Tr + 'b; dyn Tr + 'a <: dyn Us + 'a;",
+        stored: "ok; regions=['a: 'b] | err Traits(Tr, Us)",
     },
     Row {
         name: "r45",
@@ -379,6 +385,7 @@ fn is_upper_row(name: &str) -> bool
 {
     name == "r42"
         || name == "r43"
+        || name == "r44"
         || name == "r45"
         || name == "r46"
         || name == "r53"

@@ -36,6 +36,7 @@ r36: ok; bound=[?0=u8, ?i0=u16]; left=0
 r37: ok; bound=[?0=u8, ?c0=2]
 r42: ok; regions=['static: '?0] | ok; regions=['!1.0: 'static]
 r43: err ArgumentSorts(u8, bool, 1) | err ArgCount
+r44: ok; regions=['a: 'b] | err Traits(Tr, Us)
 r45: err Mismatch | err ConstMismatch(2, 3)
 r46: ok; regions=['?0 == 'static, '!1.0 == 'static]
 r53: dyn Tr<bool, A = u8> + 'a | bool | u8 | 'a | end
