@@ -1,8 +1,9 @@
-//! What an argument and a term are, and of which item an id is.
+//! What an argument and a term are, of which item an id is, and what stands with its arguments.
 use reference_interner::{ItemId, NodeKey};
+use relation_terms::predicate::{ExistentialProjection, ExistentialTraitRef};
 use relation_terms::terms::{
-    AdtId, ClosureId, CoroutineClosureId, CoroutineId, DefId, ForeignId, FunctionId,
-    GenericArgKind, TermKind, TraitId, TyKey,
+    AdtId, ArgsKey, ClosureId, CoroutineClosureId, CoroutineId, DefId, ForeignId, FunctionId,
+    GenericArgKind, TermKind, TraitAssocTermId, TraitId, TyKey,
 };
 
 #[test]
@@ -22,4 +23,17 @@ fn ids_become_the_id_of_their_item(rt: HostRuntime) {
     assert!(rt; DefId::from(CoroutineId(id)) == DefId(id));
     assert!(rt; DefId::from(ForeignId(id)) == DefId(id));
     assert!(rt; DefId::from(TraitId(id)) == DefId(id));
+}
+
+#[test]
+fn what_a_trait_object_implements_is_made_from_its_arguments(rt: HostRuntime) {
+    let args = ArgsKey(NodeKey(2));
+    let of_trait = ExistentialTraitRef::new_from_args(TraitId(ItemId(7)), args);
+    assert!(rt; of_trait.def_id == TraitId(ItemId(7)));
+    assert!(rt; of_trait.args == args);
+    let term = TermKind::Ty(TyKey(NodeKey(1)));
+    let of_item = ExistentialProjection::new_from_args(TraitAssocTermId(ItemId(8)), args, term);
+    assert!(rt; of_item.def_id == TraitAssocTermId(ItemId(8)));
+    assert!(rt; of_item.args == args);
+    assert!(rt; of_item.term == term);
 }

@@ -41,8 +41,8 @@ module _ {Key Id Name : Type 0} where
   abbrev pub AreAsMany : State Key Id Name → ArgsKey Key → ArgsKey Key → Type 0
   AreAsMany r a b = count ((r.meaning).args a) ≡ count ((r.meaning).args b)
 
-  -- Two known types of the relation's context that it takes. The same of constants, regions, arguments and patterns, and
-  -- of parts of terms.
+  -- Two known types of the relation's context that it takes. The same of constants, regions, arguments and patterns,
+  -- and of parts of terms.
   abbrev pub AskedTys : Manners → State Key Id Name → TyKey Key → TyKey Key → Type 0
   AskedTys M r a b = Asked M r r.ambient ((r.meaning).ty a) ((r.meaning).ty b)
 
@@ -74,8 +74,8 @@ module _ {Key Id Name : Type 0} where
   AskedLists M r h a b = Asked M r r.ambient (node (h r.meaning) ((r.meaning).args a))
       (node (h r.meaning) ((r.meaning).args b))
 
-  -- Two types were related, and what came of it. The same of constants, regions, arguments and patterns, and of parts of
-  -- terms.
+  -- Two types were related, and what came of it. The same of constants, regions, arguments and patterns, and of parts
+  -- of terms.
   abbrev pub RelatedTys : Manners → State Key Id Name → State Key Id Name → TyKey Key → TyKey Key →
       Result (TyKey Key) (RelateFault Key Id Name) → Type 0
   RelatedTys M r q a b result =
