@@ -294,7 +294,7 @@ module _ {Key Id Name T : Type 0} (j : ℕ) (gs : List (KeyedGoal Key (Predicate
       (v ≢ Invariant) ⊎ ((bound_var_escapes t || bound_var_escapes u) ≡ false) →
       Opened solver_manner there there round (under o t) (under p u) tree (Ok None)
   no_more (Some ks) (Some ls) k is_last h = opened j gs c c v e env grows (goes_nowhere 0 c.store) round (bind ks t)
-      (bind ls u) tree (Ok None) (is_last, go h)
+      (bind ls u) tree (Ok None) (is_last, go h, refl, refl)
     where
       go : (v ≢ Invariant) ⊎ ((bound_var_escapes t || bound_var_escapes u) ≡ false) →
           OneRound v (bind ks t) (bind ls u)
