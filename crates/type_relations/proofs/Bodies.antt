@@ -58,6 +58,10 @@ module _ {Key Id : Type 0} where
   opened_paired o x y e h =
       subst (λ (z : Option (Part Key Id × Part Key Id)). IfSome z (λ p. ArePaired p.0 p.1)) e h
 
+pub not_some : {A B : Type 0} (o : Option (A × B)) → ((x : A) (y : B) → o ≡ Some (x, y) → ⊥) → o ≡ None
+not_some (Some p) n = absurd (n p.0 p.1 refl)
+not_some None n = refl
+
 module _ {Key Id Name : Type 0} where
   -- A round of values is told as one of others that have their trees.
   pub opened_some : {T U : Type 0} {r q : State Key Id Name} (M : Manners) (n : ℕ) (a b : Tree) (tree : T → Tree)

@@ -1,6 +1,7 @@
 -- Signatures, their inputs and the predicates of trait objects: of one form, or the error that says what differs.
 use Rattle.std.proofs.Common.{◌≡◌, ◌≢◌, ℕ, suc, refl, sym, ap, ◌∙◌, subst, subst₂, arith, List, [], ◌∷◌, length, get_or, IsTrue}
-use Rattle.std.proofs.Common.{Bool, true, false, cond, ◌<◌, Result, OnOk, IfErr}
+use Rattle.std.proofs.Common.{Bool, true, false, not, cond, ◌<◌, Result, OnOk, IfErr}
+use Rattle.std.proofs.Math.Bool.{beq}
 use Rattle.std.proofs.lemmas.Bool.{false≢true, and_parts}
 use Rattle.std.proofs.lemmas.Result.{IfErr-weaker}
 use Rattle.relation_terms.specs.declared.terms.part_kind.Part.{Part}
@@ -20,15 +21,36 @@ use Rattle.relation_terms.specs.Heads.{signature, inputs, object, object_sort}
 use Rattle.relation_terms.specs.Trees.{Tree, leaf, node, nil, cons, known, list_tree, front, last, count, nth}
 use Rattle.relation_terms.specs.Heads.{unknown}
 use Rattle.relation_terms.specs.Meaning.{Meaning, signature_tree, existential_tree, object_predicate_tree}
+use Rattle.relation_terms.specs.Heads.{existential_trait, existential_projection, existential_auto}
+use Rattle.relation_terms.specs.Meaning.{term_tree}
+use Rattle.relation_terms.specs.declared.terms.ids.TraitId.{TraitId}
+use Rattle.relation_terms.specs.declared.predicate.ExistentialTraitRef.{ExistentialTraitRef}
+use Rattle.relation_terms.specs.declared.predicate.ExistentialProjection.{ExistentialProjection}
+use Rattle.relation_terms.specs.declared.predicate.ExistentialPredicate.TheVariants.{Trait, Projection, AutoTrait}
 use Rattle.relation_tools.specs.declared.error.TypeError.{TypeError}
+use Rattle.relation_tools.specs.declared.error.TypeError.TheVariants.{Mismatch, Traits, ProjectionMismatched}
 use Rattle.relation_tools.specs.declared.error.TypeError.TheVariants.{VariadicMismatch, SafetyMismatch, AbiMismatch}
 use Rattle.relation_tools.specs.declared.error.TypeError.TheVariants.{ExistentialMismatch}
 use Rattle.type_relations.specs.Errors.{AreOfOneForm, over_parts, SignatureError, unlike_variadic, unlike_safety}
 use Rattle.type_relations.specs.Errors.{unlike_abi, AreAlikeExistentials, AreAlikeMembers}
 use Rattle.type_relations.specs.Errors.{ObjectError, unlike_numbers, unlike_members, PartError}
+use Rattle.type_relations.specs.Errors.{ExistentialError, unlike_traits, unlike_auto_traits, unlike_projections}
 use Rattle.type_relations.specs.Parts.{IsComparedPart}
 use Rattle.type_relations.proofs.Lists.{list_nth, part_known}
-use Rattle.type_relations.proofs.PartErrors.{members_as}
+use Rattle.type_relations.proofs.PartErrors.{members_as, counts_alike, counts_differ}
+
+-- Two truth values by a test of them.
+pub bools_same : (x y : Bool) → not (beq x y) ≡ false → x ≡ y
+bools_same true true h = refl
+bools_same false false h = refl
+bools_same true false h = absurd (false≢true (sym h))
+bools_same false true h = absurd (false≢true (sym h))
+
+pub bools_differ : (x y : Bool) → not (beq x y) ≡ true → x ≢ y
+bools_differ true true h e = false≢true h
+bools_differ false false h e = false≢true h
+bools_differ true false h e = false≢true (sym e)
+bools_differ false true h e = false≢true e
 
 module _ {Key Id Name : Type 0} (m : Meaning Key Id Name) (g h : FnSig Key) where
   abbrev types : FnSig Key → Tree
@@ -130,6 +152,79 @@ module _ {Key Id Name : Type 0} (m : Meaning Key Id Name) where
     subst₂ (λ t u. OnOk r (AreOfOneForm t u)) p q one,
     subst₂ (λ t u. IfErr r (PartError m t u)) p q (IfErr-weaker r P (PartError m x y) h fault),
   )
+
+-- Predicates of trait objects over different items; and over one item, which are told apart by the numbers of their parts.
+module _ {Key Id Name : Type 0} (m : Meaning Key Id Name) (a b : ExistentialPredicate Key Id) where
+  abbrev of_one_form : Result (Unit {0}) (TypeError Key Id Name) → Type 0
+  of_one_form r = OnOk r (AreOfOneForm (existential_tree m a) (existential_tree m b))
+
+  abbrev of_two_forms : Result (Unit {0}) (TypeError Key Id Name) → Type 0
+  of_two_forms r = IfErr r (ExistentialError m (existential_tree m a) (existential_tree m b))
+
+  abbrev told_apart : ℕ → ℕ → Result (Unit {0}) (TypeError Key Id Name) → Type 0
+  told_apart i j r = IfErr r (λ x. (i ≢ j) × (x ≡ Mismatch))
+
+  module _ (p q : ExistentialTraitRef Key Id) where
+    abbrev trait_items : Type 0
+    trait_items = m.id (p.def_id).0 ≡ m.id (q.def_id).0
+
+    pub traits_differ : (e : TypeError Key Id Name) → a ≡ Trait p → b ≡ Trait q → (trait_items → ⊥) →
+        e ≡ Traits (record { expected = p.def_id; found = q.def_id }) →
+        ExistentialError m (existential_tree m a) (existential_tree m b) e
+    traits_differ e da db n is = subst (ExistentialError m (existential_tree m a) (existential_tree m b)) (sym is)
+        (unlike_traits p.def_id q.def_id (ap (existential_tree m) da) (ap (existential_tree m) db) n)
+
+    trait_as : b ≡ Trait q → trait_items →
+        existential_tree m b ≡ node (existential_trait (m.id (p.def_id).0)) (m.args q.args)
+    trait_as db same = ap (existential_tree m) db ∙ ap (λ n. node (existential_trait n) (m.args q.args)) (sym same)
+
+    pub traits_alike : a ≡ Trait p → b ≡ Trait q → trait_items → (i j : ℕ) → count (m.args p.args) ≡ i →
+        count (m.args q.args) ≡ j → (r : Result (Unit {0}) (TypeError Key Id Name)) → OnOk r (i ≡ j) → of_one_form r
+    traits_alike da db same i j x y r h = counts_alike m a b (existential_trait (m.id (p.def_id).0)) (m.args p.args)
+        (m.args q.args) i j refl (ap (existential_tree m) da) (trait_as db same) r (λ e. x ∙ e ∙ sym y) h
+
+    pub traits_unlike : a ≡ Trait p → b ≡ Trait q → trait_items → (i j : ℕ) → count (m.args p.args) ≡ i →
+        count (m.args q.args) ≡ j → (r : Result (Unit {0}) (TypeError Key Id Name)) → told_apart i j r →
+        of_two_forms r
+    traits_unlike da db same i j x y r h = counts_differ m a b (existential_trait (m.id (p.def_id).0)) (m.args p.args)
+        (m.args q.args) i j refl (ap (existential_tree m) da) (trait_as db same) r (λ e. sym x ∙ e ∙ y) h
+
+  module _ (p q : ExistentialProjection Key Id) where
+    abbrev projected_items : Type 0
+    projected_items = m.id (p.def_id).0 ≡ m.id (q.def_id).0
+
+    abbrev parts_in : ExistentialProjection Key Id → Tree
+    parts_in o = cons (term_tree m o.term) (m.args o.args)
+
+    pub projections_differ : (e : TypeError Key Id Name) → a ≡ Projection p → b ≡ Projection q →
+        (projected_items → ⊥) → e ≡ ProjectionMismatched (record { expected = (p.def_id).0; found = (q.def_id).0 }) →
+        ExistentialError m (existential_tree m a) (existential_tree m b) e
+    projections_differ e da db n is = subst (ExistentialError m (existential_tree m a) (existential_tree m b)) (sym is)
+        (unlike_projections (p.def_id).0 (q.def_id).0 (ap (existential_tree m) da) (ap (existential_tree m) db) n)
+
+    projection_as : b ≡ Projection q → projected_items →
+        existential_tree m b ≡ node (existential_projection (m.id (p.def_id).0)) (parts_in q)
+    projection_as db same = ap (existential_tree m) db ∙ ap (λ n. node (existential_projection n) (parts_in q)) (sym same)
+
+    pub projections_alike : a ≡ Projection p → b ≡ Projection q → projected_items → (i j : ℕ) →
+        count (m.args p.args) ≡ i → count (m.args q.args) ≡ j → (r : Result (Unit {0}) (TypeError Key Id Name)) →
+        OnOk r (i ≡ j) → of_one_form r
+    projections_alike da db same i j x y r h = counts_alike m a b (existential_projection (m.id (p.def_id).0))
+        (parts_in p) (parts_in q) i j refl (ap (existential_tree m) da) (projection_as db same) r
+        (λ e. ap suc (x ∙ e ∙ sym y)) h
+
+    pub projections_unlike : a ≡ Projection p → b ≡ Projection q → projected_items → (i j : ℕ) →
+        count (m.args p.args) ≡ i → count (m.args q.args) ≡ j → (r : Result (Unit {0}) (TypeError Key Id Name)) →
+        told_apart i j r → of_two_forms r
+    projections_unlike da db same i j x y r h = counts_differ m a b (existential_projection (m.id (p.def_id).0))
+        (parts_in p) (parts_in q) i j refl (ap (existential_tree m) da) (projection_as db same) r
+        (λ e. less_one (suc i) (suc j) i j refl refl (sym (ap suc x) ∙ e ∙ ap suc y)) h
+
+  pub autos_differ : (p q : TraitId Id) (e : TypeError Key Id Name) → a ≡ AutoTrait p → b ≡ AutoTrait q →
+      (m.id p.0 ≡ m.id q.0 → ⊥) → e ≡ Traits (record { expected = p; found = q }) →
+      ExistentialError m (existential_tree m a) (existential_tree m b) e
+  autos_differ p q e da db n is = subst (ExistentialError m (existential_tree m a) (existential_tree m b)) (sym is)
+      (unlike_auto_traits p q (ap (existential_tree m) da) (ap (existential_tree m) db) n)
 
 -- What is none of the kinds of parts that are compared, and what is no list of predicates.
 module _ {Key Id : Type 0} where
