@@ -112,7 +112,10 @@ fn named_place<I: Interner>(cx: &I, term: &PartOf<I>, i: usize) -> Option<usize>
 {
     match term {
         Part::Inputs(_) => Some(i),
-        Part::Signature(sig) if i > 0 => {
+        Part::Signature(sig) => {
+            if i == 0 {
+                return None;
+            }
             Some(parts_count(cx, &Part::Inputs(sig.inputs_and_output)))
         }
         _ => None,
