@@ -58,8 +58,8 @@ module _ {Key Id : Type 0} where
   opened_paired o x y e h =
       subst (λ (z : Option (Part Key Id × Part Key Id)). IfSome z (λ p. ArePaired p.0 p.1)) e h
 
-pub not_some : {A B : Type 0} (o : Option (A × B)) → ((x : A) (y : B) → o ≡ Some (x, y) → ⊥) → o ≡ None
-not_some (Some p) n = absurd (n p.0 p.1 refl)
+pub not_some : {A : Type 0} (o : Option A) → ((x : A) → o ≡ Some x → ⊥) → o ≡ None
+not_some (Some x) n = absurd (n x refl)
 not_some None n = refl
 
 module _ {Key Id Name : Type 0} where

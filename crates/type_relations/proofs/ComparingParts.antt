@@ -1,6 +1,6 @@
 -- Signatures, their inputs and the predicates of trait objects: of one form, or the error that says what differs.
 use Rattle.std.proofs.Common.{◌≡◌, ◌≢◌, ℕ, suc, refl, sym, ap, ◌∙◌, subst, subst₂, arith, List, [], ◌∷◌, length, get_or, IsTrue}
-use Rattle.std.proofs.Common.{Bool, true, false, not, cond, ◌<◌, Result, OnOk, IfErr}
+use Rattle.std.proofs.Common.{Bool, true, false, not, cond, ◌<◌, ◌≤◌, Result, OnOk, IfErr}
 use Rattle.std.proofs.Math.Bool.{beq}
 use Rattle.std.proofs.lemmas.Bool.{false≢true, and_parts}
 use Rattle.std.proofs.lemmas.Result.{IfErr-weaker}
@@ -9,7 +9,7 @@ use Rattle.relation_terms.specs.declared.terms.part_kind.Part.TheVariants.{Regio
 use Rattle.relation_terms.specs.declared.terms.part_kind.Part.TheVariants.{Binder as BinderPart, Signature, Inputs, Existential, Object}
 use Rattle.relation_terms.specs.declared.terms.keys.PatKey.{PatKey}
 use Rattle.relation_terms.specs.declared.terms.keys.TysKey.{TysKey}
-use Rattle.relation_terms.specs.Parts.{part_sort}
+use Rattle.relation_terms.specs.Parts.{part_sort, part_tree}
 use Rattle.relation_terms.specs.declared.terms.enums.Safety.{Safety}
 use Rattle.relation_terms.specs.declared.terms.enums.ExternAbi.{ExternAbi}
 use Rattle.relation_terms.specs.declared.terms.keys.TyKey.{TyKey}
@@ -35,8 +35,8 @@ use Rattle.type_relations.specs.Errors.{AreOfOneForm, over_parts, SignatureError
 use Rattle.type_relations.specs.Errors.{unlike_abi, AreAlikeExistentials, AreAlikeMembers}
 use Rattle.type_relations.specs.Errors.{ObjectError, unlike_numbers, unlike_members, PartError}
 use Rattle.type_relations.specs.Errors.{ExistentialError, unlike_traits, unlike_auto_traits, unlike_projections}
-use Rattle.type_relations.specs.Parts.{IsComparedPart}
-use Rattle.type_relations.proofs.Lists.{list_nth, part_known}
+use Rattle.type_relations.specs.Parts.{IsComparedPart, parts_of}
+use Rattle.type_relations.proofs.Lists.{list_nth, list_count, part_known}
 use Rattle.type_relations.proofs.PartErrors.{members_as, counts_alike, counts_differ}
 
 -- Two truth values by a test of them.
@@ -130,6 +130,16 @@ module _ {Key Id Name : Type 0} (m : Meaning Key Id Name) where
       (existential_tree m y.value) (nth i ts) (nth i us) left right
       (subst (λ t. IsTrue (known t)) (sym (ap f ix) ∙ left) sure)
       (subst (λ t. IsTrue (known t)) (sym (ap f iy) ∙ right) other)
+
+  pub member_below : (p : Part Key Id) (k : ExistentialPredicatesKey Key)
+      (xs : List (Binder Key (ExistentialPredicate Key Id))) (i : ℕ) → p ≡ Object k →
+      m.existential_predicates k ≡ list_tree (object_predicate_tree m) xs → i < count (parts_of (part_tree m p)) →
+      i < length xs
+  member_below p k xs i is lists l = subst (λ n. i < n) (ap (λ p. count (parts_of (part_tree m p))) is
+      ∙ ap count lists ∙ list_count (object_predicate_tree m) xs) l
+
+  pub member_within : (i : ℕ) (xs : List (Binder Key (ExistentialPredicate Key Id))) → i < length xs → i ≤ length xs
+  member_within i xs l = omega (arith, l)
 
   -- Two lists of predicates that are not as long, or have such of different forms at a place.
   pub numbers_differ : (x y : ExistentialPredicatesKey Key) (e : TypeError Key Id Name) →

@@ -17,10 +17,11 @@ returns-in-Err-Unrelated g c =
     let n = c.in-Err-Unrelated in
     let named : named_place t c.args.i ≡ Some c.in-Some.place = sym c.named_place.ensures ∙ c.in-Some.is in
     subst (λ z. IsResultOfPart t c.args.i z (Err (Unrelated c.at_place.result))) (sym n.is)
-    (fault_placed t c.args.i c.in-Some.place (Unrelated n.error) n.error c.at_place.result named refl c.at_place.ensures)
+    (fault_placed t c.args.i c.in-Some.place n.field-0 n.error c.at_place.result named (let h = n.field-0-is in cc)
+    c.at_place.ensures)
 
 pub returns-in-Err : goal.returns-in-Err
 returns-in-Err g c =
     let t = part_tree (g.I.Interner.meaning c.args.cx.now) c.args.term.now in
     let n = c.in-Err in
-    subst (λ z. IsResultOfPart t c.args.i z (Err n.fault)) (sym n.is) (no_error refl n.not-Unrelated)
+    subst (λ z. IsResultOfPart t c.args.i z (Err n.fault)) (sym n.is) (no_error refl (λ e q. (let h = n.fault-is in cc)))

@@ -21,7 +21,7 @@ returns-in_default-2-clause-opened g c =
     let right : y ≡ b = sym (ap (part_tree m) (c.in-Binder-b.is ∙ ap (Binder c.in-Binder-b.other_vars) c.in-Signature-other.is)) in
     let tree = signature_tree q.meaning in
     let o : Opened M r q n x y tree (Ok None) =
-    subst (λ z. Opened M r q n x y tree (Ok z)) (not_some c.in_ok-x.field-0 c.in_default-2.not-Some) c.in_ok-x.ensures in
+    subst (λ z. Opened M r q n x y tree (Ok z)) (not_some c.in_ok-x-in-Signature.field-0 c.in_default-2.not-Some) c.in_ok-x-in-Signature.ensures in
     subst₂ (λ s t. Opened M r q n s t (part_tree q.meaning) (Ok None)) left right
     (opened_none M n x y tree (part_tree q.meaning) o)
 
@@ -42,7 +42,7 @@ returns-in-Some-clause-opened g c =
     let v = c.in-Some.x in
     let w = c.in-Some.y in
     let o : Opened M r q n x y tree (Ok (Some (v, w))) =
-    subst (λ z. Opened M r q n x y tree (Ok z)) c.in-Some.is c.in_ok-x.ensures in
+    subst (λ z. Opened M r q n x y tree (Ok z)) c.in-Some.is c.in_ok-x-in-Signature.ensures in
     subst₂ (λ s t. Opened M r q n s t (part_tree q.meaning) (Ok (Some (Signature v, Signature w)))) left right
     (opened_some M n x y tree (part_tree q.meaning) v w (Signature v) (Signature w) refl refl o)
 

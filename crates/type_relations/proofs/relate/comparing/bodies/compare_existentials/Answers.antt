@@ -1,12 +1,13 @@
-use Rattle.std.proofs.Common.{rules, ◌≡◌, ◌≢◌, ◌∙◌, refl, sym, ap, ap₂, suc, ℕ}
-use Rattle.relation_terms.specs.Heads.{existential_trait, existential_projection, existential_auto, atom}
-use Rattle.relation_terms.specs.Trees.{node, cons, leaf, count}
-use Rattle.relation_terms.specs.Meaning.{existential_tree, arg_tree, term_tree}
+use Rattle.std.proofs.Common.{rules, ◌∙◌, sym, ap, ap₂, length}
+use Rattle.relation_terms.specs.Heads.{existential_auto, atom}
+use Rattle.relation_terms.specs.Trees.{leaf, count}
+use Rattle.relation_terms.specs.Meaning.{existential_tree, arg_tree}
 use Rattle.relation_tools.specs.declared.error.TypeError.TheVariants.{Traits, ProjectionMismatched}
 use Rattle.type_relations.specs.Errors.{one_leaf}
 use Rattle.type_relations.proofs.Lists.{list_count}
-use Rattle.type_relations.proofs.PartErrors.{not_trait, not_projection, not_auto, unlike_predicates, counts_alike}
-use Rattle.type_relations.proofs.PartErrors.{counts_differ}
+use Rattle.type_relations.proofs.PartErrors.{not_trait, not_projection, not_auto, unlike_predicates}
+use Rattle.type_relations.proofs.ComparingParts.{traits_differ, traits_alike, traits_unlike, projections_differ}
+use Rattle.type_relations.proofs.ComparingParts.{projections_alike, projections_unlike, autos_differ}
 use Rattle.type_relations.proofs.relate.comparing.bodies.compare_existentials.Goals as goal
 
 pub returns-in_default : goal.returns-in_default
@@ -60,7 +61,7 @@ returns-then-ne-2-clause-errors g c =
     let same = g.met.I.Interner.same_id c.args.cx.now x y in
     projections_differ m c.args.a.now c.args.b.now c.in-Projection.of c.in-Projection-b.other
     (ProjectionMismatched c.new-pair.result) c.in-Projection.is c.in-Projection-b.is
-    (λ e. (let one = same.1 e in let t = c.if-ne-2.true in let h = c.ne-2.ensures in search rules))
+    (λ e. (let one = same.1 e in let t = c.if-ne-2.true in let h = c.ne-in-Projection.ensures in search rules))
     (ap₂ (λ x y. ProjectionMismatched (record { expected = x; found = y })) c.new-pair.ensures.expected_kept
     c.new-pair.ensures.found_kept)
 
@@ -72,7 +73,7 @@ returns-then-ne-3-clause-errors g c =
     let same = g.met.I.Interner.same_id c.args.cx.now x y in
     autos_differ m c.args.a.now c.args.b.now c.in-AutoTrait.of c.in-AutoTrait-b.other (Traits c.new-then-ne-3.result)
     c.in-AutoTrait.is c.in-AutoTrait-b.is
-    (λ e. (let one = same.1 e in let t = c.if-ne-3.true in let h = c.ne-3.ensures in search rules))
+    (λ e. (let one = same.1 e in let t = c.if-ne-3.true in let h = c.ne-in-AutoTrait.ensures in search rules))
     (ap₂ (λ x y. Traits (record { expected = x; found = y })) c.new-then-ne-3.ensures.expected_kept
     c.new-then-ne-3.ensures.found_kept)
 
@@ -113,10 +114,10 @@ returns-else-ne-2-clause-alike g c =
     let xs = c.args-in-Projection.result.now in
     let ys = c.args-in-Projection-2.result.now in
     projections_alike m c.args.a.now c.args.b.now p q c.in-Projection.is c.in-Projection-b.is
-    (same.0 (let t = c.if-ne-2.false in let h = c.ne-2.ensures in search rules)) (length xs) (length ys)
+    (same.0 (let t = c.if-ne-2.false in let h = c.ne-in-Projection.ensures in search rules)) (length xs) (length ys)
     (ap count c.args-in-Projection.ensures ∙ list_count (arg_tree m) xs)
-    (ap count c.args-in-Projection-2.ensures ∙ list_count (arg_tree m) ys) c.compare_counts-2.result
-    c.compare_counts-2.ensures.same
+    (ap count c.args-in-Projection-2.ensures ∙ list_count (arg_tree m) ys) c.compare_counts-in-Projection.result
+    c.compare_counts-in-Projection.ensures.same
 
 pub returns-else-ne-2-clause-errors : goal.returns-else-ne-2-clause-errors
 returns-else-ne-2-clause-errors g c =
@@ -127,10 +128,10 @@ returns-else-ne-2-clause-errors g c =
     let xs = c.args-in-Projection.result.now in
     let ys = c.args-in-Projection-2.result.now in
     projections_unlike m c.args.a.now c.args.b.now p q c.in-Projection.is c.in-Projection-b.is
-    (same.0 (let t = c.if-ne-2.false in let h = c.ne-2.ensures in search rules)) (length xs) (length ys)
+    (same.0 (let t = c.if-ne-2.false in let h = c.ne-in-Projection.ensures in search rules)) (length xs) (length ys)
     (ap count c.args-in-Projection.ensures ∙ list_count (arg_tree m) xs)
-    (ap count c.args-in-Projection-2.ensures ∙ list_count (arg_tree m) ys) c.compare_counts-2.result
-    c.compare_counts-2.ensures.errors
+    (ap count c.args-in-Projection-2.ensures ∙ list_count (arg_tree m) ys) c.compare_counts-in-Projection.result
+    c.compare_counts-in-Projection.ensures.errors
 
 pub returns-else-ne-3-clause-alike : goal.returns-else-ne-3-clause-alike
 returns-else-ne-3-clause-alike g c =
@@ -140,4 +141,4 @@ returns-else-ne-3-clause-alike g c =
     let same = g.met.I.Interner.same_id c.args.cx.now p.0 q.0 in
     one_leaf (ap (existential_tree m) c.in-AutoTrait.is) (ap (existential_tree m) c.in-AutoTrait-b.is
     ∙ ap (λ n. leaf (atom (existential_auto n)))
-    (sym (same.0 (let t = c.if-ne-3.false in let h = c.ne-3.ensures in search rules))))
+    (sym (same.0 (let t = c.if-ne-3.false in let h = c.ne-in-AutoTrait.ensures in search rules))))
