@@ -157,9 +157,11 @@ pub fn in_part<I: Interner, T>(
     };
     match related {
         Ok(answer) => Ok(answer),
-        Err(RelateFault::Unrelated(error)) => {
-            Err(RelateFault::Unrelated(at_place::<I>(error, place)))
-        }
-        Err(fault) => Err(fault),
+        Err(fault) => match fault {
+            RelateFault::Unrelated(error) => {
+                Err(RelateFault::Unrelated(at_place::<I>(error, place)))
+            }
+            other => Err(other),
+        },
     }
 }
