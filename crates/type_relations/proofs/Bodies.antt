@@ -58,6 +58,10 @@ module _ {Key Id : Type 0} where
   opened_paired o x y e h =
       subst (λ (z : Option (Part Key Id × Part Key Id)). IfSome z (λ p. ArePaired p.0 p.1)) e h
 
+pub not_some : {A : Type 0} (o : Option A) → ((x : A) → o ≡ Some x → ⊥) → o ≡ None
+not_some (Some x) n = absurd (n x refl)
+not_some None n = refl
+
 module _ {Key Id Name : Type 0} where
   -- A round of values is told as one of others that have their trees.
   pub opened_some : {T U : Type 0} {r q : State Key Id Name} (M : Manners) (n : ℕ) (a b : Tree) (tree : T → Tree)

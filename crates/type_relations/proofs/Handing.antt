@@ -236,6 +236,14 @@ module _ {Key Id Name : Type 0} (m : Meaning Key Id Name) (sorted : Sorted m) wh
       let e = sort_known m sorted p k in
       unnamed (part_tree m p) i (λ q. no_inputs p n (sym e ∙ q)) (λ q. first_signature p i o (sym e ∙ q))
 
+pub above : (i : ℕ) → (i ≡ 0 → ⊥) → 0 < i
+above zero n = absurd (n refl)
+above (suc i) n = omega arith
+
+pub no_signature_inputs : {Key Id : Type 0} (g : FnSig Key) (p : Part Key Id) → p ≡ Signature g → (t : TysKey Key) →
+    p ≡ Inputs t → ⊥
+no_signature_inputs g p d t e = let z : signature_sort ≡ inputs_sort = ap part_sort (sym d ∙ e) in cc
+
 -- What two terms answer where no place is named, and what where one is.
 pub no_place_named : (o : Option ℕ) → ((j : ℕ) → o ≡ Some j → ⊥) → o ≡ None
 no_place_named (Some j) n = absurd (n j refl)

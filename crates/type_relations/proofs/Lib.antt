@@ -35,6 +35,7 @@ pub mod Parts
 pub mod OneParts
 pub mod Classes
 pub mod Comparing
+pub mod ComparingParts
 pub mod Forms
 pub mod AsParts
 pub mod Handing

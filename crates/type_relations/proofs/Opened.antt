@@ -153,7 +153,7 @@ none_escapes d (cons t u) h =
     let o = or_parts (has_leaf is_escaping d t) (has_leaf is_escaping d u) h in
     (none_escapes d t o.0, none_escapes d u o.1)
 
-within_none : (d : ℕ) (t : Tree) → StaysWithin d t → has_leaf is_escaping d t ≡ false
+pub within_none : (d : ℕ) (t : Tree) → StaysWithin d t → has_leaf is_escaping d t ≡ false
 within_none d (leaf (bound k e i)) h = ap not (lt-ltb e d h)
 within_none d (leaf (variable v n)) h = refl
 within_none d (leaf (placeholder k u n)) h = refl

@@ -1,5 +1,5 @@
 -- The parts of terms that are related by their parts: of which sorts they are, and that two at one place make a pair.
-use Rattle.std.proofs.Common.{◌≡◌, ℕ, zero, suc, ◌<◌, refl, sym, ap, ◌∙◌, subst, subst₂, inl, inr, arith, List, [], ◌∷◌}
+use Rattle.std.proofs.Common.{◌≡◌, ℕ, zero, suc, ◌<◌, refl, sym, ap, ◌∙◌, subst, subst₂, inl, inr, arith, List, [], ◌∷◌, IsTrue}
 use Rattle.std.proofs.Common.{Option, None, Some}
 use Rattle.relation_terms.specs.declared.terms.part_kind.Part.{Part as TermPart}
 use Rattle.relation_terms.specs.declared.terms.part_kind.Part.TheVariants.{Region, Ty, Const, ValTree, Pat, ValueType}
@@ -9,8 +9,10 @@ use Rattle.relation_terms.specs.Heads.{no_sort, signature_sort, inputs_sort, exi
 use Rattle.relation_terms.specs.Heads.{value_sort, value_type_sort, Admits, Part, term_of, binder_of, row, head_parts, leaf_sort}
 use Rattle.relation_terms.specs.Heads.{head_sort, Head, pattern_type, range_pattern, or_pattern, fn_ptr, unsafe_binder}
 use Rattle.relation_terms.specs.Heads.{dynamic, object, signature, inputs, existential_trait, existential_projection}
-use Rattle.relation_terms.specs.Trees.{Tree, leaf, node, bind, nil, cons, IsTerm, IsBinder, AreTerms, Fits, count, nth}
-use Rattle.relation_terms.specs.Parts.{part_sort, tree_sort}
+use Rattle.relation_terms.specs.Trees.{Tree, leaf, node, bind, nil, cons, IsTerm, IsBinder, AreTerms, Fits, count, nth, known}
+use Rattle.relation_terms.specs.Parts.{part_sort, tree_sort, part_tree}
+use Rattle.relation_terms.proofs.Sorted.{Sorted}
+use Rattle.relation_terms.proofs.Parts.{sort_known}
 use Rattle.relation_terms.specs.Variances.{xform}
 use Rattle.relation_terms.specs.Meaning.{Meaning, existential_tree, signature_tree}
 use Rattle.relation_terms.specs.declared.terms.fn_sig.FnSig.{FnSig}
@@ -22,7 +24,7 @@ use Rattle.type_relations.specs.Relation.{Items, mode, part_at}
 use Rattle.relation_terms.proofs.Members.{type_term, const_term, pattern_term, region_term}
 use Rattle.type_relations.specs.Errors.{AreOfOneForm}
 use Rattle.type_relations.specs.Parts.{parts_of, head_of, IsByParts, IsRelatedPart, IsArgPart, ArePaired}
-use Rattle.type_relations.proofs.Patterns.{term_alike, IsFormSort}
+use Rattle.type_relations.proofs.Patterns.{term_alike, term_part_at, IsFormSort}
 
 -- The sort of what a term of a sort is.
 admitted : (k : Sort) (t : Tree) → IsTerm k t → Admits k (tree_sort t)
@@ -203,6 +205,51 @@ module _ {Key Id Name : Type 0} (m : Meaning Key Id Name) (c : Items) where
       xform v Contravariant ≡ part_at c (head_of (signature_tree m g)) i v
   signature_place g zero v e = refl
   signature_place g (suc i) v e = absurd (omega (arith, e))
+
+-- A signature is no predicate of a trait object.
+pub apart : {Key Id : Type 0} (g : FnSig Key) (o : ExistentialPredicate Key Id) (p : TermPart Key Id) →
+    p ≡ Signature g → p ≡ Existential o → ⊥
+apart g o p d e = let z : signature_sort ≡ existential_sort = ap part_sort (sym d ∙ e) in cc
+
+-- All other parts are at the whole's own variance.
+module _ {Key Id Name : Type 0} (m : Meaning Key Id Name) (sorted : Sorted m) (c : Items) where
+  no_existential : (p : TermPart Key Id) → ((o : ExistentialPredicate Key Id) → p ≡ Existential o → ⊥) →
+      part_sort p ≡ existential_sort → ⊥
+  no_existential (Existential o) n e = n o refl
+  no_existential (Region r) n e = cc
+  no_existential (Ty t) n e = cc
+  no_existential (Const k) n e = cc
+  no_existential (ValTree v) n e = cc
+  no_existential (Pat o) n e = cc
+  no_existential (ValueType t) n e = cc
+  no_existential (Binder vs b) n e = cc
+  no_existential (Signature g) n e = cc
+  no_existential (Inputs t) n e = cc
+  no_existential (Object k) n e = cc
+
+  no_signature : (p : TermPart Key Id) (i : ℕ) → ((g : FnSig Key) → p ≡ Signature g → i ≡ 0 → ⊥) →
+      part_sort p ≡ signature_sort → i ≡ 0 → ⊥
+  no_signature (Signature g) i n e z = n g refl z
+  no_signature (Region r) i n e z = cc
+  no_signature (Ty t) i n e z = cc
+  no_signature (Const k) i n e z = cc
+  no_signature (ValTree v) i n e z = cc
+  no_signature (Pat o) i n e z = cc
+  no_signature (ValueType t) i n e z = cc
+  no_signature (Binder vs b) i n e z = cc
+  no_signature (Existential o) i n e z = cc
+  no_signature (Inputs t) i n e z = cc
+  no_signature (Object k) i n e z = cc
+
+  pub other_place : (p : TermPart Key Id) (i : ℕ) (v : Variance) → IsTrue (known (part_tree m p)) →
+      IsByParts (part_tree m p) → ((o : ExistentialPredicate Key Id) → p ≡ Existential o → ⊥) →
+      ((g : FnSig Key) → p ≡ Signature g → i ≡ 0 → ⊥) →
+      xform v Covariant ≡ part_at c (head_of (part_tree m p)) i v
+  other_place p i v k o n z =
+      let t = part_tree m p in
+      let e = sort_known m sorted p k in
+      ap (xform v) (sym (covariant_place c t i o (λ q. no_existential p n (sym e ∙ q))
+      (λ q. no_signature p i z (sym e ∙ q)))) ∙ sym (term_part_at c t i v o)
 
 -- No such part is a value tree or the type of a value.
 abbrev IsNoValue : Sort → Type 0

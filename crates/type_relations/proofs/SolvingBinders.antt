@@ -90,6 +90,20 @@ opens_neither Contravariant n d below s f = (other_round n below (λ h. f (inl (
 opens_neither Invariant n d below s f = absurd (no_round n below (λ h. s (h, inr refl)) (λ h. f (inr (h, refl))))
 opens_neither Bivariant n d below s f = absurd (d refl)
 
+-- What is a term of the context is one still where nothing that is recorded changes.
+pub entered_keeps : (before after : Store) → ChangesNothing before after → (t : Tree) → IsTermIn before t →
+    IsTermIn after t
+entered_keeps before after h t i = later_term before after (changes_made before after h) h.universe_stands t i
+
+same_changes : (st : Store) → ChangesNothing st st
+same_changes st = record {
+  same_entries = λ k. refl;
+  same_universes = λ k. refl;
+  same_constraints = refl;
+  universe_stands = omega arith;
+  same_budget = refl;
+}
+
 module _ {Key Id Name : Type 0} where
   -- A known binder keeps its tree while the interner grows.
   pub binder_stays : {T : Type 0} (tree : Meaning Key Id Name → T → Tree) (m n : Meaning Key Id Name) → Extends m n →
@@ -98,24 +112,11 @@ module _ {Key Id Name : Type 0} where
   binder_stays tree m n grown b f k = under_stays (m.bound_vars b.bound_vars) (n.bound_vars b.bound_vars)
       (tree m b.value) (tree n b.value) (grown.bound_vars b.bound_vars) f k
 
-  -- What was entered changes nothing, and what was a term of the context is one still.
+  -- What was entered changes nothing.
   pub entered_changes : (c d : Context Key Id Name) (o : Option (List BoundKind)) (t x : Tree) →
       EntersAs c d (under o t) x → ChangesNothing c.store d.store
   entered_changes c d (Some ks) t x f = f.changes_nothing
   entered_changes c d None t x f = absurd f
-
-  pub entered_keeps : (before after : Store) → ChangesNothing before after → (t : Tree) → IsTermIn before t →
-      IsTermIn after t
-  entered_keeps before after h t i = later_term before after (changes_made before after h) h.universe_stands t i
-
-  same_changes : (st : Store) → ChangesNothing st st
-  same_changes st = record {
-    same_entries = λ k. refl;
-    same_universes = λ k. refl;
-    same_constraints = refl;
-    universe_stands = omega arith;
-    same_budget = refl;
-  }
 
   -- The one was entered and then the other instantiated; or a growth was refused at either.
   pub opens_from : (c d e : Context Key Id Name) (o p : Option (List BoundKind)) (t u x y z : Tree) → z ≡ x →
@@ -294,7 +295,7 @@ module _ {Key Id Name T : Type 0} (j : ℕ) (gs : List (KeyedGoal Key (Predicate
       (v ≢ Invariant) ⊎ ((bound_var_escapes t || bound_var_escapes u) ≡ false) →
       Opened solver_manner there there round (under o t) (under p u) tree (Ok None)
   no_more (Some ks) (Some ls) k is_last h = opened j gs c c v e env grows (goes_nowhere 0 c.store) round (bind ks t)
-      (bind ls u) tree (Ok None) (is_last, go h)
+      (bind ls u) tree (Ok None) (is_last, go h, refl, refl)
     where
       go : (v ≢ Invariant) ⊎ ((bound_var_escapes t || bound_var_escapes u) ≡ false) →
           OneRound v (bind ks t) (bind ls u)

@@ -112,7 +112,10 @@ fn named_place<I: Interner>(cx: &I, term: &PartOf<I>, i: usize) -> Option<usize>
 {
     match term {
         Part::Inputs(_) => Some(i),
-        Part::Signature(sig) if i > 0 => {
+        Part::Signature(sig) => {
+            if i == 0 {
+                return None;
+            }
             Some(parts_count(cx, &Part::Inputs(sig.inputs_and_output)))
         }
         _ => None,
@@ -154,9 +157,11 @@ pub fn in_part<I: Interner, T>(
     };
     match related {
         Ok(answer) => Ok(answer),
-        Err(RelateFault::Unrelated(error)) => {
-            Err(RelateFault::Unrelated(at_place::<I>(error, place)))
-        }
-        Err(fault) => Err(fault),
+        Err(fault) => match fault {
+            RelateFault::Unrelated(error) => {
+                Err(RelateFault::Unrelated(at_place::<I>(error, place)))
+            }
+            other => Err(other),
+        },
     }
 }

@@ -250,7 +250,12 @@ pub(crate) fn term_variance_at<I: Interner, R: TypeRelation<I>>(
 {
     let _ = r;
     match term {
-        Part::Signature(_) if i == 0 => Variance::Contravariant,
+        Part::Signature(_) => {
+            if i == 0 {
+                return Variance::Contravariant;
+            }
+            Variance::Covariant
+        }
         Part::Existential(_) => Variance::Invariant,
         _ => Variance::Covariant,
     }

@@ -11,16 +11,17 @@ returns-in_default g c =
     result_stays t c.args.i c.args.related
     (sym c.named_place.ensures ∙ no_place_named c.named_place.result c.in_default.not-Some)
 
-pub returns-in-Err-Unrelated : goal.returns-in-Err-Unrelated
-returns-in-Err-Unrelated g c =
+pub returns-in-Unrelated : goal.returns-in-Unrelated
+returns-in-Unrelated g c =
     let t = part_tree (g.I.Interner.meaning c.args.cx.now) c.args.term.now in
-    let n = c.in-Err-Unrelated in
+    let e = c.in-Unrelated.error in
     let named : named_place t c.args.i ≡ Some c.in-Some.place = sym c.named_place.ensures ∙ c.in-Some.is in
-    subst (λ z. IsResultOfPart t c.args.i z (Err (Unrelated c.at_place.result))) (sym n.is)
-    (fault_placed t c.args.i c.in-Some.place (Unrelated n.error) n.error c.at_place.result named refl c.at_place.ensures)
+    subst (λ z. IsResultOfPart t c.args.i z (Err (Unrelated c.at_place.result))) (sym c.in-Err.is)
+    (fault_placed t c.args.i c.in-Some.place c.in-Err.fault e c.at_place.result named c.in-Unrelated.is
+    c.at_place.ensures)
 
-pub returns-in-Err : goal.returns-in-Err
-returns-in-Err g c =
+pub returns-in_default-fault : goal.returns-in_default-fault
+returns-in_default-fault g c =
     let t = part_tree (g.I.Interner.meaning c.args.cx.now) c.args.term.now in
-    let n = c.in-Err in
-    subst (λ z. IsResultOfPart t c.args.i z (Err n.fault)) (sym n.is) (no_error refl n.not-Unrelated)
+    subst (λ z. IsResultOfPart t c.args.i z (Err c.in-Err.fault)) (sym c.in-Err.is)
+    (no_error refl c.in_default-fault.not-Unrelated)

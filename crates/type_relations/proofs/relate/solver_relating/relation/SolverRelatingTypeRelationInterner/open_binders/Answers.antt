@@ -10,8 +10,8 @@ use Rattle.type_relations.proofs.SolvingBinders.{covered_binds, opens_neither, o
 use Rattle.type_relations.proofs.SolvingBinders.{opens_first, opens_none, no_more}
 use Rattle.type_relations.proofs.relate.solver_relating.relation.SolverRelatingTypeRelationInterner.open_binders.Goals as goal
 
-pub returns-then-round : goal.returns-then-round
-returns-then-round g c =
+pub returns-then-round-gt0 : goal.returns-then-round-gt0
+returns-then-round-gt0 g c =
     let r = c.args.self.now in
     let s = g.Infcx.InferCtxtLike.state r.infcx.now in
     let tree = g.T.HasTree.tree s.meaning in
