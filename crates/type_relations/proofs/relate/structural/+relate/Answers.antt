@@ -2115,6 +2115,27 @@ relate_in_order-term_variance_at-variance-requires-clause-form g t c =
     subst IsByParts (sym same_a) form
 
 
+pub relate_in_order-term_variance_at-variance-requires-clause-in_bounds : goal.relate_in_order-term_variance_at-variance-requires-clause-in_bounds
+relate_in_order-term_variance_at-variance-requires-clause-in_bounds g t c =
+    let r = g.R.TypeRelation.state c.args.r.now in
+    let M = g.R.TypeRelation.manner in
+    let a = part_tree r.meaning c.args.a.now in
+    let b = part_tree r.meaning c.args.b.now in
+    let q = g.R.TypeRelation.state c.loop-i.r in
+    let i = c.loop-i.i in
+    let inv = c.loop-i.invariant in
+    let k = c.requires.asked in
+    let form = c.requires.form in
+    let alike = c.requires.alike in
+    let extends = ((inv.fronted).passes).extends in
+    let same_a : part_tree q.meaning c.args.a.now ≡ a = stays_part extends c.args.a.now k.left_known in
+    let same_b : part_tree q.meaning c.args.b.now ≡ b = stays_part extends c.args.b.now k.right_known in
+    let test = c.loop-i-test.true in
+    let lx : i < count (parts_of a) = omega (arith, test, inv.left_count) in
+    let ly : i < count (parts_of b) = omega (arith, test, inv.right_count) in
+    subst (λ z. i < count (parts_of z)) (sym same_a) lx
+
+
 pub relate_in_order-relate_parts_with_variance-related-requires : goal.relate_in_order-relate_parts_with_variance-related-requires
 relate_in_order-relate_parts_with_variance-related-requires g t c κs within =
     let r = g.R.TypeRelation.state c.args.r.now in
@@ -2905,13 +2926,13 @@ binders-returns-in_err-x g t c =
     let a = part_tree r.meaning c.args.a.now in
     let b = part_tree r.meaning c.args.b.now in
     let k = c.requires.asked in
-    let no = no_first_order r.meaning c.args.a.now c.requires.binder in
+    let never = no_first_order r.meaning c.args.a.now c.requires.binder in
     let q = g.R.TypeRelation.state c.open_bodies.new.r in
     let e = c.in_err-x in
     let failed = as_err c.from_residual.result e.field-0.0 c.from_residual.ensures.0 c.from_residual.ensures.1 in
     record {
       related = subst (λ z. Related M r q r.ambient a b (part_tree q.meaning) z) (sym failed)
-          (opening_refused M 0 a b (part_tree q.meaning) (part_tree q.meaning) no e.field-0.0 (e.ensures).opened);
+          (opening_refused M 0 a b (part_tree q.meaning) (part_tree q.meaning) never e.field-0.0 (e.ensures).opened);
       sort = subst (λ u. IfOk u (λ z. part_sort z ≡ part_sort c.args.a.now)) (sym failed) tt;
     }
 
@@ -2958,7 +2979,7 @@ binders-returns-in_err-relate_parts g t c =
     let a = part_tree r.meaning c.args.a.now in
     let b = part_tree r.meaning c.args.b.now in
     let k = c.requires.asked in
-    let no = no_first_order r.meaning c.args.a.now c.requires.binder in
+    let never = no_first_order r.meaning c.args.a.now c.requires.binder in
     let q = g.R.TypeRelation.state c.open_bodies.new.r in
     let x = part_tree q.meaning c.in-Some.x in
     let y = part_tree q.meaning c.in-Some.y in
@@ -2973,7 +2994,7 @@ binders-returns-in_err-relate_parts g t c =
     ((inner.passes).lawful ((o.passes).lawful c.requires.lawful)) in
     record {
       related = subst (λ z. Related M r p r.ambient a b (part_tree p.meaning) z) (sym failed)
-          (first_refused M a b x y (part_tree p.meaning) (part_tree p.meaning) no sound o.passes o.verdict e.field-0.0 inner);
+          (first_refused M a b x y (part_tree p.meaning) (part_tree p.meaning) never sound o.passes o.verdict e.field-0.0 inner);
       sort = subst (λ u. IfOk u (λ z. part_sort z ≡ part_sort c.args.a.now)) (sym failed) tt;
     }
 
@@ -3010,7 +3031,7 @@ binders-returns-in_err-x-2 g t c =
     let a = part_tree r.meaning c.args.a.now in
     let b = part_tree r.meaning c.args.b.now in
     let k = c.requires.asked in
-    let no = no_first_order r.meaning c.args.a.now c.requires.binder in
+    let never = no_first_order r.meaning c.args.a.now c.requires.binder in
     let q = g.R.TypeRelation.state c.open_bodies.new.r in
     let x = part_tree q.meaning c.in-Some.x in
     let y = part_tree q.meaning c.in-Some.y in
@@ -3030,7 +3051,7 @@ binders-returns-in_err-x-2 g t c =
     (e.ensures).opened in
     record {
       related = subst (λ z. Related M r w r.ambient a b (part_tree w.meaning) z) (sym failed)
-          (reopening_refused M 1 a b (part_tree w.meaning) (part_tree w.meaning) no half e.field-0.0 again);
+          (reopening_refused M 1 a b (part_tree w.meaning) (part_tree w.meaning) never half e.field-0.0 again);
       sort = subst (λ u. IfOk u (λ z. part_sort z ≡ part_sort c.args.a.now)) (sym failed) tt;
     }
 
@@ -3041,7 +3062,7 @@ binders-returns-in_default-2 g t c =
     let a = part_tree r.meaning c.args.a.now in
     let b = part_tree r.meaning c.args.b.now in
     let k = c.requires.asked in
-    let no = no_first_order r.meaning c.args.a.now c.requires.binder in
+    let never = no_first_order r.meaning c.args.a.now c.requires.binder in
     let q = g.R.TypeRelation.state c.open_bodies.new.r in
     let x = part_tree q.meaning c.in-Some.x in
     let y = part_tree q.meaning c.in-Some.y in
@@ -3060,7 +3081,7 @@ binders-returns-in_default-2 g t c =
     (part_tree w.meaning) (Ok z)) c.in_default-2.is (c.in_ok-x-2.ensures).opened) in
     let stays = extends_on (half.passes).extends (again.passes).extends in
     record {
-      related = nothing_left M 1 a b (part_tree w.meaning) (part_tree w.meaning) c.args.a.now no
+      related = nothing_left M 1 a b (part_tree w.meaning) (part_tree w.meaning) c.args.a.now never
           (stays_part stays c.args.a.now k.left_known) k.left_known half again;
       sort = refl;
     }
@@ -3111,7 +3132,7 @@ binders-returns-in_err-relate_parts-2 g t c =
     let a = part_tree r.meaning c.args.a.now in
     let b = part_tree r.meaning c.args.b.now in
     let k = c.requires.asked in
-    let no = no_first_order r.meaning c.args.a.now c.requires.binder in
+    let never = no_first_order r.meaning c.args.a.now c.requires.binder in
     let q = g.R.TypeRelation.state c.open_bodies.new.r in
     let x = part_tree q.meaning c.in-Some.x in
     let y = part_tree q.meaning c.in-Some.y in
@@ -3140,7 +3161,7 @@ binders-returns-in_err-relate_parts-2 g t c =
     ((last.passes).lawful ((again.passes).lawful ((half.passes).lawful c.requires.lawful))) in
     record {
       related = subst (λ t. Related M r z r.ambient a b (part_tree z.meaning) t) (sym failed)
-          (second_refused M a b s u no k half again.passes again.verdict (part_tree z.meaning) (part_tree z.meaning)
+          (second_refused M a b s u never k half again.passes again.verdict (part_tree z.meaning) (part_tree z.meaning)
           sound e.field-0.0 last);
       sort = subst (λ u. IfOk u (λ z. part_sort z ≡ part_sort c.args.a.now)) (sym failed) tt;
     }
@@ -3152,7 +3173,7 @@ binders-returns g t c =
     let a = part_tree r.meaning c.args.a.now in
     let b = part_tree r.meaning c.args.b.now in
     let k = c.requires.asked in
-    let no = no_first_order r.meaning c.args.a.now c.requires.binder in
+    let never = no_first_order r.meaning c.args.a.now c.requires.binder in
     let q = g.R.TypeRelation.state c.open_bodies.new.r in
     let x = part_tree q.meaning c.in-Some.x in
     let y = part_tree q.meaning c.in-Some.y in
@@ -3178,7 +3199,7 @@ binders-returns g t c =
     (m.ensures).related in
     let stays = extends_on (half.passes).extends (extends_on (again.passes).extends (last.passes).extends) in
     record {
-      related = second_related M a b s u no k half again.passes again.verdict (part_tree z.meaning) m.field-0
+      related = second_related M a b s u never k half again.passes again.verdict (part_tree z.meaning) m.field-0
           (part_tree z.meaning) c.args.a.now (stays_part stays c.args.a.now k.left_known) last;
       sort = refl;
     }
