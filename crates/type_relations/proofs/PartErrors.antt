@@ -304,6 +304,16 @@ module _ {Key Id Name : Type 0} (m : Meaning Key Id Name) where
   part_error_never st v k l a b e o q f g h = λ w s sat z. part_error_not_unified s k l a b e o q f g h (ap erase z)
 
   -- It names lists that are known where the two are.
+  list_known : (a : Tree) (x : ExistentialPredicatesKey Key) → node object (m.existential_predicates x) ≡ a →
+      IsTrue (known a) → IsTrue (known (m.existential_predicates x))
+  list_known a x p k =
+      let z : IsTrue (known (node object (m.existential_predicates x))) = subst (λ t. IsTrue (known t)) (sym p) k in z
+
+  both_known : (a b : Tree) → IsTrue (known a) → IsTrue (known b) → (x y : ExistentialPredicatesKey Key) →
+      node object (m.existential_predicates x) ≡ a → node object (m.existential_predicates y) ≡ b →
+      IsTrue (known (m.existential_predicates x)) × IsTrue (known (m.existential_predicates y))
+  both_known a b k l x y p r = (list_known a x p k, list_known b y r l)
+
   pub part_error_known : (a b : Tree) (e : TypeError Key Id Name) → IsTrue (known a) → IsTrue (known b) →
       PartError m a b e → KnowsError m e
   part_error_known a b e x y (pattern_error (unlike_patterns i j n is)) = subst (KnowsError m) (sym is) tt
@@ -316,7 +326,5 @@ module _ {Key Id Name : Type 0} (m : Meaning Key Id Name) where
   part_error_known a b e x y (existential_error (unlike_projections c d p r n)) = tt
   part_error_known a b e x y (existential_error (unlike_arguments i p r n)) = tt
   part_error_known a b e x y (existential_error (unlike_existentials i j n)) = tt
-  part_error_known a b e x y (object_error c d p r (unlike_numbers n)) =
-      (subst (λ t. IsTrue (known t)) (sym p) x, subst (λ t. IsTrue (known t)) (sym r) y)
-  part_error_known a b e x y (object_error c d p r (unlike_members i lx ly n)) =
-      (subst (λ t. IsTrue (known t)) (sym p) x, subst (λ t. IsTrue (known t)) (sym r) y)
+  part_error_known a b e x y (object_error c d p r (unlike_numbers n)) = both_known a b x y c d p r
+  part_error_known a b e x y (object_error c d p r (unlike_members i lx ly n)) = both_known a b x y c d p r

@@ -338,12 +338,15 @@ module _ {Key Id Name : Type 0} where
     second_step : {ks ls ks' ls' : List BoundKind} {t u t' u' : Tree} → a ≡ bind ks t → b ≡ bind ls u →
         a ≡ bind ks' t' → b ≡ bind ls' u' → StepsToBodies p q added (first_opened ks ls p.ambient) t u x y →
         StepsToBodies p q added (first_opened ks' ls' p.ambient) t' u' x y
-    second_step i j i' j' s = renamed (λ k l z w. StepsToBodies p q added (first_opened k l p.ambient) z w x y)
-        (sym i ∙ i') (sym j ∙ j') s
+    second_step {ks} {ls} {ks'} {ls'} {t} {u} {t'} {u'} i j i' j' s =
+        let left : bind ks t ≡ bind ks' t' = sym i ∙ i' in
+        let right : bind ls u ≡ bind ls' u' = sym j ∙ j' in
+        renamed (λ k l z w. StepsToBodies p q added (first_opened k l p.ambient) z w x y) left right s
 
     -- One round was not all.
     not_wholly : OneRound r.ambient a b → (OneRound p.ambient a b → ⊥) → ⊥
-    not_wholly o n = n (subst (λ v. OneRound v a b) (sym (h.passes).ambient) o)
+    not_wholly o n =
+        let one : OneRound p.ambient a b = subst (λ v. OneRound v a b) (sym (h.passes).ambient) o in n one
 
     -- Where its bodies are never one, nor are the binders.
     second_never : Begun (items_in r) r.environment r.ambient r.store p.store r.goals (h.passes).added a b →

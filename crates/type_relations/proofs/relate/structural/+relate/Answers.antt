@@ -2626,8 +2626,8 @@ relate_parts_with_variance-returns g t c =
 pub relate_parts-the_arg-requires : goal.relate_parts-the_arg-requires
 relate_parts-the_arg-requires g t c = are_args c.args.a.now ((c.in-Argument.ensures.argument).0 refl)
 
-pub relate_parts-the_arg-requires-2 : goal.relate_parts-the_arg-requires-2
-relate_parts-the_arg-requires-2 g t c = are_args c.args.b.now
+pub relate_parts-the_arg-requires-in-Argument : goal.relate_parts-the_arg-requires-in-Argument
+relate_parts-the_arg-requires-in-Argument g t c = are_args c.args.b.now
     (paired_args c.args.a.now c.args.b.now ((c.in-Argument.ensures.argument).0 refl) c.requires.paired)
 
 pub relate_parts-relate-requires : goal.relate_parts-relate-requires
@@ -2638,9 +2638,9 @@ relate_parts-relate-requires g t c κs within =
     let b = part_tree r.meaning c.args.b.now in
     let arg : IsArgPart c.args.a.now = (c.in-Argument.ensures.argument).0 refl in
     let X = c.the_arg.result in
-    let Y = c.the_arg-2.result in
+    let Y = c.the_arg-in-Argument.result in
     let ea : a ≡ arg_tree r.meaning X = ap (part_tree r.meaning) (sym c.the_arg.ensures) ∙ arg_part r.meaning X in
-    let eb : b ≡ arg_tree r.meaning Y = ap (part_tree r.meaning) (sym c.the_arg-2.ensures) ∙ arg_part r.meaning Y in
+    let eb : b ≡ arg_tree r.meaning Y = ap (part_tree r.meaning) (sym c.the_arg-in-Argument.ensures) ∙ arg_part r.meaning Y in
     let lawful = c.requires.lawful in
     let decides = c.requires.decides in
     let asked = subst₂ (λ x y. Asked M r r.ambient x y) ea eb c.requires.asked in
@@ -2660,9 +2660,9 @@ relate_parts-returns-in_ok-answer-in-Argument g t c =
     let b = part_tree r.meaning c.args.b.now in
     let arg : IsArgPart c.args.a.now = (c.in-Argument.ensures.argument).0 refl in
     let X = c.the_arg.result in
-    let Y = c.the_arg-2.result in
+    let Y = c.the_arg-in-Argument.result in
     let ea : a ≡ arg_tree r.meaning X = ap (part_tree r.meaning) (sym c.the_arg.ensures) ∙ arg_part r.meaning X in
-    let eb : b ≡ arg_tree r.meaning Y = ap (part_tree r.meaning) (sym c.the_arg-2.ensures) ∙ arg_part r.meaning Y in
+    let eb : b ≡ arg_tree r.meaning Y = ap (part_tree r.meaning) (sym c.the_arg-in-Argument.ensures) ∙ arg_part r.meaning Y in
     let q = g.R.TypeRelation.state c.relate.new.r in
     let n = c.in_ok-answer-in-Argument in
     record {
@@ -2684,9 +2684,9 @@ relate_parts-returns-in_err-answer-in-Argument g t c =
     let b = part_tree r.meaning c.args.b.now in
     let arg : IsArgPart c.args.a.now = (c.in-Argument.ensures.argument).0 refl in
     let X = c.the_arg.result in
-    let Y = c.the_arg-2.result in
+    let Y = c.the_arg-in-Argument.result in
     let ea : a ≡ arg_tree r.meaning X = ap (part_tree r.meaning) (sym c.the_arg.ensures) ∙ arg_part r.meaning X in
-    let eb : b ≡ arg_tree r.meaning Y = ap (part_tree r.meaning) (sym c.the_arg-2.ensures) ∙ arg_part r.meaning Y in
+    let eb : b ≡ arg_tree r.meaning Y = ap (part_tree r.meaning) (sym c.the_arg-in-Argument.ensures) ∙ arg_part r.meaning Y in
     let q = g.R.TypeRelation.state c.relate.new.r in
     let n = c.in_err-answer-in-Argument in
     let res = c.from_residual.result in
