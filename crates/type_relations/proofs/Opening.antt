@@ -8,7 +8,7 @@ use Rattle.relation_terms.specs.declared.terms.enums.Variance.{Variance}
 use Rattle.relation_terms.specs.declared.terms.enums.Variance.TheVariants.{Covariant, Contravariant, Invariant, Bivariant}
 use Rattle.type_relations.specs.Relation.{Items, Interpretation, at, second_opened, first_opened, Rel, covariant_binders, contravariant_binders, invariant_binders, open_second, open_first, FitKinds, Fresh, StaysWithin}
 use Rattle.type_relations.specs.Stores.{Store, unbound, entry_term, bound_term, universe_of, IsMade, IsAssignment, IsInScope, IsNamable, MeetsBindings, Satisfies, ConstraintHolds}
-use Rattle.type_relations.specs.Goals.{Holds, GoalInContext, MakesOneTree}
+use Rattle.type_relations.specs.Goals.{Goal, Holds, GoalInContext, MakesOneTree}
 use Rattle.type_relations.specs.Steps.{IsLater, AgreeOn, Extends, AllNamable, ArePlaceholders, ChangesNothing, EntersForall, LeavesBody, EntersUniverse, InstantiatesBinder, Instantiates}
 use Rattle.type_relations.specs.Outcomes.{StepsTo}
 use Rattle.type_relations.specs.StepLaws.{InstantiatingSteps, OpeningSteps, OneRoundRelates, TwoRoundsRelate, UnusedBindersRelate}

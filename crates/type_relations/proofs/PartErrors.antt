@@ -309,10 +309,11 @@ module _ {Key Id Name : Type 0} (m : Meaning Key Id Name) where
   list_known a x p k =
       let z : IsTrue (known (node object (m.existential_predicates x))) = subst (λ t. IsTrue (known t)) (sym p) k in z
 
-  both_known : (a b : Tree) → IsTrue (known a) → IsTrue (known b) → (x y : ExistentialPredicatesKey Key) →
-      node object (m.existential_predicates x) ≡ a → node object (m.existential_predicates y) ≡ b →
-      IsTrue (known (m.existential_predicates x)) × IsTrue (known (m.existential_predicates y))
-  both_known a b k l x y p r = (list_known a x p k, list_known b y r l)
+  object_error_known : (x y : ExistentialPredicatesKey Key) (e : TypeError Key Id Name) →
+      IsTrue (known (m.existential_predicates x)) → IsTrue (known (m.existential_predicates y)) →
+      ObjectError m x y e → KnowsError m e
+  object_error_known x y e k l (unlike_numbers n) = (k, l)
+  object_error_known x y e k l (unlike_members i lx ly n) = (k, l)
 
   pub part_error_known : (a b : Tree) (e : TypeError Key Id Name) → IsTrue (known a) → IsTrue (known b) →
       PartError m a b e → KnowsError m e
@@ -326,5 +327,5 @@ module _ {Key Id Name : Type 0} (m : Meaning Key Id Name) where
   part_error_known a b e x y (existential_error (unlike_projections c d p r n)) = tt
   part_error_known a b e x y (existential_error (unlike_arguments i p r n)) = tt
   part_error_known a b e x y (existential_error (unlike_existentials i j n)) = tt
-  part_error_known a b e x y (object_error c d p r (unlike_numbers n)) = both_known a b x y c d p r
-  part_error_known a b e x y (object_error c d p r (unlike_members i lx ly n)) = both_known a b x y c d p r
+  part_error_known a b e x y (object_error c d p r h) =
+      object_error_known c d e (list_known a c p x) (list_known b d r y) h

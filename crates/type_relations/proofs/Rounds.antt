@@ -331,35 +331,37 @@ module _ {Key Id Name : Type 0} where
       whole (wholly one f) = f
       whole (by_half two i j f) = absurd (two (subst (λ v. OneRound v a b) (h.passes).ambient (o.verdict).1))
 
+  -- A round is of the same lists and bodies, by whatever names.
+  second_step : {p q : State Key Id Name} (added : List Goal) (a b x y : Tree) {ks ls ks' ls' : List BoundKind}
+      {t u t' u' : Tree} → a ≡ bind ks t → b ≡ bind ls u → a ≡ bind ks' t' → b ≡ bind ls' u' →
+      StepsToBodies p q added (first_opened ks ls p.ambient) t u x y →
+      StepsToBodies p q added (first_opened ks' ls' p.ambient) t' u' x y
+  second_step {p} {q} added a b x y {ks} {ls} {ks'} {ls'} {t} {u} {t'} {u'} i j i' j' s =
+      let left : bind ks t ≡ bind ks' t' = sym i ∙ i' in
+      let right : bind ls u ≡ bind ls' u' = sym j ∙ j' in
+      renamed (λ k l z w. StepsToBodies p q added (first_opened k l p.ambient) z w x y) left right s
+
+  -- One round was not all.
+  not_wholly : {r p : State Key Id Name} (a b : Tree) → HalfDone r p a b → OneRound r.ambient a b →
+      (OneRound p.ambient a b → ⊥) → ⊥
+  not_wholly {r} {p} a b h o n =
+      let one : OneRound p.ambient a b = subst (λ v. OneRound v a b) (sym (h.passes).ambient) o in n one
+
   -- Round 1, where round 0 related the binders by half.
   module _ {r p q : State Key Id Name} (a b x y : Tree) (ina : InContext r.store a) (inb : InContext r.store b)
       (h : HalfDone r p a b) (added : List Goal) where
-    -- It is of the same lists and bodies.
-    second_step : {ks ls ks' ls' : List BoundKind} {t u t' u' : Tree} → a ≡ bind ks t → b ≡ bind ls u →
-        a ≡ bind ks' t' → b ≡ bind ls' u' → StepsToBodies p q added (first_opened ks ls p.ambient) t u x y →
-        StepsToBodies p q added (first_opened ks' ls' p.ambient) t' u' x y
-    second_step {ks} {ls} {ks'} {ls'} {t} {u} {t'} {u'} i j i' j' s =
-        let left : bind ks t ≡ bind ks' t' = sym i ∙ i' in
-        let right : bind ls u ≡ bind ls' u' = sym j ∙ j' in
-        renamed (λ k l z w. StepsToBodies p q added (first_opened k l p.ambient) z w x y) left right s
-
-    -- One round was not all.
-    not_wholly : OneRound r.ambient a b → (OneRound p.ambient a b → ⊥) → ⊥
-    not_wholly o n =
-        let one : OneRound p.ambient a b = subst (λ v. OneRound v a b) (sym (h.passes).ambient) o in n one
-
     -- Where its bodies are never one, nor are the binders.
     second_never : Begun (items_in r) r.environment r.ambient r.store p.store r.goals (h.passes).added a b →
         RoundSteps p q added 1 a b x y → NeverOne (at p.ambient) q.store x y → NeverOne (at r.ambient) r.store a b
     second_never f (one_round e o s) n = absurd (omega (arith, e))
     second_never f (first_round e o i j s) n = absurd (omega (arith, e))
-    second_never (wholly one f) (second_round e o i j s) n = absurd (not_wholly one o)
+    second_never (wholly one f) (second_round e o i j s) n = absurd (not_wholly a b h one o)
     second_never (by_half {ks} {ls} {t} {u} two i' j' f) (second_round e o i j s) n =
         subst₂ (λ z w. NeverOne (at r.ambient) r.store z w) (sym i') (sym j') apart
       where
         never : NeverOne (first_opened ks ls p.ambient) p.store t u
         never = (steps_compose (items_in p) p.environment (first_opened ks ls p.ambient) (at p.ambient) p.store q.store
-            q.store p.goals added [] t u x y (second_step i j i' j' s)).1 n
+            q.store p.goals added [] t u x y (second_step added a b x y i j i' j' s)).1 n
 
         apart : NeverOne (at r.ambient) r.store (bind ks t) (bind ls u)
         apart w s sat one =
@@ -379,7 +381,7 @@ module _ {Key Id Name : Type 0} where
         ((h.passes).added ++ (added ++ f.added)) a b
     second_outcome g is f begun (one_round e o s) n = absurd (omega (arith, e))
     second_outcome g is f begun (first_round e o i j s) n = absurd (omega (arith, e))
-    second_outcome g is f (wholly one half) (second_round e o i j s) n = absurd (not_wholly one o)
+    second_outcome g is f (wholly one half) (second_round e o i j s) n = absurd (not_wholly a b h one o)
     second_outcome {z = z} g is f (by_half {ks} {ls} {t} {u} two i' j' half) (second_round e o i j s) n =
         subst₂ (λ t u. Outcome (items_in r) r.environment (at r.ambient) r.store z.store r.goals
         ((h.passes).added ++ (added ++ f.added)) t u) (sym i') (sym j')
@@ -397,7 +399,7 @@ module _ {Key Id Name : Type 0} where
         opened : Outcome (items_in p) p.environment (first_opened ks ls p.ambient) p.store z.store p.goals
             (added ++ f.added) t u
         opened = (steps_compose (items_in p) p.environment (first_opened ks ls p.ambient) (at p.ambient) p.store q.store
-            z.store p.goals added f.added t u x y (second_step i j i' j' s)).0 bodies
+            z.store p.goals added f.added t u x y (second_step added a b x y i j i' j' s)).0 bodies
 
   module _ {r p q : State Key Id Name} (M : Manners) (a b x y : Tree) (never : IsFirstOrder a → ⊥)
       (k : Asked M r r.ambient a b) (h : HalfDone r p a b) (g : Passes (weight p.store a + weight p.store b) p q)
