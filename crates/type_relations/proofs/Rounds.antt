@@ -332,11 +332,11 @@ module _ {Key Id Name : Type 0} where
       whole (by_half two i j f) = absurd (two (subst (λ v. OneRound v a b) (h.passes).ambient (o.verdict).1))
 
   -- A round is of the same lists and bodies, by whatever names.
-  second_step : {p q : State Key Id Name} (added : List Goal) (a b x y : Tree) {ks ls ks' ls' : List BoundKind}
+  second_step : (p q : State Key Id Name) (added : List Goal) (a b x y : Tree) {ks ls ks' ls' : List BoundKind}
       {t u t' u' : Tree} → a ≡ bind ks t → b ≡ bind ls u → a ≡ bind ks' t' → b ≡ bind ls' u' →
       StepsToBodies p q added (first_opened ks ls p.ambient) t u x y →
       StepsToBodies p q added (first_opened ks' ls' p.ambient) t' u' x y
-  second_step {p} {q} added a b x y {ks} {ls} {ks'} {ls'} {t} {u} {t'} {u'} i j i' j' s =
+  second_step p q added a b x y {ks} {ls} {ks'} {ls'} {t} {u} {t'} {u'} i j i' j' s =
       let left : bind ks t ≡ bind ks' t' = sym i ∙ i' in
       let right : bind ls u ≡ bind ls' u' = sym j ∙ j' in
       renamed (λ k l z w. StepsToBodies p q added (first_opened k l p.ambient) z w x y) left right s
@@ -361,7 +361,7 @@ module _ {Key Id Name : Type 0} where
       where
         never : NeverOne (first_opened ks ls p.ambient) p.store t u
         never = (steps_compose (items_in p) p.environment (first_opened ks ls p.ambient) (at p.ambient) p.store q.store
-            q.store p.goals added [] t u x y (second_step added a b x y i j i' j' s)).1 n
+            q.store p.goals added [] t u x y (second_step p q added a b x y i j i' j' s)).1 n
 
         apart : NeverOne (at r.ambient) r.store (bind ks t) (bind ls u)
         apart w s sat one =
@@ -399,7 +399,7 @@ module _ {Key Id Name : Type 0} where
         opened : Outcome (items_in p) p.environment (first_opened ks ls p.ambient) p.store z.store p.goals
             (added ++ f.added) t u
         opened = (steps_compose (items_in p) p.environment (first_opened ks ls p.ambient) (at p.ambient) p.store q.store
-            z.store p.goals added f.added t u x y (second_step added a b x y i j i' j' s)).0 bodies
+            z.store p.goals added f.added t u x y (second_step p q added a b x y i j i' j' s)).0 bodies
 
   module _ {r p q : State Key Id Name} (M : Manners) (a b x y : Tree) (never : IsFirstOrder a → ⊥)
       (k : Asked M r r.ambient a b) (h : HalfDone r p a b) (g : Passes (weight p.store a + weight p.store b) p q)
