@@ -1843,7 +1843,6 @@ relate_in_order-loop-i-init g t c =
       inputs = no_inputs_yet a b;
     }
 
-
 pub relate_in_order-compare_members_of-requires-clause-a_known : goal.relate_in_order-compare_members_of-requires-clause-a_known
 relate_in_order-compare_members_of-requires-clause-a_known g t c =
     let r = g.R.TypeRelation.state c.args.r.now in
@@ -1861,7 +1860,6 @@ relate_in_order-compare_members_of-requires-clause-a_known g t c =
     let same_b : part_tree q.meaning c.args.b.now ≡ b = stays_part extends c.args.b.now k.right_known in
     subst (λ z. IsTrue (known z)) (sym same_a) k.left_known
 
-
 pub relate_in_order-compare_members_of-requires-clause-b_known : goal.relate_in_order-compare_members_of-requires-clause-b_known
 relate_in_order-compare_members_of-requires-clause-b_known g t c =
     let r = g.R.TypeRelation.state c.args.r.now in
@@ -1878,7 +1876,6 @@ relate_in_order-compare_members_of-requires-clause-b_known g t c =
     let same_a : part_tree q.meaning c.args.a.now ≡ a = stays_part extends c.args.a.now k.left_known in
     let same_b : part_tree q.meaning c.args.b.now ≡ b = stays_part extends c.args.b.now k.right_known in
     subst (λ z. IsTrue (known z)) (sym same_b) k.right_known
-
 
 pub relate_in_order-compare_members_of-requires-clause-in_a : goal.relate_in_order-compare_members_of-requires-clause-in_a
 relate_in_order-compare_members_of-requires-clause-in_a g t c =
@@ -1900,7 +1897,6 @@ relate_in_order-compare_members_of-requires-clause-in_a g t c =
     let ly : i < count (parts_of b) = omega (arith, test, inv.right_count) in
     subst (λ z. i < count (parts_of z)) (sym same_a) lx
 
-
 pub relate_in_order-compare_members_of-requires-clause-in_b : goal.relate_in_order-compare_members_of-requires-clause-in_b
 relate_in_order-compare_members_of-requires-clause-in_b g t c =
     let r = g.R.TypeRelation.state c.args.r.now in
@@ -1920,7 +1916,6 @@ relate_in_order-compare_members_of-requires-clause-in_b g t c =
     let lx : i < count (parts_of a) = omega (arith, test, inv.left_count) in
     let ly : i < count (parts_of b) = omega (arith, test, inv.right_count) in
     subst (λ z. i < count (parts_of z)) (sym same_b) ly
-
 
 pub relate_in_order-returns-in_err-compare_members_of : goal.relate_in_order-returns-in_err-compare_members_of
 relate_in_order-returns-in_err-compare_members_of g t c =
@@ -1964,7 +1959,6 @@ relate_in_order-returns-in_err-compare_members_of g t c =
       sort = subst (λ u. IfOk u (λ z. part_sort z ≡ part_sort c.args.a.now)) (sym failed) tt;
     }
 
-
 pub relate_in_order-term_part_of-x-requires-clause-term_known : goal.relate_in_order-term_part_of-x-requires-clause-term_known
 relate_in_order-term_part_of-x-requires-clause-term_known g t c =
     let r = g.R.TypeRelation.state c.args.r.now in
@@ -1982,7 +1976,6 @@ relate_in_order-term_part_of-x-requires-clause-term_known g t c =
     let same_b : part_tree q.meaning c.args.b.now ≡ b = stays_part extends c.args.b.now k.right_known in
     subst (λ z. IsTrue (known z)) (sym same_a) k.left_known
 
-
 pub relate_in_order-term_part_of-x-requires-clause-form : goal.relate_in_order-term_part_of-x-requires-clause-form
 relate_in_order-term_part_of-x-requires-clause-form g t c =
     let r = g.R.TypeRelation.state c.args.r.now in
@@ -1999,7 +1992,6 @@ relate_in_order-term_part_of-x-requires-clause-form g t c =
     let same_a : part_tree q.meaning c.args.a.now ≡ a = stays_part extends c.args.a.now k.left_known in
     let same_b : part_tree q.meaning c.args.b.now ≡ b = stays_part extends c.args.b.now k.right_known in
     subst IsByParts (sym same_a) form
-
 
 pub relate_in_order-term_part_of-x-requires-clause-in_bounds : goal.relate_in_order-term_part_of-x-requires-clause-in_bounds
 relate_in_order-term_part_of-x-requires-clause-in_bounds g t c =
@@ -2021,7 +2013,6 @@ relate_in_order-term_part_of-x-requires-clause-in_bounds g t c =
     let ly : i < count (parts_of b) = omega (arith, test, inv.right_count) in
     subst (λ z. i < count (parts_of z)) (sym same_a) lx
 
-
 pub relate_in_order-term_part_of-y-requires-clause-term_known : goal.relate_in_order-term_part_of-y-requires-clause-term_known
 relate_in_order-term_part_of-y-requires-clause-term_known g t c =
     let r = g.R.TypeRelation.state c.args.r.now in
@@ -2039,7 +2030,6 @@ relate_in_order-term_part_of-y-requires-clause-term_known g t c =
     let same_b : part_tree q.meaning c.args.b.now ≡ b = stays_part extends c.args.b.now k.right_known in
     subst (λ z. IsTrue (known z)) (sym same_b) k.right_known
 
-
 pub relate_in_order-term_part_of-y-requires-clause-form : goal.relate_in_order-term_part_of-y-requires-clause-form
 relate_in_order-term_part_of-y-requires-clause-form g t c =
     let r = g.R.TypeRelation.state c.args.r.now in
@@ -2056,7 +2046,6 @@ relate_in_order-term_part_of-y-requires-clause-form g t c =
     let same_a : part_tree q.meaning c.args.a.now ≡ a = stays_part extends c.args.a.now k.left_known in
     let same_b : part_tree q.meaning c.args.b.now ≡ b = stays_part extends c.args.b.now k.right_known in
     subst IsByParts (sym same_b) (term_alike a b alike form)
-
 
 pub relate_in_order-term_part_of-y-requires-clause-in_bounds : goal.relate_in_order-term_part_of-y-requires-clause-in_bounds
 relate_in_order-term_part_of-y-requires-clause-in_bounds g t c =
@@ -2078,7 +2067,6 @@ relate_in_order-term_part_of-y-requires-clause-in_bounds g t c =
     let ly : i < count (parts_of b) = omega (arith, test, inv.right_count) in
     subst (λ z. i < count (parts_of z)) (sym same_b) ly
 
-
 pub relate_in_order-term_variance_at-variance-requires-clause-known : goal.relate_in_order-term_variance_at-variance-requires-clause-known
 relate_in_order-term_variance_at-variance-requires-clause-known g t c =
     let r = g.R.TypeRelation.state c.args.r.now in
@@ -2096,7 +2084,6 @@ relate_in_order-term_variance_at-variance-requires-clause-known g t c =
     let same_b : part_tree q.meaning c.args.b.now ≡ b = stays_part extends c.args.b.now k.right_known in
     subst (λ z. IsTrue (known z)) (sym same_a) k.left_known
 
-
 pub relate_in_order-term_variance_at-variance-requires-clause-form : goal.relate_in_order-term_variance_at-variance-requires-clause-form
 relate_in_order-term_variance_at-variance-requires-clause-form g t c =
     let r = g.R.TypeRelation.state c.args.r.now in
@@ -2113,7 +2100,6 @@ relate_in_order-term_variance_at-variance-requires-clause-form g t c =
     let same_a : part_tree q.meaning c.args.a.now ≡ a = stays_part extends c.args.a.now k.left_known in
     let same_b : part_tree q.meaning c.args.b.now ≡ b = stays_part extends c.args.b.now k.right_known in
     subst IsByParts (sym same_a) form
-
 
 pub relate_in_order-term_variance_at-variance-requires-clause-in_bounds : goal.relate_in_order-term_variance_at-variance-requires-clause-in_bounds
 relate_in_order-term_variance_at-variance-requires-clause-in_bounds g t c =
@@ -2134,7 +2120,6 @@ relate_in_order-term_variance_at-variance-requires-clause-in_bounds g t c =
     let lx : i < count (parts_of a) = omega (arith, test, inv.left_count) in
     let ly : i < count (parts_of b) = omega (arith, test, inv.right_count) in
     subst (λ z. i < count (parts_of z)) (sym same_a) lx
-
 
 pub relate_in_order-relate_parts_with_variance-related-requires : goal.relate_in_order-relate_parts_with_variance-related-requires
 relate_in_order-relate_parts_with_variance-related-requires g t c κs within =
@@ -2212,10 +2197,28 @@ relate_in_order-relate_parts_with_variance-related-requires g t c κs within =
     let smaller = next_under M takes r q a b i x y kx ky k inv.fronted lx ly ex ey in
     let under : 8 * depth (q.store).budget (weight q.store x + weight q.store y) + 6 <
     8 * depth (r.store).budget (weight r.store a + weight r.store b) = omega (arith, smaller) in
-    let d = c.decreases in
-    (search rules, (within.0, (within.1.0, (within.1.1.0, (within.1.1.1.0, (within.1.1.1.1.0, (within.1.1.1.1.1,
-    (lawful, (decides, (asked, (kind, paired)))))))))))
-
+    let d = c.decreases in (
+      search rules,
+      (
+        within.0,
+        (
+          within.1.0,
+          (
+            within.1.1.0,
+            (
+              within.1.1.1.0,
+              (
+                within.1.1.1.1.0,
+                (
+                  within.1.1.1.1.1,
+                  (lawful, (decides, (asked, (kind, paired)))),
+                ),
+              ),
+            ),
+          ),
+        ),
+      ),
+    )
 
 pub relate_in_order-in_part-requires : goal.relate_in_order-in_part-requires
 relate_in_order-in_part-requires g t c =
@@ -2238,7 +2241,6 @@ relate_in_order-in_part-requires g t c =
     let then_a : part_tree p.meaning c.args.a.now ≡ a =
     stays_part later c.args.a.now (subst (λ z. IsTrue (known z)) (sym same_a) k.left_known) ∙ same_a in
     subst (λ z. IsTrue (known z)) (sym then_a) k.left_known
-
 
 pub relate_in_order-returns-in_err-answer : goal.relate_in_order-returns-in_err-answer
 relate_in_order-returns-in_err-answer g t c =
@@ -2307,7 +2309,6 @@ relate_in_order-returns-in_err-answer g t c =
           n.field-0.0 z.2 gone);
       sort = subst (λ u. IfOk u (λ z. part_sort z ≡ part_sort c.args.a.now)) (sym failed) tt;
     }
-
 
 pub relate_in_order-loop-i-preserved : goal.relate_in_order-loop-i-preserved
 relate_in_order-loop-i-preserved g t c =
@@ -2395,7 +2396,6 @@ relate_in_order-loop-i-preserved g t c =
           (one (inputs_compared X (sym (sort_known q.meaning sorted X kx) ∙ ap tree_sort ex ∙ e)))) inv.inputs);
     }
 
-
 pub relate_in_order-returns-in_err-push : goal.relate_in_order-returns-in_err-push
 relate_in_order-returns-in_err-push g t c =
     let r = g.R.TypeRelation.state c.args.r.now in
@@ -2447,7 +2447,6 @@ relate_in_order-returns-in_err-push g t c =
       sort = subst (λ u. IfOk u (λ z. part_sort z ≡ part_sort c.args.a.now)) (sym failed) tt;
     }
 
-
 pub relate_in_order-make_part-requires-clause-lawful : goal.relate_in_order-make_part-requires-clause-lawful
 relate_in_order-make_part-requires-clause-lawful g t c = c.loop-i.invariant.lawful
 
@@ -2468,7 +2467,6 @@ relate_in_order-make_part-requires-clause-term_known g t c =
     let same_b : part_tree q.meaning c.args.b.now ≡ b = stays_part extends c.args.b.now k.right_known in
     subst (λ z. IsTrue (known z)) (sym same_a) k.left_known
 
-
 pub relate_in_order-make_part-requires-clause-form : goal.relate_in_order-make_part-requires-clause-form
 relate_in_order-make_part-requires-clause-form g t c =
     let r = g.R.TypeRelation.state c.args.r.now in
@@ -2485,7 +2483,6 @@ relate_in_order-make_part-requires-clause-form g t c =
     let same_a : part_tree q.meaning c.args.a.now ≡ a = stays_part extends c.args.a.now k.left_known in
     let same_b : part_tree q.meaning c.args.b.now ≡ b = stays_part extends c.args.b.now k.right_known in
     subst IsByParts (sym same_a) form
-
 
 pub relate_in_order-make_part-requires-clause-parts_known : goal.relate_in_order-make_part-requires-clause-parts_known
 relate_in_order-make_part-requires-clause-parts_known g t c =
@@ -2504,7 +2501,6 @@ relate_in_order-make_part-requires-clause-parts_known g t c =
     let same_b : part_tree q.meaning c.args.b.now ≡ b = stays_part extends c.args.b.now k.right_known in
     subst (λ z. IsTrue (known z)) (sym (ap (list_tree (part_tree q.meaning)) c.as_slice.ensures.value))
     (inv.answers).sure
-
 
 pub relate_in_order-make_part-requires-clause-fits : goal.relate_in_order-make_part-requires-clause-fits
 relate_in_order-make_part-requires-clause-fits g t c =
@@ -2529,7 +2525,6 @@ relate_in_order-make_part-requires-clause-fits g t c =
     let was = list_tree (part_tree q.meaning) items in
     subst₂ (λ xs z. PartsFit xs (parts_of z)) (sym c.as_slice.ensures.value) (sym same_a)
     (parts_end items (parts_of a) i (inv.are_parts).left_list left inv.fits)
-
 
 pub relate_in_order-returns : goal.relate_in_order-returns
 relate_in_order-returns g t c =
@@ -2567,7 +2562,6 @@ relate_in_order-returns g t c =
       sort = made.sort;
     }
 
-
 pub relate_parts_with_variance-relate_parts-answer-requires : goal.relate_parts_with_variance-relate_parts-answer-requires
 relate_parts_with_variance-relate_parts-answer-requires g t c κs within =
     let r = g.R.TypeRelation.state c.args.r.now in
@@ -2589,10 +2583,28 @@ relate_parts_with_variance-relate_parts-answer-requires g t c κs within =
     let same = depth_turned c.args.a.now c.args.b.now there in
     let under : 8 * depth (s.store).budget (weight s.store (part_tree s.meaning c.args.a.now) + weight s.store (part_tree s.meaning c.args.b.now)) + 5 <
     8 * depth (r.store).budget (weight r.store a + weight r.store b) + 6 = omega (arith, same) in
-    let d = c.decreases in
-    (search rules, (within.0, (within.1.0, (within.1.1.0, (within.1.1.1.0, (within.1.1.1.1.0, (within.1.1.1.1.1,
-    (lawful, (decides, (asked, (kind, paired)))))))))))
-
+    let d = c.decreases in (
+      search rules,
+      (
+        within.0,
+        (
+          within.1.0,
+          (
+            within.1.1.0,
+            (
+              within.1.1.1.0,
+              (
+                within.1.1.1.1.0,
+                (
+                  within.1.1.1.1.1,
+                  (lawful, (decides, (asked, (kind, paired)))),
+                ),
+              ),
+            ),
+          ),
+        ),
+      ),
+    )
 
 pub relate_parts_with_variance-returns : goal.relate_parts_with_variance-returns
 relate_parts_with_variance-returns g t c =
@@ -2622,7 +2634,6 @@ relate_parts_with_variance-returns g t c =
           there.meaning ((c.relate_parts-answer.ensures).alike o);
     }
 
-
 pub relate_parts-the_arg-requires : goal.relate_parts-the_arg-requires
 relate_parts-the_arg-requires g t c = are_args c.args.a.now ((c.in-Argument.ensures.argument).0 refl)
 
@@ -2647,10 +2658,28 @@ relate_parts-relate-requires g t c κs within =
     let same = ap₂ (λ x y. depth (r.store).budget (weight r.store x + weight r.store y)) ea eb in
     let under : 8 * depth (r.store).budget (weight r.store (arg_tree r.meaning X) + weight r.store (arg_tree r.meaning Y)) + 3 <
     8 * depth (r.store).budget (weight r.store a + weight r.store b) + 5 = omega (arith, same) in
-    let d = c.decreases in
-    (search rules, (within.0, (within.1.0, (within.1.1.0, (within.1.1.1.0, (within.1.1.1.1.0, (within.1.1.1.1.1,
-    (lawful, (decides, asked)))))))))
-
+    let d = c.decreases in (
+      search rules,
+      (
+        within.0,
+        (
+          within.1.0,
+          (
+            within.1.1.0,
+            (
+              within.1.1.1.0,
+              (
+                within.1.1.1.1.0,
+                (
+                  within.1.1.1.1.1,
+                  (lawful, (decides, asked)),
+                ),
+              ),
+            ),
+          ),
+        ),
+      ),
+    )
 
 pub relate_parts-returns-in_ok-answer-in-Argument : goal.relate_parts-returns-in_ok-answer-in-Argument
 relate_parts-returns-in_ok-answer-in-Argument g t c =
@@ -2674,7 +2703,6 @@ relate_parts-returns-in_ok-answer-in-Argument g t c =
           ∙ sym (sort_as_arg c.args.a.now X (sym c.the_arg.ensures));
       alike = λ o. absurd (arg_not_compared c.args.a.now arg o);
     }
-
 
 pub relate_parts-returns-in_err-answer-in-Argument : goal.relate_parts-returns-in_err-answer-in-Argument
 relate_parts-returns-in_err-answer-in-Argument g t c =
@@ -2700,7 +2728,6 @@ relate_parts-returns-in_err-answer-in-Argument g t c =
       alike = λ o. subst (λ u. OnOk u (AreOfOneForm a b)) (sym failed) tt;
     }
 
-
 pub relate_parts-binders-requires : goal.relate_parts-binders-requires
 relate_parts-binders-requires g t c κs within =
     let r = g.R.TypeRelation.state c.args.r.now in
@@ -2714,10 +2741,28 @@ relate_parts-binders-requires g t c κs within =
     let one_sort = paired_binders c.args.a.now c.args.b.now binder c.requires.paired in
     let under : 8 * depth (r.store).budget (weight r.store a + weight r.store b) + 4 <
     8 * depth (r.store).budget (weight r.store a + weight r.store b) + 5 = omega arith in
-    let d = c.decreases in
-    (search rules, (within.0, (within.1.0, (within.1.1.0, (within.1.1.1.0, (within.1.1.1.1.0, (within.1.1.1.1.1,
-    (lawful, (decides, (asked, (binder, one_sort)))))))))))
-
+    let d = c.decreases in (
+      search rules,
+      (
+        within.0,
+        (
+          within.1.0,
+          (
+            within.1.1.0,
+            (
+              within.1.1.1.0,
+              (
+                within.1.1.1.1.0,
+                (
+                  within.1.1.1.1.1,
+                  (lawful, (decides, (asked, (binder, one_sort)))),
+                ),
+              ),
+            ),
+          ),
+        ),
+      ),
+    )
 
 pub relate_parts-returns-in-Binder : goal.relate_parts-returns-in-Binder
 relate_parts-returns-in-Binder g t c =
@@ -2728,14 +2773,12 @@ relate_parts-returns-in-Binder g t c =
       alike = λ o. absurd (binder_not_compared c.args.a.now binder o);
     }
 
-
 pub relate_parts-compare_parts_of-requires-clause-kind : goal.relate_parts-compare_parts_of-requires-clause-kind
 relate_parts-compare_parts_of-requires-clause-kind g t c =
     let no_arg : IsArgPart c.args.a.now → ⊥ = λ o. let e = (c.in-Form.ensures.argument).1 o in absurd (cc) in
     let no_binder : IsBinderPart c.args.a.now → ⊥ = λ o. let e = (c.in-Form.ensures.binder).1 o in absurd (cc) in
     let kind : IsComparedPart c.args.a.now = form_compared c.args.a.now c.requires.kind no_arg no_binder in
     kind
-
 
 pub relate_parts-compare_parts_of-requires-clause-one_sort : goal.relate_parts-compare_parts_of-requires-clause-one_sort
 relate_parts-compare_parts_of-requires-clause-one_sort g t c =
@@ -2744,7 +2787,6 @@ relate_parts-compare_parts_of-requires-clause-one_sort g t c =
     let kind : IsComparedPart c.args.a.now = form_compared c.args.a.now c.requires.kind no_arg no_binder in
     let one_sort = paired_compared c.args.a.now c.args.b.now kind c.requires.paired in
     one_sort
-
 
 pub relate_parts-returns-in_err-compare_parts_of-in-Form : goal.relate_parts-returns-in_err-compare_parts_of-in-Form
 relate_parts-returns-in_err-compare_parts_of-in-Form g t c =
@@ -2787,7 +2829,6 @@ relate_parts-returns-in_err-compare_parts_of-in-Form g t c =
       alike = λ o. subst (λ u. OnOk u (AreOfOneForm a b)) (sym failed) tt;
     }
 
-
 pub relate_parts-relate_in_order-requires : goal.relate_parts-relate_in_order-requires
 relate_parts-relate_in_order-requires g t c κs within =
     let r = g.R.TypeRelation.state c.args.r.now in
@@ -2820,10 +2861,28 @@ relate_parts-relate_in_order-requires g t c κs within =
     let alike = (c.in_ok-compare_parts_of-in-Form.ensures).alike in
     let under : 8 * depth (r.store).budget (weight r.store a + weight r.store b) <
     8 * depth (r.store).budget (weight r.store a + weight r.store b) + 5 = omega arith in
-    let d = c.decreases in
-    (search rules, (within.0, (within.1.0, (within.1.1.0, (within.1.1.1.0, (within.1.1.1.1.0, (within.1.1.1.1.1,
-    (lawful, (decides, (asked, (form, (one_sort, alike))))))))))))
-
+    let d = c.decreases in (
+      search rules,
+      (
+        within.0,
+        (
+          within.1.0,
+          (
+            within.1.1.0,
+            (
+              within.1.1.1.0,
+              (
+                within.1.1.1.1.0,
+                (
+                  within.1.1.1.1.1,
+                  (lawful, (decides, (asked, (form, (one_sort, alike))))),
+                ),
+              ),
+            ),
+          ),
+        ),
+      ),
+    )
 
 pub relate_parts-returns-in_ok-compare_parts_of-in-Form : goal.relate_parts-returns-in_ok-compare_parts_of-in-Form
 relate_parts-returns-in_ok-compare_parts_of-in-Form g t c =
@@ -2838,7 +2897,6 @@ relate_parts-returns-in_ok-compare_parts_of-in-Form g t c =
       alike = λ o. on_ok res (AreOfOneForm a b) (c.in_ok-compare_parts_of-in-Form.ensures).alike;
     }
 
-
 pub structurally_relate_tys-relate_in_order-requires : goal.structurally_relate_tys-relate_in_order-requires
 structurally_relate_tys-relate_in_order-requires g t c κs within =
     let r = g.R.TypeRelation.state c.args.r.now in
@@ -2852,10 +2910,28 @@ structurally_relate_tys-relate_in_order-requires g t c κs within =
     let alike = (c.in_ok-compare_tys_of.ensures).alike in
     let under : 8 * depth (r.store).budget (weight r.store a + weight r.store b) <
     8 * depth (r.store).budget (weight r.store a + weight r.store b) + 1 = omega arith in
-    let d = c.decreases in
-    (search rules, (within.0, (within.1.0, (within.1.1.0, (within.1.1.1.0, (within.1.1.1.1.0, (within.1.1.1.1.1,
-    (lawful, (decides, (asked, (form, (refl, alike))))))))))))
-
+    let d = c.decreases in (
+      search rules,
+      (
+        within.0,
+        (
+          within.1.0,
+          (
+            within.1.1.0,
+            (
+              within.1.1.1.0,
+              (
+                within.1.1.1.1.0,
+                (
+                  within.1.1.1.1.1,
+                  (lawful, (decides, (asked, (form, (refl, alike))))),
+                ),
+              ),
+            ),
+          ),
+        ),
+      ),
+    )
 
 pub structurally_relate_tys-the_ty-requires : goal.structurally_relate_tys-the_ty-requires
 structurally_relate_tys-the_ty-requires g t c = (c.in_ok-relate_in_order.ensures).sort
@@ -2874,7 +2950,6 @@ structurally_relate_tys-returns-in_err-relate_in_order g t c =
     subst (λ z. Related M r q r.ambient a b (q.meaning).ty z) (sym failed)
     (refused_again M r.ambient a b (part_tree q.meaning) (q.meaning).ty n.field-0.0 (n.ensures).related)
 
-
 pub structurally_relate_tys-returns-then-is_by_parts_of : goal.structurally_relate_tys-returns-then-is_by_parts_of
 structurally_relate_tys-returns-then-is_by_parts_of g t c =
     let r = g.R.TypeRelation.state c.args.r.now in
@@ -2886,13 +2961,11 @@ structurally_relate_tys-returns-then-is_by_parts_of g t c =
     retold M r.ambient a b (part_tree q.meaning) n.field-0 (q.meaning).ty c.the_ty.result
     (ap (part_tree q.meaning) c.the_ty.ensures) (n.ensures).related
 
-
 pub structurally_relate_tys-part_of-x-requires-clause-over_args : goal.structurally_relate_tys-part_of-x-requires-clause-over_args
 structurally_relate_tys-part_of-x-requires-clause-over_args g t c =
     let k = c.requires.asked in
     let same = (((c.loop-i.invariant.fronted).passes).extends).ty c.args.a.now k.left_known in
     λ o. absurd (false≢true (sym c.if-is_by_parts_of.false ∙ (c.is_by_parts_of.ensures).1 (subst IsByParts same o)))
-
 
 pub structurally_relate_tys-part_of-y-requires-clause-over_args : goal.structurally_relate_tys-part_of-y-requires-clause-over_args
 structurally_relate_tys-part_of-y-requires-clause-over_args g t c =
