@@ -3071,8 +3071,8 @@ binders-returns-in_err-relate_parts g t c =
       sort = subst (λ u. IfOk u (λ z. part_sort z ≡ part_sort c.args.a.now)) (sym failed) tt;
     }
 
-pub binders-open_bodies-requires-2 : goal.binders-open_bodies-requires-2
-binders-open_bodies-requires-2 g t c =
+pub binders-open_bodies-requires-2-clause-lawful : goal.binders-open_bodies-requires-2-clause-lawful
+binders-open_bodies-requires-2-clause-lawful g t c =
     let r = g.R.TypeRelation.state c.args.r.now in
     let M = g.R.TypeRelation.manner in
     let a = part_tree r.meaning c.args.a.now in
@@ -3088,14 +3088,45 @@ binders-open_bodies-requires-2 g t c =
     let inner = subst (λ v. Related M q p v x y (part_tree p.meaning) (Ok n.field-0)) (o.passes).ambient
     (n.ensures).related in
     let half = first_done M a b x y (part_tree p.meaning) n.field-0 o.passes o.verdict inner in
-    record {
-      lawful = (half.passes).lawful c.requires.lawful;
-      decides = λ e. c.requires.decides (sym (half.passes).ambient ∙ e);
-      round = omega arith;
-      asked = half_asked M c.args.a.now c.args.b.now half k;
-      binder = c.requires.binder;
-      one_sort = c.requires.one_sort;
-    }
+    (half.passes).lawful c.requires.lawful
+
+pub binders-open_bodies-requires-2-clause-decides : goal.binders-open_bodies-requires-2-clause-decides
+binders-open_bodies-requires-2-clause-decides g t c =
+    let r = g.R.TypeRelation.state c.args.r.now in
+    let M = g.R.TypeRelation.manner in
+    let a = part_tree r.meaning c.args.a.now in
+    let b = part_tree r.meaning c.args.b.now in
+    let k = c.requires.asked in
+    let q = g.R.TypeRelation.state c.open_bodies.new.r in
+    let x = part_tree q.meaning c.in-Some.x in
+    let y = part_tree q.meaning c.in-Some.y in
+    let o : Opened M r q 0 a b (part_tree q.meaning) (Ok (Some (c.in-Some.x, c.in-Some.y))) =
+    subst (λ z. Opened M r q 0 a b (part_tree q.meaning) (Ok z)) c.in-Some.is (c.in_ok-x.ensures).opened in
+    let p = g.R.TypeRelation.state c.relate_parts.new.r in
+    let n = c.in_ok-relate_parts in
+    let inner = subst (λ v. Related M q p v x y (part_tree p.meaning) (Ok n.field-0)) (o.passes).ambient
+    (n.ensures).related in
+    let half = first_done M a b x y (part_tree p.meaning) n.field-0 o.passes o.verdict inner in
+    λ e. c.requires.decides (sym (half.passes).ambient ∙ e)
+
+pub binders-open_bodies-requires-2-clause-asked : goal.binders-open_bodies-requires-2-clause-asked
+binders-open_bodies-requires-2-clause-asked g t c =
+    let r = g.R.TypeRelation.state c.args.r.now in
+    let M = g.R.TypeRelation.manner in
+    let a = part_tree r.meaning c.args.a.now in
+    let b = part_tree r.meaning c.args.b.now in
+    let k = c.requires.asked in
+    let q = g.R.TypeRelation.state c.open_bodies.new.r in
+    let x = part_tree q.meaning c.in-Some.x in
+    let y = part_tree q.meaning c.in-Some.y in
+    let o : Opened M r q 0 a b (part_tree q.meaning) (Ok (Some (c.in-Some.x, c.in-Some.y))) =
+    subst (λ z. Opened M r q 0 a b (part_tree q.meaning) (Ok z)) c.in-Some.is (c.in_ok-x.ensures).opened in
+    let p = g.R.TypeRelation.state c.relate_parts.new.r in
+    let n = c.in_ok-relate_parts in
+    let inner = subst (λ v. Related M q p v x y (part_tree p.meaning) (Ok n.field-0)) (o.passes).ambient
+    (n.ensures).related in
+    let half = first_done M a b x y (part_tree p.meaning) n.field-0 o.passes o.verdict inner in
+    half_asked M c.args.a.now c.args.b.now half k
 
 pub binders-returns-in_err-x-2 : goal.binders-returns-in_err-x-2
 binders-returns-in_err-x-2 g t c =
