@@ -304,18 +304,16 @@ module _ {Key Id Name : Type 0} (m : Meaning Key Id Name) where
   part_error_never st v k l a b e o q f g h = λ w s sat z. part_error_not_unified s k l a b e o q f g h (ap erase z)
 
   -- It names lists that are known where the two are.
-  existential_known : (a b : Tree) (e : TypeError Key Id Name) → ExistentialError m a b e → KnowsError m e
-  existential_known a b e (unlike_traits c d p r n) = tt
-  existential_known a b e (unlike_auto_traits c d p r n) = tt
-  existential_known a b e (unlike_projections c d p r n) = tt
-  existential_known a b e (unlike_arguments i p r n) = tt
-  existential_known a b e (unlike_existentials i j n) = tt
+  list_known : (a : Tree) (x : ExistentialPredicatesKey Key) → node object (m.existential_predicates x) ≡ a →
+      IsTrue (known a) → IsTrue (known (m.existential_predicates x))
+  list_known a x p k =
+      let z : IsTrue (known (node object (m.existential_predicates x))) = subst (λ t. IsTrue (known t)) (sym p) k in z
 
-  object_known : (c d : ExistentialPredicatesKey Key) (e : TypeError Key Id Name) →
-      IsTrue (known (m.existential_predicates c)) → IsTrue (known (m.existential_predicates d)) →
-      ObjectError m c d e → KnowsError m e
-  object_known c d e x y (unlike_numbers n) = (x, y)
-  object_known c d e x y (unlike_members i lx ly n) = (x, y)
+  object_error_known : (x y : ExistentialPredicatesKey Key) (e : TypeError Key Id Name) →
+      IsTrue (known (m.existential_predicates x)) → IsTrue (known (m.existential_predicates y)) →
+      ObjectError m x y e → KnowsError m e
+  object_error_known x y e k l (unlike_numbers n) = (k, l)
+  object_error_known x y e k l (unlike_members i lx ly n) = (k, l)
 
   pub part_error_known : (a b : Tree) (e : TypeError Key Id Name) → IsTrue (known a) → IsTrue (known b) →
       PartError m a b e → KnowsError m e
@@ -324,6 +322,10 @@ module _ {Key Id Name : Type 0} (m : Meaning Key Id Name) where
   part_error_known a b e x y (signature_error (unlike_safety p r n is)) = subst (KnowsError m) (sym is) tt
   part_error_known a b e x y (signature_error (unlike_abi p r n is)) = subst (KnowsError m) (sym is) tt
   part_error_known a b e x y (signature_error (unlike_counts p r n is)) = subst (KnowsError m) (sym is) tt
-  part_error_known a b e x y (existential_error h) = existential_known a b e h
-  part_error_known a b e x y (object_error c d p r h) = object_known c d e
-      (subst (λ t. IsTrue (known t)) (sym p) x) (subst (λ t. IsTrue (known t)) (sym r) y) h
+  part_error_known a b e x y (existential_error (unlike_traits c d p r n)) = tt
+  part_error_known a b e x y (existential_error (unlike_auto_traits c d p r n)) = tt
+  part_error_known a b e x y (existential_error (unlike_projections c d p r n)) = tt
+  part_error_known a b e x y (existential_error (unlike_arguments i p r n)) = tt
+  part_error_known a b e x y (existential_error (unlike_existentials i j n)) = tt
+  part_error_known a b e x y (object_error c d p r h) =
+      object_error_known c d e (list_known a c p x) (list_known b d r y) h

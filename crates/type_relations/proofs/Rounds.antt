@@ -83,15 +83,21 @@ unfolding InContext
 body_context st a ks t e h = subst (InContext st) e h
 
 -- What grows from more is at least as much more.
+square_next : (n : ℕ) → suc n * suc n ≡ n * n + n + n + 1
+square_next n = grind arith
+
+square_sum : (m d : ℕ) → (m + d) * (m + d) ≡ m * m + (m * d + m * d) + d * d
+square_sum m d = grind arith
+
+square : (n : ℕ) → n ≤ n * n
+square zero = omega arith
+square (suc n) = let e = square_next n in omega (arith, e)
+
 square_apart : (m d : ℕ) → m * m + d ≤ (m + d) * (m + d)
 square_apart m d =
-    let e : (m + d) * (m + d) ≡ m * m + (m * d + m * d) + d * d = grind arith in
+    let e = square_sum m d in
     let s = square d in
     omega (arith, e, s)
-  where
-    square : (n : ℕ) → n ≤ n * n
-    square zero = omega arith
-    square (suc n) = let e : suc n * suc n ≡ n * n + n + n + 1 = grind arith in omega (arith, e)
 
 grown_apart : (j m d : ℕ) → grown j m + d ≤ grown j (m + d)
 grown_apart zero m d = omega arith
@@ -104,7 +110,7 @@ grown_apart (suc j) m d =
 grown_next : (j n : ℕ) → 1 ≤ n → grown (suc j) n + 3 ≤ grown (suc j) (suc n)
 grown_next j n l =
     let i : grown j (n * n) + 3 ≤ grown j (n * n + 3) = grown_apart j (n * n) 3 in
-    let e : suc n * suc n ≡ n * n + n + n + 1 = grind arith in
+    let e = square_next n in
     let up : grown j (n * n + 3) ≤ grown j (suc n * suc n) =
     grown-mono j (n * n + 3) (suc n * suc n) (omega (arith, e, l)) in
     omega (arith, i, up)
@@ -196,9 +202,9 @@ module _ {Key Id Name : Type 0} where
   pub opening_refused : {T X : Type 0} {r q : State Key Id Name} (M : Manners) (n : ℕ) (a b : Tree) (tree : T → Tree)
       (answer : X → Tree) → (IsFirstOrder a → ⊥) → (f : RelateFault Key Id Name) → Opened M r q n a b tree (Err f) →
       Related {X = X} M r q r.ambient a b answer (Err f)
-  opening_refused {r = r} M n a b tree answer no Memory o =
-      stopped M r.ambient a b answer o.passes (λ k is pair. absurd (no pair.left))
-  opening_refused M n a b tree answer no f o = absurd o.verdict
+  opening_refused {r = r} M n a b tree answer never Memory o =
+      stopped M r.ambient a b answer o.passes (λ k is pair. absurd (never pair.left))
+  opening_refused M n a b tree answer never f o = absurd o.verdict
 
   -- The bodies of a round weigh less.
   round_small : {m : ℕ} {r q : State Key Id Name} (M : Manners) (n : ℕ) (a b x y : Tree) (g : Passes m r q) →
@@ -238,10 +244,10 @@ module _ {Key Id Name : Type 0} where
       (g : Passes (weight r.store a + weight r.store b) r q) → RoundLeads M r q g.added 0 a b x y →
       (e : RelateFault Key Id Name) → Related M q p r.ambient x y tree (Err e) →
       Related {X = Y} M r p r.ambient a b answer (Err e)
-  first_refused M a b x y tree answer no sound g l e f = record {
+  first_refused M a b x y tree answer never sound g l e f = record {
     passes = passes_then g f.passes (round_small M 0 a b x y g l);
     verdict = round_refuses M g.added a b x y l f.passes sound e f.verdict;
-    exact = λ k is pair. absurd (no pair.left);
+    exact = λ k is pair. absurd (never pair.left);
   }
 
   -- The bodies of round 0 were related.
@@ -298,16 +304,16 @@ module _ {Key Id Name : Type 0} where
   pub reopening_refused : {T X : Type 0} {r p q : State Key Id Name} (M : Manners) (n : ℕ) (a b : Tree)
       (tree : T → Tree) (answer : X → Tree) → (IsFirstOrder a → ⊥) → HalfDone r p a b → (f : RelateFault Key Id Name) →
       Opened M p q n a b tree (Err f) → Related {X = X} M r q r.ambient a b answer (Err f)
-  reopening_refused {r = r} M n a b tree answer no h Memory o =
-      stopped M r.ambient a b answer (passes_then h.passes o.passes h.room) (λ k is pair. absurd (no pair.left))
-  reopening_refused M n a b tree answer no h f o = absurd o.verdict
+  reopening_refused {r = r} M n a b tree answer never h Memory o =
+      stopped M r.ambient a b answer (passes_then h.passes o.passes h.room) (λ k is pair. absurd (never pair.left))
+  reopening_refused M n a b tree answer never h f o = absurd o.verdict
 
   -- Nothing was left for round 1.
   pub nothing_left : {T X : Type 0} {r p q : State Key Id Name} (M : Manners) (n : ℕ) (a b : Tree) (tree : T → Tree)
       (answer : X → Tree) (x : X) → (IsFirstOrder a → ⊥) → answer x ≡ a → IsTrue (known a) → HalfDone r p a b →
       Opened M p q n a b tree (Ok None) → Related M r q r.ambient a b answer (Ok x)
   unfolding passes_then
-  nothing_left {r = r} {p = p} {q = q} M n a b tree answer x no e k h o = record {
+  nothing_left {r = r} {p = p} {q = q} M n a b tree answer x never e k h o = record {
     passes = passes_then h.passes o.passes h.room;
     verdict = record {
       outcome = subst₂ (λ s gs. Outcome (items_in r) r.environment (at r.ambient) r.store s r.goals
@@ -317,7 +323,7 @@ module _ {Key Id Name : Type 0} where
       answer = subst (MayAnswer M q r.ambient a) (sym e) (may_itself M q r.ambient a);
       known = subst (λ t. IsTrue (known t)) (sym e) k;
     };
-    exact = λ j is pair. absurd (no pair.left);
+    exact = λ j is pair. absurd (never pair.left);
   }
     where
       whole : Begun (items_in r) r.environment r.ambient r.store p.store r.goals (h.passes).added a b →
@@ -325,32 +331,37 @@ module _ {Key Id Name : Type 0} where
       whole (wholly one f) = f
       whole (by_half two i j f) = absurd (two (subst (λ v. OneRound v a b) (h.passes).ambient (o.verdict).1))
 
+  -- A round is of the same lists and bodies, by whatever names.
+  second_step : (p q : State Key Id Name) (added : List Goal) (a b x y : Tree) {ks ls ks' ls' : List BoundKind}
+      {t u t' u' : Tree} → a ≡ bind ks t → b ≡ bind ls u → a ≡ bind ks' t' → b ≡ bind ls' u' →
+      StepsToBodies p q added (first_opened ks ls p.ambient) t u x y →
+      StepsToBodies p q added (first_opened ks' ls' p.ambient) t' u' x y
+  second_step p q added a b x y {ks} {ls} {ks'} {ls'} {t} {u} {t'} {u'} i j i' j' s =
+      let left : bind ks t ≡ bind ks' t' = sym i ∙ i' in
+      let right : bind ls u ≡ bind ls' u' = sym j ∙ j' in
+      renamed (λ k l z w. StepsToBodies p q added (first_opened k l p.ambient) z w x y) left right s
+
+  -- One round was not all.
+  not_wholly : {r p : State Key Id Name} (a b : Tree) → HalfDone r p a b → OneRound r.ambient a b →
+      (OneRound p.ambient a b → ⊥) → ⊥
+  not_wholly {r} {p} a b h o n =
+      let one : OneRound p.ambient a b = subst (λ v. OneRound v a b) (sym (h.passes).ambient) o in n one
+
   -- Round 1, where round 0 related the binders by half.
   module _ {r p q : State Key Id Name} (a b x y : Tree) (ina : InContext r.store a) (inb : InContext r.store b)
       (h : HalfDone r p a b) (added : List Goal) where
-    -- It is of the same lists and bodies.
-    second_step : {ks ls ks' ls' : List BoundKind} {t u t' u' : Tree} → a ≡ bind ks t → b ≡ bind ls u →
-        a ≡ bind ks' t' → b ≡ bind ls' u' → StepsToBodies p q added (first_opened ks ls p.ambient) t u x y →
-        StepsToBodies p q added (first_opened ks' ls' p.ambient) t' u' x y
-    second_step i j i' j' s = renamed (λ k l z w. StepsToBodies p q added (first_opened k l p.ambient) z w x y)
-        (sym i ∙ i') (sym j ∙ j') s
-
-    -- One round was not all.
-    not_wholly : OneRound r.ambient a b → (OneRound p.ambient a b → ⊥) → ⊥
-    not_wholly o n = n (subst (λ v. OneRound v a b) (sym (h.passes).ambient) o)
-
     -- Where its bodies are never one, nor are the binders.
     second_never : Begun (items_in r) r.environment r.ambient r.store p.store r.goals (h.passes).added a b →
         RoundSteps p q added 1 a b x y → NeverOne (at p.ambient) q.store x y → NeverOne (at r.ambient) r.store a b
     second_never f (one_round e o s) n = absurd (omega (arith, e))
     second_never f (first_round e o i j s) n = absurd (omega (arith, e))
-    second_never (wholly one f) (second_round e o i j s) n = absurd (not_wholly one o)
+    second_never (wholly one f) (second_round e o i j s) n = absurd (not_wholly a b h one o)
     second_never (by_half {ks} {ls} {t} {u} two i' j' f) (second_round e o i j s) n =
         subst₂ (λ z w. NeverOne (at r.ambient) r.store z w) (sym i') (sym j') apart
       where
         never : NeverOne (first_opened ks ls p.ambient) p.store t u
         never = (steps_compose (items_in p) p.environment (first_opened ks ls p.ambient) (at p.ambient) p.store q.store
-            q.store p.goals added [] t u x y (second_step i j i' j' s)).1 n
+            q.store p.goals added [] t u x y (second_step p q added a b x y i j i' j' s)).1 n
 
         apart : NeverOne (at r.ambient) r.store (bind ks t) (bind ls u)
         apart w s sat one =
@@ -370,7 +381,7 @@ module _ {Key Id Name : Type 0} where
         ((h.passes).added ++ (added ++ f.added)) a b
     second_outcome g is f begun (one_round e o s) n = absurd (omega (arith, e))
     second_outcome g is f begun (first_round e o i j s) n = absurd (omega (arith, e))
-    second_outcome g is f (wholly one half) (second_round e o i j s) n = absurd (not_wholly one o)
+    second_outcome g is f (wholly one half) (second_round e o i j s) n = absurd (not_wholly a b h one o)
     second_outcome {z = z} g is f (by_half {ks} {ls} {t} {u} two i' j' half) (second_round e o i j s) n =
         subst₂ (λ t u. Outcome (items_in r) r.environment (at r.ambient) r.store z.store r.goals
         ((h.passes).added ++ (added ++ f.added)) t u) (sym i') (sym j')
@@ -388,9 +399,9 @@ module _ {Key Id Name : Type 0} where
         opened : Outcome (items_in p) p.environment (first_opened ks ls p.ambient) p.store z.store p.goals
             (added ++ f.added) t u
         opened = (steps_compose (items_in p) p.environment (first_opened ks ls p.ambient) (at p.ambient) p.store q.store
-            z.store p.goals added f.added t u x y (second_step i j i' j' s)).0 bodies
+            z.store p.goals added f.added t u x y (second_step p q added a b x y i j i' j' s)).0 bodies
 
-  module _ {r p q : State Key Id Name} (M : Manners) (a b x y : Tree) (no : IsFirstOrder a → ⊥)
+  module _ {r p q : State Key Id Name} (M : Manners) (a b x y : Tree) (never : IsFirstOrder a → ⊥)
       (k : Asked M r r.ambient a b) (h : HalfDone r p a b) (g : Passes (weight p.store a + weight p.store b) p q)
       (l : RoundLeads M p q g.added 1 a b x y) where
     left_context : InContext r.store a
@@ -417,7 +428,7 @@ module _ {Key Id Name : Type 0} where
     second_refused tree answer sound e f = record {
       passes = passes_then h.passes (passes_then g f.passes (round_small M 1 a b x y g l)) h.room;
       verdict = second_refuses f.passes sound e f.verdict;
-      exact = λ j is pair. absurd (no pair.left);
+      exact = λ j is pair. absurd (never pair.left);
     }
 
     -- They were related, and so are the binders.
@@ -432,7 +443,7 @@ module _ {Key Id Name : Type 0} where
         answer = subst (MayAnswer M z r.ambient a) (sym e) (may_itself M z r.ambient a);
         known = subst (λ t. IsTrue (known t)) (sym e) k.left_known;
       };
-      exact = λ j is pair. absurd (no pair.left);
+      exact = λ j is pair. absurd (never pair.left);
     }
 
   -- The bodies that a round leads to are less deep than the binders, in round 0 and in round 1.

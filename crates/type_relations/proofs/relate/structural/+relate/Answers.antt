@@ -2101,6 +2101,26 @@ relate_in_order-term_variance_at-variance-requires-clause-form g t c =
     let same_b : part_tree q.meaning c.args.b.now ≡ b = stays_part extends c.args.b.now k.right_known in
     subst IsByParts (sym same_a) form
 
+pub relate_in_order-term_variance_at-variance-requires-clause-in_bounds : goal.relate_in_order-term_variance_at-variance-requires-clause-in_bounds
+relate_in_order-term_variance_at-variance-requires-clause-in_bounds g t c =
+    let r = g.R.TypeRelation.state c.args.r.now in
+    let M = g.R.TypeRelation.manner in
+    let a = part_tree r.meaning c.args.a.now in
+    let b = part_tree r.meaning c.args.b.now in
+    let q = g.R.TypeRelation.state c.loop-i.r in
+    let i = c.loop-i.i in
+    let inv = c.loop-i.invariant in
+    let k = c.requires.asked in
+    let form = c.requires.form in
+    let alike = c.requires.alike in
+    let extends = ((inv.fronted).passes).extends in
+    let same_a : part_tree q.meaning c.args.a.now ≡ a = stays_part extends c.args.a.now k.left_known in
+    let same_b : part_tree q.meaning c.args.b.now ≡ b = stays_part extends c.args.b.now k.right_known in
+    let test = c.loop-i-test.true in
+    let lx : i < count (parts_of a) = omega (arith, test, inv.left_count) in
+    let ly : i < count (parts_of b) = omega (arith, test, inv.right_count) in
+    subst (λ z. i < count (parts_of z)) (sym same_a) lx
+
 pub relate_in_order-relate_parts_with_variance-related-requires : goal.relate_in_order-relate_parts_with_variance-related-requires
 relate_in_order-relate_parts_with_variance-related-requires g t c κs within =
     let r = g.R.TypeRelation.state c.args.r.now in
@@ -2617,8 +2637,8 @@ relate_parts_with_variance-returns g t c =
 pub relate_parts-the_arg-requires : goal.relate_parts-the_arg-requires
 relate_parts-the_arg-requires g t c = are_args c.args.a.now ((c.in-Argument.ensures.argument).0 refl)
 
-pub relate_parts-the_arg-requires-2 : goal.relate_parts-the_arg-requires-2
-relate_parts-the_arg-requires-2 g t c = are_args c.args.b.now
+pub relate_parts-the_arg-requires-in-Argument : goal.relate_parts-the_arg-requires-in-Argument
+relate_parts-the_arg-requires-in-Argument g t c = are_args c.args.b.now
     (paired_args c.args.a.now c.args.b.now ((c.in-Argument.ensures.argument).0 refl) c.requires.paired)
 
 pub relate_parts-relate-requires : goal.relate_parts-relate-requires
@@ -2629,9 +2649,9 @@ relate_parts-relate-requires g t c κs within =
     let b = part_tree r.meaning c.args.b.now in
     let arg : IsArgPart c.args.a.now = (c.in-Argument.ensures.argument).0 refl in
     let X = c.the_arg.result in
-    let Y = c.the_arg-2.result in
+    let Y = c.the_arg-in-Argument.result in
     let ea : a ≡ arg_tree r.meaning X = ap (part_tree r.meaning) (sym c.the_arg.ensures) ∙ arg_part r.meaning X in
-    let eb : b ≡ arg_tree r.meaning Y = ap (part_tree r.meaning) (sym c.the_arg-2.ensures) ∙ arg_part r.meaning Y in
+    let eb : b ≡ arg_tree r.meaning Y = ap (part_tree r.meaning) (sym c.the_arg-in-Argument.ensures) ∙ arg_part r.meaning Y in
     let lawful = c.requires.lawful in
     let decides = c.requires.decides in
     let asked = subst₂ (λ x y. Asked M r r.ambient x y) ea eb c.requires.asked in
@@ -2669,9 +2689,9 @@ relate_parts-returns-in_ok-answer-in-Argument g t c =
     let b = part_tree r.meaning c.args.b.now in
     let arg : IsArgPart c.args.a.now = (c.in-Argument.ensures.argument).0 refl in
     let X = c.the_arg.result in
-    let Y = c.the_arg-2.result in
+    let Y = c.the_arg-in-Argument.result in
     let ea : a ≡ arg_tree r.meaning X = ap (part_tree r.meaning) (sym c.the_arg.ensures) ∙ arg_part r.meaning X in
-    let eb : b ≡ arg_tree r.meaning Y = ap (part_tree r.meaning) (sym c.the_arg-2.ensures) ∙ arg_part r.meaning Y in
+    let eb : b ≡ arg_tree r.meaning Y = ap (part_tree r.meaning) (sym c.the_arg-in-Argument.ensures) ∙ arg_part r.meaning Y in
     let q = g.R.TypeRelation.state c.relate.new.r in
     let n = c.in_ok-answer-in-Argument in
     record {
@@ -2692,9 +2712,9 @@ relate_parts-returns-in_err-answer-in-Argument g t c =
     let b = part_tree r.meaning c.args.b.now in
     let arg : IsArgPart c.args.a.now = (c.in-Argument.ensures.argument).0 refl in
     let X = c.the_arg.result in
-    let Y = c.the_arg-2.result in
+    let Y = c.the_arg-in-Argument.result in
     let ea : a ≡ arg_tree r.meaning X = ap (part_tree r.meaning) (sym c.the_arg.ensures) ∙ arg_part r.meaning X in
-    let eb : b ≡ arg_tree r.meaning Y = ap (part_tree r.meaning) (sym c.the_arg-2.ensures) ∙ arg_part r.meaning Y in
+    let eb : b ≡ arg_tree r.meaning Y = ap (part_tree r.meaning) (sym c.the_arg-in-Argument.ensures) ∙ arg_part r.meaning Y in
     let q = g.R.TypeRelation.state c.relate.new.r in
     let n = c.in_err-answer-in-Argument in
     let res = c.from_residual.result in
@@ -2979,13 +2999,13 @@ binders-returns-in_err-x g t c =
     let a = part_tree r.meaning c.args.a.now in
     let b = part_tree r.meaning c.args.b.now in
     let k = c.requires.asked in
-    let no = no_first_order r.meaning c.args.a.now c.requires.binder in
+    let never = no_first_order r.meaning c.args.a.now c.requires.binder in
     let q = g.R.TypeRelation.state c.open_bodies.new.r in
     let e = c.in_err-x in
     let failed = as_err c.from_residual.result e.field-0.0 c.from_residual.ensures.0 c.from_residual.ensures.1 in
     record {
       related = subst (λ z. Related M r q r.ambient a b (part_tree q.meaning) z) (sym failed)
-          (opening_refused M 0 a b (part_tree q.meaning) (part_tree q.meaning) no e.field-0.0 (e.ensures).opened);
+          (opening_refused M 0 a b (part_tree q.meaning) (part_tree q.meaning) never e.field-0.0 (e.ensures).opened);
       sort = subst (λ u. IfOk u (λ z. part_sort z ≡ part_sort c.args.a.now)) (sym failed) tt;
     }
 
@@ -3032,7 +3052,7 @@ binders-returns-in_err-relate_parts g t c =
     let a = part_tree r.meaning c.args.a.now in
     let b = part_tree r.meaning c.args.b.now in
     let k = c.requires.asked in
-    let no = no_first_order r.meaning c.args.a.now c.requires.binder in
+    let never = no_first_order r.meaning c.args.a.now c.requires.binder in
     let q = g.R.TypeRelation.state c.open_bodies.new.r in
     let x = part_tree q.meaning c.in-Some.x in
     let y = part_tree q.meaning c.in-Some.y in
@@ -3047,12 +3067,12 @@ binders-returns-in_err-relate_parts g t c =
     ((inner.passes).lawful ((o.passes).lawful c.requires.lawful)) in
     record {
       related = subst (λ z. Related M r p r.ambient a b (part_tree p.meaning) z) (sym failed)
-          (first_refused M a b x y (part_tree p.meaning) (part_tree p.meaning) no sound o.passes o.verdict e.field-0.0 inner);
+          (first_refused M a b x y (part_tree p.meaning) (part_tree p.meaning) never sound o.passes o.verdict e.field-0.0 inner);
       sort = subst (λ u. IfOk u (λ z. part_sort z ≡ part_sort c.args.a.now)) (sym failed) tt;
     }
 
-pub binders-open_bodies-requires-2 : goal.binders-open_bodies-requires-2
-binders-open_bodies-requires-2 g t c =
+pub binders-open_bodies-requires-2-clause-lawful : goal.binders-open_bodies-requires-2-clause-lawful
+binders-open_bodies-requires-2-clause-lawful g t c =
     let r = g.R.TypeRelation.state c.args.r.now in
     let M = g.R.TypeRelation.manner in
     let a = part_tree r.meaning c.args.a.now in
@@ -3068,14 +3088,45 @@ binders-open_bodies-requires-2 g t c =
     let inner = subst (λ v. Related M q p v x y (part_tree p.meaning) (Ok n.field-0)) (o.passes).ambient
     (n.ensures).related in
     let half = first_done M a b x y (part_tree p.meaning) n.field-0 o.passes o.verdict inner in
-    record {
-      lawful = (half.passes).lawful c.requires.lawful;
-      decides = λ e. c.requires.decides (sym (half.passes).ambient ∙ e);
-      round = omega arith;
-      asked = half_asked M c.args.a.now c.args.b.now half k;
-      binder = c.requires.binder;
-      one_sort = c.requires.one_sort;
-    }
+    (half.passes).lawful c.requires.lawful
+
+pub binders-open_bodies-requires-2-clause-decides : goal.binders-open_bodies-requires-2-clause-decides
+binders-open_bodies-requires-2-clause-decides g t c =
+    let r = g.R.TypeRelation.state c.args.r.now in
+    let M = g.R.TypeRelation.manner in
+    let a = part_tree r.meaning c.args.a.now in
+    let b = part_tree r.meaning c.args.b.now in
+    let k = c.requires.asked in
+    let q = g.R.TypeRelation.state c.open_bodies.new.r in
+    let x = part_tree q.meaning c.in-Some.x in
+    let y = part_tree q.meaning c.in-Some.y in
+    let o : Opened M r q 0 a b (part_tree q.meaning) (Ok (Some (c.in-Some.x, c.in-Some.y))) =
+    subst (λ z. Opened M r q 0 a b (part_tree q.meaning) (Ok z)) c.in-Some.is (c.in_ok-x.ensures).opened in
+    let p = g.R.TypeRelation.state c.relate_parts.new.r in
+    let n = c.in_ok-relate_parts in
+    let inner = subst (λ v. Related M q p v x y (part_tree p.meaning) (Ok n.field-0)) (o.passes).ambient
+    (n.ensures).related in
+    let half = first_done M a b x y (part_tree p.meaning) n.field-0 o.passes o.verdict inner in
+    λ e. c.requires.decides (sym (half.passes).ambient ∙ e)
+
+pub binders-open_bodies-requires-2-clause-asked : goal.binders-open_bodies-requires-2-clause-asked
+binders-open_bodies-requires-2-clause-asked g t c =
+    let r = g.R.TypeRelation.state c.args.r.now in
+    let M = g.R.TypeRelation.manner in
+    let a = part_tree r.meaning c.args.a.now in
+    let b = part_tree r.meaning c.args.b.now in
+    let k = c.requires.asked in
+    let q = g.R.TypeRelation.state c.open_bodies.new.r in
+    let x = part_tree q.meaning c.in-Some.x in
+    let y = part_tree q.meaning c.in-Some.y in
+    let o : Opened M r q 0 a b (part_tree q.meaning) (Ok (Some (c.in-Some.x, c.in-Some.y))) =
+    subst (λ z. Opened M r q 0 a b (part_tree q.meaning) (Ok z)) c.in-Some.is (c.in_ok-x.ensures).opened in
+    let p = g.R.TypeRelation.state c.relate_parts.new.r in
+    let n = c.in_ok-relate_parts in
+    let inner = subst (λ v. Related M q p v x y (part_tree p.meaning) (Ok n.field-0)) (o.passes).ambient
+    (n.ensures).related in
+    let half = first_done M a b x y (part_tree p.meaning) n.field-0 o.passes o.verdict inner in
+    half_asked M c.args.a.now c.args.b.now half k
 
 pub binders-returns-in_err-x-2 : goal.binders-returns-in_err-x-2
 binders-returns-in_err-x-2 g t c =
@@ -3084,7 +3135,7 @@ binders-returns-in_err-x-2 g t c =
     let a = part_tree r.meaning c.args.a.now in
     let b = part_tree r.meaning c.args.b.now in
     let k = c.requires.asked in
-    let no = no_first_order r.meaning c.args.a.now c.requires.binder in
+    let never = no_first_order r.meaning c.args.a.now c.requires.binder in
     let q = g.R.TypeRelation.state c.open_bodies.new.r in
     let x = part_tree q.meaning c.in-Some.x in
     let y = part_tree q.meaning c.in-Some.y in
@@ -3104,7 +3155,7 @@ binders-returns-in_err-x-2 g t c =
     (e.ensures).opened in
     record {
       related = subst (λ z. Related M r w r.ambient a b (part_tree w.meaning) z) (sym failed)
-          (reopening_refused M 1 a b (part_tree w.meaning) (part_tree w.meaning) no half e.field-0.0 again);
+          (reopening_refused M 1 a b (part_tree w.meaning) (part_tree w.meaning) never half e.field-0.0 again);
       sort = subst (λ u. IfOk u (λ z. part_sort z ≡ part_sort c.args.a.now)) (sym failed) tt;
     }
 
@@ -3115,7 +3166,7 @@ binders-returns-in_default-2 g t c =
     let a = part_tree r.meaning c.args.a.now in
     let b = part_tree r.meaning c.args.b.now in
     let k = c.requires.asked in
-    let no = no_first_order r.meaning c.args.a.now c.requires.binder in
+    let never = no_first_order r.meaning c.args.a.now c.requires.binder in
     let q = g.R.TypeRelation.state c.open_bodies.new.r in
     let x = part_tree q.meaning c.in-Some.x in
     let y = part_tree q.meaning c.in-Some.y in
@@ -3134,7 +3185,7 @@ binders-returns-in_default-2 g t c =
     (part_tree w.meaning) (Ok z)) c.in_default-2.is (c.in_ok-x-2.ensures).opened) in
     let stays = extends_on (half.passes).extends (again.passes).extends in
     record {
-      related = nothing_left M 1 a b (part_tree w.meaning) (part_tree w.meaning) c.args.a.now no
+      related = nothing_left M 1 a b (part_tree w.meaning) (part_tree w.meaning) c.args.a.now never
           (stays_part stays c.args.a.now k.left_known) k.left_known half again;
       sort = refl;
     }
@@ -3185,7 +3236,7 @@ binders-returns-in_err-relate_parts-2 g t c =
     let a = part_tree r.meaning c.args.a.now in
     let b = part_tree r.meaning c.args.b.now in
     let k = c.requires.asked in
-    let no = no_first_order r.meaning c.args.a.now c.requires.binder in
+    let never = no_first_order r.meaning c.args.a.now c.requires.binder in
     let q = g.R.TypeRelation.state c.open_bodies.new.r in
     let x = part_tree q.meaning c.in-Some.x in
     let y = part_tree q.meaning c.in-Some.y in
@@ -3214,7 +3265,7 @@ binders-returns-in_err-relate_parts-2 g t c =
     ((last.passes).lawful ((again.passes).lawful ((half.passes).lawful c.requires.lawful))) in
     record {
       related = subst (λ t. Related M r z r.ambient a b (part_tree z.meaning) t) (sym failed)
-          (second_refused M a b s u no k half again.passes again.verdict (part_tree z.meaning) (part_tree z.meaning)
+          (second_refused M a b s u never k half again.passes again.verdict (part_tree z.meaning) (part_tree z.meaning)
           sound e.field-0.0 last);
       sort = subst (λ u. IfOk u (λ z. part_sort z ≡ part_sort c.args.a.now)) (sym failed) tt;
     }
@@ -3226,7 +3277,7 @@ binders-returns g t c =
     let a = part_tree r.meaning c.args.a.now in
     let b = part_tree r.meaning c.args.b.now in
     let k = c.requires.asked in
-    let no = no_first_order r.meaning c.args.a.now c.requires.binder in
+    let never = no_first_order r.meaning c.args.a.now c.requires.binder in
     let q = g.R.TypeRelation.state c.open_bodies.new.r in
     let x = part_tree q.meaning c.in-Some.x in
     let y = part_tree q.meaning c.in-Some.y in
@@ -3252,7 +3303,7 @@ binders-returns g t c =
     (m.ensures).related in
     let stays = extends_on (half.passes).extends (extends_on (again.passes).extends (last.passes).extends) in
     record {
-      related = second_related M a b s u no k half again.passes again.verdict (part_tree z.meaning) m.field-0
+      related = second_related M a b s u never k half again.passes again.verdict (part_tree z.meaning) m.field-0
           (part_tree z.meaning) c.args.a.now (stays_part stays c.args.a.now k.left_known) last;
       sort = refl;
     }
