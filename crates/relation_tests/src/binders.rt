@@ -88,6 +88,7 @@ fn a_binder_is_entered_by_a_universe_of_its_own(rt: HostRuntime) -> Result<(), F
     let mut ctx = RefCtxt::new(RefInterner::new(rt.alloc()), true, 0)?;
     assert!(rt; enters_char(&mut ctx, SymbolId(0))?);
     assert!(rt; ctx.inner.universe == UniverseIndex(0));
+    let mut ctx = RefCtxt::new(RefInterner::new(rt.alloc()), true, 0)?;
     let entered = enters_region(&mut ctx, SymbolId(0))?;
     let universe = UniverseIndex(1);
     let var = BoundVar(0);
@@ -103,8 +104,10 @@ fn a_binder_is_entered_by_a_universe_of_its_own(rt: HostRuntime) -> Result<(), F
 fn a_binder_is_instantiated_with_a_variable_for_each_place(rt: HostRuntime) -> Result<(), Fail> {
     let mut ctx = RefCtxt::new(RefInterner::new(rt.alloc()), true, 0)?;
     assert!(rt; instantiates_char(&mut ctx, SymbolId(0))?);
+    assert!(rt; ctx.inner.regions.len() == 1);
+    let mut ctx = RefCtxt::new(RefInterner::new(rt.alloc()), true, 0)?;
     let instantiated = instantiates_region(&mut ctx, SymbolId(0))?;
-    assert!(rt; instantiated == ctx.interner.mk_region(RegionKind::ReVar(RegionVid(1)))?);
+    assert!(rt; instantiated == ctx.interner.mk_region(RegionKind::ReVar(RegionVid(0)))?);
     assert!(rt; ctx.inner.universe == UniverseIndex(0));
     Ok(())
 }
