@@ -93,7 +93,7 @@ module _ {Key Id Name : Type 0} (m : Meaning Key Id Name) where
     goes : (n : ℕ) → Goes n (plain_store m cs) (plain_store m (cs ++ c ∷ []))
     goes n = record {
       later = constraint_is_later (plain_store m cs) (plain_store m (cs ++ c ∷ [])) (constraint_of m c) added;
-      made = record { no_number = λ k h. refl; none = λ h k. refl };
+      made = λ k h. refl;
       spent = 0;
       counts = omega arith;
       binds = let e = constraint_bound (plain_store m cs) (plain_store m (cs ++ c ∷ [])) (constraint_of m c) added in

@@ -1,6 +1,6 @@
 //! The rows, their stored answers, and the program's runs.
 ghost use Rattle.std.specs.Prelude.{◌≡◌, ◌<◌, ◌≤◌, ◌↔◌, IsTrue, IfSome, length, slice_get, string_bytes};
-ghost use Rattle.relations.specs.Named.{IsHighRow, IsLowRow, IsMiddleRow, IsRow};
+ghost use Rattle.relations.specs.Named.{IsHighRow, IsLowRow, IsMiddleRow, IsRow, IsUpperRow};
 
 use crate::doubling::count_terms_and_nodes;
 use relation_asking::ask_all;
@@ -32,7 +32,7 @@ pub enum RowFault {
 }
 
 /// The rows, in the order of their numbers.
-pub const ROWS: [Row; 31] = [
+pub const ROWS: [Row; 40] = [
     Row {
         name: "r01",
         questions: "may unify[rigid, rigid] bool, char at 0; may unify[rigid, rigid] bool, char at 1;",
@@ -76,6 +76,16 @@ pub const ROWS: [Row; 31] = [
         stored: "err Sorts(u8, bool); bound=[?0=u8]",
     },
     Row {
+        name: "r10",
+        questions: "fn(&'static u8) <: for<'a> fn(&'a u8);",
+        stored: "ok; regions=['!1.0: 'static]",
+    },
+    Row {
+        name: "r11",
+        questions: "for<'a, 'b> fn(&'a u8, &'b u8) == for<'a> fn(&'a u8, &'a u8);",
+        stored: "ok; regions=['?0 == '!1.0, '?1 == '!1.0, '!2.0 == '?2, '!2.1 == '?2]",
+    },
+    Row {
         name: "r12",
         questions: "struct Vec<+T>; Vec<?0> <: ?1;",
         stored: "ok; goals=[Subtype(?0, ?2, true)]; bound=[?1=Vec<?2>]",
@@ -104,6 +114,12 @@ pub const ROWS: [Row; 31] = [
             may unify[rigid, rigid] &'a &'a &'a &'a &'a &'a &'a unsafe<> &'a &'a &'a &'a &'a &'a &'a bool,
                 &'a &'a &'a &'a &'a &'a &'a unsafe<> &'a &'a &'a &'a &'a &'a &'a char;",
         stored: "false | true | false",
+    },
+    Row {
+        name: "r21",
+        questions: "param 'a;
+            fn(u8) -> bool <: fn(u8) -> char; fn(&'a u8) <: fn(&'a mut u8);",
+        stored: "err ArgumentSorts(bool, char, 1) | err ArgumentMutability(0)",
     },
     Row {
         name: "r22",
@@ -166,6 +182,32 @@ pub const ROWS: [Row; 31] = [
         stored: "ok; bound=[?0=u8, ?c0=2]",
     },
     Row {
+        name: "r42",
+        questions: "for<'a> fn(&'a u8) <: fn(&'static u8); for<'a> fn(&'a u8) :> fn(&'static u8);",
+        stored: "ok; regions=['static: '?0] | ok; regions=['!1.0: 'static]",
+    },
+    Row {
+        name: "r43",
+        questions: "fn(u8, fn(u8)) <: fn(u8, fn(bool)); fn(u8) <: fn();",
+        stored: "err ArgumentSorts(u8, bool, 1) | err ArgCount",
+    },
+    Row {
+        name: "r44",
+        questions: "trait Tr; trait Us; param 'a, 'b;
+            dyn Tr + 'a <: dyn Tr + 'b; dyn Tr + 'a <: dyn Us + 'a;",
+        stored: "ok; regions=['a: 'b] | err Traits(Tr, Us)",
+    },
+    Row {
+        name: "r45",
+        questions: "u8 is 1..=2 == u8 is !null; u8 is 1..=2 == u8 is 1..=3;",
+        stored: "err Mismatch | err ConstMismatch(2, 3)",
+    },
+    Row {
+        name: "r46",
+        questions: "unsafe<'a> &'a u8 == unsafe<> &'static u8;",
+        stored: "ok; regions=['?0 == 'static, '!1.0 == 'static]",
+    },
+    Row {
         name: "r53",
         questions: "trait Tr<T>; type Tr::A; param 'a; walk dyn Tr<bool, A = u8> + 'a;",
         stored: "dyn Tr<bool, A = u8> + 'a | bool | u8 | 'a | end",
@@ -202,6 +244,13 @@ pub const ROWS: [Row; 31] = [
         name: "r61",
         questions: "",
         stored: "61 | 0",
+    },
+    Row {
+        name: "r63",
+        questions: "fn(?0) <: for<'a> fn(&'a u8); fn(?0) == for<'a> fn(&'a u8);
+            fn(?0) <: for<^0> fn(^0);",
+        stored: "ok; regions=['!1.0: '?0]; bound=[?0=&'?0 u8] | \
+            ok; regions=['?0 == '!1.0, '?0 == '?1]; bound=[?0=&'?0 u8] | err Mismatch",
     },
     Row {
         name: "r69",
@@ -303,17 +352,20 @@ fn is_low_row(name: &str) -> bool
         || name == "r07"
         || name == "r08"
         || name == "r09"
+        || name == "r10"
+        || name == "r11"
         || name == "r12"
         || name == "r17"
         || name == "r18"
         || name == "r19"
 }
 
-// Whether a row from r20 on, but below r50, has that name.
+// Whether a row from r20 on, but below r40, has that name.
 fn is_middle_row(name: &str) -> bool
     ensures { IsTrue result ↔ IsMiddleRow name.now }
 {
     name == "r20"
+        || name == "r21"
         || name == "r22"
         || name == "r23"
         || name == "r24"
@@ -327,24 +379,33 @@ fn is_middle_row(name: &str) -> bool
         || name == "r37"
 }
 
-// Whether a row from r50 on has that name.
-fn is_high_row(name: &str) -> bool
-    ensures { IsTrue result ↔ IsHighRow name.now }
+// Whether a row from r40 on, but below r60, has that name.
+fn is_upper_row(name: &str) -> bool
+    ensures { IsTrue result ↔ IsUpperRow name.now }
 {
-    name == "r53"
+    name == "r42"
+        || name == "r43"
+        || name == "r44"
+        || name == "r45"
+        || name == "r46"
+        || name == "r53"
         || name == "r54"
         || name == "r55"
         || name == "r59"
-        || name == "r60"
-        || name == "r61"
-        || name == "r69"
+}
+
+// Whether a row from r60 on has that name.
+fn is_high_row(name: &str) -> bool
+    ensures { IsTrue result ↔ IsHighRow name.now }
+{
+    name == "r60" || name == "r61" || name == "r63" || name == "r69"
 }
 
 // Whether a row has that name.
 fn is_row(name: &str) -> bool
     ensures { IsTrue result ↔ IsRow name.now }
 {
-    is_low_row(name) || is_middle_row(name) || is_high_row(name)
+    is_low_row(name) || is_middle_row(name) || is_upper_row(name) || is_high_row(name)
 }
 
 // Prints the row of a name, or all. The status is 1 if an answer is not the stored one, a row's text is wrong, or a

@@ -78,7 +78,7 @@ module _ (before after : Store) (k : VarKind) (child root : ℕ) (q : Equates be
   pub equated_goes : Goes 0 before after
   equated_goes = record {
     later = equated_later;
-    made = record { no_number = λ j h. q.links.as_many j; none = λ h. q.links.as_many };
+    made = λ j h. q.links.as_many j;
     spent = 0;
     counts = let b = q.same_budget in omega arith;
     binds = (let h = bound_alike before after none_bound in omega (arith, h));
@@ -134,7 +134,7 @@ module _ (before after : Store) (k : VarKind) (n : ℕ) (t : Tree) (q : BindsTo 
   pub bound_goes : IsTypeOrConst k → (size : ℕ) → weight before t ≤ size → Goes size before after
   bound_goes counted size small = record {
     later = bound_later;
-    made = record { no_number = λ j h. q.writes.as_many j; none = λ h. q.writes.as_many };
+    made = λ j h. q.writes.as_many j;
     spent = 1;
     counts = let b = q.one_spent in omega arith;
     binds = bound_more before after 1 k counted (kind_more before after k n (bound_to t) t q.writes refl counts_bound refl (λ p q. refl)) (kinds_stand before after k n (bound_to t) t q.writes refl counts_bound);

@@ -12,7 +12,7 @@ use Rattle.type_relations.specs.Measures.{depth}
 use Rattle.type_relations.specs.Goals.{Goal}
 use Rattle.type_relations.specs.Errors.{AreOfOneForm, over_parts, one_leaf, parameters, AreOfOneConst, values, expressions, const_parameters}
 use Rattle.type_relations.specs.Parts.{parts_of, const_parts_of, branches_of, head_of, const_head_of}
-use Rattle.type_relations.specs.Handing.{IsFaultOfTy, IsFaultOfConst, IsResultOfTy, IsResultOfConst}
+use Rattle.type_relations.specs.Handing.{IsFaultOfTy, IsFaultOfConst, IsFaultOfPart, IsResultOfTy, IsResultOfConst, IsResultOfPart}
 use Rattle.type_relations.specs.Lawful.{State, Manner, Manners, TakesParts, Takes, Asked, LeadsToParts, LeadsAgain, items_in}
 use Rattle.type_relations.proofs.Going.{depth-mono, depth-strict, depth-spent, depth_later}
 use Rattle.type_relations.proofs.Standing.{later_term}
@@ -185,6 +185,16 @@ module _ {A Key Id Name : Type 0} where
       IsResultOfConst t c d a (Ok u) → a ≡ Ok u
   kept_const t c d (Ok v) u h = ap Ok (sym h)
   kept_const t c d (Err f) u h = absurd h
+
+  pub failed_part : (t : Tree) (i : ℕ) (a : Result A (RelateFault Key Id Name)) (e : RelateFault Key Id Name) →
+      IsResultOfPart t i a (Err e) → (f : RelateFault Key Id Name) × (a ≡ Err f) × IsFaultOfPart t i f e
+  failed_part t i (Ok u) e h = absurd h
+  failed_part t i (Err f) e h = (f, refl, h)
+
+  pub kept_part : (t : Tree) (i : ℕ) (a : Result A (RelateFault Key Id Name)) (u : A) →
+      IsResultOfPart t i a (Ok u) → a ≡ Ok u
+  kept_part t i (Ok v) u h = ap Ok (sym h)
+  kept_part t i (Err f) u h = absurd h
 
 -- Terms of one form have one form over their parts.
 pub heads_alike : (a b : Tree) → AreOfOneForm a b → head_of a ≡ head_of b

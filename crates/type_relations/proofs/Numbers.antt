@@ -11,7 +11,7 @@ use Rattle.relation_terms.specs.Trees.{Tree, leaf, node, bind, nil, cons, Assign
 use Rattle.relation_terms.specs.Erasure.{erase, erase_atom}
 use Rattle.relation_terms.specs.Meaning.{Meaning}
 use Rattle.relation_tools.specs.declared.error.TypeError.TheVariants.{Sorts}
-use Rattle.type_relations.specs.Relation.{Interpretation, Items, IsValueLeaf, IsError}
+use Rattle.type_relations.specs.Relation.{Interpretation, Items, IsValueLeaf, IsError, StaysWithin}
 use Rattle.type_relations.specs.Stores.{Store, bound_to, entry_term, IsMade, IsAssignment, IsIntegerAtom, IsFloatAtom}
 use Rattle.type_relations.specs.Stores.{IsIntegerTerm, IsFloatTerm, MayStandFor, InContext, IsSound, Satisfies, resolved}
 use Rattle.type_relations.specs.Stores.{weight, counts_bound}
@@ -101,7 +101,7 @@ module _ (before after : Store) (k : VarKind) (n : ℕ) (t : Tree) (q : Instanti
   pub number_goes : (N : ℕ) → Goes N before after
   number_goes N = record {
     later = is_later before after k n (bound_to t) t q.writes refl (λ j i. le_of_eq (q.same_universes j i));
-    made = record { no_number = λ j h. q.writes.as_many j; none = λ h. q.writes.as_many };
+    made = λ j h. q.writes.as_many j;
     spent = 0;
     counts = let b = q.same_budget in omega arith;
     binds = (
@@ -206,18 +206,24 @@ module _ (st : Store) (s : Assign) (a : IsAssignment st s) (x : Atom) where
   no_placeholder (bound_kind type_kind m) u n f e = cc
   no_placeholder (bound_kind const_kind m) u n f e = f
 
+  no_bound : (q : BoundKind) (d i : ℕ) → IsTerm type_sort (leaf (bound q d i)) →
+      erase (leaf (bound q d i)) ≡ leaf (atom x) → ⊥
+  no_bound (bound_kind region_kind m) d i f e = f
+  no_bound (bound_kind type_kind m) d i f e = cc
+  no_bound (bound_kind const_kind m) d i f e = f
+
   -- A type that has it.
   value_type : (k : VarKind) → IsNumber k → (t : Tree) → IsTerm type_sort t → IsCovered t →
       ((n : ℕ) → t ≢ leaf (variable type_var n)) → InContext st t → IsNumberFor k (leaf (atom x)) →
       erase (apply s t) ≡ leaf (atom x) → MayStandFor k t
   value_type k i (leaf (variable j m)) f c o h v e = value_leaf k i j m f o h v e
-  value_type k i (leaf (bound q d j)) f c o h v e = absurd c
+  value_type k i (leaf (bound q d j)) f c o h v e = absurd (no_bound q d j f e)
   value_type k i (leaf (placeholder q u n)) f c o h v e = absurd (no_placeholder q u n f e)
   value_type k i (leaf (atom y)) f c o h v e =
       value_atom k y (let r : x ≡ erase_atom y = cc in subst (λ z. IsNumberFor k (leaf (atom z))) r v)
   value_type k i (leaf unknown) f c o h v e = absurd c
   value_type k i (node b ts) f c o h v e = absurd (cc)
-  value_type k i (bind ks t) f c o h v e = absurd c
+  value_type k i (bind ks t) f c o h v e = absurd f
   value_type k i nil f c o h v e = absurd f
   value_type k i (cons t ts) f c o h v e = absurd f
 
@@ -363,19 +369,19 @@ no_type_variable st g (bind ks t) f o n e = f
 no_type_variable st g nil f o n e = f
 no_type_variable st g (cons t ts) f o n e = f
 
--- A covered type that is no variable is of a form.
+-- A covered type that is no variable and no bound one is of a form.
 type_admitted : (s : Sort) → Admits type_sort s → s ≡ type_sort
 type_admitted type_sort a = refl
 type_admitted s a = absurd a
 
-pub covered_formed : (t : Tree) → IsTerm type_sort t → IsCovered t → ((k : VarKind) (n : ℕ) → t ≢ leaf (variable k n)) →
-    IsFormed t
-covered_formed (leaf (variable k n)) s c o = absurd (o k n refl)
-covered_formed (leaf (bound k d i)) s c o = absurd c
-covered_formed (leaf (placeholder k u n)) s c o = type_admitted (bound_sort k) s
-covered_formed (leaf (atom x)) s c o = type_admitted (atom_sort x) s
-covered_formed (leaf unknown) s c o = absurd c
-covered_formed (node h ts) s c o = type_admitted (head_sort h) s.0
-covered_formed (bind ks t) s c o = absurd c
-covered_formed nil s c o = absurd s
-covered_formed (cons t ts) s c o = absurd s
+pub covered_formed : (t : Tree) → IsTerm type_sort t → IsCovered t → StaysWithin 0 t →
+    ((k : VarKind) (n : ℕ) → t ≢ leaf (variable k n)) → IsFormed t
+covered_formed (leaf (variable k n)) s c w o = absurd (o k n refl)
+covered_formed (leaf (bound k d i)) s c w o = absurd (omega (arith, w))
+covered_formed (leaf (placeholder k u n)) s c w o = type_admitted (bound_sort k) s
+covered_formed (leaf (atom x)) s c w o = type_admitted (atom_sort x) s
+covered_formed (leaf unknown) s c w o = absurd c
+covered_formed (node h ts) s c w o = type_admitted (head_sort h) s.0
+covered_formed (bind ks t) s c w o = absurd s
+covered_formed nil s c w o = absurd s
+covered_formed (cons t ts) s c w o = absurd s

@@ -107,7 +107,7 @@ formed_apart s (cons t ts) k n f h = f
 pub constraint_goes : (before after : Store) (q : Constraint) → AddsConstraint before after q → Goes 0 before after
 constraint_goes before after q added = record {
   later = constraint_is_later before after q added;
-  made = record { no_number = λ k h. ap length (added.same_entries k); none = λ h k. ap length (added.same_entries k) };
+  made = λ k h. ap length (added.same_entries k);
   spent = 0;
   counts = let e = added.same_budget in omega (arith, e);
   binds = let e = constraint_bound before after q added in omega (arith, e);

@@ -44,7 +44,7 @@ use Rattle.type_relations.proofs.Binding.{square_above}
 use Rattle.type_relations.proofs.BindingGeneralised.{generalised_instantiates, generalised_goes, generalised_weights, generalised_first_order}
 use Rattle.type_relations.proofs.BindingRefused.{generalising_refuses, refused}
 use Rattle.type_relations.proofs.GeneralisingErrors.{beyond_error}
-use Rattle.type_relations.proofs.NewVariables.{adds, adds_goes, instantiates_one}
+use Rattle.type_relations.proofs.NewVariables.{adds, adds_goes}
 use Rattle.type_relations.proofs.OverContext.{standing, over_passes, all_taken}
 use Rattle.type_relations.specs.OneUniverse.{NamesTypesTo, HasOneUniverse, all_roots, StaysOf, LeadsInUniverse, BindsFewer}
 use Rattle.type_relations.proofs.OneUniverse.{binds_none, bound_fewer}
@@ -384,8 +384,7 @@ module _ {Key Id Name : Type 0} (r0 : State Key Id Name) (L K : Type 0) (lawful 
         (generalising_refuses c.store d.store x k target t h.1.0 counted h.1.1 before other).1
     refusing N Budget h = subst (Goes N c.store) (sym h.1) (goes_nowhere N c.store)
     refusing N Memory h = goes_within (omega arith)
-        (adds_goes (instantiates_one c.store k target counted unresolved.0 unresolved.1 h.0)
-        (adds before (before.below_current k target) h.1))
+        (adds_goes (adds before (before.below_current k target) h.1))
 
     passes : (N : ℕ) (f : RelateFault Key Id Name) → Instantiated c d x k target t means cyclic (Err f) →
         Passes N (standing r0 c.meaning c.store L) (standing r0 d.meaning d.store K)

@@ -118,7 +118,7 @@ still_unrelated t X Y e k (passed is o) = (e, is)
 still_unrelated t X Y e k (sized c d p j x y is eq) = (ArraySize (record { expected = c; found = d }), eq)
 
 -- The parts of two first-order types.
-parts_pair : (st : Store) (a b : Tree) → IsFirstOrderPair st a b → IsFirstOrderPair st (parts_of a) (parts_of b)
+pub parts_pair : (st : Store) (a b : Tree) → IsFirstOrderPair st a b → IsFirstOrderPair st (parts_of a) (parts_of b)
 parts_pair st a b pair = record {
   left = first_order_parts a pair.left;
   right = first_order_parts b pair.right;

@@ -3,7 +3,7 @@ ghost use Rattle.std.specs.Prelude.{◌≡◌, ◌≢◌, IfErr, []};
 ghost use Rattle.relation_terms.specs.Meaning.{Extends};
 ghost use Rattle.relation_tools.specs.Faults.{KnowsFault, IfSpent};
 ghost use Rattle.type_relations.specs.Stores.{IsSound};
-ghost use Rattle.type_relations.specs.Steps.{IsLater, MakesToInstantiate, BindsItsOwn};
+ghost use Rattle.type_relations.specs.Steps.{IsLater, MakesNoNumber, BindsItsOwn};
 ghost use Rattle.type_relations.specs.Contexts.{KnowsEnv, DoesNothing, SpendsByBinding, RegistersGoals};
 ghost use Rattle.type_relations.specs.Lawful.{Asked, Related};
 ghost use Rattle.type_relations.specs.Relating.{term_in, KnowsTerm, TakesTerm, HasTerm, AreOne, AnswersTerms};
@@ -13,6 +13,7 @@ ghost use Rattle.type_relations.specs.Subtyping.{RegistersSubtype};
 ghost use Rattle.type_relations.specs.Solving.{solving_in, solver_manner};
 
 mod emitting;
+mod opening;
 pub(crate) mod recording;
 mod relation;
 
@@ -92,7 +93,7 @@ pub trait RelateExt: InferCtxtLike {
         ensures exact { AnswersExactly Self.state self.old self.new T.over T.tree variance lhs rhs result }
         ensures no_unifier { ProvesApart Self.state self.old self.new T.over T.tree variance lhs rhs result }
         ensures later { IsLater (Self.state self.old).store (Self.state self.new).store }
-        ensures made { MakesToInstantiate (Self.state self.old).store (Self.state self.new).store }
+        ensures made { MakesNoNumber (Self.state self.old).store (Self.state self.new).store }
         ensures bound { BindsItsOwn (Self.state self.old).store (Self.state self.new).store }
         ensures sound { IsSound (Self.state self.new).store }
         ensures budget { SpendsByBinding (Self.state self.old) (Self.state self.new) }
@@ -133,7 +134,7 @@ impl<Infcx: InferCtxtLike> RelateExt for Infcx {
         ensures exact { AnswersExactly Infcx.state self.old self.new T.over T.tree variance lhs rhs result }
         ensures no_unifier { ProvesApart Infcx.state self.old self.new T.over T.tree variance lhs rhs result }
         ensures later { IsLater (Infcx.state self.old).store (Infcx.state self.new).store }
-        ensures made { MakesToInstantiate (Infcx.state self.old).store (Infcx.state self.new).store }
+        ensures made { MakesNoNumber (Infcx.state self.old).store (Infcx.state self.new).store }
         ensures bound { BindsItsOwn (Infcx.state self.old).store (Infcx.state self.new).store }
         ensures sound { IsSound (Infcx.state self.new).store }
         ensures budget { SpendsByBinding (Infcx.state self.old) (Infcx.state self.new) }

@@ -50,7 +50,7 @@ pub returns-then-eq-clause-later : goal.returns-then-eq-clause-later
 returns-then-eq-clause-later g c = later_itself (g.Infcx.InferCtxtLike.state c.args.self.now).store
 
 pub returns-then-eq-clause-made : goal.returns-then-eq-clause-made
-returns-then-eq-clause-made g c = record { no_number = λ k h. refl; none = λ h k. refl }
+returns-then-eq-clause-made g c = λ k h. refl
 
 pub returns-then-eq-clause-bound : goal.returns-then-eq-clause-bound
 returns-then-eq-clause-bound g c =
