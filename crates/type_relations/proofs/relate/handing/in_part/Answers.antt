@@ -1,4 +1,4 @@
-use Rattle.std.proofs.Common.{Ok, Err, refl, sym, subst}
+use Rattle.std.proofs.Common.{Err, refl, sym, subst}
 use Rattle.relation_tools.specs.declared.error.RelateFault.TheVariants.{Unrelated}
 use Rattle.type_relations.specs.Handing.{IsResultOfPart, no_error}
 use Rattle.type_relations.proofs.Handing.{no_place_named, result_stays, fault_placed}
