@@ -22,8 +22,10 @@ use type_relations::relate::solver_relating::{RelateExt, RelateGoals};
 /// Why a question is not asked.
 #[derive(Clone, Copy)]
 pub enum NotAsked {
-    /// No rules relate terms of one of the forms, or in which something stands that a binder outside them binds.
+    /// No rules relate terms of one of the forms.
     Rules,
+    /// A binder outside the terms binds what stands in them.
+    Escapes,
     /// A binder in the terms does not bind by its list.
     Lists,
     /// The context's universe, which is this one, does not name a placeholder.
@@ -225,7 +227,7 @@ pub(super) fn refusal<I: Interner>(
         return Some(NotAsked::Rules);
     }
     if !lhs.closed || !rhs.closed {
-        return Some(NotAsked::Rules);
+        return Some(NotAsked::Escapes);
     }
     if !lhs.by_lists || !rhs.by_lists {
         return Some(NotAsked::Lists);
@@ -277,6 +279,9 @@ pub(super) fn write_not_asked<W: Write>(why: NotAsked, out: &mut W) -> fmt::Resu
     out.write_str("not asked: ")?;
     match why {
         NotAsked::Rules => out.write_str("a form in these types has no rules yet"),
+        NotAsked::Escapes => out.write_str(
+            "a binder outside these types binds what stands in them",
+        ),
         NotAsked::Lists => out.write_str("a binder in these types does not bind by its list"),
         NotAsked::Universe(universe) => {
             write!(
