@@ -59,14 +59,14 @@ pub full_then : {r q p : Store} → StaysFull r q → StaysFull q p → StaysFul
 full_then f g h = let z = f h in let w = g z.0 in (w.0, λ k. w.1 k ∙ z.1 k)
 
 -- Two terms were related after a part of the work that left them without binders.
-pub full_led : {r q p : Store} {a b x y : Tree} → StaysFullFor r q a b →
+pub full_led : {r q p : Store} (a b x y : Tree) → StaysFullFor r q a b →
     (BindsNoBinder r → HasNoBinder a → HasNoBinder b → HasNoBinder x × HasNoBinder y) → StaysFullFor q p x y →
     StaysFullFor r p a b
-full_led f l g ha hb h = let z = l h.binds_no_binder ha hb in full_then (f ha hb) (g z.0 z.1) h
+full_led a b x y f l g ha hb h = let z = l h.binds_no_binder ha hb in full_then (f ha hb) (g z.0 z.1) h
 
 -- What holds of terms that have a binder, or where something can be instantiated.
-pub full_never : {r q : Store} {a b : Tree} → (HasNoBinder a → ⊥) → StaysFullFor r q a b
-full_never n ha hb h = absurd (n ha)
+pub full_never : {r q : Store} (a b : Tree) → (HasNoBinder a → ⊥) → StaysFullFor r q a b
+full_never a b n ha hb h = absurd (n ha)
 
 pub full_could : {r q : Store} → (InstantiatesNone r → ⊥) → StaysFull r q
 full_could n h = absurd (n h.instantiates_none)
@@ -113,14 +113,14 @@ written_plain {before} {after} {k} {n} {x} w plain all j m t e = go (which j k m
     go (inr o) = beside (w.others_stand j m o)
 
 -- A constraint was recorded.
-pub constraint_plain : {before after : Store} → ((k : VarKind) → after.entries k ≡ before.entries k) →
+pub constraint_plain : (before after : Store) → ((k : VarKind) → after.entries k ≡ before.entries k) →
     BindsNoBinder before → BindsNoBinder after
-constraint_plain same all k n t e = all k n t (ap (λ es. get_or es n unbound) (sym (same k)) ∙ e)
+constraint_plain before after same all k n t e = all k n t (ap (λ es. get_or es n unbound) (sym (same k)) ∙ e)
 
 -- What is said in the end.
-pub makes_to_instantiate : {n : ℕ} {before after : Store} {a b : Tree} → Goes n before after →
+pub makes_to_instantiate : {n : ℕ} {before after : Store} (a b : Tree) → Goes n before after →
     StaysFullFor before after a b → MakesToInstantiate before after a b
-makes_to_instantiate g f = record {
+makes_to_instantiate a b g f = record {
   no_number = g.made;
   none = λ ha hb binds none. (f ha hb (record { instantiates_none = none; binds_no_binder = binds })).1;
 }

@@ -16,7 +16,6 @@ use Rattle.type_relations.specs.Relation.{Interpretation, at, parts, part_at, Re
 use Rattle.type_relations.specs.Stores.{Satisfies}
 use Rattle.type_relations.specs.Goals.{Holds}
 use Rattle.type_relations.specs.Headline.{IsFirstOrderPair}
-use Rattle.type_relations.specs.Steps.{StaysFullFor}
 use Rattle.type_relations.specs.OneUniverse.{NamesTypesTo, BindsNoMore}
 use Rattle.type_relations.specs.Errors.{ErrorOf, of_part_forms, AreOfOneForm, over_parts, one_leaf, parameters}
 use Rattle.type_relations.specs.Errors.{PartError}
@@ -54,16 +53,12 @@ module _ {Key Id Name : Type 0} {r q : State Key Id Name} (M : Manners) (v : Var
       (λ u. leaves_parts (NamesTypesTo u) b) (keeps_binds r.store q.store (parts_of a) (parts_of b)
       (f.exact exact is (term_looked_at a form) (parts_pair r.store a b pair)).2)
 
-  -- No variable was made on the way, where none could be.
-  front_full : StaysFullFor r.store q.store (parts_of a) (parts_of b) → StaysFullFor r.store q.store a b
-  front_full f ha hb = f (parts_plain a ha) (parts_plain b hb)
-
   -- Memory ran out after some of the parts.
   pub terms_stopped : {X : Type 0} (tree : X → Tree) →
       Fronted M r q (head_of a) v i (parts_of a) (parts_of b) → Related {X = X} M r q v a b tree (Err Memory)
   terms_stopped tree f = stopped M v a b tree
       (passes_within (omega (arith, weight_parts_most r.store a, weight_parts_most r.store b)) f.passes) (front_binds f)
-      (front_full f.full)
+      (λ ha hb. f.full (parts_plain a ha) (parts_plain b hb))
 
   -- All parts were related, and so are the two.
   terms_relate : (o : AreOfOneForm a b) → (f : Fronted M r q (head_of a) v i (parts_of a) (parts_of b)) →
@@ -105,7 +100,7 @@ module _ {Key Id Name : Type 0} {r q : State Key Id Name} (M : Manners) (v : Var
         (λ u. leaves_parts (NamesTypesTo u) a) (λ u. leaves_parts (NamesTypesTo u) b)
         (fronted_exactly (head_of a) v i (parts_of a) (parts_of b) are ea eb f exact is (term_looked_at a form)
         (parts_pair r.store a b pair));
-    full = front_full f.full;
+    full = λ ha hb. f.full (parts_plain a ha) (parts_plain b hb);
   }
 
   -- After some of the parts it is seen that the two are not of one form.
@@ -121,7 +116,7 @@ module _ {Key Id Name : Type 0} {r q : State Key Id Name} (M : Manners) (v : Var
     );
     exact = λ exact is pair.
         (part_error_apart q.meaning r.store k l a b e form other ta tb unlike, front_binds f exact is pair);
-    full = front_full f.full;
+    full = λ ha hb. f.full (parts_plain a ha) (parts_plain b hb);
   }
 
   -- Two parts were refused, and so are the two.

@@ -237,7 +237,7 @@ module _ {Key Id Name : Type 0} where
     verdict = verdict result f.verdict;
     exact = exact_led (M r.settings) r.store q.store p.store a b x y r.ambient r.ambient (λ e. e) exactly result
         (same_manner M (λ z. ExactlyRelated z q.store p.store r.ambient x y result) g f.exact);
-    full = full_led full l.no_binder f.full;
+    full = full_led a b x y full l.no_binder f.full;
   }
     where
       small : weight q.store x + weight q.store y ≤ grown (g.goes).spent (weight r.store a + weight r.store b)

@@ -207,7 +207,7 @@ module _ {Key Id Name : Type 0} where
       Related {X = X} M r q r.ambient a b answer (Err f)
   opening_refused {r = r} M n a b tree answer never Memory o =
       stopped M r.ambient a b answer o.passes (λ k is pair. absurd (never (first_order_plain a pair.left)))
-      (full_never never)
+      (full_never a b never)
   opening_refused M n a b tree answer never f o = absurd o.verdict
 
   -- The bodies of a round weigh less.
@@ -252,7 +252,7 @@ module _ {Key Id Name : Type 0} where
     passes = passes_then g f.passes (round_small M 0 a b x y g l);
     verdict = round_refuses M g.added a b x y l f.passes sound e f.verdict;
     exact = λ k is pair. absurd (never (first_order_plain a pair.left));
-    full = full_never never;
+    full = full_never a b never;
   }
 
   -- The bodies of round 0 were related.
@@ -311,7 +311,7 @@ module _ {Key Id Name : Type 0} where
       Opened M p q n a b tree (Err f) → Related {X = X} M r q r.ambient a b answer (Err f)
   reopening_refused {r = r} M n a b tree answer never h Memory o =
       stopped M r.ambient a b answer (passes_then h.passes o.passes h.room)
-      (λ k is pair. absurd (never (first_order_plain a pair.left))) (full_never never)
+      (λ k is pair. absurd (never (first_order_plain a pair.left))) (full_never a b never)
   reopening_refused M n a b tree answer never h f o = absurd o.verdict
 
   -- Nothing was left for round 1.
@@ -330,7 +330,7 @@ module _ {Key Id Name : Type 0} where
       known = subst (λ t. IsTrue (known t)) (sym e) k;
     };
     exact = λ j is pair. absurd (never (first_order_plain a pair.left));
-    full = full_never never;
+    full = full_never a b never;
   }
     where
       whole : Begun (items_in r) r.environment r.ambient r.store p.store r.goals (h.passes).added a b →
@@ -436,7 +436,7 @@ module _ {Key Id Name : Type 0} where
       passes = passes_then h.passes (passes_then g f.passes (round_small M 1 a b x y g l)) h.room;
       verdict = second_refuses f.passes sound e f.verdict;
       exact = λ j is pair. absurd (never (first_order_plain a pair.left));
-      full = full_never never;
+      full = full_never a b never;
     }
 
     -- They were related, and so are the binders.
@@ -452,7 +452,7 @@ module _ {Key Id Name : Type 0} where
         known = subst (λ t. IsTrue (known t)) (sym e) k.left_known;
       };
       exact = λ j is pair. absurd (never (first_order_plain a pair.left));
-      full = full_never never;
+      full = full_never a b never;
     }
 
   -- The bodies that a round leads to are less deep than the binders, in round 0 and in round 1.

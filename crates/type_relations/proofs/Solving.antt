@@ -122,7 +122,7 @@ constrained_goes c d q (Err f) h = subst (Goes 0 c.store) (sym h) (goes_nowhere 
 
 pub constraint_full : (before after : Store) (q : Constraint) → AddsConstraint before after q → StaysFull before after
 constraint_full before after q added = full_by (constraint_goes before after q added)
-    (λ k. ap length (added.same_entries k)) (constraint_plain added.same_entries)
+    (λ k. ap length (added.same_entries k)) (constraint_plain before after added.same_entries)
 
 pub constrained_full : {Key Id Name A F : Type 0} (c d : Context Key Id Name) (q : Constraint) (r : Result A F) →
     Constrains c d q r → StaysFull c.store d.store

@@ -55,11 +55,17 @@ returns-then-eq-clause-made g c = record { no_number = λ k h. refl; none = λ h
 
 pub returns-in_err-related-clause-made : goal.returns-in_err-related-clause-made
 returns-in_err-related-clause-made g c =
-    let related = c.relate_in-related.ensures.related in makes_to_instantiate (related.passes).goes related.full
+    let s = g.Infcx.InferCtxtLike.state c.args.self.now in
+    let related = c.relate_in-related.ensures.related in
+    makes_to_instantiate (term_in s g.T.Relate.over g.T.HasTree.tree c.args.lhs)
+    (term_in s g.T.Relate.over g.T.HasTree.tree c.args.rhs) (related.passes).goes related.full
 
 pub returns-clause-made : goal.returns-clause-made
 returns-clause-made g c =
-    let related = c.relate_in-related.ensures.related in makes_to_instantiate (related.passes).goes related.full
+    let s = g.Infcx.InferCtxtLike.state c.args.self.now in
+    let related = c.relate_in-related.ensures.related in
+    makes_to_instantiate (term_in s g.T.Relate.over g.T.HasTree.tree c.args.lhs)
+    (term_in s g.T.Relate.over g.T.HasTree.tree c.args.rhs) (related.passes).goes related.full
 
 pub returns-then-eq-clause-bound : goal.returns-then-eq-clause-bound
 returns-then-eq-clause-bound g c =
