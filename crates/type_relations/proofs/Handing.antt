@@ -249,15 +249,16 @@ pub no_place_named : (o : Option ℕ) → ((j : ℕ) → o ≡ Some j → ⊥) �
 no_place_named (Some j) n = absurd (n j refl)
 no_place_named None n = refl
 
-pub result_stays : {A Key Id Name : Type 0} (t : Tree) (i : ℕ) (a : Result A (RelateFault Key Id Name)) →
-    named_place t i ≡ None → IsResultOfPart t i a a
-result_stays t i (Ok x) n = refl
-result_stays t i (Err f) n = no_place refl n
+pub result_stays : {A Key Id Name : Type 0} (place : Option ℕ) (a : Result A (RelateFault Key Id Name)) →
+    place ≡ None → IsResultOfPart place a a
+result_stays place (Ok x) n = refl
+result_stays place (Err f) n = no_place refl n
 
-pub fault_placed : {Key Id Name : Type 0} (t : Tree) (i j : ℕ) (f : RelateFault Key Id Name) (e d : TypeError Key Id Name) →
-    named_place t i ≡ Some j → f ≡ Unrelated e → IsPlacedOrNot j e d → IsFaultOfPart t i f (Unrelated d)
-fault_placed t i j f e d n p (inl q) = placed {j = j} e d n p q refl
-fault_placed t i j f e d n p (inr q) = unplaced e p q.0 (ap Unrelated q.1 ∙ sym p)
+pub fault_placed : {Key Id Name : Type 0} (place : Option ℕ) (j : ℕ) (f : RelateFault Key Id Name)
+    (e d : TypeError Key Id Name) → place ≡ Some j → f ≡ Unrelated e → IsPlacedOrNot j e d →
+    IsFaultOfPart place f (Unrelated d)
+fault_placed place j f e d n p (inl q) = placed {j = j} e d n p q refl
+fault_placed place j f e d n p (inr q) = unplaced e p q.0 (ap Unrelated q.1 ∙ sym p)
 
 -- Errors that name no place.
 pub names_none : {Key Id Name : Type 0} (e : TypeError Key Id Name) →
@@ -391,7 +392,7 @@ module _ {Key Id Name : Type 0} (m : Meaning Key Id Name) (c : Items) (st : Stor
 
     -- What two terms say where their parts at a place are refused.
     pub part_complains : (e : TypeError Key Id Name) (r : RelateFault Key Id Name) →
-        IsFaultOfPart a i (Unrelated e) r → ErrorOf m c st (part_at c (head_of a) i v) e x y →
+        IsFaultOfPart (named_place a i) (Unrelated e) r → ErrorOf m c st (part_at c (head_of a) i v) e x y →
         (d : TypeError Key Id Name) × (r ≡ Unrelated d) × ErrorOf m c st v d a b
     part_complains e r (no_place is n) h = (
       e,
@@ -420,15 +421,15 @@ placed_known m j e d (argument_sorts_at p i q is) k =
 placed_known m j e d (mutability_at q is) k = subst (KnowsError m) (sym is) tt
 placed_known m j e d (argument_mutability_at i q is) k = subst (KnowsError m) (sym is) tt
 
-module _ {Key Id Name : Type 0} (t : Tree) (i : ℕ) (f r : RelateFault Key Id Name) where
+module _ {Key Id Name : Type 0} (place : Option ℕ) (f r : RelateFault Key Id Name) where
   -- A fault that is no error stays, and an error is one still.
-  pub same_part_fault : IsFaultOfPart t i f r → ((e : TypeError Key Id Name) → f ≡ Unrelated e → ⊥) → r ≡ f
+  pub same_part_fault : IsFaultOfPart place f r → ((e : TypeError Key Id Name) → f ≡ Unrelated e → ⊥) → r ≡ f
   same_part_fault (no_place is n) o = is
   same_part_fault (no_error is n) o = is
   same_part_fault (unplaced e p n is) o = is
   same_part_fault (placed e d n p q is) o = absurd (o e p)
 
-  pub part_still_unrelated : (e : TypeError Key Id Name) → f ≡ Unrelated e → IsFaultOfPart t i f r →
+  pub part_still_unrelated : (e : TypeError Key Id Name) → f ≡ Unrelated e → IsFaultOfPart place f r →
       (d : TypeError Key Id Name) × (r ≡ Unrelated d)
   part_still_unrelated e p (no_place is n) = (e, is ∙ p)
   part_still_unrelated e p (no_error is n) = (e, is ∙ p)
@@ -436,7 +437,7 @@ module _ {Key Id Name : Type 0} (t : Tree) (i : ℕ) (f r : RelateFault Key Id N
   part_still_unrelated e p (placed z d n q w is) = (d, is)
 
   -- It names what is known.
-  pub part_fault_known : (m : Meaning Key Id Name) → IsFaultOfPart t i f r → KnowsFault m f → KnowsFault m r
+  pub part_fault_known : (m : Meaning Key Id Name) → IsFaultOfPart place f r → KnowsFault m f → KnowsFault m r
   part_fault_known m (no_place is n) k = subst (KnowsFault m) (sym is) k
   part_fault_known m (no_error is n) k = subst (KnowsFault m) (sym is) k
   part_fault_known m (unplaced e p n is) k = subst (KnowsFault m) (sym is) k

@@ -20,7 +20,7 @@ use Rattle.type_relations.specs.OneUniverse.{NamesTypesTo, BindsNoMore}
 use Rattle.type_relations.specs.Errors.{ErrorOf, of_part_forms, AreOfOneForm, over_parts, one_leaf, parameters}
 use Rattle.type_relations.specs.Errors.{PartError}
 use Rattle.type_relations.specs.Parts.{parts_of, head_of, IsByParts}
-use Rattle.type_relations.specs.Handing.{IsFaultOfPart}
+use Rattle.type_relations.specs.Handing.{named_place, IsFaultOfPart}
 use Rattle.type_relations.specs.Making.{over}
 use Rattle.type_relations.specs.Lawful.{State, Manners, MayAnswer, Passes, Refuses, Related, items_in}
 use Rattle.type_relations.specs.Lawful.{ExactResult, ExactlyRelated}
@@ -125,11 +125,11 @@ module _ {Key Id Name : Type 0} {r q : State Key Id Name} (M : Manners) (v : Var
       (many : HaveAsManyInputs a b i) (x y : Tree) (lx : i < count (parts_of a)) (ly : i < count (parts_of b))
       (ex : x ≡ nth i (parts_of a)) (ey : y ≡ nth i (parts_of b)) where
     term_refuses : {n : ℕ} {p : State Key Id Name} (g : Passes n q p) (e d : RelateFault Key Id Name) →
-        IsFaultOfPart a i e d → Refuses q p (part_at (items_in r) (head_of a) i v) x y e → Refuses r p v a b d
+        IsFaultOfPart (named_place a i) e d → Refuses q p (part_at (items_in r) (head_of a) i v) x y e → Refuses r p v a b d
     term_refuses {p = p} g Memory d t h =
-        subst (Refuses r p v a b) (sym (same_part_fault a i Memory d t (λ e z. cc))) tt
+        subst (Refuses r p v a b) (sym (same_part_fault (named_place a i) Memory d t (λ e z. cc))) tt
     term_refuses {p = p} g Budget d t h =
-        subst (Refuses r p v a b) (sym (same_part_fault a i Budget d t (λ e z. cc))) h
+        subst (Refuses r p v a b) (sym (same_part_fault (named_place a i) Budget d t (λ e z. cc))) h
     term_refuses {p = p} g (Unrelated e) d t h =
         let items : items_in p ≡ items_in r = same_items g ∙ same_items f.passes in
         let z = part_complains p.meaning (items_in p) p.store v k l a b i ta tb form o lx x y ex ey many e d t
@@ -137,7 +137,7 @@ module _ {Key Id Name : Type 0} {r q : State Key Id Name} (M : Manners) (v : Var
         subst (Refuses r p v a b) (sym z.1) (
           types_never r.store v a b o (fronted_never (head_of a) v i (parts_of a) (parts_of b) x y f lx ly ex ey are h.0),
           z.2,
-          subst (KnowsFault p.meaning) z.1 (part_fault_known a i (Unrelated e) d p.meaning t h.2),
+          subst (KnowsFault p.meaning) z.1 (part_fault_known (named_place a i) (Unrelated e) d p.meaning t h.2),
         )
 
     whole_term : (A B : Type 0) (p : State Key Id Name) (e : RelateFault Key Id Name) →
@@ -149,20 +149,20 @@ module _ {Key Id Name : Type 0} {r q : State Key Id Name} (M : Manners) (v : Var
         (fronted_fault (head_of a) v i (parts_of a) (parts_of b) x y f lx ly ex ey A A p e are exact is
         (term_looked_at a form) (parts_pair r.store a b pair) (λ z. g (manner_then M (λ m. m.is_exact) f.passes z)))
 
-    term_exactly : (A B : Type 0) (p : State Key Id Name) (e d : RelateFault Key Id Name) → IsFaultOfPart a i e d →
+    term_exactly : (A B : Type 0) (p : State Key Id Name) (e d : RelateFault Key Id Name) → IsFaultOfPart (named_place a i) e d →
         ExactlyRelated {X = A} (M q.settings) q.store p.store (part_at (items_in r) (head_of a) i v) x y (Err e) →
         ExactlyRelated {X = B} (M r.settings) r.store p.store v a b (Err d)
     term_exactly A B p Memory d t g exact is pair = subst (λ z. ExactResult {X = B} r.store p.store a b (Err z))
-        (sym (same_part_fault a i Memory d t (λ e z. cc))) (whole_term A B p Memory g exact is pair)
+        (sym (same_part_fault (named_place a i) Memory d t (λ e z. cc))) (whole_term A B p Memory g exact is pair)
     term_exactly A B p Budget d t g exact is pair = subst (λ z. ExactResult {X = B} r.store p.store a b (Err z))
-        (sym (same_part_fault a i Budget d t (λ e z. cc))) (whole_term A B p Budget g exact is pair)
+        (sym (same_part_fault (named_place a i) Budget d t (λ e z. cc))) (whole_term A B p Budget g exact is pair)
     term_exactly A B p (Unrelated e) d t g exact is pair =
-        let z = part_still_unrelated a i (Unrelated e) d e refl t in
+        let z = part_still_unrelated (named_place a i) (Unrelated e) d e refl t in
         subst (λ z. ExactResult {X = B} r.store p.store a b (Err z)) (sym z.1)
         (whole_term A B p (Unrelated e) g exact is pair)
 
     pub term_refused : {A B : Type 0} {p : State Key Id Name} (tree : A → Tree) (answer : B → Tree)
-        (e d : RelateFault Key Id Name) → IsFaultOfPart a i e d →
+        (e d : RelateFault Key Id Name) → IsFaultOfPart (named_place a i) e d →
         Related M q p (part_at (items_in r) (head_of a) i v) x y tree (Err e) → Related M r p v a b answer (Err d)
     term_refused {A} {B} {p} tree answer e d t g = record {
       passes = passes_within (omega (arith, weight_parts_most r.store a, weight_parts_most r.store b))

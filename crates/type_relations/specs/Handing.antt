@@ -49,13 +49,14 @@ named_place (node inputs ts) i = Some i
 named_place (node (signature x s k) (cons (node inputs ts) us)) (suc i) = Some (count ts)
 named_place t i = None
 
--- What a fault of the parts at a place is as the whole's own: an error that can name its place does so there.
-pub data IsFaultOfPart {Key Id Name : Type 0} (t : Tree) (i : ℕ) (f r : RelateFault Key Id Name) : Type 0 where
-  no_place : r ≡ f → named_place t i ≡ None → IsFaultOfPart t i f r
-  no_error : r ≡ f → ((e : TypeError Key Id Name) → f ≡ Unrelated e → ⊥) → IsFaultOfPart t i f r
-  unplaced : (e : TypeError Key Id Name) → f ≡ Unrelated e → NamesNoPlace e → r ≡ f → IsFaultOfPart t i f r
-  placed : {j : ℕ} (e d : TypeError Key Id Name) → named_place t i ≡ Some j → f ≡ Unrelated e → IsPlaced j e d →
-      r ≡ Unrelated d → IsFaultOfPart t i f r
+-- What a fault of two parts is as the whole's own, where their errors name that place, or none: an error that can name
+-- a place names it.
+pub data IsFaultOfPart {Key Id Name : Type 0} (place : Option ℕ) (f r : RelateFault Key Id Name) : Type 0 where
+  no_place : r ≡ f → place ≡ None → IsFaultOfPart place f r
+  no_error : r ≡ f → ((e : TypeError Key Id Name) → f ≡ Unrelated e → ⊥) → IsFaultOfPart place f r
+  unplaced : (e : TypeError Key Id Name) → f ≡ Unrelated e → NamesNoPlace e → r ≡ f → IsFaultOfPart place f r
+  placed : {j : ℕ} (e d : TypeError Key Id Name) → place ≡ Some j → f ≡ Unrelated e → IsPlaced j e d →
+      r ≡ Unrelated d → IsFaultOfPart place f r
 
 -- An error that can name a place does; another is as it was.
 abbrev pub IsPlacedOrNot : {Key Id Name : Type 0} → ℕ → TypeError Key Id Name → TypeError Key Id Name → Type 0
@@ -75,9 +76,9 @@ IsResultOfConst t c d (Ok u) (Ok v) = v ≡ u
 IsResultOfConst t c d (Err f) (Err r) = IsFaultOfConst t c d f r
 IsResultOfConst t c d a b = ⊥
 
--- What two terms answer by what their parts at a place have answered.
-abbrev pub IsResultOfPart : {A Key Id Name : Type 0} → Tree → ℕ → Result A (RelateFault Key Id Name) →
+-- What two terms answer by what two of their parts have answered, whose errors name that place, or none.
+abbrev pub IsResultOfPart : {A Key Id Name : Type 0} → Option ℕ → Result A (RelateFault Key Id Name) →
     Result A (RelateFault Key Id Name) → Type 0
-IsResultOfPart t i (Ok u) (Ok v) = v ≡ u
-IsResultOfPart t i (Err f) (Err r) = IsFaultOfPart t i f r
-IsResultOfPart t i a b = ⊥
+IsResultOfPart place (Ok u) (Ok v) = v ≡ u
+IsResultOfPart place (Err f) (Err r) = IsFaultOfPart place f r
+IsResultOfPart place a b = ⊥

@@ -105,8 +105,11 @@ pub fn in_const<I: Interner, T>(
     }
 }
 
-// The place that an error of two parts names: of a function's inputs their own, of its output the number of inputs.
-fn named_place<I: Interner>(cx: &I, term: &PartOf<I>, i: usize) -> Option<usize>
+/// The place that an error of the parts of two terms at place `i` names: of a function's inputs their own, of its output
+/// the number of inputs, and none of other parts. `term` is the left term.
+///
+/// The interner has to know the left term; it is only read. Upstream this stands in the `relate` of signatures.
+pub fn named_place<I: Interner>(cx: &I, term: &PartOf<I>, i: usize) -> Option<usize>
     requires { IsTrue (known (part_tree (I.meaning cx.now) term.now)) }
     ensures { result ≡ place_named (part_tree (I.meaning cx.now) term.now) i }
 {
@@ -135,24 +138,18 @@ fn at_place<I: Interner>(error: TypeErrorOf<I>, place: usize) -> TypeErrorOf<I>
     }
 }
 
-/// What relating two terms answers where relating their parts at place `i` has answered `related`. `term` is the left
-/// term.
+/// What relating two terms answers where relating two of their parts has answered `related`. `place` is what an error of
+/// these names, as `named_place` says.
 ///
-/// The interner has to know the left term; it is only read.
-///
-/// That is `related` itself, but of a signature's inputs and of its output an error that can name its place does so: the
-/// place of an input counts from 0, that of the output is the number of inputs. Upstream this stands in the `relate` of
+/// That is `related` itself, but an error that can name a place names this one. Upstream this stands in the `relate` of
 /// signatures.
 pub fn in_part<I: Interner, T>(
-    cx: &I,
-    term: &PartOf<I>,
-    i: usize,
+    place: Option<usize>,
     related: RelateResult<I, T>,
 ) -> RelateResult<I, T>
-    requires { IsTrue (known (part_tree (I.meaning cx.now) term.now)) }
-    ensures { IsResultOfPart (part_tree (I.meaning cx.now) term.now) i related result }
+    ensures { IsResultOfPart place related result }
 {
-    let Some(place) = named_place(cx, term, i) else {
+    let Some(place) = place else {
         return related;
     };
     match related {

@@ -12,7 +12,7 @@ ghost use Rattle.type_relations.specs.Parts.{head_of, const_head_of};
 ghost use Rattle.type_relations.specs.Covered.{IsCovered};
 ghost use Rattle.type_relations.specs.Lawful.{Noted, items_in};
 ghost use Rattle.type_relations.specs.Keyed.{AskedTys, RelatesTys, AreOver, part_in};
-ghost use Rattle.type_relations.specs.Handing.{IsResultOfTy, IsResultOfConst, IsResultOfPart};
+ghost use Rattle.type_relations.specs.Handing.{IsResultOfTy, IsResultOfConst, named_place};
 
 use crate::relate::comparing::{compare_consts, compare_members, compare_parts, compare_tys};
 use crate::relate::parts::{
@@ -288,17 +288,17 @@ pub(crate) fn in_const<I: Interner, R: TypeRelation<I>>(
     handing::in_const(r.cx(), a, b, related)
 }
 
-// What two terms answer where their parts at a place have answered that.
-pub(crate) fn in_part<I: Interner, R: TypeRelation<I>>(
+// The place that an error of the parts of two terms at place `i` names.
+pub(crate) fn named_place_of<I: Interner, R: TypeRelation<I>>(
     r: &R,
     term: &PartOf<I>,
     i: usize,
-    related: RelateResult<I, PartOf<I>>,
-) -> RelateResult<I, PartOf<I>>
-    requires { IsTrue (known (part_tree (R.state r.now).meaning term.now)) }
-    ensures { IsResultOfPart (part_tree (R.state r.now).meaning term.now) i related result }
+) -> Option<usize>
+    requires term_known { IsTrue (known (part_tree (R.state r.now).meaning term.now)) }
+    requires in_bounds { i < count (parts_of (part_tree (R.state r.now).meaning term.now)) }
+    ensures { result ≡ named_place (part_tree (R.state r.now).meaning term.now) i }
 {
-    handing::in_part(r.cx(), term, i, related)
+    handing::named_place(r.cx(), term, i)
 }
 
 // Has the relation take note of arguments that were related at declared variances.

@@ -16,12 +16,13 @@ ghost use Rattle.type_relations.specs.Keyed.{ArgsRegisterSubtype, TysRegisterSub
 ghost use Rattle.type_relations.specs.Making.{arg_sort};
 ghost use Rattle.type_relations.specs.Arguments.{IsSkipped};
 
+use crate::relate::handing::in_part;
 use crate::relate::making::{make_const, make_part, make_ty, of_arg};
 use crate::relate::opening::{is_same_of, open_bodies};
 use crate::relate::parts::{PartKind, kind_of_part, the_arg};
 use crate::relate::reading::{
     compare_consts_of, compare_members_of, compare_parts_of, compare_tys_of, const_part_of,
-    const_parts_count_of, const_variance_at, in_const, in_part, in_ty, is_by_parts_of, note_args,
+    const_parts_count_of, const_variance_at, in_const, in_ty, is_by_parts_of, named_place_of, note_args,
     part_of, parts_count_of, term_part_of, term_parts_count_of, term_variance_at, variance_at,
 };
 use crate::relate::{Step, TypeRelation};
@@ -287,8 +288,9 @@ fn relate_in_order<I: Interner, R: TypeRelation<I>>(
         let x = term_part_of::<I, R>(r, a, i);
         let y = term_part_of::<I, R>(r, b, i);
         let variance = term_variance_at::<I, R>(r, a, i);
+        let place = named_place_of::<I, R>(r, a, i);
         let related = relate_parts_with_variance(r, variance, &x, &y);
-        let answer = in_part::<I, R>(r, a, i, related)?;
+        let answer = in_part::<I, PartOf<I>>(place, related)?;
         answers.push(answer)?;
     }
     make_part(r, a, answers.as_slice())

@@ -29,7 +29,7 @@ use Rattle.type_relations.proofs.ByParts.{paired_args, are_args, sort_as_arg, ar
 use Rattle.type_relations.proofs.ByParts.{binder_not_compared, form_compared, paired_compared, inputs_compared}
 use Rattle.type_relations.proofs.ByParts.{no_inputs_yet, inputs_next, compared_as, alike_back, on_ok, asked_turned}
 use Rattle.type_relations.proofs.ByParts.{depth_turned}
-use Rattle.type_relations.specs.Handing.{IsResultOfTy, IsResultOfConst, IsResultOfPart}
+use Rattle.type_relations.specs.Handing.{IsResultOfTy, IsResultOfConst, IsResultOfPart, named_place}
 use Rattle.type_relations.specs.Making.{arg_sort, Fit, over, const_over}
 use Rattle.type_relations.proofs.Answering.{same_items, AreAnswers, answers_none, answers_next, answers_end, may_over, may_const_over, may_later}
 use Rattle.type_relations.proofs.Making.{fit_pushed, fit_end, fits_place}
@@ -2220,27 +2220,21 @@ relate_in_order-relate_parts_with_variance-related-requires g t c κs within =
       ),
     )
 
-pub relate_in_order-in_part-requires : goal.relate_in_order-in_part-requires
-relate_in_order-in_part-requires g t c =
-    let r = g.R.TypeRelation.state c.args.r.now in
-    let M = g.R.TypeRelation.manner in
-    let a = part_tree r.meaning c.args.a.now in
-    let b = part_tree r.meaning c.args.b.now in
-    let q = g.R.TypeRelation.state c.loop-i.r in
+pub relate_in_order-named_place_of-place-requires-clause-term_known : goal.relate_in_order-named_place_of-place-requires-clause-term_known
+relate_in_order-named_place_of-place-requires-clause-term_known g t c =
+    let k = c.requires.asked in
+    let same_a = stays_part (((c.loop-i.invariant).fronted).passes).extends c.args.a.now k.left_known in
+    subst (λ z. IsTrue (known z)) (sym same_a) k.left_known
+
+pub relate_in_order-named_place_of-place-requires-clause-in_bounds : goal.relate_in_order-named_place_of-place-requires-clause-in_bounds
+relate_in_order-named_place_of-place-requires-clause-in_bounds g t c =
+    let a = part_tree (g.R.TypeRelation.state c.args.r.now).meaning c.args.a.now in
     let i = c.loop-i.i in
     let inv = c.loop-i.invariant in
-    let k = c.requires.asked in
-    let form = c.requires.form in
-    let alike = c.requires.alike in
-    let extends = ((inv.fronted).passes).extends in
-    let same_a : part_tree q.meaning c.args.a.now ≡ a = stays_part extends c.args.a.now k.left_known in
-    let same_b : part_tree q.meaning c.args.b.now ≡ b = stays_part extends c.args.b.now k.right_known in
-    let p = g.R.TypeRelation.state c.relate_parts_with_variance-related.new.r in
-    let related = c.relate_parts_with_variance-related in
-    let later = (((related.ensures).related).passes).extends in
-    let then_a : part_tree p.meaning c.args.a.now ≡ a =
-    stays_part later c.args.a.now (subst (λ z. IsTrue (known z)) (sym same_a) k.left_known) ∙ same_a in
-    subst (λ z. IsTrue (known z)) (sym then_a) k.left_known
+    let same_a = stays_part ((inv.fronted).passes).extends c.args.a.now (c.requires.asked).left_known in
+    let test = c.loop-i-test.true in
+    let lx : i < count (parts_of a) = omega (arith, test, inv.left_count) in
+    subst (λ z. i < count (parts_of z)) (sym same_a) lx
 
 pub relate_in_order-returns-in_err-answer : goal.relate_in_order-returns-in_err-answer
 relate_in_order-returns-in_err-answer g t c =
@@ -2293,11 +2287,11 @@ relate_in_order-returns-in_err-answer g t c =
     let p = g.R.TypeRelation.state c.relate_parts_with_variance-related.new.r in
     let related = c.relate_parts_with_variance-related in
     let later = (((related.ensures).related).passes).extends in
-    let then_a : part_tree p.meaning c.args.a.now ≡ a =
-    stays_part later c.args.a.now (subst (λ z. IsTrue (known z)) (sym same_a) k.left_known) ∙ same_a in
     let n = c.in_err-answer in
-    let z = failed_part a i related.result n.field-0.0
-    (subst (λ z. IsResultOfPart z i related.result (Err n.field-0.0)) then_a n.ensures) in
+    let named : c.named_place_of-place.result ≡ named_place a i =
+    c.named_place_of-place.ensures ∙ ap (λ z. named_place z i) same_a in
+    let z = failed_part (named_place a i) related.result n.field-0.0
+    (subst (λ z. IsResultOfPart z related.result (Err n.field-0.0)) named n.ensures) in
     let gone = subst (λ v. Related M q p v x y (part_tree p.meaning) (Err z.0)) ew
     (subst (λ u. Related M q p w x y (part_tree p.meaning) u) z.1 (related.ensures).related) in
     let failed = as_err c.from_residual-in_err-answer.result n.field-0.0 c.from_residual-in_err-answer.ensures.0
@@ -2344,11 +2338,8 @@ relate_in_order-loop-i-preserved g t c =
     let p = g.R.TypeRelation.state c.relate_parts_with_variance-related.new.r in
     let related = c.relate_parts_with_variance-related in
     let later = (((related.ensures).related).passes).extends in
-    let then_a : part_tree p.meaning c.args.a.now ≡ a =
-    stays_part later c.args.a.now (subst (λ z. IsTrue (known z)) (sym same_a) k.left_known) ∙ same_a in
     let n = c.in_ok-answer in
-    let z = kept_part a i related.result n.answer
-    (subst (λ z. IsResultOfPart z i related.result (Ok n.answer)) then_a n.ensures) in
+    let z = kept_part c.named_place_of-place.result related.result n.answer n.ensures in
     let gone = subst (λ v. Related M q p v x y (part_tree p.meaning) (Ok n.answer)) ew
     (subst (λ u. Related M q p w x y (part_tree p.meaning) u) z (related.ensures).related) in
     let next = fronted_next (head_of a) r.ambient i (parts_of a) (parts_of b) x y inv.fronted lx ly ex ey
@@ -2430,11 +2421,8 @@ relate_in_order-returns-in_err-push g t c =
     let p = g.R.TypeRelation.state c.relate_parts_with_variance-related.new.r in
     let related = c.relate_parts_with_variance-related in
     let later = (((related.ensures).related).passes).extends in
-    let then_a : part_tree p.meaning c.args.a.now ≡ a =
-    stays_part later c.args.a.now (subst (λ z. IsTrue (known z)) (sym same_a) k.left_known) ∙ same_a in
     let n = c.in_ok-answer in
-    let z = kept_part a i related.result n.answer
-    (subst (λ z. IsResultOfPart z i related.result (Ok n.answer)) then_a n.ensures) in
+    let z = kept_part c.named_place_of-place.result related.result n.answer n.ensures in
     let gone = subst (λ v. Related M q p v x y (part_tree p.meaning) (Ok n.answer)) ew
     (subst (λ u. Related M q p w x y (part_tree p.meaning) u) z (related.ensures).related) in
     let next = fronted_next (head_of a) r.ambient i (parts_of a) (parts_of b) x y inv.fronted lx ly ex ey
