@@ -22,8 +22,9 @@ use crate::relate::opening::{is_same_of, open_bodies};
 use crate::relate::parts::{PartKind, kind_of_part, the_arg};
 use crate::relate::reading::{
     compare_consts_of, compare_members_of, compare_parts_of, compare_tys_of, const_part_of,
-    const_parts_count_of, const_variance_at, in_const, in_ty, is_by_parts_of, named_place_of, note_args,
-    part_of, parts_count_of, term_part_of, term_parts_count_of, term_variance_at, variance_at,
+    const_parts_count_of, const_variance_at, in_const, in_ty, is_by_parts_of, named_place_of,
+    note_args, part_of, parts_count_of, term_part_of, term_parts_count_of, term_variance_at,
+    variance_at,
 };
 use crate::relate::{Step, TypeRelation};
 use relation_terms::terms::parts::{the_pat, the_ty};
