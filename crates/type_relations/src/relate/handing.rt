@@ -105,8 +105,8 @@ pub fn in_const<I: Interner, T>(
     }
 }
 
-/// The place that an error of the parts of two terms at place `i` names: of a function's inputs their own, of its output
-/// the number of inputs, and none of other parts. `term` is the left term.
+/// The place that an error of the parts of two terms at place `i` names: of a function's inputs their own, of its
+/// output the number of inputs, and none of other parts. `term` is the left term.
 ///
 /// The interner has to know the left term; it is only read. Upstream this stands in the `relate` of signatures.
 pub fn named_place<I: Interner>(cx: &I, term: &PartOf<I>, i: usize) -> Option<usize>
@@ -138,8 +138,8 @@ fn at_place<I: Interner>(error: TypeErrorOf<I>, place: usize) -> TypeErrorOf<I>
     }
 }
 
-/// What relating two terms answers where relating two of their parts has answered `related`. `place` is what an error of
-/// these names, as `named_place` says.
+/// What relating two terms answers where relating two of their parts has answered `related`. `place` is what an error
+/// of these names, as `named_place` says.
 ///
 /// That is `related` itself, but an error that can name a place names this one. Upstream this stands in the `relate` of
 /// signatures.

@@ -175,8 +175,8 @@ pub fn compare_objects<I: Interner>(
     Ok(())
 }
 
-/// Answers `ExistentialMismatch` where two lists of predicates of trait objects have such of different forms at a place,
-/// and else `Ok`; so too of terms of other forms.
+/// Answers `ExistentialMismatch` where two lists of predicates of trait objects have such of different forms at a
+/// place, and else `Ok`; so too of terms of other forms.
 ///
 /// The interner has to know both, and the place has to be in both; it is only read. Upstream the interner's `relate` of
 /// such lists compares forms as each pair comes.
@@ -210,8 +210,8 @@ pub fn compare_members<I: Interner>(
     Ok(())
 }
 
-/// Answers `Ok` where two patterns, signatures, lists of inputs, predicates of trait objects or lists of these are of one
-/// form, with as many parts, which are not compared.
+/// Answers `Ok` where two patterns, signatures, lists of inputs, predicates of trait objects or lists of these are of
+/// one form, with as many parts, which are not compared.
 ///
 /// The interner has to know both, which are of one sort; it is only read. Errors are those of the calls above, and
 /// `ArgCount` for unlike numbers of inputs.
