@@ -33,7 +33,7 @@ body_in : (st : Store) (ks : List BoundKind) (t : Tree) → IsTermIn st (bind ks
 unfolding IsTermIn InContext
 body_in st ks t h w = (h.0, w, h.2)
 
-module _ {Key Id Name T : Type 0} (m : Meaning Key Id Name) (v : Variance) (cs : List (RegionConstraint Key)) (t u : Tree)
+module _ {Key Id Name : Type 0} (m : Meaning Key Id Name) (v : Variance) (cs : List (RegionConstraint Key)) (t u : Tree)
     (decides : v ≢ Bivariant) where
   -- One round relates the binders.
   relates_once : (ks ls : List BoundKind) → Asked plain_manner (plain_state m v cs) v (bind ks t) (bind ls u) →
@@ -64,7 +64,7 @@ module _ {Key Id Name T : Type 0} (m : Meaning Key Id Name) (v : Variance) (cs :
       }
 
   -- The bodies as they are.
-  pub opens_none : (o p : Option (List BoundKind)) → IsSound (plain_store m cs) →
+  pub opens_none : {T : Type 0} (o p : Option (List BoundKind)) → IsSound (plain_store m cs) →
       Asked plain_manner (plain_state m v cs) v (under o t) (under p u) → (round : ℕ) → round ≡ 0 → (tree : T → Tree)
       (x y : T) → tree x ≡ t → tree y ≡ u →
       Opened plain_manner (plain_state m v cs) (plain_state m v cs) round (under o t) (under p u) tree (Ok (Some (x, y)))
@@ -78,8 +78,8 @@ module _ {Key Id Name T : Type 0} (m : Meaning Key Id Name) (v : Variance) (cs :
   opens_none None p sound k round first tree x y a b = absurd (false≢true k.left_known)
 
   -- Nothing is left after that.
-  pub no_more : (o p : Option (List BoundKind)) → Asked plain_manner (plain_state m v cs) v (under o t) (under p u) →
-      (round : ℕ) → round ≡ 1 → (tree : T → Tree) →
+  pub no_more : {T : Type 0} (o p : Option (List BoundKind)) →
+      Asked plain_manner (plain_state m v cs) v (under o t) (under p u) → (round : ℕ) → round ≡ 1 → (tree : T → Tree) →
       Opened plain_manner (plain_state m v cs) (plain_state m v cs) round (under o t) (under p u) tree (Ok None)
   unfolding passes_nowhere
   no_more (Some ks) (Some ls) k round second tree = record {

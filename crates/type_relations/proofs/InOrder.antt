@@ -27,7 +27,8 @@ use Rattle.type_relations.specs.Lawful.{ExactResult, ExactlyRelated}
 use Rattle.type_relations.proofs.Registered.{registered_in}
 use Rattle.type_relations.proofs.Passing.{passes_within, manner_then, stopped}
 use Rattle.type_relations.proofs.Fronts.{Fronted, AreParts, fronted_never, fronted_all, fronted_passes, fronted_fault}
-use Rattle.type_relations.proofs.Fronts.{fronted_exactly}
+use Rattle.type_relations.proofs.Fronts.{fronted_exactly, fronted_full}
+use Rattle.type_relations.proofs.Full.{parts_plain}
 use Rattle.type_relations.proofs.Structural.{types_never, parts_pair}
 use Rattle.type_relations.proofs.StructuralConsts.{refused_here}
 use Rattle.type_relations.proofs.Unifying.{answered_as, refused_as}
@@ -57,6 +58,7 @@ module _ {Key Id Name : Type 0} {r q : State Key Id Name} (M : Manners) (v : Var
       Fronted M r q (head_of a) v i (parts_of a) (parts_of b) → Related {X = X} M r q v a b tree (Err Memory)
   terms_stopped tree f = stopped M v a b tree
       (passes_within (omega (arith, weight_parts_most r.store a, weight_parts_most r.store b)) f.passes) (front_binds f)
+      (λ ha hb. f.full (parts_plain a ha) (parts_plain b hb))
 
   -- All parts were related, and so are the two.
   terms_relate : (o : AreOfOneForm a b) → (f : Fronted M r q (head_of a) v i (parts_of a) (parts_of b)) →
@@ -98,6 +100,7 @@ module _ {Key Id Name : Type 0} {r q : State Key Id Name} (M : Manners) (v : Var
         (λ u. leaves_parts (NamesTypesTo u) a) (λ u. leaves_parts (NamesTypesTo u) b)
         (fronted_exactly (head_of a) v i (parts_of a) (parts_of b) are ea eb f exact is (term_looked_at a form)
         (parts_pair r.store a b pair));
+    full = λ ha hb. f.full (parts_plain a ha) (parts_plain b hb);
   }
 
   -- After some of the parts it is seen that the two are not of one form.
@@ -113,6 +116,7 @@ module _ {Key Id Name : Type 0} {r q : State Key Id Name} (M : Manners) (v : Var
     );
     exact = λ exact is pair.
         (part_error_apart q.meaning r.store k l a b e form other ta tb unlike, front_binds f exact is pair);
+    full = λ ha hb. f.full (parts_plain a ha) (parts_plain b hb);
   }
 
   -- Two parts were refused, and so are the two.
@@ -165,6 +169,8 @@ module _ {Key Id Name : Type 0} {r q : State Key Id Name} (M : Manners) (v : Var
           (fronted_passes (head_of a) v i (parts_of a) (parts_of b) x y f lx ly ex ey g.passes);
       verdict = term_refuses g.passes e d t g.verdict;
       exact = term_exactly A B p e d t g.exact;
+      full = λ ha hb. fronted_full (head_of a) v i (parts_of a) (parts_of b) x y f lx ly ex ey g.full
+          (parts_plain a ha) (parts_plain b hb);
     }
 
 -- Two terms that are not of one form.

@@ -20,6 +20,7 @@ pub mod Composing
 pub mod Opening
 pub mod Exactness
 pub mod Going
+pub mod Full
 pub mod Registered
 pub mod Passing
 pub mod Arguments

@@ -16,13 +16,14 @@ use Rattle.type_relations.specs.Stores.{Store, bound_to, entry_term, IsMade, IsA
 use Rattle.type_relations.specs.Stores.{IsIntegerTerm, IsFloatTerm, MayStandFor, InContext, IsSound, Satisfies, resolved}
 use Rattle.type_relations.specs.Stores.{weight, counts_bound}
 use Rattle.type_relations.specs.FirstOrder.{IsFirstOrder, IsFirstOrderStore}
-use Rattle.type_relations.specs.Steps.{InstantiatesNumber, IsNumberFor}
+use Rattle.type_relations.specs.Steps.{InstantiatesNumber, IsNumberFor, HasNoBinder, StaysFull}
 use Rattle.type_relations.specs.Measures.{Goes}
 use Rattle.type_relations.specs.Outcomes.{Exact, NoEqualTerms, NoUnifier}
 use Rattle.type_relations.specs.Errors.{ErrorOf, HaveNoError, AreAlike, AreBindable, IsVariableFor, of_forms, sorts}
 use Rattle.type_relations.specs.Parts.{IsFormed}
 use Rattle.type_relations.specs.Covered.{IsCovered}
 use Rattle.type_relations.proofs.Covered.{covered_no_error}
+use Rattle.type_relations.proofs.Full.{full_by, written_plain}
 use Rattle.type_relations.proofs.Standing.{itself_stands}
 use Rattle.type_relations.proofs.Written.{is_later, equal, weight_after, kinds_stand, others}
 use Rattle.type_relations.proofs.StoreCalls.{numbers_are_exact, resolved_stands}
@@ -112,6 +113,13 @@ module _ (before after : Store) (k : VarKind) (n : ℕ) (t : Tree) (q : Instanti
         let h : weight after u ≤ weight before u * 1 = subst (λ z. weight after u ≤ weight before u * z) one
         (weight_after before after k n (bound_to t) t q.writes refl g absent u) in omega arith;
   }
+
+  -- No binder stands in such a type.
+  pub number_full : StaysFull before after
+  number_full = full_by (number_goes 0) q.writes.as_many (written_plain q.writes (λ u e. subst HasNoBinder (same u e) tt))
+    where
+      same : (u : Tree) → bound_to t ≡ bound_to u → leaf (atom is_atom.0) ≡ u
+      same u e = let i = is_atom.1 in cc (e, i)
 
   pub number_equal : (w : Interpretation) (s : Assign) → Satisfies w after s → s k n ≡ apply s t
   number_equal w s sat = equal before after k n (bound_to t) t q.writes refl w s sat

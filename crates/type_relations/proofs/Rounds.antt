@@ -2,6 +2,7 @@
 use Rattle.std.proofs.Common.{◌≡◌, ◌≢◌, ℕ, zero, suc, ◌+◌, ◌*◌, ◌<◌, ◌≤◌, refl, sym, ap, ◌∙◌, subst, subst₂, arith}
 use Rattle.std.proofs.Common.{inl, List, [], ◌++◌, IsTrue, Result, Ok, Err, Option, Some, None}
 use Rattle.std.proofs.lemmas.List.{append-nil}
+use Rattle.std.proofs.lemmas.Bool.{false≢true}
 use Rattle.relation_terms.specs.declared.terms.enums.Variance.{Variance}
 use Rattle.relation_terms.specs.declared.terms.enums.Variance.TheVariants.{Covariant, Contravariant, Invariant}
 use Rattle.relation_terms.specs.declared.terms.enums.Variance.TheVariants.{Bivariant}
@@ -19,7 +20,7 @@ use Rattle.type_relations.specs.Stores.{Store, IsSound, InContext, weight}
 use Rattle.type_relations.specs.Goals.{Goal}
 use Rattle.type_relations.specs.Outcomes.{Outcome, NeverOne}
 use Rattle.type_relations.specs.Measures.{grown, depth, Goes}
-use Rattle.type_relations.specs.FirstOrder.{IsFirstOrder}
+use Rattle.type_relations.specs.Steps.{HasNoBinder}
 use Rattle.type_relations.specs.Errors.{ErrorOf}
 use Rattle.type_relations.specs.Lawful.{State, Manners, MayAnswer, Passes, Asked, Refuses, Related, items_in}
 use Rattle.type_relations.specs.Parts.{IsBinderPart}
@@ -27,6 +28,7 @@ use Rattle.type_relations.specs.Rounds.{OneRound, StepsToBodies, RoundSteps, one
 use Rattle.type_relations.specs.Rounds.{RoundLeads, Opened}
 use Rattle.type_relations.proofs.Standing.{term_context}
 use Rattle.type_relations.proofs.Going.{grown-mono, le_grown, depth-strict, depth_later}
+use Rattle.type_relations.proofs.Full.{first_order_plain, full_never}
 use Rattle.type_relations.proofs.Answering.{may_itself}
 use Rattle.type_relations.proofs.Composing.{steps_compose, values_still}
 use Rattle.type_relations.proofs.Opening.{two_rounds_relate}
@@ -47,15 +49,16 @@ one_round_binders : (v : Variance) (a b : Tree) → OneRound v a b → AreBinder
 one_round_binders v (bind ks a) (bind ls b) o = tt
 one_round_binders v a b o = absurd o
 
--- No binder is first-order.
-under_none : (vars : Option (List BoundKind)) (t : Tree) → IsFirstOrder (under vars t) → ⊥
-under_none (Some ks) t h = h
-under_none None t h = h
+-- A known binder is one.
+under_known : (vars : Option (List BoundKind)) (t : Tree) → IsTrue (known (under vars t)) →
+    HasNoBinder (under vars t) → ⊥
+under_known (Some ks) t k h = h
+under_known None t k h = false≢true k
 
-pub no_first_order : {Key Id Name : Type 0} (m : Meaning Key Id Name) (p : Part Key Id) → IsBinderPart p →
-    IsFirstOrder (part_tree m p) → ⊥
-no_first_order m (Binder vs b) is h = under_none (m.bound_vars vs) (body_tree m b) h
-no_first_order m p is h = absurd is
+pub has_binder : {Key Id Name : Type 0} (m : Meaning Key Id Name) (p : Part Key Id) → IsBinderPart p →
+    IsTrue (known (part_tree m p)) → HasNoBinder (part_tree m p) → ⊥
+has_binder m (Binder vs b) is k h = under_known (m.bound_vars vs) (body_tree m b) k h
+has_binder m p is k h = absurd is
 
 -- Where one round is not all, the variance is invariance.
 not_invariant : (v : Variance) → (v ≢ Invariant → ⊥) → v ≡ Invariant
@@ -200,10 +203,11 @@ pub record HalfDone {Key Id Name : Type 0} (r p : State Key Id Name) (a b : Tree
 module _ {Key Id Name : Type 0} where
   -- Opening was refused in round 0.
   pub opening_refused : {T X : Type 0} {r q : State Key Id Name} (M : Manners) (n : ℕ) (a b : Tree) (tree : T → Tree)
-      (answer : X → Tree) → (IsFirstOrder a → ⊥) → (f : RelateFault Key Id Name) → Opened M r q n a b tree (Err f) →
+      (answer : X → Tree) → (HasNoBinder a → ⊥) → (f : RelateFault Key Id Name) → Opened M r q n a b tree (Err f) →
       Related {X = X} M r q r.ambient a b answer (Err f)
   opening_refused {r = r} M n a b tree answer never Memory o =
-      stopped M r.ambient a b answer o.passes (λ k is pair. absurd (never pair.left))
+      stopped M r.ambient a b answer o.passes (λ k is pair. absurd (never (first_order_plain a pair.left)))
+      (full_never a b never)
   opening_refused M n a b tree answer never f o = absurd o.verdict
 
   -- The bodies of a round weigh less.
@@ -240,14 +244,15 @@ module _ {Key Id Name : Type 0} where
 
   -- The bodies of round 0 were refused, and so are the binders.
   pub first_refused : {X Y : Type 0} {r q p : State Key Id Name} (M : Manners) (a b x y : Tree) (tree : X → Tree)
-      (answer : Y → Tree) → (IsFirstOrder a → ⊥) → IsSound p.store →
+      (answer : Y → Tree) → (HasNoBinder a → ⊥) → IsSound p.store →
       (g : Passes (weight r.store a + weight r.store b) r q) → RoundLeads M r q g.added 0 a b x y →
       (e : RelateFault Key Id Name) → Related M q p r.ambient x y tree (Err e) →
       Related {X = Y} M r p r.ambient a b answer (Err e)
   first_refused M a b x y tree answer never sound g l e f = record {
     passes = passes_then g f.passes (round_small M 0 a b x y g l);
     verdict = round_refuses M g.added a b x y l f.passes sound e f.verdict;
-    exact = λ k is pair. absurd (never pair.left);
+    exact = λ k is pair. absurd (never (first_order_plain a pair.left));
+    full = full_never a b never;
   }
 
   -- The bodies of round 0 were related.
@@ -302,15 +307,16 @@ module _ {Key Id Name : Type 0} where
 
   -- Opening was refused in round 1.
   pub reopening_refused : {T X : Type 0} {r p q : State Key Id Name} (M : Manners) (n : ℕ) (a b : Tree)
-      (tree : T → Tree) (answer : X → Tree) → (IsFirstOrder a → ⊥) → HalfDone r p a b → (f : RelateFault Key Id Name) →
+      (tree : T → Tree) (answer : X → Tree) → (HasNoBinder a → ⊥) → HalfDone r p a b → (f : RelateFault Key Id Name) →
       Opened M p q n a b tree (Err f) → Related {X = X} M r q r.ambient a b answer (Err f)
   reopening_refused {r = r} M n a b tree answer never h Memory o =
-      stopped M r.ambient a b answer (passes_then h.passes o.passes h.room) (λ k is pair. absurd (never pair.left))
+      stopped M r.ambient a b answer (passes_then h.passes o.passes h.room)
+      (λ k is pair. absurd (never (first_order_plain a pair.left))) (full_never a b never)
   reopening_refused M n a b tree answer never h f o = absurd o.verdict
 
   -- Nothing was left for round 1.
   pub nothing_left : {T X : Type 0} {r p q : State Key Id Name} (M : Manners) (n : ℕ) (a b : Tree) (tree : T → Tree)
-      (answer : X → Tree) (x : X) → (IsFirstOrder a → ⊥) → answer x ≡ a → IsTrue (known a) → HalfDone r p a b →
+      (answer : X → Tree) (x : X) → (HasNoBinder a → ⊥) → answer x ≡ a → IsTrue (known a) → HalfDone r p a b →
       Opened M p q n a b tree (Ok None) → Related M r q r.ambient a b answer (Ok x)
   unfolding passes_then
   nothing_left {r = r} {p = p} {q = q} M n a b tree answer x never e k h o = record {
@@ -323,7 +329,8 @@ module _ {Key Id Name : Type 0} where
       answer = subst (MayAnswer M q r.ambient a) (sym e) (may_itself M q r.ambient a);
       known = subst (λ t. IsTrue (known t)) (sym e) k;
     };
-    exact = λ j is pair. absurd (never pair.left);
+    exact = λ j is pair. absurd (never (first_order_plain a pair.left));
+    full = full_never a b never;
   }
     where
       whole : Begun (items_in r) r.environment r.ambient r.store p.store r.goals (h.passes).added a b →
@@ -401,7 +408,7 @@ module _ {Key Id Name : Type 0} where
         opened = (steps_compose (items_in p) p.environment (first_opened ks ls p.ambient) (at p.ambient) p.store q.store
             z.store p.goals added f.added t u x y (second_step p q added a b x y i j i' j' s)).0 bodies
 
-  module _ {r p q : State Key Id Name} (M : Manners) (a b x y : Tree) (never : IsFirstOrder a → ⊥)
+  module _ {r p q : State Key Id Name} (M : Manners) (a b x y : Tree) (never : HasNoBinder a → ⊥)
       (k : Asked M r r.ambient a b) (h : HalfDone r p a b) (g : Passes (weight p.store a + weight p.store b) p q)
       (l : RoundLeads M p q g.added 1 a b x y) where
     left_context : InContext r.store a
@@ -428,7 +435,8 @@ module _ {Key Id Name : Type 0} where
     second_refused tree answer sound e f = record {
       passes = passes_then h.passes (passes_then g f.passes (round_small M 1 a b x y g l)) h.room;
       verdict = second_refuses f.passes sound e f.verdict;
-      exact = λ j is pair. absurd (never pair.left);
+      exact = λ j is pair. absurd (never (first_order_plain a pair.left));
+      full = full_never a b never;
     }
 
     -- They were related, and so are the binders.
@@ -443,7 +451,8 @@ module _ {Key Id Name : Type 0} where
         answer = subst (MayAnswer M z r.ambient a) (sym e) (may_itself M z r.ambient a);
         known = subst (λ t. IsTrue (known t)) (sym e) k.left_known;
       };
-      exact = λ j is pair. absurd (never pair.left);
+      exact = λ j is pair. absurd (never (first_order_plain a pair.left));
+      full = full_never a b never;
     }
 
   -- The bodies that a round leads to are less deep than the binders, in round 0 and in round 1.

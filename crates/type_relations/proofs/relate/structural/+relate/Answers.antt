@@ -59,7 +59,7 @@ use Rattle.std.proofs.Common.{Some, None}
 use Rattle.relation_terms.proofs.Stays.{extends_on}
 use Rattle.type_relations.specs.Rounds.{Opened}
 use Rattle.type_relations.proofs.Bodies.{opened_related, opened_paired}
-use Rattle.type_relations.proofs.Rounds.{no_first_order, opening_refused, first_refused, first_done, half_asked}
+use Rattle.type_relations.proofs.Rounds.{has_binder, opening_refused, first_refused, first_done, half_asked}
 use Rattle.type_relations.proofs.Rounds.{reopening_refused, nothing_left, second_refused, second_related}
 use Rattle.type_relations.proofs.Rounds.{first_under, second_under}
 use Rattle.type_relations.proofs.relate.structural.+relate.Goals as goal
@@ -176,7 +176,7 @@ consts-returns-in-Parts g t c =
     let inner = subst (λ z. Related M q p z x y (p.meaning).const_ c.structurally_relate_consts.result) (step.passes).ambient
     c.structurally_relate_consts.ensures in
     parts_related M IsFormedConst (g.met.R.TypeRelation.sound c.structurally_relate_consts.new.r ((inner.passes).lawful ((step.passes).lawful c.requires.lawful)))
-    a b x y (p.meaning).const_ c.structurally_relate_consts.result step.passes step.verdict step.exact inner
+    a b x y (p.meaning).const_ c.structurally_relate_consts.result step.passes step.verdict step.exact step.full inner
 
 pub tys-returns-in-Done-clause-related : goal.tys-returns-in-Done-clause-related
 tys-returns-in-Done-clause-related g t c =
@@ -269,7 +269,7 @@ tys-returns-in_err-answer-in-Parts-clause-related g t c =
     c.from_residual-in_err-answer-in-Parts.ensures.0 c.from_residual-in_err-answer-in-Parts.ensures.1 in
     subst (λ z. Related M r p r.ambient a b (p.meaning).ty z) (sym failed)
     (parts_related M IsFormed (g.met.R.TypeRelation.sound c.structurally_relate_tys.new.r ((inner.passes).lawful ((step.passes).lawful c.requires.lawful)))
-    a b x y (p.meaning).ty (Err e.field-0.0) step.passes step.verdict step.exact inner)
+    a b x y (p.meaning).ty (Err e.field-0.0) step.passes step.verdict step.exact step.full inner)
 
 pub tys-tys_done-requires-clause-asked : goal.tys-tys_done-requires-clause-asked
 tys-tys_done-requires-clause-asked g t c =
@@ -286,7 +286,7 @@ tys-tys_done-requires-clause-asked g t c =
     let inner = subst (λ v. Related M q p v x y (p.meaning).ty (Ok z.answer)) (step.passes).ambient z.ensures in
     let done : Related M r p r.ambient a b (p.meaning).ty (Ok z.answer) =
     parts_related M IsFormed (g.met.R.TypeRelation.sound c.structurally_relate_tys.new.r ((inner.passes).lawful ((step.passes).lawful c.requires.lawful)))
-    a b x y (p.meaning).ty (Ok z.answer) step.passes step.verdict step.exact inner in
+    a b x y (p.meaning).ty (Ok z.answer) step.passes step.verdict step.exact step.full inner in
     let same_x : (p.meaning).ty c.in-Parts.a ≡ (q.meaning).ty c.in-Parts.a =
     ((inner.passes).extends).ty c.in-Parts.a ((step.verdict).asked).left_known in
     let same_y : (p.meaning).ty c.in-Parts.b ≡ (q.meaning).ty c.in-Parts.b =
@@ -310,7 +310,7 @@ tys-tys_done-requires-clause-related g t c =
     let inner = subst (λ v. Related M q p v x y (p.meaning).ty (Ok z.answer)) (step.passes).ambient z.ensures in
     let done : Related M r p r.ambient a b (p.meaning).ty (Ok z.answer) =
     parts_related M IsFormed (g.met.R.TypeRelation.sound c.structurally_relate_tys.new.r ((inner.passes).lawful ((step.passes).lawful c.requires.lawful)))
-    a b x y (p.meaning).ty (Ok z.answer) step.passes step.verdict step.exact inner in
+    a b x y (p.meaning).ty (Ok z.answer) step.passes step.verdict step.exact step.full inner in
     let same_x : (p.meaning).ty c.in-Parts.a ≡ (q.meaning).ty c.in-Parts.a =
     ((inner.passes).extends).ty c.in-Parts.a ((step.verdict).asked).left_known in
     let same_y : (p.meaning).ty c.in-Parts.b ≡ (q.meaning).ty c.in-Parts.b =
@@ -334,7 +334,7 @@ tys-returns-in_err-tys_done-in-Parts-clause-related g t c =
     let inner = subst (λ v. Related M q p v x y (p.meaning).ty (Ok z.answer)) (step.passes).ambient z.ensures in
     let done : Related M r p r.ambient a b (p.meaning).ty (Ok z.answer) =
     parts_related M IsFormed (g.met.R.TypeRelation.sound c.structurally_relate_tys.new.r ((inner.passes).lawful ((step.passes).lawful c.requires.lawful)))
-    a b x y (p.meaning).ty (Ok z.answer) step.passes step.verdict step.exact inner in
+    a b x y (p.meaning).ty (Ok z.answer) step.passes step.verdict step.exact step.full inner in
     let u = g.R.TypeRelation.state c.tys_done.new.self in
     let e = c.in_err-tys_done-in-Parts in
     let failed = as_err c.from_residual-in_err-tys_done-in-Parts.result e.field-0.0
@@ -357,7 +357,7 @@ tys-returns-in_ok-tys_done-in-Parts-clause-related g t c =
     let inner = subst (λ v. Related M q p v x y (p.meaning).ty (Ok z.answer)) (step.passes).ambient z.ensures in
     let done : Related M r p r.ambient a b (p.meaning).ty (Ok z.answer) =
     parts_related M IsFormed (g.met.R.TypeRelation.sound c.structurally_relate_tys.new.r ((inner.passes).lawful ((step.passes).lawful c.requires.lawful)))
-    a b x y (p.meaning).ty (Ok z.answer) step.passes step.verdict step.exact inner in
+    a b x y (p.meaning).ty (Ok z.answer) step.passes step.verdict step.exact step.full inner in
     let u = g.R.TypeRelation.state c.tys_done.new.self in
     let n = c.in_ok-tys_done-in-Parts in
     noted_related M r.ambient a b (p.meaning).ty z.answer done (Ok n.field-0) n.ensures (u.meaning).ty
@@ -2987,7 +2987,7 @@ binders-returns-in_err-x g t c =
     let a = part_tree r.meaning c.args.a.now in
     let b = part_tree r.meaning c.args.b.now in
     let k = c.requires.asked in
-    let never = no_first_order r.meaning c.args.a.now c.requires.binder in
+    let never = has_binder r.meaning c.args.a.now c.requires.binder c.requires.asked.left_known in
     let q = g.R.TypeRelation.state c.open_bodies.new.r in
     let e = c.in_err-x in
     let failed = as_err c.from_residual.result e.field-0.0 c.from_residual.ensures.0 c.from_residual.ensures.1 in
@@ -3040,7 +3040,7 @@ binders-returns-in_err-relate_parts g t c =
     let a = part_tree r.meaning c.args.a.now in
     let b = part_tree r.meaning c.args.b.now in
     let k = c.requires.asked in
-    let never = no_first_order r.meaning c.args.a.now c.requires.binder in
+    let never = has_binder r.meaning c.args.a.now c.requires.binder c.requires.asked.left_known in
     let q = g.R.TypeRelation.state c.open_bodies.new.r in
     let x = part_tree q.meaning c.in-Some.x in
     let y = part_tree q.meaning c.in-Some.y in
@@ -3123,7 +3123,7 @@ binders-returns-in_err-x-2 g t c =
     let a = part_tree r.meaning c.args.a.now in
     let b = part_tree r.meaning c.args.b.now in
     let k = c.requires.asked in
-    let never = no_first_order r.meaning c.args.a.now c.requires.binder in
+    let never = has_binder r.meaning c.args.a.now c.requires.binder c.requires.asked.left_known in
     let q = g.R.TypeRelation.state c.open_bodies.new.r in
     let x = part_tree q.meaning c.in-Some.x in
     let y = part_tree q.meaning c.in-Some.y in
@@ -3154,7 +3154,7 @@ binders-returns-in_default-2 g t c =
     let a = part_tree r.meaning c.args.a.now in
     let b = part_tree r.meaning c.args.b.now in
     let k = c.requires.asked in
-    let never = no_first_order r.meaning c.args.a.now c.requires.binder in
+    let never = has_binder r.meaning c.args.a.now c.requires.binder c.requires.asked.left_known in
     let q = g.R.TypeRelation.state c.open_bodies.new.r in
     let x = part_tree q.meaning c.in-Some.x in
     let y = part_tree q.meaning c.in-Some.y in
@@ -3224,7 +3224,7 @@ binders-returns-in_err-relate_parts-2 g t c =
     let a = part_tree r.meaning c.args.a.now in
     let b = part_tree r.meaning c.args.b.now in
     let k = c.requires.asked in
-    let never = no_first_order r.meaning c.args.a.now c.requires.binder in
+    let never = has_binder r.meaning c.args.a.now c.requires.binder c.requires.asked.left_known in
     let q = g.R.TypeRelation.state c.open_bodies.new.r in
     let x = part_tree q.meaning c.in-Some.x in
     let y = part_tree q.meaning c.in-Some.y in
@@ -3265,7 +3265,7 @@ binders-returns g t c =
     let a = part_tree r.meaning c.args.a.now in
     let b = part_tree r.meaning c.args.b.now in
     let k = c.requires.asked in
-    let never = no_first_order r.meaning c.args.a.now c.requires.binder in
+    let never = has_binder r.meaning c.args.a.now c.requires.binder c.requires.asked.left_known in
     let q = g.R.TypeRelation.state c.open_bodies.new.r in
     let x = part_tree q.meaning c.in-Some.x in
     let y = part_tree q.meaning c.in-Some.y in
