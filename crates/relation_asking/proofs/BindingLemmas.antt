@@ -252,12 +252,14 @@ module _ (items names parts : List ℕ) (ts : List Tree) (us : List Uses) (told 
     term_told (term.Float w) s = (tt, λ b. tt)
     term_told (term.Item k d p) s = all_told s.inner u s.leaves (item_tree k (slice_get items d) (parts_tree parts ts p))
         (item_told s.inner k (slice_get items d) _ (list_told s.inner _ (s.takes).2))
-    term_told (term.Slice t) s = all_told s.inner u s.leaves _ (one_told s.inner (at ts t) (at_told s.inner t (s.takes).0))
-    term_told (term.Array t c) s = all_told s.inner u s.leaves _
+    term_told (term.Slice t) s = all_told s.inner u s.leaves (cons (at ts t) nil)
+        (one_told s.inner (at ts t) (at_told s.inner t (s.takes).0))
+    term_told (term.Array t c) s = all_told s.inner u s.leaves (cons (at ts t) (cons (at ts c) nil))
         (two_told s.inner (at ts t) (at ts c) (at_told s.inner t (s.takes).0) (at_told s.inner c (s.takes).1))
-    term_told (term.Tuple p) s = all_told s.inner u s.leaves _ (list_told s.inner _ (s.takes).2)
-    term_told (term.RawPtr t m) s = all_told s.inner u s.leaves _ (one_told s.inner (at ts t) (at_told s.inner t (s.takes).0))
-    term_told (term.Ref r t m) s = all_told s.inner u s.leaves _
+    term_told (term.Tuple p) s = all_told s.inner u s.leaves (parts_tree parts ts p) (list_told s.inner _ (s.takes).2)
+    term_told (term.RawPtr t m) s = all_told s.inner u s.leaves (cons (at ts t) nil)
+        (one_told s.inner (at ts t) (at_told s.inner t (s.takes).0))
+    term_told (term.Ref r t m) s = all_told s.inner u s.leaves (cons (at ts r) (cons (at ts t) nil))
         (two_told s.inner (at ts r) (at ts t) (at_told s.inner r (s.takes).0) (at_told s.inner t (s.takes).1))
     term_told (term.TyParam i n) s = leaf_told u _ (λ x. tt) (slice_get names n)
     term_told (term.TyPlaceholder w v n) s = leaf_told u _ (λ x. tt) (slice_get names n)
@@ -265,7 +267,7 @@ module _ (items names parts : List ℕ) (ts : List Tree) (us : List Uses) (told 
     term_told (term.IntVar n) s = (tt, λ b. tt)
     term_told (term.FloatVar n) s = (tt, λ b. tt)
     term_told term.TyError s = (tt, λ b. tt)
-    term_told (term.Pat t p) s = all_told s.inner u s.leaves _
+    term_told (term.Pat t p) s = all_told s.inner u s.leaves (cons (at ts t) (cons (at ts p) nil))
         (two_told s.inner (at ts t) (at ts p) (at_told s.inner t (s.takes).0) (at_told s.inner p (s.takes).1))
     term_told term.Static s = (tt, λ b. tt)
     term_told (term.RegionParam i n) s = leaf_told u _ (λ x. tt) (slice_get names n)
@@ -276,35 +278,40 @@ module _ (items names parts : List ℕ) (ts : List Tree) (us : List Uses) (told 
     term_told (term.ConstVar n) s = (tt, λ b. tt)
     term_told term.ConstError s = (tt, λ b. tt)
     term_told (term.Number t v n) s =
-        let a = all_told s.inner u s.leaves _ (at_told s.inner t (s.takes).0) in
+        let a = all_told s.inner u s.leaves (at ts t) (at_told s.inner t (s.takes).0) in
         (((a.0, tt), (tt, tt)), λ b. ((a.1 b, tt), (tt, tt)))
     term_told (term.Branch t p) s =
-        let a = all_told s.inner u s.leaves _ (at_told s.inner t (s.takes).0) in
-        let r = all_told s.inner u s.leaves _ (list_told s.inner _ (s.takes).2) in
+        let a = all_told s.inner u s.leaves (at ts t) (at_told s.inner t (s.takes).0) in
+        let r = all_told s.inner u s.leaves (parts_tree parts ts p) (list_told s.inner _ (s.takes).2) in
         (((a.0, tt), (r.0, tt)), λ b. ((a.1 b, tt), (r.1 b, tt)))
-    term_told (term.Expr k p) s = all_told s.inner u s.leaves _ (list_told s.inner _ (s.takes).2)
-    term_told (term.Range t c) s = all_told s.inner u s.leaves _
+    term_told (term.Expr k p) s = all_told s.inner u s.leaves (parts_tree parts ts p) (list_told s.inner _ (s.takes).2)
+    term_told (term.Range t c) s = all_told s.inner u s.leaves (cons (at ts t) (cons (at ts c) nil))
         (two_told s.inner (at ts t) (at ts c) (at_told s.inner t (s.takes).0) (at_told s.inner c (s.takes).1))
-    term_told (term.Or p) s = all_told s.inner u s.leaves _ (list_told s.inner _ (s.takes).2)
+    term_told (term.Or p) s = all_told s.inner u s.leaves (parts_tree parts ts p) (list_told s.inner _ (s.takes).2)
     term_told term.NotNull s = (tt, λ b. tt)
-    term_told (term.TyBound d v n) s = all_told s.inner u s.leaves _ (leaf_told s.inner
-        (λ x. bound (bound_kind type_kind x) d v) (λ x l. (_, s.own, omega arith, refl, refl)) (slice_get names n))
-    term_told (term.RegionBound d v n) s = all_told s.inner u s.leaves _ (leaf_told s.inner
-        (λ x. bound (bound_kind region_kind x) d v) (λ x l. (_, s.own, omega arith, refl, refl)) (slice_get names n))
-    term_told (term.ConstBound d v n) s = all_told s.inner u s.leaves _ (leaf_told s.inner
-        (λ x. bound (bound_kind const_kind x) d v) (λ x l. (_, s.own, omega arith, refl, refl)) (slice_get names n))
+    term_told (term.TyBound d v n) s =
+        let f = λ (x : ℕ). bound (bound_kind type_kind x) d v in
+        all_told s.inner u s.leaves (leaf_of f (slice_get names n)) (leaf_told s.inner f (λ x l. (_, s.own, omega arith, refl, refl)) (slice_get names n))
+    term_told (term.RegionBound d v n) s =
+        let f = λ (x : ℕ). bound (bound_kind region_kind x) d v in
+        all_told s.inner u s.leaves (leaf_of f (slice_get names n)) (leaf_told s.inner f (λ x l. (_, s.own, omega arith, refl, refl)) (slice_get names n))
+    term_told (term.ConstBound d v n) s =
+        let f = λ (x : ℕ). bound (bound_kind const_kind x) d v in
+        all_told s.inner u s.leaves (leaf_of f (slice_get names n)) (leaf_told s.inner f (λ x l. (_, s.own, omega arith, refl, refl)) (slice_get names n))
     term_told (term.FnPtr h v p) s =
         let all = list_told s.inner _ (s.takes).2 in
         let a = front_told s.inner (parts_tree parts ts p) all in
         let r = last_told s.inner (parts_tree parts ts p) all in
-        one_told u _ (under_told s.inner u v s.leaves (node (signature h.c_variadic h.safety h.abi)
-        (cons (node inputs (front (parts_tree parts ts p))) (cons (last (parts_tree parts ts p)) nil)))
+        let body = node (signature h.c_variadic h.safety h.abi)
+        (cons (node inputs (front (parts_tree parts ts p))) (cons (last (parts_tree parts ts p)) nil)) in
+        one_told u (under (variables_of (parts_tree parts ts v)) body) (under_told s.inner u v s.leaves body
         ((a.0, (r.0, tt)), λ b. (a.1 b, (r.1 b, tt))))
     term_told (term.UnsafeBinder v t) s =
-        one_told u _ (under_told s.inner u v s.leaves (at ts t) (at_told s.inner t (s.takes).0))
+        one_told u (under (variables_of (parts_tree parts ts v)) (at ts t))
+        (under_told s.inner u v s.leaves (at ts t) (at_told s.inner t (s.takes).0))
     term_told (term.Object p r) s =
-        let a = all_told s.inner u s.leaves _ (list_told s.inner _ (s.takes).2) in
-        let c = all_told s.inner u s.leaves _ (at_told s.inner r (s.takes).0) in
+        let a = all_told s.inner u s.leaves (parts_tree parts ts p) (list_told s.inner _ (s.takes).2) in
+        let c = all_told s.inner u s.leaves (at ts r) (at_told s.inner r (s.takes).0) in
         ((a.0, (c.0, tt)), λ b. (a.1 b, (c.1 b, tt)))
     term_told (term.Implements v d p) s = under_told s.inner u v s.leaves _
         (head_told s.inner existential_trait (slice_get items d) _ (list_told s.inner _ (s.takes).2))

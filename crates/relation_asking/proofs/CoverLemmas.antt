@@ -1,7 +1,7 @@
 -- The terms of a text whose forms have rules, and whose binders bind by their lists.
-use Rattle.std.proofs.Common.{◌≡◌, ℕ, zero, suc, refl, sym, subst, IsTrue, Bool, true, false, cond, ◌&&◌, List, [], ◌∷◌, Option}
-use Rattle.std.proofs.Common.{Some, None, length}
-use Rattle.std.specs.Prelude.{slice_get, ◌==◌}
+use Rattle.std.proofs.Common.{◌≡◌, ℕ, zero, suc, refl, sym, ◌∙◌, subst, IsTrue, Bool, true, false, cond, ◌&&◌, List, [], ◌∷◌}
+use Rattle.std.proofs.Common.{Option, Some, None}
+use Rattle.std.specs.Prelude.{slice_get, ◌==◌, vec_len}
 use Rattle.std.proofs.lemmas.Bool.{and_parts, false≢true}
 use Rattle.relation_terms.specs.Heads.{BoundKind, Head, signature, inputs, existential_trait, existential_projection, Leaf}
 use Rattle.relation_terms.specs.Heads.{unknown}
@@ -233,7 +233,7 @@ module _ (items names parts : List ℕ) where
       Tells o (term_tree items names parts ts x) → IsBoundBy (told o (term_need parts ns x)) (term_tree items names parts ts x)
   told_bound ts ns h x None said = subst (IsBoundBy (term_need parts ns x)) (sym said) ((λ c. tt), λ l. tt)
   told_bound ts ns h x (Some u) said =
-      ((λ c. used_none (u.outer).items (is_zero (length (u.outer).items) c) 0 _ said.0), said.1)
+      ((λ c. used_none (u.outer).items (sym (u.outer).ok.0 ∙ is_zero (vec_len u.outer) c) 0 _ said.0), said.1)
 
   pub all_bound : (us : List Uses) (xs : List Term) → AreTold (trees_of items names parts xs) us →
       HoldsOfEach IsBoundBy (trees_of items names parts xs) (needs_of parts us xs)

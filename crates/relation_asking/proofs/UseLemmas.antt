@@ -1,5 +1,5 @@
 -- What is taken in of what terms use.
-use Rattle.std.proofs.Common.{◌≡◌, ℕ, suc, ◌+◌, ◌≤◌, sym, ap, ◌∙◌, subst, List, [], ◌∷◌, ◌++◌, Option, Some, None, All, Contains}
+use Rattle.std.proofs.Common.{◌≡◌, ℕ, suc, ◌+◌, ◌≤◌, refl, sym, ap, ◌∙◌, subst, List, [], ◌∷◌, ◌++◌, Option, Some, None, All, Contains}
 use Rattle.std.proofs.Common.{IsTrue, inl, inr, ◌⊎◌, length, take, get_or, slice_get, slice_range}
 use Rattle.std.specs.Prelude.{IfSome}
 use Rattle.std.proofs.lemmas.List.{length_push}
@@ -70,6 +70,10 @@ takes_inside_later numbers before i u v f h = (
   takes_if_later before u v f i.second h.1,
   All-weaker (TakesAt before u) (TakesAt before v) (takes_later before u v f) (places numbers before i.list) h.2,
 )
+
+pub no_binder : (o : Option Parts) → ((v : Parts) → o ≡ Some v → ⊥) → o ≡ None
+no_binder None h = refl
+no_binder (Some v) h = absurd (h v refl)
 
 -- What is said of a term without a binder, and of one with a binder.
 module _ (numbers : List ℕ) (before : List Uses) (x : Term) (i : Inside) (is : i ≡ inside_of x) (inner : Uses)

@@ -1,4 +1,5 @@
-use Rattle.std.proofs.Common.{map, sym, subst₂}
+use Rattle.std.proofs.Common.{map, sym, ap, ◌∙◌, subst₂}
+use Rattle.relation_asking.specs.Needs.{needs_of}
 use Rattle.relation_asking.specs.Asking.{AreReady}
 use Rattle.relation_asking.proofs.AskingLemmas.{all_ready}
 use Rattle.relation_asking.proofs.ask_over.Goals as goal

@@ -13,7 +13,7 @@ loop-one-init c = record { takes = λ y h. absurd (let l = h.1 in omega (arith, 
 pub loop-one-preserved : goal.loop-one-preserved
 loop-one-preserved c =
     let none : Outer = record { depth = 0; place = 0; sort = Region } in
-    let xs = c.loop-one.one-items in
+    let xs = c.deref-one-items.result.now in
     let i = c.loop-one.one-index in
     let before = c.loop-one.invariant in
     let h = c.in_ok-add.ensures in
@@ -30,7 +30,8 @@ returns-clause-takes c =
     let l = c.loop-one in
     let h = l.invariant in
     let past = c.loop-one-test.false in (
-      subst (AreIn (l.to.outer).items) (take_all l.one-index l.one-items (omega (arith, past))) h.takes,
+      subst (AreIn (l.to.outer).items)
+          (take_all l.one-index c.deref-one-items.result.now (omega (arith, past)) ∙ c.deref-one-items.ensures.value) h.takes,
       λ b. (and_parts l.to.by_lists (c.args.from.now).by_lists b).1,
     )
 

@@ -4,4 +4,4 @@ use Rattle.relation_asking.proofs.binding.behind.Given as goal
 
 -- what the binder leaves of the first things is there
 abbrev pub invariant-loop-one : goal.invariant-loop-one
-invariant-loop-one l = Behind (take l.one-index l.one-items) l.outside.items
+invariant-loop-one l = Behind (take l.one-index l.inside) l.outside.items

@@ -8,8 +8,8 @@ returns c =
     let one = c.in_ok-add_at.ensures in
     let two = c.in_ok-add_at-2.ensures in
     let all = c.in_ok-add_list.ensures in (
-      takes_if_later before c.add_at.new.to c.add_list.new.to i.first
-          (takes_then c.add_at.new.to c.add_at-2.new.to c.add_list.new.to all.kept two.kept) one.takes,
-      takes_if_later before c.add_at-2.new.to c.add_list.new.to i.second all.kept two.takes,
+      takes_if_later before c.add_at.new.to c.add_list.new.to
+          (takes_then c.add_at.new.to c.add_at-2.new.to c.add_list.new.to all.kept two.kept) i.first one.takes,
+      takes_if_later before c.add_at-2.new.to c.add_list.new.to all.kept i.second two.takes,
       all.takes,
     )

@@ -28,6 +28,6 @@ pub returns : goal.returns
 returns c = λ items names.
     let l = c.loop-term in
     let past = c.loop-term-test.false in
-    let all = take_all l.term-index l.term-items (omega (arith, past)) in
+    let all = take_all l.term-index c.deref-term-items.result.now (omega (arith, past)) in
     subst (λ xs. AreTold (trees_of items names c.args.program.now.parts.items xs) l.all.items)
     (all ∙ c.deref-term-items.ensures.value) (l.invariant items names).told
