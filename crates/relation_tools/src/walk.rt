@@ -2,19 +2,19 @@
 //!
 //! An argument that is equal to one that was yielded before is neither yielded nor entered. So a walk takes as many
 //! steps as there are different arguments, however often each stands in the term.
-ghost use Rattle.std.specs.Prelude.{◌≡◌, IsTrue, IfOk, IfErr, OnOk, [], ◌∷◌, false, true, MatchOption, None, Some};
-ghost use Rattle.std.specs.List.{list_any};
+ghost use Rattle.std.specs.Prelude.{◌≡◌, IsTrue, IfOk, OnOk, [], ◌∷◌, false, true};
 ghost use Rattle.relation_terms.specs.Trees.{known};
 ghost use Rattle.relation_terms.specs.Meaning.{arg_tree};
 ghost use Rattle.relation_terms.specs.Parts.{part_of_arg};
 ghost use Rattle.relation_tools.specs.Places.{places_under, all_known, Pushes};
-ghost use Rattle.relation_tools.specs.Walking.{Walk, Pull, first_unseen, Adds, begun};
+ghost use Rattle.relation_tools.specs.Walking.{Walk, Pull, Pops, begun};
 ghost use Rattle.relation_tools.specs.Positions.{ByPlaces};
 
 mod places;
 mod stack;
 
-use crate::walk::places::push_list;
+use crate::keeping::keep;
+use crate::walk::places::{push_list, push_under_ty};
 use crate::walk::stack::Stack;
 use relation_terms::terms::parts::parts_of;
 use relation_terms::terms::{GenericArg, GenericArgKind, Interner, OutOfMemory, Part};
@@ -60,35 +60,35 @@ fn part_of<X: Copy, D: Copy>(arg: &GenericArgKind<X>) -> Part<X, D>
     }
 }
 
-// The first element that was not visited, which leaves the stack with all above it.
-fn pop_unseen<T: Eq + Hash + Drop>(stack: &mut Stack<T>, visited: &HashSet<T>) -> Option<T>
-    ensures { MatchOption result
-        ((first_unseen (λ q. list_any (T.eq q) visited.now.keys) stack.old ≡ None) × (stack.new ≡ []))
-        (λ x. first_unseen (λ q. list_any (T.eq q) visited.now.keys) stack.old ≡ Some (x, stack.new)) }
+// The first element that was not visited, which leaves the stack with all above it, and was visited from then on.
+fn pop_unseen<T: Copy + Eq + Hash>(
+    stack: &mut Stack<T>,
+    visited: &mut HashSet<T>,
+) -> Result<Option<T>, OutOfMemory>
+    ensures { IfOk result (λ popped. Pops T.eq visited.old.keys stack.old popped stack.new visited.new.keys) }
 {
     while let Some(item) = stack.pop() {
-        if !visited.contains(&item) {
-            return Some(item);
+        if keep(visited, item)? {
+            return Ok(Some(item));
         }
     }
-    None
+    Ok(None)
 }
 
-// Puts what stands under an argument on a stack, and keeps the argument.
+// Puts what stands under an argument on a stack.
 fn enter<I: Interner>(
     cx: &I,
-    arg: GenericArg<I>,
+    arg: &GenericArg<I>,
     stack: &mut Stack<GenericArg<I>>,
-    visited: &mut HashSet<GenericArg<I>>,
 ) -> Result<(), OutOfMemory>
-    requires { IsTrue (known (arg_tree (I.meaning cx.now) arg)) }
-    ensures pushes { OnOk result
-        (Pushes (I.meaning cx.now) (places_under (arg_tree (I.meaning cx.now) arg)) stack.old stack.new) }
-    ensures keeps { OnOk result
-        (Adds ⟦<GenericArgKind<I::Key> as PartialEq>⟧.eq visited.old.keys arg visited.new.keys) }
+    requires { IsTrue (known (arg_tree (I.meaning cx.now) arg.now)) }
+    ensures { OnOk result (Pushes (I.meaning cx.now) (places_under (arg_tree (I.meaning cx.now) arg.now))
+        stack.old stack.new) }
 {
-    visited.insert(arg)?;
-    push_list(cx, &parts_of(cx, &part_of(&arg)), stack)?;
+    match arg {
+        GenericArgKind::Ty(ty) => push_under_ty(cx, ty, stack)?,
+        _ => push_list(cx, &parts_of(cx, &part_of(arg)), stack)?,
+    }
     Ok(())
 }
 
@@ -126,11 +126,16 @@ impl<'a, I: Interner> TypeWalker<'a, I> {
         if self.failed {
             return Some(Err(OutOfMemory));
         }
-        let Some(arg) = pop_unseen(&mut self.stack, &self.visited) else {
-            return None;
+        let arg = match pop_unseen(&mut self.stack, &mut self.visited) {
+            Ok(Some(arg)) => arg,
+            Ok(None) => return None,
+            Err(refused) => {
+                self.failed = true;
+                return Some(Err(refused));
+            }
         };
         self.last_subtree = self.stack.len();
-        match enter(self.cx, arg, &mut self.stack, &mut self.visited) {
+        match enter(self.cx, &arg, &mut self.stack) {
             Ok(()) => Some(Ok(arg)),
             Err(refused) => {
                 self.failed = true;

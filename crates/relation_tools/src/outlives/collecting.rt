@@ -10,6 +10,7 @@ ghost use Rattle.relation_tools.specs.Outliving.{AddsSome, HasAll};
 ghost use Rattle.relation_tools.specs.Collecting.{meant, of_member, kept_of, found_components, found_size};
 ghost use Rattle.relation_tools.specs.Collecting.{Settled, Meets, Keeps};
 
+use crate::keeping::keep;
 use crate::outlives::chosen::{Chosen, alias_chosen, is_chosen};
 use crate::outlives::met::{Met, none_met};
 use crate::outlives::{Component, ComponentOf};
@@ -28,8 +29,8 @@ fn meet<I: Interner>(cx: &I, part: &PartOf<I>, visited: &mut Met<I>) -> Result<b
 {
     let _ = cx;
     match part {
-        Part::Ty(ty) => Ok(visited.insert(GenericArgKind::Ty(*ty))?),
-        Part::Const(constant) => Ok(visited.insert(GenericArgKind::Const(*constant))?),
+        Part::Ty(ty) => keep(visited, GenericArgKind::Ty(*ty)),
+        Part::Const(constant) => keep(visited, GenericArgKind::Const(*constant)),
         _ => Ok(true),
     }
 }

@@ -14,8 +14,8 @@ enter-requires g c =
     let s = c.self.inside.stack in
     let vs = c.self.inside.visited.keys in
     let rest = c.pop_unseen.new.stack in
-    let k : IsTrue (known (arg_tree m c.in-Some.arg)) =
-    (unseen_known (arg_tree m) (λ q. list_any (eq q) vs) s c.in-Some.arg rest c.in-Some.ensures
+    let k : IsTrue (known (arg_tree m c.in-Ok.arg)) =
+    (unseen_known (arg_tree m) (λ q. list_any (eq q) vs) s c.in-Ok.arg rest c.in-Ok.ensures.0
     (c.self.invariant c.if-self.false)).0 in
     search rules
 
@@ -28,7 +28,7 @@ returns-in_default g c =
     let rest = c.pop_unseen.new.stack in
     rw (← c.self.view_is)
     (pulled_none eq c.self.inside.cx.now s rest vs c.self.inside.failed c.self.inside.last_subtree c.if-self.false
-    c.in_default.ensures.0 c.in_default.ensures.1)
+    c.in-Ok.ensures.0 c.in-Ok.ensures.1)
 
 pub returns-in-Ok : goal.returns-in-Ok
 returns-in-Ok g c =
@@ -38,12 +38,12 @@ returns-in-Ok g c =
     let vs = c.self.inside.visited.keys in
     let rest = c.pop_unseen.new.stack in
     let held = c.if-self.false in
-    let k = (unseen_known (arg_tree m) (λ q. list_any (eq q) vs) s c.in-Some.arg rest c.in-Some.ensures
+    let k = (unseen_known (arg_tree m) (λ q. list_any (eq q) vs) s c.in-Ok.arg rest c.in-Ok.ensures.0
     (c.self.invariant held)).0 in
     rw (← c.self.view_is)
-    (pulled_one m eq s c.enter.new.stack vs c.in-Some.arg rest c.in-Some.ensures OutOfMemory c.self.inside.cx.now
-    c.enter.new.visited.keys c.self.inside.failed c.self.inside.last_subtree c.len-self-inside.result held k
-    c.len-self-inside.ensures c.in-Ok.ensures.pushes c.in-Ok.ensures.keeps)
+    (pulled_one m eq s c.enter.new.stack vs c.in-Ok.arg rest c.in-Ok.ensures.0 OutOfMemory c.self.inside.cx.now
+    c.pop_unseen.new.visited.keys c.self.inside.failed c.self.inside.last_subtree c.len-self-inside.result held k
+    c.len-self-inside.ensures c.in-Ok.ensures c.in-Ok.ensures.1)
 
 pub returns-in-Err : goal.returns-in-Err
 returns-in-Err g c =
@@ -56,5 +56,5 @@ invariant_of-self-in-Ok g c = λ h.
     let s = c.self.inside.stack in
     let vs = c.self.inside.visited.keys in
     let rest = c.pop_unseen.new.stack in
-    known_after m eq s c.enter.new.stack vs c.in-Some.arg rest c.in-Some.ensures (c.self.invariant c.if-self.false)
+    known_after m eq s c.enter.new.stack vs c.in-Ok.arg rest c.in-Ok.ensures.0 (c.self.invariant c.if-self.false)
     c.in-Ok.ensures.pushes
