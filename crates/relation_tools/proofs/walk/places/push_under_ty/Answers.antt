@@ -1,7 +1,8 @@
-use Rattle.std.proofs.Common.{sym, ap, ◌∙◌, subst, IsTrue, false}
+use Rattle.std.proofs.Common.{rules, sym, ap, ◌∙◌, subst, IsTrue, false}
 use Rattle.relation_terms.specs.Heads.{slice, ref}
 use Rattle.relation_terms.specs.Trees.{known}
 use Rattle.relation_terms.specs.Meaning.{kind_tree}
+use Rattle.relation_terms.specs.Parts.{parts_tree}
 use Rattle.relation_terms.specs.declared.terms.generic_arg.GenericArgKind.TheVariants.{Ty as TyArg}
 use Rattle.relation_terms.proofs.Sorted.{Sorted}
 use Rattle.relation_terms.proofs.Parts.{ty_seen, known_parts}
@@ -58,7 +59,9 @@ push_list-requires g c =
     let m = g.I.Interner.meaning c.args.cx.now in
     let w = m.ty c.args.ty.now in
     let seen = ty_seen m c.ty_parts.result w c.ty_kind-kind.result c.ty_kind-kind.ensures c.ty_parts.ensures in
-    subst (λ z. IsTrue (known z)) (sym seen) (known_parts w c.requires)
+    let k : IsTrue (known (parts_tree m c.ty_parts.result)) =
+    subst (λ z. IsTrue (known z)) (sym seen) (known_parts w c.requires) in
+    search rules
 
 pub returns-in_ok-push_list-in_default : goal.returns-in_ok-push_list-in_default
 returns-in_ok-push_list-in_default g c =
