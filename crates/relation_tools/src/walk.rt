@@ -14,12 +14,13 @@ mod places;
 mod stack;
 
 use crate::keeping::keep;
+use crate::outlives::met::{Met, none_met};
 use crate::walk::places::{push_list, push_under_ty};
 use crate::walk::stack::Stack;
 use relation_terms::terms::parts::parts_of;
 use relation_terms::terms::{GenericArg, GenericArgKind, Interner, OutOfMemory, Part};
 use std::collections::HashSet;
-use std::hash::Hash;
+use std::hash::{BuildHasher, Hash};
 use std::marker::Model;
 
 /// A walk over an argument and all arguments that it is made of, in pre-order.
@@ -31,7 +32,7 @@ pub struct TypeWalker<'a, I: Interner> {
     cx: &'a I,
     stack: Stack<GenericArg<I>>,
     last_subtree: usize,
-    visited: HashSet<GenericArg<I>>,
+    visited: Met<I>,
     failed: bool,
 }
 
@@ -61,9 +62,9 @@ fn part_of<X: Copy, D: Copy>(arg: &GenericArgKind<X>) -> Part<X, D>
 }
 
 // The first element that was not visited, which leaves the stack with all above it, and was visited from then on.
-fn pop_unseen<T: Copy + Eq + Hash>(
+fn pop_unseen<T: Copy + Eq + Hash, S: BuildHasher>(
     stack: &mut Stack<T>,
-    visited: &mut HashSet<T>,
+    visited: &mut HashSet<T, S>,
 ) -> Result<Option<T>, OutOfMemory>
     ensures { IfOk result (λ popped. Pops T.eq visited.old.keys stack.old popped stack.new visited.new.keys) }
 {
@@ -104,7 +105,7 @@ impl<'a, I: Interner> TypeWalker<'a, I> {
             cx,
             stack: Stack::one(cx.alloc(), root),
             last_subtree: 1,
-            visited: HashSet::new(cx.alloc()),
+            visited: none_met(cx),
             failed: false,
         }
     }
@@ -145,7 +146,7 @@ impl<'a, I: Interner> TypeWalker<'a, I> {
     }
 
     /// The arguments that were yielded, as long as there was no fault. It takes no memory.
-    pub fn visited(&self) -> &HashSet<GenericArg<I>>
+    pub fn visited(&self) -> &Met<I>
         ensures { result.now.keys ≡ (self.now).visited }
     {
         &self.visited

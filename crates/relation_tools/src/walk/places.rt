@@ -115,9 +115,23 @@ pub fn push_under_ty<I: Interner>(
             stack.push(GenericArgKind::Lifetime(*region))?;
         }
         TyKind::Tuple(members) => push_tys(cx, members, stack)?,
-        _ => push_list(cx, &ty_parts(&kind), stack)?,
+        _ => push_under_form(cx, ty, stack)?,
     }
     Ok(())
+}
+
+// The same of any form. It stands apart, so that the other takes little of the stack.
+#[inline(never)]
+fn push_under_form<I: Interner>(
+    cx: &I,
+    ty: &Ty<I>,
+    stack: &mut Stack<GenericArg<I>>,
+) -> Result<(), OutOfMemory>
+    requires { IsTrue (known ((I.meaning cx.now).ty ty.now)) }
+    ensures { OnOk result (Pushes (I.meaning cx.now) (places_under ((I.meaning cx.now).ty ty.now))
+        stack.old stack.new) }
+{
+    push_list(cx, &ty_parts(&cx.ty_kind(ty)), stack)
 }
 
 // The same of the types of a list.
