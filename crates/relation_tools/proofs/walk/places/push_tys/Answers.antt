@@ -1,4 +1,4 @@
-use Rattle.std.proofs.Common.{arith, refl, ◌≡◌, ◌<◌, ◌-◌, ◌+◌, ◌∙◌, length}
+use Rattle.std.proofs.Common.{arith, refl, ◌<◌, ◌-◌, ◌+◌, length}
 use Rattle.relation_terms.specs.Trees.{count}
 use Rattle.relation_terms.specs.declared.terms.generic_arg.GenericArgKind.TheVariants.{Ty as TyArg}
 use Rattle.relation_terms.proofs.Sorted.{Sorted}
