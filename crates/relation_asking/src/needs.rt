@@ -205,7 +205,7 @@ fn term_need(numbers: &[usize], before: &[Needs], term: Term) -> Needs
 pub fn needs_of(alloc: Global, program: &Program) -> Result<Vec<Needs>, AllocError>
     ensures { IfOk result (λ needs. needs.items ≡ needs_of program.now.parts.items program.now.terms.items) }
 {
-    let mut needs = Vec::new(alloc);
+    let mut needs = Vec::with_capacity(alloc, program.terms.len())?;
     for term in &program.terms {
         let need = term_need(&program.parts, &needs, *term);
         needs.push(need)?;

@@ -1,6 +1,6 @@
 //! The rows, their stored answers, and the program's runs.
 ghost use Rattle.std.specs.Prelude.{◌≡◌, ◌<◌, ◌≤◌, ◌↔◌, IsTrue, IfSome, length, slice_get, string_bytes};
-ghost use Rattle.relations.specs.Named.{IsHighRow, IsLowRow, IsMiddleRow, IsRow};
+ghost use Rattle.relations.specs.Named.{IsHighRow, IsLowRow, IsMiddleRow, IsRow, IsUpperRow};
 
 use crate::doubling::count_terms_and_nodes;
 use relation_asking::ask_all;
@@ -32,7 +32,7 @@ pub enum RowFault {
 }
 
 /// The rows, in the order of their numbers.
-pub const ROWS: [Row; 31] = [
+pub const ROWS: [Row; 32] = [
     Row {
         name: "r01",
         questions: "may unify[rigid, rigid] bool, char at 0; may unify[rigid, rigid] bool, char at 1;",
@@ -164,6 +164,11 @@ pub const ROWS: [Row; 31] = [
         name: "r37",
         questions: "[u8; ?c0] == [?0; 2];",
         stored: "ok; bound=[?0=u8, ?c0=2]",
+    },
+    Row {
+        name: "r45",
+        questions: "u8 is 1..=2 == u8 is !null; u8 is 1..=2 == u8 is 1..=3;",
+        stored: "err Mismatch | err ConstMismatch(2, 3)",
     },
     Row {
         name: "r53",
@@ -309,7 +314,7 @@ fn is_low_row(name: &str) -> bool
         || name == "r19"
 }
 
-// Whether a row from r20 on, but below r50, has that name.
+// Whether a row from r20 on, but below r40, has that name.
 fn is_middle_row(name: &str) -> bool
     ensures { IsTrue result ↔ IsMiddleRow name.now }
 {
@@ -327,24 +332,25 @@ fn is_middle_row(name: &str) -> bool
         || name == "r37"
 }
 
-// Whether a row from r50 on has that name.
+// Whether a row from r40 on, but below r60, has that name.
+fn is_upper_row(name: &str) -> bool
+    ensures { IsTrue result ↔ IsUpperRow name.now }
+{
+    name == "r45" || name == "r53" || name == "r54" || name == "r55" || name == "r59"
+}
+
+// Whether a row from r60 on has that name.
 fn is_high_row(name: &str) -> bool
     ensures { IsTrue result ↔ IsHighRow name.now }
 {
-    name == "r53"
-        || name == "r54"
-        || name == "r55"
-        || name == "r59"
-        || name == "r60"
-        || name == "r61"
-        || name == "r69"
+    name == "r60" || name == "r61" || name == "r69"
 }
 
 // Whether a row has that name.
 fn is_row(name: &str) -> bool
     ensures { IsTrue result ↔ IsRow name.now }
 {
-    is_low_row(name) || is_middle_row(name) || is_high_row(name)
+    is_low_row(name) || is_middle_row(name) || is_upper_row(name) || is_high_row(name)
 }
 
 // Prints the row of a name, or all. The status is 1 if an answer is not the stored one, a row's text is wrong, or a

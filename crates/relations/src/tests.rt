@@ -31,6 +31,7 @@ r34: ok; regions=['a: 'c, 'b == 'd] | err Mutability
 r35: ok; regions=['b: 'a] | ok; regions=['a: 'b]
 r36: ok; bound=[?0=u8, ?i0=u16]; left=0
 r37: ok; bound=[?0=u8, ?c0=2]
+r45: err Mismatch | err ConstMismatch(2, 3)
 r53: dyn Tr<bool, A = u8> + 'a | bool | u8 | 'a | end
 r54: 'a, T, 'b | 'b | none | escaping[T]
 r55: 'a: 'b | (&'a T, u8): 'b | T: 'b

@@ -1,11 +1,9 @@
-use Rattle.std.proofs.Common.{sym, ap, ◌∙◌, subst, IsTrue, false}
+use Rattle.std.proofs.Common.{sym, ap, ◌∙◌}
 use Rattle.relation_terms.specs.Heads.{slice, ref}
-use Rattle.relation_terms.specs.Trees.{known}
 use Rattle.relation_terms.specs.Meaning.{kind_tree}
 use Rattle.relation_terms.specs.declared.terms.generic_arg.GenericArgKind.TheVariants.{Ty as TyArg}
 use Rattle.relation_terms.proofs.Sorted.{Sorted}
-use Rattle.relation_terms.proofs.Parts.{ty_seen, known_parts}
-use Rattle.relation_tools.specs.Places.{places, places_under}
+use Rattle.relation_tools.specs.Places.{places_under}
 use Rattle.relation_tools.proofs.Placing.{pushes_one, pushes_as, slice_places, ref_places}
 use Rattle.relation_tools.proofs.walk.places.push_under_ty.Goals as goal
 
@@ -52,17 +50,3 @@ returns-in_ok-push_tys-in-Tuple g c =
     let m = g.I.Interner.meaning c.args.cx.now in
     let e = c.ty_kind-kind.ensures ∙ ap (kind_tree m) c.in-Tuple.is in
     pushes_as m _ _ _ _ (sym (ap places_under e)) c.in_ok-push_tys-in-Tuple.ensures
-
-pub push_list-requires : goal.push_list-requires
-push_list-requires g c =
-    let m = g.I.Interner.meaning c.args.cx.now in
-    let w = m.ty c.args.ty.now in
-    let seen = ty_seen m c.ty_parts.result w c.ty_kind-kind.result c.ty_kind-kind.ensures c.ty_parts.ensures in
-    subst (λ z. IsTrue (known z)) (sym seen) (known_parts w c.requires)
-
-pub returns-in_ok-push_list-in_default : goal.returns-in_ok-push_list-in_default
-returns-in_ok-push_list-in_default g c =
-    let m = g.I.Interner.meaning c.args.cx.now in
-    let w = m.ty c.args.ty.now in
-    let seen = ty_seen m c.ty_parts.result w c.ty_kind-kind.result c.ty_kind-kind.ensures c.ty_parts.ensures in
-    pushes_as m _ _ _ _ (ap (places false) seen) c.in_ok-push_list-in_default.ensures
