@@ -136,7 +136,7 @@ impl RefInterner {
     /// where they are alike.
     ///
     /// # Errors
-    /// `OutOfMemory` where a growth was refused.
+    /// `OutOfMemory` where a growth was refused, and where the numbers of 32 bits have run out.
     pub fn add_item(
         &mut self,
         kind: ItemKind,
@@ -162,7 +162,9 @@ impl RefInterner {
         ensures refused { OnErr result (meaning_in self.new ≡ meaning_in self.old) }
         ensures none_recorded { OnErr result (items_of self.new ≡ items_of self.old) }
     {
-        let number = self.item_count();
+        let Ok(number) = u32::try_from(self.item_count()) else {
+            return Err(OutOfMemory);
+        };
         self.items.push(Item {
             kind,
             name,
@@ -179,7 +181,7 @@ impl RefInterner {
         ensures terms { SameTerms (meaning_in self.old) (meaning_in self.new) }
         ensures solver { ((meaning_in self.new).tables).next_solver ≡ ((meaning_in self.old).tables).next_solver }
     {
-        let number = trait_id.0.0;
+        let number = trait_id.0.0 as usize;
         if number < self.items.len() {
             self.items[number].is_auto = true;
         }
@@ -191,7 +193,7 @@ impl RefInterner {
         ensures terms { SameTerms (meaning_in self.old) (meaning_in self.new) }
         ensures solver { ((meaning_in self.new).tables).next_solver ≡ ((meaning_in self.old).tables).next_solver }
     {
-        let number = trait_id.0.0;
+        let number = trait_id.0.0 as usize;
         if number < self.items.len() {
             self.items[number].is_sized = true;
         }

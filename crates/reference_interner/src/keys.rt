@@ -4,11 +4,11 @@ use relation_terms::terms::Keys;
 
 /// The number of a node.
 #[derive(Clone, Copy, PartialEq, Eq, Hash, Debug)]
-pub struct NodeKey(pub usize);
+pub struct NodeKey(pub u32);
 
 /// The number of an item.
 #[derive(Clone, Copy, PartialEq, Eq, Hash, Debug)]
-pub struct ItemId(pub usize);
+pub struct ItemId(pub u32);
 
 /// The number of a name.
 #[derive(Clone, Copy, PartialEq, Eq, Hash, Debug)]

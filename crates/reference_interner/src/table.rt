@@ -42,7 +42,7 @@ impl RefInterner {
     }
 
     // Where a node of this one's form stands among the nodes.
-    fn place(&self, node: &Node) -> Option<usize>
+    fn place(&self, node: &Node) -> Option<u32>
         ensures { MatchOption result (Lacks self.now.nodes.items node.now) (HasAt self.now.nodes.items node.now) }
     {
         self.places.get(node).copied()
@@ -68,7 +68,8 @@ impl RefInterner {
         }
     }
 
-    // The key of a node of a new form, which is put at the end. All growths come before anything is written.
+    // The key of a node of a new form, which is put at the end. All growths come before anything is written. There are as
+    // many keys as numbers of 32 bits: beyond these, memory has run out.
     fn put(&mut self, node: Node) -> Result<NodeKey, OutOfMemory>
         requires known { let m = table_meaning (items_in self.old) self.old.nodes.items in
             IsTrue (known_entry (entry_of m node)) }
@@ -79,7 +80,9 @@ impl RefInterner {
         ensures refused { OnErr result (self.new.nodes.items ≡ self.old.nodes.items) }
         ensures items { items_in self.new ≡ items_in self.old }
     {
-        let number = self.nodes.len();
+        let Ok(number) = u32::try_from(self.nodes.len()) else {
+            return Err(OutOfMemory);
+        };
         let flags = self.node_flags(&node);
         let known = copied_node(self.alloc, &node)?;
         self.nodes.reserve(1)?;
