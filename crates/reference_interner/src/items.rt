@@ -1,6 +1,7 @@
 //! Items, and how one is added.
 ghost use Rattle.std.specs.Prelude.{◌≡◌, ◌++◌, ◌∷◌, [], suc, IfOk, IsFalse, OnErr, length};
 
+use crate::keys::next_number;
 use crate::{ItemId, RefInterner, SymbolId};
 use relation_terms::predicate::AliasTermKind;
 use relation_terms::terms::{
@@ -136,7 +137,7 @@ impl RefInterner {
     /// where they are alike.
     ///
     /// # Errors
-    /// `OutOfMemory` where a growth was refused, and where the numbers of 32 bits have run out.
+    /// `OutOfMemory` where a growth was refused, and where there are 2^32 items.
     pub fn add_item(
         &mut self,
         kind: ItemKind,
@@ -162,9 +163,7 @@ impl RefInterner {
         ensures refused { OnErr result (meaning_in self.new ≡ meaning_in self.old) }
         ensures none_recorded { OnErr result (items_of self.new ≡ items_of self.old) }
     {
-        let Ok(number) = u32::try_from(self.item_count()) else {
-            return Err(OutOfMemory);
-        };
+        let number = next_number(self.item_count())?;
         self.items.push(Item {
             kind,
             name,

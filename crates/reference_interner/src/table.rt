@@ -8,6 +8,7 @@ ghost use Rattle.reference_interner.specs.Places.{HasKey};
 ghost use Rattle.reference_interner.specs.Adding.{meaning_in, items_in, node_count, item_count};
 ghost use Rattle.reference_interner.specs.Empty.{KnowsNone};
 
+use crate::keys::next_number;
 use crate::node::copied_node;
 use crate::{Node, NodeKey, RefInterner};
 use relation_terms::terms::{Interner, OutOfMemory};
@@ -68,8 +69,7 @@ impl RefInterner {
         }
     }
 
-    // The key of a node of a new form, which is put at the end. All growths come before anything is written. There are as
-    // many keys as numbers of 32 bits: beyond these, memory has run out.
+    // The key of a node of a new form, which is put at the end. All growths come before anything is written.
     fn put(&mut self, node: Node) -> Result<NodeKey, OutOfMemory>
         requires known { let m = table_meaning (items_in self.old) self.old.nodes.items in
             IsTrue (known_entry (entry_of m node)) }
@@ -80,9 +80,7 @@ impl RefInterner {
         ensures refused { OnErr result (self.new.nodes.items ≡ self.old.nodes.items) }
         ensures items { items_in self.new ≡ items_in self.old }
     {
-        let Ok(number) = u32::try_from(self.nodes.len()) else {
-            return Err(OutOfMemory);
-        };
+        let number = next_number(self.nodes.len())?;
         let flags = self.node_flags(&node);
         let known = copied_node(self.alloc, &node)?;
         self.nodes.reserve(1)?;
