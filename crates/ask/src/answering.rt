@@ -75,8 +75,8 @@ pub fn answer<O: io::Write, E: io::Write>(
             WRONG
         }
         Ok(program) => match answer_all(alloc, &program, &mut out) {
-            Ok(()) => ANSWERED,
-            Err(_) => UNWRITTEN,
+            Ok(()) if out.out.flush().is_ok() => ANSWERED,
+            _ => UNWRITTEN,
         },
     }
 }

@@ -4,13 +4,13 @@
 mod answering;
 
 use answering::{STDIN, WRONG, answer, bytes_of, is_stdin};
-use std::io::Write;
+use std::io::{BufWriter, Write};
 use std::process::ExitCode;
 use std::{env, fs, io};
 
 fn main(rt: HostRuntime) -> io::Result<ExitCode> {
     let words: Vec<String> = env::args(&rt)?.skip(1).collect(rt.alloc())?;
-    let mut out = rt.stdout();
+    let mut out = BufWriter::new(rt.alloc(), rt.stdout())?;
     let mut err = rt.stderr();
     if words.len() > 1 {
         let _ = writeln!(err, "usage: ask [FILE]");

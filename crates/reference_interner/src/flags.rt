@@ -237,7 +237,7 @@ impl RefInterner {
         ensures { (s : NodeSort) → IsTrue (known (tree_of_key s (meaning_in self.now) (key.now).0)) →
             result ≡ flags_of (tree_of_key s (meaning_in self.now) (key.now).0) }
     {
-        self.flags[key.0]
+        self.flags[key.0 as usize]
     }
 
     // The flags of a node, from those that are kept beside its parts.

@@ -1,6 +1,7 @@
 //! Items, and how one is added.
 ghost use Rattle.std.specs.Prelude.{◌≡◌, ◌++◌, ◌∷◌, [], suc, IfOk, IsFalse, OnErr, length};
 
+use crate::keys::next_number;
 use crate::{ItemId, RefInterner, SymbolId};
 use relation_terms::predicate::AliasTermKind;
 use relation_terms::terms::{
@@ -136,7 +137,7 @@ impl RefInterner {
     /// where they are alike.
     ///
     /// # Errors
-    /// `OutOfMemory` where a growth was refused.
+    /// `OutOfMemory` where a growth was refused, and where there are 2^32 items.
     pub fn add_item(
         &mut self,
         kind: ItemKind,
@@ -162,7 +163,7 @@ impl RefInterner {
         ensures refused { OnErr result (meaning_in self.new ≡ meaning_in self.old) }
         ensures none_recorded { OnErr result (items_of self.new ≡ items_of self.old) }
     {
-        let number = self.item_count();
+        let number = next_number(self.item_count())?;
         self.items.push(Item {
             kind,
             name,
@@ -179,7 +180,7 @@ impl RefInterner {
         ensures terms { SameTerms (meaning_in self.old) (meaning_in self.new) }
         ensures solver { ((meaning_in self.new).tables).next_solver ≡ ((meaning_in self.old).tables).next_solver }
     {
-        let number = trait_id.0.0;
+        let number = trait_id.0.0 as usize;
         if number < self.items.len() {
             self.items[number].is_auto = true;
         }
@@ -191,7 +192,7 @@ impl RefInterner {
         ensures terms { SameTerms (meaning_in self.old) (meaning_in self.new) }
         ensures solver { ((meaning_in self.new).tables).next_solver ≡ ((meaning_in self.old).tables).next_solver }
     {
-        let number = trait_id.0.0;
+        let number = trait_id.0.0 as usize;
         if number < self.items.len() {
             self.items[number].is_sized = true;
         }

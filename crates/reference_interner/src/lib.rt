@@ -42,7 +42,7 @@ pub struct RefInterner {
     // What the keys stand for, by their numbers.
     nodes: Vec<Node>,
     // Where the nodes stand.
-    places: HashMap<Node, usize, BuildHasherDefault<NodeHasher>>,
+    places: HashMap<Node, u32, BuildHasherDefault<NodeHasher>>,
     // What the ids stand for, by their numbers.
     items: Vec<Item>,
     // What is asked of the nodes' terms as a whole, by the nodes' numbers.
@@ -86,28 +86,28 @@ impl Interner for RefInterner {
     }
 
     fn ty_kind(&self, ty: &Ty<Self>) -> TyForm<Self> {
-        match &self.nodes[ty.0.0] {
+        match &self.nodes[ty.0.0 as usize] {
             Node::Ty(kind) => *kind,
             _ => unreachable!(),
         }
     }
 
     fn region_kind(&self, region: &Region<Self>) -> RegionForm<Self> {
-        match &self.nodes[region.0.0] {
+        match &self.nodes[region.0.0 as usize] {
             Node::Region(kind) => *kind,
             _ => unreachable!(),
         }
     }
 
     fn tys(&self, tys: &Tys<Self>) -> &[Ty<Self>] {
-        match &self.nodes[tys.0.0] {
+        match &self.nodes[tys.0.0 as usize] {
             Node::Tys(list) => list.as_slice(),
             _ => unreachable!(),
         }
     }
 
     fn const_kind(&self, constant: &Const<Self>) -> ConstForm<Self> {
-        match &self.nodes[constant.0.0] {
+        match &self.nodes[constant.0.0 as usize] {
             Node::Const(kind) => *kind,
             _ => unreachable!(),
         }
@@ -126,35 +126,35 @@ impl Interner for RefInterner {
     }
 
     fn valtree_kind(&self, valtree: &ValTree<Self>) -> ValTreeForm<Self> {
-        match &self.nodes[valtree.0.0] {
+        match &self.nodes[valtree.0.0 as usize] {
             Node::ValTree(kind) => *kind,
             _ => unreachable!(),
         }
     }
 
     fn pat_kind(&self, pat: &Pat<Self>) -> PatternForm<Self> {
-        match &self.nodes[pat.0.0] {
+        match &self.nodes[pat.0.0 as usize] {
             Node::Pat(kind) => *kind,
             _ => unreachable!(),
         }
     }
 
     fn args(&self, args: &GenericArgs<Self>) -> &[GenericArg<Self>] {
-        match &self.nodes[args.0.0] {
+        match &self.nodes[args.0.0 as usize] {
             Node::Args(list) => list.as_slice(),
             _ => unreachable!(),
         }
     }
 
     fn branches(&self, branches: &Branches<Self>) -> &[Const<Self>] {
-        match &self.nodes[branches.0.0] {
+        match &self.nodes[branches.0.0 as usize] {
             Node::Branches(list) => list.as_slice(),
             _ => unreachable!(),
         }
     }
 
     fn alternatives(&self, alternatives: &Alternatives<Self>) -> &[Pat<Self>] {
-        match &self.nodes[alternatives.0.0] {
+        match &self.nodes[alternatives.0.0 as usize] {
             Node::Alternatives(list) => list.as_slice(),
             _ => unreachable!(),
         }
@@ -164,21 +164,21 @@ impl Interner for RefInterner {
         &self,
         predicates: &ExistentialPredicates<Self>,
     ) -> &[ObjectPredicate<Self>] {
-        match &self.nodes[predicates.0.0] {
+        match &self.nodes[predicates.0.0 as usize] {
             Node::ExistentialPredicates(list) => list.as_slice(),
             _ => unreachable!(),
         }
     }
 
     fn bound_vars(&self, bound_vars: &BoundVars<Self>) -> &[BoundVariable<Self>] {
-        match &self.nodes[bound_vars.0.0] {
+        match &self.nodes[bound_vars.0.0 as usize] {
             Node::BoundVars(list) => list.as_slice(),
             _ => unreachable!(),
         }
     }
 
     fn predicate_kind(&self, predicate: &Predicate<Self>) -> PredicateForm<Self> {
-        match &self.nodes[predicate.0.0] {
+        match &self.nodes[predicate.0.0 as usize] {
             Node::Predicate(kind) => *kind,
             _ => unreachable!(),
         }
@@ -204,7 +204,7 @@ impl Interner for RefInterner {
     }
 
     fn clauses(&self, clauses: &Clauses<Self>) -> &[Clause<Self>] {
-        match &self.nodes[clauses.0.0] {
+        match &self.nodes[clauses.0.0 as usize] {
             Node::Clauses(list) => list.as_slice(),
             _ => unreachable!(),
         }
@@ -219,14 +219,14 @@ impl Interner for RefInterner {
     }
 
     fn variances_of(&self, def_id: &ItemOf<Self>) -> &[Variance] {
-        match self.items.get(def_id.0.0) {
+        match self.items.get(def_id.0.0 as usize) {
             Some(item) => &item.variances,
             None => &[],
         }
     }
 
     fn opt_alias_variances(&self, def_id: &ItemOf<Self>) -> Option<&[Variance]> {
-        let item = self.items.get(def_id.0.0)?;
+        let item = self.items.get(def_id.0.0 as usize)?;
         match item.kind.def {
             DefKind::OpaqueTy => Some(&item.variances),
             _ => None,
@@ -234,14 +234,14 @@ impl Interner for RefInterner {
     }
 
     fn projection_parent(&self, def_id: &TraitAssocTermId<ItemId>) -> Option<TraitId<ItemId>> {
-        match self.items.get(def_id.0.0)?.kind.def {
+        match self.items.get(def_id.0.0 as usize)?.kind.def {
             DefKind::AssocTy(parent) | DefKind::AssocConst(parent) => Some(parent),
             _ => None,
         }
     }
 
     fn trait_is_auto(&self, trait_id: &TraitId<ItemId>) -> bool {
-        match self.items.get(trait_id.0.0) {
+        match self.items.get(trait_id.0.0 as usize) {
             Some(item) => item.is_auto,
             None => false,
         }
@@ -252,7 +252,7 @@ impl Interner for RefInterner {
         trait_id: &TraitId<ItemId>,
         lang_item: SolverTraitLangItem,
     ) -> bool {
-        match (self.items.get(trait_id.0.0), lang_item) {
+        match (self.items.get(trait_id.0.0 as usize), lang_item) {
             (Some(item), SolverTraitLangItem::Sized) => item.is_sized,
             (None, _) => false,
         }
@@ -260,7 +260,7 @@ impl Interner for RefInterner {
 
     fn alias_term_kind_from_def_id(&self, def_id: &ItemOf<Self>) -> Option<AliasTermKind<ItemId>> {
         self.items
-            .get(def_id.0.0)?
+            .get(def_id.0.0 as usize)?
             .kind
             .def
             .alias_term_kind(def_id.0)

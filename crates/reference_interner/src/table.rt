@@ -8,6 +8,7 @@ ghost use Rattle.reference_interner.specs.Places.{HasKey};
 ghost use Rattle.reference_interner.specs.Adding.{meaning_in, items_in, node_count, item_count};
 ghost use Rattle.reference_interner.specs.Empty.{KnowsNone};
 
+use crate::keys::next_number;
 use crate::node::copied_node;
 use crate::{Node, NodeKey, RefInterner};
 use relation_terms::terms::{Interner, OutOfMemory};
@@ -42,7 +43,7 @@ impl RefInterner {
     }
 
     // Where a node of this one's form stands among the nodes.
-    fn place(&self, node: &Node) -> Option<usize>
+    fn place(&self, node: &Node) -> Option<u32>
         ensures { MatchOption result (Lacks self.now.nodes.items node.now) (HasAt self.now.nodes.items node.now) }
     {
         self.places.get(node).copied()
@@ -79,7 +80,7 @@ impl RefInterner {
         ensures refused { OnErr result (self.new.nodes.items ≡ self.old.nodes.items) }
         ensures items { items_in self.new ≡ items_in self.old }
     {
-        let number = self.nodes.len();
+        let number = next_number(self.nodes.len())?;
         let flags = self.node_flags(&node);
         let known = copied_node(self.alloc, &node)?;
         self.nodes.reserve(1)?;

@@ -228,7 +228,7 @@ pub fn needs_of(alloc: Global, program: &Program, uses: &[Uses]) -> Result<Vec<N
     ensures { let xs = program.now.terms.items in
         IfOk result (λ needs. needs.items ≡ needs_of program.now.parts.items uses.now xs) }
 {
-    let mut needs = Vec::new(alloc);
+    let mut needs = Vec::with_capacity(alloc, program.terms.len())?;
     for term in &program.terms {
         let need = term_need(&program.parts, &needs, *term);
         let told = told_at(need, uses, needs.len());

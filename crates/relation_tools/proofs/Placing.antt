@@ -6,12 +6,12 @@ use Rattle.std.proofs.lemmas.Bool.{and_parts}
 use Rattle.std.proofs.lemmas.List.{map-append, append_assoc}
 use Rattle.std.proofs.lemmas.List.Sums.{sum_by-cons, sum_by-append}
 use Rattle.std.specs.List.{sum_by}
-use Rattle.relation_terms.specs.Heads.{value_sort, leaf_sort, head_sort, BoundKind, range_pattern}
+use Rattle.relation_terms.specs.Heads.{Head, value_sort, leaf_sort, head_sort, BoundKind, range_pattern}
 use Rattle.relation_terms.specs.Trees.{Tree, leaf, node, bind, nil, cons, known, count, nth, IsList, size}
 use Rattle.relation_terms.specs.Meaning.{Meaning, under, arg_tree}
 use Rattle.relation_terms.specs.Parts.{parts_of, part_tree, tree_sort, part_sort, body_tree}
 use Rattle.relation_terms.specs.declared.terms.generic_arg.GenericArgKind.{GenericArgKind}
-use Rattle.relation_terms.specs.declared.terms.generic_arg.GenericArgKind.TheVariants.{Const as ConstArg}
+use Rattle.relation_terms.specs.declared.terms.generic_arg.GenericArgKind.TheVariants.{Const as ConstArg, Ty as TyArg, Lifetime}
 use Rattle.relation_terms.specs.declared.terms.keys.RegionKey.{RegionKey}
 use Rattle.relation_terms.specs.declared.terms.keys.TyKey.{TyKey}
 use Rattle.relation_terms.specs.declared.terms.keys.ConstKey.{ConstKey}
@@ -111,6 +111,34 @@ module _ {Key Id Name : Type 0} (m : Meaning Key Id Name) where
       let b = part_itself o second last.0 refl in
       pushes_as s0 s2 _ _ (sym (ap (places false) is ∙ ap₂ (λ x y. x ++ (y ++ [])) a b))
       (ConstArg s ∷ ConstArg e ∷ [], q ∙ ap (λ z. ConstArg s ∷ z) p, refl)
+
+  -- The arguments under a form that is made of one type, and of a region and a type.
+  pub slice_places : Sorted m → (t : Tree) (h : Head) (x : TyKey Key) → t ≡ node h (cons (m.ty x) nil) →
+      IsTrue (known t) → places_under t ≡ m.ty x ∷ []
+  slice_places o t h x is k =
+      let ks = subst (λ z. IsTrue (known z)) is k in
+      let one = and_parts (known (m.ty x)) true ks in
+      let only : Part Key Id = Ty x in
+      ap places_under is ∙ ap (λ z. z ++ []) (part_itself o only one.0 refl)
+
+  pub ref_places : Sorted m → (t : Tree) (h : Head) (r : RegionKey Key) (x : TyKey Key) →
+      t ≡ node h (cons (m.region r) (cons (m.ty x) nil)) → IsTrue (known t) →
+      (s0 s1 s2 : List (GenericArgKind Key)) → s1 ≡ TyArg x ∷ s0 → s2 ≡ Lifetime r ∷ s1 →
+      Pushes m (places_under t) s0 s2
+  ref_places o t h r x is k s0 s1 s2 p q =
+      let ks = subst (λ z. IsTrue (known z)) is k in
+      let both = and_parts (known (m.region r)) (known (cons (m.ty x) nil)) ks in
+      let last = and_parts (known (m.ty x)) true both.1 in
+      let first : Part Key Id = Region r in
+      let second : Part Key Id = Ty x in
+      let a = part_itself o first both.0 refl in
+      let b = part_itself o second last.0 refl in
+      pushes_as s0 s2 _ _ (sym (ap places_under is ∙ ap₂ (λ x y. x ++ (y ++ [])) a b))
+      (Lifetime r ∷ TyArg x ∷ [], q ∙ ap (λ z. Lifetime r ∷ z) p, refl)
+
+  -- A type is an argument.
+  pub type_places : Sorted m → (x : TyKey Key) → IsTrue (known (m.ty x)) → places false (m.ty x) ≡ m.ty x ∷ []
+  type_places o x k = let one : Part Key Id = Ty x in part_itself o one k refl
 
   -- A list from its last part to its first.
   pub front_next : (s0 s1 s2 : List (GenericArgKind Key)) (n i k : ℕ) (ts t : Tree) → n ≡ count ts → i < n →

@@ -9,7 +9,7 @@ use Rattle.relation_terms.specs.Trees.{Tree, known}
 use Rattle.relation_terms.specs.Meaning.{Meaning, arg_tree}
 use Rattle.relation_terms.specs.declared.terms.generic_arg.GenericArgKind.{GenericArgKind}
 use Rattle.relation_tools.specs.Places.{places_under, all_known, Pushes}
-use Rattle.relation_tools.specs.Walking.{Walk, walk_of, Pull, first_unseen, Adds}
+use Rattle.relation_tools.specs.Walking.{Walk, walk_of, Pull, first_unseen, Adds, Pops}
 use Rattle.relation_tools.proofs.Placing.{all_known_both, under_known}
 
 -- Of the first that was not seen, what is known of all.
@@ -67,13 +67,16 @@ walk_skipped cx s t b vs f e =
 todo_is : {T : Type 0} (s : List T) (b : ℕ) → take (length s - b) s ++ drop (length s - b) s ≡ s
 todo_is s b = take-append-drop (length s - b) s
 
-pub pulled_none : {I A : Type 0} (eq : A → A → Bool) (cx : I) (s t vs : List A) (f : Bool) (b : ℕ) → f ≡ false →
-    first_unseen (λ q. list_any (eq q) vs) s ≡ None → t ≡ [] →
+pub pulled_none : {I A : Type 0} (eq : A → A → Bool) (cx : I) (s t vs us : List A) (f : Bool) (b : ℕ) → f ≡ false →
+    Pops eq vs s None t us →
     (f ≡ false)
     × (first_unseen (λ q. list_any (eq q) vs) (take (length s - b) s ++ drop (length s - b) s) ≡ None)
-    × (walk_of cx t b vs f ≡ walk_with cx [] [] vs f)
-pulled_none eq cx s t vs f b held n e =
-    (held, ap (first_unseen (λ q. list_any (eq q) vs)) (todo_is s b) ∙ n, walk_ended cx t b vs f e)
+    × (walk_of cx t b us f ≡ walk_with cx [] [] vs f)
+pulled_none eq cx s t vs us f b held p = (
+  held,
+  ap (first_unseen (λ q. list_any (eq q) vs)) (todo_is s b) ∙ p.0,
+  walk_ended cx t b us f p.1 ∙ ap (λ z. walk_with cx [] [] z f) p.2,
+)
 
 module _ {Key Id Name : Type 0} (m : Meaning Key Id Name) (eq : GenericArgKind Key → GenericArgKind Key → Bool)
     (s t vs : List (GenericArgKind Key)) (x : GenericArgKind Key) (rest : List (GenericArgKind Key))

@@ -114,3 +114,8 @@ form_key autos solver treat t = None
 abbrev pub head_key : (ℕ → Bool) → Bool → TreatParams → Tree → Option (SimplifiedType ℕ)
 head_key autos solver treat (node pattern_type (cons t us)) = head_key autos solver treat t
 head_key autos solver treat t = form_key autos solver treat t
+
+-- The type that a pattern type is of, under all its patterns; of any other type the type itself.
+abbrev pub plain_type : Tree → Tree
+plain_type (node pattern_type (cons t us)) = plain_type t
+plain_type t = t

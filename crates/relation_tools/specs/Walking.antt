@@ -39,6 +39,12 @@ first_unseen seen (x ∷ xs) = cond (seen x) (first_unseen seen xs) (Some (x, xs
 abbrev pub Adds : {T : Type 0} → (T → T → Bool) → List T → T → List T → Type 0
 Adds {T} eq xs x ys = (q : T) → list_any (eq q) ys ≡ cond (eq x q) true (list_any (eq q) xs)
 
+-- What was popped of a stack: its first that was not seen, which was seen from then on. From what was seen and the
+-- stack, to the stack and what was seen.
+abbrev pub Pops : {T : Type 0} → (T → T → Bool) → List T → List T → Option T → List T → List T → Type 0
+Pops eq xs s None t ys = (first_unseen (λ q. list_any (eq q) xs) s ≡ None) × (t ≡ []) × (ys ≡ xs)
+Pops eq xs s (Some x) t ys = (first_unseen (λ q. list_any (eq q) xs) s ≡ Some (x, t)) × Adds eq xs x ys
+
 module _ {I Key Id Name : Type 0} (m : Meaning Key Id Name) (eq : GenericArgKind Key → GenericArgKind Key → Bool) where
   -- The argument that comes next, and what comes after it: the first that is equal to none that was visited.
   abbrev pub next_of : Walk I (GenericArgKind Key) → Option (GenericArgKind Key × List (GenericArgKind Key))

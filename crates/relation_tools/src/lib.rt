@@ -6,6 +6,7 @@ pub mod elaborate;
 pub mod error;
 pub mod fast_reject;
 pub mod fold;
+mod keeping;
 pub mod laws;
 pub mod outlives;
 pub mod trait_object;

@@ -12,7 +12,7 @@ ghost use Rattle.relation_tools.specs.Outliving.{AddsSome, HasAll};
 
 mod chosen;
 mod collecting;
-mod met;
+pub mod met;
 
 use crate::outlives::collecting::{collect_alias_args, collect_part};
 use crate::outlives::met::none_met;

@@ -2,24 +2,25 @@
 //!
 //! An argument that is equal to one that was yielded before is neither yielded nor entered. So a walk takes as many
 //! steps as there are different arguments, however often each stands in the term.
-ghost use Rattle.std.specs.Prelude.{◌≡◌, IsTrue, IfOk, IfErr, OnOk, [], ◌∷◌, false, true, MatchOption, None, Some};
-ghost use Rattle.std.specs.List.{list_any};
+ghost use Rattle.std.specs.Prelude.{◌≡◌, IsTrue, IfOk, OnOk, [], ◌∷◌, false, true};
 ghost use Rattle.relation_terms.specs.Trees.{known};
 ghost use Rattle.relation_terms.specs.Meaning.{arg_tree};
 ghost use Rattle.relation_terms.specs.Parts.{part_of_arg};
 ghost use Rattle.relation_tools.specs.Places.{places_under, all_known, Pushes};
-ghost use Rattle.relation_tools.specs.Walking.{Walk, Pull, first_unseen, Adds, begun};
+ghost use Rattle.relation_tools.specs.Walking.{Walk, Pull, Pops, begun};
 ghost use Rattle.relation_tools.specs.Positions.{ByPlaces};
 
 mod places;
 mod stack;
 
-use crate::walk::places::push_list;
+use crate::keeping::keep;
+use crate::outlives::met::{Met, none_met};
+use crate::walk::places::{push_list, push_under_ty};
 use crate::walk::stack::Stack;
 use relation_terms::terms::parts::parts_of;
 use relation_terms::terms::{GenericArg, GenericArgKind, Interner, OutOfMemory, Part};
 use std::collections::HashSet;
-use std::hash::Hash;
+use std::hash::{BuildHasher, Hash};
 use std::marker::Model;
 
 /// A walk over an argument and all arguments that it is made of, in pre-order.
@@ -31,7 +32,7 @@ pub struct TypeWalker<'a, I: Interner> {
     cx: &'a I,
     stack: Stack<GenericArg<I>>,
     last_subtree: usize,
-    visited: HashSet<GenericArg<I>>,
+    visited: Met<I>,
     failed: bool,
 }
 
@@ -60,35 +61,35 @@ fn part_of<X: Copy, D: Copy>(arg: &GenericArgKind<X>) -> Part<X, D>
     }
 }
 
-// The first element that was not visited, which leaves the stack with all above it.
-fn pop_unseen<T: Eq + Hash + Drop>(stack: &mut Stack<T>, visited: &HashSet<T>) -> Option<T>
-    ensures { MatchOption result
-        ((first_unseen (λ q. list_any (T.eq q) visited.now.keys) stack.old ≡ None) × (stack.new ≡ []))
-        (λ x. first_unseen (λ q. list_any (T.eq q) visited.now.keys) stack.old ≡ Some (x, stack.new)) }
+// The first element that was not visited, which leaves the stack with all above it, and was visited from then on.
+fn pop_unseen<T: Copy + Eq + Hash, S: BuildHasher>(
+    stack: &mut Stack<T>,
+    visited: &mut HashSet<T, S>,
+) -> Result<Option<T>, OutOfMemory>
+    ensures { IfOk result (λ popped. Pops T.eq visited.old.keys stack.old popped stack.new visited.new.keys) }
 {
     while let Some(item) = stack.pop() {
-        if !visited.contains(&item) {
-            return Some(item);
+        if keep(visited, item)? {
+            return Ok(Some(item));
         }
     }
-    None
+    Ok(None)
 }
 
-// Puts what stands under an argument on a stack, and keeps the argument.
+// Puts what stands under an argument on a stack.
 fn enter<I: Interner>(
     cx: &I,
-    arg: GenericArg<I>,
+    arg: &GenericArg<I>,
     stack: &mut Stack<GenericArg<I>>,
-    visited: &mut HashSet<GenericArg<I>>,
 ) -> Result<(), OutOfMemory>
-    requires { IsTrue (known (arg_tree (I.meaning cx.now) arg)) }
-    ensures pushes { OnOk result
-        (Pushes (I.meaning cx.now) (places_under (arg_tree (I.meaning cx.now) arg)) stack.old stack.new) }
-    ensures keeps { OnOk result
-        (Adds ⟦<GenericArgKind<I::Key> as PartialEq>⟧.eq visited.old.keys arg visited.new.keys) }
+    requires { IsTrue (known (arg_tree (I.meaning cx.now) arg.now)) }
+    ensures { OnOk result (Pushes (I.meaning cx.now) (places_under (arg_tree (I.meaning cx.now) arg.now))
+        stack.old stack.new) }
 {
-    visited.insert(arg)?;
-    push_list(cx, &parts_of(cx, &part_of(&arg)), stack)?;
+    match arg {
+        GenericArgKind::Ty(ty) => push_under_ty(cx, ty, stack)?,
+        _ => push_list(cx, &parts_of(cx, &part_of(arg)), stack)?,
+    }
     Ok(())
 }
 
@@ -104,7 +105,7 @@ impl<'a, I: Interner> TypeWalker<'a, I> {
             cx,
             stack: Stack::one(cx.alloc(), root),
             last_subtree: 1,
-            visited: HashSet::new(cx.alloc()),
+            visited: none_met(cx),
             failed: false,
         }
     }
@@ -126,11 +127,16 @@ impl<'a, I: Interner> TypeWalker<'a, I> {
         if self.failed {
             return Some(Err(OutOfMemory));
         }
-        let Some(arg) = pop_unseen(&mut self.stack, &self.visited) else {
-            return None;
+        let arg = match pop_unseen(&mut self.stack, &mut self.visited) {
+            Ok(Some(arg)) => arg,
+            Ok(None) => return None,
+            Err(refused) => {
+                self.failed = true;
+                return Some(Err(refused));
+            }
         };
         self.last_subtree = self.stack.len();
-        match enter(self.cx, arg, &mut self.stack, &mut self.visited) {
+        match enter(self.cx, &arg, &mut self.stack) {
             Ok(()) => Some(Ok(arg)),
             Err(refused) => {
                 self.failed = true;
@@ -140,7 +146,7 @@ impl<'a, I: Interner> TypeWalker<'a, I> {
     }
 
     /// The arguments that were yielded, as long as there was no fault. It takes no memory.
-    pub fn visited(&self) -> &HashSet<GenericArg<I>>
+    pub fn visited(&self) -> &Met<I>
         ensures { result.now.keys ≡ (self.now).visited }
     {
         &self.visited

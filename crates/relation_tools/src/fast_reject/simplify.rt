@@ -9,6 +9,7 @@ ghost use Rattle.relation_tools.specs.Clashes.{principal, inputs_count};
 ghost use Rattle.relation_terms.specs.Parts.{parts_of};
 ghost use Rattle.relation_tools.specs.declared.fast_reject.simplify.SimplifiedType.TheVariants.{Function};
 ghost use Rattle.relation_tools.specs.HeadKeys.{alias_key as key_of_alias, form_key as key_of_form, head_key};
+ghost use Rattle.relation_tools.specs.HeadKeys.{plain_type};
 ghost use Rattle.relation_tools.specs.Visits.{non_region_infer_stands};
 
 use crate::trait_object::principal_def_id;
@@ -213,6 +214,19 @@ fn form_key<I: Interner>(
     }
 }
 
+// The type that a pattern type is of, under all its patterns; of any other type the type itself.
+fn without_patterns<I: Interner>(cx: &I, ty: Ty<I>) -> Ty<I>
+    requires { IsTrue (known ((I.meaning cx.now).ty ty)) }
+    ensures sure { IsTrue (known ((I.meaning cx.now).ty result)) }
+    ensures under { (I.meaning cx.now).ty result ≡ plain_type ((I.meaning cx.now).ty ty) }
+{
+    let kind = cx.ty_kind(&ty);
+    if let TyKind::Pat(base, _) = kind {
+        return without_patterns(cx, base);
+    }
+    ty
+}
+
 /// The key of a type, or `None` where anything may be put for the type, so that it may come to have any key. The
 /// interner has to know the type.
 ///
@@ -228,9 +242,7 @@ pub fn simplify_type<I: Interner>(
     ensures { let m = I.meaning cx.now in numbered_key (λ d. m.id d.0) result ≡
         head_key (m.tables).is_auto (m.tables).next_solver treat_params (m.ty ty.now) }
 {
-    let kind = cx.ty_kind(ty);
-    if let TyKind::Pat(base, _) = kind {
-        return simplify_type(cx, &base, treat_params);
-    }
-    form_key(cx, ty, &kind, treat_params)
+    let base = without_patterns(cx, *ty);
+    let kind = cx.ty_kind(&base);
+    form_key(cx, &base, &kind, treat_params)
 }

@@ -10,6 +10,7 @@ ghost use Rattle.relation_tools.specs.Outliving.{AddsSome, HasAll};
 ghost use Rattle.relation_tools.specs.Collecting.{meant, of_member, kept_of, found_components, found_size};
 ghost use Rattle.relation_tools.specs.Collecting.{Settled, Meets, Keeps};
 
+use crate::keeping::keep;
 use crate::outlives::chosen::{Chosen, alias_chosen, is_chosen};
 use crate::outlives::met::{Met, none_met};
 use crate::outlives::{Component, ComponentOf};
@@ -28,8 +29,8 @@ fn meet<I: Interner>(cx: &I, part: &PartOf<I>, visited: &mut Met<I>) -> Result<b
 {
     let _ = cx;
     match part {
-        Part::Ty(ty) => Ok(visited.insert(GenericArgKind::Ty(*ty))?),
-        Part::Const(constant) => Ok(visited.insert(GenericArgKind::Const(*constant))?),
+        Part::Ty(ty) => keep(visited, GenericArgKind::Ty(*ty)),
+        Part::Const(constant) => keep(visited, GenericArgKind::Const(*constant)),
         _ => Ok(true),
     }
 }
@@ -273,9 +274,40 @@ fn collect_coroutine<I: Interner>(
     collect_found(cx, coroutine_resume_ty(cx, args), out, visited)
 }
 
-// Adds the components of a type, by its outermost form.
+// Adds the components of a type, by its outermost form. The forms that stand most often are looked for here.
 #[cycle(collect)]
 fn collect_ty<I: Interner>(
+    cx: &I,
+    ty: &Ty<I>,
+    out: &mut Vec<ComponentOf<I>>,
+    visited: &mut Met<I>,
+) -> Result<(), OutOfMemory>
+    requires known { IsTrue (known ((I.meaning cx.now).ty ty.now)) }
+    requires settled { Settled (I.meaning cx.now) ⟦<GenericArgKind<I::Key> as PartialEq>⟧.eq
+        (size ((I.meaning cx.now).ty ty.now)) visited.old.keys out.old.items }
+    ensures some { AddsSome (I.meaning cx.now) (components every ((I.meaning cx.now).ty ty.now))
+        out.old.items out.new.items }
+    ensures all { OnOk result (HasAll (I.meaning cx.now) (components every ((I.meaning cx.now).ty ty.now))
+        out.new.items) }
+    ensures meets { OnOk result (Meets (I.meaning cx.now) ⟦<GenericArgKind<I::Key> as PartialEq>⟧.eq
+        visited.old.keys visited.new.keys out.new.items) }
+{
+    match &cx.ty_kind(ty) {
+        TyKind::Slice(element) => collect_type(cx, element, out, visited),
+        TyKind::RawPtr(pointee, _) => collect_type(cx, pointee, out, visited),
+        TyKind::Ref(region, pointee, _) => {
+            collect_region(cx, region, out)?;
+            collect_type(cx, pointee, out, visited)
+        }
+        TyKind::Tuple(members) => collect_tys(cx, members, out, visited),
+        _ => collect_form(cx, ty, out, visited),
+    }
+}
+
+// The same by any form. It stands apart, so that the recursion through the other takes little of the stack.
+#[cycle(collect)]
+#[inline(never)]
+fn collect_form<I: Interner>(
     cx: &I,
     ty: &Ty<I>,
     out: &mut Vec<ComponentOf<I>>,
@@ -303,13 +335,6 @@ fn collect_ty<I: Interner>(
         TyKind::Param(param) => add(cx, out, Component::Param(*param)),
         TyKind::Placeholder(placeholder) => add(cx, out, Component::Placeholder(*placeholder)),
         TyKind::Infer(var) => add(cx, out, Component::UnresolvedInferenceVariable(*var)),
-        TyKind::Slice(element) => collect_type(cx, element, out, visited),
-        TyKind::RawPtr(pointee, _) => collect_type(cx, pointee, out, visited),
-        TyKind::Ref(region, pointee, _) => {
-            collect_region(cx, region, out)?;
-            collect_type(cx, pointee, out, visited)
-        }
-        TyKind::Tuple(members) => collect_tys(cx, members, out, visited),
         TyKind::Alias(alias) if has_escaping_bound_vars(cx, ty) => collect_escaping(cx, alias, out),
         TyKind::Alias(alias) => add(cx, out, Component::Alias(*alias)),
         _ => collect_members(cx, &ty_parts(&kind), &Chosen::Every, out, visited),

@@ -4,14 +4,14 @@
 ghost use Rattle.std.specs.Prelude.{IsTrue, OnOk};
 ghost use Rattle.relation_terms.specs.Trees.{known};
 ghost use Rattle.relation_terms.specs.Parts.{part_tree, parts_tree};
-ghost use Rattle.relation_tools.specs.Places.{places, Pushes};
+ghost use Rattle.relation_tools.specs.Places.{places, places_under, Pushes};
 ghost use Rattle.std.specs.Prelude.{false, true};
 
 use crate::walk::stack::Stack;
-use relation_terms::terms::parts::{member, member_count, parts_of};
+use relation_terms::terms::parts::{member, member_count, parts_of, ty_parts};
 use relation_terms::terms::{
     GenericArg, GenericArgKind, Interner, OutOfMemory, Part, PartOf, Parts, PartsOf, Pat,
-    PatternKind,
+    PatternKind, Ty, TyKind, Tys,
 };
 
 // Puts the arguments of a part on a stack, the first on top: the part itself where it is one.
@@ -92,6 +92,62 @@ fn push_back<I: Interner>(
 {
     for i in 0..member_count(cx, parts) {
         push_part(cx, &member(cx, parts, i), stack)?;
+    }
+    Ok(())
+}
+
+// Puts the arguments that stand directly under a type on a stack, the first on top. Of the forms that stand most often
+// no list of parts is made.
+pub fn push_under_ty<I: Interner>(
+    cx: &I,
+    ty: &Ty<I>,
+    stack: &mut Stack<GenericArg<I>>,
+) -> Result<(), OutOfMemory>
+    requires { IsTrue (known ((I.meaning cx.now).ty ty.now)) }
+    ensures { OnOk result (Pushes (I.meaning cx.now) (places_under ((I.meaning cx.now).ty ty.now))
+        stack.old stack.new) }
+{
+    let kind = cx.ty_kind(ty);
+    match &kind {
+        TyKind::Slice(element) => stack.push(GenericArgKind::Ty(*element))?,
+        TyKind::Ref(region, pointee, _) => {
+            stack.push(GenericArgKind::Ty(*pointee))?;
+            stack.push(GenericArgKind::Lifetime(*region))?;
+        }
+        TyKind::Tuple(members) => push_tys(cx, members, stack)?,
+        _ => push_under_form(cx, ty, stack)?,
+    }
+    Ok(())
+}
+
+// The same of any form. It stands apart, so that the other takes little of the stack.
+#[inline(never)]
+fn push_under_form<I: Interner>(
+    cx: &I,
+    ty: &Ty<I>,
+    stack: &mut Stack<GenericArg<I>>,
+) -> Result<(), OutOfMemory>
+    requires { IsTrue (known ((I.meaning cx.now).ty ty.now)) }
+    ensures { OnOk result (Pushes (I.meaning cx.now) (places_under ((I.meaning cx.now).ty ty.now))
+        stack.old stack.new) }
+{
+    push_list(cx, &ty_parts(&cx.ty_kind(ty)), stack)
+}
+
+// The same of the types of a list.
+fn push_tys<I: Interner>(
+    cx: &I,
+    tys: &Tys<I>,
+    stack: &mut Stack<GenericArg<I>>,
+) -> Result<(), OutOfMemory>
+    requires { IsTrue (known ((I.meaning cx.now).tys tys.now)) }
+    ensures { OnOk result (Pushes (I.meaning cx.now) (places false ((I.meaning cx.now).tys tys.now))
+        stack.old stack.new) }
+{
+    let list = cx.tys(tys);
+    let count = list.len();
+    for i in 0..count {
+        stack.push(GenericArgKind::Ty(list[count - 1 - i]))?;
     }
     Ok(())
 }

@@ -40,6 +40,7 @@ impl<T: Drop> Stack<T> {
     }
 
     /// Puts an element on top.
+    #[inline(always)]
     pub fn push(&mut self, item: T) -> Result<(), AllocError>
         ensures ok { OnOk result (self.new ≡ item ∷ self.old) }
         ensures err { OnErr result (self.new ≡ self.old) }
@@ -49,6 +50,7 @@ impl<T: Drop> Stack<T> {
     }
 
     /// Takes the top element off.
+    #[inline(always)]
     pub fn pop(&mut self) -> Option<T>
         ensures { MatchOption result ((self.old ≡ []) × (self.new ≡ []))
             (λ item. self.old ≡ item ∷ self.new) }

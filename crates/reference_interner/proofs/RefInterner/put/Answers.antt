@@ -26,7 +26,7 @@ invariant_of-self-2 c =
     let f = c.node_flags-flags.result in
     let flags : c.push_reserved-2.new.self.items ≡ fs ++ f ∷ [] =
     c.push_reserved-2.ensures.items ∙ ap (λ xs. xs ++ f ∷ []) c.reserve-2.ensures.items in
-    let l : c.len-number.result ≡ length ns = c.len-number.ensures ∙ c.args.self.now.nodes.ok.0 in
+    let l : c.in_ok-number.number ≡ length ns = c.in_ok-number.ensures.number ∙ c.len.ensures ∙ c.args.self.now.nodes.ok.0 in
     let put : (q : Node) → more q ≡ cond (node_eq c.in_ok-known.known q) (Some (length ns)) (find q) =
     λ q. c.in_ok-insert.ensures.updates.0 q ∙ ap (λ i. cond (node_eq c.in_ok-known.known q) (Some i) (find q)) l in
     record {
@@ -45,6 +45,6 @@ pub returns-clause-number : goal.returns-clause-number
 returns-clause-number c =
     let ns = c.args.self.now.nodes.items in
     let n = c.args.node in
-    new_at ns n c.push_reserved.new.self.items c.len-number.result
+    new_at ns n c.push_reserved.new.self.items c.in_ok-number.number
     (c.push_reserved.ensures.items ∙ ap (λ xs. xs ++ n ∷ []) c.reserve.ensures.items)
-    (c.len-number.ensures ∙ c.args.self.now.nodes.ok.0) ∙ same_entry no_items (items_in c.args.self.now) ns n
+    (c.in_ok-number.ensures.number ∙ c.len.ensures ∙ c.args.self.now.nodes.ok.0) ∙ same_entry no_items (items_in c.args.self.now) ns n

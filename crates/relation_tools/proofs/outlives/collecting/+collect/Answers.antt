@@ -48,7 +48,7 @@ collect_alias_args-collect_members-requires g t' c κs within =
     let w = m.args (c.args.alias.now).args in
     let d = c.decreases in
     let k = c.requires in
-    let small : 5 * size w + 1 < 5 * size w + 2 = omega arith in
+    let small : 6 * size w + 1 < 6 * size w + 2 = omega arith in
     let s = settled_none m eq (size w) c.none_met-visited.result.keys c.args.out.now.items c.none_met-visited.ensures in
     search rules
 
@@ -76,7 +76,7 @@ collect_closure-collect_found-requires g t' c κs within =
     let fits = found_small m 0 w f c.closure_upvars.ensures.means in
     let d = c.decreases in
     let k = c.closure_upvars.ensures.sure in
-    let small : 5 * found_size m f + 4 < 5 * size w + 1 = omega (arith, fits) in
+    let small : 6 * found_size m f + 5 < 6 * size w + 1 = omega (arith, fits) in
     let s = settled_below m eq (size w) (suc (found_size m f)) c.args.visited.now.keys c.args.out.now.items fits
     c.requires.settled in
     search rules
@@ -110,7 +110,7 @@ collect_coroutine-collect_found-requires g t' c κs within =
     let fits = found_small m 0 w f c.coroutine_upvars.ensures.means in
     let d = c.decreases in
     let k = c.coroutine_upvars.ensures.sure in
-    let small : 5 * found_size m f + 4 < 5 * size w + 1 = omega (arith, fits) in
+    let small : 6 * found_size m f + 5 < 6 * size w + 1 = omega (arith, fits) in
     let s = settled_below m eq (size w) (suc (found_size m f)) c.args.visited.now.keys c.args.out.now.items fits
     c.requires.settled in
     search rules
@@ -139,7 +139,7 @@ collect_coroutine-collect_found-requires-2 g t' c κs within =
     let fits = found_small m 1 w f c.coroutine_resume_ty.ensures.means in
     let d = c.decreases in
     let k = c.coroutine_resume_ty.ensures.sure in
-    let small : 5 * found_size m f + 4 < 5 * size w + 1 = omega (arith, fits) in
+    let small : 6 * found_size m f + 5 < 6 * size w + 1 = omega (arith, fits) in
     let s = settled_below m eq (size w) (suc (found_size m f)) c.collect_found.new.visited.keys
     c.collect_found.new.out.items fits
     (settled_after m eq (size w) c.args.visited.now.keys c.collect_found.new.visited.keys
@@ -206,7 +206,7 @@ collect_escaping-collect_alias_args-requires g t' c κs within =
     let w = m.args (c.args.alias.now).args in
     let d = c.decreases in
     let k = c.requires.known in
-    let small : 5 * size w + 2 < 5 * size w + 4 = omega arith in
+    let small : 6 * size w + 2 < 6 * size w + 4 = omega arith in
     search rules
 
 pub collect_escaping-returns-in_err-collect_alias_args-clause-some : goal.collect_escaping-returns-in_err-collect_alias_args-clause-some
@@ -244,7 +244,7 @@ collect_found-collect_type-requires g t' c κs within =
     let d = c.decreases in
     let k = subst (λ o. IfSome o (λ t. IsTrue (known (m.ty t)))) is c.requires.known in
     let e : found_size m c.args.found ≡ size (m.ty c.in-Some.ty) = ap (found_size m) is in
-    let small : 5 * size (m.ty c.in-Some.ty) + 3 < 5 * found_size m c.args.found + 4 = omega (arith, e) in
+    let small : 6 * size (m.ty c.in-Some.ty) + 4 < 6 * found_size m c.args.found + 5 = omega (arith, e) in
     let s = subst (λ n. Settled m eq (suc n) c.args.visited.now.keys c.args.out.now.items) e c.requires.settled in
     search rules
 
@@ -302,7 +302,7 @@ collect_members-collect_member-requires g t' c κs within =
     let d = c.decreases in
     let k = c.requires.known in
     let below : i < count ts = omega (arith, counted, bound) in
-    let small : 5 * size ts < 5 * size ts + 1 = omega arith in
+    let small : 6 * size ts < 6 * size ts + 1 = omega arith in
     let s = settled_after m eq (size ts) c.args.visited.now.keys c.loop-step.visited.keys (components ch ts)
     c.args.out.now.items c.loop-step.out.items inv.adds c.requires.settled inv.meets in
     search rules
@@ -426,7 +426,7 @@ collect_member-collect_part-requires g t' c κs within =
     let is : size x ≡ size (nth c.args.i ts) = ap size c.member-part.ensures.means in
     let d = c.decreases in
     let k = c.member-part.ensures.sure in
-    let small : 5 * size x + 3 < 5 * size ts = omega (arith, less, is) in
+    let small : 6 * size x + 5 < 6 * size ts = omega (arith, less, is) in
     let s = settled_below m eq (size ts) (suc (size x)) c.args.visited.now.keys c.args.out.now.items
     (omega (arith, less, is)) c.requires.settled in
     search rules
@@ -566,7 +566,7 @@ collect_part-collect_members-requires g t' c κs within =
     let is : size ts ≡ size (parts_of w) = ap size c.parts_of.ensures.means in
     let d = c.decreases in
     let k = c.parts_of.ensures.sure in
-    let small : 5 * size ts + 1 < 5 * size w + 4 = omega (arith, less, is) in
+    let small : 6 * size ts + 1 < 6 * size w + 5 = omega (arith, less, is) in
     let s = settled_below m eq (size w) (size ts) ys c.args.out.now.items (omega (arith, less, is)) on in
     search rules
 
@@ -743,7 +743,7 @@ collect_type-collect_ty-requires g t' c κs within =
     let s = part_settled m eq same p b (size w) xs ys c.args.out.now.items kept c.requires.known refl below in
     let d = c.decreases in
     let k = c.requires.known in
-    let small : 5 * size w + 2 < 5 * size w + 3 = omega arith in
+    let small : 6 * size w + 3 < 6 * size w + 4 = omega arith in
     search rules
 
 pub collect_type-returns-clause-meets : goal.collect_type-returns-clause-meets
@@ -807,7 +807,7 @@ collect_tys-collect_type-requires g t' c κs within =
     let less = member_small ts i below in
     let size_is : size (m.ty x) ≡ size (nth i ts) = ap size at in
     let d = c.decreases in
-    let small : 5 * size (m.ty x) + 3 < 5 * size ts + 1 = omega (arith, less, size_is) in
+    let small : 6 * size (m.ty x) + 4 < 6 * size ts + 1 = omega (arith, less, size_is) in
     let after = settled_after m eq (size ts) c.args.visited.now.keys c.loop-ty.visited.keys (components every ts)
     c.args.out.now.items c.loop-ty.out.items inv.adds c.requires.settled inv.meets in
     let s = settled_below m eq (size ts) (suc (size (m.ty x))) c.loop-ty.visited.keys c.loop-ty.out.items
@@ -883,8 +883,8 @@ collect_tys-returns-clause-all g t' c =
 pub collect_tys-returns-clause-meets : goal.collect_tys-returns-clause-meets
 collect_tys-returns-clause-meets g t' c = c.loop-ty.invariant.meets
 
-pub collect_ty-collect_members-requires : goal.collect_ty-collect_members-requires
-collect_ty-collect_members-requires g t' c κs within =
+pub collect_form-collect_members-requires : goal.collect_form-collect_members-requires
+collect_form-collect_members-requires g t' c κs within =
     let m = g.I.Interner.meaning c.args.cx.now in
     let eq = (ghosts g.row.I-Key g.I.Key.PartialEq g.I.Key.PartialEq-dict).eq in
     let w = m.ty c.args.ty.now in
@@ -893,28 +893,28 @@ collect_ty-collect_members-requires g t' c κs within =
     let d = c.decreases in
     let k : IsTrue (known ts) = subst (λ z. IsTrue (known z)) e c.requires.known in
     let is : size w ≡ suc (size ts) = ap size e in
-    let small : 5 * size ts + 1 < 5 * size w + 2 = omega (arith, is) in
+    let small : 6 * size ts + 1 < 6 * size w + 2 = omega (arith, is) in
     let s = settled_below m eq (size w) (size ts) c.args.visited.now.keys c.args.out.now.items (omega (arith, is))
     c.requires.settled in
     search rules
 
-pub collect_ty-returns-in-FnDef-clause-some : goal.collect_ty-returns-in-FnDef-clause-some
-collect_ty-returns-in-FnDef-clause-some g t' c =
+pub collect_form-returns-in-FnDef-clause-some : goal.collect_form-returns-in-FnDef-clause-some
+collect_form-returns-in-FnDef-clause-some g t' c =
     let m = g.I.Interner.meaning c.args.cx.now in
     let w = m.ty c.args.ty.now in
     let e = c.ty_kind-kind.ensures ∙ ap (kind_tree m) c.in-FnDef.is in
     adds_as m _ _ _ _ (sym (ap (components every) e)) c.collect_members.ensures.some
 
-pub collect_ty-returns-in-FnDef-clause-all : goal.collect_ty-returns-in-FnDef-clause-all
-collect_ty-returns-in-FnDef-clause-all g t' c =
+pub collect_form-returns-in-FnDef-clause-all : goal.collect_form-returns-in-FnDef-clause-all
+collect_form-returns-in-FnDef-clause-all g t' c =
     let m = g.I.Interner.meaning c.args.cx.now in
     let w = m.ty c.args.ty.now in
     let e = c.ty_kind-kind.ensures ∙ ap (kind_tree m) c.in-FnDef.is in
     subst (λ z. OnOk c.collect_members.result (HasAll m z c.collect_members.new.out.items)) (sym (ap (components every) e))
     c.collect_members.ensures.all
 
-pub collect_ty-collect_closure-requires : goal.collect_ty-collect_closure-requires
-collect_ty-collect_closure-requires g t' c κs within =
+pub collect_form-collect_closure-requires : goal.collect_form-collect_closure-requires
+collect_form-collect_closure-requires g t' c κs within =
     let m = g.I.Interner.meaning c.args.cx.now in
     let eq = (ghosts g.row.I-Key g.I.Key.PartialEq g.I.Key.PartialEq-dict).eq in
     let w = m.ty c.args.ty.now in
@@ -923,28 +923,28 @@ collect_ty-collect_closure-requires g t' c κs within =
     let d = c.decreases in
     let k : IsTrue (known ts) = subst (λ z. IsTrue (known z)) e c.requires.known in
     let is : size w ≡ suc (size ts) = ap size e in
-    let small : 5 * size ts + 1 < 5 * size w + 2 = omega (arith, is) in
+    let small : 6 * size ts + 1 < 6 * size w + 2 = omega (arith, is) in
     let s = settled_below m eq (size w) (size ts) c.args.visited.now.keys c.args.out.now.items (omega (arith, is))
     c.requires.settled in
     search rules
 
-pub collect_ty-returns-in-Closure-clause-some : goal.collect_ty-returns-in-Closure-clause-some
-collect_ty-returns-in-Closure-clause-some g t' c =
+pub collect_form-returns-in-Closure-clause-some : goal.collect_form-returns-in-Closure-clause-some
+collect_form-returns-in-Closure-clause-some g t' c =
     let m = g.I.Interner.meaning c.args.cx.now in
     let w = m.ty c.args.ty.now in
     let e = c.ty_kind-kind.ensures ∙ ap (kind_tree m) c.in-Closure.is in
     adds_as m _ _ _ _ (sym (ap (components every) e)) c.collect_closure.ensures.some
 
-pub collect_ty-returns-in-Closure-clause-all : goal.collect_ty-returns-in-Closure-clause-all
-collect_ty-returns-in-Closure-clause-all g t' c =
+pub collect_form-returns-in-Closure-clause-all : goal.collect_form-returns-in-Closure-clause-all
+collect_form-returns-in-Closure-clause-all g t' c =
     let m = g.I.Interner.meaning c.args.cx.now in
     let w = m.ty c.args.ty.now in
     let e = c.ty_kind-kind.ensures ∙ ap (kind_tree m) c.in-Closure.is in
     subst (λ z. OnOk c.collect_closure.result (HasAll m z c.collect_closure.new.out.items)) (sym (ap (components every) e))
     c.collect_closure.ensures.all
 
-pub collect_ty-collect_closure-requires-in-CoroutineClosure : goal.collect_ty-collect_closure-requires-in-CoroutineClosure
-collect_ty-collect_closure-requires-in-CoroutineClosure g t' c κs within =
+pub collect_form-collect_closure-requires-in-CoroutineClosure : goal.collect_form-collect_closure-requires-in-CoroutineClosure
+collect_form-collect_closure-requires-in-CoroutineClosure g t' c κs within =
     let m = g.I.Interner.meaning c.args.cx.now in
     let eq = (ghosts g.row.I-Key g.I.Key.PartialEq g.I.Key.PartialEq-dict).eq in
     let w = m.ty c.args.ty.now in
@@ -953,28 +953,28 @@ collect_ty-collect_closure-requires-in-CoroutineClosure g t' c κs within =
     let d = c.decreases in
     let k : IsTrue (known ts) = subst (λ z. IsTrue (known z)) e c.requires.known in
     let is : size w ≡ suc (size ts) = ap size e in
-    let small : 5 * size ts + 1 < 5 * size w + 2 = omega (arith, is) in
+    let small : 6 * size ts + 1 < 6 * size w + 2 = omega (arith, is) in
     let s = settled_below m eq (size w) (size ts) c.args.visited.now.keys c.args.out.now.items (omega (arith, is))
     c.requires.settled in
     search rules
 
-pub collect_ty-returns-in-CoroutineClosure-clause-some : goal.collect_ty-returns-in-CoroutineClosure-clause-some
-collect_ty-returns-in-CoroutineClosure-clause-some g t' c =
+pub collect_form-returns-in-CoroutineClosure-clause-some : goal.collect_form-returns-in-CoroutineClosure-clause-some
+collect_form-returns-in-CoroutineClosure-clause-some g t' c =
     let m = g.I.Interner.meaning c.args.cx.now in
     let w = m.ty c.args.ty.now in
     let e = c.ty_kind-kind.ensures ∙ ap (kind_tree m) c.in-CoroutineClosure.is in
     adds_as m _ _ _ _ (sym (ap (components every) e)) c.collect_closure-in-CoroutineClosure.ensures.some
 
-pub collect_ty-returns-in-CoroutineClosure-clause-all : goal.collect_ty-returns-in-CoroutineClosure-clause-all
-collect_ty-returns-in-CoroutineClosure-clause-all g t' c =
+pub collect_form-returns-in-CoroutineClosure-clause-all : goal.collect_form-returns-in-CoroutineClosure-clause-all
+collect_form-returns-in-CoroutineClosure-clause-all g t' c =
     let m = g.I.Interner.meaning c.args.cx.now in
     let w = m.ty c.args.ty.now in
     let e = c.ty_kind-kind.ensures ∙ ap (kind_tree m) c.in-CoroutineClosure.is in
     subst (λ z. OnOk c.collect_closure-in-CoroutineClosure.result (HasAll m z c.collect_closure-in-CoroutineClosure.new.out.items)) (sym (ap (components every) e))
     c.collect_closure-in-CoroutineClosure.ensures.all
 
-pub collect_ty-collect_coroutine-requires : goal.collect_ty-collect_coroutine-requires
-collect_ty-collect_coroutine-requires g t' c κs within =
+pub collect_form-collect_coroutine-requires : goal.collect_form-collect_coroutine-requires
+collect_form-collect_coroutine-requires g t' c κs within =
     let m = g.I.Interner.meaning c.args.cx.now in
     let eq = (ghosts g.row.I-Key g.I.Key.PartialEq g.I.Key.PartialEq-dict).eq in
     let w = m.ty c.args.ty.now in
@@ -983,47 +983,47 @@ collect_ty-collect_coroutine-requires g t' c κs within =
     let d = c.decreases in
     let k : IsTrue (known ts) = subst (λ z. IsTrue (known z)) e c.requires.known in
     let is : size w ≡ suc (size ts) = ap size e in
-    let small : 5 * size ts + 1 < 5 * size w + 2 = omega (arith, is) in
+    let small : 6 * size ts + 1 < 6 * size w + 2 = omega (arith, is) in
     let s = settled_below m eq (size w) (size ts) c.args.visited.now.keys c.args.out.now.items (omega (arith, is))
     c.requires.settled in
     search rules
 
-pub collect_ty-returns-in-Coroutine-clause-some : goal.collect_ty-returns-in-Coroutine-clause-some
-collect_ty-returns-in-Coroutine-clause-some g t' c =
+pub collect_form-returns-in-Coroutine-clause-some : goal.collect_form-returns-in-Coroutine-clause-some
+collect_form-returns-in-Coroutine-clause-some g t' c =
     let m = g.I.Interner.meaning c.args.cx.now in
     let w = m.ty c.args.ty.now in
     let e = c.ty_kind-kind.ensures ∙ ap (kind_tree m) c.in-Coroutine.is in
     adds_as m _ _ _ _ (sym (ap (components every) e)) c.collect_coroutine.ensures.some
 
-pub collect_ty-returns-in-Coroutine-clause-all : goal.collect_ty-returns-in-Coroutine-clause-all
-collect_ty-returns-in-Coroutine-clause-all g t' c =
+pub collect_form-returns-in-Coroutine-clause-all : goal.collect_form-returns-in-Coroutine-clause-all
+collect_form-returns-in-Coroutine-clause-all g t' c =
     let m = g.I.Interner.meaning c.args.cx.now in
     let w = m.ty c.args.ty.now in
     let e = c.ty_kind-kind.ensures ∙ ap (kind_tree m) c.in-Coroutine.is in
     subst (λ z. OnOk c.collect_coroutine.result (HasAll m z c.collect_coroutine.new.out.items)) (sym (ap (components every) e))
     c.collect_coroutine.ensures.all
 
-pub collect_ty-returns-in-CoroutineWitness-clause-some : goal.collect_ty-returns-in-CoroutineWitness-clause-some
-collect_ty-returns-in-CoroutineWitness-clause-some g t' c =
+pub collect_form-returns-in-CoroutineWitness-clause-some : goal.collect_form-returns-in-CoroutineWitness-clause-some
+collect_form-returns-in-CoroutineWitness-clause-some g t' c =
     let m = g.I.Interner.meaning c.args.cx.now in
     adds_none m (components every (m.ty c.args.ty.now)) c.args.out.now.items
 
-pub collect_ty-returns-in-CoroutineWitness-clause-all : goal.collect_ty-returns-in-CoroutineWitness-clause-all
-collect_ty-returns-in-CoroutineWitness-clause-all g t' c =
+pub collect_form-returns-in-CoroutineWitness-clause-all : goal.collect_form-returns-in-CoroutineWitness-clause-all
+collect_form-returns-in-CoroutineWitness-clause-all g t' c =
     let m = g.I.Interner.meaning c.args.cx.now in
     let w = m.ty c.args.ty.now in
     let e = c.ty_kind-kind.ensures ∙ ap (kind_tree m) c.in-CoroutineWitness.is in
     has_as m [] (components every w) c.args.out.now.items
     (sym (witness_has w _ _ e (g.met.I.Interner.is_ty c.args.cx.now c.args.ty.now c.requires.known))) tt
 
-pub collect_ty-returns-in-CoroutineWitness-clause-meets : goal.collect_ty-returns-in-CoroutineWitness-clause-meets
-collect_ty-returns-in-CoroutineWitness-clause-meets g t' c =
+pub collect_form-returns-in-CoroutineWitness-clause-meets : goal.collect_form-returns-in-CoroutineWitness-clause-meets
+collect_form-returns-in-CoroutineWitness-clause-meets g t' c =
     let m = g.I.Interner.meaning c.args.cx.now in
     let eq = (ghosts g.row.I-Key g.I.Key.PartialEq g.I.Key.PartialEq-dict).eq in
     meets_none m eq c.args.visited.now.keys c.args.visited.now.keys c.args.out.now.items refl
 
-pub collect_ty-returns-in-Param-clause-some : goal.collect_ty-returns-in-Param-clause-some
-collect_ty-returns-in-Param-clause-some g t' c =
+pub collect_form-returns-in-Param-clause-some : goal.collect_form-returns-in-Param-clause-some
+collect_form-returns-in-Param-clause-some g t' c =
     let m = g.I.Interner.meaning c.args.cx.now in
     let w = m.ty c.args.ty.now in
     let x = c.in-Param.param in
@@ -1032,8 +1032,8 @@ collect_ty-returns-in-Param-clause-some g t' c =
     let s = sym e in
     added_some m (components every w) (Param x) w _ _ c.add.result c.add.ensures.ok c.add.ensures.err is s
 
-pub collect_ty-returns-in-Param-clause-all : goal.collect_ty-returns-in-Param-clause-all
-collect_ty-returns-in-Param-clause-all g t' c =
+pub collect_form-returns-in-Param-clause-all : goal.collect_form-returns-in-Param-clause-all
+collect_form-returns-in-Param-clause-all g t' c =
     let m = g.I.Interner.meaning c.args.cx.now in
     let w = m.ty c.args.ty.now in
     let x = c.in-Param.param in
@@ -1042,15 +1042,15 @@ collect_ty-returns-in-Param-clause-all g t' c =
     let s = sym e in
     added_all m (components every w) (Param x) w _ _ c.add.result c.add.ensures.ok is s
 
-pub collect_ty-returns-in-Param-clause-meets : goal.collect_ty-returns-in-Param-clause-meets
-collect_ty-returns-in-Param-clause-meets g t' c =
+pub collect_form-returns-in-Param-clause-meets : goal.collect_form-returns-in-Param-clause-meets
+collect_form-returns-in-Param-clause-meets g t' c =
     let m = g.I.Interner.meaning c.args.cx.now in
     let eq = (ghosts g.row.I-Key g.I.Key.PartialEq g.I.Key.PartialEq-dict).eq in
     ok_any c.add.result
     (meets_none m eq c.args.visited.now.keys c.args.visited.now.keys c.add.new.out.items refl)
 
-pub collect_ty-returns-in-Placeholder-clause-some : goal.collect_ty-returns-in-Placeholder-clause-some
-collect_ty-returns-in-Placeholder-clause-some g t' c =
+pub collect_form-returns-in-Placeholder-clause-some : goal.collect_form-returns-in-Placeholder-clause-some
+collect_form-returns-in-Placeholder-clause-some g t' c =
     let m = g.I.Interner.meaning c.args.cx.now in
     let w = m.ty c.args.ty.now in
     let x = c.in-Placeholder.placeholder in
@@ -1059,8 +1059,8 @@ collect_ty-returns-in-Placeholder-clause-some g t' c =
     let s = sym e in
     added_some m (components every w) (Placeholder x) w _ _ c.add-in-Placeholder.result c.add-in-Placeholder.ensures.ok c.add-in-Placeholder.ensures.err is s
 
-pub collect_ty-returns-in-Placeholder-clause-all : goal.collect_ty-returns-in-Placeholder-clause-all
-collect_ty-returns-in-Placeholder-clause-all g t' c =
+pub collect_form-returns-in-Placeholder-clause-all : goal.collect_form-returns-in-Placeholder-clause-all
+collect_form-returns-in-Placeholder-clause-all g t' c =
     let m = g.I.Interner.meaning c.args.cx.now in
     let w = m.ty c.args.ty.now in
     let x = c.in-Placeholder.placeholder in
@@ -1069,15 +1069,15 @@ collect_ty-returns-in-Placeholder-clause-all g t' c =
     let s = sym e in
     added_all m (components every w) (Placeholder x) w _ _ c.add-in-Placeholder.result c.add-in-Placeholder.ensures.ok is s
 
-pub collect_ty-returns-in-Placeholder-clause-meets : goal.collect_ty-returns-in-Placeholder-clause-meets
-collect_ty-returns-in-Placeholder-clause-meets g t' c =
+pub collect_form-returns-in-Placeholder-clause-meets : goal.collect_form-returns-in-Placeholder-clause-meets
+collect_form-returns-in-Placeholder-clause-meets g t' c =
     let m = g.I.Interner.meaning c.args.cx.now in
     let eq = (ghosts g.row.I-Key g.I.Key.PartialEq g.I.Key.PartialEq-dict).eq in
     ok_any c.add-in-Placeholder.result
     (meets_none m eq c.args.visited.now.keys c.args.visited.now.keys c.add-in-Placeholder.new.out.items refl)
 
-pub collect_ty-returns-in-Infer-clause-some : goal.collect_ty-returns-in-Infer-clause-some
-collect_ty-returns-in-Infer-clause-some g t' c =
+pub collect_form-returns-in-Infer-clause-some : goal.collect_form-returns-in-Infer-clause-some
+collect_form-returns-in-Infer-clause-some g t' c =
     let m = g.I.Interner.meaning c.args.cx.now in
     let w = m.ty c.args.ty.now in
     let x = c.in-Infer.var in
@@ -1086,8 +1086,8 @@ collect_ty-returns-in-Infer-clause-some g t' c =
     let s = sym e in
     added_some m (components every w) (UnresolvedInferenceVariable x) w _ _ c.add-in-Infer.result c.add-in-Infer.ensures.ok c.add-in-Infer.ensures.err is s
 
-pub collect_ty-returns-in-Infer-clause-all : goal.collect_ty-returns-in-Infer-clause-all
-collect_ty-returns-in-Infer-clause-all g t' c =
+pub collect_form-returns-in-Infer-clause-all : goal.collect_form-returns-in-Infer-clause-all
+collect_form-returns-in-Infer-clause-all g t' c =
     let m = g.I.Interner.meaning c.args.cx.now in
     let w = m.ty c.args.ty.now in
     let x = c.in-Infer.var in
@@ -1096,15 +1096,15 @@ collect_ty-returns-in-Infer-clause-all g t' c =
     let s = sym e in
     added_all m (components every w) (UnresolvedInferenceVariable x) w _ _ c.add-in-Infer.result c.add-in-Infer.ensures.ok is s
 
-pub collect_ty-returns-in-Infer-clause-meets : goal.collect_ty-returns-in-Infer-clause-meets
-collect_ty-returns-in-Infer-clause-meets g t' c =
+pub collect_form-returns-in-Infer-clause-meets : goal.collect_form-returns-in-Infer-clause-meets
+collect_form-returns-in-Infer-clause-meets g t' c =
     let m = g.I.Interner.meaning c.args.cx.now in
     let eq = (ghosts g.row.I-Key g.I.Key.PartialEq g.I.Key.PartialEq-dict).eq in
     ok_any c.add-in-Infer.result
     (meets_none m eq c.args.visited.now.keys c.args.visited.now.keys c.add-in-Infer.new.out.items refl)
 
-pub collect_ty-collect_escaping-requires : goal.collect_ty-collect_escaping-requires
-collect_ty-collect_escaping-requires g t' c κs within =
+pub collect_form-collect_escaping-requires : goal.collect_form-collect_escaping-requires
+collect_form-collect_escaping-requires g t' c κs within =
     let m = g.I.Interner.meaning c.args.cx.now in
     let w = m.ty c.args.ty.now in
     let x = c.in-Alias.alias in
@@ -1113,21 +1113,21 @@ collect_ty-collect_escaping-requires g t' c κs within =
     let d = c.decreases in
     let k : IsTrue (known ts) = subst (λ z. IsTrue (known z)) e c.requires.known in
     let is : size w ≡ suc (size ts) = ap size e in
-    let small : 5 * size ts + 4 < 5 * size w + 2 = omega (arith, is) in
+    let small : 6 * size ts + 4 < 6 * size w + 2 = omega (arith, is) in
     let f : bound_var_escapes (kind_tree m (AliasForm x)) ≡ true =
     ap bound_var_escapes (sym e) ∙ sym c.has_escaping_bound_vars.ensures ∙ c.if-has_escaping_bound_vars.true in
     search rules
 
-pub collect_ty-returns-in-Alias-clause-some : goal.collect_ty-returns-in-Alias-clause-some
-collect_ty-returns-in-Alias-clause-some g t' c =
+pub collect_form-returns-in-Alias-clause-some : goal.collect_form-returns-in-Alias-clause-some
+collect_form-returns-in-Alias-clause-some g t' c =
     let m = g.I.Interner.meaning c.args.cx.now in
     let w = m.ty c.args.ty.now in
     let x = c.in-Alias.alias in
     let e : w ≡ kind_tree m (AliasForm x) = c.ty_kind-kind.ensures ∙ ap (kind_tree m) c.in-Alias.is in
     adds_as m _ _ _ _ (sym (ap (components every) e)) c.collect_escaping.ensures.some
 
-pub collect_ty-returns-in-Alias-clause-all : goal.collect_ty-returns-in-Alias-clause-all
-collect_ty-returns-in-Alias-clause-all g t' c =
+pub collect_form-returns-in-Alias-clause-all : goal.collect_form-returns-in-Alias-clause-all
+collect_form-returns-in-Alias-clause-all g t' c =
     let m = g.I.Interner.meaning c.args.cx.now in
     let w = m.ty c.args.ty.now in
     let x = c.in-Alias.alias in
@@ -1135,15 +1135,15 @@ collect_ty-returns-in-Alias-clause-all g t' c =
     subst (λ z. OnOk c.collect_escaping.result (HasAll m z c.collect_escaping.new.out.items))
     (sym (ap (components every) e)) c.collect_escaping.ensures.all
 
-pub collect_ty-returns-in-Alias-clause-meets : goal.collect_ty-returns-in-Alias-clause-meets
-collect_ty-returns-in-Alias-clause-meets g t' c =
+pub collect_form-returns-in-Alias-clause-meets : goal.collect_form-returns-in-Alias-clause-meets
+collect_form-returns-in-Alias-clause-meets g t' c =
     let m = g.I.Interner.meaning c.args.cx.now in
     let eq = (ghosts g.row.I-Key g.I.Key.PartialEq g.I.Key.PartialEq-dict).eq in
     ok_any c.collect_escaping.result
     (meets_none m eq c.args.visited.now.keys c.args.visited.now.keys c.collect_escaping.new.out.items refl)
 
-pub collect_ty-returns-in-Alias-2-clause-some : goal.collect_ty-returns-in-Alias-2-clause-some
-collect_ty-returns-in-Alias-2-clause-some g t' c =
+pub collect_form-returns-in-Alias-2-clause-some : goal.collect_form-returns-in-Alias-2-clause-some
+collect_form-returns-in-Alias-2-clause-some g t' c =
     let m = g.I.Interner.meaning c.args.cx.now in
     let w = m.ty c.args.ty.now in
     let x = c.in-Alias-2.alias in
@@ -1153,8 +1153,8 @@ collect_ty-returns-in-Alias-2-clause-some g t' c =
     added_some m (components every w) (Alias x) w _ _ c.add-in-Alias-2.result c.add-in-Alias-2.ensures.ok
     c.add-in-Alias-2.ensures.err is (f, sym e)
 
-pub collect_ty-returns-in-Alias-2-clause-all : goal.collect_ty-returns-in-Alias-2-clause-all
-collect_ty-returns-in-Alias-2-clause-all g t' c =
+pub collect_form-returns-in-Alias-2-clause-all : goal.collect_form-returns-in-Alias-2-clause-all
+collect_form-returns-in-Alias-2-clause-all g t' c =
     let m = g.I.Interner.meaning c.args.cx.now in
     let w = m.ty c.args.ty.now in
     let x = c.in-Alias-2.alias in
@@ -1163,19 +1163,26 @@ collect_ty-returns-in-Alias-2-clause-all g t' c =
     let f : bound_var_escapes w ≡ false = sym c.has_escaping_bound_vars.ensures ∙ c.if-has_escaping_bound_vars.false in
     added_all m (components every w) (Alias x) w _ _ c.add-in-Alias-2.result c.add-in-Alias-2.ensures.ok is (f, sym e)
 
-pub collect_ty-returns-in-Alias-2-clause-meets : goal.collect_ty-returns-in-Alias-2-clause-meets
-collect_ty-returns-in-Alias-2-clause-meets g t' c =
+pub collect_form-returns-in-Alias-2-clause-meets : goal.collect_form-returns-in-Alias-2-clause-meets
+collect_form-returns-in-Alias-2-clause-meets g t' c =
     let m = g.I.Interner.meaning c.args.cx.now in
     let eq = (ghosts g.row.I-Key g.I.Key.PartialEq g.I.Key.PartialEq-dict).eq in
     ok_any c.add-in-Alias-2.result
     (meets_none m eq c.args.visited.now.keys c.args.visited.now.keys c.add-in-Alias-2.new.out.items refl)
+
+pub collect_ty-collect_form-requires : goal.collect_ty-collect_form-requires
+collect_ty-collect_form-requires g t' c κs within =
+    let w = (g.I.Interner.meaning c.args.cx.now).ty c.args.ty.now in
+    let d = c.decreases in
+    let small : 6 * size w + 2 < 6 * size w + 3 = omega arith in
+    search rules
 
 pub collect_ty-returns-in_err-collect_region-in-Ref-clause-some : goal.collect_ty-returns-in_err-collect_region-in-Ref-clause-some
 collect_ty-returns-in_err-collect_region-in-Ref-clause-some g t' c =
     let m = g.I.Interner.meaning c.args.cx.now in
     let w = m.ty c.args.ty.now in
     let x = c.in-Ref in
-    let e : w ≡ kind_tree m (RefForm x.region x.pointee _) = c.ty_kind-kind.ensures ∙ ap (kind_tree m) x.is in
+    let e : w ≡ kind_tree m (RefForm x.region x.pointee _) = c.ty_kind.ensures ∙ ap (kind_tree m) x.is in
     let rs = components every (m.region x.region) in
     let ts = components every (m.ty x.pointee) in
     let is : components every w ≡ rs ++ ts = ap (components every) e ∙ ap (λ z. rs ++ z) (append-nil ts) in
@@ -1189,7 +1196,7 @@ collect_ty-collect_type-requires-in-Ref g t' c κs within =
     let m = g.I.Interner.meaning c.args.cx.now in
     let w = m.ty c.args.ty.now in
     let x = c.in-Ref in
-    let e : w ≡ kind_tree m (RefForm x.region x.pointee _) = c.ty_kind-kind.ensures ∙ ap (kind_tree m) x.is in
+    let e : w ≡ kind_tree m (RefForm x.region x.pointee _) = c.ty_kind.ensures ∙ ap (kind_tree m) x.is in
     let rs = components every (m.region x.region) in
     let ts = components every (m.ty x.pointee) in
     let is : components every w ≡ rs ++ ts = ap (components every) e ∙ ap (λ z. rs ++ z) (append-nil ts) in
@@ -1201,7 +1208,7 @@ collect_ty-collect_type-requires-in-Ref g t' c κs within =
     let size_is = ap size e in
     let d = c.decreases in
     let k = subst (λ z. IsTrue (known z)) e c.requires.known in
-    let small : 5 * size (m.ty x.pointee) + 3 < 5 * size w + 2 = omega (arith, size_is) in
+    let small : 6 * size (m.ty x.pointee) + 4 < 6 * size w + 3 = omega (arith, size_is) in
     let fits : n ≤ size w = omega (arith, size_is) in
     let below = settled_below m eq (size w) n xs out fits c.requires.settled in
     let s = settled_after m eq n xs xs rs out next c.collect_region.ensures.some below (meets_none m eq xs xs next refl) in
@@ -1212,7 +1219,7 @@ collect_ty-returns-in_ok-collect_region-in-Ref-clause-some g t' c =
     let m = g.I.Interner.meaning c.args.cx.now in
     let w = m.ty c.args.ty.now in
     let x = c.in-Ref in
-    let e : w ≡ kind_tree m (RefForm x.region x.pointee _) = c.ty_kind-kind.ensures ∙ ap (kind_tree m) x.is in
+    let e : w ≡ kind_tree m (RefForm x.region x.pointee _) = c.ty_kind.ensures ∙ ap (kind_tree m) x.is in
     let rs = components every (m.region x.region) in
     let ts = components every (m.ty x.pointee) in
     let is : components every w ≡ rs ++ ts = ap (components every) e ∙ ap (λ z. rs ++ z) (append-nil ts) in
@@ -1228,7 +1235,7 @@ collect_ty-returns-in_ok-collect_region-in-Ref-clause-all g t' c =
     let m = g.I.Interner.meaning c.args.cx.now in
     let w = m.ty c.args.ty.now in
     let x = c.in-Ref in
-    let e : w ≡ kind_tree m (RefForm x.region x.pointee _) = c.ty_kind-kind.ensures ∙ ap (kind_tree m) x.is in
+    let e : w ≡ kind_tree m (RefForm x.region x.pointee _) = c.ty_kind.ensures ∙ ap (kind_tree m) x.is in
     let rs = components every (m.region x.region) in
     let ts = components every (m.ty x.pointee) in
     let is : components every w ≡ rs ++ ts = ap (components every) e ∙ ap (λ z. rs ++ z) (append-nil ts) in
@@ -1237,8 +1244,8 @@ collect_ty-returns-in_ok-collect_region-in-Ref-clause-all g t' c =
     (has_grown m rs ts _ _ c.collect_type-in-Ref.ensures.some c.in_ok-collect_region-in-Ref.ensures.all) h))
     c.collect_type-in-Ref.ensures.all
 
-pub collect_ty-collect_members-requires-in_default : goal.collect_ty-collect_members-requires-in_default
-collect_ty-collect_members-requires-in_default g t' c κs within =
+pub collect_form-collect_members-requires-in_default : goal.collect_form-collect_members-requires-in_default
+collect_form-collect_members-requires-in_default g t' c κs within =
     let m = g.I.Interner.meaning c.args.cx.now in
     let eq = (ghosts g.row.I-Key g.I.Key.PartialEq g.I.Key.PartialEq-dict).eq in
     let w = m.ty c.args.ty.now in
@@ -1250,13 +1257,13 @@ collect_ty-collect_members-requires-in_default g t' c κs within =
     let d = c.decreases in
     let k : IsTrue (known (parts_tree m ps)) =
     subst (λ z. IsTrue (known z)) (sym seen) (known_parts w c.requires.known) in
-    let small : 5 * size (parts_tree m ps) + 1 < 5 * size w + 2 = omega (arith, less, is) in
+    let small : 6 * size (parts_tree m ps) + 1 < 6 * size w + 2 = omega (arith, less, is) in
     let s = settled_below m eq (size w) (size (parts_tree m ps)) c.args.visited.now.keys c.args.out.now.items
     (omega (arith, less, is)) c.requires.settled in
     search rules
 
-pub collect_ty-returns-in_default : goal.collect_ty-returns-in_default
-collect_ty-returns-in_default g t' c =
+pub collect_form-returns-in_default : goal.collect_form-returns-in_default
+collect_form-returns-in_default g t' c =
     let m = g.I.Interner.meaning c.args.cx.now in
     let w = m.ty c.args.ty.now in
     let k' = c.ty_kind-kind.result in

@@ -9,37 +9,40 @@ use Rattle.relation_tools.specs.Collecting.{meant, of_member, found_size, Meets}
 use Rattle.relation_tools.proofs.outlives.collecting.+collect.Given as goal
 
 abbrev pub decreases-collect_part : goal.decreases-collect_part
-decreases-collect_part g l = 5 * size (part_tree (g.I.Interner.meaning l.cx.now) l.part.now) + 4
+decreases-collect_part g l = 6 * size (part_tree (g.I.Interner.meaning l.cx.now) l.part.now) + 5
 
 abbrev pub decreases-collect_type : goal.decreases-collect_type
-decreases-collect_type g l = 5 * size ((g.I.Interner.meaning l.cx.now).ty l.ty.now) + 3
+decreases-collect_type g l = 6 * size ((g.I.Interner.meaning l.cx.now).ty l.ty.now) + 4
 
 abbrev pub decreases-collect_tys : goal.decreases-collect_tys
-decreases-collect_tys g l = 5 * size ((g.I.Interner.meaning l.cx.now).tys l.tys.now) + 1
+decreases-collect_tys g l = 6 * size ((g.I.Interner.meaning l.cx.now).tys l.tys.now) + 1
 
 abbrev pub decreases-collect_members : goal.decreases-collect_members
-decreases-collect_members g l = 5 * size (parts_tree (g.I.Interner.meaning l.cx.now) l.parts.now) + 1
+decreases-collect_members g l = 6 * size (parts_tree (g.I.Interner.meaning l.cx.now) l.parts.now) + 1
 
 abbrev pub decreases-collect_member : goal.decreases-collect_member
-decreases-collect_member g l = 5 * size (parts_tree (g.I.Interner.meaning l.cx.now) l.parts.now)
+decreases-collect_member g l = 6 * size (parts_tree (g.I.Interner.meaning l.cx.now) l.parts.now)
 
 abbrev pub decreases-collect_found : goal.decreases-collect_found
-decreases-collect_found g l = 5 * found_size (g.I.Interner.meaning l.cx.now) l.found + 4
+decreases-collect_found g l = 6 * found_size (g.I.Interner.meaning l.cx.now) l.found + 5
 
 abbrev pub decreases-collect_closure : goal.decreases-collect_closure
-decreases-collect_closure g l = 5 * size ((g.I.Interner.meaning l.cx.now).args l.args.now) + 1
+decreases-collect_closure g l = 6 * size ((g.I.Interner.meaning l.cx.now).args l.args.now) + 1
 
 abbrev pub decreases-collect_coroutine : goal.decreases-collect_coroutine
-decreases-collect_coroutine g l = 5 * size ((g.I.Interner.meaning l.cx.now).args l.args.now) + 1
+decreases-collect_coroutine g l = 6 * size ((g.I.Interner.meaning l.cx.now).args l.args.now) + 1
 
 abbrev pub decreases-collect_ty : goal.decreases-collect_ty
-decreases-collect_ty g l = 5 * size ((g.I.Interner.meaning l.cx.now).ty l.ty.now) + 2
+decreases-collect_ty g l = 6 * size ((g.I.Interner.meaning l.cx.now).ty l.ty.now) + 3
+
+abbrev pub decreases-collect_form : goal.decreases-collect_form
+decreases-collect_form g l = 6 * size ((g.I.Interner.meaning l.cx.now).ty l.ty.now) + 2
 
 abbrev pub decreases-collect_escaping : goal.decreases-collect_escaping
-decreases-collect_escaping g l = 5 * size ((g.I.Interner.meaning l.cx.now).args (l.alias.now).args) + 4
+decreases-collect_escaping g l = 6 * size ((g.I.Interner.meaning l.cx.now).args (l.alias.now).args) + 4
 
 abbrev pub decreases-collect_alias_args : goal.decreases-collect_alias_args
-decreases-collect_alias_args g l = 5 * size ((g.I.Interner.meaning l.cx.now).args (l.alias.now).args) + 2
+decreases-collect_alias_args g l = 6 * size ((g.I.Interner.meaning l.cx.now).args (l.alias.now).args) + 2
 
 -- Components were added, all those of the members gone into, and of whatever was met.
 abbrev pub invariant-collect_members-loop-step : goal.invariant-collect_members-loop-step

@@ -23,7 +23,7 @@ returns-clause-by_places g c =
       alternatives = laws.are_alternatives a;
       existential_predicates = laws.are_existential_predicates a;
     } in
-    rw (c.one.ensures, c.new.ensures.empty)
+    rw (c.one.ensures, c.none_met.ensures)
     (by_places m eq (arg_same m g.I.Key.PartialEq.eq eq (λ a b. refl) (λ a b. refl) (λ a b. refl) (λ a b. refl)
     (λ a b. refl) (λ a b. refl) (λ a b. refl) (λ a b. refl) (λ a b. refl) (laws.same_region a) (laws.same_ty a)
     (laws.same_const a) sorted) a c.args.root c.requires (arg_visited m sorted c.args.root c.requires))

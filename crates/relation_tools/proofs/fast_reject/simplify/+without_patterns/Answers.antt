@@ -3,14 +3,14 @@ use Rattle.std.proofs.lemmas.Bool.{and_parts}
 use Rattle.relation_terms.specs.Heads.{pattern_type}
 use Rattle.relation_terms.specs.Trees.{node, nil, cons, known, size}
 use Rattle.relation_terms.specs.Meaning.{kind_tree}
-use Rattle.relation_tools.specs.HeadKeys.{head_key}
-use Rattle.relation_tools.proofs.Keying.{form_keyed}
-use Rattle.relation_tools.proofs.fast_reject.simplify.+simplify_type.Goals as goal
+use Rattle.relation_tools.specs.HeadKeys.{plain_type}
+use Rattle.relation_tools.proofs.Keying.{plain_itself}
+use Rattle.relation_tools.proofs.fast_reject.simplify.+without_patterns.Goals as goal
 
-pub simplify_type-requires : goal.simplify_type-requires
-simplify_type-requires g t c κs within =
+pub without_patterns-requires : goal.without_patterns-requires
+without_patterns-requires g t c κs within =
     let m = g.I.Interner.meaning c.args.cx.now in
-    let a = m.ty c.args.ty.now in
+    let a = m.ty c.args.ty in
     let b = m.ty c.in-Pat.base in
     let p = m.pat c.in-Pat.field-1 in
     let e : a ≡ node pattern_type (cons b (cons p nil)) = c.ty_kind-kind.ensures ∙ ap (kind_tree m) c.in-Pat.is in
@@ -20,19 +20,14 @@ simplify_type-requires g t c κs within =
     let k : IsTrue (known b) = (and_parts (known b) (known p && true) (subst (λ x. IsTrue (known x)) e c.requires)).0 in
     search rules
 
-pub returns-in-Pat : goal.returns-in-Pat
-returns-in-Pat g t c =
+pub returns-in-Pat-clause-under : goal.returns-in-Pat-clause-under
+returns-in-Pat-clause-under g t c =
     let m = g.I.Interner.meaning c.args.cx.now in
-    let autos = (m.tables).is_auto in
-    let solver = (m.tables).next_solver in
-    c.simplify_type.ensures
-    ∙ sym (ap (head_key autos solver c.args.treat_params) (c.ty_kind-kind.ensures ∙ ap (kind_tree m) c.in-Pat.is))
+    c.without_patterns.ensures.under
+    ∙ sym (ap plain_type (c.ty_kind-kind.ensures ∙ ap (kind_tree m) c.in-Pat.is))
 
-pub returns : goal.returns
-returns g t c =
+pub returns-clause-under : goal.returns-clause-under
+returns-clause-under g t c =
     let m = g.I.Interner.meaning c.args.cx.now in
-    let autos = (m.tables).is_auto in
-    let solver = (m.tables).next_solver in
-    c.form_key.ensures
-    ∙ sym (form_keyed m autos solver c.args.treat_params c.ty_kind-kind.result c.in_default.not-Pat)
-    ∙ ap (head_key autos solver c.args.treat_params) (sym c.ty_kind-kind.ensures)
+    let e = c.ty_kind-kind.ensures in
+    e ∙ sym (plain_itself m c.ty_kind-kind.result c.in_default.not-Pat) ∙ ap plain_type (sym e)
