@@ -191,6 +191,8 @@ fn term_need(numbers: &[usize], before: &[Needs], term: Term) -> Needs
         Term::Range(start, end) => both(need_at(before, start), need_at(before, end)),
         Term::Or(parts) => parts_need(numbers, before, parts),
         Term::TyError | Term::ConstError => without_rules(NONE),
+        Term::TyBound(..) | Term::RegionBound(..) | Term::ConstBound(..) => NONE,
+        Term::IsAuto(..) => NONE,
         Term::FnPtr(_, _, types) => parts_need(numbers, before, types),
         Term::UnsafeBinder(_, body) => need_at(before, body),
         Term::Object(parts, region) => both(
